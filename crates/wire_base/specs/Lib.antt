@@ -1,0 +1,12 @@
+pub mod Fault
+pub mod Field
+pub mod FieldNumber
+pub mod Flat
+pub mod Limits
+pub mod Read
+pub mod Sink
+pub mod Spells
+pub mod Tag
+pub mod TagView
+pub mod Text
+pub mod Varint

@@ -1,0 +1,59 @@
+//! Where encoded bytes go.
+ghost use Rattle.std.specs.Prelude.{◌≡◌, ℕ, ◌+◌, List, [], ◌∷◌, ◌++◌, length, Option, None, OnOk, OnErr};
+ghost use Rattle.std.specs.Int.{w32, w64, to_le_bytes};
+ghost use Rattle.wire_base.specs.Sink.{PutAnswers};
+
+use crate::error::EncodeError;
+
+/// A growing list of bytes. A put appends all of its bytes or none.
+pub trait EncodeSink {
+    /// The bytes that were put, in order.
+    ghost held: { Self → List ℕ };
+
+    /// The most bytes that the sink can count, where it counts them; else memory alone bounds it.
+    ghost most: { Option ℕ };
+
+    fn put_u8(&mut self, value: u8) -> Result<(), EncodeError>
+        ensures ok { OnOk result (held self.new ≡ held self.old ++ value ∷ []) }
+        ensures err { OnErr result (held self.new ≡ held self.old) }
+        ensures cause { PutAnswers most (length (held self.old) + 1) result };
+
+    fn put_slice(&mut self, bytes: &[u8]) -> Result<(), EncodeError>
+        ensures ok { OnOk result (held self.new ≡ held self.old ++ bytes.now) }
+        ensures err { OnErr result (held self.new ≡ held self.old) }
+        ensures cause { PutAnswers most (length (held self.old) + length bytes.now) result };
+
+    fn put_u32_le(&mut self, value: u32) -> Result<(), EncodeError>
+        ensures ok { OnOk result (held self.new ≡ held self.old ++ to_le_bytes w32 value) }
+        ensures err { OnErr result (held self.new ≡ held self.old) }
+        ensures cause { PutAnswers most (length (held self.old) + 4) result };
+
+    fn put_u64_le(&mut self, value: u64) -> Result<(), EncodeError>
+        ensures ok { OnOk result (held self.new ≡ held self.old ++ to_le_bytes w64 value) }
+        ensures err { OnErr result (held self.new ≡ held self.old) }
+        ensures cause { PutAnswers most (length (held self.old) + 8) result };
+}
+
+impl EncodeSink for Vec<u8> {
+    ghost held = { λ sink. sink.items };
+
+    ghost most = { None };
+
+    fn put_u8(&mut self, value: u8) -> Result<(), EncodeError> {
+        self.push(value)?;
+        Ok(())
+    }
+
+    fn put_slice(&mut self, bytes: &[u8]) -> Result<(), EncodeError> {
+        self.extend_from_slice(bytes)?;
+        Ok(())
+    }
+
+    fn put_u32_le(&mut self, value: u32) -> Result<(), EncodeError> {
+        self.put_slice(&value.to_le_bytes())
+    }
+
+    fn put_u64_le(&mut self, value: u64) -> Result<(), EncodeError> {
+        self.put_slice(&value.to_le_bytes())
+    }
+}

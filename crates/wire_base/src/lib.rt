@@ -1,0 +1,15 @@
+//! The Protocol Buffers wire format: varints, tags, records and unknown fields, over any `bytes::Buf`
+//! and any growing sink.
+#![tactic(auto)]
+
+mod encode_sink;
+mod error;
+mod tag;
+mod varint;
+
+pub use encode_sink::EncodeSink;
+pub use error::{DecodeError, EncodeError};
+pub use tag::{
+    FIRST_RESERVED_FIELD_NUMBER, LAST_RESERVED_FIELD_NUMBER, MAX_FIELD_NUMBER, Tag, WireType,
+};
+pub use varint::{decode_varint, encode_varint, varint_len};

@@ -1,0 +1,122 @@
+//! Tags: the field number and the wire type of a record.
+ghost use Rattle.std.specs.Prelude.{◌≡◌, ◌++◌, ◌+◌, ◌-◌, ◌^◌, ◌<◌, ◌≤◌, ◌*◌, length, OnOk, OnErr, IfOk, IfErr};
+ghost use Rattle.wire_base.specs.FieldNumber.{IsFieldNumber};
+
+use crate::encode_sink::EncodeSink;
+use crate::error::{DecodeError, EncodeError};
+use crate::varint::{decode_varint, encode_varint};
+use bytes::Buf;
+
+/// The greatest field number.
+pub const MAX_FIELD_NUMBER: u32 = (1 << 29) - 1;
+
+/// The first of the field numbers that the format reserves for itself. They are not refused.
+pub const FIRST_RESERVED_FIELD_NUMBER: u32 = 19_000;
+
+/// The last of the field numbers that the format reserves for itself. They are not refused.
+pub const LAST_RESERVED_FIELD_NUMBER: u32 = 19_999;
+
+/// How the payload behind a tag is laid out.
+#[derive(Clone, Copy, Debug, PartialEq, Eq)]
+pub enum WireType {
+    Varint = 0,
+    Fixed64 = 1,
+    LengthDelimited = 2,
+    StartGroup = 3,
+    EndGroup = 4,
+    Fixed32 = 5,
+}
+
+impl WireType {
+    ghost use Rattle.wire_base.specs.declared.error.DecodeError.TheVariants.{InvalidWireType};
+    ghost use Rattle.wire_base.specs.Tag.{wire_number};
+
+    /// The wire type of a number, which is the low three bits of a tag.
+    pub fn from_u32(value: u32) -> Result<WireType, DecodeError>
+        ensures ok { IfOk result (λ wire_type. wire_number wire_type ≡ value) }
+        ensures err { IfErr result (λ e. (5 < value) × (e ≡ InvalidWireType value)) }
+    {
+        match value {
+            0 => Ok(WireType::Varint),
+            1 => Ok(WireType::Fixed64),
+            2 => Ok(WireType::LengthDelimited),
+            3 => Ok(WireType::StartGroup),
+            4 => Ok(WireType::EndGroup),
+            5 => Ok(WireType::Fixed32),
+            _ => Err(DecodeError::InvalidWireType(value)),
+        }
+    }
+}
+
+/// What stands before each payload: the field's number, and how the payload is laid out.
+#[derive(Clone, Copy, Debug, PartialEq, Eq)]
+pub struct Tag {
+    field_number: u32,
+    wire_type: WireType,
+    pub ghost in_range: { IsFieldNumber field_number },
+}
+
+impl Tag {
+    ghost use Rattle.wire_base.specs.Read.{Reads};
+    ghost use Rattle.wire_base.specs.Sink.{KeepsFront, WriteAnswers};
+    ghost use Rattle.wire_base.specs.Tag.{IsTagSpelling, TagFault, tag_text};
+    ghost use Rattle.wire_base.specs.TagView.{tag_number, tag_type};
+
+    /// A tag of a field number from 1 to `MAX_FIELD_NUMBER`.
+    pub fn new(field_number: u32, wire_type: WireType) -> Tag
+        requires { IsFieldNumber field_number }
+        ensures number { tag_number result ≡ field_number }
+        ensures wire_type { tag_type result ≡ wire_type }
+    {
+        Tag {
+            field_number,
+            wire_type,
+        }
+    }
+
+    pub fn field_number(&self) -> u32
+        ensures number { result ≡ tag_number self.now }
+        ensures in_range { IsFieldNumber result }
+    {
+        self.field_number
+    }
+
+    pub fn wire_type(&self) -> WireType
+        ensures { result ≡ tag_type self.now }
+    {
+        self.wire_type
+    }
+
+    /// Writes the shortest text of the tag.
+    pub fn encode<S: EncodeSink>(&self, sink: &mut S) -> Result<(), EncodeError>
+        ensures ok { OnOk result (S.held sink.new
+            ≡ S.held sink.old ++ tag_text (tag_number self.now) (tag_type self.now)) }
+        ensures err { OnErr result (KeepsFront (S.held sink.old)
+            (tag_text (tag_number self.now) (tag_type self.now)) (S.held sink.new)) }
+        ensures cause { WriteAnswers S.most
+            (length (S.held sink.old) + length (tag_text (tag_number self.now) (tag_type self.now))) result }
+    {
+        encode_varint(u64::from(self.field_number) * 8 + self.wire_type as u64, sink)
+    }
+
+    /// Reads a tag, padded or not, from the front of the buffer.
+    pub fn decode<B: Buf>(buf: &mut B) -> Result<Tag, DecodeError>
+        ensures ok { IfOk result (λ tag. Reads (B.unread buf.old)
+            (IsTagSpelling (tag_number tag) (tag_type tag)) (B.unread buf.new)) }
+        ensures fault { IfErr result (TagFault (B.unread buf.old)) }
+    {
+        let value = decode_varint(buf)?;
+        if value >= 1 << 32 {
+            return Err(DecodeError::InvalidFieldNumber);
+        }
+        let wire_type = WireType::from_u32((value % 8) as u32)?;
+        let field_number = (value / 8) as u32;
+        if field_number == 0 {
+            return Err(DecodeError::InvalidFieldNumber);
+        }
+        Ok(Tag {
+            field_number,
+            wire_type,
+        })
+    }
+}

@@ -1,0 +1,65 @@
+//! Numbers to the base 128, in one to ten bytes.
+ghost use Rattle.std.specs.Prelude.{◌≡◌, ◌+◌, [], ◌∷◌, ◌++◌, length, OnOk, OnErr, IfOk, IfErr};
+ghost use Rattle.wire_base.specs.declared.error.DecodeError.TheVariants.{UnexpectedEof};
+ghost use Rattle.wire_base.specs.Read.{Reads};
+ghost use Rattle.wire_base.specs.Sink.{KeepsFront, WriteAnswers};
+ghost use Rattle.wire_base.specs.Varint.{IsSpelling, VarintFault, shortest};
+
+use crate::encode_sink::EncodeSink;
+use crate::error::{DecodeError, EncodeError};
+use bytes::Buf;
+
+/// How many bytes the shortest varint of a number has: 1 to 10.
+pub fn varint_len(value: u64) -> usize
+    ensures { result ≡ length (shortest value) }
+{
+    value.max(1).ilog2() as usize / 7 + 1
+}
+
+/// Writes the shortest varint of a number.
+pub fn encode_varint<S: EncodeSink>(value: u64, sink: &mut S) -> Result<(), EncodeError>
+    ensures ok { OnOk result (S.held sink.new ≡ S.held sink.old ++ shortest value) }
+    ensures err { OnErr result (KeepsFront (S.held sink.old) (shortest value) (S.held sink.new)) }
+    ensures cause { WriteAnswers S.most (length (S.held sink.old) + length (shortest value)) result }
+{
+    let mut rest = value;
+    while rest >= 0x80 {
+        sink.put_u8((rest % 0x80) as u8 + 0x80)?;
+        rest /= 0x80;
+    }
+    sink.put_u8(rest as u8)
+}
+
+/// Reads a varint, padded with zeros or not, from the front of the buffer.
+pub fn decode_varint<B: Buf>(buf: &mut B) -> Result<u64, DecodeError>
+    ensures ok { IfOk result (λ v. Reads (B.unread buf.old) (λ text. IsSpelling text v) (B.unread buf.new)) }
+    ensures fault { IfErr result (VarintFault (B.unread buf.old)) }
+{
+    let mut value = 0u64;
+    for index in 0..9u32 {
+        let byte = next_byte(buf)?;
+        value |= u64::from(byte % 0x80) << (7 * index);
+        if byte < 0x80 {
+            return Ok(value);
+        }
+    }
+    let byte = next_byte(buf)?;
+    if byte > 1 {
+        return Err(DecodeError::VarintTooLong);
+    }
+    Ok(value | u64::from(byte) << 63)
+}
+
+// Takes the byte at the front, if there is one.
+fn next_byte<B: Buf>(buf: &mut B) -> Result<u8, DecodeError>
+    ensures byte { IfOk result (λ byte. B.unread buf.old ≡ byte ∷ B.unread buf.new) }
+    ensures end { IfErr result (λ e. (e ≡ UnexpectedEof) × (B.unread buf.old ≡ [])) }
+{
+    match buf.chunk().first() {
+        Some(&byte) => {
+            buf.advance(1);
+            Ok(byte)
+        }
+        None => Err(DecodeError::UnexpectedEof),
+    }
+}
