@@ -96,7 +96,10 @@ impl Tag {
         ensures cause { WriteAnswers S.most
             (length (S.held sink.old) + length (tag_text (tag_number self.now) (tag_type self.now))) result }
     {
-        encode_varint(u64::from(self.field_number) * 8 + self.wire_type as u64, sink)
+        encode_varint(
+            u64::from(self.field_number) * 8 + self.wire_type as u64,
+            sink,
+        )
     }
 
     /// Reads a tag, padded or not, from the front of the buffer.
