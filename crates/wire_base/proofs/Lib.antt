@@ -1,3 +1,4 @@
 pub mod Sinks
 pub mod Tags
+pub mod UnknownFieldsLemmas
 pub mod Varints

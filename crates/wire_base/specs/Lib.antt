@@ -1,6 +1,7 @@
 pub mod Fault
 pub mod Field
 pub mod FieldNumber
+pub mod FieldsCode
 pub mod Flat
 pub mod Limits
 pub mod Read
@@ -9,4 +10,6 @@ pub mod Spells
 pub mod Tag
 pub mod TagView
 pub mod Text
+pub mod UnknownFields
+pub mod UnknownFieldsSize
 pub mod Varint

@@ -1,5 +1,5 @@
 -- What a put and a longer write do to the bytes that a sink holds.
-use Rattle.std.specs.Prelude.{◌≡◌, ℕ, ◌<◌, List, ◌++◌, Option, Some, None, Result, Ok, Err}
+use Rattle.std.specs.Prelude.{◌≡◌, ◌≢◌, ℕ, ◌+◌, ◌<◌, List, [], ◌++◌, length, Option, Some, None, Result, Ok, Err}
 use Rattle.wire_base.specs.declared.error.EncodeError.{EncodeError}
 use Rattle.wire_base.specs.declared.error.EncodeError.TheVariants.{MessageTooLarge, ExceedsBudget, OutOfMemory, LengthOverflow}
 
@@ -17,14 +17,14 @@ PutAnswers bound total (Err OutOfMemory) = ¬ IsBeyond bound total
 PutAnswers bound total (Err MessageTooLarge) = ⊥
 PutAnswers bound total (Err (ExceedsBudget len max_bytes)) = ⊥
 
--- A longer write that would bring a sink to so many bytes succeeds only where these are within its
--- count, and answers `LengthOverflow` only where they are beyond it. Memory may be refused before.
-abbrev pub WriteAnswers : Option ℕ → ℕ → Result (Unit {0}) EncodeError → Type 0
-WriteAnswers bound total (Ok _) = ¬ IsBeyond bound total
-WriteAnswers bound total (Err LengthOverflow) = IsBeyond bound total
-WriteAnswers bound total (Err OutOfMemory) = Unit {0}
-WriteAnswers bound total (Err MessageTooLarge) = ⊥
-WriteAnswers bound total (Err (ExceedsBudget len max_bytes)) = ⊥
+-- A longer write of a text behind old succeeds only where all of it is within the sink's count, and
+-- answers `LengthOverflow` only where it is beyond. Memory may be refused before either is known.
+abbrev pub WriteAnswers : Option ℕ → List ℕ → List ℕ → Result (Unit {0}) EncodeError → Type 0
+WriteAnswers bound old text (Ok _) = text ≢ [] → ¬ IsBeyond bound (length old + length text)
+WriteAnswers bound old text (Err LengthOverflow) = IsBeyond bound (length old + length text)
+WriteAnswers bound old text (Err OutOfMemory) = Unit {0}
+WriteAnswers bound old text (Err MessageTooLarge) = ⊥
+WriteAnswers bound old text (Err (ExceedsBudget len max_bytes)) = ⊥
 
 -- a refused write of a text leaves a front of it behind what was held
 pub record KeepsFront (old text new : List ℕ) : Type 0 where

@@ -20,6 +20,10 @@ abbrev mutual
   text none = []
   text (field n p rest) = tag_text n (type_of p) ++ (payload_text n p ++ text rest)
 
+-- the shortest text of one record
+abbrev pub record_text : ℕ → Payload → List ℕ
+record_text n p = tag_text n (type_of p) ++ payload_text n p
+
 -- the length of the text
 abbrev pub size : Fields → ℕ
 size fs = length (text fs)

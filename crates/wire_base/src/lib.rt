@@ -5,6 +5,7 @@
 mod encode_sink;
 mod error;
 mod tag;
+mod unknown_fields;
 mod varint;
 
 pub use encode_sink::EncodeSink;
@@ -12,4 +13,5 @@ pub use error::{DecodeError, EncodeError};
 pub use tag::{
     FIRST_RESERVED_FIELD_NUMBER, LAST_RESERVED_FIELD_NUMBER, MAX_FIELD_NUMBER, Tag, WireType,
 };
+pub use unknown_fields::{UnknownField, UnknownFieldData, UnknownFields};
 pub use varint::{decode_varint, encode_varint, varint_len};

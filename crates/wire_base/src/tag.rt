@@ -7,6 +7,10 @@ use crate::error::{DecodeError, EncodeError};
 use crate::varint::{decode_varint, encode_varint};
 use bytes::Buf;
 
+mod put;
+
+pub(crate) use put::put_tag;
+
 /// The greatest field number.
 pub const MAX_FIELD_NUMBER: u32 = (1 << 29) - 1;
 
@@ -93,8 +97,8 @@ impl Tag {
             ≡ S.held sink.old ++ tag_text (tag_number self.now) (tag_type self.now)) }
         ensures err { OnErr result (KeepsFront (S.held sink.old)
             (tag_text (tag_number self.now) (tag_type self.now)) (S.held sink.new)) }
-        ensures cause { WriteAnswers S.most
-            (length (S.held sink.old) + length (tag_text (tag_number self.now) (tag_type self.now))) result }
+        ensures cause { WriteAnswers S.most (S.held sink.old)
+            (tag_text (tag_number self.now) (tag_type self.now)) result }
     {
         encode_varint(
             u64::from(self.field_number) * 8 + self.wire_type as u64,

@@ -1,5 +1,5 @@
 //! Numbers to the base 128, in one to ten bytes.
-ghost use Rattle.std.specs.Prelude.{◌≡◌, ◌+◌, [], ◌∷◌, ◌++◌, length, OnOk, OnErr, IfOk, IfErr};
+ghost use Rattle.std.specs.Prelude.{◌≡◌, [], ◌∷◌, ◌++◌, length, OnOk, OnErr, IfOk, IfErr};
 ghost use Rattle.wire_base.specs.declared.error.DecodeError.TheVariants.{UnexpectedEof};
 ghost use Rattle.wire_base.specs.Read.{Reads};
 ghost use Rattle.wire_base.specs.Sink.{KeepsFront, WriteAnswers};
@@ -20,7 +20,7 @@ pub fn varint_len(value: u64) -> usize
 pub fn encode_varint<S: EncodeSink>(value: u64, sink: &mut S) -> Result<(), EncodeError>
     ensures ok { OnOk result (S.held sink.new ≡ S.held sink.old ++ shortest value) }
     ensures err { OnErr result (KeepsFront (S.held sink.old) (shortest value) (S.held sink.new)) }
-    ensures cause { WriteAnswers S.most (length (S.held sink.old) + length (shortest value)) result }
+    ensures cause { WriteAnswers S.most (S.held sink.old) (shortest value) result }
 {
     let mut rest = value;
     while rest >= 0x80 {

@@ -1,0 +1,28 @@
+ghost use Rattle.std.specs.Prelude.{◌≡◌, ◌+◌, ◌*◌, ◌++◌, length, OnOk, OnErr};
+ghost use Rattle.wire_base.specs.Sink.{KeepsFront, WriteAnswers};
+ghost use Rattle.wire_base.specs.Tag.{wire_number, tag_text};
+
+use super::WireType;
+use crate::encode_sink::EncodeSink;
+use crate::error::EncodeError;
+use crate::varint::encode_varint;
+
+/// Writes the shortest text of a tag, also of a number that no field may have.
+pub(crate) fn put_tag<S: EncodeSink>(
+    number: u32,
+    wire_type: WireType,
+    sink: &mut S,
+) -> Result<(), EncodeError>
+    ensures ok { OnOk result (S.held sink.new ≡ S.held sink.old ++ tag_text number wire_type) }
+    ensures err { OnErr result (KeepsFront (S.held sink.old) (tag_text number wire_type) (S.held sink.new)) }
+    ensures cause { WriteAnswers S.most (S.held sink.old) (tag_text number wire_type) result }
+{
+    encode_varint(8 * u64::from(number) + low_bits(wire_type), sink)
+}
+
+// A wire type as it stands in the low three bits of a tag.
+fn low_bits(wire_type: WireType) -> u64
+    ensures { result ≡ wire_number wire_type }
+{
+    wire_type as u64
+}

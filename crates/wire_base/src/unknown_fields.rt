@@ -1,0 +1,104 @@
+//! Records whose field numbers a message type does not know, kept as they came.
+ghost use Rattle.std.specs.Prelude.{◌≡◌, ◌↔◌, IsTrue, OnOk, OnErr, IfErr};
+ghost use Rattle.std.specs.Slice.Iter.{iter_rest};
+ghost use Rattle.wire_base.specs.Field.{none, push, count_top};
+
+use std::alloc::Global;
+use std::marker::Model;
+use std::slice;
+
+mod write;
+
+/// Records in the order in which they came. A contract sees a value as its records.
+#[cycle(unknown)]
+#[derive(Debug, Drop)]
+pub struct UnknownFields {
+    fields: Vec<UnknownField>,
+}
+
+/// A record: its field number, and its payload.
+///
+/// The number is any `u32`; decoding gives one from 1 to `MAX_FIELD_NUMBER`.
+#[cycle(unknown)]
+#[derive(Debug, Drop)]
+pub struct UnknownField {
+    pub number: u32,
+    pub value: UnknownFieldData,
+}
+
+/// What a record has behind its tag.
+#[cycle(unknown)]
+#[derive(Debug, Drop)]
+pub enum UnknownFieldData {
+    Varint(u64),
+    Fixed64(u64),
+    Fixed32(u32),
+    LengthDelimited(Vec<u8>),
+    Group(UnknownFields),
+}
+
+impl Model for UnknownFields {
+    ghost use Rattle.wire_base.specs.Field.{Fields};
+    ghost use Rattle.wire_base.specs.FieldsCode.{fields_code};
+    ghost use Rattle.wire_base.specs.Text.{count};
+
+    ghost Value = { Fields };
+
+    ghost coded = { fields_code };
+
+    ghost use Rattle.wire_base.specs.UnknownFields.{fields_of};
+
+    ghost view = { λ s. fields_of s.fields.items };
+
+    ghost size = { count };
+
+    ghost use Rattle.std.proofs.Common.{arith};
+    ghost use Rattle.wire_base.specs.UnknownFieldsSize.{most_le-count};
+
+    ghost size_decreases = { λ a h. omega (arith, most_le-count a.fields.items) };
+}
+
+impl UnknownFields {
+    ghost use Rattle.wire_base.specs.UnknownFields.{payload_of, fields_of};
+
+    /// No fields. Nothing is allocated before the first push.
+    pub fn new(alloc: Global) -> UnknownFields
+        ensures { result ≡ none }
+    {
+        UnknownFields {
+            fields: Vec::new(alloc),
+        }
+    }
+
+    pub fn is_empty(&self) -> bool
+        ensures { IsTrue result ↔ (self.now ≡ none) }
+    {
+        self.fields.is_empty()
+    }
+
+    /// How many records there are, those nested in groups left out.
+    pub fn len(&self) -> usize
+        ensures { result ≡ count_top self.now }
+    {
+        self.fields.len()
+    }
+
+    /// Adds a record at the end. Where there is no memory the record comes back, and nothing changes.
+    pub fn push(&mut self, field: UnknownField) -> Result<(), UnknownField>
+        ensures ok { OnOk result (self.new ≡ push self.old field.number (payload_of field.value)) }
+        ensures err { OnErr result (self.new ≡ self.old) }
+        ensures returned { IfErr result (λ given. given ≡ field) }
+    {
+        match self.fields.push(field) {
+            Ok(()) => Ok(()),
+            Err(refused) => Err(refused.value),
+        }
+    }
+
+    /// The records in order.
+    pub fn iter(&self) -> slice::Iter<'_, UnknownField>
+        ensures { fields_of (iter_rest result) ≡ self.now }
+    {
+        self.fields.iter()
+    }
+}

@@ -1,0 +1,83 @@
+//! Unknown fields as bytes.
+ghost use Rattle.std.specs.Prelude.{◌≡◌, ◌++◌, OnOk, OnErr};
+ghost use Rattle.wire_base.specs.Sink.{KeepsFront, WriteAnswers};
+ghost use Rattle.wire_base.specs.Field.{type_of};
+ghost use Rattle.wire_base.specs.Text.{text, payload_text, record_text};
+ghost use Rattle.wire_base.specs.UnknownFields.{payload_of};
+
+use super::{UnknownField, UnknownFieldData, UnknownFields};
+use crate::encode_sink::EncodeSink;
+use crate::error::EncodeError;
+use crate::tag::{WireType, put_tag};
+use crate::varint::encode_varint;
+
+impl UnknownFields {
+    /// Writes the shortest text of the records. Padding that they came with is gone.
+    #[cycle(write)]
+    pub fn write_to<S: EncodeSink>(&self, sink: &mut S) -> Result<(), EncodeError>
+        ensures ok { OnOk result (S.held sink.new ≡ S.held sink.old ++ text self.now) }
+        ensures err { OnErr result (KeepsFront (S.held sink.old) (text self.now) (S.held sink.new)) }
+        ensures cause { WriteAnswers S.most (S.held sink.old) (text self.now) result }
+    {
+        for field in &self.fields {
+            field.write_to(sink)?;
+        }
+        Ok(())
+    }
+}
+
+impl UnknownField {
+    /// Writes the shortest text of the record. Its number may be one that decoding refuses.
+    #[cycle(write)]
+    pub fn write_to<S: EncodeSink>(&self, sink: &mut S) -> Result<(), EncodeError>
+        ensures ok { OnOk result (S.held sink.new
+            ≡ S.held sink.old ++ record_text self.now.number (payload_of self.now.value)) }
+        ensures err { OnErr result (KeepsFront (S.held sink.old)
+            (record_text self.now.number (payload_of self.now.value)) (S.held sink.new)) }
+        ensures cause { WriteAnswers S.most (S.held sink.old)
+            (record_text self.now.number (payload_of self.now.value)) result }
+    {
+        put_tag(self.number, self.value.wire_type(), sink)?;
+        self.value.write_to(self.number, sink)
+    }
+}
+
+impl UnknownFieldData {
+    // The wire type in the record's tag.
+    fn wire_type(&self) -> WireType
+        ensures { result ≡ type_of (payload_of self.now) }
+    {
+        match self {
+            UnknownFieldData::Varint(_) => WireType::Varint,
+            UnknownFieldData::Fixed64(_) => WireType::Fixed64,
+            UnknownFieldData::Fixed32(_) => WireType::Fixed32,
+            UnknownFieldData::LengthDelimited(_) => WireType::LengthDelimited,
+            UnknownFieldData::Group(_) => WireType::StartGroup,
+        }
+    }
+
+    // Writes the shortest text of the payload of a record with this number.
+    #[cycle(write)]
+    fn write_to<S: EncodeSink>(&self, number: u32, sink: &mut S) -> Result<(), EncodeError>
+        ensures ok { OnOk result (S.held sink.new
+            ≡ S.held sink.old ++ payload_text number (payload_of self.now)) }
+        ensures err { OnErr result (KeepsFront (S.held sink.old)
+            (payload_text number (payload_of self.now)) (S.held sink.new)) }
+        ensures cause { WriteAnswers S.most (S.held sink.old)
+            (payload_text number (payload_of self.now)) result }
+    {
+        match self {
+            UnknownFieldData::Varint(value) => encode_varint(*value, sink),
+            UnknownFieldData::Fixed64(value) => sink.put_u64_le(*value),
+            UnknownFieldData::Fixed32(value) => sink.put_u32_le(*value),
+            UnknownFieldData::LengthDelimited(bytes) => {
+                encode_varint(bytes.len() as u64, sink)?;
+                sink.put_slice(bytes)
+            }
+            UnknownFieldData::Group(fields) => {
+                fields.write_to(sink)?;
+                put_tag(number, WireType::EndGroup, sink)
+            }
+        }
+    }
+}
