@@ -2,6 +2,7 @@ pub mod Fault
 pub mod Field
 pub mod FieldNumber
 pub mod Flat
+pub mod Laws
 pub mod Limits
 pub mod Read
 pub mod Sink

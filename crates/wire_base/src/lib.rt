@@ -4,6 +4,7 @@
 
 mod encode_sink;
 mod error;
+pub mod laws;
 mod tag;
 mod varint;
 

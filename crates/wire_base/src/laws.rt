@@ -1,0 +1,37 @@
+//! Laws of the definitions that the contracts cite: each function is a theorem, and does nothing.
+ghost use Rattle.wire_base.specs.Laws.{ShortestReadsBack, NoSpellingBeginsAnother, OneVarint, NoVarintBesideFault, OneVarintFault, VarintOrFaultStands, NoSpellingIsShorter};
+
+/// The shortest varint of a number reads back as that number, whatever follows it.
+pub fn shortest_reads_back()
+    ensures { ShortestReadsBack }
+{}
+
+/// No varint is the beginning of a longer one.
+pub fn no_spelling_begins_another()
+    ensures { NoSpellingBeginsAnother }
+{}
+
+/// The same bytes begin with one varint at most: its number and what follows are determined.
+pub fn one_varint()
+    ensures { OneVarint }
+{}
+
+/// Where the grammar names a fault, the bytes begin with no varint.
+pub fn no_varint_beside_fault()
+    ensures { NoVarintBesideFault }
+{}
+
+/// The same bytes have one fault of a varint at most.
+pub fn one_varint_fault()
+    ensures { OneVarintFault }
+{}
+
+/// All bytes begin with a varint or have a fault.
+pub fn varint_or_fault()
+    ensures { VarintOrFaultStands }
+{}
+
+/// No varint of a number is shorter than its shortest one, and no other is as short.
+pub fn no_spelling_is_shorter()
+    ensures { NoSpellingIsShorter }
+{}
