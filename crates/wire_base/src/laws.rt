@@ -1,5 +1,5 @@
 //! Laws of the definitions that the contracts cite: each function is a theorem, and does nothing.
-ghost use Rattle.wire_base.specs.Laws.{ShortestReadsBack, NoSpellingBeginsAnother, OneVarint, NoVarintBesideFault, OneVarintFault, VarintOrFaultStands, NoSpellingIsShorter};
+ghost use Rattle.wire_base.specs.Laws.{ShortestReadsBack, NoSpellingBeginsAnother, OneVarint, NoVarintBesideFault, OneVarintFault, VarintOrFaultStands, NoSpellingIsShorter, TagTextReadsBack, OneTag, NoTagBesideFault, OneTagFault, TagOrFaultStands, NoTagTextIsShorter};
 
 /// The shortest varint of a number reads back as that number, whatever follows it.
 pub fn shortest_reads_back()
@@ -34,4 +34,34 @@ pub fn varint_or_fault()
 /// No varint of a number is shorter than its shortest one, and no other is as short.
 pub fn no_spelling_is_shorter()
     ensures { NoSpellingIsShorter }
+{}
+
+/// The shortest text of a tag reads back as that tag, whatever follows it.
+pub fn tag_text_reads_back()
+    ensures { TagTextReadsBack }
+{}
+
+/// The same bytes begin with one tag at most: its field number, its wire type and what follows are determined.
+pub fn one_tag()
+    ensures { OneTag }
+{}
+
+/// Where the grammar names a fault, the bytes begin with no tag.
+pub fn no_tag_beside_fault()
+    ensures { NoTagBesideFault }
+{}
+
+/// The same bytes have one fault of a tag at most.
+pub fn one_tag_fault()
+    ensures { OneTagFault }
+{}
+
+/// All bytes begin with a tag or have a fault.
+pub fn tag_or_fault()
+    ensures { TagOrFaultStands }
+{}
+
+/// No text of a tag is shorter than its shortest one.
+pub fn no_tag_text_is_shorter()
+    ensures { NoTagTextIsShorter }
 {}
