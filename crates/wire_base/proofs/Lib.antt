@@ -1,2 +1,6 @@
+pub mod FieldLaws
+pub mod JoinedLaws
+pub mod ListLaws
 pub mod TagLaws
+pub mod TextLaws
 pub mod VarintLaws

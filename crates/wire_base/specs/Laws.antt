@@ -1,9 +1,13 @@
 -- What holds of the definitions themselves. Each statement is proved as the contract of a law of src/laws.rt.
-use Rattle.std.specs.Prelude.{◌≡◌, ℕ, ◌^◌, ◌<◌, ◌≤◌, ◌⊎◌, List, [], ◌++◌, length, All}
+use Rattle.std.specs.Prelude.{◌≡◌, ℕ, ◌^◌, ◌<◌, ◌≤◌, ◌⊎◌, ◌↔◌, List, [], ◌++◌, length, All}
 use Rattle.wire_base.specs.declared.error.DecodeError.{DecodeError}
 use Rattle.wire_base.specs.declared.tag.WireType.{WireType}
+use Rattle.wire_base.specs.Field.{Payload, group, Fields, none, field, type_of}
 use Rattle.wire_base.specs.FieldNumber.{IsFieldNumber}
+use Rattle.wire_base.specs.InRange.{AreInRange}
 use Rattle.wire_base.specs.Read.{Reads}
+use Rattle.wire_base.specs.Spells.{SpellsPayload, Spells, IsPayload}
+use Rattle.wire_base.specs.Text.{text}
 use Rattle.wire_base.specs.Tag.{IsTagSpelling, tag_text, TagFault}
 use Rattle.wire_base.specs.Varint.{IsSpelling, shortest, VarintFault}
 
@@ -56,3 +60,25 @@ TagOrFault bytes = ((n : ℕ) × (w : WireType) × (rest : List ℕ) × Reads by
 
 abbrev pub TagOrFaultStands : Type 0
 TagOrFaultStands = (bytes : List ℕ) → TagOrFault bytes
+
+-- ---- records
+
+-- a tag and a payload are one record, and one record is a tag and a payload
+abbrev pub PayloadIsField : Type 0
+PayloadIsField = (n : ℕ) (p : Payload) (t : List ℕ)
+    → Spells (field n p none) t ↔ ((tag : List ℕ) × (payload : List ℕ) × (t ≡ tag ++ payload) × IsTagSpelling n (type_of p) tag × IsPayload n (type_of p) p payload)
+
+abbrev pub OnePayload : Type 0
+OnePayload = (n : ℕ) (w : WireType) (p q : Payload) (bytes r s : List ℕ) → Reads bytes (IsPayload n w p) r → Reads bytes (IsPayload n w q) s → (p ≡ q) × (r ≡ s)
+
+abbrev pub OneList : Type 0
+OneList = (fs gs : Fields) (bytes : List ℕ) → Spells fs bytes → Spells gs bytes → fs ≡ gs
+
+abbrev pub OneBody : Type 0
+OneBody = (n : ℕ) (fs gs : Fields) (bytes r s : List ℕ) → Reads bytes (SpellsPayload n (group fs)) r → Reads bytes (SpellsPayload n (group gs)) s → (fs ≡ gs) × (r ≡ s)
+
+abbrev pub ShortestTextSpells : Type 0
+ShortestTextSpells = (fs : Fields) → AreInRange fs → Spells fs (text fs)
+
+abbrev pub NoTextIsShorter : Type 0
+NoTextIsShorter = (fs : Fields) (t : List ℕ) → Spells fs t → length (text fs) ≤ length t

@@ -2,6 +2,7 @@ pub mod Fault
 pub mod Field
 pub mod FieldNumber
 pub mod Flat
+pub mod InRange
 pub mod Laws
 pub mod Limits
 pub mod Read

@@ -1,5 +1,5 @@
 //! Laws of the definitions that the contracts cite: each function is a theorem, and does nothing.
-ghost use Rattle.wire_base.specs.Laws.{ShortestReadsBack, NoSpellingBeginsAnother, OneVarint, NoVarintBesideFault, OneVarintFault, VarintOrFaultStands, NoSpellingIsShorter, TagTextReadsBack, OneTag, NoTagBesideFault, OneTagFault, TagOrFaultStands, NoTagTextIsShorter};
+ghost use Rattle.wire_base.specs.Laws.{ShortestReadsBack, NoSpellingBeginsAnother, OneVarint, NoVarintBesideFault, OneVarintFault, VarintOrFaultStands, NoSpellingIsShorter, TagTextReadsBack, OneTag, NoTagBesideFault, OneTagFault, TagOrFaultStands, NoTagTextIsShorter, PayloadIsField, OnePayload, OneList, OneBody, ShortestTextSpells, NoTextIsShorter};
 
 /// The shortest varint of a number reads back as that number, whatever follows it.
 pub fn shortest_reads_back()
@@ -64,4 +64,34 @@ pub fn tag_or_fault()
 /// No text of a tag is shorter than its shortest one.
 pub fn no_tag_text_is_shorter()
     ensures { NoTagTextIsShorter }
+{}
+
+/// A record is a tag and the payload of that tag.
+pub fn payload_is_field()
+    ensures { PayloadIsField }
+{}
+
+/// Behind one tag the same bytes begin with one payload at most: its value and what follows are determined.
+pub fn one_payload()
+    ensures { OnePayload }
+{}
+
+/// The same bytes are one list of records at most.
+pub fn one_list()
+    ensures { OneList }
+{}
+
+/// The same bytes begin with one body of a group at most: its records and what follows are determined.
+pub fn one_body()
+    ensures { OneBody }
+{}
+
+/// The shortest text of records whose numbers fit is a text of them.
+pub fn shortest_text_spells()
+    ensures { ShortestTextSpells }
+{}
+
+/// No text of records is shorter than their shortest one.
+pub fn no_text_is_shorter()
+    ensures { NoTextIsShorter }
 {}
