@@ -3,11 +3,13 @@ use Rattle.std.specs.Prelude.{◌≡◌, ℕ, ◌^◌, ◌<◌, ◌≤◌, ◌�
 use Rattle.wire_base.specs.declared.error.DecodeError.{DecodeError}
 use Rattle.wire_base.specs.declared.tag.WireType.{WireType}
 use Rattle.wire_base.specs.Field.{Payload, group, Fields, none, field, type_of}
+use Rattle.wire_base.specs.Fault.{PayloadFault, ListFault, by_input, by_tag}
 use Rattle.wire_base.specs.FieldNumber.{IsFieldNumber}
 use Rattle.wire_base.specs.InRange.{AreInRange}
+use Rattle.wire_base.specs.Limits.{Limits, Fits}
 use Rattle.wire_base.specs.Read.{Reads}
 use Rattle.wire_base.specs.Spells.{SpellsPayload, Spells, IsPayload}
-use Rattle.wire_base.specs.Text.{text}
+use Rattle.wire_base.specs.Text.{text, payload_charge, charge}
 use Rattle.wire_base.specs.Tag.{IsTagSpelling, tag_text, TagFault}
 use Rattle.wire_base.specs.Varint.{IsSpelling, shortest, VarintFault}
 
@@ -82,3 +84,16 @@ ShortestTextSpells = (fs : Fields) → AreInRange fs → Spells fs (text fs)
 
 abbrev pub NoTextIsShorter : Type 0
 NoTextIsShorter = (fs : Fields) (t : List ℕ) → Spells fs t → length (text fs) ≤ length t
+
+-- ---- faults of records
+
+abbrev pub NoPayloadBesideFault : Type 0
+NoPayloadBesideFault = (l : Limits) (n : ℕ) (w : WireType) (bytes rest : List ℕ) (e : DecodeError) (p : Payload)
+    → PayloadFault l n w bytes e → Reads bytes (IsPayload n w p) rest → Fits (payload_charge p) l → ⊥
+
+abbrev pub NoListBesideFault : Type 0
+NoListBesideFault = (l : Limits) (bytes : List ℕ) (e : DecodeError) (fs : Fields) → ListFault l by_input bytes e → Spells fs bytes → Fits (charge fs) l → ⊥
+
+abbrev pub NoBodyBesideFault : Type 0
+NoBodyBesideFault = (l : Limits) (n : ℕ) (bytes rest : List ℕ) (e : DecodeError) (fs : Fields)
+    → ListFault l (by_tag n) bytes e → Reads bytes (SpellsPayload n (group fs)) rest → Fits (charge fs) l → ⊥

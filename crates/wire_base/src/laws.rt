@@ -1,5 +1,5 @@
 //! Laws of the definitions that the contracts cite: each function is a theorem, and does nothing.
-ghost use Rattle.wire_base.specs.Laws.{ShortestReadsBack, NoSpellingBeginsAnother, OneVarint, NoVarintBesideFault, OneVarintFault, VarintOrFaultStands, NoSpellingIsShorter, TagTextReadsBack, OneTag, NoTagBesideFault, OneTagFault, TagOrFaultStands, NoTagTextIsShorter, PayloadIsField, OnePayload, OneList, OneBody, ShortestTextSpells, NoTextIsShorter};
+ghost use Rattle.wire_base.specs.Laws.{ShortestReadsBack, NoSpellingBeginsAnother, OneVarint, NoVarintBesideFault, OneVarintFault, VarintOrFaultStands, NoSpellingIsShorter, TagTextReadsBack, OneTag, NoTagBesideFault, OneTagFault, TagOrFaultStands, NoTagTextIsShorter, PayloadIsField, OnePayload, OneList, OneBody, ShortestTextSpells, NoTextIsShorter, NoPayloadBesideFault, NoListBesideFault, NoBodyBesideFault};
 
 /// The shortest varint of a number reads back as that number, whatever follows it.
 pub fn shortest_reads_back()
@@ -94,4 +94,19 @@ pub fn shortest_text_spells()
 /// No text of records is shorter than their shortest one.
 pub fn no_text_is_shorter()
     ensures { NoTextIsShorter }
+{}
+
+/// Where the grammar names a fault, no payload within the limits stands behind the tag.
+pub fn no_payload_beside_fault()
+    ensures { NoPayloadBesideFault }
+{}
+
+/// Where the grammar names a fault, the bytes are no list of records within the limits.
+pub fn no_list_beside_fault()
+    ensures { NoListBesideFault }
+{}
+
+/// Where the grammar names a fault, the bytes begin with no body of a group within the limits.
+pub fn no_body_beside_fault()
+    ensures { NoBodyBesideFault }
 {}
