@@ -1,4 +1,12 @@
+pub mod FaultLaws
+pub mod FieldLaws
+pub mod JoinedLaws
+pub mod LimitsLaws
+pub mod ListLaws
 pub mod Sinks
+pub mod TagLaws
 pub mod Tags
+pub mod TextLaws
 pub mod UnknownFieldsLemmas
+pub mod VarintLaws
 pub mod Varints

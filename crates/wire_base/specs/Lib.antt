@@ -3,6 +3,8 @@ pub mod Field
 pub mod FieldNumber
 pub mod FieldsCode
 pub mod Flat
+pub mod InRange
+pub mod Laws
 pub mod Limits
 pub mod Read
 pub mod Sink

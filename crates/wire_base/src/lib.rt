@@ -4,6 +4,7 @@
 
 mod encode_sink;
 mod error;
+pub mod laws;
 mod tag;
 mod unknown_fields;
 mod varint;

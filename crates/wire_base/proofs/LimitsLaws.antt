@@ -1,0 +1,99 @@
+-- Laws of limits: what fits, and what is left. One more budget is an edit of this file.
+use Rattle.std.proofs.Common.{◌≡◌, ℕ, ◌+◌, ◌-◌, ◌≤◌, ◌<◌, ◌⊎◌, inl, inr, max, Option, Some, None, refl, ap, arith, ⊎_elim}
+use Rattle.std.proofs.lemmas.Bool.{cases_lt}
+use Rattle.wire_base.specs.Field.{Payload, varint, fixed64, fixed32, bytes, group, Fields, none, field}
+use Rattle.wire_base.specs.Limits.{Limits, Charge, HasRoom, less, Fits, lowered, both, no_charge, one_field, inner}
+use Rattle.wire_base.specs.Text.{payload_count, count, payload_depth, depth, payload_charge, charge}
+
+-- ---- one count
+
+pub HasRoom-at_most : (o : Option ℕ) (a b : ℕ) → a ≤ b → HasRoom o b → HasRoom o a
+HasRoom-at_most None a b le h = tt
+HasRoom-at_most (Some left) a b le h = omega arith
+
+pub HasRoom-second : (o : Option ℕ) (a b : ℕ) → HasRoom o (a + b) → HasRoom (less o a) b
+HasRoom-second None a b h = tt
+HasRoom-second (Some left) a b h = omega arith
+
+pub HasRoom-add : (o : Option ℕ) (a b : ℕ) → HasRoom o a → HasRoom (less o a) b → HasRoom o (a + b)
+HasRoom-add None a b h k = tt
+HasRoom-add (Some left) a b h k = omega arith
+
+pub room_or_not : (o : Option ℕ) (a : ℕ) → HasRoom o a ⊎ ¬ HasRoom o a
+room_or_not None a = inl tt
+room_or_not (Some left) a = ⊎_elim (λ past. inr (λ h. omega arith)) inl (cases_lt left a)
+
+less-less : (o : Option ℕ) (a b : ℕ) → less (less o a) b ≡ less o (a + b)
+less-less None a b = refl
+less-less (Some left) a b = ap (λ n. Some n) (omega arith)
+
+less-zero : (o : Option ℕ) → less o 0 ≡ o
+less-zero None = refl
+less-zero (Some left) = ap (λ n. Some n) (omega arith)
+
+-- ---- limits and charges
+
+-- limits of one depth and one count are one
+same_limits : (l m : Limits) → l.depth ≡ m.depth → l.unknown_fields ≡ m.unknown_fields → l ≡ m
+same_limits l m p q = λ i. record { depth = p i; unknown_fields = q i }
+
+pub lowered-both : (l : Limits) (a b : Charge) → lowered (lowered l a) b ≡ lowered l (both a b)
+lowered-both l a b = same_limits _ _ refl (less-less l.unknown_fields a.unknown_fields b.unknown_fields)
+
+pub lowered-none : (l : Limits) → lowered l (charge none) ≡ l
+lowered-none l = same_limits _ _ refl (less-zero l.unknown_fields)
+
+pub Fits-none : (l : Limits) → Fits (charge none) l
+Fits-none l = record { depth = omega arith; unknown_fields = HasRoom-at_most l.unknown_fields 0 0 (omega arith) (room_of_none l.unknown_fields) }
+  where
+    room_of_none : (o : Option ℕ) → HasRoom o 0
+    room_of_none None = tt
+    room_of_none (Some left) = omega arith
+
+-- the first of two charges that fit
+pub Fits-first : (l : Limits) (a b : Charge) → Fits (both a b) l → Fits a l
+Fits-first l a b h = record { depth = omega (arith, h.depth); unknown_fields = HasRoom-at_most l.unknown_fields a.unknown_fields _ (omega arith) h.unknown_fields }
+
+-- the second fits what the first leaves
+pub Fits-second : (l : Limits) (a b : Charge) → Fits (both a b) l → Fits b (lowered l a)
+Fits-second l a b h = record { depth = omega (arith, h.depth); unknown_fields = HasRoom-second l.unknown_fields a.unknown_fields b.unknown_fields h.unknown_fields }
+
+-- a charge and another that fits what the first leaves fit both
+pub Fits-both : (l : Limits) (a b : Charge) → Fits a l → Fits b (lowered l a) → Fits (both a b) l
+Fits-both l a b h k = record { depth = omega (arith, h.depth, k.depth); unknown_fields = HasRoom-add l.unknown_fields a.unknown_fields b.unknown_fields h.unknown_fields k.unknown_fields }
+
+pub fits_or_not : (l : Limits) (a : Charge) → Fits a l ⊎ ¬ Fits a l
+fits_or_not l a =
+    ⊎_elim
+    (λ deep. inr (λ h. omega (arith, h.depth)))
+    (λ low. ⊎_elim (λ room. inl (record { depth = low; unknown_fields = room })) (λ full. inr (λ h. full h.unknown_fields)) (room_or_not l.unknown_fields a.unknown_fields))
+    (cases_lt l.depth a.depth)
+
+-- ---- records
+
+pub payload_count-positive : (p : Payload) → 1 ≤ payload_count p
+payload_count-positive (varint v) = omega arith
+payload_count-positive (fixed64 v) = omega arith
+payload_count-positive (fixed32 v) = omega arith
+payload_count-positive (bytes b) = omega arith
+payload_count-positive (group fs) = omega arith
+
+-- a record fits only where one slot does
+pub Fits-one_field : (l : Limits) (p : Payload) → Fits (payload_charge p) l → Fits one_field l
+Fits-one_field l p h = record { depth = omega arith; unknown_fields = HasRoom-at_most l.unknown_fields 1 (payload_count p) (payload_count-positive p) h.unknown_fields }
+
+-- a group that fits has a level
+pub level_of_group : (l : Limits) (fs : Fields) → Fits (payload_charge (group fs)) l → 0 < l.depth
+level_of_group l fs h = omega (arith, h.depth)
+
+-- what a group holds fits one level down, behind the slot of the group
+pub Fits-inside : (l : Limits) (fs : Fields) → Fits (payload_charge (group fs)) l → Fits (charge fs) (inner (lowered l one_field))
+Fits-inside l fs h = record { depth = omega (arith, h.depth); unknown_fields = HasRoom-second l.unknown_fields 1 (count fs) h.unknown_fields }
+
+-- a slot, a level and room for what it holds are room for a group
+pub Fits-group : (l : Limits) (fs : Fields) → Fits one_field l → 0 < l.depth → Fits (charge fs) (inner (lowered l one_field)) → Fits (payload_charge (group fs)) l
+Fits-group l fs h level k = record { depth = omega (arith, k.depth); unknown_fields = HasRoom-add l.unknown_fields 1 (count fs) h.unknown_fields k.unknown_fields }
+
+-- a group leaves of each count what its slot and its records leave
+pub lowered-group : (l : Limits) (fs : Fields) → (lowered (inner (lowered l one_field)) (charge fs)).unknown_fields ≡ (lowered l (payload_charge (group fs))).unknown_fields
+lowered-group l fs = less-less l.unknown_fields 1 (count fs)

@@ -1,0 +1,279 @@
+-- Laws of varints: one reading, a shortest spelling, and a fault exactly where there is no reading.
+use Rattle.std.proofs.Common.{◌≡◌, ℕ, zero, suc, ◌+◌, ◌*◌, ◌/◌, ◌%◌, ◌^◌, ◌<◌, ◌≤◌, ◌⊎◌, inl, inr, List, [], ◌∷◌, ◌++◌, length, true, false, nat_lt, if◌then◌else◌, refl, sym, ap, ◌∙◌, arith, length-append, append-nil, le-add_right, mul-le-mul_left, mul_assoc, mul_comm, pow-suc, lt-ltb, le-ltb, ⊎_elim, subst, ap₂, All, append_assoc, lt_of_lt_of_le, le_trans}
+use Rattle.std.proofs.Math.Nat.{pow-le-pow_right}
+use Rattle.std.proofs.lemmas.Bool.{cases_lt}
+use Rattle.std.proofs.lemmas.List.Elements.{All-head, All-tail}
+use Rattle.wire_base.specs.declared.error.DecodeError.{DecodeError}
+use Rattle.wire_base.specs.declared.error.DecodeError.TheVariants.{UnexpectedEof, VarintTooLong}
+use Rattle.wire_base.specs.Laws.{ShortestReadsBack, NoSpellingBeginsAnother, OneVarint, NoVarintBesideFault, NoSpellingIsShorter, OneVarintFault, VarintOrFault}
+use Rattle.wire_base.specs.Read.{Reads}
+use Rattle.wire_base.specs.Varint.{value_of, AllContinue, IsEnded, IsSpelling, digits, shortest, VarintFault, cut_short, too_long}
+
+-- ---- where a varint ends
+
+-- no text that has ended goes on
+pub nil_after_ended : (t more : List ℕ) → IsEnded t → IsEnded (t ++ more) → more ≡ []
+nil_after_ended [] more h k = absurd h
+nil_after_ended (b ∷ []) [] h k = refl
+nil_after_ended (b ∷ []) (c ∷ more) h k = absurd (omega (arith, k.0))
+nil_after_ended (b ∷ c ∷ bs) more h k = nil_after_ended (c ∷ bs) more h.1 k.1
+
+-- two ended texts at the front of one list are one
+pub one_ended : (t u a b : List ℕ) → IsEnded t → IsEnded u → t ++ a ≡ u ++ b → (t ≡ u) × (a ≡ b)
+one_ended [] u a b h k e = absurd h
+one_ended (x ∷ t) [] a b h k e = absurd k
+one_ended (x ∷ []) (y ∷ []) a b h k e = (cc, cc)
+one_ended (x ∷ []) (y ∷ z ∷ u) a b h k e = let same : x ≡ y = cc in absurd (omega (arith, k.0))
+one_ended (x ∷ z ∷ t) (y ∷ []) a b h k e = let same : x ≡ y = cc in absurd (omega (arith, h.0))
+one_ended (x ∷ z ∷ t) (y ∷ v ∷ u) a b h k e =
+    let rest = one_ended (z ∷ t) (v ∷ u) a b h.1 k.1 (cc) in
+    (cc, rest.1)
+
+-- where every byte continues, nothing ends
+pub continued_not_ended : (t rest : List ℕ) → AllContinue (t ++ rest) → IsEnded t → ⊥
+continued_not_ended [] rest h k = k
+continued_not_ended (b ∷ []) rest h k = omega (arith, h.0)
+continued_not_ended (b ∷ c ∷ bs) rest h k = continued_not_ended (c ∷ bs) rest h.1 k.1
+
+-- an ended text goes past the continued bytes before it
+pub past_continued : (front t a b : List ℕ) → AllContinue front → IsEnded t → t ++ a ≡ front ++ b
+    → (more : List ℕ) × (t ≡ front ++ more) × IsEnded more × (b ≡ more ++ a)
+past_continued [] t a b h k e = (t, refl, k, sym e)
+past_continued (x ∷ front) [] a b h k e = absurd k
+past_continued (x ∷ front) (y ∷ []) a b h k e = let same : x ≡ y = cc in absurd (omega (arith, h.0))
+past_continued (x ∷ front) (y ∷ z ∷ t) a b h k e =
+    let next = past_continued front (z ∷ t) a b h.1 k.1 (cc) in
+    let same : x ≡ y = cc in
+    let parts = next.1 in
+    (next.0, cc, next.2, next.3)
+
+-- an end behind continued bytes is an end
+pub IsEnded-append : (front more : List ℕ) → AllContinue front → IsEnded more → IsEnded (front ++ more)
+IsEnded-append [] more h k = k
+IsEnded-append (x ∷ []) [] h k = absurd k
+IsEnded-append (x ∷ []) (y ∷ more) h k = (h.0, k)
+IsEnded-append (x ∷ z ∷ front) more h k = (h.0, IsEnded-append (z ∷ front) more h.1 k)
+
+-- ---- values
+
+-- what stands behind n digits counts 128 ^ n times
+pub value_of-append : (a b : List ℕ) → value_of (a ++ b) ≡ value_of a + 128 ^ length a * value_of b
+value_of-append [] b = omega arith
+value_of-append (x ∷ a) b =
+    let shift : 128 ^ suc (length a) * value_of b ≡ 128 * (128 ^ length a * value_of b) = rw (pow-suc, mul_comm (128 ^ length a) 128, mul_assoc) refl in
+    omega (arith, value_of-append a b)
+
+-- n digits have a value below 128 ^ n
+pub value_of-below : (t : List ℕ) → value_of t < 128 ^ length t
+value_of-below [] = omega arith
+value_of-below (x ∷ t) =
+    let shift : 128 ^ suc (length t) ≡ 128 * 128 ^ length t = pow-suc 128 (length t) ∙ mul_comm (128 ^ length t) 128 in
+    omega (arith, value_of-below t)
+
+-- ---- digits
+
+pub digits-low : (n v : ℕ) → v < 128 → digits n v ≡ v ∷ []
+digits-low zero v h = refl
+digits-low (suc n) v h = rw lt-ltb
+
+pub digits-high : (n v : ℕ) → 128 ≤ v → digits (suc n) v ≡ (v % 128 + 128) ∷ digits n (v / 128)
+digits-high n v h = rw le-ltb
+
+-- below the largest power a digit less serves
+pub digits-enough : (n v : ℕ) → v < 128 ^ suc n → digits (suc n) v ≡ digits n v
+digits-enough zero v h = digits-low 1 v h
+digits-enough (suc n) v h = digits_by_size n v h (cases_lt v 128) (digits-enough n (v / 128))
+  where
+    digits_by_size : (n v : ℕ) → v < 128 ^ suc (suc n) → (v < 128) ⊎ (128 ≤ v)
+        → (v / 128 < 128 ^ suc n → digits (suc n) (v / 128) ≡ digits n (v / 128)) → digits (suc (suc n)) v ≡ digits (suc n) v
+    digits_by_size n v h (inl low) again = digits-low (suc (suc n)) v low ∙ sym (digits-low (suc n) v low)
+    digits_by_size n v h (inr high) again =
+        let shift : 128 ^ suc (suc n) ≡ 128 * 128 ^ suc n = pow-suc 128 (suc n) ∙ mul_comm (128 ^ suc n) 128 in
+        digits-high (suc n) v high ∙ ap (λ l. (v % 128 + 128) ∷ l) (again (omega arith)) ∙ sym (digits-high n v high)
+
+-- the digits of a number that has so many are a varint of it
+pub record AreDigits (n v : ℕ) (text : List ℕ) : Type 0 where
+  pub ended : IsEnded text
+  pub short : length text ≤ suc n
+  pub value : value_of text ≡ v
+
+AreDigits-more : (n v : ℕ) (text : List ℕ) → 128 ≤ v → AreDigits n (v / 128) text → AreDigits (suc n) v ((v % 128 + 128) ∷ text)
+AreDigits-more n v text high h = record {
+  ended = IsEnded-append ((v % 128 + 128) ∷ []) text (omega arith, tt) h.ended;
+  short = omega arith;
+  value = omega arith;
+}
+
+AreDigits-last : (n v : ℕ) → v < 128 → AreDigits n v (v ∷ [])
+AreDigits-last n v low = record { ended = low; short = omega arith; value = omega arith }
+
+pub AreDigits-digits : (n v : ℕ) → v < 128 ^ suc n → AreDigits n v (digits n v)
+AreDigits-digits zero v h = AreDigits-last zero v h
+AreDigits-digits (suc n) v h =
+    let shift : 128 ^ suc (suc n) ≡ 128 * 128 ^ suc n = pow-suc 128 (suc n) ∙ mul_comm (128 ^ suc n) 128 in
+    ⊎_elim
+    (λ low. subst (AreDigits (suc n) v) (sym (digits-low (suc n) v low)) (AreDigits-last (suc n) v low))
+    (λ high. subst (AreDigits (suc n) v) (sym (digits-high n v high)) (AreDigits-more n v _ high (AreDigits-digits n (v / 128) (omega arith))))
+    (cases_lt v 128)
+
+-- ---- the shortest spelling
+
+pub shortest-digits : (v : ℕ) → v < 2 ^ 64 → shortest v ≡ digits 9 v
+unfolding shortest
+shortest-digits v h = rw (lt-ltb v (2 ^ 64) h)
+
+pub shortest-low : (v : ℕ) → v < 128 → shortest v ≡ v ∷ []
+shortest-low v h = shortest-digits v (omega arith) ∙ digits-low 9 v h
+
+pub shortest-high : (v : ℕ) → 128 ≤ v → v < 2 ^ 64 → shortest v ≡ (v % 128 + 128) ∷ shortest (v / 128)
+shortest-high v h fits =
+    shortest-digits v fits ∙ digits-high 8 v h ∙ ap (λ l. (v % 128 + 128) ∷ l) (sym (digits-enough 8 (v / 128) (omega arith)) ∙ sym (shortest-digits (v / 128) (omega arith)))
+
+pub IsSpelling-shortest : (v : ℕ) → v < 2 ^ 64 → IsSpelling (shortest v) v
+IsSpelling-shortest v h =
+    let spelled = AreDigits-digits 9 v (omega arith) in
+    rw shortest-digits (record { ended = spelled.ended; at_most_ten = spelled.short; value = spelled.value; fits = h })
+
+-- digits are no more than the bytes of any text of the number
+pub digits_at_most : (n : ℕ) (t : List ℕ) → IsEnded t → length (digits n (value_of t)) ≤ length t
+digits_at_most n [] h = absurd h
+digits_at_most zero (b ∷ t) h = omega arith
+digits_at_most (suc n) (b ∷ []) h = rw (digits-low (suc n) (b % 128 + 128 * 0) (omega arith)) (omega arith)
+digits_at_most (suc n) (b ∷ c ∷ t) h =
+    let v = value_of (b ∷ c ∷ t) in
+    let later : v / 128 ≡ value_of (c ∷ t) = omega arith in
+    ⊎_elim
+    (λ low. rw (digits-low (suc n) v low) (omega arith))
+    (λ high. rw (digits-high n v high, later) (omega (arith, digits_at_most n (c ∷ t) h.1)))
+    (cases_lt v 128)
+
+-- a text with no byte more than the digits has the very digits
+pub digits_of_least : (n : ℕ) (t : List ℕ) → IsEnded t → All (λ b. b < 256) t → length t ≤ length (digits n (value_of t)) → t ≡ digits n (value_of t)
+digits_of_least n [] h all le = absurd h
+digits_of_least n (b ∷ []) h all le =
+    let same : b % 128 + 128 * 0 ≡ b = omega arith in
+    rw (same, digits-low n b h) refl
+digits_of_least zero (b ∷ c ∷ t) h all le = absurd (omega arith)
+digits_of_least (suc n) (b ∷ c ∷ t) h all le =
+    let v = value_of (b ∷ c ∷ t) in
+    let later : v / 128 ≡ value_of (c ∷ t) = omega arith in
+    ⊎_elim
+    (λ low. let one : length (digits (suc n) v) ≡ 1 = ap length (digits-low (suc n) v low) in absurd (omega arith))
+    (λ high. let split : digits (suc n) v ≡ (v % 128 + 128) ∷ digits n (value_of (c ∷ t)) = digits-high n v high ∙ ap (λ w. (v % 128 + 128) ∷ digits n w) later in
+    let first : b ≡ v % 128 + 128 = omega (arith, All-head (λ x. x < 256) b (c ∷ t) all, h.0) in
+    let others = digits_of_least n (c ∷ t) h.1 (All-tail (λ x. x < 256) b (c ∷ t) all) (omega (arith, ap length split)) in
+    ap₂ (λ x xs. x ∷ xs) first others ∙ sym split)
+    (cases_lt v 128)
+
+pub shortest_at_most : (t : List ℕ) (v : ℕ) → IsSpelling t v → length (shortest v) ≤ length t
+shortest_at_most t v h = subst (λ w. length (shortest w) ≤ length t) h.value (rw (shortest-digits (value_of t) (subst (λ w. w < 2 ^ 64) (sym h.value) h.fits)) (digits_at_most 9 t h.ended))
+
+pub shortest_of_least : (t : List ℕ) (v : ℕ) → IsSpelling t v → All (λ b. b < 256) t → length t ≡ length (shortest v) → t ≡ shortest v
+shortest_of_least t v h all same =
+    let written : shortest v ≡ digits 9 (value_of t) = shortest-digits v h.fits ∙ ap (digits 9) (sym h.value) in
+    digits_of_least 9 t h.ended all (omega (arith, ap length written)) ∙ sym written
+
+-- ---- readings and faults
+
+-- two readings of the same bytes are one
+pub record SameVarint (t u old_rest new_rest : List ℕ) (v w : ℕ) : Type 0 where
+  pub text : t ≡ u
+  pub value : v ≡ w
+  pub rest : old_rest ≡ new_rest
+
+pub same_varint : (bytes r s : List ℕ) (v w : ℕ) (p : Reads bytes (λ text. IsSpelling text v) r) (q : Reads bytes (λ text. IsSpelling text w) s)
+    → SameVarint p.text q.text r s v w
+same_varint bytes r s v w p q =
+    let same = one_ended p.text q.text r s p.spelled.ended q.spelled.ended (sym p.parts ∙ q.parts) in
+    record { text = same.0; value = sym p.spelled.value ∙ ap value_of same.0 ∙ q.spelled.value; rest = same.1 }
+
+-- behind nine digits the value counts 2 ^ 63 times
+value_of-tenth : (front t : List ℕ) (tenth : ℕ) → length front ≡ 9 → t ≡ front ++ tenth ∷ [] → tenth < 128 → value_of t ≡ value_of front + 2 ^ 63 * tenth
+value_of-tenth front t tenth nine e low =
+    let last : value_of t ≡ value_of front + 128 ^ 9 * value_of (tenth ∷ []) = ap value_of e ∙ value_of-append front (tenth ∷ []) ∙ ap (λ n. value_of front + 128 ^ n * value_of (tenth ∷ [])) nine in
+    omega arith
+
+-- a tenth byte of 2 or more ends no varint
+beyond_ten : (front more t : List ℕ) (tenth : ℕ) (after rest : List ℕ) → t ≡ front ++ more → length front ≡ 9 → IsEnded more → tenth ∷ after ≡ more ++ rest
+    → 2 ≤ tenth → length t ≤ 10 → value_of t < 2 ^ 64 → ⊥
+beyond_ten front [] t tenth after rest e nine h same big short fits = h
+beyond_ten front (y ∷ []) t tenth after rest e nine h same big short fits =
+    let first : tenth ≡ y = cc in
+    omega (arith, value_of-tenth front t y nine e h)
+beyond_ten front (y ∷ z ∷ more) t tenth after rest e nine h same big short fits = omega (arith, ap length e ∙ length-append front (y ∷ z ∷ more))
+
+pub no_reading_beside_fault : (bytes rest : List ℕ) (v : ℕ) (e : DecodeError) → Reads bytes (λ text. IsSpelling text v) rest → VarintFault bytes e → ⊥
+no_reading_beside_fault bytes rest v e p (cut_short all short) = continued_not_ended p.text rest (subst AllContinue p.parts all) p.spelled.ended
+no_reading_beside_fault bytes rest v e p (too_long front tenth after parts all nine big) =
+    let past = past_continued front p.text rest (tenth ∷ after) all p.spelled.ended (sym p.parts ∙ parts) in
+    beyond_ten front past.0 p.text tenth after rest past.1 nine past.2 past.3 big p.spelled.at_most_ten (subst (λ w. w < 2 ^ 64) (sym p.spelled.value) p.spelled.fits)
+
+-- one list is not both too short and long enough for ten bytes
+ten_not_short : (bytes front : List ℕ) (tenth : ℕ) (rest : List ℕ) → length bytes < 10 → bytes ≡ front ++ tenth ∷ rest → length front ≡ 9 → ⊥
+ten_not_short bytes front tenth rest short e nine = omega (arith, ap length e ∙ length-append front (tenth ∷ rest))
+
+pub one_varint_fault_lemma : OneVarintFault
+one_varint_fault_lemma bytes e f (cut_short all short) (cut_short all2 short2) = refl
+one_varint_fault_lemma bytes e f (cut_short all short) (too_long front tenth rest parts all2 nine big) = absurd (ten_not_short bytes front tenth rest short parts nine)
+one_varint_fault_lemma bytes e f (too_long front tenth rest parts all2 nine big) (cut_short all short) = absurd (ten_not_short bytes front tenth rest short parts nine)
+one_varint_fault_lemma bytes e f (too_long front tenth rest parts all2 nine big) (too_long front2 tenth2 rest2 parts2 all3 nine2 big2) = refl
+
+-- ---- a reading or a fault always stands
+
+-- what the first n bytes of a list are
+data Scanned (n : ℕ) (bytes : List ℕ) : Type 0 where
+  ends : (t rest : List ℕ) → bytes ≡ t ++ rest → IsEnded t → length t ≤ n → Scanned n bytes
+  runs_out : AllContinue bytes → length bytes ≤ n → Scanned n bytes
+  goes_on : (front : List ℕ) (next : ℕ) (rest : List ℕ) → bytes ≡ front ++ next ∷ rest → AllContinue front → length front ≡ n → Scanned n bytes
+
+scanned_more : (n b : ℕ) (bs : List ℕ) → (b < 128) ⊎ (128 ≤ b) → Scanned n bs → Scanned (suc n) (b ∷ bs)
+scanned_more n b bs (inl low) s = ends (b ∷ []) bs refl low (omega arith)
+scanned_more n b bs (inr high) (ends t rest e h le) = ends (b ∷ t) rest (ap (λ l. b ∷ l) e) (IsEnded-append (b ∷ []) t (high, tt) h) (omega arith)
+scanned_more n b bs (inr high) (runs_out all le) = runs_out (high, all) (omega arith)
+scanned_more n b bs (inr high) (goes_on front next rest e all same) = goes_on (b ∷ front) next rest (ap (λ l. b ∷ l) e) (high, all) (omega arith)
+
+scan : (n : ℕ) (bytes : List ℕ) → Scanned n bytes
+scan n [] = runs_out tt (omega arith)
+scan zero (b ∷ bs) = goes_on [] b bs refl tt refl
+scan (suc n) (b ∷ bs) = scanned_more n b bs (cases_lt b 128) (scan n bs)
+
+-- a varint's text of nine bytes or fewer has a value of 63 bits
+IsSpelling-nine : (t : List ℕ) → IsEnded t → length t ≤ 9 → IsSpelling t (value_of t)
+IsSpelling-nine t h short = record { ended = h; at_most_ten = omega arith; value = refl; fits = lt_of_lt_of_le (value_of-below t) (le_trans (pow-le-pow_right (omega arith) short) (omega arith)) }
+
+IsSpelling-ten : (front : List ℕ) (tenth : ℕ) → AllContinue front → length front ≡ 9 → tenth < 2 → IsSpelling (front ++ tenth ∷ []) (value_of (front ++ tenth ∷ []))
+IsSpelling-ten front tenth all nine low = record {
+  ended = IsEnded-append front (tenth ∷ []) all (omega arith);
+  at_most_ten = omega (arith, length-append front (tenth ∷ []));
+  value = refl;
+  fits = omega (arith, value_of-tenth front (front ++ tenth ∷ []) tenth nine refl (omega arith), subst (λ n. value_of front < 128 ^ n) nine (value_of-below front));
+}
+
+from_scanned : (bytes : List ℕ) → Scanned 9 bytes → VarintOrFault bytes
+from_scanned bytes (ends t rest e h le) = inl (value_of t, rest, record { text = t; parts = e; spelled = IsSpelling-nine t h le })
+from_scanned bytes (runs_out all le) = inr (UnexpectedEof, cut_short all (omega arith))
+from_scanned bytes (goes_on front next rest e all nine) =
+    ⊎_elim
+    (λ low. inl (value_of (front ++ next ∷ []), rest, record { text = front ++ next ∷ []; parts = e ∙ sym (append_assoc front (next ∷ []) rest); spelled = IsSpelling-ten front next all nine low }))
+    (λ high. inr (VarintTooLong, too_long front next rest e all nine high))
+    (cases_lt next 2)
+
+pub varint_or_fault_lemma : (bytes : List ℕ) → VarintOrFault bytes
+varint_or_fault_lemma bytes = from_scanned bytes (scan 9 bytes)
+
+-- ---- the laws
+
+pub shortest_reads_back_lemma : ShortestReadsBack
+shortest_reads_back_lemma v rest fits = record { text = shortest v; parts = refl; spelled = IsSpelling-shortest v fits }
+
+pub no_spelling_begins_another_lemma : NoSpellingBeginsAnother
+no_spelling_begins_another_lemma t more v u h k = nil_after_ended t more h.ended k.ended
+
+pub one_varint_lemma : OneVarint
+one_varint_lemma bytes rest rest2 v w p q = let same = same_varint bytes rest rest2 v w p q in (same.value, same.rest)
+
+pub no_varint_beside_fault_lemma : NoVarintBesideFault
+no_varint_beside_fault_lemma = no_reading_beside_fault
+
+pub no_spelling_is_shorter_lemma : NoSpellingIsShorter
+no_spelling_is_shorter_lemma t v h = (shortest_at_most t v h, shortest_of_least t v h)

@@ -1,0 +1,99 @@
+-- What holds of the definitions themselves. Each statement is proved as the contract of a law of src/laws.rt.
+use Rattle.std.specs.Prelude.{◌≡◌, ℕ, ◌^◌, ◌<◌, ◌≤◌, ◌⊎◌, ◌↔◌, List, [], ◌++◌, length, All}
+use Rattle.wire_base.specs.declared.error.DecodeError.{DecodeError}
+use Rattle.wire_base.specs.declared.tag.WireType.{WireType}
+use Rattle.wire_base.specs.Field.{Payload, group, Fields, none, field, type_of}
+use Rattle.wire_base.specs.Fault.{PayloadFault, ListFault, by_input, by_tag}
+use Rattle.wire_base.specs.FieldNumber.{IsFieldNumber}
+use Rattle.wire_base.specs.InRange.{AreInRange}
+use Rattle.wire_base.specs.Limits.{Limits, Fits}
+use Rattle.wire_base.specs.Read.{Reads}
+use Rattle.wire_base.specs.Spells.{SpellsPayload, Spells, IsPayload}
+use Rattle.wire_base.specs.Text.{text, payload_charge, charge}
+use Rattle.wire_base.specs.Tag.{IsTagSpelling, tag_text, TagFault}
+use Rattle.wire_base.specs.Varint.{IsSpelling, shortest, VarintFault}
+
+-- ---- varints
+
+abbrev pub ShortestReadsBack : Type 0
+ShortestReadsBack = (v : ℕ) (rest : List ℕ) → v < 2 ^ 64 → Reads (shortest v ++ rest) (λ text. IsSpelling text v) rest
+
+abbrev pub NoSpellingBeginsAnother : Type 0
+NoSpellingBeginsAnother = (text more : List ℕ) (v w : ℕ) → IsSpelling text v → IsSpelling (text ++ more) w → more ≡ []
+
+abbrev pub OneVarint : Type 0
+OneVarint = (bytes r s : List ℕ) (v w : ℕ) → Reads bytes (λ text. IsSpelling text v) r → Reads bytes (λ text. IsSpelling text w) s → (v ≡ w) × (r ≡ s)
+
+abbrev pub NoVarintBesideFault : Type 0
+NoVarintBesideFault = (bytes rest : List ℕ) (v : ℕ) (e : DecodeError) → Reads bytes (λ text. IsSpelling text v) rest → VarintFault bytes e → ⊥
+
+abbrev pub NoSpellingIsShorter : Type 0
+NoSpellingIsShorter = (text : List ℕ) (v : ℕ) → IsSpelling text v
+    → (length (shortest v) ≤ length text) × (All (λ b. b < 256) text → length text ≡ length (shortest v) → text ≡ shortest v)
+
+abbrev pub OneVarintFault : Type 0
+OneVarintFault = (bytes : List ℕ) (e f : DecodeError) → VarintFault bytes e → VarintFault bytes f → e ≡ f
+
+abbrev pub VarintOrFault : List ℕ → Type 0
+VarintOrFault bytes = ((v : ℕ) × (rest : List ℕ) × Reads bytes (λ text. IsSpelling text v) rest) ⊎ ((e : DecodeError) × VarintFault bytes e)
+
+abbrev pub VarintOrFaultStands : Type 0
+VarintOrFaultStands = (bytes : List ℕ) → VarintOrFault bytes
+
+-- ---- tags
+
+abbrev pub TagTextReadsBack : Type 0
+TagTextReadsBack = (n : ℕ) (w : WireType) (rest : List ℕ) → IsFieldNumber n → Reads (tag_text n w ++ rest) (IsTagSpelling n w) rest
+
+abbrev pub OneTag : Type 0
+OneTag = (bytes r s : List ℕ) (n k : ℕ) (w x : WireType) → Reads bytes (IsTagSpelling n w) r → Reads bytes (IsTagSpelling k x) s → (n ≡ k) × (w ≡ x) × (r ≡ s)
+
+abbrev pub NoTagBesideFault : Type 0
+NoTagBesideFault = (bytes rest : List ℕ) (n : ℕ) (w : WireType) (e : DecodeError) → Reads bytes (IsTagSpelling n w) rest → TagFault bytes e → ⊥
+
+abbrev pub NoTagTextIsShorter : Type 0
+NoTagTextIsShorter = (n : ℕ) (w : WireType) (text : List ℕ) → IsTagSpelling n w text → length (tag_text n w) ≤ length text
+
+abbrev pub OneTagFault : Type 0
+OneTagFault = (bytes : List ℕ) (e f : DecodeError) → TagFault bytes e → TagFault bytes f → e ≡ f
+
+abbrev pub TagOrFault : List ℕ → Type 0
+TagOrFault bytes = ((n : ℕ) × (w : WireType) × (rest : List ℕ) × Reads bytes (IsTagSpelling n w) rest) ⊎ ((e : DecodeError) × TagFault bytes e)
+
+abbrev pub TagOrFaultStands : Type 0
+TagOrFaultStands = (bytes : List ℕ) → TagOrFault bytes
+
+-- ---- records
+
+-- a tag and a payload are one record, and one record is a tag and a payload
+abbrev pub PayloadIsField : Type 0
+PayloadIsField = (n : ℕ) (p : Payload) (t : List ℕ)
+    → Spells (field n p none) t ↔ ((tag : List ℕ) × (payload : List ℕ) × (t ≡ tag ++ payload) × IsTagSpelling n (type_of p) tag × IsPayload n (type_of p) p payload)
+
+abbrev pub OnePayload : Type 0
+OnePayload = (n : ℕ) (w : WireType) (p q : Payload) (bytes r s : List ℕ) → Reads bytes (IsPayload n w p) r → Reads bytes (IsPayload n w q) s → (p ≡ q) × (r ≡ s)
+
+abbrev pub OneList : Type 0
+OneList = (fs gs : Fields) (bytes : List ℕ) → Spells fs bytes → Spells gs bytes → fs ≡ gs
+
+abbrev pub OneBody : Type 0
+OneBody = (n : ℕ) (fs gs : Fields) (bytes r s : List ℕ) → Reads bytes (SpellsPayload n (group fs)) r → Reads bytes (SpellsPayload n (group gs)) s → (fs ≡ gs) × (r ≡ s)
+
+abbrev pub ShortestTextSpells : Type 0
+ShortestTextSpells = (fs : Fields) → AreInRange fs → Spells fs (text fs)
+
+abbrev pub NoTextIsShorter : Type 0
+NoTextIsShorter = (fs : Fields) (t : List ℕ) → Spells fs t → length (text fs) ≤ length t
+
+-- ---- faults of records
+
+abbrev pub NoPayloadBesideFault : Type 0
+NoPayloadBesideFault = (l : Limits) (n : ℕ) (w : WireType) (bytes rest : List ℕ) (e : DecodeError) (p : Payload)
+    → PayloadFault l n w bytes e → Reads bytes (IsPayload n w p) rest → Fits (payload_charge p) l → ⊥
+
+abbrev pub NoListBesideFault : Type 0
+NoListBesideFault = (l : Limits) (bytes : List ℕ) (e : DecodeError) (fs : Fields) → ListFault l by_input bytes e → Spells fs bytes → Fits (charge fs) l → ⊥
+
+abbrev pub NoBodyBesideFault : Type 0
+NoBodyBesideFault = (l : Limits) (n : ℕ) (bytes rest : List ℕ) (e : DecodeError) (fs : Fields)
+    → ListFault l (by_tag n) bytes e → Reads bytes (SpellsPayload n (group fs)) rest → Fits (charge fs) l → ⊥
