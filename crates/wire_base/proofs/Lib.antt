@@ -3,9 +3,12 @@ pub mod FieldLaws
 pub mod JoinedLaws
 pub mod LimitsLaws
 pub mod ListLaws
+pub mod Payloads
 pub mod Sinks
+pub mod Skips
 pub mod TagLaws
 pub mod Tags
+pub mod Takes
 pub mod TextLaws
 pub mod UnknownFieldsLemmas
 pub mod VarintLaws

@@ -11,6 +11,7 @@ pub mod Sink
 pub mod Spells
 pub mod Tag
 pub mod TagView
+pub mod Taken
 pub mod Text
 pub mod UnknownFields
 pub mod UnknownFieldsSize

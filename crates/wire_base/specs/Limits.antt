@@ -46,6 +46,20 @@ one_field = record { depth = 0; unknown_fields = 1 }
 abbrev pub inner : Limits → Limits
 inner l = record { depth = l.depth - 1; unknown_fields = l.unknown_fields }
 
+-- what is left one level up again
+abbrev pub outer : Limits → Limits
+outer l = record { depth = l.depth + 1; unknown_fields = l.unknown_fields }
+
+-- a count is not greater than another; no limit is greater than each
+abbrev pub IsNoMore : Option ℕ → Option ℕ → Type 0
+IsNoMore new None = Unit {0}
+IsNoMore None (Some old) = ⊥
+IsNoMore (Some new) (Some old) = new ≤ old
+
+-- no count is greater than it was; the levels may be anything
+pub record NoCountGrew (old new : Limits) : Type 0 where
+  pub unknown_fields : IsNoMore new.unknown_fields old.unknown_fields
+
 -- so many levels, and no count of fields
 abbrev pub uncounted : ℕ → Limits
 uncounted levels = record { depth = levels; unknown_fields = None }

@@ -2,15 +2,19 @@
 //! and any growing sink.
 #![tactic(auto)]
 
+mod decode_context;
 mod encode_sink;
 mod error;
 pub mod laws;
+mod skip;
 mod tag;
 mod unknown_fields;
 mod varint;
 
+pub use decode_context::{DEFAULT_UNKNOWN_FIELD_LIMIT, DecodeContext, RECURSION_LIMIT};
 pub use encode_sink::EncodeSink;
 pub use error::{DecodeError, EncodeError};
+pub use skip::{skip_field, skip_field_depth};
 pub use tag::{
     FIRST_RESERVED_FIELD_NUMBER, LAST_RESERVED_FIELD_NUMBER, MAX_FIELD_NUMBER, Tag, WireType,
 };

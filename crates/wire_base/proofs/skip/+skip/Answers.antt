@@ -1,0 +1,113 @@
+use Rattle.std.proofs.Common.{◌≡◌, ◌≢◌, ℕ, refl, sym, ap, ◌∙◌, arith}
+use Rattle.std.proofs.lemmas.Result.{err_from_is_err_and}
+use Rattle.wire_base.specs.declared.tag.WireType.{WireType}
+use Rattle.wire_base.specs.declared.tag.WireType.TheVariants as types
+use Rattle.wire_base.specs.Fault.{by_tag, no_varint, no_length, no_level, end_outside, bad_tag, other_end, bad_payload}
+use Rattle.wire_base.specs.Field.{none, push}
+use Rattle.wire_base.specs.Read.{Reads}
+use Rattle.wire_base.specs.Tag.{IsTagSpelling}
+use Rattle.wire_base.proofs.Payloads.{takes_body}
+use Rattle.wire_base.proofs.Skips.{skips_varint, skips_fixed64, stops_fixed64, skips_fixed32, stops_fixed32, skips_bytes, stops_bytes, skips_group, stops_group, uncounted_slot}
+use Rattle.wire_base.proofs.Takes.{takes_none, takes_push}
+use Rattle.wire_base.proofs.skip.+skip.Goals as goal
+
+-- ---- one payload
+
+pub skip_field_depth-returns-in_err-decode_varint-in-Varint-clause-fault : goal.skip_field_depth-returns-in_err-decode_varint-in-Varint-clause-fault
+skip_field_depth-returns-in_err-decode_varint-in-Varint-clause-fault g t c =
+    let p = err_from_is_err_and c.from_residual.result c.from_residual.ensures.1 in
+    rw (p.1, p.2, sym c.wire_type.ensures ∙ c.in-Varint.is) (no_varint (uncounted_slot _) (c.in_err-decode_varint-in-Varint).ensures.fault)
+
+pub skip_field_depth-returns-in_ok-decode_varint-in-Varint-clause-ok : goal.skip_field_depth-returns-in_ok-decode_varint-in-Varint-clause-ok
+skip_field_depth-returns-in_ok-decode_varint-in-Varint-clause-ok g t c =
+    skips_varint _ _ _ (uncounted_slot _) _ _ _ (sym c.wire_type.ensures ∙ c.in-Varint.is) (c.in_ok-decode_varint-in-Varint).ensures.ok
+
+pub skip_field_depth-returns-in-Fixed64-clause-ok : goal.skip_field_depth-returns-in-Fixed64-clause-ok
+skip_field_depth-returns-in-Fixed64-clause-ok g t c =
+    skips_fixed64 _ _ _ (uncounted_slot _) c.skip_bytes.result _ _ (sym c.wire_type.ensures ∙ c.in-Fixed64.is) c.skip_bytes.ensures.ok c.skip_bytes.ensures.long
+
+pub skip_field_depth-returns-in-Fixed64-clause-fault : goal.skip_field_depth-returns-in-Fixed64-clause-fault
+skip_field_depth-returns-in-Fixed64-clause-fault g t c =
+    stops_fixed64 _ _ _ (uncounted_slot _) c.skip_bytes.result _ (sym c.wire_type.ensures ∙ c.in-Fixed64.is) c.skip_bytes.ensures.err c.skip_bytes.ensures.short
+
+pub skip_field_depth-returns-in-Fixed32-clause-ok : goal.skip_field_depth-returns-in-Fixed32-clause-ok
+skip_field_depth-returns-in-Fixed32-clause-ok g t c =
+    let s = c.skip_bytes-in-Fixed32 in
+    skips_fixed32 _ _ _ (uncounted_slot _) s.result _ _ (sym c.wire_type.ensures ∙ c.in-Fixed32.is) s.ensures.ok s.ensures.long
+
+pub skip_field_depth-returns-in-Fixed32-clause-fault : goal.skip_field_depth-returns-in-Fixed32-clause-fault
+skip_field_depth-returns-in-Fixed32-clause-fault g t c =
+    let s = c.skip_bytes-in-Fixed32 in
+    stops_fixed32 _ _ _ (uncounted_slot _) s.result _ (sym c.wire_type.ensures ∙ c.in-Fixed32.is) s.ensures.err s.ensures.short
+
+pub skip_field_depth-returns-in_err-len-in-LengthDelimited-clause-fault : goal.skip_field_depth-returns-in_err-len-in-LengthDelimited-clause-fault
+skip_field_depth-returns-in_err-len-in-LengthDelimited-clause-fault g t c =
+    let r = c.from_residual-in_err-len-in-LengthDelimited in
+    let p = err_from_is_err_and r.result r.ensures.1 in
+    rw (p.1, p.2, sym c.wire_type.ensures ∙ c.in-LengthDelimited.is) (no_length (uncounted_slot _) (c.in_err-len-in-LengthDelimited).ensures.fault)
+
+pub skip_field_depth-returns-in_ok-len-in-LengthDelimited-clause-ok : goal.skip_field_depth-returns-in_ok-len-in-LengthDelimited-clause-ok
+skip_field_depth-returns-in_ok-len-in-LengthDelimited-clause-ok g t c =
+    let s = c.skip_bytes-in-LengthDelimited in
+    skips_bytes _ _ _ (uncounted_slot _) s.result _ _ _ _ (sym c.wire_type.ensures ∙ c.in-LengthDelimited.is) (c.in_ok-len-in-LengthDelimited).ensures.ok s.ensures.ok s.ensures.long
+
+pub skip_field_depth-returns-in_ok-len-in-LengthDelimited-clause-fault : goal.skip_field_depth-returns-in_ok-len-in-LengthDelimited-clause-fault
+skip_field_depth-returns-in_ok-len-in-LengthDelimited-clause-fault g t c =
+    let s = c.skip_bytes-in-LengthDelimited in
+    stops_bytes _ _ _ (uncounted_slot _) s.result _ _ _ (sym c.wire_type.ensures ∙ c.in-LengthDelimited.is) (c.in_ok-len-in-LengthDelimited).ensures.ok s.ensures.err s.ensures.short
+
+pub skip_field_depth-returns-then-depth-eq0-clause-fault : goal.skip_field_depth-returns-then-depth-eq0-clause-fault
+skip_field_depth-returns-then-depth-eq0-clause-fault g t c =
+    rw (sym c.wire_type.ensures ∙ c.in-StartGroup.is) (no_level (uncounted_slot _) c.if-depth-eq0.true)
+
+pub skip_field_depth-returns-else-depth-eq0-clause-ok : goal.skip_field_depth-returns-else-depth-eq0-clause-ok
+skip_field_depth-returns-else-depth-eq0-clause-ok g t c =
+    skips_group _ _ _ (uncounted_slot c.args.depth) c.skip_group.result _ _ (sym c.wire_type.ensures ∙ c.in-StartGroup.is) (omega arith) (rw c.field_number.ensures.number at c.skip_group.ensures.ok)
+
+pub skip_field_depth-returns-else-depth-eq0-clause-fault : goal.skip_field_depth-returns-else-depth-eq0-clause-fault
+skip_field_depth-returns-else-depth-eq0-clause-fault g t c =
+    stops_group _ _ _ (uncounted_slot c.args.depth) c.skip_group.result _ (sym c.wire_type.ensures ∙ c.in-StartGroup.is) (omega arith) (rw c.field_number.ensures.number at c.skip_group.ensures.fault)
+
+pub skip_field_depth-returns-in-EndGroup-clause-fault : goal.skip_field_depth-returns-in-EndGroup-clause-fault
+skip_field_depth-returns-in-EndGroup-clause-fault g t c =
+    rw (sym c.wire_type.ensures ∙ c.in-EndGroup.is) (end_outside (uncounted_slot _))
+
+-- ---- the body of a group
+
+pub skip_group-loop-tag-init : goal.skip_group-loop-tag-init
+skip_group-loop-tag-init g t c = (none, takes_none _ _)
+
+pub skip_group-returns-in_err-tag-clause-fault : goal.skip_group-returns-in_err-tag-clause-fault
+skip_group-returns-in_err-tag-clause-fault g t c =
+    let p = err_from_is_err_and c.from_residual.result c.from_residual.ensures.1 in
+    let so_far = c.loop-tag.invariant in
+    rw (p.1, p.2) (bad_tag so_far.0 _ so_far.1.read so_far.1.fits tt c.in_err-tag.ensures.fault)
+
+pub skip_group-returns-then-field_number-number-clause-ok : goal.skip_group-returns-then-field_number-number-clause-ok
+skip_group-returns-then-field_number-number-clause-ok g t c =
+    let so_far = c.loop-tag.invariant in
+    let r = rw (sym c.wire_type.ensures ∙ c.in-EndGroup.is, sym c.field_number.ensures.number ∙ c.if-field_number-number.true) at c.in_ok-tag.ensures.ok in
+    (so_far.0, takes_body _ _ so_far.0 _ _ _ so_far.1 r)
+
+pub skip_group-returns-in-EndGroup-clause-fault : goal.skip_group-returns-in-EndGroup-clause-fault
+skip_group-returns-in-EndGroup-clause-fault g t c =
+    let so_far = c.loop-tag.invariant in
+    let again = c.field_number-in-EndGroup.ensures.number in
+    let r = rw (sym c.wire_type.ensures ∙ c.in-EndGroup.is, sym again) at c.in_ok-tag.ensures.ok in
+    other_end so_far.0 _ _ _ so_far.1.read so_far.1.fits r (λ same. c.if-field_number-number.false (c.field_number.ensures.number ∙ sym again ∙ same))
+
+pub skip_group-loop-tag-preserved : goal.skip_group-loop-tag-preserved
+skip_group-loop-tag-preserved g t c =
+    let so_far = c.loop-tag.invariant in
+    let p = c.in_ok-skip_field_depth.ensures.ok in
+    (push so_far.0 _ p.0, takes_push _ so_far.0 _ _ p.0 _ _ _ _ so_far.1 c.in_ok-tag.ensures.ok p.1)
+
+pub skip_group-returns-in_err-skip_field_depth : goal.skip_group-returns-in_err-skip_field_depth
+skip_group-returns-in_err-skip_field_depth g t c =
+    let r = c.from_residual-in_err-skip_field_depth in
+    let p = err_from_is_err_and r.result r.ensures.1 in
+    let so_far = c.loop-tag.invariant in
+    rw (p.1, p.2) (record {
+      ok = tt;
+      fault = bad_payload {ending = by_tag c.args.number} so_far.0 _ _ _ _ so_far.1.read so_far.1.fits c.in_ok-tag.ensures.ok (λ end. c.in_default.not-EndGroup (c.wire_type.ensures ∙ end)) c.in_err-skip_field_depth.ensures.fault;
+    })

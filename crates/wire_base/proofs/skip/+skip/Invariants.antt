@@ -1,0 +1,18 @@
+use Rattle.std.proofs.Common.{◌+◌, ◌*◌, length}
+use Rattle.wire_base.specs.Field.{Fields}
+use Rattle.wire_base.specs.Limits.{uncounted}
+use Rattle.wire_base.specs.Taken.{TakesFields}
+use Rattle.wire_base.proofs.skip.+skip.Given as goal
+
+abbrev pub decreases-skip_field_depth : goal.decreases-skip_field_depth
+decreases-skip_field_depth g l = 2 * l.depth
+
+abbrev pub decreases-skip_group : goal.decreases-skip_group
+decreases-skip_group g l = 2 * l.depth + 1
+
+abbrev pub invariant-skip_group-loop-tag : goal.invariant-skip_group-loop-tag
+invariant-skip_group-loop-tag g l =
+    (fs : Fields) × TakesFields (uncounted l.fn.depth) fs (g.B.Buf.unread l.fn.buf) (g.B.Buf.unread l.buf)
+
+abbrev pub decreases-skip_group-loop-tag : goal.decreases-skip_group-loop-tag
+decreases-skip_group-loop-tag g l = length (g.B.Buf.unread l.buf)

@@ -1,0 +1,94 @@
+//! What a decoder may still take: levels of nesting, and unknown fields.
+ghost use Rattle.std.specs.Prelude.{◌≡◌, ℕ, ◌+◌, ◌-◌, ◌^◌, ◌<◌, Some, OnOk, OnErr, IfErr};
+ghost use Rattle.wire_base.specs.declared.error.DecodeError.TheVariants.{RecursionLimitExceeded, UnknownFieldLimitExceeded};
+ghost use Rattle.wire_base.specs.Limits.{Fits, counted, one_field, lowered, inner, outer};
+
+use crate::error::DecodeError;
+use std::marker::Model;
+
+/// How many groups or messages may stand in one another, where a caller names no limit.
+pub const RECURSION_LIMIT: u32 = 100;
+
+/// How many unknown fields are kept, where a caller names no limit.
+pub const DEFAULT_UNKNOWN_FIELD_LIMIT: usize = 1_000_000;
+
+/// The limits that are left while bytes are decoded. It is handed on by `&mut`, so that what is taken
+/// inside a message is gone for what follows it. A contract sees the limits.
+#[derive(Debug, Drop)]
+pub struct DecodeContext {
+    depth: u32,
+    unknown_fields: usize,
+}
+
+impl Model for DecodeContext {
+    ghost use Rattle.wire_base.specs.Limits.{Limits, counted};
+
+    ghost Value = { Limits };
+
+    ghost view = { λ c. counted c.depth c.unknown_fields };
+}
+
+impl DecodeContext {
+    /// So many levels of nesting, and so many unknown fields.
+    pub fn new(depth: u32, unknown_fields: usize) -> DecodeContext
+        ensures { result ≡ counted depth unknown_fields }
+    {
+        DecodeContext {
+            depth,
+            unknown_fields,
+        }
+    }
+
+    /// The levels that are left.
+    pub fn depth(&self) -> u32
+        ensures { result ≡ self.now.depth }
+    {
+        self.depth
+    }
+
+    /// The unknown fields that may still be kept.
+    pub fn remaining_unknown_fields(&self) -> usize
+        ensures { self.now.unknown_fields ≡ Some result }
+    {
+        self.unknown_fields
+    }
+
+    /// Takes one level.
+    pub fn descend(&mut self) -> Result<(), DecodeError>
+        ensures ok { OnOk result (self.new ≡ inner self.old) }
+        ensures taken { OnOk result (0 < self.old.depth) }
+        ensures room { OnOk result (self.new.depth < 2 ^ 32 - 1) }
+        ensures err { IfErr result (λ e. e ≡ RecursionLimitExceeded) }
+        ensures none_left { OnErr result (self.old.depth ≡ 0) }
+        ensures unchanged { OnErr result (self.new ≡ self.old) }
+    {
+        if self.depth == 0 {
+            return Err(DecodeError::RecursionLimitExceeded);
+        }
+        self.depth -= 1;
+        Ok(())
+    }
+
+    /// Gives one level back.
+    pub fn ascend(&mut self)
+        requires { self.old.depth < 2 ^ 32 - 1 }
+        ensures { self.new ≡ outer self.old }
+    {
+        self.depth += 1;
+    }
+
+    /// Takes the slot of one unknown field.
+    pub fn register_unknown_field(&mut self) -> Result<(), DecodeError>
+        ensures ok { OnOk result (self.new ≡ lowered self.old one_field) }
+        ensures taken { OnOk result (Fits one_field self.old) }
+        ensures err { IfErr result (λ e. e ≡ UnknownFieldLimitExceeded) }
+        ensures none_left { OnErr result (¬ Fits one_field self.old) }
+        ensures unchanged { OnErr result (self.new ≡ self.old) }
+    {
+        if self.unknown_fields == 0 {
+            return Err(DecodeError::UnknownFieldLimitExceeded);
+        }
+        self.unknown_fields -= 1;
+        Ok(())
+    }
+}

@@ -1,0 +1,84 @@
+//! Passing over records that nobody asked for.
+ghost use Rattle.std.specs.Prelude.{◌≡◌, ℕ, ◌<◌, ◌≤◌, length, drop, OnOk, OnErr, IfErr};
+ghost use Rattle.wire_base.specs.declared.error.DecodeError.TheVariants.{UnexpectedEof};
+ghost use Rattle.wire_base.specs.Fault.{PayloadFault, ListFault, by_tag};
+ghost use Rattle.wire_base.specs.Field.{Payload, Fields};
+ghost use Rattle.wire_base.specs.Limits.{uncounted};
+ghost use Rattle.wire_base.specs.TagView.{tag_number, tag_type};
+ghost use Rattle.wire_base.specs.Taken.{TakesPayload, TakesBody};
+
+use crate::decode_context::RECURSION_LIMIT;
+use crate::error::DecodeError;
+use crate::tag::{Tag, WireType};
+use crate::varint::decode_varint;
+use bytes::Buf;
+
+/// Passes over the payload of a tag that was read, in which groups nest at most 100 deep.
+pub fn skip_field<B: Buf>(tag: Tag, buf: &mut B) -> Result<(), DecodeError>
+    ensures ok { OnOk result ((p : Payload)
+        × TakesPayload (uncounted 100) (tag_number tag) (tag_type tag) p (B.unread buf.old) (B.unread buf.new)) }
+    ensures fault { IfErr result (PayloadFault (uncounted 100) (tag_number tag) (tag_type tag) (B.unread buf.old)) }
+{
+    skip_field_depth(tag, buf, RECURSION_LIMIT)
+}
+
+/// Passes over the payload of a tag that was read, in which groups nest at most so deep.
+#[cycle(skip)]
+pub fn skip_field_depth<B: Buf>(tag: Tag, buf: &mut B, depth: u32) -> Result<(), DecodeError>
+    ensures ok { OnOk result ((p : Payload)
+        × TakesPayload (uncounted depth) (tag_number tag) (tag_type tag) p (B.unread buf.old) (B.unread buf.new)) }
+    ensures fault { IfErr result (PayloadFault (uncounted depth) (tag_number tag) (tag_type tag) (B.unread buf.old)) }
+{
+    match tag.wire_type() {
+        WireType::Varint => {
+            decode_varint(buf)?;
+            Ok(())
+        }
+        WireType::Fixed64 => skip_bytes(buf, 8),
+        WireType::LengthDelimited => {
+            let len = decode_varint(buf)?;
+            skip_bytes(buf, len)
+        }
+        WireType::StartGroup => {
+            if depth == 0 {
+                return Err(DecodeError::RecursionLimitExceeded);
+            }
+            skip_group(tag.field_number(), buf, depth - 1)
+        }
+        WireType::EndGroup => Err(DecodeError::InvalidWireType(4)),
+        WireType::Fixed32 => skip_bytes(buf, 4),
+    }
+}
+
+// Passes over the body of a group of this number, its end tag too.
+#[cycle(skip)]
+fn skip_group<B: Buf>(number: u32, buf: &mut B, depth: u32) -> Result<(), DecodeError>
+    ensures ok { OnOk result ((fs : Fields)
+        × TakesBody (uncounted depth) number fs (B.unread buf.old) (B.unread buf.new)) }
+    ensures fault { IfErr result (ListFault (uncounted depth) (by_tag number) (B.unread buf.old)) }
+{
+    loop {
+        let tag = Tag::decode(buf)?;
+        if let WireType::EndGroup = tag.wire_type() {
+            if tag.field_number() == number {
+                return Ok(());
+            }
+            return Err(DecodeError::InvalidEndGroup(tag.field_number()));
+        }
+        skip_field_depth(tag, buf, depth)?;
+    }
+}
+
+// Passes over so many bytes.
+fn skip_bytes<B: Buf>(buf: &mut B, len: u64) -> Result<(), DecodeError>
+    ensures ok { OnOk result (B.unread buf.new ≡ drop len (B.unread buf.old)) }
+    ensures long { OnOk result (len ≤ length (B.unread buf.old)) }
+    ensures err { IfErr result (λ e. e ≡ UnexpectedEof) }
+    ensures short { OnErr result (length (B.unread buf.old) < len) }
+{
+    if (buf.remaining() as u64) < len {
+        return Err(DecodeError::UnexpectedEof);
+    }
+    buf.advance(len as usize);
+    Ok(())
+}
