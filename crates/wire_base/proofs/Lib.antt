@@ -3,6 +3,7 @@ pub mod FieldLaws
 pub mod JoinedLaws
 pub mod LimitsLaws
 pub mod ListLaws
+pub mod OneFaultLaws
 pub mod TagLaws
 pub mod TextLaws
 pub mod VarintLaws

@@ -3,7 +3,7 @@ use Rattle.std.specs.Prelude.{◌≡◌, ℕ, ◌^◌, ◌<◌, ◌≤◌, ◌�
 use Rattle.wire_base.specs.declared.error.DecodeError.{DecodeError}
 use Rattle.wire_base.specs.declared.tag.WireType.{WireType}
 use Rattle.wire_base.specs.Field.{Payload, group, Fields, none, field, type_of}
-use Rattle.wire_base.specs.Fault.{PayloadFault, ListFault, by_input, by_tag}
+use Rattle.wire_base.specs.Fault.{Ending, by_input, by_tag, PayloadFault, ListFault}
 use Rattle.wire_base.specs.FieldNumber.{IsFieldNumber}
 use Rattle.wire_base.specs.InRange.{AreInRange}
 use Rattle.wire_base.specs.Limits.{Limits, Fits}
@@ -97,3 +97,9 @@ NoListBesideFault = (l : Limits) (bytes : List ℕ) (e : DecodeError) (fs : Fiel
 abbrev pub NoBodyBesideFault : Type 0
 NoBodyBesideFault = (l : Limits) (n : ℕ) (bytes rest : List ℕ) (e : DecodeError) (fs : Fields)
     → ListFault l (by_tag n) bytes e → Reads bytes (SpellsPayload n (group fs)) rest → Fits (charge fs) l → ⊥
+
+abbrev pub OnePayloadFault : Type 0
+OnePayloadFault = (l : Limits) (n : ℕ) (w : WireType) (bytes : List ℕ) (e f : DecodeError) → PayloadFault l n w bytes e → PayloadFault l n w bytes f → e ≡ f
+
+abbrev pub OneListFault : Type 0
+OneListFault = (l : Limits) (ending : Ending) (bytes : List ℕ) (e f : DecodeError) → ListFault l ending bytes e → ListFault l ending bytes f → e ≡ f

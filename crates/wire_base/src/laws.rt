@@ -1,5 +1,5 @@
 //! Laws of the definitions that the contracts cite: each function is a theorem, and does nothing.
-ghost use Rattle.wire_base.specs.Laws.{ShortestReadsBack, NoSpellingBeginsAnother, OneVarint, NoVarintBesideFault, OneVarintFault, VarintOrFaultStands, NoSpellingIsShorter, TagTextReadsBack, OneTag, NoTagBesideFault, OneTagFault, TagOrFaultStands, NoTagTextIsShorter, PayloadIsField, OnePayload, OneList, OneBody, ShortestTextSpells, NoTextIsShorter, NoPayloadBesideFault, NoListBesideFault, NoBodyBesideFault};
+ghost use Rattle.wire_base.specs.Laws.{ShortestReadsBack, NoSpellingBeginsAnother, OneVarint, NoVarintBesideFault, OneVarintFault, VarintOrFaultStands, NoSpellingIsShorter, TagTextReadsBack, OneTag, NoTagBesideFault, OneTagFault, TagOrFaultStands, NoTagTextIsShorter, PayloadIsField, OnePayload, OneList, OneBody, ShortestTextSpells, NoTextIsShorter, NoPayloadBesideFault, NoListBesideFault, NoBodyBesideFault, OnePayloadFault, OneListFault};
 
 /// The shortest varint of a number reads back as that number, whatever follows it.
 pub fn shortest_reads_back()
@@ -109,4 +109,14 @@ pub fn no_list_beside_fault()
 /// Where the grammar names a fault, the bytes begin with no body of a group within the limits.
 pub fn no_body_beside_fault()
     ensures { NoBodyBesideFault }
+{}
+
+/// Behind one tag the same bytes have one fault of a payload at most.
+pub fn one_payload_fault()
+    ensures { OnePayloadFault }
+{}
+
+/// The same bytes have one fault of a list of records at most.
+pub fn one_list_fault()
+    ensures { OneListFault }
 {}
