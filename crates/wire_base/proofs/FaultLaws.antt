@@ -13,8 +13,8 @@ use Rattle.wire_base.specs.Tag.{IsTagSpelling, TagFault}
 use Rattle.wire_base.specs.Text.{payload_charge, charge}
 use Rattle.wire_base.specs.Varint.{IsSpelling, VarintFault}
 use Rattle.wire_base.proofs.FieldLaws.{Ends, not_end_group, tag_not_nil, record_not_end, same_payload}
-use Rattle.wire_base.proofs.JoinedLaws.{charge-joined}
-use Rattle.wire_base.proofs.LimitsLaws.{Fits-second, Fits-first, Fits-one_field, level_of_group, Fits-inside}
+use Rattle.wire_base.proofs.JoinedLaws.{charge-joined, Reads-joined}
+use Rattle.wire_base.proofs.LimitsLaws.{Fits-joined, lowered-joined, Fits-second, Fits-first, Fits-one_field, level_of_group, Fits-inside}
 use Rattle.wire_base.proofs.TagLaws.{same_tag, no_tag_beside_fault_lemma}
 use Rattle.wire_base.proofs.VarintLaws.{same_varint, no_varint_beside_fault_lemma}
 
@@ -219,6 +219,19 @@ mutual
       let next = goes_on ending front.more mid rest behind n w front.others ends tag is in
       payload_beside_fault (lowered l (charge gs)) n w behind e fault next.payload next.mid next.reads
       (Fits-next l gs front.more next.others fs n next.payload front.parts next.parts fits)
+
+-- ---- faults behind records
+
+-- a fault behind records that were read within the limits is a fault of the whole
+pub ListFault-behind : (l : Limits) (ending : Ending) (gs : Fields) (old mid : List ℕ) (e : DecodeError) → Reads old (Spells gs) mid → Fits (charge gs) l
+    → ListFault (lowered l (charge gs)) ending mid e → ListFault l ending old e
+ListFault-behind l ending gs old mid e h fits (ListFault.bad_tag fs rest k room goes fault) =
+    ListFault.bad_tag (joined gs fs) rest (Reads-joined gs fs old mid rest h k) (Fits-joined l gs fs fits room) goes fault
+ListFault-behind l ending gs old mid e h fits (ListFault.other_end fs rest m after k room end other) =
+    ListFault.other_end (joined gs fs) rest m after (Reads-joined gs fs old mid rest h k) (Fits-joined l gs fs fits room) end other
+ListFault-behind l ending gs old mid e h fits (ListFault.bad_payload fs rest n w after k room tag is fault) =
+    ListFault.bad_payload (joined gs fs) rest n w after (Reads-joined gs fs old mid rest h k) (Fits-joined l gs fs fits room) tag is
+    (subst (λ m. PayloadFault m n w after e) (lowered-joined l gs fs) fault)
 
 -- ---- the laws
 

@@ -4,6 +4,7 @@ pub mod JoinedLaws
 pub mod LimitsLaws
 pub mod ListLaws
 pub mod OneFaultLaws
+pub mod PlainReader
 pub mod TagLaws
 pub mod TextLaws
 pub mod VarintLaws

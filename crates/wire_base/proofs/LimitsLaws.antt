@@ -1,9 +1,10 @@
 -- Laws of limits: what fits, and what is left. One more budget is an edit of this file.
-use Rattle.std.proofs.Common.{◌≡◌, ℕ, ◌+◌, ◌-◌, ◌≤◌, ◌<◌, ◌⊎◌, inl, inr, max, Option, Some, None, refl, ap, arith, ⊎_elim}
+use Rattle.std.proofs.Common.{◌≡◌, ℕ, ◌+◌, ◌-◌, ◌≤◌, ◌<◌, ◌⊎◌, inl, inr, max, Option, Some, None, refl, sym, ap, ◌∙◌, subst, arith, ⊎_elim}
 use Rattle.std.proofs.lemmas.Bool.{cases_lt}
-use Rattle.wire_base.specs.Field.{Payload, varint, fixed64, fixed32, bytes, group, Fields, none, field}
+use Rattle.wire_base.specs.Field.{Payload, varint, fixed64, fixed32, bytes, group, Fields, none, joined}
 use Rattle.wire_base.specs.Limits.{Limits, Charge, HasRoom, less, Fits, lowered, both, no_charge, one_field, inner}
 use Rattle.wire_base.specs.Text.{payload_count, count, payload_depth, depth, payload_charge, charge}
+use Rattle.wire_base.proofs.JoinedLaws.{charge-joined}
 
 -- ---- one count
 
@@ -97,3 +98,10 @@ Fits-group l fs h level k = record { depth = omega (arith, k.depth); unknown_fie
 -- a group leaves of each count what its slot and its records leave
 pub lowered-group : (l : Limits) (fs : Fields) → (lowered (inner (lowered l one_field)) (charge fs)).unknown_fields ≡ (lowered l (payload_charge (group fs))).unknown_fields
 lowered-group l fs = less-less l.unknown_fields 1 (count fs)
+
+-- a list that fits, and another that fits what it leaves, fit one behind the other
+pub Fits-joined : (l : Limits) (fs gs : Fields) → Fits (charge fs) l → Fits (charge gs) (lowered l (charge fs)) → Fits (charge (joined fs gs)) l
+Fits-joined l fs gs h k = subst (λ c. Fits c l) (sym (charge-joined fs gs)) (Fits-both l (charge fs) (charge gs) h k)
+
+pub lowered-joined : (l : Limits) (fs gs : Fields) → lowered (lowered l (charge fs)) (charge gs) ≡ lowered l (charge (joined fs gs))
+lowered-joined l fs gs = lowered-both l (charge fs) (charge gs) ∙ ap (lowered l) (sym (charge-joined fs gs))

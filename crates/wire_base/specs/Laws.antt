@@ -103,3 +103,18 @@ OnePayloadFault = (l : Limits) (n : ℕ) (w : WireType) (bytes : List ℕ) (e f 
 
 abbrev pub OneListFault : Type 0
 OneListFault = (l : Limits) (ending : Ending) (bytes : List ℕ) (e f : DecodeError) → ListFault l ending bytes e → ListFault l ending bytes f → e ≡ f
+
+-- a payload within the limits behind a tag (n, w), or why there is none
+abbrev pub PayloadOrFault : Limits → ℕ → WireType → List ℕ → Type 0
+PayloadOrFault l n w bytes =
+    ((p : Payload) × (rest : List ℕ) × Reads bytes (IsPayload n w p) rest × Fits (payload_charge p) l) ⊎ ((e : DecodeError) × PayloadFault l n w bytes e)
+
+abbrev pub PayloadOrFaultStands : Type 0
+PayloadOrFaultStands = (l : Limits) (n : ℕ) (w : WireType) (bytes : List ℕ) → PayloadOrFault l n w bytes
+
+abbrev pub ListOrFaultStands : Type 0
+ListOrFaultStands = (l : Limits) (bytes : List ℕ) → ((fs : Fields) × Spells fs bytes × Fits (charge fs) l) ⊎ ((e : DecodeError) × ListFault l by_input bytes e)
+
+abbrev pub BodyOrFaultStands : Type 0
+BodyOrFaultStands = (l : Limits) (n : ℕ) (bytes : List ℕ)
+    → ((fs : Fields) × (rest : List ℕ) × Reads bytes (SpellsPayload n (group fs)) rest × Fits (charge fs) l) ⊎ ((e : DecodeError) × ListFault l (by_tag n) bytes e)

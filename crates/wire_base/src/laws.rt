@@ -1,5 +1,5 @@
 //! Laws of the definitions that the contracts cite: each function is a theorem, and does nothing.
-ghost use Rattle.wire_base.specs.Laws.{ShortestReadsBack, NoSpellingBeginsAnother, OneVarint, NoVarintBesideFault, OneVarintFault, VarintOrFaultStands, NoSpellingIsShorter, TagTextReadsBack, OneTag, NoTagBesideFault, OneTagFault, TagOrFaultStands, NoTagTextIsShorter, PayloadIsField, OnePayload, OneList, OneBody, ShortestTextSpells, NoTextIsShorter, NoPayloadBesideFault, NoListBesideFault, NoBodyBesideFault, OnePayloadFault, OneListFault};
+ghost use Rattle.wire_base.specs.Laws.{ShortestReadsBack, NoSpellingBeginsAnother, OneVarint, NoVarintBesideFault, OneVarintFault, VarintOrFaultStands, NoSpellingIsShorter, TagTextReadsBack, OneTag, NoTagBesideFault, OneTagFault, TagOrFaultStands, NoTagTextIsShorter, PayloadIsField, OnePayload, OneList, OneBody, ShortestTextSpells, NoTextIsShorter, NoPayloadBesideFault, NoListBesideFault, NoBodyBesideFault, OnePayloadFault, OneListFault, PayloadOrFaultStands, ListOrFaultStands, BodyOrFaultStands};
 
 /// The shortest varint of a number reads back as that number, whatever follows it.
 pub fn shortest_reads_back()
@@ -119,4 +119,19 @@ pub fn one_payload_fault()
 /// The same bytes have one fault of a list of records at most.
 pub fn one_list_fault()
     ensures { OneListFault }
+{}
+
+/// Behind a tag all bytes begin with a payload within the limits or have a fault.
+pub fn payload_or_fault()
+    ensures { PayloadOrFaultStands }
+{}
+
+/// All bytes are records within the limits or have a fault.
+pub fn list_or_fault()
+    ensures { ListOrFaultStands }
+{}
+
+/// All bytes begin with the body of a group within the limits or have a fault.
+pub fn body_or_fault()
+    ensures { BodyOrFaultStands }
 {}
