@@ -1,12 +1,12 @@
 -- Laws of faults of records: no fault stands beside a reading within the limits.
-use Rattle.std.proofs.Common.{◌≡◌, ◌≢◌, ℕ, ◌+◌, ◌<◌, ◌≤◌, ◌⊎◌, inl, inr, List, [], ◌∷◌, ◌++◌, length, refl, sym, ap, ap₂, ◌∙◌, subst, arith, length-append, append_assoc, append-nil}
+use Rattle.std.proofs.Common.{◌≡◌, ◌≢◌, ℕ, ◌<◌, inl, inr, List, [], ◌++◌, length, refl, sym, ap, ◌∙◌, subst, arith, length-append, append_assoc, append-nil}
 use Rattle.wire_base.specs.declared.error.DecodeError.{DecodeError}
 use Rattle.wire_base.specs.declared.tag.WireType.{WireType}
 use Rattle.wire_base.specs.declared.tag.WireType.TheVariants as types
 use Rattle.wire_base.specs.Fault.{Ending, by_input, by_tag, GoesOn, IsRecordTag, PayloadFault, ListFault}
 use Rattle.wire_base.specs.Field.{Payload, varint, fixed64, fixed32, bytes, group, Fields, none, field, type_of, joined}
 use Rattle.wire_base.specs.Laws.{NoPayloadBesideFault, NoListBesideFault, NoBodyBesideFault}
-use Rattle.wire_base.specs.Limits.{Limits, Charge, Fits, one_field, lowered, inner, both}
+use Rattle.wire_base.specs.Limits.{Limits, Fits, one_field, lowered, inner, both}
 use Rattle.wire_base.specs.Read.{Reads}
 use Rattle.wire_base.specs.Spells.{SpellsPayload, Spells, IsPayload}
 use Rattle.wire_base.specs.Tag.{IsTagSpelling, TagFault}

@@ -1,12 +1,13 @@
 -- One list of records behind another: its texts, its shortest text, and what it counts.
-use Rattle.std.proofs.Common.{◌≡◌, ℕ, suc, ◌+◌, max, List, [], ◌++◌, length, refl, sym, ap, ap₂, ◌∙◌, subst, arith, append_assoc, append-nil, length-append}
+use Rattle.std.proofs.Common.{◌≡◌, ℕ, ◌+◌, max, List, [], ◌++◌, length, refl, sym, ap, ◌∙◌, subst, arith, append_assoc, append-nil, length-append}
 use Rattle.wire_base.specs.declared.tag.WireType.{WireType}
 use Rattle.wire_base.specs.Field.{Payload, Fields, none, field, type_of, joined, push, count_top}
 use Rattle.wire_base.specs.InRange.{IsPayloadInRange, AreInRange}
 use Rattle.wire_base.specs.FieldNumber.{IsFieldNumber}
+use Rattle.wire_base.specs.Laws.{JoinedTextsSpell, JoinedAddsUp}
 use Rattle.wire_base.specs.Limits.{Charge, both}
 use Rattle.wire_base.specs.Read.{Reads}
-use Rattle.wire_base.specs.Spells.{SpellsPayload, Spells, IsPayload}
+use Rattle.wire_base.specs.Spells.{Spells, IsPayload}
 use Rattle.wire_base.specs.Tag.{IsTagSpelling, tag_text}
 use Rattle.wire_base.specs.Text.{payload_text, text, size, payload_count, count, payload_depth, depth, payload_charge, charge}
 
@@ -127,3 +128,11 @@ Reads-push fs n w p old mid behind new h t q = Reads-joined fs (field n p none) 
 -- the empty list stands at the front of all bytes
 pub Reads-none : (old : List ℕ) → Reads old (Spells none) old
 Reads-none old = record { text = []; parts = refl; spelled = refl }
+
+-- ---- the laws
+
+pub joined_texts_spell_lemma : JoinedTextsSpell
+joined_texts_spell_lemma = Spells-joined
+
+pub joined_adds_up_lemma : JoinedAddsUp
+joined_adds_up_lemma fs gs = (text-joined fs gs, count_top-joined fs gs, charge-joined fs gs)

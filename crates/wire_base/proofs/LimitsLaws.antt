@@ -1,9 +1,9 @@
 -- Laws of limits: what fits, and what is left. One more budget is an edit of this file.
-use Rattle.std.proofs.Common.{◌≡◌, ℕ, ◌+◌, ◌-◌, ◌≤◌, ◌<◌, ◌⊎◌, inl, inr, max, Option, Some, None, refl, sym, ap, ◌∙◌, subst, arith, ⊎_elim}
+use Rattle.std.proofs.Common.{◌≡◌, ℕ, ◌+◌, ◌≤◌, ◌<◌, ◌⊎◌, inl, inr, Option, Some, None, refl, sym, ap, ◌∙◌, subst, arith, ⊎_elim}
 use Rattle.std.proofs.lemmas.Bool.{cases_lt}
 use Rattle.wire_base.specs.Field.{Payload, varint, fixed64, fixed32, bytes, group, Fields, none, joined}
-use Rattle.wire_base.specs.Limits.{Limits, Charge, HasRoom, less, Fits, lowered, both, no_charge, one_field, inner}
-use Rattle.wire_base.specs.Text.{payload_count, count, payload_depth, depth, payload_charge, charge}
+use Rattle.wire_base.specs.Limits.{Limits, Charge, HasRoom, less, Fits, lowered, both, one_field, inner}
+use Rattle.wire_base.specs.Text.{payload_count, count, depth, payload_charge, charge}
 use Rattle.wire_base.proofs.JoinedLaws.{charge-joined}
 
 -- ---- one count

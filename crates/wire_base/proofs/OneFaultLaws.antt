@@ -1,5 +1,5 @@
 -- Laws of faults of records: the same bytes have one fault at most.
-use Rattle.std.proofs.Common.{◌≡◌, ◌≢◌, ℕ, ◌+◌, ◌<◌, ◌≤◌, ◌⊎◌, inl, inr, List, [], ◌++◌, length, refl, sym, ap, ◌∙◌, subst, arith, ⊎_elim}
+use Rattle.std.proofs.Common.{◌≡◌, ℕ, ◌<◌, ◌⊎◌, inl, inr, List, refl, sym, ap, ◌∙◌, subst, arith, ⊎_elim}
 use Rattle.wire_base.specs.declared.error.DecodeError.{DecodeError}
 use Rattle.wire_base.specs.declared.error.DecodeError.TheVariants.{UnexpectedEof, InvalidWireType, RecursionLimitExceeded, InvalidEndGroup, UnknownFieldLimitExceeded}
 use Rattle.wire_base.specs.declared.tag.WireType.{WireType}
@@ -9,15 +9,15 @@ use Rattle.wire_base.specs.Field.{Payload, Fields, none, field, type_of, joined}
 use Rattle.wire_base.specs.Laws.{OnePayloadFault, OneListFault}
 use Rattle.wire_base.specs.Limits.{Limits, Fits, one_field, lowered, inner}
 use Rattle.wire_base.specs.Read.{Reads}
-use Rattle.wire_base.specs.Spells.{SpellsPayload, Spells, IsPayload}
+use Rattle.wire_base.specs.Spells.{SpellsPayload, Spells}
 use Rattle.wire_base.specs.Tag.{IsTagSpelling, TagFault}
 use Rattle.wire_base.specs.Text.{payload_charge, charge}
 use Rattle.wire_base.specs.Varint.{IsSpelling, VarintFault}
 use Rattle.wire_base.proofs.FieldLaws.{not_end_group}
-use Rattle.wire_base.proofs.FaultLaws.{Head, head_of, same_head, none_takes_nothing, Front, Fits-next, payload_beside_fault}
+use Rattle.wire_base.proofs.FaultLaws.{head_of, same_head, none_takes_nothing, Front, Fits-next, payload_beside_fault}
 use Rattle.wire_base.proofs.JoinedLaws.{joined-none}
-use Rattle.wire_base.proofs.TagLaws.{SameTag, same_tag, no_tag_beside_fault_lemma, one_tag_fault_lemma}
-use Rattle.wire_base.proofs.VarintLaws.{same_varint, no_varint_beside_fault_lemma, one_varint_fault_lemma}
+use Rattle.wire_base.proofs.TagLaws.{same_tag, no_tag_beside_fault_lemma, one_tag_fault_lemma}
+use Rattle.wire_base.proofs.VarintLaws.{no_varint_beside_fault_lemma, one_varint_fault_lemma}
 
 -- ---- a fault of a list, at its place
 

@@ -1,5 +1,5 @@
 -- A reading within the limits or a fault always stands: a reader over lists finds the one or the other.
-use Rattle.std.proofs.Common.{◌≡◌, ◌≢◌, ℕ, zero, suc, ◌+◌, ◌<◌, ◌≤◌, ◌⊎◌, inl, inr, List, [], ◌∷◌, ◌++◌, length, take, drop, refl, sym, ap, ◌∙◌, subst, arith, ⊎_elim, length-append, length-take-le, take-append-drop, append_assoc, append-nil}
+use Rattle.std.proofs.Common.{◌≡◌, ◌≢◌, ℕ, zero, suc, ◌<◌, ◌≤◌, ◌⊎◌, inl, inr, List, [], ◌∷◌, ◌++◌, length, take, drop, refl, sym, ap, ◌∙◌, subst, arith, ⊎_elim, length-append, length-take-le, take-append-drop, append_assoc, append-nil}
 use Rattle.std.proofs.lemmas.Bool.{cases_lt, cases_eq}
 use Rattle.std.specs.Int.{w32, w64, from_le_bytes}
 use Rattle.wire_base.specs.declared.error.DecodeError.{DecodeError}
@@ -7,14 +7,14 @@ use Rattle.wire_base.specs.declared.error.DecodeError.TheVariants.{UnexpectedEof
 use Rattle.wire_base.specs.declared.tag.WireType.{WireType}
 use Rattle.wire_base.specs.declared.tag.WireType.TheVariants as types
 use Rattle.wire_base.specs.Fault.{Ending, by_input, by_tag, GoesOn, IsRecordTag, PayloadFault, ListFault}
-use Rattle.wire_base.specs.Field.{Payload, varint, fixed64, fixed32, bytes, group, Fields, none, field, type_of}
+use Rattle.wire_base.specs.Field.{Payload, varint, fixed64, fixed32, bytes, group, Fields, none, field}
 use Rattle.wire_base.specs.Laws.{VarintOrFault, TagOrFault, PayloadOrFault, PayloadOrFaultStands, ListOrFaultStands, BodyOrFaultStands}
 use Rattle.wire_base.specs.Limits.{Limits, Fits, one_field, lowered, inner}
 use Rattle.wire_base.specs.Read.{Reads}
 use Rattle.wire_base.specs.Spells.{SpellsPayload, Spells, IsPayload}
-use Rattle.wire_base.specs.Tag.{IsTagSpelling, TagFault}
+use Rattle.wire_base.specs.Tag.{IsTagSpelling}
 use Rattle.wire_base.specs.Text.{payload_charge, charge}
-use Rattle.wire_base.specs.Varint.{IsSpelling, VarintFault}
+use Rattle.wire_base.specs.Varint.{IsSpelling}
 use Rattle.wire_base.proofs.FaultLaws.{EndsAs, ListFault-behind}
 use Rattle.wire_base.proofs.FieldLaws.{tag_not_nil}
 use Rattle.wire_base.proofs.JoinedLaws.{Reads-joined, Reads-one, Reads-none, charge-one}

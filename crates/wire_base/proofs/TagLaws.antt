@@ -1,5 +1,5 @@
 -- Laws of tags: one reading, a shortest text, and a fault exactly where there is no reading.
-use Rattle.std.proofs.Common.{◌≡◌, ℕ, zero, suc, ◌+◌, ◌*◌, ◌/◌, ◌%◌, ◌^◌, ◌<◌, ◌≤◌, ◌⊎◌, inl, inr, List, length, Option, Some, None, refl, sym, ap, ◌∙◌, subst, arith, ⊎_elim, lt-ltb, le-ltb, le-leb}
+use Rattle.std.proofs.Common.{◌≡◌, ℕ, zero, suc, ◌/◌, ◌%◌, ◌^◌, ◌<◌, ◌≤◌, ◌⊎◌, inl, inr, List, Some, None, refl, sym, ap, ◌∙◌, subst, arith, ⊎_elim, le-leb}
 use Rattle.std.proofs.lemmas.Bool.{cases_lt}
 use Rattle.std.proofs.lemmas.Bool.Decides.{nat_tests}
 use Rattle.wire_base.specs.declared.error.DecodeError.{DecodeError}
@@ -9,8 +9,8 @@ use Rattle.wire_base.specs.declared.error.DecodeError.TheVariants.{InvalidWireTy
 use Rattle.wire_base.specs.FieldNumber.{IsFieldNumber}
 use Rattle.wire_base.specs.Laws.{OneTag, NoTagBesideFault, TagTextReadsBack, NoTagTextIsShorter, OneTagFault, TagOrFault, TagOrFaultStands, VarintOrFault}
 use Rattle.wire_base.specs.Read.{Reads}
-use Rattle.wire_base.specs.Tag.{wire_number, tag_value, IsTagSpelling, tag_text, tag_error, TagFault, no_varint, no_tag}
-use Rattle.wire_base.specs.Varint.{IsSpelling, VarintFault}
+use Rattle.wire_base.specs.Tag.{wire_number, tag_value, IsTagSpelling, tag_text, tag_error, no_varint, no_tag}
+use Rattle.wire_base.specs.Varint.{IsSpelling}
 use Rattle.wire_base.proofs.VarintLaws.{same_varint, no_varint_beside_fault_lemma, one_varint_fault_lemma, varint_or_fault_lemma, IsSpelling-shortest, shortest_at_most}
 
 -- ---- wire types and their numbers

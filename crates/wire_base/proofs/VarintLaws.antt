@@ -1,5 +1,5 @@
 -- Laws of varints: one reading, a shortest spelling, and a fault exactly where there is no reading.
-use Rattle.std.proofs.Common.{◌≡◌, ℕ, zero, suc, ◌+◌, ◌*◌, ◌/◌, ◌%◌, ◌^◌, ◌<◌, ◌≤◌, ◌⊎◌, inl, inr, List, [], ◌∷◌, ◌++◌, length, true, false, nat_lt, if◌then◌else◌, refl, sym, ap, ◌∙◌, arith, length-append, append-nil, le-add_right, mul-le-mul_left, mul_assoc, mul_comm, pow-suc, lt-ltb, le-ltb, ⊎_elim, subst, ap₂, All, append_assoc, lt_of_lt_of_le, le_trans}
+use Rattle.std.proofs.Common.{◌≡◌, ℕ, zero, suc, ◌+◌, ◌*◌, ◌/◌, ◌%◌, ◌^◌, ◌<◌, ◌≤◌, ◌⊎◌, inl, inr, List, [], ◌∷◌, ◌++◌, length, refl, sym, ap, ◌∙◌, arith, length-append, mul_assoc, mul_comm, pow-suc, lt-ltb, le-ltb, ⊎_elim, subst, ap₂, All, append_assoc, lt_of_lt_of_le, le_trans}
 use Rattle.std.proofs.Math.Nat.{pow-le-pow_right}
 use Rattle.std.proofs.lemmas.Bool.{cases_lt}
 use Rattle.std.proofs.lemmas.List.Elements.{All-head, All-tail}
@@ -53,6 +53,11 @@ IsEnded-append [] more h k = k
 IsEnded-append (x ∷ []) [] h k = absurd k
 IsEnded-append (x ∷ []) (y ∷ more) h k = (h.0, k)
 IsEnded-append (x ∷ z ∷ front) more h k = (h.0, IsEnded-append (z ∷ front) more h.1 k)
+
+-- a continued byte behind continued bytes
+pub AllContinue-push : (front : List ℕ) (b : ℕ) → AllContinue front → 128 ≤ b → AllContinue (front ++ b ∷ [])
+AllContinue-push [] b h k = (k, tt)
+AllContinue-push (x ∷ front) b h k = (h.0, AllContinue-push front b h.1 k)
 
 -- ---- values
 
@@ -116,6 +121,18 @@ AreDigits-digits (suc n) v h =
     (λ high. subst (AreDigits (suc n) v) (sym (digits-high n v high)) (AreDigits-more n v _ high (AreDigits-digits n (v / 128) (omega arith))))
     (cases_lt v 128)
 
+-- a number from 128 ^ k on and below 128 ^ (k + 1) has k + 1 digits
+pub length-digits : (n k v : ℕ) → k ≤ n → (0 < k → 128 ^ k ≤ v) → v < 128 ^ suc k → length (digits n v) ≡ suc k
+length-digits zero zero v le low high = refl
+length-digits zero (suc k) v le low high = absurd (omega arith)
+length-digits (suc n) zero v le low high = ap length (digits-low (suc n) v high)
+length-digits (suc n) (suc k) v le low high =
+    let shift : 128 ^ suc (suc k) ≡ 128 * 128 ^ suc k = pow-suc 128 (suc k) ∙ mul_comm (128 ^ suc k) 128 in
+    let shift_less : 128 ^ suc k ≡ 128 * 128 ^ k = pow-suc 128 k ∙ mul_comm (128 ^ k) 128 in
+    let least : 128 * 128 ^ k ≤ v = omega (arith, low (omega arith)) in
+    let some : 1 ≤ 128 ^ k = pow-le-pow_right (omega arith) {i = 0} (omega arith) in
+    ap length (digits-high n v (omega arith)) ∙ ap suc (length-digits n k (v / 128) (omega arith) (λ positive. omega arith) (omega arith))
+
 -- ---- the shortest spelling
 
 pub shortest-digits : (v : ℕ) → v < 2 ^ 64 → shortest v ≡ digits 9 v
@@ -133,6 +150,9 @@ pub IsSpelling-shortest : (v : ℕ) → v < 2 ^ 64 → IsSpelling (shortest v) v
 IsSpelling-shortest v h =
     let spelled = AreDigits-digits 9 v (omega arith) in
     rw shortest-digits (record { ended = spelled.ended; at_most_ten = spelled.short; value = spelled.value; fits = h })
+
+pub length-shortest : (k v : ℕ) → v < 2 ^ 64 → k ≤ 9 → (0 < k → 128 ^ k ≤ v) → v < 128 ^ suc k → length (shortest v) ≡ suc k
+length-shortest k v fits le low high = ap length (shortest-digits v fits) ∙ length-digits 9 k v le low high
 
 -- digits are no more than the bytes of any text of the number
 pub digits_at_most : (n : ℕ) (t : List ℕ) → IsEnded t → length (digits n (value_of t)) ≤ length t
@@ -188,7 +208,7 @@ same_varint bytes r s v w p q =
     record { text = same.0; value = sym p.spelled.value ∙ ap value_of same.0 ∙ q.spelled.value; rest = same.1 }
 
 -- behind nine digits the value counts 2 ^ 63 times
-value_of-tenth : (front t : List ℕ) (tenth : ℕ) → length front ≡ 9 → t ≡ front ++ tenth ∷ [] → tenth < 128 → value_of t ≡ value_of front + 2 ^ 63 * tenth
+pub value_of-tenth : (front t : List ℕ) (tenth : ℕ) → length front ≡ 9 → t ≡ front ++ tenth ∷ [] → tenth < 128 → value_of t ≡ value_of front + 2 ^ 63 * tenth
 value_of-tenth front t tenth nine e low =
     let last : value_of t ≡ value_of front + 128 ^ 9 * value_of (tenth ∷ []) = ap value_of e ∙ value_of-append front (tenth ∷ []) ∙ ap (λ n. value_of front + 128 ^ n * value_of (tenth ∷ [])) nine in
     omega arith
@@ -238,10 +258,10 @@ scan zero (b ∷ bs) = goes_on [] b bs refl tt refl
 scan (suc n) (b ∷ bs) = scanned_more n b bs (cases_lt b 128) (scan n bs)
 
 -- a varint's text of nine bytes or fewer has a value of 63 bits
-IsSpelling-nine : (t : List ℕ) → IsEnded t → length t ≤ 9 → IsSpelling t (value_of t)
+pub IsSpelling-nine : (t : List ℕ) → IsEnded t → length t ≤ 9 → IsSpelling t (value_of t)
 IsSpelling-nine t h short = record { ended = h; at_most_ten = omega arith; value = refl; fits = lt_of_lt_of_le (value_of-below t) (le_trans (pow-le-pow_right (omega arith) short) (omega arith)) }
 
-IsSpelling-ten : (front : List ℕ) (tenth : ℕ) → AllContinue front → length front ≡ 9 → tenth < 2 → IsSpelling (front ++ tenth ∷ []) (value_of (front ++ tenth ∷ []))
+pub IsSpelling-ten : (front : List ℕ) (tenth : ℕ) → AllContinue front → length front ≡ 9 → tenth < 2 → IsSpelling (front ++ tenth ∷ []) (value_of (front ++ tenth ∷ []))
 IsSpelling-ten front tenth all nine low = record {
   ended = IsEnded-append front (tenth ∷ []) all (omega arith);
   at_most_ten = omega (arith, length-append front (tenth ∷ []));

@@ -1,12 +1,12 @@
 -- What holds of the definitions themselves. Each statement is proved as the contract of a law of src/laws.rt.
-use Rattle.std.specs.Prelude.{◌≡◌, ℕ, ◌^◌, ◌<◌, ◌≤◌, ◌⊎◌, ◌↔◌, List, [], ◌++◌, length, All}
+use Rattle.std.specs.Prelude.{◌≡◌, ℕ, ◌+◌, ◌^◌, ◌<◌, ◌≤◌, ◌⊎◌, ◌↔◌, List, [], ◌++◌, length, All}
 use Rattle.wire_base.specs.declared.error.DecodeError.{DecodeError}
 use Rattle.wire_base.specs.declared.tag.WireType.{WireType}
-use Rattle.wire_base.specs.Field.{Payload, group, Fields, none, field, type_of}
+use Rattle.wire_base.specs.Field.{Payload, group, Fields, none, field, type_of, joined, count_top}
 use Rattle.wire_base.specs.Fault.{Ending, by_input, by_tag, PayloadFault, ListFault}
 use Rattle.wire_base.specs.FieldNumber.{IsFieldNumber}
 use Rattle.wire_base.specs.InRange.{AreInRange}
-use Rattle.wire_base.specs.Limits.{Limits, Fits}
+use Rattle.wire_base.specs.Limits.{Limits, Fits, both}
 use Rattle.wire_base.specs.Read.{Reads}
 use Rattle.wire_base.specs.Spells.{SpellsPayload, Spells, IsPayload}
 use Rattle.wire_base.specs.Text.{text, payload_charge, charge}
@@ -84,6 +84,12 @@ ShortestTextSpells = (fs : Fields) → AreInRange fs → Spells fs (text fs)
 
 abbrev pub NoTextIsShorter : Type 0
 NoTextIsShorter = (fs : Fields) (t : List ℕ) → Spells fs t → length (text fs) ≤ length t
+
+abbrev pub JoinedTextsSpell : Type 0
+JoinedTextsSpell = (fs gs : Fields) (t u : List ℕ) → Spells fs t → Spells gs u → Spells (joined fs gs) (t ++ u)
+
+abbrev pub JoinedAddsUp : Type 0
+JoinedAddsUp = (fs gs : Fields) → (text (joined fs gs) ≡ text fs ++ text gs) × (count_top (joined fs gs) ≡ count_top fs + count_top gs) × (charge (joined fs gs) ≡ both (charge fs) (charge gs))
 
 -- ---- faults of records
 
