@@ -35,6 +35,7 @@ record Place (l : Limits) (ending : Ending) (old : List ℕ) (e : DecodeError) :
   fits : Fits (charge before) l
   fault : FaultHere (lowered l (charge before)) ending mid e
 
+-- the place of a fault
 place_of : (l : Limits) (ending : Ending) (old : List ℕ) (e : DecodeError) → ListFault l ending old e → Place l ending old e
 place_of l ending old e (ListFault.bad_tag gs mid h room goes fault) = record { before = gs; mid = mid; reads = h; fits = room; fault = bad_tag goes fault }
 place_of l ending old e (ListFault.other_end {n = n} gs mid k after h room end other) = record { before = gs; mid = mid; reads = h; fits = room; fault = other_end n k after refl end }
@@ -98,11 +99,13 @@ moved l ending old e f h other =
 
 -- ---- two faults at one place
 
+-- a bad tag is the one fault of its place
 tag_once : (l : Limits) (ending : Ending) (mid : List ℕ) (e f : DecodeError) → TagFault mid e → FaultHere l ending mid f → e ≡ f
 tag_once l ending mid e f fault (bad_tag goes other) = one_tag_fault_lemma mid e f fault other
 tag_once l ending mid e f fault (other_end n k after is end) = absurd (no_tag_beside_fault_lemma mid after k types.EndGroup e end fault)
 tag_once l ending mid e f fault (bad_payload n w after tag is other) = absurd (no_tag_beside_fault_lemma mid after n w e tag fault)
 
+-- another group's end tag is the one fault of its place
 end_once : (l : Limits) (n : ℕ) (mid : List ℕ) (f : DecodeError) (k : ℕ) (after : List ℕ) → Reads mid (IsTagSpelling k types.EndGroup) after → FaultHere l (by_tag n) mid f → InvalidEndGroup k ≡ f
 end_once l n mid f k after end (bad_tag goes other) = absurd (no_tag_beside_fault_lemma mid after k types.EndGroup f end other)
 end_once l n mid f k after end (other_end m j behind is end2) = ap InvalidEndGroup (same_tag mid after behind k j types.EndGroup types.EndGroup end end2).number
@@ -113,6 +116,7 @@ end_is_no_record : (ending : Ending) (n : ℕ) (w : WireType) → ending ≡ by_
 end_is_no_record by_input n w e is same = absurd (cc)
 end_is_no_record (by_tag m) n w e is same = is same
 
+-- a bad payload is the one fault of its place, where it has one fault
 payload_once : (l : Limits) (ending : Ending) (mid : List ℕ) (e f : DecodeError) (n : ℕ) (w : WireType) (after : List ℕ) → Reads mid (IsTagSpelling n w) after → IsRecordTag ending w
     → ((g : DecodeError) → PayloadFault l n w after g → e ≡ g) → FaultHere l ending mid f → e ≡ f
 payload_once l ending mid e f n w after tag is again (bad_tag goes other) = absurd (no_tag_beside_fault_lemma mid after n w f tag other)
@@ -124,6 +128,7 @@ payload_once l ending mid e f n w after tag is again (bad_payload m x behind tag
 
 -- ---- what a fault of a payload can be, once a slot is taken
 
+-- with no slot left there is this fault alone
 no_slot_only : (l : Limits) (n : ℕ) (w : WireType) (old : List ℕ) (f : DecodeError) → ¬ Fits one_field l → PayloadFault l n w old f → UnknownFieldLimitExceeded ≡ f
 no_slot_only l n w old f full (PayloadFault.no_slot also) = refl
 no_slot_only l n w old f full (PayloadFault.no_varint slot fault) = absurd (full slot)
@@ -135,38 +140,46 @@ no_slot_only l n w old f full (PayloadFault.end_outside slot) = absurd (full slo
 no_slot_only l n w old f full (PayloadFault.no_level slot flat) = absurd (full slot)
 no_slot_only l n w old f full (PayloadFault.in_group slot level fault) = absurd (full slot)
 
+-- a varint's fault is that of its number
 varint_only : (l : Limits) (n : ℕ) (old : List ℕ) (f : DecodeError) → Fits one_field l → PayloadFault l n types.Varint old f → VarintFault old f
 varint_only l n old f slot (PayloadFault.no_slot full) = absurd (full slot)
 varint_only l n old f slot (PayloadFault.no_varint also fault) = fault
 
+-- too few bytes for 8
 fixed64_only : (l : Limits) (n : ℕ) (old : List ℕ) (f : DecodeError) → Fits one_field l → PayloadFault l n types.Fixed64 old f → UnexpectedEof ≡ f
 fixed64_only l n old f slot (PayloadFault.no_slot full) = absurd (full slot)
 fixed64_only l n old f slot (PayloadFault.short_fixed64 also short) = refl
 
+-- too few bytes for 4
 fixed32_only : (l : Limits) (n : ℕ) (old : List ℕ) (f : DecodeError) → Fits one_field l → PayloadFault l n types.Fixed32 old f → UnexpectedEof ≡ f
 fixed32_only l n old f slot (PayloadFault.no_slot full) = absurd (full slot)
 fixed32_only l n old f slot (PayloadFault.short_fixed32 also short) = refl
 
+-- an end tag outside a group
 end_only : (l : Limits) (n : ℕ) (old : List ℕ) (f : DecodeError) → Fits one_field l → PayloadFault l n types.EndGroup old f → InvalidWireType 4 ≡ f
 end_only l n old f slot (PayloadFault.no_slot full) = absurd (full slot)
 end_only l n old f slot (PayloadFault.end_outside also) = refl
 
+-- a bad length is the one fault of its place
 no_length_once : (l : Limits) (n : ℕ) (old : List ℕ) (e f : DecodeError) → Fits one_field l → VarintFault old e → PayloadFault l n types.LengthDelimited old f → e ≡ f
 no_length_once l n old e f slot fault (PayloadFault.no_slot full) = absurd (full slot)
 no_length_once l n old e f slot fault (PayloadFault.no_length also other) = one_varint_fault_lemma old e f fault other
 no_length_once l n old e f slot fault (PayloadFault.short_bytes len rest also h short) = absurd (no_varint_beside_fault_lemma old rest len e h fault)
 
+-- too few bytes for their length
 short_bytes_once : (l : Limits) (n : ℕ) (old rest : List ℕ) (len : ℕ) (f : DecodeError) → Fits one_field l → Reads old (λ text. IsSpelling text len) rest
     → PayloadFault l n types.LengthDelimited old f → UnexpectedEof ≡ f
 short_bytes_once l n old rest len f slot h (PayloadFault.no_slot full) = absurd (full slot)
 short_bytes_once l n old rest len f slot h (PayloadFault.no_length also other) = absurd (no_varint_beside_fault_lemma old rest len f h other)
 short_bytes_once l n old rest len f slot h (PayloadFault.short_bytes len2 rest2 also k short) = refl
 
+-- with no level left a group has this fault alone
 no_level_once : (l : Limits) (n : ℕ) (old : List ℕ) (f : DecodeError) → Fits one_field l → l.depth ≡ 0 → PayloadFault l n types.StartGroup old f → RecursionLimitExceeded ≡ f
 no_level_once l n old f slot flat (PayloadFault.no_slot full) = absurd (full slot)
 no_level_once l n old f slot flat (PayloadFault.no_level also flat2) = refl
 no_level_once l n old f slot flat (PayloadFault.in_group also level fault) = absurd (omega arith)
 
+-- a fault inside a group is its one fault, where the inside has one
 in_group_once : (l : Limits) (n : ℕ) (old : List ℕ) (e f : DecodeError) → Fits one_field l → 0 < l.depth
     → ((g : DecodeError) → ListFault (inner (lowered l one_field)) (by_tag n) old g → e ≡ g) → PayloadFault l n types.StartGroup old f → e ≡ f
 in_group_once l n old e f slot level again (PayloadFault.no_slot full) = absurd (full slot)
@@ -176,6 +189,7 @@ in_group_once l n old e f slot level again (PayloadFault.in_group also level2 fa
 -- ---- one fault
 
 mutual
+  -- two faults behind one tag are one
   pub one_payload_fault : (l : Limits) (n : ℕ) (w : WireType) (old : List ℕ) (e : DecodeError) → PayloadFault l n w old e → (f : DecodeError) → PayloadFault l n w old f → e ≡ f
   one_payload_fault l n w old e (PayloadFault.no_slot full) f other = no_slot_only l n w old f full other
   one_payload_fault l n w old e (PayloadFault.no_varint slot fault) f other = one_varint_fault_lemma old e f fault (varint_only l n old f slot other)
@@ -188,6 +202,7 @@ mutual
   one_payload_fault l n w old e (PayloadFault.in_group slot level fault) f other =
       in_group_once l n old e f slot level (one_list_fault (inner (lowered l one_field)) (by_tag n) old e fault) other
 
+  -- two faults of one list are one
   pub one_list_fault : (l : Limits) (ending : Ending) (old : List ℕ) (e : DecodeError) → ListFault l ending old e → (f : DecodeError) → ListFault l ending old f → e ≡ f
   one_list_fault l ending old e (ListFault.bad_tag gs mid h room goes fault) f other =
       let place : Place l ending old e = record { before = gs; mid = mid; reads = h; fits = room; fault = bad_tag goes fault } in

@@ -34,21 +34,25 @@ rest_at_most old text rest e = omega (arith, ap length e ∙ length-append text 
 rest_below : (old rest : List ℕ) (n : ℕ) (w : WireType) → Reads old (IsTagSpelling n w) rest → length rest < length old
 rest_below old rest n w h = past_tag h.text rest h.parts (λ e. tag_not_nil n w h.text [] h.spelled (append-nil h.text ∙ e))
   where
+    -- a text that is not empty is passed
     past_tag : (text rest : List ℕ) → old ≡ text ++ rest → text ≢ [] → length rest < length old
     past_tag [] rest e some = absurd (some refl)
     past_tag (b ∷ text) rest e some = omega (arith, ap length e ∙ length-append (b ∷ text) rest)
 
 -- ---- payloads
 
+-- a varint
 varint_outcome : (l : Limits) (n : ℕ) (old : List ℕ) → Fits one_field l → VarintOrFault old → PayloadOrFault l n types.Varint old
 varint_outcome l n old slot (inl (v, rest, h)) = inl (varint v, rest, record { text = h.text; parts = h.parts; spelled = record { kind = refl; spelled = h.spelled } }, slot)
 varint_outcome l n old slot (inr (e, fault)) = inr (e, PayloadFault.no_varint slot fault)
 
+-- 8 bytes
 fixed64_outcome : (l : Limits) (n : ℕ) (old : List ℕ) → Fits one_field l → (length old < 8) ⊎ (8 ≤ length old) → PayloadOrFault l n types.Fixed64 old
 fixed64_outcome l n old slot (inl short) = inr (UnexpectedEof, PayloadFault.short_fixed64 slot short)
 fixed64_outcome l n old slot (inr enough) =
     inl (fixed64 (from_le_bytes w64 (take 8 old)), drop 8 old, record { text = take 8 old; parts = sym (take-append-drop 8 old); spelled = record { kind = refl; spelled = (length-take-le 8 old enough, refl) } }, slot)
 
+-- 4 bytes
 fixed32_outcome : (l : Limits) (n : ℕ) (old : List ℕ) → Fits one_field l → (length old < 4) ⊎ (4 ≤ length old) → PayloadOrFault l n types.Fixed32 old
 fixed32_outcome l n old slot (inl short) = inr (UnexpectedEof, PayloadFault.short_fixed32 slot short)
 fixed32_outcome l n old slot (inr enough) =
@@ -70,6 +74,7 @@ content_outcome l n len old rest slot h (inr enough) =
       slot,
     )
 
+-- a length and bytes
 bytes_outcome : (l : Limits) (n : ℕ) (old : List ℕ) → Fits one_field l → VarintOrFault old → PayloadOrFault l n types.LengthDelimited old
 bytes_outcome l n old slot (inl (len, rest, h)) = content_outcome l n len old rest slot h (cases_lt (length rest) len)
 bytes_outcome l n old slot (inr (e, fault)) = inr (e, PayloadFault.no_length slot fault)
@@ -82,6 +87,7 @@ body_from_list n fs old mid after h end = record {
   spelled = (h.text, end.text, refl, h.spelled, end.spelled);
 }
 
+-- the inside of a group
 group_outcome : (l : Limits) (n : ℕ) (old : List ℕ) → Fits one_field l → 0 < l.depth → ListOutcome (inner (lowered l one_field)) (by_tag n) old → PayloadOrFault l n types.StartGroup old
 group_outcome l n old slot level (inl (fs, mid, h, (after, end), fits)) =
     let body = body_from_list n fs old mid after h end in
@@ -101,6 +107,7 @@ payload_with_slot l n types.StartGroup old lists slot =
 payload_with_slot l n types.EndGroup old lists slot = inr (InvalidWireType 4, PayloadFault.end_outside slot)
 payload_with_slot l n types.Fixed32 old lists slot = fixed32_outcome l n old slot (cases_lt (length old) 4)
 
+-- a slot first, and then the payload
 payload_outcome : (l : Limits) (n : ℕ) (w : WireType) (old : List ℕ) → ((m : Limits) → ListOutcome m (by_tag n) old) → PayloadOrFault l n w old
 payload_outcome l n w old lists = ⊎_elim (payload_with_slot l n w old lists) (λ full. inr (UnknownFieldLimitExceeded, PayloadFault.no_slot full)) (fits_or_not l one_field)
 
@@ -159,6 +166,7 @@ end_or_more by_input [] = inl refl
 end_or_more by_input (b ∷ old) = inr (λ e. cc)
 end_or_more (by_tag n) old = inr tt
 
+-- records at the front of fewer bytes than the fuel
 list_within : (fuel : ℕ) (l : Limits) (ending : Ending) (old : List ℕ) → length old < fuel → ListOutcome l ending old
 list_within zero l ending old short = absurd (omega arith)
 list_within (suc fuel) l ending old short =

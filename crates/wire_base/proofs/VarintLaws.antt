@@ -77,10 +77,12 @@ value_of-below (x ∷ t) =
 
 -- ---- digits
 
+-- one digit
 pub digits-low : (n v : ℕ) → v < 128 → digits n v ≡ v ∷ []
 digits-low zero v h = refl
 digits-low (suc n) v h = rw lt-ltb
 
+-- the lowest digit, and the digits of the rest
 pub digits-high : (n v : ℕ) → 128 ≤ v → digits (suc n) v ≡ (v % 128 + 128) ∷ digits n (v / 128)
 digits-high n v h = rw le-ltb
 
@@ -102,6 +104,7 @@ pub record AreDigits (n v : ℕ) (text : List ℕ) : Type 0 where
   pub short : length text ≤ suc n
   pub value : value_of text ≡ v
 
+-- one digit more at the front
 AreDigits-more : (n v : ℕ) (text : List ℕ) → 128 ≤ v → AreDigits n (v / 128) text → AreDigits (suc n) v ((v % 128 + 128) ∷ text)
 AreDigits-more n v text high h = record {
   ended = IsEnded-append ((v % 128 + 128) ∷ []) text (omega arith, tt) h.ended;
@@ -109,9 +112,11 @@ AreDigits-more n v text high h = record {
   value = omega arith;
 }
 
+-- the last digit
 AreDigits-last : (n v : ℕ) → v < 128 → AreDigits n v (v ∷ [])
 AreDigits-last n v low = record { ended = low; short = omega arith; value = omega arith }
 
+-- the digits of a number that has no more
 pub AreDigits-digits : (n v : ℕ) → v < 128 ^ suc n → AreDigits n v (digits n v)
 AreDigits-digits zero v h = AreDigits-last zero v h
 AreDigits-digits (suc n) v h =
@@ -135,22 +140,27 @@ length-digits (suc n) (suc k) v le low high =
 
 -- ---- the shortest spelling
 
+-- a number of 64 bits is written by its digits
 pub shortest-digits : (v : ℕ) → v < 2 ^ 64 → shortest v ≡ digits 9 v
 unfolding shortest
 shortest-digits v h = rw (lt-ltb v (2 ^ 64) h)
 
+-- below 128 there is one byte
 pub shortest-low : (v : ℕ) → v < 128 → shortest v ≡ v ∷ []
 shortest-low v h = shortest-digits v (omega arith) ∙ digits-low 9 v h
 
+-- from 128 on there is a continued byte, and the number 128 times smaller
 pub shortest-high : (v : ℕ) → 128 ≤ v → v < 2 ^ 64 → shortest v ≡ (v % 128 + 128) ∷ shortest (v / 128)
 shortest-high v h fits =
     shortest-digits v fits ∙ digits-high 8 v h ∙ ap (λ l. (v % 128 + 128) ∷ l) (sym (digits-enough 8 (v / 128) (omega arith)) ∙ sym (shortest-digits (v / 128) (omega arith)))
 
+-- the shortest spelling is a spelling
 pub IsSpelling-shortest : (v : ℕ) → v < 2 ^ 64 → IsSpelling (shortest v) v
 IsSpelling-shortest v h =
     let spelled = AreDigits-digits 9 v (omega arith) in
     rw shortest-digits (record { ended = spelled.ended; at_most_ten = spelled.short; value = spelled.value; fits = h })
 
+-- how long the shortest spelling is
 pub length-shortest : (k v : ℕ) → v < 2 ^ 64 → k ≤ 9 → (0 < k → 128 ^ k ≤ v) → v < 128 ^ suc k → length (shortest v) ≡ suc k
 length-shortest k v fits le low high = ap length (shortest-digits v fits) ∙ length-digits 9 k v le low high
 
@@ -185,9 +195,11 @@ digits_of_least (suc n) (b ∷ c ∷ t) h all le =
     ap₂ (λ x xs. x ∷ xs) first others ∙ sym split)
     (cases_lt v 128)
 
+-- no spelling is shorter
 pub shortest_at_most : (t : List ℕ) (v : ℕ) → IsSpelling t v → length (shortest v) ≤ length t
 shortest_at_most t v h = subst (λ w. length (shortest w) ≤ length t) h.value (rw (shortest-digits (value_of t) (subst (λ w. w < 2 ^ 64) (sym h.value) h.fits)) (digits_at_most 9 t h.ended))
 
+-- no other spelling is as short
 pub shortest_of_least : (t : List ℕ) (v : ℕ) → IsSpelling t v → All (λ b. b < 256) t → length t ≡ length (shortest v) → t ≡ shortest v
 shortest_of_least t v h all same =
     let written : shortest v ≡ digits 9 (value_of t) = shortest-digits v h.fits ∙ ap (digits 9) (sym h.value) in
@@ -201,6 +213,7 @@ pub record SameVarint (t u old_rest new_rest : List ℕ) (v w : ℕ) : Type 0 wh
   pub value : v ≡ w
   pub rest : old_rest ≡ new_rest
 
+-- two varints at the front of one list are one
 pub same_varint : (bytes r s : List ℕ) (v w : ℕ) (p : Reads bytes (λ text. IsSpelling text v) r) (q : Reads bytes (λ text. IsSpelling text w) s)
     → SameVarint p.text q.text r s v w
 same_varint bytes r s v w p q =
@@ -222,6 +235,7 @@ beyond_ten front (y ∷ []) t tenth after rest e nine h same big short fits =
     omega (arith, value_of-tenth front t y nine e h)
 beyond_ten front (y ∷ z ∷ more) t tenth after rest e nine h same big short fits = omega (arith, ap length e ∙ length-append front (y ∷ z ∷ more))
 
+-- no varint stands where a fault does
 pub no_reading_beside_fault : (bytes rest : List ℕ) (v : ℕ) (e : DecodeError) → Reads bytes (λ text. IsSpelling text v) rest → VarintFault bytes e → ⊥
 no_reading_beside_fault bytes rest v e p (cut_short all short) = continued_not_ended p.text rest (subst AllContinue p.parts all) p.spelled.ended
 no_reading_beside_fault bytes rest v e p (too_long front tenth after parts all nine big) =
@@ -246,12 +260,14 @@ data Scanned (n : ℕ) (bytes : List ℕ) : Type 0 where
   runs_out : AllContinue bytes → length bytes ≤ n → Scanned n bytes
   goes_on : (front : List ℕ) (next : ℕ) (rest : List ℕ) → bytes ≡ front ++ next ∷ rest → AllContinue front → length front ≡ n → Scanned n bytes
 
+-- one byte more at the front
 scanned_more : (n b : ℕ) (bs : List ℕ) → (b < 128) ⊎ (128 ≤ b) → Scanned n bs → Scanned (suc n) (b ∷ bs)
 scanned_more n b bs (inl low) s = ends (b ∷ []) bs refl low (omega arith)
 scanned_more n b bs (inr high) (ends t rest e h le) = ends (b ∷ t) rest (ap (λ l. b ∷ l) e) (IsEnded-append (b ∷ []) t (high, tt) h) (omega arith)
 scanned_more n b bs (inr high) (runs_out all le) = runs_out (high, all) (omega arith)
 scanned_more n b bs (inr high) (goes_on front next rest e all same) = goes_on (b ∷ front) next rest (ap (λ l. b ∷ l) e) (high, all) (omega arith)
 
+-- the first n bytes of a list
 scan : (n : ℕ) (bytes : List ℕ) → Scanned n bytes
 scan n [] = runs_out tt (omega arith)
 scan zero (b ∷ bs) = goes_on [] b bs refl tt refl
@@ -261,6 +277,7 @@ scan (suc n) (b ∷ bs) = scanned_more n b bs (cases_lt b 128) (scan n bs)
 pub IsSpelling-nine : (t : List ℕ) → IsEnded t → length t ≤ 9 → IsSpelling t (value_of t)
 IsSpelling-nine t h short = record { ended = h; at_most_ten = omega arith; value = refl; fits = lt_of_lt_of_le (value_of-below t) (le_trans (pow-le-pow_right (omega arith) short) (omega arith)) }
 
+-- ten bytes, of which the last is 0 or 1, are a varint
 pub IsSpelling-ten : (front : List ℕ) (tenth : ℕ) → AllContinue front → length front ≡ 9 → tenth < 2 → IsSpelling (front ++ tenth ∷ []) (value_of (front ++ tenth ∷ []))
 IsSpelling-ten front tenth all nine low = record {
   ended = IsEnded-append front (tenth ∷ []) all (omega arith);
@@ -269,6 +286,7 @@ IsSpelling-ten front tenth all nine low = record {
   fits = omega (arith, value_of-tenth front (front ++ tenth ∷ []) tenth nine refl (omega arith), subst (λ n. value_of front < 128 ^ n) nine (value_of-below front));
 }
 
+-- what the first nine bytes tell
 from_scanned : (bytes : List ℕ) → Scanned 9 bytes → VarintOrFault bytes
 from_scanned bytes (ends t rest e h le) = inl (value_of t, rest, record { text = t; parts = e; spelled = IsSpelling-nine t h le })
 from_scanned bytes (runs_out all le) = inr (UnexpectedEof, cut_short all (omega arith))
