@@ -3,6 +3,8 @@ pub mod FieldLaws
 pub mod JoinedLaws
 pub mod LimitsLaws
 pub mod ListLaws
+pub mod OneFaultLaws
+pub mod PlainReader
 pub mod Sinks
 pub mod TagLaws
 pub mod Tags
