@@ -1,20 +1,20 @@
 -- Laws of faults of records: no fault stands beside a reading within the limits.
-use Rattle.std.proofs.Common.{◌≡◌, ◌≢◌, ℕ, ◌+◌, ◌<◌, ◌≤◌, ◌⊎◌, inl, inr, List, [], ◌∷◌, ◌++◌, length, refl, sym, ap, ap₂, ◌∙◌, subst, arith, length-append, append_assoc, append-nil}
+use Rattle.std.proofs.Common.{◌≡◌, ◌≢◌, ℕ, ◌<◌, inl, inr, List, [], ◌++◌, length, refl, sym, ap, ◌∙◌, subst, arith, length-append, append_assoc, append-nil}
 use Rattle.wire_base.specs.declared.error.DecodeError.{DecodeError}
 use Rattle.wire_base.specs.declared.tag.WireType.{WireType}
 use Rattle.wire_base.specs.declared.tag.WireType.TheVariants as types
 use Rattle.wire_base.specs.Fault.{Ending, by_input, by_tag, GoesOn, IsRecordTag, PayloadFault, ListFault}
 use Rattle.wire_base.specs.Field.{Payload, varint, fixed64, fixed32, bytes, group, Fields, none, field, type_of, joined}
 use Rattle.wire_base.specs.Laws.{NoPayloadBesideFault, NoListBesideFault, NoBodyBesideFault}
-use Rattle.wire_base.specs.Limits.{Limits, Charge, Fits, one_field, lowered, inner, both}
+use Rattle.wire_base.specs.Limits.{Limits, Fits, one_field, lowered, inner, both}
 use Rattle.wire_base.specs.Read.{Reads}
 use Rattle.wire_base.specs.Spells.{SpellsPayload, Spells, IsPayload}
 use Rattle.wire_base.specs.Tag.{IsTagSpelling, TagFault}
 use Rattle.wire_base.specs.Text.{payload_charge, charge}
 use Rattle.wire_base.specs.Varint.{IsSpelling, VarintFault}
 use Rattle.wire_base.proofs.FieldLaws.{Ends, not_end_group, tag_not_nil, record_not_end, same_payload}
-use Rattle.wire_base.proofs.JoinedLaws.{charge-joined}
-use Rattle.wire_base.proofs.LimitsLaws.{Fits-second, Fits-first, Fits-one_field, level_of_group, Fits-inside}
+use Rattle.wire_base.proofs.JoinedLaws.{charge-joined, Reads-joined}
+use Rattle.wire_base.proofs.LimitsLaws.{Fits-joined, lowered-joined, Fits-second, Fits-first, Fits-one_field, level_of_group, Fits-inside}
 use Rattle.wire_base.proofs.TagLaws.{same_tag, no_tag_beside_fault_lemma}
 use Rattle.wire_base.proofs.VarintLaws.{same_varint, no_varint_beside_fault_lemma}
 
@@ -25,6 +25,7 @@ abbrev pub EndsAs : Ending → List ℕ → Type 0
 EndsAs by_input rest = rest ≡ []
 EndsAs (by_tag n) rest = (after : List ℕ) × Reads rest (IsTagSpelling n types.EndGroup) after
 
+-- what a list ends with is an end
 pub Ends-from_as : (ending : Ending) (rest : List ℕ) → EndsAs ending rest → Ends rest
 Ends-from_as by_input rest h = inl h
 Ends-from_as (by_tag n) rest h = inr (n, h.0, h.1)
@@ -37,6 +38,7 @@ pub record Head (n : ℕ) (p : Payload) (fs : Fields) (old new : List ℕ) : Typ
   pub payload : Reads behind (IsPayload n (type_of p) p) mid
   pub others : Reads mid (Spells fs) new
 
+-- the tag, the payload and the other records, one behind the other
 pub head_of : (n : ℕ) (p : Payload) (fs : Fields) (old new : List ℕ) → Reads old (Spells (field n p fs)) new → Head n p fs old new
 head_of n p fs old new h =
     let parts = h.spelled in
@@ -74,6 +76,7 @@ same_head n m p q fs gs old r s h k =
     (subst (λ j. SpellsPayload j q k.payload.text) (sym tags.number) k.payload.spelled.spelled) (sym h.payload.parts ∙ tags.rest ∙ k.payload.parts) in
     (tags.number, payloads.value, payloads.rest)
 
+-- records read first are the front of a list that ends
 pub front_of : (gs fs : Fields) (old mid rest : List ℕ) → Reads old (Spells gs) mid → Reads old (Spells fs) rest → Ends rest → Front gs fs mid rest
 front_of none fs old mid rest h k ends = record { more = fs; parts = refl; others = subst (λ l. Reads l (Spells fs) rest) (none_takes_nothing old mid h) k }
 front_of (field n p gs) none old mid rest h k ends = absurd (head_not_end n p gs old mid h (subst Ends (sym (none_takes_nothing old rest k)) ends))
@@ -94,17 +97,21 @@ pub group_of : (p : Payload) (n : ℕ) (old rest : List ℕ) → Reads old (IsPa
 group_of (group fs) n old rest h = (fs, refl, record { text = h.text; parts = h.parts; spelled = h.spelled.spelled })
 group_of p n old rest h = let kind = h.spelled.kind in absurd (cc)
 
+-- a varint's payload, and a fault in its place
 varint_beside_fault : (p : Payload) (n : ℕ) (old rest : List ℕ) (e : DecodeError) → Reads old (IsPayload n types.Varint p) rest → VarintFault old e → ⊥
 varint_beside_fault (varint v) n old rest e h fault = no_varint_beside_fault_lemma old rest v e (record { text = h.text; parts = h.parts; spelled = h.spelled.spelled }) fault
 varint_beside_fault p n old rest e h fault = let kind = h.spelled.kind in absurd (cc)
 
+-- a text of k bytes stands in k bytes at least
 long_enough : (old text rest : List ℕ) (k : ℕ) → old ≡ text ++ rest → length text ≡ k → length old < k → ⊥
 long_enough old text rest k e same short = omega (arith, ap length e ∙ length-append text rest)
 
+-- a payload of 8 bytes stands in no fewer
 fixed64_not_short : (p : Payload) (n : ℕ) (old rest : List ℕ) → Reads old (IsPayload n types.Fixed64 p) rest → length old < 8 → ⊥
 fixed64_not_short (fixed64 v) n old rest h short = long_enough old h.text rest 8 h.parts h.spelled.spelled.0 short
 fixed64_not_short p n old rest h short = let kind = h.spelled.kind in absurd (cc)
 
+-- a payload of 4 bytes stands in no fewer
 fixed32_not_short : (p : Payload) (n : ℕ) (old rest : List ℕ) → Reads old (IsPayload n types.Fixed32 p) rest → length old < 4 → ⊥
 fixed32_not_short (fixed32 v) n old rest h short = long_enough old h.text rest 4 h.parts h.spelled.spelled.0 short
 fixed32_not_short p n old rest h short = let kind = h.spelled.kind in absurd (cc)
@@ -117,6 +124,7 @@ length_of (bytes b) n old rest h =
     (b, refl, record { text = parts.0; parts = h.parts ∙ ap (λ l. l ++ rest) parts.1 ∙ append_assoc parts.0 b rest; spelled = parts.2 })
 length_of p n old rest h = let kind = h.spelled.kind in absurd (cc)
 
+-- a payload of so many bytes stands in no fewer
 bytes_not_short : (p : Payload) (n : ℕ) (old rest behind : List ℕ) (len : ℕ) → Reads old (IsPayload n types.LengthDelimited p) rest
     → Reads old (λ text. IsSpelling text len) behind → length behind < len → ⊥
 bytes_not_short p n old rest behind len h k short =
@@ -134,6 +142,7 @@ tag_fault_in_list by_input none mid rest e h ends goes fault = goes (none_takes_
 tag_fault_in_list (by_tag n) none mid rest e h ends goes fault =
     no_tag_beside_fault_lemma mid ends.0 n types.EndGroup e (subst (λ l. Reads l (IsTagSpelling n types.EndGroup) ends.0) (sym (none_takes_nothing mid rest h)) ends.1) fault
 
+-- the end tag of another group ends no list
 other_end_in_list : (n k : ℕ) (more : Fields) (mid rest after : List ℕ) → Reads mid (Spells more) rest → EndsAs (by_tag n) rest → Reads mid (IsTagSpelling k types.EndGroup) after → k ≢ n → ⊥
 other_end_in_list n k (field m p more) mid rest after h ends end other = head_not_end m p more mid rest h (inr (k, after, end))
 other_end_in_list n k none mid rest after h ends end other =
@@ -147,6 +156,7 @@ pub record Goes (n : ℕ) (w : WireType) (more : Fields) (behind rest : List ℕ
   pub parts : more ≡ field n payload others
   pub reads : Reads behind (IsPayload n w payload) mid
 
+-- the record behind its tag, where a list goes on
 pub goes_on : (ending : Ending) (more : Fields) (mid rest behind : List ℕ) (n : ℕ) (w : WireType) → Reads mid (Spells more) rest → EndsAs ending rest
     → Reads mid (IsTagSpelling n w) behind → IsRecordTag ending w → Goes n w more behind rest
 goes_on by_input none mid rest behind n w h ends tag is = absurd (tag_not_nil n w tag.text behind tag.spelled (sym tag.parts ∙ none_takes_nothing mid rest h ∙ ends))
@@ -187,6 +197,7 @@ body_of n fs old rest h =
     )
 
 mutual
+  -- a payload within the limits, and a fault in its place
   pub payload_beside_fault : (l : Limits) (n : ℕ) (w : WireType) (old : List ℕ) (e : DecodeError) → PayloadFault l n w old e
       → (p : Payload) (rest : List ℕ) → Reads old (IsPayload n w p) rest → Fits (payload_charge p) l → ⊥
   payload_beside_fault l n w old e (PayloadFault.no_slot full) p rest h fits = full (Fits-one_field l p fits)
@@ -206,6 +217,7 @@ mutual
       let body = body_of n inside.0 old rest inside.2 in
       list_beside_fault (inner (lowered l one_field)) (by_tag n) old e fault inside.0 body.0 body.1 body.2 (Fits-inside l inside.0 (subst (λ q. Fits (payload_charge q) l) inside.1 fits))
 
+  -- records within the limits with their end, and a fault in their place
   pub list_beside_fault : (l : Limits) (ending : Ending) (old : List ℕ) (e : DecodeError) → ListFault l ending old e
       → (fs : Fields) (rest : List ℕ) → Reads old (Spells fs) rest → EndsAs ending rest → Fits (charge fs) l → ⊥
   list_beside_fault l ending old e (ListFault.bad_tag gs mid h room goes fault) fs rest k ends fits =
@@ -219,6 +231,19 @@ mutual
       let next = goes_on ending front.more mid rest behind n w front.others ends tag is in
       payload_beside_fault (lowered l (charge gs)) n w behind e fault next.payload next.mid next.reads
       (Fits-next l gs front.more next.others fs n next.payload front.parts next.parts fits)
+
+-- ---- faults behind records
+
+-- a fault behind records that were read within the limits is a fault of the whole
+pub ListFault-behind : (l : Limits) (ending : Ending) (gs : Fields) (old mid : List ℕ) (e : DecodeError) → Reads old (Spells gs) mid → Fits (charge gs) l
+    → ListFault (lowered l (charge gs)) ending mid e → ListFault l ending old e
+ListFault-behind l ending gs old mid e h fits (ListFault.bad_tag fs rest k room goes fault) =
+    ListFault.bad_tag (joined gs fs) rest (Reads-joined gs fs old mid rest h k) (Fits-joined l gs fs fits room) goes fault
+ListFault-behind l ending gs old mid e h fits (ListFault.other_end fs rest m after k room end other) =
+    ListFault.other_end (joined gs fs) rest m after (Reads-joined gs fs old mid rest h k) (Fits-joined l gs fs fits room) end other
+ListFault-behind l ending gs old mid e h fits (ListFault.bad_payload fs rest n w after k room tag is fault) =
+    ListFault.bad_payload (joined gs fs) rest n w after (Reads-joined gs fs old mid rest h k) (Fits-joined l gs fs fits room) tag is
+    (subst (λ m. PayloadFault m n w after e) (lowered-joined l gs fs) fault)
 
 -- ---- the laws
 

@@ -1,6 +1,5 @@
 -- Laws of records: one reading.
-use Rattle.std.proofs.Common.{◌≡◌, ℕ, ◌⊎◌, inl, inr, List, [], ◌∷◌, ◌++◌, length, refl, sym, ap, ap₂, ◌∙◌, subst, arith, append_assoc, append-nil}
-use Rattle.std.proofs.lemmas.List.{append_cancel_left}
+use Rattle.std.proofs.Common.{◌≡◌, ℕ, ◌⊎◌, inl, inr, List, [], ◌∷◌, ◌++◌, length, refl, sym, ap, ap₂, ◌∙◌, subst, append_assoc, append-nil}
 use Rattle.std.specs.Int.{w32, w64, from_le_bytes}
 use Rattle.wire_base.specs.declared.tag.WireType.{WireType}
 use Rattle.wire_base.specs.declared.tag.WireType.TheVariants.{EndGroup}
@@ -19,11 +18,13 @@ use Rattle.wire_base.proofs.VarintLaws.{same_varint}
 pub payload_is_field_lemma : PayloadIsField
 payload_is_field_lemma n p t = (there n p t, back n p t)
   where
+    -- the record taken apart
     there : (n : ℕ) (p : Payload) (t : List ℕ) → Spells (field n p none) t
         → (tag : List ℕ) × (payload : List ℕ) × (t ≡ tag ++ payload) × IsTagSpelling n (type_of p) tag × IsPayload n (type_of p) p payload
     there n p t (tag, payload, more, parts, h, k, end) =
         (tag, payload, parts ∙ ap (λ l. tag ++ (payload ++ l)) end ∙ ap (λ l. tag ++ l) (append-nil payload), h, record { kind = refl; spelled = k })
 
+    -- and put together
     back : (n : ℕ) (p : Payload) (t : List ℕ) → ((tag : List ℕ) × (payload : List ℕ) × (t ≡ tag ++ payload) × IsTagSpelling n (type_of p) tag × IsPayload n (type_of p) p payload)
         → Spells (field n p none) t
     back n p t (tag, payload, parts, h, k) = (tag, payload, [], parts ∙ ap (λ l. tag ++ l) (sym (append-nil payload)), h, k.spelled, refl)
@@ -66,11 +67,13 @@ pub record SameList (fs gs : Fields) (a b r s : List ℕ) : Type 0 where
   pub text : a ≡ b
   pub rest : r ≡ s
 
+-- one varint is one payload
 same_number : (v w : ℕ) (a b r s : List ℕ) → IsSpelling a v → IsSpelling b w → a ++ r ≡ b ++ s → SamePayload (varint v) (varint w) a b r s
 same_number v w a b r s h k e =
     let same = same_varint (a ++ r) r s v w (record { text = a; parts = refl; spelled = h }) (record { text = b; parts = e; spelled = k }) in
     record { value = ap varint same.value; text = same.text; rest = same.rest }
 
+-- one length and as many bytes are one payload
 same_bytes : (c d a b r s : List ℕ) → (len : List ℕ) × (a ≡ len ++ c) × IsSpelling len (length c) → (len : List ℕ) × (b ≡ len ++ d) × IsSpelling len (length d)
     → a ++ r ≡ b ++ s → SamePayload (bytes c) (bytes d) a b r s
 same_bytes c d a b r s (len, parts, h) (len2, parts2, k) e =
@@ -79,11 +82,13 @@ same_bytes c d a b r s (len, parts, h) (len2, parts2, k) e =
     let content = one_beginning c d r s front.value front.rest in
     record { value = ap bytes content.0; text = parts ∙ ap₂ (λ l m. l ++ m) front.text content.0 ∙ sym parts2; rest = content.1 }
 
+-- 8 bytes are one payload
 same_fixed64 : (v w : ℕ) (a b r s : List ℕ) → (length a ≡ 8) × (from_le_bytes w64 a ≡ v) → (length b ≡ 8) × (from_le_bytes w64 b ≡ w) → a ++ r ≡ b ++ s → SamePayload (fixed64 v) (fixed64 w) a b r s
 same_fixed64 v w a b r s (eight, is) (eight2, is2) e =
     let same = one_beginning a b r s (eight ∙ sym eight2) e in
     record { value = ap fixed64 (sym is ∙ ap (λ l. from_le_bytes w64 l) same.0 ∙ is2); text = same.0; rest = same.1 }
 
+-- 4 bytes are one payload
 same_fixed32 : (v w : ℕ) (a b r s : List ℕ) → (length a ≡ 4) × (from_le_bytes w32 a ≡ v) → (length b ≡ 4) × (from_le_bytes w32 b ≡ w) → a ++ r ≡ b ++ s → SamePayload (fixed32 v) (fixed32 w) a b r s
 same_fixed32 v w a b r s (four, is) (four2, is2) e =
     let same = one_beginning a b r s (four ∙ sym four2) e in
@@ -93,6 +98,7 @@ same_fixed32 v w a b r s (four, is) (four2, is2) e =
 opened : (a b x y z w r s : List ℕ) → a ≡ x ++ y → b ≡ z ++ w → a ++ r ≡ b ++ s → x ++ (y ++ r) ≡ z ++ (w ++ s)
 opened a b x y z w r s p q e = sym (append_assoc x y r) ∙ ap (λ l. l ++ r) (sym p) ∙ e ∙ ap (λ l. l ++ s) q ∙ append_assoc z w s
 
+-- an end tag is an end, whatever follows it
 pub end_tag_ends : (n : ℕ) (tag rest : List ℕ) → IsTagSpelling n EndGroup tag → Ends (tag ++ rest)
 end_tag_ends n tag rest h = inr (n, rest, record { text = tag; parts = refl; spelled = h })
 

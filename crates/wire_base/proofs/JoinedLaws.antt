@@ -1,21 +1,24 @@
 -- One list of records behind another: its texts, its shortest text, and what it counts.
-use Rattle.std.proofs.Common.{◌≡◌, ℕ, suc, ◌+◌, max, List, [], ◌++◌, length, refl, sym, ap, ap₂, ◌∙◌, subst, arith, append_assoc, append-nil, length-append}
+use Rattle.std.proofs.Common.{◌≡◌, ℕ, ◌+◌, max, List, [], ◌++◌, length, refl, sym, ap, ◌∙◌, subst, arith, append_assoc, append-nil, length-append}
 use Rattle.wire_base.specs.declared.tag.WireType.{WireType}
 use Rattle.wire_base.specs.Field.{Payload, Fields, none, field, type_of, joined, push, count_top}
 use Rattle.wire_base.specs.InRange.{IsPayloadInRange, AreInRange}
 use Rattle.wire_base.specs.FieldNumber.{IsFieldNumber}
+use Rattle.wire_base.specs.Laws.{JoinedTextsSpell, JoinedAddsUp}
 use Rattle.wire_base.specs.Limits.{Charge, both}
 use Rattle.wire_base.specs.Read.{Reads}
-use Rattle.wire_base.specs.Spells.{SpellsPayload, Spells, IsPayload}
+use Rattle.wire_base.specs.Spells.{Spells, IsPayload}
 use Rattle.wire_base.specs.Tag.{IsTagSpelling, tag_text}
 use Rattle.wire_base.specs.Text.{payload_text, text, size, payload_count, count, payload_depth, depth, payload_charge, charge}
 
 -- ---- lists
 
+-- no records behind a list leave it as it is
 pub joined-none : (fs : Fields) → joined fs none ≡ fs
 joined-none none = refl
 joined-none (field n p fs) = ap (field n p) (joined-none fs)
 
+-- three lists, one behind the other
 pub joined_assoc : (fs gs hs : Fields) → joined (joined fs gs) hs ≡ joined fs (joined gs hs)
 joined_assoc none gs hs = refl
 joined_assoc (field n p fs) gs hs = ap (field n p) (joined_assoc fs gs hs)
@@ -26,6 +29,7 @@ joined-push fs gs n p = joined_assoc fs (field n p none) gs
 
 -- ---- measures
 
+-- the shortest texts stand one behind the other
 pub text-joined : (fs gs : Fields) → text (joined fs gs) ≡ text fs ++ text gs
 text-joined none gs = refl
 text-joined (field n p fs) gs =
@@ -33,17 +37,21 @@ text-joined (field n p fs) gs =
     ∙ ap (λ l. tag_text n (type_of p) ++ l) (sym (append_assoc (payload_text n p) (text fs) (text gs)))
     ∙ sym (append_assoc (tag_text n (type_of p)) (payload_text n p ++ text fs) (text gs))
 
+-- sizes add up
 pub size-joined : (fs gs : Fields) → size (joined fs gs) ≡ size fs + size gs
 size-joined fs gs = ap length (text-joined fs gs) ∙ length-append (text fs) (text gs)
 
+-- counts add up
 pub count-joined : (fs gs : Fields) → count (joined fs gs) ≡ count fs + count gs
 count-joined none gs = omega arith
 count-joined (field n p fs) gs = omega (arith, count-joined fs gs)
 
+-- and so do those that leave nested records out
 pub count_top-joined : (fs gs : Fields) → count_top (joined fs gs) ≡ count_top fs + count_top gs
 count_top-joined none gs = omega arith
 count_top-joined (field n p fs) gs = omega (arith, count_top-joined fs gs)
 
+-- the deeper of the two decides
 pub depth-joined : (fs gs : Fields) → depth (joined fs gs) ≡ max (depth fs) (depth gs)
 depth-joined none gs = omega arith
 depth-joined (field n p fs) gs = omega (arith, depth-joined fs gs)
@@ -52,6 +60,7 @@ depth-joined (field n p fs) gs = omega (arith, depth-joined fs gs)
 pub same_charge : (a b : Charge) → a.depth ≡ b.depth → a.unknown_fields ≡ b.unknown_fields → a ≡ b
 same_charge a b p q = λ i. record { depth = p i; unknown_fields = q i }
 
+-- charges add up
 pub charge-joined : (fs gs : Fields) → charge (joined fs gs) ≡ both (charge fs) (charge gs)
 charge-joined fs gs = same_charge _ _ (depth-joined fs gs) (count-joined fs gs)
 
@@ -59,33 +68,42 @@ charge-joined fs gs = same_charge _ _ (depth-joined fs gs) (count-joined fs gs)
 pub charge-one : (n : ℕ) (p : Payload) → charge (field n p none) ≡ payload_charge p
 charge-one n p = same_charge _ _ (omega arith) (omega arith)
 
+-- one record more is charged as its payload
 pub charge-push : (fs : Fields) (n : ℕ) (p : Payload) → charge (push fs n p) ≡ both (charge fs) (payload_charge p)
 charge-push fs n p = charge-joined fs (field n p none) ∙ ap (both (charge fs)) (charge-one n p)
 
+-- the text of one record more
 pub text-push : (fs : Fields) (n : ℕ) (p : Payload) → text (push fs n p) ≡ text fs ++ (tag_text n (type_of p) ++ payload_text n p)
 text-push fs n p = text-joined fs (field n p none) ∙ ap (λ l. text fs ++ (tag_text n (type_of p) ++ l)) (append-nil (payload_text n p))
 
+-- a record more counts as its payload does
 pub count-push : (fs : Fields) (n : ℕ) (p : Payload) → count (push fs n p) ≡ count fs + payload_count p
 count-push fs n p = omega (arith, count-joined fs (field n p none))
 
+-- a record more is one more at the top
 pub count_top-push : (fs : Fields) (n : ℕ) (p : Payload) → count_top (push fs n p) ≡ count_top fs + 1
 count_top-push fs n p = omega (arith, count_top-joined fs (field n p none))
 
+-- a record more nests as its payload does
 pub depth-push : (fs : Fields) (n : ℕ) (p : Payload) → depth (push fs n p) ≡ max (depth fs) (payload_depth p)
 depth-push fs n p = omega (arith, depth-joined fs (field n p none))
 
+-- the size of one record more
 pub size-push : (fs : Fields) (n : ℕ) (p : Payload) → size (push fs n p) ≡ size fs + (length (tag_text n (type_of p)) + length (payload_text n p))
 size-push fs n p = ap length (text-push fs n p) ∙ length-append (text fs) _ ∙ ap (λ k. length (text fs) + k) (length-append (tag_text n (type_of p)) (payload_text n p))
 
+-- two lists in range are one list in range
 pub AreInRange-joined : (fs gs : Fields) → AreInRange fs → AreInRange gs → AreInRange (joined fs gs)
 AreInRange-joined none gs h k = k
 AreInRange-joined (field n p fs) gs h k = (h.0, h.1, AreInRange-joined fs gs h.2 k)
 
+-- one record more in range
 pub AreInRange-push : (fs : Fields) (n : ℕ) (p : Payload) → AreInRange fs → IsFieldNumber n → IsPayloadInRange p → AreInRange (push fs n p)
 AreInRange-push fs n p h num k = AreInRange-joined fs (field n p none) h (num, k, tt)
 
 -- ---- texts
 
+-- a text of each list, one behind the other
 pub Spells-joined : (fs gs : Fields) (a b : List ℕ) → Spells fs a → Spells gs b → Spells (joined fs gs) (a ++ b)
 Spells-joined none gs a b h k = subst (λ l. Spells gs (l ++ b)) (sym h) k
 Spells-joined (field n p fs) gs a b (tag, payload, more, parts, t, s, rest) k =
@@ -127,3 +145,11 @@ Reads-push fs n w p old mid behind new h t q = Reads-joined fs (field n p none) 
 -- the empty list stands at the front of all bytes
 pub Reads-none : (old : List ℕ) → Reads old (Spells none) old
 Reads-none old = record { text = []; parts = refl; spelled = refl }
+
+-- ---- the laws
+
+pub joined_texts_spell_lemma : JoinedTextsSpell
+joined_texts_spell_lemma = Spells-joined
+
+pub joined_adds_up_lemma : JoinedAddsUp
+joined_adds_up_lemma fs gs = (text-joined fs gs, count_top-joined fs gs, charge-joined fs gs)

@@ -3,7 +3,9 @@ pub mod FieldLaws
 pub mod JoinedLaws
 pub mod LimitsLaws
 pub mod ListLaws
+pub mod OneFaultLaws
 pub mod Payloads
+pub mod PlainReader
 pub mod Sinks
 pub mod Skips
 pub mod TagLaws

@@ -1,32 +1,39 @@
 -- Laws of limits: what fits, and what is left. One more budget is an edit of this file.
-use Rattle.std.proofs.Common.{◌≡◌, ℕ, ◌+◌, ◌-◌, ◌≤◌, ◌<◌, ◌⊎◌, inl, inr, max, Option, Some, None, refl, ap, arith, ⊎_elim}
+use Rattle.std.proofs.Common.{◌≡◌, ℕ, ◌+◌, ◌≤◌, ◌<◌, ◌⊎◌, inl, inr, Option, Some, None, refl, sym, ap, ◌∙◌, subst, arith, ⊎_elim}
 use Rattle.std.proofs.lemmas.Bool.{cases_lt}
-use Rattle.wire_base.specs.Field.{Payload, varint, fixed64, fixed32, bytes, group, Fields, none, field}
-use Rattle.wire_base.specs.Limits.{Limits, Charge, HasRoom, less, Fits, lowered, both, no_charge, one_field, inner}
-use Rattle.wire_base.specs.Text.{payload_count, count, payload_depth, depth, payload_charge, charge}
+use Rattle.wire_base.specs.Field.{Payload, varint, fixed64, fixed32, bytes, group, Fields, none, joined}
+use Rattle.wire_base.specs.Limits.{Limits, Charge, HasRoom, less, Fits, lowered, both, one_field, inner}
+use Rattle.wire_base.specs.Text.{payload_count, count, depth, payload_charge, charge}
+use Rattle.wire_base.proofs.JoinedLaws.{charge-joined}
 
 -- ---- one count
 
+-- room for more is room for less
 pub HasRoom-at_most : (o : Option ℕ) (a b : ℕ) → a ≤ b → HasRoom o b → HasRoom o a
 HasRoom-at_most None a b le h = tt
 HasRoom-at_most (Some left) a b le h = omega arith
 
+-- room for both leaves room for the second
 pub HasRoom-second : (o : Option ℕ) (a b : ℕ) → HasRoom o (a + b) → HasRoom (less o a) b
 HasRoom-second None a b h = tt
 HasRoom-second (Some left) a b h = omega arith
 
+-- room for one, and then for another, is room for both
 pub HasRoom-add : (o : Option ℕ) (a b : ℕ) → HasRoom o a → HasRoom (less o a) b → HasRoom o (a + b)
 HasRoom-add None a b h k = tt
 HasRoom-add (Some left) a b h k = omega arith
 
+-- a count has room or not
 pub room_or_not : (o : Option ℕ) (a : ℕ) → HasRoom o a ⊎ ¬ HasRoom o a
 room_or_not None a = inl tt
 room_or_not (Some left) a = ⊎_elim (λ past. inr (λ h. omega arith)) inl (cases_lt left a)
 
+-- one taken after the other
 less-less : (o : Option ℕ) (a b : ℕ) → less (less o a) b ≡ less o (a + b)
 less-less None a b = refl
 less-less (Some left) a b = ap (λ n. Some n) (omega arith)
 
+-- nothing taken leaves the count
 less-zero : (o : Option ℕ) → less o 0 ≡ o
 less-zero None = refl
 less-zero (Some left) = ap (λ n. Some n) (omega arith)
@@ -37,15 +44,19 @@ less-zero (Some left) = ap (λ n. Some n) (omega arith)
 same_limits : (l m : Limits) → l.depth ≡ m.depth → l.unknown_fields ≡ m.unknown_fields → l ≡ m
 same_limits l m p q = λ i. record { depth = p i; unknown_fields = q i }
 
+-- one charge after the other
 pub lowered-both : (l : Limits) (a b : Charge) → lowered (lowered l a) b ≡ lowered l (both a b)
 lowered-both l a b = same_limits _ _ refl (less-less l.unknown_fields a.unknown_fields b.unknown_fields)
 
+-- no records leave the limits as they are
 pub lowered-none : (l : Limits) → lowered l (charge none) ≡ l
 lowered-none l = same_limits _ _ refl (less-zero l.unknown_fields)
 
+-- no records fit all limits
 pub Fits-none : (l : Limits) → Fits (charge none) l
 Fits-none l = record { depth = omega arith; unknown_fields = HasRoom-at_most l.unknown_fields 0 0 (omega arith) (room_of_none l.unknown_fields) }
   where
+    -- each count has room for nothing
     room_of_none : (o : Option ℕ) → HasRoom o 0
     room_of_none None = tt
     room_of_none (Some left) = omega arith
@@ -62,6 +73,7 @@ Fits-second l a b h = record { depth = omega (arith, h.depth); unknown_fields = 
 pub Fits-both : (l : Limits) (a b : Charge) → Fits a l → Fits b (lowered l a) → Fits (both a b) l
 Fits-both l a b h k = record { depth = omega (arith, h.depth, k.depth); unknown_fields = HasRoom-add l.unknown_fields a.unknown_fields b.unknown_fields h.unknown_fields k.unknown_fields }
 
+-- a charge fits or not
 pub fits_or_not : (l : Limits) (a : Charge) → Fits a l ⊎ ¬ Fits a l
 fits_or_not l a =
     ⊎_elim
@@ -71,6 +83,7 @@ fits_or_not l a =
 
 -- ---- records
 
+-- each record counts
 pub payload_count-positive : (p : Payload) → 1 ≤ payload_count p
 payload_count-positive (varint v) = omega arith
 payload_count-positive (fixed64 v) = omega arith
@@ -97,3 +110,11 @@ Fits-group l fs h level k = record { depth = omega (arith, k.depth); unknown_fie
 -- a group leaves of each count what its slot and its records leave
 pub lowered-group : (l : Limits) (fs : Fields) → (lowered (inner (lowered l one_field)) (charge fs)).unknown_fields ≡ (lowered l (payload_charge (group fs))).unknown_fields
 lowered-group l fs = less-less l.unknown_fields 1 (count fs)
+
+-- a list that fits, and another that fits what it leaves, fit one behind the other
+pub Fits-joined : (l : Limits) (fs gs : Fields) → Fits (charge fs) l → Fits (charge gs) (lowered l (charge fs)) → Fits (charge (joined fs gs)) l
+Fits-joined l fs gs h k = subst (λ c. Fits c l) (sym (charge-joined fs gs)) (Fits-both l (charge fs) (charge gs) h k)
+
+-- one list after the other
+pub lowered-joined : (l : Limits) (fs gs : Fields) → lowered (lowered l (charge fs)) (charge gs) ≡ lowered l (charge (joined fs gs))
+lowered-joined l fs gs = lowered-both l (charge fs) (charge gs) ∙ ap (lowered l) (sym (charge-joined fs gs))

@@ -1,6 +1,5 @@
--- Lists that are put together from others.
-use Rattle.std.proofs.Common.{◌≡◌, ℕ, List, [], ◌∷◌, ◌++◌, length, refl, sym, ap, ◌∙◌, arith, append_assoc}
-use Rattle.std.proofs.lemmas.List.{append_cancel_left}
+-- Beginnings of lists.
+use Rattle.std.proofs.Common.{◌≡◌, ℕ, List, [], ◌∷◌, ◌++◌, length, refl, arith}
 
 -- two beginnings of one list that are as long are one
 pub one_beginning : (a b r s : List ℕ) → length a ≡ length b → a ++ r ≡ b ++ s → (a ≡ b) × (r ≡ s)
@@ -11,7 +10,3 @@ one_beginning (x ∷ a) (y ∷ b) r s same e =
     let rest = one_beginning a b r s (omega arith) (cc) in
     let parts = rest.0 in
     (cc, rest.1)
-
--- a part in the middle moves to what follows
-pub regrouped : (bytes a b r : List ℕ) → bytes ≡ (a ++ b) ++ r → bytes ≡ a ++ (b ++ r)
-regrouped bytes a b r e = e ∙ append_assoc a b r

@@ -1,5 +1,5 @@
 -- Laws of tags: one reading, a shortest text, and a fault exactly where there is no reading.
-use Rattle.std.proofs.Common.{◌≡◌, ℕ, zero, suc, ◌+◌, ◌*◌, ◌/◌, ◌%◌, ◌^◌, ◌<◌, ◌≤◌, ◌⊎◌, inl, inr, List, length, Option, Some, None, refl, sym, ap, ◌∙◌, subst, arith, ⊎_elim, lt-ltb, le-ltb, le-leb}
+use Rattle.std.proofs.Common.{◌≡◌, ℕ, zero, suc, ◌/◌, ◌%◌, ◌^◌, ◌<◌, ◌≤◌, ◌⊎◌, inl, inr, List, Some, None, refl, sym, ap, ◌∙◌, subst, arith, ⊎_elim, le-leb}
 use Rattle.std.proofs.lemmas.Bool.{cases_lt}
 use Rattle.std.proofs.lemmas.Bool.Decides.{nat_tests}
 use Rattle.wire_base.specs.declared.error.DecodeError.{DecodeError}
@@ -9,12 +9,13 @@ use Rattle.wire_base.specs.declared.error.DecodeError.TheVariants.{InvalidWireTy
 use Rattle.wire_base.specs.FieldNumber.{IsFieldNumber}
 use Rattle.wire_base.specs.Laws.{OneTag, NoTagBesideFault, TagTextReadsBack, NoTagTextIsShorter, OneTagFault, TagOrFault, TagOrFaultStands, VarintOrFault}
 use Rattle.wire_base.specs.Read.{Reads}
-use Rattle.wire_base.specs.Tag.{wire_number, tag_value, IsTagSpelling, tag_text, tag_error, TagFault, no_varint, no_tag}
-use Rattle.wire_base.specs.Varint.{IsSpelling, VarintFault}
+use Rattle.wire_base.specs.Tag.{wire_number, tag_value, IsTagSpelling, tag_text, tag_error, no_varint, no_tag}
+use Rattle.wire_base.specs.Varint.{IsSpelling}
 use Rattle.wire_base.proofs.VarintLaws.{same_varint, no_varint_beside_fault_lemma, one_varint_fault_lemma, varint_or_fault_lemma, IsSpelling-shortest, shortest_at_most}
 
 -- ---- wire types and their numbers
 
+-- the wire type of a number
 abbrev numbered : ℕ → WireType
 numbered zero = Varint
 numbered (suc zero) = Fixed64
@@ -23,6 +24,7 @@ numbered (suc (suc (suc zero))) = StartGroup
 numbered (suc (suc (suc (suc zero)))) = EndGroup
 numbered (suc (suc (suc (suc (suc n))))) = Fixed32
 
+-- the wire type of its own number
 numbered-wire_number : (w : WireType) → numbered (wire_number w) ≡ w
 numbered-wire_number Varint = refl
 numbered-wire_number Fixed64 = refl
@@ -31,6 +33,7 @@ numbered-wire_number StartGroup = refl
 numbered-wire_number EndGroup = refl
 numbered-wire_number Fixed32 = refl
 
+-- the number of its own wire type
 pub wire_number-numbered : (n : ℕ) → n < 6 → wire_number (numbered n) ≡ n
 wire_number-numbered zero h = refl
 wire_number-numbered (suc zero) h = refl
@@ -40,9 +43,11 @@ wire_number-numbered (suc (suc (suc (suc zero)))) h = refl
 wire_number-numbered (suc (suc (suc (suc (suc zero))))) h = refl
 wire_number-numbered (suc (suc (suc (suc (suc (suc n)))))) h = absurd (omega arith)
 
+-- two wire types with one number are one
 pub one_wire_type : (w x : WireType) → wire_number w ≡ wire_number x → w ≡ x
 one_wire_type w x e = sym (numbered-wire_number w) ∙ ap numbered e ∙ numbered-wire_number x
 
+-- six wire types
 pub wire_number-below : (w : WireType) → wire_number w < 6
 wire_number-below Varint = omega arith
 wire_number-below Fixed64 = omega arith
@@ -53,35 +58,44 @@ wire_number-below Fixed32 = omega arith
 
 -- ---- a tag's number
 
+-- two tags with one number are one
 pub one_tag_value : (n k : ℕ) (w x : WireType) → tag_value n w ≡ tag_value k x → (n ≡ k) × (w ≡ x)
 one_tag_value n k w x e =
     let low = wire_number-below w in
     let low2 = wire_number-below x in
     (omega arith, one_wire_type w x (omega arith))
 
+-- a tag's number has 32 bits
 pub tag_value-below : (n : ℕ) (w : WireType) → IsFieldNumber n → tag_value n w < 2 ^ 32
 tag_value-below n w h = omega (arith, wire_number-below w, h.1)
 
+-- a tag's number is past its three low bits
 pub tag_value-at_least : (n : ℕ) (w : WireType) → IsFieldNumber n → 8 ≤ tag_value n w
 tag_value-at_least n w h = omega (arith, h.0)
 
+-- the low three bits are the wire type
 pub tag_value-type : (n : ℕ) (w : WireType) → tag_value n w % 8 ≡ wire_number w
 tag_value-type n w = omega (arith, wire_number-below w)
 
+-- the other bits are the field number
 pub tag_value-number : (n : ℕ) (w : WireType) → tag_value n w / 8 ≡ n
 tag_value-number n w = omega (arith, wire_number-below w)
 
 -- ---- why a number is no tag
 
+-- a number past 32 bits
 pub tag_error-large : (v : ℕ) → 2 ^ 32 ≤ v → tag_error v ≡ Some InvalidFieldNumber
 tag_error-large v h = rw (le-leb (2 ^ 32) v h) refl
 
+-- a number with no wire type
 pub tag_error-type : (v : ℕ) → v < 2 ^ 32 → 6 ≤ v % 8 → tag_error v ≡ Some (InvalidWireType (v % 8))
 tag_error-type v h high = grind (arith, nat_tests)
 
+-- a number with the field number 0
 pub tag_error-small : (v : ℕ) → v % 8 < 6 → v < 8 → tag_error v ≡ Some InvalidFieldNumber
 tag_error-small v h low = grind (arith, nat_tests)
 
+-- a number that is a tag's
 pub tag_error-none : (v : ℕ) → v < 2 ^ 32 → v % 8 < 6 → 8 ≤ v → tag_error v ≡ None
 tag_error-none v h low high = grind (arith, nat_tests)
 
@@ -101,6 +115,7 @@ tag_or_error v =
 
 -- ---- the laws
 
+-- the shortest text of a tag is a text of it
 pub IsTagSpelling-tag_text : (n : ℕ) (w : WireType) → IsFieldNumber n → IsTagSpelling n w (tag_text n w)
 IsTagSpelling-tag_text n w h = record { number = h; varint = IsSpelling-shortest (tag_value n w) (omega (arith, tag_value-below n w h)) }
 
@@ -115,6 +130,7 @@ pub record SameTag (t u old_rest new_rest : List ℕ) (n k : ℕ) (w x : WireTyp
 abbrev pub varint_of_tag : (bytes rest : List ℕ) (n : ℕ) (w : WireType) → Reads bytes (IsTagSpelling n w) rest → Reads bytes (λ text. IsSpelling text (tag_value n w)) rest
 varint_of_tag bytes rest n w p = record { text = p.text; parts = p.parts; spelled = p.spelled.varint }
 
+-- two tags at the front of one list are one
 pub same_tag : (bytes r s : List ℕ) (n k : ℕ) (w x : WireType) (p : Reads bytes (IsTagSpelling n w) r) (q : Reads bytes (IsTagSpelling k x) s)
     → SameTag p.text q.text r s n k w x
 same_tag bytes r s n k w x p q =
@@ -152,12 +168,14 @@ tag_text_reads_back_lemma n w rest h = record { text = tag_text n w; parts = ref
 pub no_tag_text_is_shorter_lemma : NoTagTextIsShorter
 no_tag_text_is_shorter_lemma n w t h = shortest_at_most t (tag_value n w) h.varint
 
+-- a varint is a tag or none
 tag_or_fault_from_value : (bytes : List ℕ) (v : ℕ) (rest : List ℕ) → Reads bytes (λ text. IsSpelling text v) rest
     → ((n : ℕ) × (w : WireType) × IsFieldNumber n × (tag_value n w ≡ v)) ⊎ ((e : DecodeError) × (tag_error v ≡ Some e)) → TagOrFault bytes
 tag_or_fault_from_value bytes v rest p (inl (n, w, h, same)) =
     inl (n, w, rest, record { text = p.text; parts = p.parts; spelled = record { number = h; varint = subst (IsSpelling p.text) (sym same) p.spelled } })
 tag_or_fault_from_value bytes v rest p (inr (e, error)) = inr (e, no_tag v rest p error)
 
+-- a varint or a fault is a tag or a fault
 tag_or_fault_from_varint : (bytes : List ℕ) → VarintOrFault bytes → TagOrFault bytes
 tag_or_fault_from_varint bytes (inl (v, rest, p)) = tag_or_fault_from_value bytes v rest p (tag_or_error v)
 tag_or_fault_from_varint bytes (inr (e, fault)) = inr (e, no_varint fault)

@@ -1,7 +1,6 @@
 -- Laws of the shortest text of records: it spells them, and no text of them is shorter.
-use Rattle.std.proofs.Common.{◌≡◌, ℕ, ◌+◌, ◌≤◌, List, [], ◌++◌, length, refl, ap, ◌∙◌, arith, length-append}
+use Rattle.std.proofs.Common.{◌≡◌, ℕ, ◌≤◌, List, ◌++◌, length, refl, ap, ◌∙◌, arith, length-append}
 use Rattle.std.proofs.lemmas.Nat.{from_le_bytes-to_le_bytes_4, from_le_bytes-to_le_bytes_8}
-use Rattle.std.specs.Int.{w32, w64, to_le_bytes}
 use Rattle.wire_base.specs.declared.tag.WireType.TheVariants.{EndGroup}
 use Rattle.wire_base.specs.Field.{Payload, varint, fixed64, fixed32, bytes, group, Fields, none, field, type_of}
 use Rattle.wire_base.specs.FieldNumber.{IsFieldNumber}
@@ -15,6 +14,7 @@ use Rattle.wire_base.proofs.TagLaws.{IsTagSpelling-tag_text, no_tag_text_is_shor
 use Rattle.wire_base.proofs.VarintLaws.{IsSpelling-shortest, shortest_at_most}
 
 mutual
+  -- the shortest text of a payload is a text of it
   pub SpellsPayload-payload_text : (p : Payload) (n : ℕ) → IsFieldNumber n → IsPayloadInRange p → SpellsPayload n p (payload_text n p)
   SpellsPayload-payload_text (varint v) n num h = IsSpelling-shortest v h
   SpellsPayload-payload_text (fixed64 v) n num h = (refl, from_le_bytes-to_le_bytes_8 v h)
@@ -22,6 +22,7 @@ mutual
   SpellsPayload-payload_text (bytes b) n num h = (shortest (length b), refl, IsSpelling-shortest (length b) h)
   SpellsPayload-payload_text (group fs) n num h = (text fs, tag_text n EndGroup, refl, Spells-text fs h, IsTagSpelling-tag_text n EndGroup num)
 
+  -- the shortest text of records is a text of them
   pub Spells-text : (fs : Fields) → AreInRange fs → Spells fs (text fs)
   Spells-text none h = refl
   Spells-text (field n p rest) h =
@@ -32,6 +33,7 @@ no_longer : (a b c d t : List ℕ) → t ≡ c ++ d → length a ≤ length c �
 no_longer a b c d t e h k = omega (arith, length-append a b, ap length e ∙ length-append c d)
 
 mutual
+  -- no text of a payload is shorter
   pub payload_text_at_most : (p : Payload) (n : ℕ) (t : List ℕ) → SpellsPayload n p t → length (payload_text n p) ≤ length t
   payload_text_at_most (varint v) n t h = shortest_at_most t v h
   payload_text_at_most (fixed64 v) n t h = omega (arith, h.0)
@@ -39,6 +41,7 @@ mutual
   payload_text_at_most (bytes b) n t h = no_longer (shortest (length b)) b h.0 b t h.1 (shortest_at_most h.0 (length b) h.2) (omega arith)
   payload_text_at_most (group fs) n t h = no_longer (text fs) (tag_text n EndGroup) h.0 h.1 t h.2 (text_at_most fs h.0 h.3) (no_tag_text_is_shorter_lemma n EndGroup h.1 h.4)
 
+  -- no text of records is shorter
   pub text_at_most : (fs : Fields) (t : List ℕ) → Spells fs t → length (text fs) ≤ length t
   text_at_most none t h = omega arith
   text_at_most (field n p rest) t h =

@@ -1,5 +1,5 @@
 -- Laws of varints: one reading, a shortest spelling, and a fault exactly where there is no reading.
-use Rattle.std.proofs.Common.{◌≡◌, ℕ, zero, suc, ◌+◌, ◌*◌, ◌/◌, ◌%◌, ◌^◌, ◌<◌, ◌≤◌, ◌⊎◌, inl, inr, List, [], ◌∷◌, ◌++◌, length, true, false, nat_lt, if◌then◌else◌, refl, sym, ap, ◌∙◌, arith, length-append, append-nil, le-add_right, mul-le-mul_left, mul_assoc, mul_comm, pow-suc, lt-ltb, le-ltb, ⊎_elim, subst, ap₂, All, append_assoc, lt_of_lt_of_le, le_trans}
+use Rattle.std.proofs.Common.{◌≡◌, ℕ, zero, suc, ◌+◌, ◌*◌, ◌/◌, ◌%◌, ◌^◌, ◌<◌, ◌≤◌, ◌⊎◌, inl, inr, List, [], ◌∷◌, ◌++◌, length, refl, sym, ap, ◌∙◌, arith, length-append, mul_assoc, mul_comm, pow-suc, lt-ltb, le-ltb, ⊎_elim, subst, ap₂, All, append_assoc, lt_of_lt_of_le, le_trans}
 use Rattle.std.proofs.Math.Nat.{pow-le-pow_right}
 use Rattle.std.proofs.lemmas.Bool.{cases_lt}
 use Rattle.std.proofs.lemmas.List.Elements.{All-head, All-tail}
@@ -54,6 +54,11 @@ IsEnded-append (x ∷ []) [] h k = absurd k
 IsEnded-append (x ∷ []) (y ∷ more) h k = (h.0, k)
 IsEnded-append (x ∷ z ∷ front) more h k = (h.0, IsEnded-append (z ∷ front) more h.1 k)
 
+-- a continued byte behind continued bytes
+pub AllContinue-push : (front : List ℕ) (b : ℕ) → AllContinue front → 128 ≤ b → AllContinue (front ++ b ∷ [])
+AllContinue-push [] b h k = (k, tt)
+AllContinue-push (x ∷ front) b h k = (h.0, AllContinue-push front b h.1 k)
+
 -- ---- values
 
 -- what stands behind n digits counts 128 ^ n times
@@ -72,10 +77,12 @@ value_of-below (x ∷ t) =
 
 -- ---- digits
 
+-- one digit
 pub digits-low : (n v : ℕ) → v < 128 → digits n v ≡ v ∷ []
 digits-low zero v h = refl
 digits-low (suc n) v h = rw lt-ltb
 
+-- the lowest digit, and the digits of the rest
 pub digits-high : (n v : ℕ) → 128 ≤ v → digits (suc n) v ≡ (v % 128 + 128) ∷ digits n (v / 128)
 digits-high n v h = rw le-ltb
 
@@ -97,6 +104,7 @@ pub record AreDigits (n v : ℕ) (text : List ℕ) : Type 0 where
   pub short : length text ≤ suc n
   pub value : value_of text ≡ v
 
+-- one digit more at the front
 AreDigits-more : (n v : ℕ) (text : List ℕ) → 128 ≤ v → AreDigits n (v / 128) text → AreDigits (suc n) v ((v % 128 + 128) ∷ text)
 AreDigits-more n v text high h = record {
   ended = IsEnded-append ((v % 128 + 128) ∷ []) text (omega arith, tt) h.ended;
@@ -104,9 +112,11 @@ AreDigits-more n v text high h = record {
   value = omega arith;
 }
 
+-- the last digit
 AreDigits-last : (n v : ℕ) → v < 128 → AreDigits n v (v ∷ [])
 AreDigits-last n v low = record { ended = low; short = omega arith; value = omega arith }
 
+-- the digits of a number that has no more
 pub AreDigits-digits : (n v : ℕ) → v < 128 ^ suc n → AreDigits n v (digits n v)
 AreDigits-digits zero v h = AreDigits-last zero v h
 AreDigits-digits (suc n) v h =
@@ -116,23 +126,43 @@ AreDigits-digits (suc n) v h =
     (λ high. subst (AreDigits (suc n) v) (sym (digits-high n v high)) (AreDigits-more n v _ high (AreDigits-digits n (v / 128) (omega arith))))
     (cases_lt v 128)
 
+-- a number from 128 ^ k on and below 128 ^ (k + 1) has k + 1 digits
+pub length-digits : (n k v : ℕ) → k ≤ n → (0 < k → 128 ^ k ≤ v) → v < 128 ^ suc k → length (digits n v) ≡ suc k
+length-digits zero zero v le low high = refl
+length-digits zero (suc k) v le low high = absurd (omega arith)
+length-digits (suc n) zero v le low high = ap length (digits-low (suc n) v high)
+length-digits (suc n) (suc k) v le low high =
+    let shift : 128 ^ suc (suc k) ≡ 128 * 128 ^ suc k = pow-suc 128 (suc k) ∙ mul_comm (128 ^ suc k) 128 in
+    let shift_less : 128 ^ suc k ≡ 128 * 128 ^ k = pow-suc 128 k ∙ mul_comm (128 ^ k) 128 in
+    let least : 128 * 128 ^ k ≤ v = omega (arith, low (omega arith)) in
+    let some : 1 ≤ 128 ^ k = pow-le-pow_right (omega arith) {i = 0} (omega arith) in
+    ap length (digits-high n v (omega arith)) ∙ ap suc (length-digits n k (v / 128) (omega arith) (λ positive. omega arith) (omega arith))
+
 -- ---- the shortest spelling
 
+-- a number of 64 bits is written by its digits
 pub shortest-digits : (v : ℕ) → v < 2 ^ 64 → shortest v ≡ digits 9 v
 unfolding shortest
 shortest-digits v h = rw (lt-ltb v (2 ^ 64) h)
 
+-- below 128 there is one byte
 pub shortest-low : (v : ℕ) → v < 128 → shortest v ≡ v ∷ []
 shortest-low v h = shortest-digits v (omega arith) ∙ digits-low 9 v h
 
+-- from 128 on there is a continued byte, and the number 128 times smaller
 pub shortest-high : (v : ℕ) → 128 ≤ v → v < 2 ^ 64 → shortest v ≡ (v % 128 + 128) ∷ shortest (v / 128)
 shortest-high v h fits =
     shortest-digits v fits ∙ digits-high 8 v h ∙ ap (λ l. (v % 128 + 128) ∷ l) (sym (digits-enough 8 (v / 128) (omega arith)) ∙ sym (shortest-digits (v / 128) (omega arith)))
 
+-- the shortest spelling is a spelling
 pub IsSpelling-shortest : (v : ℕ) → v < 2 ^ 64 → IsSpelling (shortest v) v
 IsSpelling-shortest v h =
     let spelled = AreDigits-digits 9 v (omega arith) in
     rw shortest-digits (record { ended = spelled.ended; at_most_ten = spelled.short; value = spelled.value; fits = h })
+
+-- how long the shortest spelling is
+pub length-shortest : (k v : ℕ) → v < 2 ^ 64 → k ≤ 9 → (0 < k → 128 ^ k ≤ v) → v < 128 ^ suc k → length (shortest v) ≡ suc k
+length-shortest k v fits le low high = ap length (shortest-digits v fits) ∙ length-digits 9 k v le low high
 
 -- digits are no more than the bytes of any text of the number
 pub digits_at_most : (n : ℕ) (t : List ℕ) → IsEnded t → length (digits n (value_of t)) ≤ length t
@@ -165,9 +195,11 @@ digits_of_least (suc n) (b ∷ c ∷ t) h all le =
     ap₂ (λ x xs. x ∷ xs) first others ∙ sym split)
     (cases_lt v 128)
 
+-- no spelling is shorter
 pub shortest_at_most : (t : List ℕ) (v : ℕ) → IsSpelling t v → length (shortest v) ≤ length t
 shortest_at_most t v h = subst (λ w. length (shortest w) ≤ length t) h.value (rw (shortest-digits (value_of t) (subst (λ w. w < 2 ^ 64) (sym h.value) h.fits)) (digits_at_most 9 t h.ended))
 
+-- no other spelling is as short
 pub shortest_of_least : (t : List ℕ) (v : ℕ) → IsSpelling t v → All (λ b. b < 256) t → length t ≡ length (shortest v) → t ≡ shortest v
 shortest_of_least t v h all same =
     let written : shortest v ≡ digits 9 (value_of t) = shortest-digits v h.fits ∙ ap (digits 9) (sym h.value) in
@@ -181,6 +213,7 @@ pub record SameVarint (t u old_rest new_rest : List ℕ) (v w : ℕ) : Type 0 wh
   pub value : v ≡ w
   pub rest : old_rest ≡ new_rest
 
+-- two varints at the front of one list are one
 pub same_varint : (bytes r s : List ℕ) (v w : ℕ) (p : Reads bytes (λ text. IsSpelling text v) r) (q : Reads bytes (λ text. IsSpelling text w) s)
     → SameVarint p.text q.text r s v w
 same_varint bytes r s v w p q =
@@ -188,7 +221,7 @@ same_varint bytes r s v w p q =
     record { text = same.0; value = sym p.spelled.value ∙ ap value_of same.0 ∙ q.spelled.value; rest = same.1 }
 
 -- behind nine digits the value counts 2 ^ 63 times
-value_of-tenth : (front t : List ℕ) (tenth : ℕ) → length front ≡ 9 → t ≡ front ++ tenth ∷ [] → tenth < 128 → value_of t ≡ value_of front + 2 ^ 63 * tenth
+pub value_of-tenth : (front t : List ℕ) (tenth : ℕ) → length front ≡ 9 → t ≡ front ++ tenth ∷ [] → tenth < 128 → value_of t ≡ value_of front + 2 ^ 63 * tenth
 value_of-tenth front t tenth nine e low =
     let last : value_of t ≡ value_of front + 128 ^ 9 * value_of (tenth ∷ []) = ap value_of e ∙ value_of-append front (tenth ∷ []) ∙ ap (λ n. value_of front + 128 ^ n * value_of (tenth ∷ [])) nine in
     omega arith
@@ -202,6 +235,7 @@ beyond_ten front (y ∷ []) t tenth after rest e nine h same big short fits =
     omega (arith, value_of-tenth front t y nine e h)
 beyond_ten front (y ∷ z ∷ more) t tenth after rest e nine h same big short fits = omega (arith, ap length e ∙ length-append front (y ∷ z ∷ more))
 
+-- no varint stands where a fault does
 pub no_reading_beside_fault : (bytes rest : List ℕ) (v : ℕ) (e : DecodeError) → Reads bytes (λ text. IsSpelling text v) rest → VarintFault bytes e → ⊥
 no_reading_beside_fault bytes rest v e p (cut_short all short) = continued_not_ended p.text rest (subst AllContinue p.parts all) p.spelled.ended
 no_reading_beside_fault bytes rest v e p (too_long front tenth after parts all nine big) =
@@ -226,22 +260,25 @@ data Scanned (n : ℕ) (bytes : List ℕ) : Type 0 where
   runs_out : AllContinue bytes → length bytes ≤ n → Scanned n bytes
   goes_on : (front : List ℕ) (next : ℕ) (rest : List ℕ) → bytes ≡ front ++ next ∷ rest → AllContinue front → length front ≡ n → Scanned n bytes
 
+-- one byte more at the front
 scanned_more : (n b : ℕ) (bs : List ℕ) → (b < 128) ⊎ (128 ≤ b) → Scanned n bs → Scanned (suc n) (b ∷ bs)
 scanned_more n b bs (inl low) s = ends (b ∷ []) bs refl low (omega arith)
 scanned_more n b bs (inr high) (ends t rest e h le) = ends (b ∷ t) rest (ap (λ l. b ∷ l) e) (IsEnded-append (b ∷ []) t (high, tt) h) (omega arith)
 scanned_more n b bs (inr high) (runs_out all le) = runs_out (high, all) (omega arith)
 scanned_more n b bs (inr high) (goes_on front next rest e all same) = goes_on (b ∷ front) next rest (ap (λ l. b ∷ l) e) (high, all) (omega arith)
 
+-- the first n bytes of a list
 scan : (n : ℕ) (bytes : List ℕ) → Scanned n bytes
 scan n [] = runs_out tt (omega arith)
 scan zero (b ∷ bs) = goes_on [] b bs refl tt refl
 scan (suc n) (b ∷ bs) = scanned_more n b bs (cases_lt b 128) (scan n bs)
 
 -- a varint's text of nine bytes or fewer has a value of 63 bits
-IsSpelling-nine : (t : List ℕ) → IsEnded t → length t ≤ 9 → IsSpelling t (value_of t)
+pub IsSpelling-nine : (t : List ℕ) → IsEnded t → length t ≤ 9 → IsSpelling t (value_of t)
 IsSpelling-nine t h short = record { ended = h; at_most_ten = omega arith; value = refl; fits = lt_of_lt_of_le (value_of-below t) (le_trans (pow-le-pow_right (omega arith) short) (omega arith)) }
 
-IsSpelling-ten : (front : List ℕ) (tenth : ℕ) → AllContinue front → length front ≡ 9 → tenth < 2 → IsSpelling (front ++ tenth ∷ []) (value_of (front ++ tenth ∷ []))
+-- ten bytes, of which the last is 0 or 1, are a varint
+pub IsSpelling-ten : (front : List ℕ) (tenth : ℕ) → AllContinue front → length front ≡ 9 → tenth < 2 → IsSpelling (front ++ tenth ∷ []) (value_of (front ++ tenth ∷ []))
 IsSpelling-ten front tenth all nine low = record {
   ended = IsEnded-append front (tenth ∷ []) all (omega arith);
   at_most_ten = omega (arith, length-append front (tenth ∷ []));
@@ -249,6 +286,7 @@ IsSpelling-ten front tenth all nine low = record {
   fits = omega (arith, value_of-tenth front (front ++ tenth ∷ []) tenth nine refl (omega arith), subst (λ n. value_of front < 128 ^ n) nine (value_of-below front));
 }
 
+-- what the first nine bytes tell
 from_scanned : (bytes : List ℕ) → Scanned 9 bytes → VarintOrFault bytes
 from_scanned bytes (ends t rest e h le) = inl (value_of t, rest, record { text = t; parts = e; spelled = IsSpelling-nine t h le })
 from_scanned bytes (runs_out all le) = inr (UnexpectedEof, cut_short all (omega arith))

@@ -1,12 +1,12 @@
 -- What holds of the definitions themselves. Each statement is proved as the contract of a law of src/laws.rt.
-use Rattle.std.specs.Prelude.{◌≡◌, ℕ, ◌^◌, ◌<◌, ◌≤◌, ◌⊎◌, ◌↔◌, List, [], ◌++◌, length, All}
+use Rattle.std.specs.Prelude.{◌≡◌, ℕ, ◌+◌, ◌^◌, ◌<◌, ◌≤◌, ◌⊎◌, ◌↔◌, List, [], ◌++◌, length, All}
 use Rattle.wire_base.specs.declared.error.DecodeError.{DecodeError}
 use Rattle.wire_base.specs.declared.tag.WireType.{WireType}
-use Rattle.wire_base.specs.Field.{Payload, group, Fields, none, field, type_of}
-use Rattle.wire_base.specs.Fault.{PayloadFault, ListFault, by_input, by_tag}
+use Rattle.wire_base.specs.Field.{Payload, group, Fields, none, field, type_of, joined, count_top}
+use Rattle.wire_base.specs.Fault.{Ending, by_input, by_tag, PayloadFault, ListFault}
 use Rattle.wire_base.specs.FieldNumber.{IsFieldNumber}
 use Rattle.wire_base.specs.InRange.{AreInRange}
-use Rattle.wire_base.specs.Limits.{Limits, Fits}
+use Rattle.wire_base.specs.Limits.{Limits, Fits, both}
 use Rattle.wire_base.specs.Read.{Reads}
 use Rattle.wire_base.specs.Spells.{SpellsPayload, Spells, IsPayload}
 use Rattle.wire_base.specs.Text.{text, payload_charge, charge}
@@ -85,6 +85,12 @@ ShortestTextSpells = (fs : Fields) → AreInRange fs → Spells fs (text fs)
 abbrev pub NoTextIsShorter : Type 0
 NoTextIsShorter = (fs : Fields) (t : List ℕ) → Spells fs t → length (text fs) ≤ length t
 
+abbrev pub JoinedTextsSpell : Type 0
+JoinedTextsSpell = (fs gs : Fields) (t u : List ℕ) → Spells fs t → Spells gs u → Spells (joined fs gs) (t ++ u)
+
+abbrev pub JoinedAddsUp : Type 0
+JoinedAddsUp = (fs gs : Fields) → (text (joined fs gs) ≡ text fs ++ text gs) × (count_top (joined fs gs) ≡ count_top fs + count_top gs) × (charge (joined fs gs) ≡ both (charge fs) (charge gs))
+
 -- ---- faults of records
 
 abbrev pub NoPayloadBesideFault : Type 0
@@ -97,3 +103,24 @@ NoListBesideFault = (l : Limits) (bytes : List ℕ) (e : DecodeError) (fs : Fiel
 abbrev pub NoBodyBesideFault : Type 0
 NoBodyBesideFault = (l : Limits) (n : ℕ) (bytes rest : List ℕ) (e : DecodeError) (fs : Fields)
     → ListFault l (by_tag n) bytes e → Reads bytes (SpellsPayload n (group fs)) rest → Fits (charge fs) l → ⊥
+
+abbrev pub OnePayloadFault : Type 0
+OnePayloadFault = (l : Limits) (n : ℕ) (w : WireType) (bytes : List ℕ) (e f : DecodeError) → PayloadFault l n w bytes e → PayloadFault l n w bytes f → e ≡ f
+
+abbrev pub OneListFault : Type 0
+OneListFault = (l : Limits) (ending : Ending) (bytes : List ℕ) (e f : DecodeError) → ListFault l ending bytes e → ListFault l ending bytes f → e ≡ f
+
+-- a payload within the limits behind a tag (n, w), or why there is none
+abbrev pub PayloadOrFault : Limits → ℕ → WireType → List ℕ → Type 0
+PayloadOrFault l n w bytes =
+    ((p : Payload) × (rest : List ℕ) × Reads bytes (IsPayload n w p) rest × Fits (payload_charge p) l) ⊎ ((e : DecodeError) × PayloadFault l n w bytes e)
+
+abbrev pub PayloadOrFaultStands : Type 0
+PayloadOrFaultStands = (l : Limits) (n : ℕ) (w : WireType) (bytes : List ℕ) → PayloadOrFault l n w bytes
+
+abbrev pub ListOrFaultStands : Type 0
+ListOrFaultStands = (l : Limits) (bytes : List ℕ) → ((fs : Fields) × Spells fs bytes × Fits (charge fs) l) ⊎ ((e : DecodeError) × ListFault l by_input bytes e)
+
+abbrev pub BodyOrFaultStands : Type 0
+BodyOrFaultStands = (l : Limits) (n : ℕ) (bytes : List ℕ)
+    → ((fs : Fields) × (rest : List ℕ) × Reads bytes (SpellsPayload n (group fs)) rest × Fits (charge fs) l) ⊎ ((e : DecodeError) × ListFault l (by_tag n) bytes e)

@@ -1,5 +1,5 @@
 //! Laws of the definitions that the contracts cite: each function is a theorem, and does nothing.
-ghost use Rattle.wire_base.specs.Laws.{ShortestReadsBack, NoSpellingBeginsAnother, OneVarint, NoVarintBesideFault, OneVarintFault, VarintOrFaultStands, NoSpellingIsShorter, TagTextReadsBack, OneTag, NoTagBesideFault, OneTagFault, TagOrFaultStands, NoTagTextIsShorter, PayloadIsField, OnePayload, OneList, OneBody, ShortestTextSpells, NoTextIsShorter, NoPayloadBesideFault, NoListBesideFault, NoBodyBesideFault};
+ghost use Rattle.wire_base.specs.Laws.{ShortestReadsBack, NoSpellingBeginsAnother, OneVarint, NoVarintBesideFault, OneVarintFault, VarintOrFaultStands, NoSpellingIsShorter, TagTextReadsBack, OneTag, NoTagBesideFault, OneTagFault, TagOrFaultStands, NoTagTextIsShorter, PayloadIsField, OnePayload, OneList, OneBody, ShortestTextSpells, NoTextIsShorter, JoinedTextsSpell, JoinedAddsUp, NoPayloadBesideFault, NoListBesideFault, NoBodyBesideFault, OnePayloadFault, OneListFault, PayloadOrFaultStands, ListOrFaultStands, BodyOrFaultStands};
 
 /// The shortest varint of a number reads back as that number, whatever follows it.
 pub fn shortest_reads_back()
@@ -96,6 +96,16 @@ pub fn no_text_is_shorter()
     ensures { NoTextIsShorter }
 {}
 
+/// A text of records and then a text of more records are a text of them all.
+pub fn joined_texts_spell()
+    ensures { JoinedTextsSpell }
+{}
+
+/// The shortest texts of two lists, their counts and their charges add up to those of the joined list.
+pub fn joined_adds_up()
+    ensures { JoinedAddsUp }
+{}
+
 /// Where the grammar names a fault, no payload within the limits stands behind the tag.
 pub fn no_payload_beside_fault()
     ensures { NoPayloadBesideFault }
@@ -109,4 +119,29 @@ pub fn no_list_beside_fault()
 /// Where the grammar names a fault, the bytes begin with no body of a group within the limits.
 pub fn no_body_beside_fault()
     ensures { NoBodyBesideFault }
+{}
+
+/// Behind one tag the same bytes have one fault of a payload at most.
+pub fn one_payload_fault()
+    ensures { OnePayloadFault }
+{}
+
+/// The same bytes have one fault of a list of records at most.
+pub fn one_list_fault()
+    ensures { OneListFault }
+{}
+
+/// Behind a tag all bytes begin with a payload within the limits or have a fault.
+pub fn payload_or_fault()
+    ensures { PayloadOrFaultStands }
+{}
+
+/// All bytes are records within the limits or have a fault.
+pub fn list_or_fault()
+    ensures { ListOrFaultStands }
+{}
+
+/// All bytes begin with the body of a group within the limits or have a fault.
+pub fn body_or_fault()
+    ensures { BodyOrFaultStands }
 {}
