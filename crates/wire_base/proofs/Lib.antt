@@ -6,6 +6,7 @@ pub mod ListLaws
 pub mod OneFaultLaws
 pub mod Payloads
 pub mod PlainReader
+pub mod Results
 pub mod Sinks
 pub mod Skips
 pub mod TagLaws

@@ -2,7 +2,7 @@
 use Rattle.std.proofs.Common.{◌≡◌, ℕ, ◌+◌, ◌≤◌, ◌<◌, ◌⊎◌, inl, inr, Option, Some, None, refl, sym, ap, ◌∙◌, subst, arith, ⊎_elim}
 use Rattle.std.proofs.lemmas.Bool.{cases_lt}
 use Rattle.wire_base.specs.Field.{Payload, varint, fixed64, fixed32, bytes, group, Fields, none, joined}
-use Rattle.wire_base.specs.Limits.{Limits, Charge, HasRoom, less, Fits, lowered, both, one_field, inner}
+use Rattle.wire_base.specs.Limits.{Limits, Charge, HasRoom, less, Fits, lowered, both, one_field, inner, outer, IsNoMore, NoCountGrew}
 use Rattle.wire_base.specs.Text.{payload_count, count, depth, payload_charge, charge}
 use Rattle.wire_base.proofs.JoinedLaws.{charge-joined}
 
@@ -118,3 +118,23 @@ Fits-joined l fs gs h k = subst (λ c. Fits c l) (sym (charge-joined fs gs)) (Fi
 -- one list after the other
 pub lowered-joined : (l : Limits) (fs gs : Fields) → lowered (lowered l (charge fs)) (charge gs) ≡ lowered l (charge (joined fs gs))
 lowered-joined l fs gs = lowered-both l (charge fs) (charge gs) ∙ ap (lowered l) (sym (charge-joined fs gs))
+
+-- ---- counts that do not grow
+
+IsNoMore-less : (o : Option ℕ) (taken : ℕ) → IsNoMore (less o taken) o
+IsNoMore-less None taken = tt
+IsNoMore-less (Some left) taken = omega arith
+
+IsNoMore-then : (a b c : Option ℕ) → IsNoMore b a → IsNoMore c b → IsNoMore c a
+IsNoMore-then None b c h k = tt
+IsNoMore-then (Some a) None c h k = absurd h
+IsNoMore-then (Some a) (Some b) None h k = k
+IsNoMore-then (Some a) (Some b) (Some c) h k = omega arith
+
+-- what a charge leaves, and what is left after that
+pub NoCountGrew-lowered : (l m : Limits) (c : Charge) → NoCountGrew (lowered l c) m → NoCountGrew l m
+NoCountGrew-lowered l m c h = record { unknown_fields = IsNoMore-then l.unknown_fields (less l.unknown_fields c.unknown_fields) m.unknown_fields (IsNoMore-less l.unknown_fields c.unknown_fields) h.unknown_fields }
+
+-- a group's slot and its level, its records, and the level again: the charge of the group
+pub outer-lowered-inner : (l : Limits) (fs : Fields) → 0 < l.depth → outer (lowered (inner (lowered l one_field)) (charge fs)) ≡ lowered l (payload_charge (group fs))
+outer-lowered-inner l fs level = same_limits _ _ (omega arith) (less-less l.unknown_fields 1 (count fs))

@@ -1,5 +1,5 @@
 -- Records taken one after another within limits.
-use Rattle.std.proofs.Common.{◌≡◌, ℕ, List, sym, subst}
+use Rattle.std.proofs.Common.{◌≡◌, ℕ, List, sym, ap, ◌∙◌, subst}
 use Rattle.wire_base.specs.declared.tag.WireType.{WireType}
 use Rattle.wire_base.specs.Field.{Payload, Fields, none, push}
 use Rattle.wire_base.specs.Limits.{Limits, Charge, Fits, lowered, both}
@@ -8,7 +8,7 @@ use Rattle.wire_base.specs.Tag.{IsTagSpelling}
 use Rattle.wire_base.specs.Taken.{TakesPayload, TakesFields}
 use Rattle.wire_base.specs.Text.{charge, payload_charge}
 use Rattle.wire_base.proofs.JoinedLaws.{Reads-none, Reads-push, charge-push}
-use Rattle.wire_base.proofs.LimitsLaws.{Fits-none, Fits-both}
+use Rattle.wire_base.proofs.LimitsLaws.{Fits-none, Fits-both, lowered-both}
 
 pub takes_none : (l : Limits) (old : List ℕ) → TakesFields l none old old
 takes_none l old = record { read = Reads-none old; fits = Fits-none l }
@@ -20,3 +20,7 @@ takes_push l fs n w p old mid behind new t r k = record {
   read = Reads-push fs n w p old mid behind new t.read r k.read;
   fits = subst (λ (c : Charge). Fits c l) (sym (charge-push fs n p)) (Fits-both l (charge fs) (payload_charge p) t.fits k.fits);
 }
+
+-- what one record more leaves of the limits
+pub lowered-push : (l : Limits) (fs : Fields) (n : ℕ) (p : Payload) → lowered (lowered l (charge fs)) (payload_charge p) ≡ lowered l (charge (push fs n p))
+lowered-push l fs n p = lowered-both l (charge fs) (payload_charge p) ∙ ap (lowered l) (sym (charge-push fs n p))

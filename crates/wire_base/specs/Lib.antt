@@ -6,6 +6,7 @@ pub mod Flat
 pub mod InRange
 pub mod Laws
 pub mod Limits
+pub mod Payload
 pub mod Read
 pub mod Sink
 pub mod Spells

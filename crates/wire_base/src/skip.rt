@@ -1,6 +1,5 @@
 //! Passing over records that nobody asked for.
-ghost use Rattle.std.specs.Prelude.{◌≡◌, ℕ, ◌<◌, ◌≤◌, length, drop, OnOk, OnErr, IfErr};
-ghost use Rattle.wire_base.specs.declared.error.DecodeError.TheVariants.{UnexpectedEof};
+ghost use Rattle.std.specs.Prelude.{◌≡◌, OnOk, IfErr};
 ghost use Rattle.wire_base.specs.Fault.{PayloadFault, ListFault, by_tag};
 ghost use Rattle.wire_base.specs.Field.{Payload, Fields};
 ghost use Rattle.wire_base.specs.Limits.{uncounted};
@@ -9,6 +8,7 @@ ghost use Rattle.wire_base.specs.Taken.{TakesPayload, TakesBody};
 
 use crate::decode_context::RECURSION_LIMIT;
 use crate::error::DecodeError;
+use crate::payload::skip_bytes;
 use crate::tag::{Tag, WireType};
 use crate::varint::decode_varint;
 use bytes::Buf;
@@ -67,18 +67,4 @@ fn skip_group<B: Buf>(number: u32, buf: &mut B, depth: u32) -> Result<(), Decode
         }
         skip_field_depth(tag, buf, depth)?;
     }
-}
-
-// Passes over so many bytes.
-fn skip_bytes<B: Buf>(buf: &mut B, len: u64) -> Result<(), DecodeError>
-    ensures ok { OnOk result (B.unread buf.new ≡ drop len (B.unread buf.old)) }
-    ensures long { OnOk result (len ≤ length (B.unread buf.old)) }
-    ensures err { IfErr result (λ e. e ≡ UnexpectedEof) }
-    ensures short { OnErr result (length (B.unread buf.old) < len) }
-{
-    if (buf.remaining() as u64) < len {
-        return Err(DecodeError::UnexpectedEof);
-    }
-    buf.advance(len as usize);
-    Ok(())
 }

@@ -7,7 +7,10 @@ use std::alloc::Global;
 use std::marker::Model;
 use std::slice;
 
+mod decode;
 mod write;
+
+pub use decode::decode_unknown_field;
 
 /// Records in the order in which they came. A contract sees a value as its records.
 #[cycle(unknown)]

@@ -1,0 +1,110 @@
+//! Unknown fields from bytes.
+ghost use Rattle.std.specs.Prelude.{◌≡◌, ◌⊎◌, OnErr, IfOk, IfErr, MatchResult};
+ghost use Rattle.wire_base.specs.declared.error.DecodeError.TheVariants.{OutOfMemory};
+ghost use Rattle.wire_base.specs.Fault.{PayloadFault, ListFault, by_input, by_tag};
+ghost use Rattle.wire_base.specs.Field.{Fields};
+ghost use Rattle.wire_base.specs.Limits.{Fits, NoCountGrew, counted, lowered};
+ghost use Rattle.wire_base.specs.Spells.{Spells};
+ghost use Rattle.wire_base.specs.TagView.{tag_number, tag_type};
+ghost use Rattle.wire_base.specs.Taken.{TakesPayload, TakesBody};
+ghost use Rattle.wire_base.specs.Text.{charge, payload_charge};
+ghost use Rattle.wire_base.specs.UnknownFields.{payload_of};
+
+use super::{UnknownField, UnknownFieldData, UnknownFields};
+use crate::decode_context::{DEFAULT_UNKNOWN_FIELD_LIMIT, DecodeContext, RECURSION_LIMIT};
+use crate::error::DecodeError;
+use crate::payload::{take_bytes, take_fixed32, take_fixed64};
+use crate::tag::{Tag, WireType};
+use crate::varint::decode_varint;
+use bytes::Buf;
+use std::alloc::Global;
+
+/// Reads the payload of a tag that was read, and keeps it as a field. It takes one unknown field for
+/// itself and one for each field in its groups, and a level for each group in another.
+#[cycle(decode)]
+pub fn decode_unknown_field<B: Buf>(
+    alloc: Global,
+    tag: Tag,
+    buf: &mut B,
+    context: &mut DecodeContext,
+) -> Result<UnknownField, DecodeError>
+    ensures number { IfOk result (λ field. field.number ≡ tag_number tag) }
+    ensures ok { IfOk result (λ field. TakesPayload context.old (tag_number tag) (tag_type tag)
+        (payload_of field.value) (B.unread buf.old) (B.unread buf.new)) }
+    ensures charged { IfOk result (λ field. context.new
+        ≡ lowered context.old (payload_charge (payload_of field.value))) }
+    ensures fault { IfErr result (λ e. (e ≡ OutOfMemory)
+        ⊎ PayloadFault context.old (tag_number tag) (tag_type tag) (B.unread buf.old) e) }
+    ensures counts { OnErr result (NoCountGrew context.old context.new) }
+{
+    let value = decode_value(alloc, tag, buf, context)?;
+    Ok(UnknownField {
+        number: tag.field_number(),
+        value,
+    })
+}
+
+// Reads a payload: its slot first, then what its wire type says.
+#[cycle(decode)]
+fn decode_value<B: Buf>(
+    alloc: Global,
+    tag: Tag,
+    buf: &mut B,
+    context: &mut DecodeContext,
+) -> Result<UnknownFieldData, DecodeError>
+    ensures ok { IfOk result (λ value. TakesPayload context.old (tag_number tag) (tag_type tag)
+        (payload_of value) (B.unread buf.old) (B.unread buf.new)) }
+    ensures charged { IfOk result (λ value. context.new
+        ≡ lowered context.old (payload_charge (payload_of value))) }
+    ensures fault { IfErr result (λ e. (e ≡ OutOfMemory)
+        ⊎ PayloadFault context.old (tag_number tag) (tag_type tag) (B.unread buf.old) e) }
+    ensures counts { OnErr result (NoCountGrew context.old context.new) }
+{
+    context.register_unknown_field()?;
+    match tag.wire_type() {
+        WireType::Varint => Ok(UnknownFieldData::Varint(decode_varint(buf)?)),
+        WireType::Fixed64 => Ok(UnknownFieldData::Fixed64(take_fixed64(buf)?)),
+        WireType::LengthDelimited => {
+            let len = decode_varint(buf)?;
+            Ok(UnknownFieldData::LengthDelimited(take_bytes(alloc, buf, len)?))
+        }
+        WireType::StartGroup => {
+            context.descend()?;
+            let fields = decode_group(alloc, tag.field_number(), buf, context)?;
+            context.ascend();
+            Ok(UnknownFieldData::Group(fields))
+        }
+        WireType::EndGroup => Err(DecodeError::InvalidWireType(4)),
+        WireType::Fixed32 => Ok(UnknownFieldData::Fixed32(take_fixed32(buf)?)),
+    }
+}
+
+// Reads the body of a group of this number, its end tag too.
+#[cycle(decode)]
+fn decode_group<B: Buf>(
+    alloc: Global,
+    number: u32,
+    buf: &mut B,
+    context: &mut DecodeContext,
+) -> Result<UnknownFields, DecodeError>
+    ensures ok { IfOk result (λ fs. TakesBody context.old number fs (B.unread buf.old) (B.unread buf.new)) }
+    ensures charged { IfOk result (λ fs. context.new ≡ lowered context.old (charge fs)) }
+    ensures fault { IfErr result (λ e. (e ≡ OutOfMemory)
+        ⊎ ListFault context.old (by_tag number) (B.unread buf.old) e) }
+    ensures counts { OnErr result (NoCountGrew context.old context.new) }
+{
+    let mut fields = UnknownFields::new(alloc);
+    loop {
+        let tag = Tag::decode(buf)?;
+        if let WireType::EndGroup = tag.wire_type() {
+            if tag.field_number() == number {
+                return Ok(fields);
+            }
+            return Err(DecodeError::InvalidEndGroup(tag.field_number()));
+        }
+        let field = decode_unknown_field(alloc, tag, buf, context)?;
+        if fields.push(field).is_err() {
+            return Err(DecodeError::OutOfMemory);
+        }
+    }
+}
