@@ -1,13 +1,16 @@
 -- A list of unknown fields, one record at a time.
-use Rattle.std.proofs.Common.{◌≡◌, ℕ, zero, suc, ◌+◌, ◌<◌, ◌≤◌, Bool, eqb, List, [], ◌∷◌, ◌++◌, length, get_or, drop, refl, sym, ap, ◌∙◌, append_assoc, add-one, arith}
-use Rattle.std.proofs.lemmas.Bool.{eqb-true}
+use Rattle.std.proofs.Common.{◌≡◌, ℕ, zero, suc, ◌+◌, ◌<◌, ◌≤◌, Bool, true, false, ◌==◌, ◌&&◌, eqb, ◌≢◌, List, [], ◌∷◌, ◌++◌, length, get_or, drop, refl, sym, ap, ◌∙◌, append_assoc, add-one, arith}
+use Rattle.std.proofs.lemmas.Bool.{eqb-true, and_right}
 use Rattle.std.specs.Prelude.{IsTrue, ◌↔◌}
+use Rattle.std.proofs.Math.ListN.{drop_of_length-le}
 use Rattle.std.proofs.Math.Seq.{drop-cons}
 use Rattle.wire_base.specs.declared.unknown_fields.UnknownField.{UnknownField}
 use Rattle.wire_base.specs.Field.{Payload, Fields, none, field, joined, push, count_top, type_of}
+use Rattle.wire_base.specs.FieldsEq.{payload_eq, fields_eq}
 use Rattle.wire_base.specs.Tag.{tag_text}
 use Rattle.wire_base.specs.Text.{text, payload_text, record_text, count, payload_count}
-use Rattle.wire_base.specs.UnknownFields.{payload_of, fields_of}
+use Rattle.wire_base.specs.UnknownFields.{payload_of, fields_of, one_record}
+use Rattle.wire_base.proofs.JoinedLaws.{joined_assoc, joined-none}
 
 pub count_top-fields_of : (fs : List UnknownField) → count_top (fields_of fs) ≡ length fs
 count_top-fields_of [] = refl
@@ -38,3 +41,50 @@ is_empty-fields_of (f ∷ fs) b e = rw e (λ t. absurd (omega (arith, eqb-true _
 -- the text from a place on begins with that of the record there
 pub text-at : (fs : List UnknownField) (i : ℕ) (f : UnknownField) → i < length fs → f ≡ get_or fs i f → text (fields_of (drop i fs)) ≡ record_text f.number (payload_of f.value) ++ text (fields_of (drop (i + 1) fs))
 text-at fs i f lt at = ap text (fields_of-drop fs i f lt at) ∙ text-field f.number (payload_of f.value) (fields_of (drop (i + 1) fs))
+
+-- the test of two lists from a place on is that of the records there, and of what follows them
+pub fields_eq-at : (fs gs : List UnknownField) (i : ℕ) (f g : UnknownField) → i < length fs → i < length gs → f ≡ get_or fs i f → g ≡ get_or gs i g
+    → fields_eq (fields_of (drop i fs)) (fields_of (drop i gs)) ≡ (f.number == g.number) && (payload_eq (payload_of f.value) (payload_of g.value) && fields_eq (fields_of (drop (i + 1) fs)) (fields_of (drop (i + 1) gs)))
+fields_eq-at fs gs i f g lt lt' at at' = rw (fields_of-drop fs i f lt at, fields_of-drop gs i g lt' at') refl
+
+-- lists of two lengths are not equal
+pub fields_eq-length : (fs gs : List UnknownField) → length fs ≢ length gs → fields_eq (fields_of fs) (fields_of gs) ≡ false
+fields_eq-length [] [] ne = absurd (ne refl)
+fields_eq-length [] (g ∷ gs) ne = refl
+fields_eq-length (f ∷ fs) [] ne = refl
+fields_eq-length (f ∷ fs) (g ∷ gs) ne =
+    and_right _ _ (and_right _ _ (fields_eq-length fs gs (λ e. ne (ap suc e))))
+
+-- one copy more, of the record at a place
+pub joined-copy : (items copies : List UnknownField) (i : ℕ) (f copy : UnknownField) (whole : Fields) → i < length items → f ≡ get_or items i f → one_record copy ≡ one_record f
+    → joined (fields_of copies) (fields_of (drop i items)) ≡ whole → joined (fields_of (copies ++ copy ∷ [])) (fields_of (drop (i + 1) items)) ≡ whole
+joined-copy items copies i f copy whole lt at same so_far =
+    let rest = fields_of (drop (i + 1) items) in
+    ap (λ (fs : Fields). joined fs rest) (fields_of-append copies (copy ∷ []))
+    ∙ joined_assoc (fields_of copies) (one_record copy) rest
+    ∙ ap (λ (fs : Fields). joined (fields_of copies) (joined fs rest)) same
+    ∙ ap (λ (fs : Fields). joined (fields_of copies) fs) (sym (fields_of-drop items i f lt at))
+    ∙ so_far
+
+-- behind the last place there are no records
+pub fields_of-end : (fs : List UnknownField) (i : ℕ) → length fs ≤ i → fields_of (drop i fs) ≡ none
+fields_of-end fs i past = ap fields_of (drop_of_length-le fs past)
+
+-- a record that is equal leaves the test to the rest, and one that isn't decides it
+same_so_far : (x y rest : Bool) → (x && (y && true)) ≡ true → (x && (y && rest)) ≡ rest
+same_so_far true true rest e = refl
+same_so_far true false rest e = absurd cc
+same_so_far false y rest e = absurd cc
+
+other_here : (x y rest : Bool) → (x && (y && true)) ≡ false → (x && (y && rest)) ≡ false
+other_here true true rest e = absurd cc
+other_here true false rest e = refl
+other_here false y rest e = refl
+
+pub fields_eq-more : (fs gs : List UnknownField) (i : ℕ) (f g : UnknownField) → i < length fs → i < length gs → f ≡ get_or fs i f → g ≡ get_or gs i g → fields_eq (one_record f) (one_record g) ≡ true
+    → fields_eq (fields_of (drop i fs)) (fields_of (drop i gs)) ≡ fields_eq (fields_of (drop (i + 1) fs)) (fields_of (drop (i + 1) gs))
+fields_eq-more fs gs i f g lt lt' at at' same = fields_eq-at fs gs i f g lt lt' at at' ∙ same_so_far _ _ _ same
+
+pub fields_eq-other : (fs gs : List UnknownField) (i : ℕ) (f g : UnknownField) → i < length fs → i < length gs → f ≡ get_or fs i f → g ≡ get_or gs i g → fields_eq (one_record f) (one_record g) ≡ false
+    → fields_eq (fields_of (drop i fs)) (fields_of (drop i gs)) ≡ false
+fields_eq-other fs gs i f g lt lt' at at' other = fields_eq-at fs gs i f g lt lt' at at' ∙ other_here _ _ _ other

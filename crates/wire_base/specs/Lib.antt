@@ -2,6 +2,9 @@ pub mod Fault
 pub mod Field
 pub mod FieldNumber
 pub mod FieldsCode
+pub mod FieldsEq
+pub mod FieldsEqLaws
+pub mod Filtered
 pub mod Flat
 pub mod InRange
 pub mod Laws

@@ -15,3 +15,7 @@ payload_of (Group fs) = group fs
 abbrev pub fields_of : List UnknownField → Fields
 fields_of [] = none
 fields_of (f ∷ fs) = field f.number (payload_of f.value) (fields_of fs)
+
+-- a record of its own
+abbrev pub one_record : UnknownField → Fields
+one_record f = field f.number (payload_of f.value) none

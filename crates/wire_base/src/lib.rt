@@ -19,7 +19,5 @@ pub use skip::{skip_field, skip_field_depth};
 pub use tag::{
     FIRST_RESERVED_FIELD_NUMBER, LAST_RESERVED_FIELD_NUMBER, MAX_FIELD_NUMBER, Tag, WireType,
 };
-pub use unknown_fields::{
-    UnknownField, UnknownFieldData, UnknownFields, decode_unknown_field,
-};
+pub use unknown_fields::{UnknownField, UnknownFieldData, UnknownFields, decode_unknown_field};
 pub use varint::{decode_varint, encode_varint, varint_len};

@@ -52,7 +52,11 @@ pub(crate) fn take_fixed64<B: Buf>(buf: &mut B) -> Result<u64, DecodeError>
 
 /// Copies so many bytes into a vector of just their size. Nothing is reserved before the bytes are known
 /// to be there.
-pub(crate) fn take_bytes<B: Buf>(alloc: Global, buf: &mut B, len: u64) -> Result<Vec<u8>, DecodeError>
+pub(crate) fn take_bytes<B: Buf>(
+    alloc: Global,
+    buf: &mut B,
+    len: u64,
+) -> Result<Vec<u8>, DecodeError>
     ensures ok { IfOk result (λ bytes. bytes.items ≡ take len (B.unread buf.old)) }
     ensures rest { OnOk result (B.unread buf.new ≡ drop len (B.unread buf.old)) }
     ensures long { OnOk result (len ≤ length (B.unread buf.old)) }

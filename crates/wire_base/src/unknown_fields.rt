@@ -7,6 +7,7 @@ use std::alloc::Global;
 use std::marker::Model;
 use std::slice;
 
+mod compare;
 mod decode;
 mod write;
 
