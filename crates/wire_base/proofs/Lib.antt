@@ -1,3 +1,4 @@
+pub mod Decoded
 pub mod FaultLaws
 pub mod FieldLaws
 pub mod JoinedLaws

@@ -9,7 +9,7 @@ use bytes::Buf;
 
 mod put;
 
-pub(crate) use put::put_tag;
+pub(crate) use put::{put_tag, tag_len};
 
 /// The greatest field number.
 pub const MAX_FIELD_NUMBER: u32 = (1 << 29) - 1;

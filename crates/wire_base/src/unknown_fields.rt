@@ -5,10 +5,11 @@ ghost use Rattle.wire_base.specs.Field.{none, push, count_top};
 
 use std::alloc::Global;
 use std::marker::Model;
-use std::slice;
+use std::{slice, vec};
 
 mod compare;
 mod decode;
+mod size;
 mod write;
 
 pub use decode::decode_unknown_field;
@@ -63,6 +64,9 @@ impl Model for UnknownFields {
 }
 
 impl UnknownFields {
+    ghost use Rattle.std.specs.Fn.{CalledAt};
+    ghost use Rattle.std.specs.List.Retain.{IsFiltered};
+    ghost use Rattle.wire_base.specs.Filtered.{KeptBy};
     ghost use Rattle.wire_base.specs.UnknownFields.{payload_of, fields_of};
 
     /// No fields. Nothing is allocated before the first push.
@@ -104,5 +108,53 @@ impl UnknownFields {
         ensures { fields_of (iter_rest result) ≡ self.now }
     {
         self.fields.iter()
+    }
+
+    /// Takes all records out.
+    pub fn clear(&mut self)
+        ensures { self.new ≡ none }
+    {
+        self.fields.clear();
+    }
+
+    /// Keeps the records, in order, of which the test answers true. It is asked once of each.
+    pub fn retain<F: Fn(&UnknownField) -> bool + Drop>(&mut self, test: F)
+        requires { F.IsAlwaysCallable test }
+        ensures { KeptBy (IsFiltered (CalledAt F.FnMut) test) self.old self.new }
+    {
+        self.fields.retain(test);
+    }
+}
+
+impl IntoIterator for UnknownFields {
+    ghost use Rattle.std.specs.Prelude.{◌≡◌};
+    ghost use Rattle.std.specs.Vec.Iter.{into_iter_items};
+    ghost use Rattle.wire_base.specs.UnknownFields.{fields_of};
+
+    type Item = UnknownField;
+
+    type IntoIter = vec::IntoIter<UnknownField>;
+
+    ghost into_iter_gives = { λ fields it. fields_of (into_iter_items it) ≡ fields };
+
+    fn into_iter(self) -> vec::IntoIter<UnknownField> {
+        let UnknownFields { fields } = self;
+        fields.into_iter()
+    }
+}
+
+impl<'a> IntoIterator for &'a UnknownFields {
+    ghost use Rattle.std.specs.Prelude.{◌≡◌};
+    ghost use Rattle.std.specs.Slice.Iter.{iter_rest};
+    ghost use Rattle.wire_base.specs.UnknownFields.{fields_of};
+
+    type Item = &'a UnknownField;
+
+    type IntoIter = slice::Iter<'a, UnknownField>;
+
+    ghost into_iter_gives = { λ fields it. fields_of (iter_rest it) ≡ fields.now };
+
+    fn into_iter(self) -> slice::Iter<'a, UnknownField> {
+        self.iter()
     }
 }

@@ -5,7 +5,7 @@ ghost use Rattle.wire_base.specs.Tag.{wire_number, tag_text};
 use super::WireType;
 use crate::encode_sink::EncodeSink;
 use crate::error::EncodeError;
-use crate::varint::encode_varint;
+use crate::varint::{encode_varint, varint_len};
 
 /// Writes the shortest text of a tag, also of a number that no field may have.
 pub(crate) fn put_tag<S: EncodeSink>(
@@ -18,6 +18,13 @@ pub(crate) fn put_tag<S: EncodeSink>(
     ensures cause { WriteAnswers S.most (S.held sink.old) (tag_text number wire_type) result }
 {
     encode_varint(8 * u64::from(number) + low_bits(wire_type), sink)
+}
+
+/// How many bytes the shortest text of a tag has: 1 to 5, and 5 for a number that no field may have.
+pub(crate) fn tag_len(number: u32, wire_type: WireType) -> usize
+    ensures { result ≡ length (tag_text number wire_type) }
+{
+    varint_len(8 * u64::from(number) + low_bits(wire_type))
 }
 
 // A wire type as it stands in the low three bits of a tag.

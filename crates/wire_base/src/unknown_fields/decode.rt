@@ -19,6 +19,50 @@ use crate::varint::decode_varint;
 use bytes::Buf;
 use std::alloc::Global;
 
+impl UnknownFields {
+    /// Reads all of the data as records, in which groups nest at most `RECURSION_LIMIT` deep and which are
+    /// at most `DEFAULT_UNKNOWN_FIELD_LIMIT`, those in groups counted.
+    pub fn decode_from_slice(alloc: Global, data: &[u8]) -> Result<UnknownFields, DecodeError>
+        ensures spelled { IfOk result (λ fs. Spells fs data.now) }
+        ensures within { IfOk result (λ fs.
+            Fits (charge fs) (counted RECURSION_LIMIT DEFAULT_UNKNOWN_FIELD_LIMIT)) }
+        ensures fault { IfErr result (λ e. (e ≡ OutOfMemory)
+            ⊎ ListFault (counted RECURSION_LIMIT DEFAULT_UNKNOWN_FIELD_LIMIT) by_input data.now e) }
+
+        // What the data spells within the limits is what is read, unless memory runs out.
+        ensures only { (fs : Fields) → Spells fs data.now
+            → Fits (charge fs) (counted RECURSION_LIMIT DEFAULT_UNKNOWN_FIELD_LIMIT)
+            → MatchResult result (λ read. read ≡ fs) (λ e. e ≡ OutOfMemory) }
+    {
+        let mut context = DecodeContext::new(RECURSION_LIMIT, DEFAULT_UNKNOWN_FIELD_LIMIT);
+        decode_all(alloc, data, &mut context)
+    }
+}
+
+// Reads all of the data as records.
+fn decode_all(
+    alloc: Global,
+    data: &[u8],
+    context: &mut DecodeContext,
+) -> Result<UnknownFields, DecodeError>
+    ensures spelled { IfOk result (λ fs. Spells fs data.now) }
+    ensures within { IfOk result (λ fs. Fits (charge fs) context.old) }
+    ensures charged { IfOk result (λ fs. context.new ≡ lowered context.old (charge fs)) }
+    ensures fault { IfErr result (λ e. (e ≡ OutOfMemory) ⊎ ListFault context.old by_input data.now e) }
+    ensures counts { OnErr result (NoCountGrew context.old context.new) }
+{
+    let mut buf = data;
+    let mut fields = UnknownFields::new(alloc);
+    while !buf.is_empty() {
+        let tag = Tag::decode(&mut buf)?;
+        let field = decode_unknown_field(alloc, tag, &mut buf, context)?;
+        if fields.push(field).is_err() {
+            return Err(DecodeError::OutOfMemory);
+        }
+    }
+    Ok(fields)
+}
+
 /// Reads the payload of a tag that was read, and keeps it as a field. It takes one unknown field for
 /// itself and one for each field in its groups, and a level for each group in another.
 #[cycle(decode)]

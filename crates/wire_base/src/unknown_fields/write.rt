@@ -44,7 +44,7 @@ impl UnknownField {
 
 impl UnknownFieldData {
     // The wire type in the record's tag.
-    fn wire_type(&self) -> WireType
+    pub(super) fn wire_type(&self) -> WireType
         ensures { result ≡ type_of (payload_of self.now) }
     {
         match self {
