@@ -5,6 +5,8 @@ pub mod LimitsLaws
 pub mod ListLaws
 pub mod OneFaultLaws
 pub mod PlainReader
+pub mod RopeReads
+pub mod Ropes
 pub mod Sinks
 pub mod TagLaws
 pub mod Tags

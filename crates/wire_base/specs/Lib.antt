@@ -7,6 +7,7 @@ pub mod InRange
 pub mod Laws
 pub mod Limits
 pub mod Read
+pub mod Rope
 pub mod Sink
 pub mod Spells
 pub mod Tag

@@ -5,12 +5,14 @@
 mod encode_sink;
 mod error;
 pub mod laws;
+mod rope;
 mod tag;
 mod unknown_fields;
 mod varint;
 
 pub use encode_sink::EncodeSink;
 pub use error::{DecodeError, EncodeError};
+pub use rope::{DEFAULT_MIN_SEGMENT, Rope, RopeBuf};
 pub use tag::{
     FIRST_RESERVED_FIELD_NUMBER, LAST_RESERVED_FIELD_NUMBER, MAX_FIELD_NUMBER, Tag, WireType,
 };
