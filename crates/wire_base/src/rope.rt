@@ -10,6 +10,8 @@ use std::marker::Model;
 
 mod buf;
 mod sink;
+#[cfg(test)]
+mod tests;
 
 pub use buf::RopeBuf;
 
