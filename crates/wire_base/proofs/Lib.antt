@@ -8,6 +8,8 @@ pub mod OneFaultLaws
 pub mod Payloads
 pub mod PlainReader
 pub mod Results
+pub mod RopeReads
+pub mod Ropes
 pub mod Sinks
 pub mod Skips
 pub mod TagLaws

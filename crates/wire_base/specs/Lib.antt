@@ -11,6 +11,7 @@ pub mod Laws
 pub mod Limits
 pub mod Payload
 pub mod Read
+pub mod Rope
 pub mod Sink
 pub mod Spells
 pub mod Tag

@@ -1,9 +1,10 @@
 //! Where encoded bytes go.
 ghost use Rattle.std.specs.Prelude.{◌≡◌, ℕ, ◌+◌, List, [], ◌∷◌, ◌++◌, length, Option, None, OnOk, OnErr};
-ghost use Rattle.std.specs.Int.{w32, w64, to_le_bytes};
+ghost use Rattle.std.specs.Int.{w32, w64, cast_unsigned, to_le_bytes};
 ghost use Rattle.wire_base.specs.Sink.{PutAnswers};
 
 use crate::error::EncodeError;
+use bytes::{Bytes, BytesMut};
 
 /// A growing list of bytes. A put appends all of its bytes or none.
 pub trait EncodeSink {
@@ -12,6 +13,10 @@ pub trait EncodeSink {
 
     /// The most bytes that the sink can count, where it counts them; else memory alone bounds it.
     ghost most: { Option ℕ };
+
+    /// Whether the sink can keep a shared run of bytes as a segment of its own, so that a caller that
+    /// has one saves the copy by `put_shared`.
+    const IS_SEGMENTED: bool = false;
 
     fn put_u8(&mut self, value: u8) -> Result<(), EncodeError>
         ensures ok { OnOk result (held self.new ≡ held self.old ++ value ∷ []) }
@@ -32,6 +37,35 @@ pub trait EncodeSink {
         ensures ok { OnOk result (held self.new ≡ held self.old ++ to_le_bytes w64 value) }
         ensures err { OnErr result (held self.new ≡ held self.old) }
         ensures cause { PutAnswers most (length (held self.old) + 8) result };
+
+    /// The two's complement, lowest byte first.
+    fn put_i32_le(&mut self, value: i32) -> Result<(), EncodeError>
+        ensures ok { OnOk result (held self.new
+            ≡ held self.old ++ to_le_bytes w32 (cast_unsigned w32 value)) }
+        ensures err { OnErr result (held self.new ≡ held self.old) }
+        ensures cause { PutAnswers most (length (held self.old) + 4) result }
+    {
+        self.put_u32_le(value.cast_unsigned())
+    }
+
+    /// The two's complement, lowest byte first.
+    fn put_i64_le(&mut self, value: i64) -> Result<(), EncodeError>
+        ensures ok { OnOk result (held self.new
+            ≡ held self.old ++ to_le_bytes w64 (cast_unsigned w64 value)) }
+        ensures err { OnErr result (held self.new ≡ held self.old) }
+        ensures cause { PutAnswers most (length (held self.old) + 8) result }
+    {
+        self.put_u64_le(value.cast_unsigned())
+    }
+
+    /// The bytes may be kept as they are, with no copy. They are given up where the put is refused.
+    fn put_shared(&mut self, bytes: Bytes) -> Result<(), EncodeError>
+        ensures ok { OnOk result (held self.new ≡ held self.old ++ bytes) }
+        ensures err { OnErr result (held self.new ≡ held self.old) }
+        ensures cause { PutAnswers most (length (held self.old) + length bytes) result }
+    {
+        self.put_slice(bytes.as_slice())
+    }
 }
 
 impl EncodeSink for Vec<u8> {
@@ -42,6 +76,29 @@ impl EncodeSink for Vec<u8> {
     fn put_u8(&mut self, value: u8) -> Result<(), EncodeError> {
         self.push(value)?;
         Ok(())
+    }
+
+    fn put_slice(&mut self, bytes: &[u8]) -> Result<(), EncodeError> {
+        self.extend_from_slice(bytes)?;
+        Ok(())
+    }
+
+    fn put_u32_le(&mut self, value: u32) -> Result<(), EncodeError> {
+        self.put_slice(&value.to_le_bytes())
+    }
+
+    fn put_u64_le(&mut self, value: u64) -> Result<(), EncodeError> {
+        self.put_slice(&value.to_le_bytes())
+    }
+}
+
+impl EncodeSink for BytesMut {
+    ghost held = { λ sink. sink.items };
+
+    ghost most = { None };
+
+    fn put_u8(&mut self, value: u8) -> Result<(), EncodeError> {
+        self.put_slice(&[value])
     }
 
     fn put_slice(&mut self, bytes: &[u8]) -> Result<(), EncodeError> {

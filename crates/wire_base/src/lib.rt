@@ -7,6 +7,7 @@ mod encode_sink;
 mod error;
 pub mod laws;
 mod payload;
+mod rope;
 mod skip;
 mod tag;
 mod unknown_fields;
@@ -15,6 +16,7 @@ mod varint;
 pub use decode_context::{DEFAULT_UNKNOWN_FIELD_LIMIT, DecodeContext, RECURSION_LIMIT};
 pub use encode_sink::EncodeSink;
 pub use error::{DecodeError, EncodeError};
+pub use rope::{DEFAULT_MIN_SEGMENT, Rope, RopeBuf};
 pub use skip::{skip_field, skip_field_depth};
 pub use tag::{
     FIRST_RESERVED_FIELD_NUMBER, LAST_RESERVED_FIELD_NUMBER, MAX_FIELD_NUMBER, Tag, WireType,
