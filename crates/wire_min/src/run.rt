@@ -53,7 +53,7 @@ fn read_to_end<R: Read>(alloc: Global, reader: &mut Counted<R>) -> Result<Vec<u8
 {
     let mut bytes = Vec::new(alloc);
     let mut chunk = [0u8; CHUNK];
-    // Each turn but the last adds a byte, so memory runs out before the turns do.
+    // Each turn but the last adds a byte, and a vector holds fewer bytes than there are turns.
     for _ in 0..u64::MAX {
         let count = match reader.read(&mut chunk) {
             Ok(count) => count,
@@ -64,7 +64,7 @@ fn read_to_end<R: Read>(alloc: Global, reader: &mut Counted<R>) -> Result<Vec<u8
         }
         bytes.extend_from_slice(&chunk[..count])?;
     }
-    Err(RunError::OutOfMemory)
+    unreachable!()
 }
 
 // The shortest text of what the input spells.
