@@ -1,7 +1,7 @@
 //! One run, from all of the input to the text.
 ghost use Rattle.std.specs.Prelude.{◌≡◌, ◌≢◌, ◌+◌, ◌<◌, ◌⊎◌, Ok, Err, IfOk, IfErr, OnOk, OnErr, IfSome};
 ghost use Rattle.std.specs.Io.KnownBytes.{Appends, Keeps};
-ghost use Rattle.wire_base.specs.declared.error.DecodeError.{DecodeError as Refusal};
+ghost use Rattle.wire_base.specs.declared.error.DecodeError.{DecodeError};
 ghost use Rattle.wire_min.specs.Counted.{device_of, failures_of};
 ghost use Rattle.wire_min.specs.Outcome.{failed_reads, failed_writes};
 ghost use Rattle.wire_min.specs.Run.{AppendsFront, IsRefused, IsShortest, WritesFront, WritesShortest};
@@ -27,7 +27,7 @@ pub fn run<R: Read, W: Write>(
 
     ensures ok { OnOk result (IfSome (R.remaining (device_of reader.old)) (λ input.
         WritesShortest input (W.contents (device_of writer.old)) (W.contents (device_of writer.new)))) }
-    ensures refused { (e : Refusal) → result ≡ Err (RunError.Refused e)
+    ensures refused { (e : DecodeError) → result ≡ Err (RunError.Refused e)
         → IfSome (R.remaining (device_of reader.old)) (λ input. IsRefused input e) }
     ensures front { result ≡ Err RunError.WriteFailed → IfSome (R.remaining (device_of reader.old)) (λ input.
         WritesFront input (W.contents (device_of writer.old)) (W.contents (device_of writer.new))) }
@@ -70,7 +70,7 @@ fn read_to_end<R: Read>(alloc: Global, reader: &mut Counted<R>) -> Result<Vec<u8
 // The shortest text of what the input spells.
 fn shortest_text(alloc: Global, input: &[u8]) -> Result<Vec<u8>, RunError>
     ensures ok { IfOk result (λ output. IsShortest input.now output.items) }
-    ensures refused { (e : Refusal) → result ≡ Err (RunError.Refused e) → IsRefused input.now e }
+    ensures refused { (e : DecodeError) → result ≡ Err (RunError.Refused e) → IsRefused input.now e }
     ensures failures { (failed_reads result ≡ 0) × (failed_writes result ≡ 0) }
 {
     let fields = UnknownFields::decode_from_slice(alloc, input)?;

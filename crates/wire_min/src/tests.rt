@@ -97,7 +97,7 @@ fn devices_that_work() -> [Row; 6] {
         Row::new(STRING, Ok(()), TEXT),
         Row::new(STRING, Ok(()), TEXT).writing(by_bytes),
         Row::new(b"\x08", Err(refused(DecodeError::UnexpectedEof)), b""),
-        Row::new(b"\x0b\x0c", Err(refused(DecodeError::InvalidWireType(3))), b""),
+        Row::new(b"\x0f", Err(refused(DecodeError::InvalidWireType(7))), b""),
     ]
 }
 
@@ -132,14 +132,14 @@ fn writers_that_fail() -> [Row; 5] {
 
 // Each error, its line and its status.
 fn lines() -> [(RunError, &'static str, u8); 5] {
-    let group = RunError::Refused(DecodeError::InvalidWireType(3));
+    let no_type = RunError::Refused(DecodeError::InvalidWireType(7));
     [
         (
             RunError::Refused(DecodeError::UnexpectedEof),
             "wire_min: refused: unexpected end of buffer",
             1,
         ),
-        (group, "wire_min: refused: invalid wire type: 3", 1),
+        (no_type, "wire_min: refused: invalid wire type: 7", 1),
         (RunError::OutOfMemory, "wire_min: out of memory", 2),
         (RunError::ReadFailed, "wire_min: read failed", 2),
         (RunError::WriteFailed, "wire_min: write failed", 2),
@@ -171,7 +171,11 @@ fn each_run_answers_its_own_or_lacks_memory(rt: HostRuntime) {
 #[test]
 fn each_error_has_its_line_and_its_status(rt: HostRuntime) {
     for (error, line, status) in lines() {
-        assert_ne!(rt; found_line(rt.alloc(), &error, line), Found::Other, "{line}");
+        assert_ne!(rt;
+            found_line(rt.alloc(), &error, line),
+            Found::Other,
+            "{line}"
+        );
         assert_eq!(rt; error.status(), status, "{line}");
     }
 }
@@ -210,7 +214,11 @@ impl Eprint for Closed {
 #[test]
 fn a_line_that_cannot_be_written_leaves_the_status(rt: HostRuntime) {
     for (error, line, status) in lines() {
-        assert_eq!(rt; report(&Closed, Err(error)), ExitCode::from(status), "{line}");
+        assert_eq!(rt;
+            report(&Closed, Err(error)),
+            ExitCode::from(status),
+            "{line}"
+        );
     }
     assert_eq!(rt; report(&Closed, Ok(())), ExitCode::SUCCESS);
 }
