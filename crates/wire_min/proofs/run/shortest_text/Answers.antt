@@ -1,0 +1,11 @@
+use Rattle.std.proofs.Common.{ap, ◌∙◌, ◌++◌}
+use Rattle.wire_base.specs.Text.{text}
+use Rattle.wire_min.proofs.run.shortest_text.Goals as goal
+
+-- the vector was empty, and the text was written to it
+pub returns-in-Ok-clause-ok : goal.returns-in-Ok-clause-ok
+returns-in-Ok-clause-ok c = record {
+  fields = c.in_ok-fields.fields;
+  taken = (c.in_ok-fields.ensures.ok, c.in_ok-fields.ensures.flat);
+  shortest = c.in-Ok.ensures.ok ∙ ap (λ l. l ++ text c.in_ok-fields.fields) c.new-output.ensures.items;
+}

@@ -1,0 +1,41 @@
+-- What a run takes, what it refuses, and what it writes.
+use Rattle.std.specs.Prelude.{◌≡◌, ℕ, List, ◌++◌, Option}
+use Rattle.std.specs.Io.KnownBytes.{Appends}
+use Rattle.wire_base.specs.declared.error.DecodeError.{DecodeError}
+use Rattle.wire_base.specs.Field.{Fields}
+use Rattle.wire_base.specs.Flat.{FlatFault}
+use Rattle.wire_base.specs.Spells.{Spells}
+use Rattle.wire_base.specs.Text.{text, depth}
+
+-- the input is taken as these records: it spells them, and none of them is a group
+abbrev pub IsTaken : List ℕ → Fields → Type 0
+IsTaken input fields = Spells fields input × (depth fields ≡ 0)
+
+-- the input is refused, and this says why
+abbrev pub IsRefused : List ℕ → DecodeError → Type 0
+IsRefused input e = FlatFault input e
+
+-- the output is the shortest text of what the input spells
+pub record IsShortest (input output : List ℕ) : Type 0 where
+  pub fields : Fields
+  pub taken : IsTaken input fields
+  pub shortest : output ≡ text fields
+
+-- known bytes grow by a front of these
+pub record AppendsFront (old new : Option (List ℕ)) (bytes : List ℕ) : Type 0 where
+  pub front : List ℕ
+  pub rest : List ℕ
+  pub parts : bytes ≡ front ++ rest
+  pub appended : Appends old new front
+
+-- a writer's known bytes grow by the shortest text of what the input spells
+pub record WritesShortest (input : List ℕ) (old new : Option (List ℕ)) : Type 0 where
+  pub output : List ℕ
+  pub shortest : IsShortest input output
+  pub written : Appends old new output
+
+-- a writer's known bytes grow by a front of the shortest text of what the input spells
+pub record WritesFront (input : List ℕ) (old new : Option (List ℕ)) : Type 0 where
+  pub output : List ℕ
+  pub shortest : IsShortest input output
+  pub written : AppendsFront old new output

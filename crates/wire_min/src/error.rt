@@ -1,0 +1,66 @@
+//! Why a run fails.
+ghost use Rattle.std.specs.Prelude.{◌≡◌, ◌≢◌, ◌⊎◌};
+
+use std::alloc::AllocError;
+use thiserror::Error;
+use wire_base::DecodeError;
+
+/// Why a run fails. `{}` shows the line for standard error.
+#[derive(Debug, PartialEq, Drop, Error)]
+pub enum RunError {
+    /// The input is not a list of fields.
+    #[error("wire_min: refused: {0}")]
+    Refused(DecodeError),
+
+    /// Memory ran out, before anything was written.
+    #[error("wire_min: out of memory")]
+    OutOfMemory,
+
+    /// The reader failed, before anything was written.
+    #[error("wire_min: read failed")]
+    ReadFailed,
+
+    /// The writer failed or took no byte.
+    #[error("wire_min: write failed")]
+    WriteFailed,
+}
+
+impl RunError {
+    ghost use Rattle.wire_min.specs.Outcome.{status_of};
+
+    /// The exit status: 1 for input that is refused, and 2 for the rest.
+    pub fn status(&self) -> u8
+        ensures { result ≡ status_of self.now }
+    {
+        match self {
+            RunError::Refused(_) => 1,
+            RunError::OutOfMemory | RunError::ReadFailed | RunError::WriteFailed => 2,
+        }
+    }
+}
+
+impl From<AllocError> for RunError {
+    ghost use Rattle.wire_min.specs.declared.error.RunError.TheVariants.{OutOfMemory};
+
+    ghost from_gives = { λ _ e. e ≡ OutOfMemory };
+
+    fn from(_error: AllocError) -> RunError {
+        RunError::OutOfMemory
+    }
+}
+
+/// Want of memory is no fault of the input.
+impl From<DecodeError> for RunError {
+    ghost use Rattle.wire_base.specs.declared.error.DecodeError.TheVariants as decode;
+    ghost use Rattle.wire_min.specs.declared.error.RunError.TheVariants.{Refused, OutOfMemory};
+
+    ghost from_gives = { λ error e. ((error ≡ decode.OutOfMemory) × (e ≡ OutOfMemory))
+        ⊎ ((error ≢ decode.OutOfMemory) × (e ≡ Refused error)) };
+
+    fn from(error: DecodeError) -> RunError {
+        match error {
+            DecodeError::OutOfMemory => RunError::OutOfMemory,
+            error => RunError::Refused(error),
+        }
+    }
+}
