@@ -5,7 +5,6 @@ pub mod FieldsCode
 pub mod FieldsEq
 pub mod FieldsEqLaws
 pub mod Filtered
-pub mod Flat
 pub mod InRange
 pub mod Laws
 pub mod Limits
