@@ -2,11 +2,12 @@
 use Rattle.std.specs.Prelude.{◌≡◌, ℕ, ◌+◌, ◌^◌, ◌<◌, ◌≤◌, ◌⊎◌, ◌↔◌, List, [], ◌++◌, length, All}
 use Rattle.wire_base.specs.declared.error.DecodeError.{DecodeError}
 use Rattle.wire_base.specs.declared.tag.WireType.{WireType}
-use Rattle.wire_base.specs.Field.{Payload, group, Fields, none, field, type_of, joined, count_top}
+use Rattle.wire_base.specs.Field.{Payload, group, Fields, none, field, type_of, joined, count_top, push}
 use Rattle.wire_base.specs.Fault.{Ending, by_input, by_tag, PayloadFault, ListFault}
 use Rattle.wire_base.specs.FieldNumber.{IsFieldNumber}
 use Rattle.wire_base.specs.InRange.{AreInRange}
-use Rattle.wire_base.specs.Limits.{Limits, Fits, both}
+use Rattle.wire_base.specs.Limits.{Limits, Fits, both, lowered}
+use Rattle.wire_base.specs.Taken.{TakesPayload, TakesFields}
 use Rattle.wire_base.specs.Read.{Reads}
 use Rattle.wire_base.specs.Spells.{SpellsPayload, Spells, IsPayload}
 use Rattle.wire_base.specs.Text.{text, payload_charge, charge}
@@ -90,6 +91,15 @@ JoinedTextsSpell = (fs gs : Fields) (t u : List ℕ) → Spells fs t → Spells 
 
 abbrev pub JoinedAddsUp : Type 0
 JoinedAddsUp = (fs gs : Fields) → (text (joined fs gs) ≡ text fs ++ text gs) × (count_top (joined fs gs) ≡ count_top fs + count_top gs) × (charge (joined fs gs) ≡ both (charge fs) (charge gs))
+
+abbrev pub TextSpellsOneList : Type 0
+TextSpellsOneList = (fs : Fields) → AreInRange fs → Spells fs (text fs) × ((gs : Fields) → Spells gs (text fs) → gs ≡ fs)
+
+-- no record takes nothing; and a record behind others takes what these leave
+pub record RecordsOneByOne : Type 0 where
+  pub none : (l : Limits) (old : List ℕ) → TakesFields l Fields.none old old
+  pub more : (l : Limits) (fs : Fields) (n : ℕ) (w : WireType) (p : Payload) (old mid behind new : List ℕ) → TakesFields l fs old mid → Reads mid (IsTagSpelling n w) behind
+      → TakesPayload (lowered l (charge fs)) n w p behind new → TakesFields l (push fs n p) old new
 
 -- ---- faults of records
 

@@ -1,5 +1,5 @@
 //! Laws of the definitions that the contracts cite: each function is a theorem, and does nothing.
-ghost use Rattle.wire_base.specs.Laws.{ShortestReadsBack, NoSpellingBeginsAnother, OneVarint, NoVarintBesideFault, OneVarintFault, VarintOrFaultStands, NoSpellingIsShorter, TagTextReadsBack, OneTag, NoTagBesideFault, OneTagFault, TagOrFaultStands, NoTagTextIsShorter, PayloadIsField, OnePayload, OneList, OneBody, ShortestTextSpells, NoTextIsShorter, JoinedTextsSpell, JoinedAddsUp, NoPayloadBesideFault, NoListBesideFault, NoBodyBesideFault, OnePayloadFault, OneListFault, PayloadOrFaultStands, ListOrFaultStands, BodyOrFaultStands};
+ghost use Rattle.wire_base.specs.Laws.{ShortestReadsBack, NoSpellingBeginsAnother, OneVarint, NoVarintBesideFault, OneVarintFault, VarintOrFaultStands, NoSpellingIsShorter, TagTextReadsBack, OneTag, NoTagBesideFault, OneTagFault, TagOrFaultStands, NoTagTextIsShorter, PayloadIsField, OnePayload, OneList, OneBody, ShortestTextSpells, NoTextIsShorter, JoinedTextsSpell, JoinedAddsUp, NoPayloadBesideFault, NoListBesideFault, NoBodyBesideFault, OnePayloadFault, OneListFault, PayloadOrFaultStands, ListOrFaultStands, BodyOrFaultStands, TextSpellsOneList, RecordsOneByOne};
 
 /// The shortest varint of a number reads back as that number, whatever follows it.
 pub fn shortest_reads_back()
@@ -104,6 +104,17 @@ pub fn joined_texts_spell()
 /// The shortest texts of two lists, their counts and their charges add up to those of the joined list.
 pub fn joined_adds_up()
     ensures { JoinedAddsUp }
+{}
+
+/// The shortest text of records whose numbers fit spells these records and no others: what is decoded
+/// from it is what was written.
+pub fn text_spells_one_list()
+    ensures { TextSpellsOneList }
+{}
+
+/// Records are taken one by one: none takes nothing, and one more takes from what the others leave.
+pub fn records_one_by_one()
+    ensures { RecordsOneByOne }
 {}
 
 /// Where the grammar names a fault, no payload within the limits stands behind the tag.

@@ -1,0 +1,6 @@
+//! The scalar types of the wire format, packed lists of them, and groups borrowed from a slice.
+#![tactic(auto)]
+
+mod group;
+
+pub use group::borrow_group;
