@@ -6,6 +6,6 @@ use Rattle.wire_min.proofs.run.shortest_text.Goals as goal
 pub returns-in-Ok-clause-ok : goal.returns-in-Ok-clause-ok
 returns-in-Ok-clause-ok c = record {
   fields = c.in_ok-fields.fields;
-  taken = (c.in_ok-fields.ensures.ok, c.in_ok-fields.ensures.flat);
+  taken = (c.in_ok-fields.ensures.spelled, c.in_ok-fields.ensures.within);
   shortest = c.in-Ok.ensures.ok ∙ ap (λ l. l ++ text c.in_ok-fields.fields) c.new-output.ensures.items;
 }
