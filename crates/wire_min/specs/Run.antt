@@ -1,25 +1,25 @@
 -- What a run takes, what it refuses, and what it writes.
 use Rattle.std.specs.Prelude.{◌≡◌, ℕ, List, ◌++◌, Option}
 use Rattle.std.specs.Io.KnownBytes.{Appends}
-use Rattle.wire_base.specs.declared.error.DecodeError.{DecodeError}
 use Rattle.wire_base.specs.declared.decode_context.TheConstants.{RECURSION_LIMIT, DEFAULT_UNKNOWN_FIELD_LIMIT}
+use Rattle.wire_base.specs.declared.error.DecodeError.{DecodeError}
 use Rattle.wire_base.specs.Fault.{ListFault, by_input}
 use Rattle.wire_base.specs.Field.{Fields}
 use Rattle.wire_base.specs.Limits.{Limits, Fits, counted}
 use Rattle.wire_base.specs.Spells.{Spells}
 use Rattle.wire_base.specs.Text.{text, charge}
 
--- how deep groups may nest, and how many records there may be
-abbrev pub limits : Limits
-limits = counted RECURSION_LIMIT DEFAULT_UNKNOWN_FIELD_LIMIT
+-- what a run takes at most
+abbrev pub run_limits : Limits
+run_limits = counted RECURSION_LIMIT DEFAULT_UNKNOWN_FIELD_LIMIT
 
 -- the input is taken as these records: it spells them, and they are within the limits
 abbrev pub IsTaken : List ℕ → Fields → Type 0
-IsTaken input fields = Spells fields input × Fits (charge fields) limits
+IsTaken input fields = Spells fields input × Fits (charge fields) run_limits
 
--- the input is refused, and this says why
+-- the input is refused: it spells no records within the limits, and this says why
 abbrev pub IsRefused : List ℕ → DecodeError → Type 0
-IsRefused input e = ListFault limits by_input input e
+IsRefused input e = ListFault run_limits by_input input e
 
 -- the output is the shortest text of what the input spells
 pub record IsShortest (input output : List ℕ) : Type 0 where

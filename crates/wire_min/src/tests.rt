@@ -85,7 +85,9 @@ const STRING: &[u8] = b"\x92\x00\x81\x00A";
 
 const TEXT: &[u8] = b"\x12\x01A";
 
-fn devices_that_work() -> [Row; 6] {
+const GROUP: &[u8] = b"\x8b\x00\x08\x80\x00\x8c\x00";
+
+fn devices_that_work() -> [Row; 7] {
     let by_bytes = Habits {
         most_a_call: 1,
         ..WILLING
@@ -96,6 +98,7 @@ fn devices_that_work() -> [Row; 6] {
         Row::new(b"\x88\x00\x80\x00", Ok(()), b"\x08\x00"),
         Row::new(STRING, Ok(()), TEXT),
         Row::new(STRING, Ok(()), TEXT).writing(by_bytes),
+        Row::new(GROUP, Ok(()), b"\x0b\x08\x00\x0c"),
         Row::new(b"\x08", Err(refused(DecodeError::UnexpectedEof)), b""),
         Row::new(b"\x0f", Err(refused(DecodeError::InvalidWireType(7))), b""),
     ]
