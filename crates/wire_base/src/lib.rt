@@ -10,6 +10,8 @@ mod payload;
 mod rope;
 mod skip;
 mod tag;
+#[cfg(test)]
+mod tests;
 mod unknown_fields;
 mod varint;
 

@@ -4,7 +4,7 @@ ghost use Rattle.wire_base.specs.FieldNumber.{IsFieldNumber};
 
 use crate::encode_sink::EncodeSink;
 use crate::error::{DecodeError, EncodeError};
-use crate::varint::{decode_varint, encode_varint};
+use crate::varint::decode_varint;
 use bytes::Buf;
 
 mod put;
@@ -100,10 +100,7 @@ impl Tag {
         ensures cause { WriteAnswers S.most (S.held sink.old)
             (tag_text (tag_number self.now) (tag_type self.now)) result }
     {
-        encode_varint(
-            u64::from(self.field_number) * 8 + self.wire_type as u64,
-            sink,
-        )
+        put_tag(self.field_number, self.wire_type, sink)
     }
 
     /// Reads a tag, padded or not, from the front of the buffer.

@@ -1,1 +1,3 @@
 pub mod Borrow
+pub mod Packed
+pub mod ValueMap
