@@ -2,5 +2,7 @@
 #![tactic(auto)]
 
 mod group;
+#[cfg(test)]
+mod tests;
 
 pub use group::borrow_group;
