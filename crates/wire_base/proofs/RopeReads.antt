@@ -15,11 +15,13 @@ left_segments-within n s segments within = rw (lt-ltb n (length s) within)
 pub left_segments-past : (n : ℕ) (s : List ℕ) (segments : List (List ℕ)) → length s ≤ n → left_segments n (s ∷ segments) ≡ left_segments (n - length s) segments
 left_segments-past n s segments past = rw (le-ltb n (length s) past)
 
+-- a drop past the end of the first list is one of the second
 drop-append_past : (n : ℕ) (xs ys : List ℕ) → length xs ≤ n → drop n (xs ++ ys) ≡ drop (n - length xs) ys
 drop-append_past n xs ys past =
     let is : n ≡ length xs + (n - length xs) = omega arith in
     ap (λ m. drop m (xs ++ ys)) is ∙ drop-append-add xs ys (n - length xs)
 
+-- the bytes that are left are all but the first n
 pub concat-left_segments : (n : ℕ) (segments : List (List ℕ)) → concat (left_segments n segments) ≡ drop n (concat segments)
 concat-left_segments n [] = sym (drop-nil n)
 concat-left_segments n (s ∷ segments) =
@@ -28,6 +30,7 @@ concat-left_segments n (s ∷ segments) =
     (λ past. ap concat (left_segments-past n s segments past) ∙ concat-left_segments (n - length s) segments ∙ sym (drop-append_past n s (concat segments) past))
     (cases_lt n (length s))
 
+-- each segment that is left has a byte
 pub AllFilled-left_segments : (n : ℕ) (segments : List (List ℕ)) → AllFilled segments → AllFilled (left_segments n segments)
 AllFilled-left_segments n [] filled = filled
 AllFilled-left_segments n (s ∷ segments) filled =
@@ -41,13 +44,13 @@ pub left_segments-none : (segments : List (List ℕ)) → AllFilled segments →
 left_segments-none [] filled = refl
 left_segments-none (s ∷ segments) filled = left_segments-within 0 s segments (All-head (λ t. 0 < length t) s segments filled)
 
--- what a loop keeps that drops read segments: the number of bytes yet to read, and the segments now
+-- what holds between the steps that read `all` bytes of old: so many are left to read, of the segments now
 pub record LeftToDrop (old : List (List ℕ)) (all left : ℕ) (now : List (List ℕ)) : Type 0 where
   pub some : left ≤ length (concat now)
   pub filled : AllFilled now
   pub same : left_segments left now ≡ left_segments all old
 
--- the first segment is read to its end
+-- a step that reads the first segment to its end
 pub LeftToDrop-past : (old : List (List ℕ)) (all left len next : ℕ) (now after : List (List ℕ)) (s : List ℕ) → LeftToDrop old all left now → now ≡ s ∷ after → len ≡ length s → len ≤ left → next ≡ left - len
     → LeftToDrop old all next after
 LeftToDrop-past old all left len next now after s w is size past step = record {

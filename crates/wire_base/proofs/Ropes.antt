@@ -6,13 +6,16 @@ use Rattle.std.proofs.lemmas.List.Folds.{concat-append}
 use Rattle.std.specs.List.{concat}
 use Rattle.wire_base.specs.Rope.{RopeParts, AllFilled, tail_segments, all_segments, rope_bytes, with_segment}
 
+-- one segment more at the end
 pub concat-push : (segments : List (List ℕ)) (last : List ℕ) → concat (segments ++ last ∷ []) ≡ concat segments ++ last
 concat-push segments last = concat-append segments (last ∷ []) ∙ ap (λ l. concat segments ++ l) (append-nil last)
 
+-- a tail's segments have its bytes
 pub concat-tail_segments : (tail : List ℕ) → concat (tail_segments tail) ≡ tail
 concat-tail_segments [] = refl
 concat-tail_segments (b ∷ bytes) = append-nil (b ∷ bytes)
 
+-- a tail's segments are of some bytes
 pub AllFilled-tail_segments : (tail : List ℕ) → AllFilled (tail_segments tail)
 AllFilled-tail_segments [] = All-nil (λ s. 0 < length s)
 AllFilled-tail_segments (b ∷ bytes) = All-cons (λ s. 0 < length s) (b ∷ bytes) [] (omega arith) (All-nil (λ s. 0 < length s))
@@ -21,9 +24,11 @@ AllFilled-tail_segments (b ∷ bytes) = All-cons (λ s. 0 < length s) (b ∷ byt
 pub concat-all_segments : (segments : List (List ℕ)) (tail : List ℕ) → concat (segments ++ tail_segments tail) ≡ concat segments ++ tail
 concat-all_segments segments tail = concat-append segments (tail_segments tail) ∙ ap (λ l. concat segments ++ l) (concat-tail_segments tail)
 
+-- each segment has a byte still where the tail is one of them
 pub AllFilled-all_segments : (segments : List (List ℕ)) (tail : List ℕ) → AllFilled segments → AllFilled (segments ++ tail_segments tail)
 AllFilled-all_segments segments tail filled = All-append (λ s. 0 < length s) segments (tail_segments tail) filled (AllFilled-tail_segments tail)
 
+-- a segment more at the end is its bytes more
 pub rope_bytes-with_segment : (r : RopeParts) (bytes : List ℕ) → rope_bytes (with_segment r bytes) ≡ rope_bytes r ++ bytes
 rope_bytes-with_segment r bytes =
     append-nil (concat (all_segments r ++ bytes ∷ []))

@@ -4,7 +4,7 @@ ghost use Rattle.std.specs.Int.{w32, w64, cast_unsigned, to_le_bytes};
 ghost use Rattle.wire_base.specs.Sink.{PutAnswers};
 
 use crate::error::EncodeError;
-use bytes::{Bytes, BytesMut};
+use bytes::{BufMut, Bytes, BytesMut};
 
 /// A growing list of bytes. A put appends all of its bytes or none.
 pub trait EncodeSink {
@@ -84,11 +84,13 @@ impl EncodeSink for Vec<u8> {
     }
 
     fn put_u32_le(&mut self, value: u32) -> Result<(), EncodeError> {
-        self.put_slice(&value.to_le_bytes())
+        self.extend_from_slice(&u32::to_le_bytes(value))?;
+        Ok(())
     }
 
     fn put_u64_le(&mut self, value: u64) -> Result<(), EncodeError> {
-        self.put_slice(&value.to_le_bytes())
+        self.extend_from_slice(&u64::to_le_bytes(value))?;
+        Ok(())
     }
 }
 
@@ -98,19 +100,22 @@ impl EncodeSink for BytesMut {
     ghost most = { None };
 
     fn put_u8(&mut self, value: u8) -> Result<(), EncodeError> {
-        self.put_slice(&[value])
+        BufMut::put_u8(self, value)?;
+        Ok(())
     }
 
     fn put_slice(&mut self, bytes: &[u8]) -> Result<(), EncodeError> {
-        self.extend_from_slice(bytes)?;
+        BufMut::put_slice(self, bytes)?;
         Ok(())
     }
 
     fn put_u32_le(&mut self, value: u32) -> Result<(), EncodeError> {
-        self.put_slice(&value.to_le_bytes())
+        BufMut::put_u32_le(self, value)?;
+        Ok(())
     }
 
     fn put_u64_le(&mut self, value: u64) -> Result<(), EncodeError> {
-        self.put_slice(&value.to_le_bytes())
+        BufMut::put_u64_le(self, value)?;
+        Ok(())
     }
 }

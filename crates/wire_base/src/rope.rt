@@ -1,5 +1,5 @@
 //! Bytes in segments: written at the end, some of them with no copy, and read as one run.
-ghost use Rattle.std.specs.Prelude.{◌≡◌, ◌+◌, ◌≤◌, ◌==◌, max, [], ◌++◌, length, IfOk, IfErr, OnOk, OnErr, vec_len, vec_capacity};
+ghost use Rattle.std.specs.Prelude.{◌≡◌, ◌+◌, ◌≤◌, ◌==◌, max, [], ◌++◌, length, IsOk, IfOk, IfErr, OnOk, OnErr, vec_len, vec_capacity};
 ghost use Rattle.wire_base.specs.declared.error.EncodeError.TheVariants.{OutOfMemory};
 ghost use Rattle.wire_base.specs.Rope.{AllFilled, rope_bytes, all_segments, tail_segments, empty_rope};
 
@@ -95,6 +95,7 @@ impl Rope {
         ensures ok { IfOk result (λ segments. segments.items ≡ all_segments self) }
         ensures filled { IfOk result (λ segments. AllFilled segments.items) }
         ensures err { IfErr result (λ rope. rope ≡ self) }
+        ensures whole { length self.tail ≡ 0 → IsOk result }
     {
         if close_tail(&mut self.finished, &mut self.tail).is_err() {
             return Err(self);
@@ -128,6 +129,7 @@ fn close_tail(finished: &mut Vec<Bytes>, tail: &mut BytesMut) -> Result<(), Allo
         × (tail.new.items ≡ [])) }
     ensures err { OnErr result ((finished.new.items ≡ finished.old.items)
         × (tail.new.items ≡ tail.old.items)) }
+    ensures whole { length tail.old.items ≡ 0 → IsOk result }
     ensures len { vec_len finished.new ≤ vec_len finished.old + 1 }
     ensures capacity { vec_capacity finished.old ≤ vec_capacity finished.new }
 {

@@ -1,5 +1,5 @@
 // Reading a rope.
-ghost use Rattle.std.specs.Prelude.{◌≡◌, ◌≤◌, length, drop, IfOk, IfErr};
+ghost use Rattle.std.specs.Prelude.{◌≡◌, ◌≤◌, length, drop, IsOk, IfOk, IfErr};
 ghost use Rattle.std.specs.List.{concat};
 ghost use Rattle.bytes.specs.Unread.{IsChunkOf};
 ghost use Rattle.wire_base.specs.Rope.{AllFilled, rope_bytes, all_segments, first_segment, left_segments};
@@ -36,6 +36,7 @@ impl RopeBuf {
         ensures segments { IfOk result (λ buf. buf ≡ all_segments rope) }
         ensures bytes { IfOk result (λ buf. concat buf ≡ rope_bytes rope) }
         ensures err { IfErr result (λ given. given ≡ rope) }
+        ensures whole { length rope.tail ≡ 0 → IsOk result }
     {
         let remaining = rope.len();
         let segments = rope.into_segments()?;

@@ -80,7 +80,7 @@ impl EncodeSink for Rope {
         ensures err { OnErr result (self.new ≡ self.old) }
         ensures cause { PutAnswers (Some (2 ^ 64 - 1)) (length (rope_bytes self.old) + 4) result }
     {
-        self.extend_tail(&value.to_le_bytes())
+        self.extend_tail(&u32::to_le_bytes(value))
     }
 
     fn put_u64_le(&mut self, value: u64) -> Result<(), EncodeError>
@@ -88,7 +88,7 @@ impl EncodeSink for Rope {
         ensures err { OnErr result (self.new ≡ self.old) }
         ensures cause { PutAnswers (Some (2 ^ 64 - 1)) (length (rope_bytes self.old) + 8) result }
     {
-        self.extend_tail(&value.to_le_bytes())
+        self.extend_tail(&u64::to_le_bytes(value))
     }
 
     fn put_i32_le(&mut self, value: i32) -> Result<(), EncodeError>
