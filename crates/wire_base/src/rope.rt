@@ -10,8 +10,6 @@ use std::marker::Model;
 
 mod buf;
 mod sink;
-#[cfg(test)]
-mod tests;
 
 pub use buf::RopeBuf;
 

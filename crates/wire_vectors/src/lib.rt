@@ -5,3 +5,5 @@
 mod chunks;
 #[cfg(test)]
 mod found;
+#[cfg(test)]
+mod ropes;

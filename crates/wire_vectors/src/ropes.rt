@@ -1,35 +1,19 @@
-use super::{DEFAULT_MIN_SEGMENT, Rope, RopeBuf};
-use crate::encode_sink::EncodeSink;
-use crate::error::EncodeError;
+//! Ropes and the other sinks: what they hold after puts, and how a rope is read.
+use crate::found::{Found, Stop, found_in};
 use bytes::{Buf, Bytes, BytesMut};
 use std::alloc::Global;
-
-// What a row's check finds: the row's own answer, want of memory, or anything else.
-#[derive(Clone, Copy, Debug, PartialEq)]
-enum Found {
-    Own,
-    OutOfMemory,
-    Other,
-}
-
-fn found_in(answer: Result<bool, EncodeError>) -> Found {
-    match answer {
-        Ok(true) => Found::Own,
-        Err(EncodeError::OutOfMemory) => Found::OutOfMemory,
-        _ => Found::Other,
-    }
-}
+use wire_base::{DEFAULT_MIN_SEGMENT, EncodeError, EncodeSink, Rope, RopeBuf};
 
 // A rope that is handed back is want of memory, where it has what it had, and else no row's answer.
-fn handed_back(rope: &Rope, len: usize, segments: usize) -> EncodeError {
+fn handed_back(rope: &Rope, len: usize, segments: usize) -> Stop {
     if rope.len() == len && rope.segment_count() == segments {
-        EncodeError::OutOfMemory
+        Stop::Memory
     } else {
-        EncodeError::LengthOverflow
+        Stop::Encode(EncodeError::LengthOverflow)
     }
 }
 
-fn has_segments(rope: Rope, wanted: &[&'static [u8]]) -> Result<bool, EncodeError> {
+fn has_segments(rope: Rope, wanted: &[&'static [u8]]) -> Result<bool, Stop> {
     let (len, count) = (rope.len(), rope.segment_count());
     match rope.into_segments() {
         Ok(segments) => Ok(
@@ -44,16 +28,16 @@ fn has_segments(rope: Rope, wanted: &[&'static [u8]]) -> Result<bool, EncodeErro
     }
 }
 
-fn reader_of(rope: Rope) -> Result<RopeBuf, EncodeError> {
+fn reader_of(rope: Rope) -> Result<RopeBuf, Stop> {
     let (len, count) = (rope.len(), rope.segment_count());
     RopeBuf::from_rope(rope).map_err(|rope| handed_back(&rope, len, count))
 }
 
-fn shared(alloc: Global, bytes: &[u8]) -> Result<Bytes, EncodeError> {
+fn shared(alloc: Global, bytes: &[u8]) -> Result<Bytes, Stop> {
     Ok(Bytes::copy_from_slice(alloc, bytes)?)
 }
 
-fn short_long_short(alloc: Global) -> Result<Rope, EncodeError> {
+fn short_long_short(alloc: Global) -> Result<Rope, Stop> {
     let mut rope = Rope::with_min_segment(alloc, 4);
     rope.put_slice(b"ab")?;
     rope.put_shared(shared(alloc, b"cdefgh")?)?;
@@ -61,17 +45,17 @@ fn short_long_short(alloc: Global) -> Result<Rope, EncodeError> {
     Ok(rope)
 }
 
-fn long_run_stands_alone(alloc: Global) -> Result<bool, EncodeError> {
+fn long_run_stands_alone(alloc: Global) -> Result<bool, Stop> {
     has_segments(short_long_short(alloc)?, &[b"ab", b"cdefgh", b"ij"])
 }
 
-fn joined_copy(alloc: Global) -> Result<bool, EncodeError> {
+fn joined_copy(alloc: Global) -> Result<bool, Stop> {
     let rope = short_long_short(alloc)?;
     let joined = rope.to_contiguous_bytes()?;
     Ok(joined.as_slice() == b"abcdefghij".as_slice() && rope.len() == 10 && !rope.is_empty())
 }
 
-fn read_over_a_segment(alloc: Global) -> Result<bool, EncodeError> {
+fn read_over_a_segment(alloc: Global) -> Result<bool, Stop> {
     let mut buf = reader_of(short_long_short(alloc)?)?;
     if buf.remaining() != 10 || buf.chunk() != b"ab".as_slice() {
         return Ok(false);
@@ -80,7 +64,7 @@ fn read_over_a_segment(alloc: Global) -> Result<bool, EncodeError> {
     Ok(buf.remaining() == 7 && buf.chunk() == b"defgh".as_slice())
 }
 
-fn read_to_the_end(alloc: Global) -> Result<bool, EncodeError> {
+fn read_to_the_end(alloc: Global) -> Result<bool, Stop> {
     let mut buf = reader_of(short_long_short(alloc)?)?;
     if buf.remaining() != 10 {
         return Ok(false);
@@ -91,7 +75,7 @@ fn read_to_the_end(alloc: Global) -> Result<bool, EncodeError> {
     Ok(second && buf.remaining() == 0 && buf.chunk().is_empty())
 }
 
-fn short_puts_are_one_segment(alloc: Global) -> Result<bool, EncodeError> {
+fn short_puts_are_one_segment(alloc: Global) -> Result<bool, Stop> {
     let mut rope = Rope::with_min_segment(alloc, 16);
     rope.put_u8(1)?;
     rope.put_slice(b"abc")?;
@@ -103,13 +87,13 @@ fn short_puts_are_one_segment(alloc: Global) -> Result<bool, EncodeError> {
     )
 }
 
-fn no_bytes_are_no_segment(alloc: Global) -> Result<bool, EncodeError> {
+fn no_bytes_are_no_segment(alloc: Global) -> Result<bool, Stop> {
     let mut rope = Rope::with_min_segment(alloc, 16);
     rope.put_shared(Bytes::new())?;
     Ok(rope.is_empty() && has_segments(rope, &[])?)
 }
 
-fn least_minimum_is_one(alloc: Global) -> Result<bool, EncodeError> {
+fn least_minimum_is_one(alloc: Global) -> Result<bool, Stop> {
     let mut rope = Rope::with_min_segment(alloc, 0);
     rope.put_shared(shared(alloc, b"a")?)?;
     rope.put_shared(Bytes::new())?;
@@ -117,14 +101,14 @@ fn least_minimum_is_one(alloc: Global) -> Result<bool, EncodeError> {
     has_segments(rope, &[b"a", b"b"])
 }
 
-fn minimum_is_long_enough(alloc: Global) -> Result<bool, EncodeError> {
+fn minimum_is_long_enough(alloc: Global) -> Result<bool, Stop> {
     let mut rope = Rope::with_min_segment(alloc, 4);
     rope.put_shared(shared(alloc, b"abcd")?)?;
     rope.put_shared(shared(alloc, b"abc")?)?;
     has_segments(rope, &[b"abcd", b"abc"])
 }
 
-fn shorter_runs_are_joined(alloc: Global) -> Result<bool, EncodeError> {
+fn shorter_runs_are_joined(alloc: Global) -> Result<bool, Stop> {
     let mut rope = Rope::new(alloc);
     rope.put_shared(shared(alloc, b"abc")?)?;
     rope.put_shared(shared(alloc, &[b'd'; DEFAULT_MIN_SEGMENT - 1])?)?;
@@ -147,19 +131,19 @@ fn put_all<S: EncodeSink>(sink: &mut S) -> Result<(), EncodeError> {
     sink.put_shared(Bytes::from_static(b"cd"))
 }
 
-fn vec_takes_all(alloc: Global) -> Result<bool, EncodeError> {
+fn vec_takes_all(alloc: Global) -> Result<bool, Stop> {
     let mut sink = Vec::new(alloc);
     put_all(&mut sink)?;
     Ok(sink.as_slice() == ALL)
 }
 
-fn bytes_mut_takes_all(alloc: Global) -> Result<bool, EncodeError> {
+fn bytes_mut_takes_all(alloc: Global) -> Result<bool, Stop> {
     let mut sink = BytesMut::new(alloc);
     put_all(&mut sink)?;
     Ok(sink.as_slice() == ALL)
 }
 
-fn rope_takes_all(alloc: Global) -> Result<bool, EncodeError> {
+fn rope_takes_all(alloc: Global) -> Result<bool, Stop> {
     let mut sink = Rope::with_min_segment(alloc, 2);
     put_all(&mut sink)?;
     Ok(sink.segment_count() == 2 && sink.to_contiguous_bytes()?.as_slice() == ALL)
