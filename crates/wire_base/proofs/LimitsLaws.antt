@@ -3,7 +3,7 @@ use Rattle.std.proofs.Common.{◌≡◌, ℕ, ◌+◌, ◌≤◌, ◌<◌, ◌�
 use Rattle.std.proofs.lemmas.Bool.{cases_lt}
 use Rattle.wire_base.specs.Field.{Payload, varint, fixed64, fixed32, bytes, group, Fields, none, joined}
 use Rattle.wire_base.specs.Limits.{Limits, Charge, HasRoom, less, Fits, lowered, both, one_field, inner, outer, IsNoMore, NoCountGrew}
-use Rattle.wire_base.specs.Text.{payload_count, count, depth, payload_charge, charge}
+use Rattle.wire_base.specs.Text.{payload_count, count, payload_charge, charge}
 use Rattle.wire_base.proofs.JoinedLaws.{charge-joined}
 
 -- ---- one count

@@ -1,13 +1,11 @@
 -- The payload behind a tag, by its wire type.
-use Rattle.std.proofs.Common.{◌≡◌, ℕ, ◌+◌, ◌<◌, ◌≤◌, List, [], ◌∷◌, ◌++◌, length, take, drop, refl, sym, ap, subst, ◌∙◌, append_assoc, arith}
+use Rattle.std.proofs.Common.{◌≡◌, ℕ, ◌<◌, ◌≤◌, List, ◌++◌, length, take, drop, refl, sym, ap, subst, ◌∙◌, append_assoc, arith}
 use Rattle.std.specs.Int.{w32, w64, from_le_bytes}
-use Rattle.std.proofs.lemmas.List.{take-append-drop, length-take, length-append}
-use Rattle.wire_base.specs.declared.tag.WireType.{WireType}
+use Rattle.std.proofs.lemmas.List.{take-append-drop, length-take}
 use Rattle.wire_base.specs.declared.tag.WireType.TheVariants as types
-use Rattle.wire_base.specs.Field.{Payload, varint, fixed64, fixed32, bytes, group, Fields}
+use Rattle.wire_base.specs.Field.{varint, fixed64, fixed32, bytes, group, Fields}
 use Rattle.wire_base.specs.Limits.{Limits, Fits, one_field, inner, lowered}
 use Rattle.wire_base.specs.Read.{Reads}
-use Rattle.wire_base.specs.Spells.{SpellsPayload, Spells, IsPayload}
 use Rattle.wire_base.specs.Tag.{IsTagSpelling}
 use Rattle.wire_base.specs.Taken.{TakesPayload, TakesFields, TakesBody}
 use Rattle.wire_base.specs.Varint.{IsSpelling}

@@ -5,8 +5,8 @@ use Rattle.wire_base.specs.declared.error.DecodeError.{DecodeError}
 use Rattle.wire_base.specs.declared.error.DecodeError.TheVariants.{UnexpectedEof}
 use Rattle.wire_base.specs.declared.tag.WireType.{WireType}
 use Rattle.wire_base.specs.declared.tag.WireType.TheVariants as types
-use Rattle.wire_base.specs.Fault.{PayloadFault, ListFault, by_tag, no_varint, short_fixed64, short_fixed32, no_length, short_bytes, in_group}
-use Rattle.wire_base.specs.Field.{Payload, varint, fixed64, fixed32, bytes, group, Fields}
+use Rattle.wire_base.specs.Fault.{PayloadFault, ListFault, by_tag, short_fixed64, short_fixed32, short_bytes, in_group}
+use Rattle.wire_base.specs.Field.{Payload, varint, group, Fields}
 use Rattle.wire_base.specs.Limits.{Limits, Fits, one_field, inner, lowered, uncounted}
 use Rattle.wire_base.specs.Read.{Reads}
 use Rattle.wire_base.specs.Taken.{TakesPayload, TakesBody}

@@ -2,7 +2,7 @@
 use Rattle.std.proofs.Common.{◌≡◌, ℕ, List, sym, ap, ◌∙◌, subst}
 use Rattle.wire_base.specs.declared.tag.WireType.{WireType}
 use Rattle.wire_base.specs.Field.{Payload, Fields, none, push}
-use Rattle.wire_base.specs.Limits.{Limits, Charge, Fits, lowered, both}
+use Rattle.wire_base.specs.Limits.{Limits, Charge, Fits, lowered}
 use Rattle.wire_base.specs.Read.{Reads}
 use Rattle.wire_base.specs.Tag.{IsTagSpelling}
 use Rattle.wire_base.specs.Taken.{TakesPayload, TakesFields}

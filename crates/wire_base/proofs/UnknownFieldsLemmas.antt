@@ -5,12 +5,12 @@ use Rattle.std.specs.Prelude.{IsTrue, ◌↔◌}
 use Rattle.std.proofs.Math.ListN.{drop_of_length-le}
 use Rattle.std.proofs.Math.Seq.{drop-cons}
 use Rattle.wire_base.specs.declared.unknown_fields.UnknownField.{UnknownField}
-use Rattle.wire_base.specs.Field.{Payload, Fields, none, field, joined, push, count_top, type_of}
+use Rattle.wire_base.specs.Field.{Payload, Fields, none, field, joined, count_top, type_of}
 use Rattle.wire_base.specs.FieldsEq.{payload_eq, fields_eq}
 use Rattle.wire_base.specs.Tag.{tag_text}
 use Rattle.wire_base.specs.Text.{text, payload_text, record_text, count, payload_count}
 use Rattle.wire_base.specs.UnknownFields.{payload_of, fields_of, one_record}
-use Rattle.wire_base.proofs.JoinedLaws.{joined_assoc, joined-none}
+use Rattle.wire_base.proofs.JoinedLaws.{joined_assoc}
 
 pub count_top-fields_of : (fs : List UnknownField) → count_top (fields_of fs) ≡ length fs
 count_top-fields_of [] = refl

@@ -1,6 +1,6 @@
 -- What may still be taken, and what is taken: the levels of nesting, and the unknown fields. All that is
 -- known of budgets stands here, so that one more is an edit of this module.
-use Rattle.std.specs.Prelude.{◌≡◌, ℕ, ◌+◌, ◌-◌, ◌≤◌, ◌<◌, max, Option, Some, None}
+use Rattle.std.specs.Prelude.{ℕ, ◌+◌, ◌-◌, ◌≤◌, max, Option, Some, None}
 
 -- how much may still be taken; a count of none is no limit
 pub record Limits : Type 0 where

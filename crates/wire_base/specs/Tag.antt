@@ -1,5 +1,5 @@
 -- Tags: the varint of eight times a field number and a wire type.
-use Rattle.std.specs.Prelude.{◌≡◌, ℕ, ◌+◌, ◌*◌, ◌%◌, ◌^◌, ◌<◌, ◌≤◌, List, Option, Some, None, nat_lt, nat_le, if◌then◌else◌}
+use Rattle.std.specs.Prelude.{◌≡◌, ℕ, ◌+◌, ◌*◌, ◌%◌, ◌^◌, List, Option, Some, None, nat_lt, nat_le, if◌then◌else◌}
 use Rattle.wire_base.specs.declared.error.DecodeError.{DecodeError}
 use Rattle.wire_base.specs.declared.error.DecodeError.TheVariants.{InvalidWireType, InvalidFieldNumber}
 use Rattle.wire_base.specs.declared.tag.WireType.{WireType}

@@ -1,5 +1,5 @@
 -- The shortest text of records, and how much they nest and count.
-use Rattle.std.specs.Prelude.{ℕ, suc, ◌+◌, max, List, [], ◌++◌, length}
+use Rattle.std.specs.Prelude.{ℕ, ◌+◌, max, List, [], ◌++◌, length}
 use Rattle.std.specs.Int.{w32, w64, to_le_bytes}
 use Rattle.wire_base.specs.declared.tag.WireType.TheVariants.{EndGroup}
 use Rattle.wire_base.specs.Field.{Payload, varint, fixed64, fixed32, bytes, group, Fields, none, field, type_of}

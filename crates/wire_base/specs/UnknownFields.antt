@@ -1,5 +1,5 @@
 -- Unknown fields as records.
-use Rattle.std.specs.Prelude.{ℕ, List, [], ◌∷◌}
+use Rattle.std.specs.Prelude.{List, [], ◌∷◌}
 use Rattle.wire_base.specs.declared.unknown_fields.UnknownField.{UnknownField}
 use Rattle.wire_base.specs.declared.unknown_fields.UnknownFieldData.{UnknownFieldData}
 use Rattle.wire_base.specs.declared.unknown_fields.UnknownFieldData.TheVariants.{Varint, Fixed64, Fixed32, LengthDelimited, Group}

@@ -1,5 +1,5 @@
 -- A group counts more than the records in it: what a recursion into unknown fields goes by.
-use Rattle.std.specs.Prelude.{ℕ, ◌+◌, ◌≤◌, List, [], ◌∷◌}
+use Rattle.std.specs.Prelude.{◌≤◌, List, [], ◌∷◌}
 use Rattle.std.proofs.Common.{arith}
 use denote.Param.Weighed.{most}
 use Rattle.wire_base.specs.declared.unknown_fields.UnknownField.{UnknownField}

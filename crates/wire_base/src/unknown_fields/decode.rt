@@ -20,38 +20,38 @@ use bytes::Buf;
 use std::alloc::Global;
 
 impl UnknownFields {
-    /// Reads all of the data as records, in which groups nest at most `RECURSION_LIMIT` deep and which are
+    /// Reads all of the bytes as records, in which groups nest at most `RECURSION_LIMIT` deep and which are
     /// at most `DEFAULT_UNKNOWN_FIELD_LIMIT`, those in groups counted.
-    pub fn decode_from_slice(alloc: Global, data: &[u8]) -> Result<UnknownFields, DecodeError>
-        ensures spelled { IfOk result (λ fs. Spells fs data.now) }
+    pub fn decode_from_slice(alloc: Global, bytes: &[u8]) -> Result<UnknownFields, DecodeError>
+        ensures spelled { IfOk result (λ fs. Spells fs bytes.now) }
         ensures within { IfOk result (λ fs.
             Fits (charge fs) (counted RECURSION_LIMIT DEFAULT_UNKNOWN_FIELD_LIMIT)) }
         ensures fault { IfErr result (λ e. (e ≡ OutOfMemory)
-            ⊎ ListFault (counted RECURSION_LIMIT DEFAULT_UNKNOWN_FIELD_LIMIT) by_input data.now e) }
+            ⊎ ListFault (counted RECURSION_LIMIT DEFAULT_UNKNOWN_FIELD_LIMIT) by_input bytes.now e) }
 
-        // What the data spells within the limits is what is read, unless memory runs out.
-        ensures only { (fs : Fields) → Spells fs data.now
+        // What the bytes spell within the limits is what is read, unless memory runs out.
+        ensures only { (fs : Fields) → Spells fs bytes.now
             → Fits (charge fs) (counted RECURSION_LIMIT DEFAULT_UNKNOWN_FIELD_LIMIT)
             → MatchResult result (λ read. read ≡ fs) (λ e. e ≡ OutOfMemory) }
     {
         let mut context = DecodeContext::new(RECURSION_LIMIT, DEFAULT_UNKNOWN_FIELD_LIMIT);
-        decode_all(alloc, data, &mut context)
+        decode_all(alloc, bytes, &mut context)
     }
 }
 
-// Reads all of the data as records.
+// Reads all of the bytes as records.
 fn decode_all(
     alloc: Global,
-    data: &[u8],
+    bytes: &[u8],
     context: &mut DecodeContext,
 ) -> Result<UnknownFields, DecodeError>
-    ensures spelled { IfOk result (λ fs. Spells fs data.now) }
+    ensures spelled { IfOk result (λ fs. Spells fs bytes.now) }
     ensures within { IfOk result (λ fs. Fits (charge fs) context.old) }
     ensures charged { IfOk result (λ fs. context.new ≡ lowered context.old (charge fs)) }
-    ensures fault { IfErr result (λ e. (e ≡ OutOfMemory) ⊎ ListFault context.old by_input data.now e) }
+    ensures fault { IfErr result (λ e. (e ≡ OutOfMemory) ⊎ ListFault context.old by_input bytes.now e) }
     ensures counts { OnErr result (NoCountGrew context.old context.new) }
 {
-    let mut buf = data;
+    let mut buf = bytes;
     let mut fields = UnknownFields::new(alloc);
     while !buf.is_empty() {
         let tag = Tag::decode(&mut buf)?;

@@ -1,11 +1,7 @@
-use Rattle.std.proofs.Common.{◌≡◌, ◌≢◌, ℕ, refl, sym, ap, ◌∙◌, arith}
+use Rattle.std.proofs.Common.{sym, ◌∙◌, arith}
 use Rattle.std.proofs.lemmas.Result.{err_from_is_err_and}
-use Rattle.wire_base.specs.declared.tag.WireType.{WireType}
-use Rattle.wire_base.specs.declared.tag.WireType.TheVariants as types
 use Rattle.wire_base.specs.Fault.{by_tag, no_varint, no_length, no_level, end_outside, bad_tag, other_end, bad_payload}
 use Rattle.wire_base.specs.Field.{none, push}
-use Rattle.wire_base.specs.Read.{Reads}
-use Rattle.wire_base.specs.Tag.{IsTagSpelling}
 use Rattle.wire_base.proofs.Payloads.{takes_body}
 use Rattle.wire_base.proofs.Skips.{skips_varint, skips_fixed64, stops_fixed64, skips_fixed32, stops_fixed32, skips_bytes, stops_bytes, skips_group, stops_group, uncounted_slot}
 use Rattle.wire_base.proofs.Takes.{takes_none, takes_push}

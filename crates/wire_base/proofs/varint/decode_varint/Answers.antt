@@ -1,7 +1,5 @@
-use Rattle.std.proofs.Common.{◌≡◌, ℕ, List, sym, subst, arith}
+use Rattle.std.proofs.Common.{◌≡◌, arith}
 use Rattle.std.proofs.lemmas.Result.{err_from_is_err_and}
-use Rattle.wire_base.specs.Read.{Reads}
-use Rattle.wire_base.specs.Varint.{IsSpelling}
 use Rattle.wire_base.proofs.Varints.{ReadSoFar-more, ReadSoFar-ends, ReadSoFar-fits, ReadSoFar-tenth, ReadSoFar-cut_short, ReadSoFar-too_long, joined_value, tenth_value}
 use Rattle.wire_base.proofs.varint.decode_varint.Goals as goal
 

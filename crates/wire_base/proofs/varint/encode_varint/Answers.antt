@@ -1,6 +1,6 @@
-use Rattle.std.proofs.Common.{◌≡◌, ℕ, ◌+◌, ◌%◌, [], ◌∷◌, length, ap, arith}
+use Rattle.std.proofs.Common.{◌+◌, ◌%◌, [], ◌∷◌, length, ap, arith}
 use Rattle.std.proofs.lemmas.Result.{err_from_is_err_and}
-use Rattle.wire_base.proofs.Sinks.{Written-none, Written-more, Written-ok, Written-stops, Written-total, refused_put, last_put}
+use Rattle.wire_base.proofs.Sinks.{Written-more, Written-ok, Written-total, refused_put, last_put}
 use Rattle.wire_base.proofs.Varints.{shortest-last, shortest-more}
 use Rattle.wire_base.proofs.varint.encode_varint.Goals as goal
 

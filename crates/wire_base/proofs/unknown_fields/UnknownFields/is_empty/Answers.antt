@@ -1,4 +1,4 @@
-use Rattle.std.proofs.Common.{◌≡◌, ap, ◌∙◌, eqb}
+use Rattle.std.proofs.Common.{ap, ◌∙◌, eqb}
 use Rattle.wire_base.proofs.UnknownFieldsLemmas.{is_empty-fields_of}
 use Rattle.wire_base.proofs.unknown_fields.UnknownFields.is_empty.Goals as goal
 

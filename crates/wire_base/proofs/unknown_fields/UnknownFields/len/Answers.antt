@@ -1,4 +1,4 @@
-use Rattle.std.proofs.Common.{◌≡◌, sym, ap, ◌∙◌}
+use Rattle.std.proofs.Common.{sym, ap, ◌∙◌}
 use Rattle.wire_base.specs.Field.{count_top}
 use Rattle.wire_base.proofs.UnknownFieldsLemmas.{count_top-fields_of}
 use Rattle.wire_base.proofs.unknown_fields.UnknownFields.len.Goals as goal

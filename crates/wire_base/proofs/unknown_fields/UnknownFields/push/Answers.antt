@@ -1,6 +1,6 @@
-use Rattle.std.proofs.Common.{◌≡◌, ap, ◌∙◌, [], ◌∷◌}
+use Rattle.std.proofs.Common.{ap, ◌∙◌, [], ◌∷◌}
 use Rattle.wire_base.specs.Field.{Fields, push}
-use Rattle.wire_base.specs.UnknownFields.{payload_of, fields_of}
+use Rattle.wire_base.specs.UnknownFields.{payload_of}
 use Rattle.wire_base.proofs.UnknownFieldsLemmas.{fields_of-append}
 use Rattle.wire_base.proofs.unknown_fields.UnknownFields.push.Goals as goal
 use Rattle.wire_base.proofs.unknown_fields.UnknownFields.push.Goals.{in-Ok, in-Err}

@@ -1,5 +1,5 @@
-use Rattle.std.proofs.Common.{◌≡◌, sym, ap, ◌∙◌, arith}
-use Rattle.wire_base.specs.Field.{Fields, joined}
+use Rattle.std.proofs.Common.{sym, ap, ◌∙◌}
+use Rattle.wire_base.specs.Field.{joined}
 use Rattle.wire_base.specs.UnknownFields.{fields_of}
 use Rattle.wire_base.proofs.JoinedLaws.{joined-none}
 use Rattle.wire_base.proofs.UnknownFieldsLemmas.{joined-copy, fields_of-end}

@@ -1,4 +1,4 @@
-use Rattle.std.proofs.Common.{◌≡◌, length, refl, sym, ap, ◌∙◌, arith}
+use Rattle.std.proofs.Common.{refl, sym, ◌∙◌, arith}
 use Rattle.wire_base.specs.FieldsEq.{fields_eq}
 use Rattle.wire_base.proofs.UnknownFieldsLemmas.{fields_eq-length, fields_eq-more, fields_eq-other, fields_of-end}
 use Rattle.wire_base.proofs.unknown_fields.compare.+eq.Goals as goal

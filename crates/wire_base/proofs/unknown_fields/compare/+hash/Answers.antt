@@ -1,4 +1,4 @@
-use Rattle.std.proofs.Common.{◌≡◌, refl, sym, ◌∙◌}
+use Rattle.std.proofs.Common.{refl, sym, ◌∙◌}
 use Rattle.wire_base.proofs.UnknownFieldsLemmas.{count_top-fields_of}
 use Rattle.wire_base.proofs.unknown_fields.compare.+hash.Goals as goal
 

@@ -1,12 +1,11 @@
-use Rattle.std.proofs.Common.{◌≡◌, ◌≢◌, ℕ, List, refl, sym, ap, ◌∙◌, inl, inr, ⊎_elim, arith}
+use Rattle.std.proofs.Common.{sym, ap, ◌∙◌, inl, inr, ⊎_elim}
 use Rattle.std.proofs.lemmas.Result.{err_from_is_err_and}
-use Rattle.wire_base.specs.declared.tag.WireType.TheVariants as types
 use Rattle.wire_base.specs.Fault.{by_tag, no_slot, no_varint, short_fixed64, short_fixed32, no_length, short_bytes, no_level, in_group, end_outside, bad_tag, other_end, bad_payload}
 use Rattle.wire_base.specs.Limits.{Limits, lowered}
 use Rattle.wire_base.specs.UnknownFields.{payload_of}
 use Rattle.wire_base.specs.Text.{charge, payload_charge}
 use Rattle.wire_base.proofs.LimitsLaws.{NoCountGrew-lowered}
-use Rattle.wire_base.proofs.Payloads.{takes_varint, takes_fixed64, takes_fixed32, takes_bytes, takes_group, takes_body}
+use Rattle.wire_base.proofs.Payloads.{takes_bytes, takes_body}
 use Rattle.wire_base.proofs.Takes.{takes_push, lowered-push}
 use Rattle.wire_base.proofs.Results.{at_ok}
 use Rattle.wire_base.proofs.unknown_fields.decode.+decode.Goals as goal

@@ -6,7 +6,7 @@ use Rattle.wire_base.proofs.unknown_fields.decode.decode_all.Given as goal
 
 abbrev pub invariant-loop-buf : goal.invariant-loop-buf
 invariant-loop-buf l = record {
-  so_far : TakesFields l.fn.context l.fields l.fn.data l.buf;
+  so_far : TakesFields l.fn.context l.fields l.fn.bytes l.buf;
   context : l.context ≡ lowered l.fn.context (charge l.fields);
 }
 
