@@ -1,6 +1,8 @@
-//! Worked rows over several crates, as tests. Each is a check that can be run while memory is refused, too.
+//! Worked rows over several crates, as tests, and short proved callers. Each row is a check that can be
+//! run while memory is refused, too.
 #![tactic(auto)]
 
+pub mod callers;
 #[cfg(test)]
 mod chunks;
 #[cfg(test)]

@@ -1,0 +1,36 @@
+//! Short callers of the crates below, proved. The README shows them.
+ghost use Rattle.std.specs.Prelude.{◌≡◌, ◌++◌, OnOk, IfOk, IfErr};
+ghost use Rattle.wire_base.specs.Fault.{ListFault, by_tag};
+ghost use Rattle.wire_base.specs.FieldNumber.{IsFieldNumber};
+ghost use Rattle.wire_base.specs.Limits.{uncounted};
+ghost use Rattle.wire_base.specs.Tag.{TagFault};
+ghost use Rattle.wire_base.specs.Varint.{shortest};
+
+use wire_base::{DecodeError, EncodeError, EncodeSink, Tag, encode_varint};
+use wire_scalar::borrow_group;
+
+/// The field number of the first record.
+pub fn first_number(bytes: &[u8]) -> Result<u32, DecodeError>
+    ensures in_range { IfOk result (λ number. IsFieldNumber number) }
+    ensures fault { IfErr result (TagFault bytes.now) }
+{
+    let mut rest = bytes;
+    let tag = Tag::decode(&mut rest)?;
+    Ok(tag.field_number())
+}
+
+/// Writes two numbers as the shortest varints.
+pub fn put_pair<S: EncodeSink>(first: u64, second: u64, sink: &mut S) -> Result<(), EncodeError>
+    ensures ok { OnOk result (S.held sink.new ≡ (S.held sink.old ++ shortest first) ++ shortest second) }
+{
+    encode_varint(first, sink)?;
+    encode_varint(second, sink)
+}
+
+/// The body of a group whose start tag was read. Groups in it nest at most 10 deep.
+pub fn body_of(bytes: &[u8], number: u32) -> Result<&[u8], DecodeError>
+    ensures fault { IfErr result (ListFault (uncounted 10) (by_tag number) bytes.now) }
+{
+    let mut rest = bytes;
+    borrow_group(&mut rest, number, 10)
+}
