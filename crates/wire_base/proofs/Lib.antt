@@ -19,3 +19,4 @@ pub mod TextLaws
 pub mod UnknownFieldsLemmas
 pub mod VarintLaws
 pub mod Varints
+pub mod Writes

@@ -1,6 +1,7 @@
 -- What holds of the definitions themselves. Each statement is proved as the contract of a law of src/laws.rt.
-use Rattle.std.specs.Prelude.{◌≡◌, ℕ, ◌+◌, ◌^◌, ◌<◌, ◌≤◌, ◌⊎◌, ◌↔◌, List, [], ◌++◌, length, All}
+use Rattle.std.specs.Prelude.{◌≡◌, ℕ, ◌+◌, ◌^◌, ◌<◌, ◌≤◌, ◌⊎◌, ◌↔◌, List, [], ◌++◌, length, All, Option, Result, Ok, Err}
 use Rattle.wire_base.specs.declared.error.DecodeError.{DecodeError}
+use Rattle.wire_base.specs.declared.error.EncodeError.{EncodeError}
 use Rattle.wire_base.specs.declared.tag.WireType.{WireType}
 use Rattle.wire_base.specs.Field.{Payload, group, Fields, none, field, type_of, joined, count_top, push}
 use Rattle.wire_base.specs.Fault.{Ending, by_input, by_tag, PayloadFault, ListFault}
@@ -9,6 +10,7 @@ use Rattle.wire_base.specs.InRange.{AreInRange}
 use Rattle.wire_base.specs.Limits.{Limits, Fits, both, lowered}
 use Rattle.wire_base.specs.Taken.{TakesPayload, TakesFields}
 use Rattle.wire_base.specs.Read.{Reads}
+use Rattle.wire_base.specs.Sink.{PutAnswers, WriteAnswers, KeepsFront}
 use Rattle.wire_base.specs.Spells.{SpellsPayload, Spells, IsPayload}
 use Rattle.wire_base.specs.Text.{text, payload_charge, charge}
 use Rattle.wire_base.specs.Tag.{IsTagSpelling, tag_text, TagFault}
@@ -134,3 +136,18 @@ ListOrFaultStands = (l : Limits) (bytes : List ℕ) → ((fs : Fields) × Spells
 abbrev pub BodyOrFaultStands : Type 0
 BodyOrFaultStands = (l : Limits) (n : ℕ) (bytes : List ℕ)
     → ((fs : Fields) × (rest : List ℕ) × Reads bytes (SpellsPayload n (group fs)) rest × Fits (charge fs) l) ⊎ ((e : DecodeError) × ListFault l (by_tag n) bytes e)
+
+-- ---- writes
+
+-- a text in two parts, of which the second is written once the first is
+pub record TwoParts : Type 0 where
+  pub front : (old first second new : List ℕ) → KeepsFront old first new → KeepsFront old (first ++ second) new
+  pub behind : (old first second mid new : List ℕ) → mid ≡ old ++ first → KeepsFront mid second new → KeepsFront old (first ++ second) new
+  pub refused : (most : Option ℕ) (old first second : List ℕ) (e : EncodeError) → WriteAnswers most old first (Err e) → WriteAnswers most old (first ++ second) (Err e)
+  pub answer : (most : Option ℕ) (old first second mid : List ℕ) (done : Unit {0}) (r : Result (Unit {0}) EncodeError) → mid ≡ old ++ first → WriteAnswers most old first (Ok done)
+      → WriteAnswers most mid second r → WriteAnswers most old (first ++ second) r
+
+-- a put of a text, which is written whole or not at all
+pub record PutIsWrite : Type 0 where
+  pub front : (old text new : List ℕ) → new ≡ old → KeepsFront old text new
+  pub answer : (most : Option ℕ) (old text : List ℕ) (r : Result (Unit {0}) EncodeError) → PutAnswers most (length old + length text) r → WriteAnswers most old text r

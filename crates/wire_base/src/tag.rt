@@ -7,8 +7,10 @@ use crate::error::{DecodeError, EncodeError};
 use crate::varint::decode_varint;
 use bytes::Buf;
 
+mod check;
 mod put;
 
+pub use check::{check_wire_type, wire_type_mismatch};
 pub(crate) use put::{put_tag, tag_len};
 
 /// The greatest field number.

@@ -1,5 +1,5 @@
 //! Numbers to the base 128, in one to ten bytes.
-ghost use Rattle.std.specs.Prelude.{◌≡◌, [], ◌∷◌, ◌++◌, length, OnOk, OnErr, IfOk, IfErr};
+ghost use Rattle.std.specs.Prelude.{◌≡◌, [], ◌∷◌, ◌++◌, length, count_by, nat_lt, OnOk, OnErr, IfOk, IfErr};
 ghost use Rattle.wire_base.specs.declared.error.DecodeError.TheVariants.{UnexpectedEof};
 ghost use Rattle.wire_base.specs.Read.{Reads};
 ghost use Rattle.wire_base.specs.Sink.{KeepsFront, WriteAnswers};
@@ -48,6 +48,13 @@ pub fn decode_varint<B: Buf>(buf: &mut B) -> Result<u64, DecodeError>
         return Err(DecodeError::VarintTooLong);
     }
     Ok(value | u64::from(byte) << 63)
+}
+
+/// How many varints end in the bytes: the number of bytes below 0x80.
+pub fn count_varints(payload: &[u8]) -> usize
+    ensures { result ≡ count_by (λ byte. nat_lt byte 128) payload.now }
+{
+    payload.iter().filter(|byte| **byte < 0x80).count()
 }
 
 // Takes the byte at the front, if there is one.
