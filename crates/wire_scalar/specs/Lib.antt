@@ -1,3 +1,4 @@
 pub mod Borrow
 pub mod Packed
+pub mod Reading
 pub mod ValueMap

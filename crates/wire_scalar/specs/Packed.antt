@@ -1,14 +1,33 @@
--- Packed payloads: the numbers of many elements, one after another.
-use Rattle.std.specs.Prelude.{◌≡◌, ℕ, List, [], ◌∷◌, ◌++◌, length}
-use Rattle.std.specs.Int.{Width, byte_len, from_le_bytes}
-use Rattle.wire_base.specs.Varint.{IsSpelling}
+-- Packed payloads: the texts of many elements, one after another.
+use Rattle.std.specs.Prelude.{◌≡◌, ◌≢◌, ℕ, List, [], ◌∷◌, ◌++◌, map}
+use Rattle.wire_base.specs.declared.error.DecodeError.{DecodeError}
+use Rattle.wire_base.specs.Varint.{VarintFault}
+use Rattle.wire_scalar.specs.Reading.{IsVarint}
+use Rattle.wire_scalar.specs.ValueMap.{ValueMap}
 
--- the text is a varint of each number, in order
-abbrev pub SpellsVarints : List ℕ → List ℕ → Type 0
-SpellsVarints [] text = text ≡ []
-SpellsVarints (v ∷ vs) text = (one : List ℕ) × (more : List ℕ) × (text ≡ one ++ more) × IsSpelling one v × SpellsVarints vs more
+-- the text is a text of each number, in order
+abbrev pub SpellsEach : (ℕ → List ℕ → Type 0) → List ℕ → List ℕ → Type 0
+SpellsEach IsText [] text = text ≡ []
+SpellsEach IsText (x ∷ xs) text = (one : List ℕ) × (more : List ℕ) × (text ≡ one ++ more) × IsText x one × SpellsEach IsText xs more
 
--- the text is each number in so many bytes, the lowest first, in order
-abbrev pub SpellsFixed : Width → List ℕ → List ℕ → Type 0
-SpellsFixed width [] text = text ≡ []
-SpellsFixed width (x ∷ xs) text = (one : List ℕ) × (more : List ℕ) × (text ≡ one ++ more) × (length one ≡ byte_len width) × (from_le_bytes width one ≡ x) × SpellsFixed width xs more
+-- the payload is a text of each of some numbers, and their values stand in after behind before
+pub record Appends {T : Type 0} (IsText : ℕ → List ℕ → Type 0) (values : ValueMap T) (payload : List ℕ) (before after : List T) : Type 0 where
+  pub numbers : List ℕ
+  pub spelled : SpellsEach IsText numbers payload
+  pub appended : after ≡ before ++ map values.dec numbers
+
+-- the same for a front of the payload
+pub record AppendsFront {T : Type 0} (IsText : ℕ → List ℕ → Type 0) (values : ValueMap T) (payload : List ℕ) (before after : List T) : Type 0 where
+  pub front : List ℕ
+  pub rest : List ℕ
+  pub parts : payload ≡ front ++ rest
+  pub appended : Appends IsText values front before after
+
+-- the elements before the first that is no varint are appended; the error says why it is none
+pub record StopsAtFault {T : Type 0} (values : ValueMap T) (payload : List ℕ) (before after : List T) (e : DecodeError) : Type 0 where
+  pub front : List ℕ
+  pub rest : List ℕ
+  pub parts : payload ≡ front ++ rest
+  pub appended : Appends IsVarint values front before after
+  pub more : rest ≢ []
+  pub fault : VarintFault rest e

@@ -1,0 +1,223 @@
+//! Fields written one by one: a tag and its payload.
+ghost use Rattle.std.specs.Prelude.{◌≡◌, ◌++◌, OnOk, OnErr};
+ghost use Rattle.wire_base.specs.declared.tag.WireType.TheVariants.{LengthDelimited, StartGroup, EndGroup};
+ghost use Rattle.wire_base.specs.Field.{varint, fixed32 as four_bytes, fixed64 as eight_bytes};
+ghost use Rattle.wire_base.specs.FieldNumber.{IsFieldNumber};
+ghost use Rattle.wire_base.specs.Sink.{KeepsFront, WriteAnswers};
+ghost use Rattle.wire_base.specs.Tag.{tag_text};
+ghost use Rattle.wire_base.specs.Text.{record_text};
+ghost use Rattle.wire_base.specs.Varint.{shortest};
+ghost use Rattle.wire_scalar.specs.ValueMap.{int32, int64, uint32, uint64, sint32, sint64, bool, fixed32, fixed64, sfixed32, sfixed64};
+
+use crate::fixed::{encode_fixed32, encode_fixed64};
+use crate::scalar::{Bool, Int32, Int64, Sint32, Sint64, Uint32, Uint64, VarintScalar};
+use wire_base::{EncodeError, EncodeSink, Tag, WireType, encode_varint, laws};
+
+/// Writes a field of type `int32`.
+pub fn put_int32_field<S: EncodeSink>(
+    number: u32,
+    value: i32,
+    sink: &mut S,
+) -> Result<(), EncodeError>
+    requires { IsFieldNumber number }
+    ensures ok { OnOk result (S.held sink.new ≡ S.held sink.old ++ record_text number (varint (int32.enc value))) }
+    ensures err { OnErr result (KeepsFront (S.held sink.old) (record_text number (varint (int32.enc value))) (S.held sink.new)) }
+    ensures cause { WriteAnswers S.most (S.held sink.old) (record_text number (varint (int32.enc value))) result }
+{
+    put_varint(number, WireType::Varint, Int32::number_of(value), sink)
+}
+
+/// Writes a field of type `int64`.
+pub fn put_int64_field<S: EncodeSink>(
+    number: u32,
+    value: i64,
+    sink: &mut S,
+) -> Result<(), EncodeError>
+    requires { IsFieldNumber number }
+    ensures ok { OnOk result (S.held sink.new ≡ S.held sink.old ++ record_text number (varint (int64.enc value))) }
+    ensures err { OnErr result (KeepsFront (S.held sink.old) (record_text number (varint (int64.enc value))) (S.held sink.new)) }
+    ensures cause { WriteAnswers S.most (S.held sink.old) (record_text number (varint (int64.enc value))) result }
+{
+    put_varint(number, WireType::Varint, Int64::number_of(value), sink)
+}
+
+/// Writes a field of type `uint32`.
+pub fn put_uint32_field<S: EncodeSink>(
+    number: u32,
+    value: u32,
+    sink: &mut S,
+) -> Result<(), EncodeError>
+    requires { IsFieldNumber number }
+    ensures ok { OnOk result (S.held sink.new ≡ S.held sink.old ++ record_text number (varint (uint32.enc value))) }
+    ensures err { OnErr result (KeepsFront (S.held sink.old) (record_text number (varint (uint32.enc value))) (S.held sink.new)) }
+    ensures cause { WriteAnswers S.most (S.held sink.old) (record_text number (varint (uint32.enc value))) result }
+{
+    put_varint(number, WireType::Varint, Uint32::number_of(value), sink)
+}
+
+/// Writes a field of type `uint64`.
+pub fn put_uint64_field<S: EncodeSink>(
+    number: u32,
+    value: u64,
+    sink: &mut S,
+) -> Result<(), EncodeError>
+    requires { IsFieldNumber number }
+    ensures ok { OnOk result (S.held sink.new ≡ S.held sink.old ++ record_text number (varint (uint64.enc value))) }
+    ensures err { OnErr result (KeepsFront (S.held sink.old) (record_text number (varint (uint64.enc value))) (S.held sink.new)) }
+    ensures cause { WriteAnswers S.most (S.held sink.old) (record_text number (varint (uint64.enc value))) result }
+{
+    put_varint(number, WireType::Varint, Uint64::number_of(value), sink)
+}
+
+/// Writes a field of type `sint32`.
+pub fn put_sint32_field<S: EncodeSink>(
+    number: u32,
+    value: i32,
+    sink: &mut S,
+) -> Result<(), EncodeError>
+    requires { IsFieldNumber number }
+    ensures ok { OnOk result (S.held sink.new ≡ S.held sink.old ++ record_text number (varint (sint32.enc value))) }
+    ensures err { OnErr result (KeepsFront (S.held sink.old) (record_text number (varint (sint32.enc value))) (S.held sink.new)) }
+    ensures cause { WriteAnswers S.most (S.held sink.old) (record_text number (varint (sint32.enc value))) result }
+{
+    put_varint(number, WireType::Varint, Sint32::number_of(value), sink)
+}
+
+/// Writes a field of type `sint64`.
+pub fn put_sint64_field<S: EncodeSink>(
+    number: u32,
+    value: i64,
+    sink: &mut S,
+) -> Result<(), EncodeError>
+    requires { IsFieldNumber number }
+    ensures ok { OnOk result (S.held sink.new ≡ S.held sink.old ++ record_text number (varint (sint64.enc value))) }
+    ensures err { OnErr result (KeepsFront (S.held sink.old) (record_text number (varint (sint64.enc value))) (S.held sink.new)) }
+    ensures cause { WriteAnswers S.most (S.held sink.old) (record_text number (varint (sint64.enc value))) result }
+{
+    put_varint(number, WireType::Varint, Sint64::number_of(value), sink)
+}
+
+/// Writes a field of type `bool`.
+pub fn put_bool_field<S: EncodeSink>(
+    number: u32,
+    value: bool,
+    sink: &mut S,
+) -> Result<(), EncodeError>
+    requires { IsFieldNumber number }
+    ensures ok { OnOk result (S.held sink.new ≡ S.held sink.old ++ record_text number (varint (bool.enc value))) }
+    ensures err { OnErr result (KeepsFront (S.held sink.old) (record_text number (varint (bool.enc value))) (S.held sink.new)) }
+    ensures cause { WriteAnswers S.most (S.held sink.old) (record_text number (varint (bool.enc value))) result }
+{
+    put_varint(number, WireType::Varint, Bool::number_of(value), sink)
+}
+
+/// Writes a field of type `fixed32`.
+pub fn put_fixed32_field<S: EncodeSink>(
+    number: u32,
+    value: u32,
+    sink: &mut S,
+) -> Result<(), EncodeError>
+    requires { IsFieldNumber number }
+    ensures ok { OnOk result (S.held sink.new ≡ S.held sink.old ++ record_text number (four_bytes (fixed32.enc value))) }
+    ensures err { OnErr result (KeepsFront (S.held sink.old) (record_text number (four_bytes (fixed32.enc value))) (S.held sink.new)) }
+    ensures cause { WriteAnswers S.most (S.held sink.old) (record_text number (four_bytes (fixed32.enc value))) result }
+{
+    laws::two_parts();
+    Tag::new(number, WireType::Fixed32).encode(sink)?;
+    encode_fixed32(value, sink)
+}
+
+/// Writes a field of type `fixed64`.
+pub fn put_fixed64_field<S: EncodeSink>(
+    number: u32,
+    value: u64,
+    sink: &mut S,
+) -> Result<(), EncodeError>
+    requires { IsFieldNumber number }
+    ensures ok { OnOk result (S.held sink.new ≡ S.held sink.old ++ record_text number (eight_bytes (fixed64.enc value))) }
+    ensures err { OnErr result (KeepsFront (S.held sink.old) (record_text number (eight_bytes (fixed64.enc value))) (S.held sink.new)) }
+    ensures cause { WriteAnswers S.most (S.held sink.old) (record_text number (eight_bytes (fixed64.enc value))) result }
+{
+    laws::two_parts();
+    Tag::new(number, WireType::Fixed64).encode(sink)?;
+    encode_fixed64(value, sink)
+}
+
+/// Writes a field of type `sfixed32`.
+pub fn put_sfixed32_field<S: EncodeSink>(
+    number: u32,
+    value: i32,
+    sink: &mut S,
+) -> Result<(), EncodeError>
+    requires { IsFieldNumber number }
+    ensures ok { OnOk result (S.held sink.new ≡ S.held sink.old ++ record_text number (four_bytes (sfixed32.enc value))) }
+    ensures err { OnErr result (KeepsFront (S.held sink.old) (record_text number (four_bytes (sfixed32.enc value))) (S.held sink.new)) }
+    ensures cause { WriteAnswers S.most (S.held sink.old) (record_text number (four_bytes (sfixed32.enc value))) result }
+{
+    put_fixed32_field(number, value.cast_unsigned(), sink)
+}
+
+/// Writes a field of type `sfixed64`.
+pub fn put_sfixed64_field<S: EncodeSink>(
+    number: u32,
+    value: i64,
+    sink: &mut S,
+) -> Result<(), EncodeError>
+    requires { IsFieldNumber number }
+    ensures ok { OnOk result (S.held sink.new ≡ S.held sink.old ++ record_text number (eight_bytes (sfixed64.enc value))) }
+    ensures err { OnErr result (KeepsFront (S.held sink.old) (record_text number (eight_bytes (sfixed64.enc value))) (S.held sink.new)) }
+    ensures cause { WriteAnswers S.most (S.held sink.old) (record_text number (eight_bytes (sfixed64.enc value))) result }
+{
+    put_fixed64_field(number, value.cast_unsigned(), sink)
+}
+
+/// Writes what stands before a length-delimited payload: its tag and its length.
+pub fn put_len_delimited_header<S: EncodeSink>(
+    number: u32,
+    len: u64,
+    sink: &mut S,
+) -> Result<(), EncodeError>
+    requires { IsFieldNumber number }
+    ensures ok { OnOk result (S.held sink.new ≡ S.held sink.old ++ tag_text number LengthDelimited ++ shortest len) }
+    ensures err { OnErr result (KeepsFront (S.held sink.old) (tag_text number LengthDelimited ++ shortest len) (S.held sink.new)) }
+    ensures cause { WriteAnswers S.most (S.held sink.old) (tag_text number LengthDelimited ++ shortest len) result }
+{
+    put_varint(number, WireType::LengthDelimited, len, sink)
+}
+
+/// Writes the tag that begins a group.
+pub fn put_group_start<S: EncodeSink>(number: u32, sink: &mut S) -> Result<(), EncodeError>
+    requires { IsFieldNumber number }
+    ensures ok { OnOk result (S.held sink.new ≡ S.held sink.old ++ tag_text number StartGroup) }
+    ensures err { OnErr result (KeepsFront (S.held sink.old) (tag_text number StartGroup) (S.held sink.new)) }
+    ensures cause { WriteAnswers S.most (S.held sink.old) (tag_text number StartGroup) result }
+{
+    Tag::new(number, WireType::StartGroup).encode(sink)
+}
+
+/// Writes the tag that ends a group.
+pub fn put_group_end<S: EncodeSink>(number: u32, sink: &mut S) -> Result<(), EncodeError>
+    requires { IsFieldNumber number }
+    ensures ok { OnOk result (S.held sink.new ≡ S.held sink.old ++ tag_text number EndGroup) }
+    ensures err { OnErr result (KeepsFront (S.held sink.old) (tag_text number EndGroup) (S.held sink.new)) }
+    ensures cause { WriteAnswers S.most (S.held sink.old) (tag_text number EndGroup) result }
+{
+    Tag::new(number, WireType::EndGroup).encode(sink)
+}
+
+// Writes a tag, and a number behind it.
+fn put_varint<S: EncodeSink>(
+    number: u32,
+    wire_type: WireType,
+    value: u64,
+    sink: &mut S,
+) -> Result<(), EncodeError>
+    requires { IsFieldNumber number }
+    ensures ok { OnOk result (S.held sink.new ≡ S.held sink.old ++ tag_text number wire_type ++ shortest value) }
+    ensures err { OnErr result (KeepsFront (S.held sink.old) (tag_text number wire_type ++ shortest value) (S.held sink.new)) }
+    ensures cause { WriteAnswers S.most (S.held sink.old) (tag_text number wire_type ++ shortest value) result }
+{
+    laws::two_parts();
+    Tag::new(number, wire_type).encode(sink)?;
+    encode_varint(value, sink)
+}
