@@ -1,4 +1,5 @@
 pub mod Borrow
+pub mod Laws
 pub mod Packed
 pub mod Reading
 pub mod ValueMap

@@ -1,5 +1,5 @@
 -- The numbers that stand on the wire for the values of each scalar type, as arithmetic.
-use Rattle.std.specs.Prelude.{ℕ, suc, ◌+◌, ◌-◌, ◌*◌, ◌/◌, ◌%◌, ◌^◌, ◌<◌, ◌≤◌, ℤ, pos, negsuc, neg_ℤ, ◌≤ℤ◌, ◌<ℤ◌, Bool, true, false, nat_lt, ◌==◌, not, if◌then◌else◌}
+use Rattle.std.specs.Prelude.{ℕ, suc, ◌+◌, ◌-◌, ◌*◌, ◌/◌, ◌%◌, ◌^◌, ℤ, pos, negsuc, neg_ℤ, Bool, true, false, nat_lt, ◌==◌, not, if◌then◌else◌}
 
 -- what is written for a value of a type, and what is read from a number
 pub record ValueMap (T : Type 0) : Type 0 where

@@ -4,6 +4,7 @@
 mod fields;
 mod fixed;
 mod group;
+pub mod laws;
 mod packed;
 mod scalar;
 #[cfg(test)]

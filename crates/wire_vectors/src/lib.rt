@@ -9,3 +9,5 @@ mod chunks;
 mod found;
 #[cfg(test)]
 mod ropes;
+#[cfg(test)]
+mod scalars;

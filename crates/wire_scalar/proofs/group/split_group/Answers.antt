@@ -1,4 +1,4 @@
-use Rattle.std.proofs.Common.{◌≡◌, sym, ◌∙◌}
+use Rattle.std.proofs.Common.{sym, ◌∙◌}
 use Rattle.std.proofs.lemmas.Result.{err_from_is_err_and}
 use Rattle.wire_base.specs.Fault.{by_tag, bad_tag, other_end, bad_payload}
 use Rattle.wire_base.specs.Field.{none, push}

@@ -1,0 +1,17 @@
+-- What holds of the definitions themselves. Each statement is proved as the contract of a law of src/laws.rt.
+use Rattle.std.specs.Prelude.{◌≡◌, ℕ, List, ◌++◌, length, count_by, nat_lt}
+use Rattle.wire_scalar.specs.Packed.{SpellsEach}
+use Rattle.wire_scalar.specs.Reading.{IsVarint, ReadsValue}
+use Rattle.wire_scalar.specs.ValueMap.{ValueMap}
+
+-- what is read from the number that is written for a value is that value
+abbrev pub ReadsBack : {T : Type 0} → ValueMap T → (T → Type 0) → Type 0
+ReadsBack map InRange = (value : _) → InRange value → map.dec (map.enc value) ≡ value
+
+-- a value stands at the front of the text that is written for it, whatever follows
+abbrev pub TextReadsBack : {T : Type 0} → (ℕ → List ℕ → Type 0) → (ℕ → List ℕ) → ValueMap T → (T → Type 0) → Type 0
+TextReadsBack IsText text map InRange = (value : _) (rest : List ℕ) → InRange value → ReadsValue IsText map (text (map.enc value) ++ rest) value rest
+
+-- a payload of varints has as many elements as bytes below 128
+abbrev pub VarintsAreCounted : Type 0
+VarintsAreCounted = (numbers text : List ℕ) → SpellsEach IsVarint numbers text → count_by (λ byte. nat_lt byte 128) text ≡ length numbers

@@ -1,0 +1,46 @@
+//! Laws of the definitions that the contracts cite: each function is a theorem, and does nothing.
+ghost use Rattle.std.specs.Prelude.{◌<◌, ◌^◌, FitsSigned};
+ghost use Rattle.std.specs.Int.{w32, w64, to_le_bytes};
+ghost use Rattle.wire_base.specs.Varint.{shortest};
+ghost use Rattle.wire_scalar.specs.Laws.{ReadsBack, TextReadsBack, VarintsAreCounted};
+ghost use Rattle.wire_scalar.specs.Reading.{IsFixed, IsVarint};
+ghost use Rattle.wire_scalar.specs.ValueMap.{int32, int64, uint32, uint64, sint32, sint64, bool, fixed32, fixed64, sfixed32, sfixed64};
+
+/// What is read from the number that is written for a value is that value, for every value of each type.
+pub fn values_read_back()
+    ensures int32 { ReadsBack int32 (FitsSigned w32) }
+    ensures int64 { ReadsBack int64 (FitsSigned w64) }
+    ensures uint32 { ReadsBack uint32 (λ value. value < 2 ^ 32) }
+    ensures uint64 { ReadsBack uint64 (λ value. value < 2 ^ 64) }
+    ensures sint32 { ReadsBack sint32 (FitsSigned w32) }
+    ensures sint64 { ReadsBack sint64 (FitsSigned w64) }
+    ensures bool { ReadsBack bool (λ _. Unit {0}) }
+    ensures fixed32 { ReadsBack fixed32 (λ value. value < 2 ^ 32) }
+    ensures fixed64 { ReadsBack fixed64 (λ value. value < 2 ^ 64) }
+    ensures sfixed32 { ReadsBack sfixed32 (FitsSigned w32) }
+    ensures sfixed64 { ReadsBack sfixed64 (FitsSigned w64) }
+{}
+
+/// A value stands at the front of the text that is written for it, whatever follows, for every value of
+/// each type.
+pub fn texts_read_back()
+    ensures int32 { TextReadsBack IsVarint shortest int32 (FitsSigned w32) }
+    ensures int64 { TextReadsBack IsVarint shortest int64 (FitsSigned w64) }
+    ensures uint32 { TextReadsBack IsVarint shortest uint32 (λ value. value < 2 ^ 32) }
+    ensures uint64 { TextReadsBack IsVarint shortest uint64 (λ value. value < 2 ^ 64) }
+    ensures sint32 { TextReadsBack IsVarint shortest sint32 (FitsSigned w32) }
+    ensures sint64 { TextReadsBack IsVarint shortest sint64 (FitsSigned w64) }
+    ensures bool { TextReadsBack IsVarint shortest bool (λ _. Unit {0}) }
+    ensures fixed32 { TextReadsBack (IsFixed w32) (to_le_bytes w32) fixed32 (λ value. value < 2 ^ 32) }
+    ensures fixed64 { TextReadsBack (IsFixed w64) (to_le_bytes w64) fixed64 (λ value. value < 2 ^ 64) }
+    ensures sfixed32 { TextReadsBack (IsFixed w32) (to_le_bytes w32) sfixed32 (FitsSigned w32) }
+    ensures sfixed64 { TextReadsBack (IsFixed w64) (to_le_bytes w64) sfixed64 (FitsSigned w64) }
+{
+    wire_base::laws::shortest_reads_back();
+    values_read_back();
+}
+
+/// A payload of varints has as many elements as `count_varints` counts.
+pub fn varints_are_counted()
+    ensures { VarintsAreCounted }
+{}
