@@ -1,7 +1,8 @@
 -- What holds of the definitions themselves. Each statement is proved as the contract of a law of src/laws.rt.
-use Rattle.std.specs.Prelude.{◌≡◌, ℕ, List, ◌++◌, length, count_by, nat_lt}
+use Rattle.std.specs.Prelude.{◌≡◌, ℕ, ◌*◌, List, ◌++◌, length, count_by, nat_lt}
+use Rattle.std.specs.Int.{Width, byte_len}
 use Rattle.wire_scalar.specs.Packed.{SpellsEach}
-use Rattle.wire_scalar.specs.Reading.{IsVarint, ReadsValue}
+use Rattle.wire_scalar.specs.Reading.{IsFixed, IsVarint, ReadsValue}
 use Rattle.wire_scalar.specs.ValueMap.{ValueMap}
 
 -- what is read from the number that is written for a value is that value
@@ -15,3 +16,7 @@ TextReadsBack IsText text map InRange = (value : _) (rest : List ℕ) → InRang
 -- a payload of varints has as many elements as bytes below 128
 abbrev pub VarintsAreCounted : Type 0
 VarintsAreCounted = (numbers text : List ℕ) → SpellsEach IsVarint numbers text → count_by (λ byte. nat_lt byte 128) text ≡ length numbers
+
+-- a payload of elements of a fixed width has the width's bytes for each
+abbrev pub FixedAreMultiples : Type 0
+FixedAreMultiples = (width : Width) (numbers text : List ℕ) → SpellsEach (IsFixed width) numbers text → length text ≡ byte_len width * length numbers

@@ -1,10 +1,10 @@
 //! Scalars of four or eight bytes, the lowest first.
-ghost use Rattle.std.specs.Prelude.{◌≡◌, ◌++◌, ◌<◌, length, OnOk, OnErr, IfOk, IfErr};
-ghost use Rattle.std.specs.Int.{w32, w64, to_le_bytes};
+ghost use Rattle.std.specs.Prelude.{◌≡◌, ℕ, ◌++◌, ◌<◌, length, refl, OnOk, OnErr, IfOk, IfErr};
+ghost use Rattle.std.specs.Int.{Width, byte_len, w32, w64, to_le_bytes};
 ghost use Rattle.wire_base.specs.declared.error.DecodeError.TheVariants.{UnexpectedEof};
 ghost use Rattle.wire_base.specs.Sink.{KeepsFront, WriteAnswers};
 ghost use Rattle.wire_scalar.specs.Reading.{IsFixed, ReadsValue};
-ghost use Rattle.wire_scalar.specs.ValueMap.{fixed32, fixed64, sfixed32, sfixed64};
+ghost use Rattle.wire_scalar.specs.ValueMap.{ValueMap, fixed32, fixed64, sfixed32, sfixed64};
 
 use bytes::Buf;
 use wire_base::{DecodeError, EncodeError, EncodeSink, laws};
@@ -95,4 +95,104 @@ pub fn decode_sfixed64<B: Buf>(buf: &mut B) -> Result<i64, DecodeError>
     ensures unchanged { OnErr result (B.unread buf.new ≡ B.unread buf.old) }
 {
     Ok(decode_fixed64(buf)?.cast_signed())
+}
+
+/// A scalar type of a fixed number of bytes.
+pub(crate) trait FixedScalar {
+    type Value: Copy;
+
+    ghost map: { ValueMap Self.Value };
+
+    ghost width: { Width };
+
+    ghost LEN: { ℕ };
+
+    /// How many bytes a value has.
+    const LEN: usize;
+
+    fn decode(buf: &mut &[u8]) -> Result<Self::Value, DecodeError>
+        ensures ok { IfOk result (λ value. ReadsValue (IsFixed width) map buf.old.now value buf.new.now) }
+        ensures short { IfErr result (λ e. (e ≡ UnexpectedEof) × (length buf.old.now < byte_len width)) };
+
+    ghost len_is: { LEN ≡ byte_len width };
+}
+
+pub(crate) struct Fixed32;
+
+impl FixedScalar for Fixed32 {
+    type Value = u32;
+
+    ghost map = { fixed32 };
+
+    ghost width = { w32 };
+
+    ghost LEN = { 4 };
+
+    const LEN: usize = FIXED32_ENCODED_LEN;
+
+    ghost len_is = { refl };
+
+    fn decode(buf: &mut &[u8]) -> Result<u32, DecodeError> {
+        decode_fixed32(buf)
+    }
+}
+
+pub(crate) struct Fixed64;
+
+impl FixedScalar for Fixed64 {
+    type Value = u64;
+
+    ghost map = { fixed64 };
+
+    ghost width = { w64 };
+
+    ghost LEN = { 8 };
+
+    const LEN: usize = FIXED64_ENCODED_LEN;
+
+    ghost len_is = { refl };
+
+    fn decode(buf: &mut &[u8]) -> Result<u64, DecodeError> {
+        decode_fixed64(buf)
+    }
+}
+
+pub(crate) struct Sfixed32;
+
+impl FixedScalar for Sfixed32 {
+    type Value = i32;
+
+    ghost map = { sfixed32 };
+
+    ghost width = { w32 };
+
+    ghost LEN = { 4 };
+
+    const LEN: usize = FIXED32_ENCODED_LEN;
+
+    ghost len_is = { refl };
+
+    fn decode(buf: &mut &[u8]) -> Result<i32, DecodeError> {
+        decode_sfixed32(buf)
+    }
+}
+
+pub(crate) struct Sfixed64;
+
+impl FixedScalar for Sfixed64 {
+    type Value = i64;
+
+    ghost map = { sfixed64 };
+
+    ghost width = { w64 };
+
+    ghost LEN = { 8 };
+
+    const LEN: usize = FIXED64_ENCODED_LEN;
+
+    ghost len_is = { refl };
+
+    fn decode(buf: &mut &[u8]) -> Result<i64, DecodeError> {
+        decode_sfixed64(buf)
+    }
 }

@@ -2,7 +2,7 @@
 ghost use Rattle.std.specs.Prelude.{◌<◌, ◌^◌, FitsSigned};
 ghost use Rattle.std.specs.Int.{w32, w64, to_le_bytes};
 ghost use Rattle.wire_base.specs.Varint.{shortest};
-ghost use Rattle.wire_scalar.specs.Laws.{ReadsBack, TextReadsBack, VarintsAreCounted};
+ghost use Rattle.wire_scalar.specs.Laws.{ReadsBack, TextReadsBack, VarintsAreCounted, FixedAreMultiples};
 ghost use Rattle.wire_scalar.specs.Reading.{IsFixed, IsVarint};
 ghost use Rattle.wire_scalar.specs.ValueMap.{int32, int64, uint32, uint64, sint32, sint64, bool, fixed32, fixed64, sfixed32, sfixed64};
 
@@ -43,4 +43,9 @@ pub fn texts_read_back()
 /// A payload of varints has as many elements as `count_varints` counts.
 pub fn varints_are_counted()
     ensures { VarintsAreCounted }
+{}
+
+/// A payload of elements of a fixed width has as many bytes as they have together.
+pub fn fixed_are_multiples()
+    ensures { FixedAreMultiples }
 {}

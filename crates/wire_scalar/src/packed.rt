@@ -1,15 +1,12 @@
 //! Lists of scalars in one payload.
-ghost use Rattle.std.specs.Prelude.{◌≡◌, ◌≢◌, ℕ, ◌<◌, ◌%◌, ◌++◌, ◌⊎◌, List, length, refl, OnOk, OnErr, IfOk, IfErr};
-ghost use Rattle.std.specs.Int.{Width, byte_len, w32, w64};
+ghost use Rattle.std.specs.Prelude.{◌≡◌, ◌≢◌, ◌%◌, ◌++◌, ◌⊎◌, List, length, OnOk, OnErr, IfErr};
+ghost use Rattle.std.specs.Int.{byte_len, w32, w64};
 ghost use Rattle.wire_base.specs.declared.error.DecodeError.TheVariants.{OutOfMemory, UnexpectedEof};
 ghost use Rattle.wire_scalar.specs.Packed.{Appends, AppendsFront, StopsAtFault};
-ghost use Rattle.wire_scalar.specs.Reading.{IsFixed, IsVarint, ReadsValue};
-ghost use Rattle.wire_scalar.specs.ValueMap.{ValueMap, int32, int64, uint32, uint64, sint32, sint64, bool, fixed32, fixed64, sfixed32, sfixed64};
+ghost use Rattle.wire_scalar.specs.Reading.{IsFixed, IsVarint};
+ghost use Rattle.wire_scalar.specs.ValueMap.{int32, int64, uint32, uint64, sint32, sint64, bool, fixed32, fixed64, sfixed32, sfixed64};
 
-use crate::fixed::{
-    FIXED32_ENCODED_LEN, FIXED64_ENCODED_LEN, decode_fixed32, decode_fixed64, decode_sfixed32,
-    decode_sfixed64,
-};
+use crate::fixed::{Fixed32, Fixed64, FixedScalar, Sfixed32, Sfixed64};
 use crate::scalar::{Bool, Int32, Int64, Sint32, Sint64, Uint32, Uint64, VarintScalar};
 use crate::varints::decode_as;
 use wire_base::DecodeError;
@@ -166,121 +163,6 @@ fn extend_as<T: VarintScalar>(
     Ok(())
 }
 
-// Appends elements one by one, of a payload that is a multiple of their length.
-fn push_all<T: FixedScalar>(payload: &[u8], out: &mut Vec<T::Value>) -> Result<(), DecodeError>
-    requires { length payload.now % byte_len T.width ≡ 0 }
-    ensures ok { OnOk result (Appends (IsFixed T.width) T.map payload.now out.old.items out.new.items) }
-    ensures err { IfErr result (λ e. e ≡ OutOfMemory) }
-    ensures front { OnErr result ((more : List T.Value) × (out.new.items ≡ out.old.items ++ more)) }
-{
-    out.reserve(payload.len() / T::LEN)?;
-    let mut rest = payload;
-    while !rest.is_empty() {
-        out.push(T::decode(&mut rest)?)?;
-    }
-    Ok(())
-}
-
-// A scalar type of a fixed number of bytes.
-trait FixedScalar {
-    type Value: Copy;
-
-    ghost map: { ValueMap Self.Value };
-
-    ghost width: { Width };
-
-    ghost LEN: { ℕ };
-
-    /// How many bytes a value has.
-    const LEN: usize;
-
-    fn decode(buf: &mut &[u8]) -> Result<Self::Value, DecodeError>
-        ensures ok { IfOk result (λ value. ReadsValue (IsFixed width) map buf.old.now value buf.new.now) }
-        ensures short { IfErr result (λ e. (e ≡ UnexpectedEof) × (length buf.old.now < byte_len width)) };
-
-    ghost len_is: { LEN ≡ byte_len width };
-}
-
-struct Fixed32;
-
-impl FixedScalar for Fixed32 {
-    type Value = u32;
-
-    ghost map = { fixed32 };
-
-    ghost width = { w32 };
-
-    ghost LEN = { 4 };
-
-    const LEN: usize = FIXED32_ENCODED_LEN;
-
-    ghost len_is = { refl };
-
-    fn decode(buf: &mut &[u8]) -> Result<u32, DecodeError> {
-        decode_fixed32(buf)
-    }
-}
-
-struct Fixed64;
-
-impl FixedScalar for Fixed64 {
-    type Value = u64;
-
-    ghost map = { fixed64 };
-
-    ghost width = { w64 };
-
-    ghost LEN = { 8 };
-
-    const LEN: usize = FIXED64_ENCODED_LEN;
-
-    ghost len_is = { refl };
-
-    fn decode(buf: &mut &[u8]) -> Result<u64, DecodeError> {
-        decode_fixed64(buf)
-    }
-}
-
-struct Sfixed32;
-
-impl FixedScalar for Sfixed32 {
-    type Value = i32;
-
-    ghost map = { sfixed32 };
-
-    ghost width = { w32 };
-
-    ghost LEN = { 4 };
-
-    const LEN: usize = FIXED32_ENCODED_LEN;
-
-    ghost len_is = { refl };
-
-    fn decode(buf: &mut &[u8]) -> Result<i32, DecodeError> {
-        decode_sfixed32(buf)
-    }
-}
-
-struct Sfixed64;
-
-impl FixedScalar for Sfixed64 {
-    type Value = i64;
-
-    ghost map = { sfixed64 };
-
-    ghost width = { w64 };
-
-    ghost LEN = { 8 };
-
-    const LEN: usize = FIXED64_ENCODED_LEN;
-
-    ghost len_is = { refl };
-
-    fn decode(buf: &mut &[u8]) -> Result<i64, DecodeError> {
-        decode_sfixed64(buf)
-    }
-}
-
 // Appends the elements, all or none.
 fn extend_fixed<T: FixedScalar>(payload: &[u8], out: &mut Vec<T::Value>) -> Result<(), DecodeError>
     ensures ok { OnOk result (Appends (IsFixed T.width) T.map payload.now out.old.items out.new.items) }
@@ -296,4 +178,19 @@ fn extend_fixed<T: FixedScalar>(payload: &[u8], out: &mut Vec<T::Value>) -> Resu
         out.truncate(before);
     }
     result
+}
+
+// Appends elements one by one, of a payload that is a multiple of their length.
+fn push_all<T: FixedScalar>(payload: &[u8], out: &mut Vec<T::Value>) -> Result<(), DecodeError>
+    requires { length payload.now % byte_len T.width ≡ 0 }
+    ensures ok { OnOk result (Appends (IsFixed T.width) T.map payload.now out.old.items out.new.items) }
+    ensures err { IfErr result (λ e. e ≡ OutOfMemory) }
+    ensures front { OnErr result ((more : List T.Value) × (out.new.items ≡ out.old.items ++ more)) }
+{
+    out.reserve(payload.len() / T::LEN)?;
+    let mut rest = payload;
+    while !rest.is_empty() {
+        out.push(T::decode(&mut rest)?)?;
+    }
+    Ok(())
 }

@@ -42,7 +42,7 @@ pub fn decode_int32_packed<B: Buf>(buf: &mut B) -> Result<i32, DecodeError>
     ensures ok { IfOk result (λ value. ReadsValue IsVarint int32 (B.unread buf.old) value (B.unread buf.new)) }
     ensures fault { IfErr result (VarintFault (B.unread buf.old)) }
 {
-    decode_as::<Int32, B>(buf)
+    decode_int32(buf)
 }
 
 /// How many bytes `encode_int32` writes.
@@ -74,7 +74,7 @@ pub fn decode_int64_packed<B: Buf>(buf: &mut B) -> Result<i64, DecodeError>
     ensures ok { IfOk result (λ value. ReadsValue IsVarint int64 (B.unread buf.old) value (B.unread buf.new)) }
     ensures fault { IfErr result (VarintFault (B.unread buf.old)) }
 {
-    decode_as::<Int64, B>(buf)
+    decode_int64(buf)
 }
 
 /// How many bytes `encode_int64` writes.
@@ -106,7 +106,7 @@ pub fn decode_uint32_packed<B: Buf>(buf: &mut B) -> Result<u32, DecodeError>
     ensures ok { IfOk result (λ value. ReadsValue IsVarint uint32 (B.unread buf.old) value (B.unread buf.new)) }
     ensures fault { IfErr result (VarintFault (B.unread buf.old)) }
 {
-    decode_as::<Uint32, B>(buf)
+    decode_uint32(buf)
 }
 
 /// How many bytes `encode_uint32` writes.
@@ -138,7 +138,7 @@ pub fn decode_uint64_packed<B: Buf>(buf: &mut B) -> Result<u64, DecodeError>
     ensures ok { IfOk result (λ value. ReadsValue IsVarint uint64 (B.unread buf.old) value (B.unread buf.new)) }
     ensures fault { IfErr result (VarintFault (B.unread buf.old)) }
 {
-    decode_as::<Uint64, B>(buf)
+    decode_uint64(buf)
 }
 
 /// How many bytes `encode_uint64` writes.
@@ -170,7 +170,7 @@ pub fn decode_sint32_packed<B: Buf>(buf: &mut B) -> Result<i32, DecodeError>
     ensures ok { IfOk result (λ value. ReadsValue IsVarint sint32 (B.unread buf.old) value (B.unread buf.new)) }
     ensures fault { IfErr result (VarintFault (B.unread buf.old)) }
 {
-    decode_as::<Sint32, B>(buf)
+    decode_sint32(buf)
 }
 
 /// How many bytes `encode_sint32` writes.
@@ -202,7 +202,7 @@ pub fn decode_sint64_packed<B: Buf>(buf: &mut B) -> Result<i64, DecodeError>
     ensures ok { IfOk result (λ value. ReadsValue IsVarint sint64 (B.unread buf.old) value (B.unread buf.new)) }
     ensures fault { IfErr result (VarintFault (B.unread buf.old)) }
 {
-    decode_as::<Sint64, B>(buf)
+    decode_sint64(buf)
 }
 
 /// How many bytes `encode_sint64` writes.
@@ -234,5 +234,5 @@ pub fn decode_bool_packed<B: Buf>(buf: &mut B) -> Result<bool, DecodeError>
     ensures ok { IfOk result (λ value. ReadsValue IsVarint bool (B.unread buf.old) value (B.unread buf.new)) }
     ensures fault { IfErr result (VarintFault (B.unread buf.old)) }
 {
-    decode_as::<Bool, B>(buf)
+    decode_bool(buf)
 }
