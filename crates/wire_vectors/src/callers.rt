@@ -1,13 +1,19 @@
 //! Short callers of the crates below, proved. The README shows them.
-ghost use Rattle.std.specs.Prelude.{◌≡◌, ◌++◌, OnOk, IfOk, IfErr};
+ghost use Rattle.std.specs.Prelude.{◌≡◌, [], ◌++◌, OnOk, IfOk, IfErr};
 ghost use Rattle.wire_base.specs.Fault.{ListFault, by_tag};
+ghost use Rattle.wire_base.specs.Field.{varint};
 ghost use Rattle.wire_base.specs.FieldNumber.{IsFieldNumber};
 ghost use Rattle.wire_base.specs.Limits.{uncounted};
 ghost use Rattle.wire_base.specs.Tag.{TagFault};
+ghost use Rattle.wire_base.specs.Text.{record_text};
 ghost use Rattle.wire_base.specs.Varint.{shortest};
+ghost use Rattle.wire_scalar.specs.Packed.{Appends};
+ghost use Rattle.wire_scalar.specs.Reading.{IsVarint};
+ghost use Rattle.wire_scalar.specs.ValueMap.{int32, sint64};
 
-use wire_base::{DecodeError, EncodeError, EncodeSink, Tag, encode_varint};
-use wire_scalar::borrow_group;
+use std::alloc::Global;
+use wire_base::{DecodeError, EncodeError, EncodeSink, Tag, count_varints, encode_varint};
+use wire_scalar::{borrow_group, extend_packed_int32, put_sint64_field};
 
 /// The field number of the first record.
 pub fn first_number(bytes: &[u8]) -> Result<u32, DecodeError>
@@ -33,4 +39,20 @@ pub fn body_of(bytes: &[u8], number: u32) -> Result<&[u8], DecodeError>
 {
     let mut rest = bytes;
     borrow_group(&mut rest, number, 10)
+}
+
+/// Writes a balance as field 1.
+pub fn put_balance<S: EncodeSink>(balance: i64, sink: &mut S) -> Result<(), EncodeError>
+    ensures ok { OnOk result (S.held sink.new ≡ S.held sink.old ++ record_text 1 (varint (sint64.enc balance))) }
+{
+    put_sint64_field(1, balance, sink)
+}
+
+/// The scores of a packed list, or why it is none.
+pub fn scores_of(alloc: Global, payload: &[u8]) -> Result<Vec<i32>, DecodeError>
+    ensures ok { IfOk result (λ scores. Appends IsVarint int32 payload.now [] scores.items) }
+{
+    let mut scores = Vec::new(alloc);
+    extend_packed_int32(payload, &mut scores, count_varints(payload))?;
+    Ok(scores)
 }
