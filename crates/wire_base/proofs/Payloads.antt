@@ -2,7 +2,9 @@
 use Rattle.std.proofs.Common.{◌≡◌, ℕ, ◌<◌, ◌≤◌, List, ◌++◌, length, take, drop, refl, sym, ap, subst, ◌∙◌, append_assoc, arith}
 use Rattle.std.specs.Int.{w32, w64, from_le_bytes}
 use Rattle.std.proofs.lemmas.List.{take-append-drop, length-take}
+use Rattle.wire_base.specs.declared.error.DecodeError.{DecodeError}
 use Rattle.wire_base.specs.declared.tag.WireType.TheVariants as types
+use Rattle.wire_base.specs.Fault.{PayloadFault, ListFault, by_tag, in_group}
 use Rattle.wire_base.specs.Field.{varint, fixed64, fixed32, bytes, group, Fields}
 use Rattle.wire_base.specs.Limits.{Limits, Fits, one_field, inner, lowered}
 use Rattle.wire_base.specs.Read.{Reads}
@@ -41,6 +43,10 @@ module _ (l : Limits) (n : ℕ) (slot : Fits one_field l) where
 
   pub takes_group : (fs : Fields) (old new : List ℕ) → 0 < l.depth → TakesBody (inner (lowered l one_field)) n fs old new → TakesPayload l n types.StartGroup (group fs) old new
   takes_group fs old new level b = record { read = record { text = b.read.text; parts = b.read.parts; spelled = record { kind = refl; spelled = b.read.spelled } }; fits = Fits-group l fs slot level b.fits }
+
+  -- a fault in the group, under the limits that are left there
+  pub fails_in_group : (left : Limits) (k : ℕ) {bytes : List ℕ} {e : DecodeError} → 0 < l.depth → left ≡ inner (lowered l one_field) → k ≡ n → ListFault left (by_tag k) bytes e → PayloadFault l n types.StartGroup bytes e
+  fails_in_group left k level is same f = in_group slot level (rw (is, same) at f)
 
 -- records and then the end tag are a group's body
 pub takes_body : (l : Limits) (n : ℕ) (fs : Fields) (old mid new : List ℕ) → TakesFields l fs old mid → Reads mid (IsTagSpelling n types.EndGroup) new → TakesBody l n fs old new

@@ -1,11 +1,11 @@
 use Rattle.std.proofs.Common.{sym, ap, ◌∙◌, inl, inr, ⊎_elim}
 use Rattle.std.proofs.lemmas.Result.{err_from_is_err_and}
-use Rattle.wire_base.specs.Fault.{by_tag, no_slot, no_varint, short_fixed64, short_fixed32, no_length, short_bytes, no_level, in_group, end_outside, bad_tag, other_end, bad_payload}
-use Rattle.wire_base.specs.Limits.{Limits, lowered}
+use Rattle.wire_base.specs.Fault.{by_tag, no_slot, no_varint, short_fixed64, short_fixed32, no_length, short_bytes, no_level, end_outside, bad_tag, other_end, bad_payload}
+use Rattle.wire_base.specs.Limits.{Limits, inner, lowered}
 use Rattle.wire_base.specs.UnknownFields.{payload_of}
 use Rattle.wire_base.specs.Text.{charge, payload_charge}
 use Rattle.wire_base.proofs.LimitsLaws.{NoCountGrew-lowered}
-use Rattle.wire_base.proofs.Payloads.{takes_bytes, takes_body}
+use Rattle.wire_base.proofs.Payloads.{takes_bytes, takes_body, fails_in_group}
 use Rattle.wire_base.proofs.Takes.{takes_push, lowered-push}
 use Rattle.wire_base.proofs.Results.{at_ok}
 use Rattle.wire_base.proofs.unknown_fields.decode.+decode.Goals as goal
@@ -75,7 +75,7 @@ decode_value-returns-in_err-fields-in-StartGroup-clause-fault g t c =
     let level = (c.in_ok-descend-in-StartGroup).ensures in
     let taken = rw slot.ok at level.taken in
     rw (p.1, p.2, sym c.wire_type.ensures ∙ c.in-StartGroup.is)
-    (⊎_elim inl (λ f. inr (in_group slot.taken taken (rw (level.ok, slot.ok, c.field_number.ensures.number) at f))) (c.in_err-fields-in-StartGroup).ensures.fault)
+    (⊎_elim inl (λ f. inr (fails_in_group _ _ slot.taken _ _ taken (level.ok ∙ ap inner slot.ok) c.field_number.ensures.number f)) (c.in_err-fields-in-StartGroup).ensures.fault)
 
 pub decode_value-returns-in-EndGroup-clause-fault : goal.decode_value-returns-in-EndGroup-clause-fault
 decode_value-returns-in-EndGroup-clause-fault g t c =
