@@ -1,3 +1,4 @@
 pub mod Counting
 pub mod FixedTexts
+pub mod PackedLaws
 pub mod Packing

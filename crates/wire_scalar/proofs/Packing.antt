@@ -56,7 +56,9 @@ module _ {T : Type 0} (IsText : ℕ → List ℕ → Type 0) (values : ValueMap 
 -- what is left is no varint
 pub Appended-stops : {T : Type 0} (values : ValueMap T) (payload left : List ℕ) (before now : List T) (e : DecodeError) → Appended IsVarint values payload left before now → left ≢ [] → VarintFault left e
     → StopsAtFault values payload before now e
-Appended-stops values payload left before now e a more fault = record { front = a.front; rest = left; parts = a.parts; appended = a.appended; more = more; fault = fault }
+Appended-stops values payload left before now e a more fault =
+    let so_far = a.appended in
+    record { numbers = so_far.numbers; broken = record { front = a.front; rest = left; parts = a.parts; spelled = so_far.spelled; more = more; fault = fault }; appended = so_far.appended }
 
 -- one element less is still a multiple of the width
 pub whole_rest : {T : Type 0} (width : Width) (values : ValueMap T) (left next : List ℕ) (value : T) → length left % byte_len width ≡ 0 → ReadsValue (IsFixed width) values left value next

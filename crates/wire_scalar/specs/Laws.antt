@@ -1,7 +1,8 @@
 -- What holds of the definitions themselves. Each statement is proved as the contract of a law of src/laws.rt.
-use Rattle.std.specs.Prelude.{◌≡◌, ℕ, ◌*◌, List, ◌++◌, length, count_by, nat_lt}
+use Rattle.std.specs.Prelude.{◌≡◌, ◌⊎◌, ℕ, ◌*◌, List, ◌++◌, length, count_by, nat_lt}
 use Rattle.std.specs.Int.{Width, byte_len}
-use Rattle.wire_scalar.specs.Packed.{SpellsEach}
+use Rattle.wire_base.specs.declared.error.DecodeError.{DecodeError}
+use Rattle.wire_scalar.specs.Packed.{SpellsEach, BreaksOff}
 use Rattle.wire_scalar.specs.Reading.{IsFixed, IsVarint, ReadsValue}
 use Rattle.wire_scalar.specs.ValueMap.{ValueMap}
 
@@ -20,3 +21,20 @@ VarintsAreCounted = (numbers text : List ℕ) → SpellsEach IsVarint numbers te
 -- a payload of elements of a fixed width has the width's bytes for each
 abbrev pub FixedAreMultiples : Type 0
 FixedAreMultiples = (width : Width) (numbers text : List ℕ) → SpellsEach (IsFixed width) numbers text → length text ≡ byte_len width * length numbers
+
+-- ---- packed varints
+
+abbrev pub OnePackedList : Type 0
+OnePackedList = (numbers others text : List ℕ) → SpellsEach IsVarint numbers text → SpellsEach IsVarint others text → numbers ≡ others
+
+abbrev pub NoPackedListBesideFault : Type 0
+NoPackedListBesideFault = (numbers others text : List ℕ) (e : DecodeError) → SpellsEach IsVarint numbers text → BreaksOff others text e → ⊥
+
+abbrev pub OnePackedFault : Type 0
+OnePackedFault = (numbers others text : List ℕ) (e f : DecodeError) → BreaksOff numbers text e → BreaksOff others text f → (numbers ≡ others) × (e ≡ f)
+
+abbrev pub PackedListOrFault : List ℕ → Type 0
+PackedListOrFault text = ((numbers : List ℕ) × SpellsEach IsVarint numbers text) ⊎ ((numbers : List ℕ) × (e : DecodeError) × BreaksOff numbers text e)
+
+abbrev pub PackedListOrFaultStands : Type 0
+PackedListOrFaultStands = (text : List ℕ) → PackedListOrFault text

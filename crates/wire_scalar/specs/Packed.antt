@@ -23,11 +23,17 @@ pub record AppendsFront {T : Type 0} (IsText : ℕ → List ℕ → Type 0) (val
   pub parts : payload ≡ front ++ rest
   pub appended : Appends IsText values front before after
 
--- the elements before the first that is no varint are appended; the error says why it is none
-pub record StopsAtFault {T : Type 0} (values : ValueMap T) (payload : List ℕ) (before after : List T) (e : DecodeError) : Type 0 where
+-- the payload is a varint of each of these numbers and then bytes that begin with no varint, for this fault
+pub record BreaksOff (numbers payload : List ℕ) (e : DecodeError) : Type 0 where
   pub front : List ℕ
   pub rest : List ℕ
   pub parts : payload ≡ front ++ rest
-  pub appended : Appends IsVarint values front before after
+  pub spelled : SpellsEach IsVarint numbers front
   pub more : rest ≢ []
   pub fault : VarintFault rest e
+
+-- the values of the numbers before a fault stand in after behind before
+pub record StopsAtFault {T : Type 0} (values : ValueMap T) (payload : List ℕ) (before after : List T) (e : DecodeError) : Type 0 where
+  pub numbers : List ℕ
+  pub broken : BreaksOff numbers payload e
+  pub appended : after ≡ before ++ map values.dec numbers

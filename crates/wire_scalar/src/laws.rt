@@ -2,7 +2,7 @@
 ghost use Rattle.std.specs.Prelude.{◌<◌, ◌^◌, FitsSigned};
 ghost use Rattle.std.specs.Int.{w32, w64, to_le_bytes};
 ghost use Rattle.wire_base.specs.Varint.{shortest};
-ghost use Rattle.wire_scalar.specs.Laws.{ReadsBack, TextReadsBack, VarintsAreCounted, FixedAreMultiples};
+ghost use Rattle.wire_scalar.specs.Laws.{ReadsBack, TextReadsBack, VarintsAreCounted, FixedAreMultiples, OnePackedList, NoPackedListBesideFault, OnePackedFault, PackedListOrFaultStands};
 ghost use Rattle.wire_scalar.specs.Reading.{IsFixed, IsVarint};
 ghost use Rattle.wire_scalar.specs.ValueMap.{int32, int64, uint32, uint64, sint32, sint64, bool, fixed32, fixed64, sfixed32, sfixed64};
 
@@ -49,3 +49,34 @@ pub fn varints_are_counted()
 pub fn fixed_are_multiples()
     ensures { FixedAreMultiples }
 {}
+
+/// A payload is one list of varints at most: its numbers are determined.
+pub fn one_packed_list()
+    ensures { OnePackedList }
+{
+    wire_base::laws::one_varint();
+}
+
+/// A payload that is a list of varints has no fault.
+pub fn no_packed_list_beside_fault()
+    ensures { NoPackedListBesideFault }
+{
+    wire_base::laws::one_varint();
+    wire_base::laws::no_varint_beside_fault();
+}
+
+/// A payload has one fault of a list of varints at most, behind the same numbers.
+pub fn one_packed_fault()
+    ensures { OnePackedFault }
+{
+    wire_base::laws::one_varint();
+    wire_base::laws::no_varint_beside_fault();
+    wire_base::laws::one_varint_fault();
+}
+
+/// Every payload is a list of varints or has a fault.
+pub fn packed_list_or_fault()
+    ensures { PackedListOrFaultStands }
+{
+    wire_base::laws::varint_or_fault();
+}
