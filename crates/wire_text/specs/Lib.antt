@@ -1,0 +1,2 @@
+pub mod Delimited
+pub mod StringPayload

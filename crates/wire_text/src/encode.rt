@@ -1,0 +1,79 @@
+//! Strings and bytes into a sink.
+ghost use Rattle.std.specs.Prelude.{◌≡◌, ◌≤◌, ◌^◌, ◌++◌, length, OnOk, OnErr, IfOk, IfErr};
+ghost use Rattle.wire_base.specs.declared.error.EncodeError.TheVariants.{LengthOverflow};
+ghost use Rattle.wire_base.specs.FieldNumber.{IsFieldNumber};
+ghost use Rattle.wire_base.specs.Sink.{KeepsFront, WriteAnswers};
+ghost use Rattle.wire_text.specs.Delimited.{delimited_text, field_text};
+
+use wire_base::{EncodeError, EncodeSink, Tag, WireType, encode_varint, varint_len};
+
+/// How many bytes `encode_string` writes. `LengthOverflow` comes exactly where these are more than
+/// `usize::MAX`.
+pub fn string_encoded_len(value: &str) -> Result<usize, EncodeError>
+    ensures ok { IfOk result (λ len. len ≡ length (delimited_text value.now)) }
+    ensures err { IfErr result (λ e. e ≡ LengthOverflow) }
+    ensures over { OnErr result (2 ^ 64 ≤ length (delimited_text value.now)) }
+{
+    bytes_encoded_len(value.as_bytes())
+}
+
+/// How many bytes `encode_bytes` writes. `LengthOverflow` comes exactly where these are more than
+/// `usize::MAX`.
+pub fn bytes_encoded_len(value: &[u8]) -> Result<usize, EncodeError>
+    ensures ok { IfOk result (λ len. len ≡ length (delimited_text value.now)) }
+    ensures err { IfErr result (λ e. e ≡ LengthOverflow) }
+    ensures over { OnErr result (2 ^ 64 ≤ length (delimited_text value.now)) }
+{
+    match varint_len(value.len() as u64).checked_add(value.len()) {
+        Some(len) => Ok(len),
+        None => Err(EncodeError::LengthOverflow),
+    }
+}
+
+/// Writes the length of a string and its UTF-8 bytes.
+pub fn encode_string<S: EncodeSink>(value: &str, sink: &mut S) -> Result<(), EncodeError>
+    ensures ok { OnOk result (S.held sink.new ≡ S.held sink.old ++ delimited_text value.now) }
+    ensures err { OnErr result (KeepsFront (S.held sink.old) (delimited_text value.now) (S.held sink.new)) }
+    ensures cause { WriteAnswers S.most (S.held sink.old) (delimited_text value.now) result }
+{
+    encode_bytes(value.as_bytes(), sink)
+}
+
+/// Writes the length of the bytes, and the bytes.
+pub fn encode_bytes<S: EncodeSink>(value: &[u8], sink: &mut S) -> Result<(), EncodeError>
+    ensures ok { OnOk result (S.held sink.new ≡ S.held sink.old ++ delimited_text value.now) }
+    ensures err { OnErr result (KeepsFront (S.held sink.old) (delimited_text value.now) (S.held sink.new)) }
+    ensures cause { WriteAnswers S.most (S.held sink.old) (delimited_text value.now) result }
+{
+    encode_varint(value.len() as u64, sink)?;
+    sink.put_slice(value)
+}
+
+/// Writes a record with a string: its tag, its length and its UTF-8 bytes.
+pub fn put_string_field<S: EncodeSink>(
+    number: u32,
+    value: &str,
+    sink: &mut S,
+) -> Result<(), EncodeError>
+    requires { IsFieldNumber number }
+    ensures ok { OnOk result (S.held sink.new ≡ S.held sink.old ++ field_text number value.now) }
+    ensures err { OnErr result (KeepsFront (S.held sink.old) (field_text number value.now) (S.held sink.new)) }
+    ensures cause { WriteAnswers S.most (S.held sink.old) (field_text number value.now) result }
+{
+    put_bytes_field(number, value.as_bytes(), sink)
+}
+
+/// Writes a record with bytes: its tag, their length and the bytes.
+pub fn put_bytes_field<S: EncodeSink>(
+    number: u32,
+    value: &[u8],
+    sink: &mut S,
+) -> Result<(), EncodeError>
+    requires { IsFieldNumber number }
+    ensures ok { OnOk result (S.held sink.new ≡ S.held sink.old ++ field_text number value.now) }
+    ensures err { OnErr result (KeepsFront (S.held sink.old) (field_text number value.now) (S.held sink.new)) }
+    ensures cause { WriteAnswers S.most (S.held sink.old) (field_text number value.now) result }
+{
+    Tag::new(number, WireType::LengthDelimited).encode(sink)?;
+    encode_bytes(value, sink)
+}

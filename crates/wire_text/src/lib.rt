@@ -1,0 +1,12 @@
+//! Strings and bytes of the wire format: a length, and as many bytes.
+#![tactic(auto)]
+
+mod borrow;
+mod encode;
+mod length;
+
+pub use borrow::{borrow_bytes, borrow_str};
+pub use encode::{
+    bytes_encoded_len, encode_bytes, encode_string, put_bytes_field, put_string_field,
+    string_encoded_len,
+};
