@@ -2,10 +2,13 @@
 #![tactic(auto)]
 
 mod borrow;
+mod decode;
 mod encode;
 mod length;
+mod payload;
 
 pub use borrow::{borrow_bytes, borrow_str};
+pub use decode::{decode_bytes, decode_bytes_to_bytes, decode_string, merge_bytes, merge_string};
 pub use encode::{
     bytes_encoded_len, encode_bytes, encode_string, put_bytes_field, put_string_field,
     string_encoded_len,
