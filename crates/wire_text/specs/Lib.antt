@@ -1,2 +1,5 @@
 pub mod Delimited
+pub mod FromWire
+pub mod FromWireLaws
 pub mod StringPayload
+pub mod WirePayload

@@ -1,12 +1,12 @@
 //! Strings and bytes from a buffer.
-ghost use Rattle.std.specs.Prelude.{◌≡◌, ◌≢◌, ◌⊎◌, [], string_bytes, IsUtf8, OnOk, OnErr, IfOk, IfErr};
+ghost use Rattle.std.specs.Prelude.{◌≡◌, ◌≢◌, ◌⊎◌, [], string_bytes, OnOk, OnErr, IfOk, IfErr};
 ghost use Rattle.wire_base.specs.declared.error.DecodeError.TheVariants.{InvalidUtf8, OutOfMemory};
 ghost use Rattle.wire_base.specs.Read.{Reads};
 ghost use Rattle.wire_text.specs.Delimited.{IsDelimited, DelimitedFault};
 ghost use Rattle.wire_text.specs.StringPayload.{IsString, StringFault, PassesPayload};
 
 use crate::length::decode_length;
-use crate::payload::{copy_bytes, make_room, take_room};
+use crate::payload::{copy_bytes, into_text, make_room, take_room};
 use bytes::{Buf, Bytes};
 use std::alloc::Global;
 use wire_base::DecodeError;
@@ -81,17 +81,4 @@ pub fn merge_string<B: Buf>(
     copy_bytes(buf, len, &mut payload);
     *value = into_text(payload)?;
     Ok(())
-}
-
-// The text of these bytes, which are not copied.
-fn into_text(payload: Vec<u8>) -> Result<String, DecodeError>
-    ensures ok { IfOk result (λ text. string_bytes text ≡ payload.items) }
-    ensures utf8 { OnOk result (IsUtf8 payload.items) }
-    ensures err { IfErr result (λ e. e ≡ InvalidUtf8) }
-    ensures not_utf8 { OnErr result (¬ IsUtf8 payload.items) }
-{
-    match simdutf8::basic::from_utf8(&payload) {
-        Ok(_) => Ok(unsafe { String::from_utf8_unchecked(payload) }),
-        Err(_) => Err(DecodeError::InvalidUtf8),
-    }
 }

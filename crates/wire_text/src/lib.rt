@@ -6,6 +6,10 @@ mod decode;
 mod encode;
 mod length;
 mod payload;
+mod proto_bytes;
+mod proto_list;
+mod proto_string;
+mod wire_payload;
 
 pub use borrow::{borrow_bytes, borrow_str};
 pub use decode::{decode_bytes, decode_bytes_to_bytes, decode_string, merge_bytes, merge_string};
@@ -13,3 +17,7 @@ pub use encode::{
     bytes_encoded_len, encode_bytes, encode_string, put_bytes_field, put_string_field,
     string_encoded_len,
 };
+pub use proto_bytes::ProtoBytes;
+pub use proto_list::ProtoList;
+pub use proto_string::ProtoString;
+pub use wire_payload::WirePayload;

@@ -1,10 +1,12 @@
 //! The bytes of a payload, copied once.
-ghost use Rattle.std.specs.Prelude.{◌≡◌, ◌≤◌, [], length, take, drop, string_bytes, OnOk, OnErr, IfOk};
+ghost use Rattle.std.specs.Prelude.{◌≡◌, ◌≤◌, [], length, take, drop, string_bytes, IsUtf8, OnOk, OnErr, IfOk, IfErr};
 ghost use Rattle.std.specs.Vec.{vec_capacity};
+ghost use Rattle.wire_base.specs.declared.error.DecodeError.TheVariants.{InvalidUtf8};
 
 use bytes::Buf;
 use std::alloc::{AllocError, Global};
 use std::mem;
+use wire_base::DecodeError;
 
 /// Copies so many bytes into an empty vector that has room for them.
 pub(crate) fn copy_bytes<B: Buf>(buf: &mut B, len: usize, bytes: &mut Vec<u8>)
@@ -55,4 +57,17 @@ pub(crate) fn take_room(
     let mut room = mem::replace(value, String::new(alloc)).into_bytes();
     room.clear();
     Ok(room)
+}
+
+/// The text of these bytes, which are not copied.
+pub(crate) fn into_text(payload: Vec<u8>) -> Result<String, DecodeError>
+    ensures ok { IfOk result (λ text. string_bytes text ≡ payload.items) }
+    ensures utf8 { OnOk result (IsUtf8 payload.items) }
+    ensures err { IfErr result (λ e. e ≡ InvalidUtf8) }
+    ensures not_utf8 { OnErr result (¬ IsUtf8 payload.items) }
+{
+    match simdutf8::basic::from_utf8(&payload) {
+        Ok(_) => Ok(unsafe { String::from_utf8_unchecked(payload) }),
+        Err(_) => Err(DecodeError::InvalidUtf8),
+    }
 }
