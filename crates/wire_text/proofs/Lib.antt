@@ -1,2 +1,3 @@
 pub mod Payloads
+pub mod Values
 pub mod Writes
