@@ -1,5 +1,6 @@
 -- What a type that a user plugged in makes of a payload.
-use Rattle.std.specs.Prelude.{◌≡◌, ◌⊎◌, ℕ, List, ◌++◌, Result, Ok, Err, IsUtf8}
+use Rattle.std.specs.Prelude.{◌≡◌, ◌<◌, ◌≤◌, ℕ, List, ◌++◌, length, Result, Ok, Err, IsUtf8}
+use Rattle.bytes.specs.Unread.{IsChunkOf}
 use Rattle.wire_base.specs.declared.error.DecodeError.{DecodeError}
 use Rattle.wire_base.specs.declared.error.DecodeError.TheVariants.{InvalidUtf8, InvalidMessageSet, Custom}
 use Rattle.wire_base.specs.Read.{Reads}
@@ -40,9 +41,21 @@ pub record TakesValue (answers : List ℕ → Answer → Type 0) (value old new 
   pub read : Reads old (IsDelimited payload) new
   pub taken : answers payload (Ok value)
 
--- No value stood at the front of old, with the error that says why. A payload that the type refused is
--- left where it was lent, and taken where it was handed over.
+-- the chunk at the front of these bytes has so many of them, or fewer
+abbrev pub LieInChunk : ℕ → List ℕ → Type 0
+LieInChunk len bytes = (chunk : List ℕ) × IsChunkOf chunk bytes × (len ≤ length chunk)
+
+abbrev pub AreCut : ℕ → List ℕ → Type 0
+AreCut len bytes = (chunk : List ℕ) × IsChunkOf chunk bytes × (length chunk < len)
+
+-- A payload that the type refused is left where it lies in the chunk at the front, which is lent to the
+-- type. Elsewhere it is handed over, and so it is taken.
+pub data AfterRefusal (payload rest : List ℕ) : List ℕ → Type 0 where
+  lent : LieInChunk (length payload) (payload ++ rest) → AfterRefusal payload rest (payload ++ rest)
+  handed_over : AreCut (length payload) (payload ++ rest) → AfterRefusal payload rest rest
+
+-- no value stood at the front of old, with the error that says why, and new is what is left
 pub data ValueFault (answers : List ℕ → Answer → Type 0) (old new : List ℕ) : DecodeError → Type 0 where
   no_payload : {e : DecodeError} → DelimitedFault old e → ValueFault answers old new e
-  refused : {e : DecodeError} (payload rest : List ℕ) → Reads old (IsDelimited payload) rest → answers payload (Err e)
-      → (new ≡ payload ++ rest) ⊎ (new ≡ rest) → ValueFault answers old new e
+  refused : {e : DecodeError} (payload rest : List ℕ) → Reads old (IsDelimited payload) rest
+      → answers payload (Err e) → AfterRefusal payload rest new → ValueFault answers old new e

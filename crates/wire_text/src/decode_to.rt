@@ -1,7 +1,7 @@
 //! Strings and bytes in types that a user plugged in.
 ghost use Rattle.std.specs.Prelude.{◌≡◌, ◌≤◌, ◌⊎◌, Ok, Err, length, take, drop, OnOk, OnErr, OnSome, IfOk, IfErr, IfSome, IfNone};
 ghost use Rattle.wire_base.specs.declared.error.DecodeError.TheVariants.{OutOfMemory};
-ghost use Rattle.wire_text.specs.FromWire.{TakesValue, ValueFault};
+ghost use Rattle.wire_text.specs.FromWire.{TakesValue, ValueFault, LieInChunk, AreCut};
 ghost use Rattle.wire_text.specs.WirePayload.{payload_bytes};
 
 use crate::length::decode_length;
@@ -64,6 +64,8 @@ fn string_in_chunk<P: ProtoString, B: Buf>(
     ensures refused { IfErr result (λ e. (e ≡ OutOfMemory)
         ⊎ P.answers (take len (B.unread buf.old)) (Err e)) }
     ensures unchanged { OnErr result (B.unread buf.new ≡ B.unread buf.old) }
+    ensures cut { IfOk result (λ found. IfNone found (AreCut len (B.unread buf.old))) }
+    ensures whole { OnErr result (LieInChunk len (B.unread buf.old)) }
 {
     let chunk = buf.chunk();
     if chunk.len() < len {
@@ -88,6 +90,8 @@ fn bytes_in_chunk<P: ProtoBytes, B: Buf>(
     ensures refused { IfErr result (λ e. (e ≡ OutOfMemory)
         ⊎ P.answers (take len (B.unread buf.old)) (Err e)) }
     ensures unchanged { OnErr result (B.unread buf.new ≡ B.unread buf.old) }
+    ensures cut { IfOk result (λ found. IfNone found (AreCut len (B.unread buf.old))) }
+    ensures whole { OnErr result (LieInChunk len (B.unread buf.old)) }
 {
     let chunk = buf.chunk();
     if chunk.len() < len {

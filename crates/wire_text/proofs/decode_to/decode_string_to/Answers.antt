@@ -14,7 +14,7 @@ returns-in_err-value-clause-fault g c =
     let r = c.from_residual-in_err-value in
     let p = err_from_is_err_and r.result r.ensures.1 in
     let len = c.in_ok-len.ensures in
-    rw (p.1, p.2) (refused_lent g.P.ProtoString.answers _ _ _ len.ok len.there _ _ c.in_err-value.ensures.refused c.in_err-value.ensures.unchanged)
+    rw (p.1, p.2) (refused_lent g.P.ProtoString.answers _ _ _ len.ok len.there _ _ c.in_err-value.ensures.refused c.in_err-value.ensures.unchanged c.in_err-value.ensures.whole)
 
 pub returns-in-Some-clause-ok : goal.returns-in-Some-clause-ok
 returns-in-Some-clause-ok g c =
@@ -32,4 +32,4 @@ pub returns-in_ok-payload-in-None-clause-fault : goal.returns-in_ok-payload-in-N
 returns-in_ok-payload-in-None-clause-fault g c =
     let len = c.in_ok-len.ensures in
     let own = rw (rw c.in-None.is at c.in_ok-value.ensures.none) at (c.in_ok-payload-in-None).ensures in
-    refused_owned g.P.ProtoString.answers _ _ _ len.ok len.there g.P.ProtoString.text _ _ own.bytes own.rest c.from_wire.result c.from_wire.ensures.err
+    refused_owned g.P.ProtoString.answers _ _ _ len.ok len.there g.P.ProtoString.text _ _ own.bytes own.rest c.from_wire.result c.from_wire.ensures.err (rw c.in-None.is at c.in_ok-value.ensures.cut)
