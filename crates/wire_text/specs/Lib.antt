@@ -1,5 +1,6 @@
 pub mod Delimited
 pub mod FromWire
 pub mod FromWireLaws
+pub mod NoX
 pub mod StringPayload
 pub mod WirePayload

@@ -1,0 +1,71 @@
+//! Worked rows. Each is a check that can be run while memory is refused, too.
+mod payloads;
+mod plugged;
+mod strings;
+
+use bytes::Bytes;
+use std::alloc::{AllocError, AllocFailed, Global};
+use wire_base::{DecodeError, EncodeError, EncodeSink, Rope, RopeBuf};
+
+/// What a row's check finds: the row's own answer, want of memory, or anything else.
+#[derive(Clone, Copy, Debug, PartialEq)]
+pub(crate) enum Found {
+    Own,
+    OutOfMemory,
+    Other,
+}
+
+/// Why a row's check stops early.
+#[derive(Debug, Drop)]
+pub(crate) enum Stop {
+    Decode(DecodeError),
+    Encode(EncodeError),
+    Memory,
+}
+
+impl From<DecodeError> for Stop {
+    fn from(error: DecodeError) -> Stop {
+        Stop::Decode(error)
+    }
+}
+
+impl From<EncodeError> for Stop {
+    fn from(error: EncodeError) -> Stop {
+        Stop::Encode(error)
+    }
+}
+
+impl From<AllocError> for Stop {
+    fn from(_error: AllocError) -> Stop {
+        Stop::Memory
+    }
+}
+
+impl<T: Drop> From<AllocFailed<T>> for Stop {
+    fn from(_error: AllocFailed<T>) -> Stop {
+        Stop::Memory
+    }
+}
+
+/// What a check found that says whether the answer was the row's own.
+pub(crate) fn found_in(answer: Result<bool, Stop>) -> Found {
+    match answer {
+        Ok(true) => Found::Own,
+        Err(Stop::Memory)
+        | Err(Stop::Decode(DecodeError::OutOfMemory))
+        | Err(Stop::Encode(EncodeError::OutOfMemory)) => Found::OutOfMemory,
+        _ => Found::Other,
+    }
+}
+
+/// A buffer whose chunks are two pieces of the bytes, or one where the other has no byte.
+pub(crate) fn cut(alloc: Global, bytes: &[u8], place: usize) -> Result<RopeBuf, Stop> {
+    let place = place.min(bytes.len());
+    let mut rope = Rope::with_min_segment(alloc, 1);
+    rope.put_shared(Bytes::copy_from_slice(alloc, &bytes[..place])?)?;
+    rope.put_shared(Bytes::copy_from_slice(alloc, &bytes[place..])?)?;
+    match RopeBuf::from_rope(rope) {
+        Ok(buf) => Ok(buf),
+        Err(_) => Err(Stop::Memory),
+    }
+}

@@ -1,0 +1,100 @@
+use super::{Found, Stop, cut, found_in};
+use crate::{
+    WirePayload, borrow_bytes, bytes_encoded_len, decode_bytes, decode_bytes_to_bytes,
+    encode_bytes, merge_bytes, put_bytes_field,
+};
+use bytes::{Buf, Bytes};
+use std::alloc::Global;
+use wire_base::DecodeError;
+
+#[test]
+fn bytes_are_borrowed(rt: HostRuntime) {
+    let mut buf: &[u8] = b"\x81\x00\xc3\x05";
+    assert!(rt; borrow_bytes(&mut buf) == Ok(b"\xc3"));
+    assert!(rt; buf == b"\x05".as_slice());
+    buf = b"\x02\xc3";
+    assert!(rt; borrow_bytes(&mut buf) == Err(DecodeError::UnexpectedEof));
+    assert!(rt; buf == b"\x02\xc3".as_slice());
+}
+
+#[test]
+fn the_greatest_length_is_short_input(rt: HostRuntime) {
+    let mut buf: &[u8] = b"\xff\xff\xff\xff\xff\xff\xff\xff\xff\x01";
+    let found = decode_bytes(rt.alloc(), &mut buf);
+    assert!(rt; found == Err(DecodeError::UnexpectedEof));
+}
+
+fn writes(alloc: Global) -> Result<bool, Stop> {
+    let mut sink = Vec::new(alloc);
+    encode_bytes(b"\xff", &mut sink)?;
+    put_bytes_field(1, b"", &mut sink)?;
+    Ok(sink.as_slice() == b"\x01\xff\x0a\x00".as_slice() && bytes_encoded_len(b"\xff")? == 2)
+}
+
+fn decodes(alloc: Global, place: usize) -> Result<bool, Stop> {
+    let mut buf = cut(alloc, b"\x02\xc3\x28\x01\x07\x05", place)?;
+    let first = decode_bytes(alloc, &mut buf)?;
+    let second = decode_bytes_to_bytes(alloc, &mut buf)?;
+    Ok(
+        first.as_slice() == b"\xc3\x28".as_slice()
+            && second.as_slice() == b"\x07".as_slice()
+            && buf.remaining() == 1,
+    )
+}
+
+// Bytes that are merged into `old`: the answer, and the bytes then.
+fn merges(
+    alloc: Global,
+    bytes: &[u8],
+    answer: Result<(), DecodeError>,
+    after: &[u8],
+) -> Result<bool, Stop> {
+    let mut value = Vec::from_slice(alloc, b"old")?;
+    let mut buf = cut(alloc, bytes, bytes.len() / 2)?;
+    let found = merge_bytes(alloc, &mut value, &mut buf);
+    if found == Err(DecodeError::OutOfMemory) && value.as_slice() == b"old".as_slice() {
+        return Err(Stop::Memory);
+    }
+    Ok(found == answer && value.as_slice() == after)
+}
+
+fn payloads(alloc: Global) -> Result<bool, Stop> {
+    let lent = WirePayload::borrowed(b"hi");
+    let own = WirePayload::owned(Bytes::copy_from_slice(alloc, b"\xc3")?);
+    let again = own.clone()?;
+    Ok(
+        !lent.is_owned()
+            && own.is_owned()
+            && again.is_owned()
+            && lent.len() == 2
+            && !own.is_empty()
+            && lent.to_str() == Ok("hi")
+            && own.to_str() == Err(DecodeError::InvalidUtf8)
+            && again.as_slice() == b"\xc3".as_slice()
+            && lent.into_bytes(alloc)?.as_slice() == b"hi".as_slice()
+            && own.into_bytes(alloc)?.as_slice() == b"\xc3".as_slice(),
+    )
+}
+
+fn rows(alloc: Global) -> [Found; 7] {
+    [
+        found_in(writes(alloc)),
+        found_in(decodes(alloc, 0)),
+        found_in(decodes(alloc, 2)),
+        found_in(merges(alloc, b"\x02hi", Ok(()), b"hi")),
+        found_in(merges(alloc, b"\x06longer", Ok(()), b"longer")),
+        found_in(merges(alloc, b"\x05a", Err(DecodeError::UnexpectedEof), b"old")),
+        found_in(payloads(alloc)),
+    ]
+}
+
+// With a refused allocation a row may find no memory, and never anything else.
+#[test]
+fn bytes_answer_or_lack_memory(rt: HostRuntime) {
+    assert!(rt; rows(rt.alloc()).iter().all(|found| *found != Found::Other));
+}
+
+#[test]
+fn ample_memory_reads_and_writes_bytes(rt: HostRuntime) {
+    assert!(rt; rows(rt.alloc()).iter().all(|found| *found == Found::Own));
+}

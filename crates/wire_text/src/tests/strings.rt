@@ -1,0 +1,89 @@
+use super::{Found, Stop, cut, found_in};
+use crate::{
+    borrow_str, decode_string, encode_string, merge_string, put_string_field, string_encoded_len,
+};
+use bytes::Buf;
+use std::alloc::Global;
+use wire_base::DecodeError;
+
+#[test]
+fn strings_are_borrowed(rt: HostRuntime) {
+    let mut buf: &[u8] = b"\x02hi\x05";
+    assert!(rt; borrow_str(&mut buf) == Ok("hi"));
+    assert!(rt; buf == b"\x05".as_slice());
+    buf = b"\x02\xc3\x28\x05";
+    assert!(rt; borrow_str(&mut buf) == Err(DecodeError::InvalidUtf8));
+    assert!(rt; buf == b"\x05".as_slice());
+    buf = b"\x02h";
+    assert!(rt; borrow_str(&mut buf) == Err(DecodeError::UnexpectedEof));
+    assert!(rt; buf == b"\x02h".as_slice());
+}
+
+fn writes(alloc: Global) -> Result<bool, Stop> {
+    let mut sink = Vec::new(alloc);
+    encode_string("é", &mut sink)?;
+    put_string_field(2, "hi", &mut sink)?;
+    Ok(sink.as_slice() == b"\x02\xc3\xa9\x12\x02hi".as_slice())
+}
+
+fn measures(alloc: Global) -> Result<bool, Stop> {
+    let bytes = vec![in alloc; b'a'; 128]?;
+    match String::from_utf8(bytes) {
+        Ok(text) => Ok(string_encoded_len(&text)? == 130),
+        Err(_) => Ok(false),
+    }
+}
+
+fn decodes(alloc: Global, place: usize) -> Result<bool, Stop> {
+    let mut buf = cut(alloc, b"\x82\x00hi\x05", place)?;
+    let text = decode_string(alloc, &mut buf)?;
+    Ok(text.as_str() == "hi" && buf.remaining() == 1)
+}
+
+// A string that is merged into the text `old`: the answer, the text then, and the bytes left.
+fn merges(
+    alloc: Global,
+    bytes: &[u8],
+    answer: Result<(), DecodeError>,
+    text: &str,
+    left: usize,
+) -> Result<bool, Stop> {
+    let mut value = String::from_str(alloc, "old")?;
+    let mut buf = cut(alloc, bytes, bytes.len() / 2)?;
+    let found = merge_string(alloc, &mut value, &mut buf);
+    if found == Err(DecodeError::OutOfMemory) && value.as_str() == "old" {
+        return Err(Stop::Memory);
+    }
+    Ok(found == answer && value.as_str() == text && buf.remaining() == left)
+}
+
+fn rows(alloc: Global) -> [Found; 9] {
+    [
+        found_in(writes(alloc)),
+        found_in(measures(alloc)),
+        found_in(decodes(alloc, 0)),
+        found_in(decodes(alloc, 3)),
+        found_in(merges(alloc, b"\x02hi", Ok(()), "hi", 0)),
+        found_in(merges(alloc, b"\x06longer\x05", Ok(()), "longer", 1)),
+        found_in(merges(
+            alloc,
+            b"\x03a\xc3\x28",
+            Err(DecodeError::InvalidUtf8),
+            "",
+            0,
+        )),
+        found_in(merges(alloc, b"\x05a", Err(DecodeError::UnexpectedEof), "old", 1)),
+        found_in(merges(alloc, b"\x80", Err(DecodeError::UnexpectedEof), "old", 0)),
+    ]
+}
+
+// With a refused allocation a row may find no memory, and never anything else.
+#[test]
+fn strings_answer_or_lack_memory(rt: HostRuntime) {
+    assert!(rt; rows(rt.alloc()).iter().all(|found| *found != Found::Other));
+}
+
+#[test]
+fn ample_memory_reads_and_writes_strings(rt: HostRuntime) {
+    assert!(rt; rows(rt.alloc()).iter().all(|found| *found == Found::Own));
+}
