@@ -1,5 +1,5 @@
 -- What a type that a user plugged in makes of what stands behind a length.
-use Rattle.std.proofs.Common.{◌≡◌, ◌⊎◌, inl, inr, ⊎_elim, ℕ, ◌≤◌, List, ◌++◌, length, take, drop, Result, Ok, Err, refl, sym, subst, ◌∙◌, arith}
+use Rattle.std.proofs.Common.{◌≡◌, ◌⊎◌, inl, inr, ⊎_elim, ℕ, ◌<◌, ◌≤◌, List, ◌++◌, length, take, drop, Result, Ok, Err, refl, sym, subst, ◌∙◌, arith}
 use Rattle.std.specs.Prelude.{IfOk, IfErr}
 use Rattle.std.proofs.lemmas.List.{take-append-drop, length-take}
 use Rattle.bytes.specs.Unread.{IsChunkOf}
@@ -9,6 +9,13 @@ use Rattle.wire_base.specs.Read.{Reads}
 use Rattle.wire_base.specs.Varint.{IsSpelling}
 use Rattle.wire_text.specs.FromWire.{Answer, TakesValue, ValueFault, refused, LieInChunk, AreCut, lent, handed_over}
 use Rattle.wire_text.proofs.Payloads.{reads_payload}
+
+-- what the chunk at the front shows of so many bytes
+pub chunk_cuts : (len : ℕ) (chunk bytes : List ℕ) → IsChunkOf chunk bytes → length chunk < len → AreCut len bytes
+chunk_cuts len chunk bytes shown few = (chunk, shown, few)
+
+pub chunk_holds : (len : ℕ) (chunk bytes : List ℕ) → IsChunkOf chunk bytes → len ≤ length chunk → LieInChunk len bytes
+chunk_holds len chunk bytes shown all = (chunk, shown, all)
 
 lies_there : (len : ℕ) (mid payload rest : List ℕ) → len ≡ length payload → mid ≡ payload ++ rest → LieInChunk len mid → LieInChunk (length payload) (payload ++ rest)
 lies_there len mid payload rest count parts chunk = (chunk.0, subst (IsChunkOf chunk.0) parts chunk.1, omega (arith, chunk.2, count))

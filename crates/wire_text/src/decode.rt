@@ -79,6 +79,11 @@ pub fn merge_string<B: Buf>(
     let len = decode_length(buf)?;
     let mut payload = take_room(alloc, value, len)?;
     copy_bytes(buf, len, &mut payload);
-    *value = into_text(payload)?;
-    Ok(())
+    match into_text(payload) {
+        Ok(text) => {
+            *value = text;
+            Ok(())
+        }
+        Err(error) => Err(error),
+    }
 }

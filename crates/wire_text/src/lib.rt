@@ -3,7 +3,6 @@
 
 mod borrow;
 mod decode;
-mod decode_to;
 mod encode;
 mod length;
 mod payload;
@@ -16,12 +15,11 @@ mod wire_payload;
 
 pub use borrow::{borrow_bytes, borrow_str};
 pub use decode::{decode_bytes, decode_bytes_to_bytes, decode_string, merge_bytes, merge_string};
-pub use decode_to::{decode_bytes_to, decode_string_to};
 pub use encode::{
     bytes_encoded_len, encode_bytes, encode_string, put_bytes_field, put_string_field,
     string_encoded_len,
 };
-pub use proto_bytes::ProtoBytes;
+pub use proto_bytes::{ProtoBytes, decode_bytes_to};
 pub use proto_list::ProtoList;
-pub use proto_string::ProtoString;
+pub use proto_string::{ProtoString, decode_string_to};
 pub use wire_payload::WirePayload;

@@ -1,8 +1,9 @@
 //! What a decoder hands to a type that a user plugged in.
-ghost use Rattle.std.specs.Prelude.{◌≡◌, ◌==◌, Bool, true, false, length, IsUtf8, OnOk, OnErr, IfOk, IfErr, IsOk};
+ghost use Rattle.std.specs.Prelude.{◌≡◌, ◌≤◌, ◌==◌, Bool, true, false, length, take, drop, IsUtf8, OnOk, OnErr, IfOk, IfErr, IsOk};
 ghost use Rattle.wire_base.specs.declared.error.DecodeError.TheVariants.{InvalidUtf8, OutOfMemory};
 
-use bytes::Bytes;
+use crate::payload::copy_bytes;
+use bytes::{Buf, Bytes};
 use std::alloc::{AllocError, Global};
 use wire_base::DecodeError;
 
@@ -119,5 +120,21 @@ impl<'a> WirePayload<'a> {
                 Err(shared) => Ok(Vec::from_slice(alloc, shared.as_slice())?),
             },
         }
+    }
+
+    // Takes so many bytes as a payload of their own.
+    pub(crate) fn copied_from<B: Buf>(
+        alloc: Global,
+        buf: &mut B,
+        len: usize,
+    ) -> Result<WirePayload<'a>, DecodeError>
+        requires { len ≤ length (B.unread buf.old) }
+        ensures bytes { IfOk result (λ payload. payload_bytes payload ≡ take len (B.unread buf.old)) }
+        ensures rest { OnOk result (B.unread buf.new ≡ drop len (B.unread buf.old)) }
+        ensures err { IfErr result (λ e. e ≡ OutOfMemory) }
+    {
+        let mut bytes = Vec::with_capacity(alloc, len)?;
+        copy_bytes(buf, len, &mut bytes);
+        Ok(WirePayload::owned(Bytes::from_vec(bytes)?))
     }
 }
