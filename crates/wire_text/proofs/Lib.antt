@@ -1,3 +1,4 @@
+pub mod DelimitedLaws
 pub mod Payloads
 pub mod Values
 pub mod Writes

@@ -1,6 +1,7 @@
 pub mod Delimited
 pub mod FromWire
 pub mod FromWireLaws
+pub mod Laws
 pub mod NoX
 pub mod StringPayload
 pub mod WirePayload

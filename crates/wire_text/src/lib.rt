@@ -4,6 +4,7 @@
 mod borrow;
 mod decode;
 mod encode;
+pub mod laws;
 mod length;
 mod payload;
 mod proto_bytes;
