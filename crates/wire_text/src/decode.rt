@@ -45,17 +45,13 @@ pub fn decode_string<B: Buf>(alloc: Global, buf: &mut B) -> Result<String, Decod
 
 /// Puts the bytes of a length-delimited payload in the place of those that the vector has, and keeps
 /// its room where they fit. A refusal leaves it as it was.
-pub fn merge_bytes<B: Buf>(
-    alloc: Global,
-    value: &mut Vec<u8>,
-    buf: &mut B,
-) -> Result<(), DecodeError>
+pub fn merge_bytes<B: Buf>(value: &mut Vec<u8>, buf: &mut B) -> Result<(), DecodeError>
     ensures ok { OnOk result (Reads (B.unread buf.old) (IsDelimited value.new.items) (B.unread buf.new)) }
     ensures fault { IfErr result (λ e. (e ≡ OutOfMemory) ⊎ DelimitedFault (B.unread buf.old) e) }
     ensures unchanged { OnErr result (value.new.items ≡ value.old.items) }
 {
     let len = decode_length(buf)?;
-    make_room(alloc, value, len)?;
+    make_room(value, len)?;
     copy_bytes(buf, len, value);
     Ok(())
 }
@@ -63,11 +59,7 @@ pub fn merge_bytes<B: Buf>(
 /// Puts the text of a length-delimited payload in the place of the one that the string has, and keeps
 /// its room where it fits. A payload that is not UTF-8 is taken whole, and leaves the empty text; every
 /// other refusal leaves the string as it was.
-pub fn merge_string<B: Buf>(
-    alloc: Global,
-    value: &mut String,
-    buf: &mut B,
-) -> Result<(), DecodeError>
+pub fn merge_string<B: Buf>(value: &mut String, buf: &mut B) -> Result<(), DecodeError>
     ensures ok { OnOk result (Reads (B.unread buf.old) (IsString (string_bytes value.new)) (B.unread buf.new)) }
     ensures fault { IfErr result (λ e. (e ≡ OutOfMemory) ⊎ StringFault (B.unread buf.old) e) }
     ensures passed { IfErr result (λ e. e ≡ InvalidUtf8
@@ -77,7 +69,7 @@ pub fn merge_string<B: Buf>(
         → string_bytes value.new ≡ string_bytes value.old) }
 {
     let len = decode_length(buf)?;
-    let mut payload = take_room(alloc, value, len)?;
+    let mut payload = take_room(value, len)?;
     copy_bytes(buf, len, &mut payload);
     match into_text(payload) {
         Ok(text) => {

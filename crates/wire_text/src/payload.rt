@@ -4,7 +4,7 @@ ghost use Rattle.std.specs.Vec.{vec_capacity};
 ghost use Rattle.wire_base.specs.declared.error.DecodeError.TheVariants.{InvalidUtf8};
 
 use bytes::Buf;
-use std::alloc::{AllocError, Global};
+use std::alloc::AllocError;
 use std::mem;
 use wire_base::DecodeError;
 
@@ -25,13 +25,13 @@ pub(crate) fn copy_bytes<B: Buf>(buf: &mut B, len: usize, bytes: &mut Vec<u8>)
 }
 
 /// Empties a vector, which then has room for so many bytes. What it held is not copied.
-pub(crate) fn make_room(alloc: Global, value: &mut Vec<u8>, len: usize) -> Result<(), AllocError>
+pub(crate) fn make_room(value: &mut Vec<u8>, len: usize) -> Result<(), AllocError>
     ensures empty { OnOk result (value.new.items ≡ []) }
     ensures room { OnOk result (len ≤ vec_capacity value.new) }
     ensures unchanged { OnErr result (value.new.items ≡ value.old.items) }
 {
     if value.capacity() < len {
-        *value = Vec::with_capacity(alloc, len)?;
+        *value = Vec::with_capacity(*value.allocator(), len)?;
     } else {
         value.clear();
     }
@@ -39,16 +39,13 @@ pub(crate) fn make_room(alloc: Global, value: &mut Vec<u8>, len: usize) -> Resul
 }
 
 /// Empties a string, and hands out its room, or room for so many bytes where it has less.
-pub(crate) fn take_room(
-    alloc: Global,
-    value: &mut String,
-    len: usize,
-) -> Result<Vec<u8>, AllocError>
+pub(crate) fn take_room(value: &mut String, len: usize) -> Result<Vec<u8>, AllocError>
     ensures empty { IfOk result (λ room. room.items ≡ []) }
     ensures room { IfOk result (λ room. len ≤ vec_capacity room) }
     ensures emptied { OnOk result (string_bytes value.new ≡ []) }
     ensures unchanged { OnErr result (string_bytes value.new ≡ string_bytes value.old) }
 {
+    let alloc = *value.allocator();
     if value.capacity() < len {
         let room = Vec::with_capacity(alloc, len)?;
         *value = String::new(alloc);

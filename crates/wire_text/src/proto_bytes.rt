@@ -1,5 +1,5 @@
 //! Types that a bytes field may have, and decoding into them.
-ghost use Rattle.std.specs.Prelude.{◌≡◌, ◌≤◌, ◌⊎◌, ℕ, List, [], Ok, Err, length, take, drop, OnErr, OnSome, IfSome, IfNone, IfOk, IfErr};
+ghost use Rattle.std.specs.Prelude.{◌≡◌, ◌≤◌, ◌⊎◌, ℕ, List, [], Ok, Err, length, take, drop, OnErr, OnSome, IfSome, IfNone, IsOk, IfOk, IfErr};
 ghost use Rattle.wire_base.specs.declared.error.DecodeError.TheVariants.{OutOfMemory};
 ghost use Rattle.wire_text.specs.FromWire.{Answer, IsByBytes, TakesValue, ValueFault, LieInChunk, AreCut, answers_all};
 ghost use Rattle.wire_text.specs.FromWireLaws.{answers_all_by_bytes};
@@ -50,7 +50,10 @@ impl ProtoBytes for Vec<u8> {
         payload.into_vec(alloc)
     }
 
-    fn from_vec(_alloc: Global, value: Vec<u8>) -> Result<Vec<u8>, DecodeError> {
+    fn from_vec(_alloc: Global, value: Vec<u8>) -> Result<Vec<u8>, DecodeError>
+        ensures ok { IfOk result (λ made. made.items ≡ value.items) }
+        ensures taken { IsOk result }
+    {
         Ok(value)
     }
 

@@ -51,7 +51,7 @@ fn merges(
 ) -> Result<bool, Stop> {
     let mut value = Vec::from_slice(alloc, b"old")?;
     let mut buf = cut(alloc, bytes, bytes.len() / 2)?;
-    let found = merge_bytes(alloc, &mut value, &mut buf);
+    let found = merge_bytes(&mut value, &mut buf);
     if found == Err(DecodeError::OutOfMemory) && value.as_slice() == b"old".as_slice() {
         return Err(Stop::Memory);
     }

@@ -50,7 +50,7 @@ fn merges(
 ) -> Result<bool, Stop> {
     let mut value = String::from_str(alloc, "old")?;
     let mut buf = cut(alloc, bytes, bytes.len() / 2)?;
-    let found = merge_string(alloc, &mut value, &mut buf);
+    let found = merge_string(&mut value, &mut buf);
     if found == Err(DecodeError::OutOfMemory) && value.as_str() == "old" {
         return Err(Stop::Memory);
     }
