@@ -1,4 +1,3 @@
 pub mod DelimitedLaws
 pub mod Payloads
 pub mod Values
-pub mod Writes

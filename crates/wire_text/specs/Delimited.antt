@@ -2,9 +2,7 @@
 use Rattle.std.specs.Prelude.{◌≡◌, ℕ, ◌<◌, List, ◌++◌, length}
 use Rattle.wire_base.specs.declared.error.DecodeError.{DecodeError}
 use Rattle.wire_base.specs.declared.error.DecodeError.TheVariants.{UnexpectedEof}
-use Rattle.wire_base.specs.declared.tag.WireType.TheVariants.{LengthDelimited}
 use Rattle.wire_base.specs.Read.{Reads}
-use Rattle.wire_base.specs.Tag.{tag_text}
 use Rattle.wire_base.specs.Varint.{IsSpelling, VarintFault, shortest}
 
 -- The text is the length of the payload, padded with zeros or not, and the payload. This is what
@@ -15,10 +13,6 @@ IsDelimited payload text = (len : List ℕ) × (text ≡ len ++ payload) × IsSp
 -- the shortest of its texts
 abbrev pub delimited_text : List ℕ → List ℕ
 delimited_text payload = shortest (length payload) ++ payload
-
--- the shortest text of a record with this number and payload
-abbrev pub field_text : ℕ → List ℕ → List ℕ
-field_text number payload = tag_text number LengthDelimited ++ delimited_text payload
 
 -- no length-delimited payload stands at the front of these bytes, with the error that says why
 pub data DelimitedFault : List ℕ → DecodeError → Type 0 where

@@ -1,11 +1,13 @@
 //! Strings and bytes into a sink.
 ghost use Rattle.std.specs.Prelude.{◌≡◌, ◌≤◌, ◌^◌, ◌++◌, length, OnOk, OnErr, IfOk, IfErr};
 ghost use Rattle.wire_base.specs.declared.error.EncodeError.TheVariants.{LengthOverflow};
+ghost use Rattle.wire_base.specs.Field.{bytes};
 ghost use Rattle.wire_base.specs.FieldNumber.{IsFieldNumber};
 ghost use Rattle.wire_base.specs.Sink.{KeepsFront, WriteAnswers};
-ghost use Rattle.wire_text.specs.Delimited.{delimited_text, field_text};
+ghost use Rattle.wire_base.specs.Text.{record_text};
+ghost use Rattle.wire_text.specs.Delimited.{delimited_text};
 
-use wire_base::{EncodeError, EncodeSink, Tag, WireType, encode_varint, varint_len};
+use wire_base::{EncodeError, EncodeSink, Tag, WireType, encode_varint, laws, varint_len};
 
 /// How many bytes `encode_string` writes. `LengthOverflow` comes exactly where these are more than
 /// `usize::MAX`.
@@ -45,6 +47,8 @@ pub fn encode_bytes<S: EncodeSink>(value: &[u8], sink: &mut S) -> Result<(), Enc
     ensures err { OnErr result (KeepsFront (S.held sink.old) (delimited_text value.now) (S.held sink.new)) }
     ensures cause { WriteAnswers S.most (S.held sink.old) (delimited_text value.now) result }
 {
+    laws::two_parts();
+    laws::put_is_a_write();
     encode_varint(value.len() as u64, sink)?;
     sink.put_slice(value)
 }
@@ -56,9 +60,9 @@ pub fn put_string_field<S: EncodeSink>(
     sink: &mut S,
 ) -> Result<(), EncodeError>
     requires { IsFieldNumber number }
-    ensures ok { OnOk result (S.held sink.new ≡ S.held sink.old ++ field_text number value.now) }
-    ensures err { OnErr result (KeepsFront (S.held sink.old) (field_text number value.now) (S.held sink.new)) }
-    ensures cause { WriteAnswers S.most (S.held sink.old) (field_text number value.now) result }
+    ensures ok { OnOk result (S.held sink.new ≡ S.held sink.old ++ record_text number (bytes value.now)) }
+    ensures err { OnErr result (KeepsFront (S.held sink.old) (record_text number (bytes value.now)) (S.held sink.new)) }
+    ensures cause { WriteAnswers S.most (S.held sink.old) (record_text number (bytes value.now)) result }
 {
     put_bytes_field(number, value.as_bytes(), sink)
 }
@@ -70,10 +74,11 @@ pub fn put_bytes_field<S: EncodeSink>(
     sink: &mut S,
 ) -> Result<(), EncodeError>
     requires { IsFieldNumber number }
-    ensures ok { OnOk result (S.held sink.new ≡ S.held sink.old ++ field_text number value.now) }
-    ensures err { OnErr result (KeepsFront (S.held sink.old) (field_text number value.now) (S.held sink.new)) }
-    ensures cause { WriteAnswers S.most (S.held sink.old) (field_text number value.now) result }
+    ensures ok { OnOk result (S.held sink.new ≡ S.held sink.old ++ record_text number (bytes value.now)) }
+    ensures err { OnErr result (KeepsFront (S.held sink.old) (record_text number (bytes value.now)) (S.held sink.new)) }
+    ensures cause { WriteAnswers S.most (S.held sink.old) (record_text number (bytes value.now)) result }
 {
+    laws::two_parts();
     Tag::new(number, WireType::LengthDelimited).encode(sink)?;
     encode_bytes(value, sink)
 }
