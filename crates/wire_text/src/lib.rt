@@ -4,6 +4,7 @@
 mod borrow;
 mod decode;
 mod encode;
+mod enumeration;
 pub mod laws;
 mod length;
 mod payload;
@@ -20,6 +21,7 @@ pub use encode::{
     bytes_encoded_len, encode_bytes, encode_string, put_bytes_field, put_string_field,
     string_encoded_len,
 };
+pub use enumeration::{EnumValue, Enumeration};
 pub use proto_bytes::{ProtoBytes, decode_bytes_to};
 pub use proto_list::ProtoList;
 pub use proto_string::{ProtoString, decode_string_to};
