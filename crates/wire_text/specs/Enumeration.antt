@@ -1,5 +1,5 @@
 -- What a value of an enum field means: its number, and its text.
-use Rattle.std.specs.Prelude.{ℕ, ℤ, List, ◌++◌, Bool, true, false, Option, Some, None, codes}
+use Rattle.std.specs.Prelude.{ℕ, ℤ, List, ◌++◌, Bool, false, Option, Some, None, codes}
 use Rattle.std.specs.Fmt.{signed_decimal}
 use Rattle.std.specs.Ordering.{int_eq}
 use Rattle.wire_text.specs.declared.enumeration.EnumValue.{EnumValue}

@@ -1,4 +1,5 @@
 pub mod Delimited
+pub mod EnumNumbers
 pub mod Enumeration
 pub mod FromWire
 pub mod FromWireLaws

@@ -1,7 +1,9 @@
 //! Open enums: a field keeps the number of a value that its enum does not know.
-ghost use Rattle.std.specs.Prelude.{◌≡◌, ℕ, ℤ, pos, List, Option, Some, IfSome, is_some, is_none};
+ghost use Rattle.std.specs.Prelude.{◌≡◌, ℕ, ℤ, pos, List, Option, Some, IfSome, is_some, is_none, ⊤};
 ghost use Rattle.wire_text.specs.Enumeration.{number_of, known, known_or, is_known_as, value_text, value_debug};
 ghost use Rattle.wire_text.specs.declared.enumeration.EnumValue.TheVariants.{Known};
+
+pub(crate) mod laws;
 
 use std::fmt;
 use std::fmt::Debug;
@@ -18,6 +20,9 @@ pub trait Enumeration: Clone + Copy + PartialEq + Eq + Hash + Debug {
     /// The bytes of a value's name.
     ghost name: { Self → List ℕ };
 
+    /// Holds of a value and each name by which it is found. A value may have names beside its own.
+    ghost is_named: { Self → List ℕ → Type 0 } = { λ _ _. ⊤ };
+
     fn from_i32(value: i32) -> Option<Self>
         ensures { result ≡ of_number value };
 
@@ -29,7 +34,9 @@ pub trait Enumeration: Clone + Copy + PartialEq + Eq + Hash + Debug {
         ensures { result.now ≡ name self.now };
 
     /// The value with a name, where the enum looks its names up.
-    fn from_proto_name(_name: &str) -> Option<Self> {
+    fn from_proto_name(_name: &str) -> Option<Self>
+        ensures { IfSome result (λ value. is_named value _name.now) }
+    {
         None
     }
 
@@ -50,10 +57,10 @@ pub enum EnumValue<E: Enumeration> {
 }
 
 impl<E: Enumeration> EnumValue<E> {
-    pub fn from_known(value: E) -> EnumValue<E>
-        ensures { result ≡ Known value }
+    pub fn from_known(variant: E) -> EnumValue<E>
+        ensures { result ≡ Known variant }
     {
-        EnumValue::Known(value)
+        EnumValue::Known(variant)
     }
 
     /// The number on the wire.
@@ -69,16 +76,13 @@ impl<E: Enumeration> EnumValue<E> {
     pub fn is_known(&self) -> bool
         ensures { result ≡ is_some (known self.now) }
     {
-        match self {
-            EnumValue::Known(_) => true,
-            EnumValue::Unknown(_) => false,
-        }
+        matches!(self, EnumValue::Known(_))
     }
 
     pub fn is_unknown(&self) -> bool
         ensures { result ≡ is_none (known self.now) }
     {
-        !self.is_known()
+        matches!(self, EnumValue::Unknown(_))
     }
 
     pub fn as_known(&self) -> Option<E>

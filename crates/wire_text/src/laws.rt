@@ -1,6 +1,9 @@
 //! Laws of the definitions that the contracts cite: each function is a theorem, and does nothing.
 ghost use Rattle.wire_text.specs.Laws.{ShortestReadsBack, OnePayload, NoPayloadBesideFault, OneFault, PayloadOrFaultStands, NoStringBesideFault, OneStringFault, StringOrFaultStands};
 
+pub use crate::enumeration::laws::{
+    enum_value_keeps_its_number, enum_values_equal_by_variant, equal_enum_values_hash_equally,
+};
 use wire_base::laws;
 
 /// The shortest text of a payload reads back as that payload, whatever follows it.
