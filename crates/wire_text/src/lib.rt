@@ -11,8 +11,6 @@ mod payload;
 mod proto_bytes;
 mod proto_list;
 mod proto_string;
-#[cfg(test)]
-mod tests;
 mod wire_payload;
 
 pub use borrow::{borrow_bytes, borrow_str};

@@ -8,7 +8,7 @@ use wire_base::{
 };
 
 // A buffer whose chunks are two pieces of the bytes, or one where the other has no byte.
-fn cut(alloc: Global, bytes: &[u8], place: usize) -> Result<RopeBuf, Stop> {
+pub(crate) fn cut(alloc: Global, bytes: &[u8], place: usize) -> Result<RopeBuf, Stop> {
     let place = place.min(bytes.len());
     let mut rope = Rope::with_min_segment(alloc, 1);
     rope.put_shared(Bytes::copy_from_slice(alloc, &bytes[..place])?)?;

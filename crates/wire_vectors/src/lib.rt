@@ -6,8 +6,16 @@ pub mod callers;
 #[cfg(test)]
 mod chunks;
 #[cfg(test)]
+mod enums;
+#[cfg(test)]
 mod found;
+#[cfg(test)]
+mod payloads;
+#[cfg(test)]
+mod plugged;
 #[cfg(test)]
 mod ropes;
 #[cfg(test)]
 mod scalars;
+#[cfg(test)]
+mod strings;

@@ -1,10 +1,12 @@
-use super::{Found, Stop, cut, found_in};
-use crate::{
-    borrow_str, decode_string, encode_string, merge_string, put_string_field, string_encoded_len,
-};
+//! Strings: written, read, merged and borrowed.
+use crate::chunks::cut;
+use crate::found::{Found, Stop, found_in};
 use bytes::Buf;
 use std::alloc::Global;
 use wire_base::DecodeError;
+use wire_text::{
+    borrow_str, decode_string, encode_string, merge_string, put_string_field, string_encoded_len,
+};
 
 #[test]
 fn strings_are_borrowed(rt: HostRuntime) {

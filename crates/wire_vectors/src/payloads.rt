@@ -1,11 +1,13 @@
-use super::{Found, Stop, cut, found_in};
-use crate::{
-    WirePayload, borrow_bytes, bytes_encoded_len, decode_bytes, decode_bytes_to_bytes,
-    encode_bytes, merge_bytes, put_bytes_field,
-};
+//! Bytes: written, read, merged and borrowed, and payloads as they are lent.
+use crate::chunks::cut;
+use crate::found::{Found, Stop, found_in};
 use bytes::{Buf, Bytes};
 use std::alloc::Global;
 use wire_base::DecodeError;
+use wire_text::{
+    WirePayload, borrow_bytes, bytes_encoded_len, decode_bytes, decode_bytes_to_bytes,
+    encode_bytes, merge_bytes, put_bytes_field,
+};
 
 #[test]
 fn bytes_are_borrowed(rt: HostRuntime) {

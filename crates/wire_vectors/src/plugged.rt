@@ -1,11 +1,15 @@
+//! Strings, bytes and lists of types that a user plugs in.
 ghost use Rattle.std.specs.Prelude.{string_bytes};
-ghost use Rattle.wire_text.specs.NoX.{answers_no_x, answers_no_x_by_bytes};
+ghost use Rattle.wire_vectors.specs.NoX.{answers_no_x, answers_no_x_by_bytes};
 
-use super::{Found, Stop, cut, found_in};
-use crate::{ProtoBytes, ProtoList, ProtoString, WirePayload, decode_bytes_to, decode_string_to};
+use crate::chunks::cut;
+use crate::found::{Found, Stop, found_in};
 use bytes::{Buf, Bytes};
 use std::alloc::Global;
 use wire_base::DecodeError;
+use wire_text::{
+    ProtoBytes, ProtoList, ProtoString, WirePayload, decode_bytes_to, decode_string_to,
+};
 
 // A text that does not begin with an x.
 #[derive(Clone, Debug, PartialEq, Drop)]
