@@ -21,7 +21,8 @@ pub trait ProtoList<T: Drop>: Clone + PartialEq + Debug + Drop {
 
     /// Makes room for so many elements more, as far as the type can.
     fn reserve(&mut self, _additional: usize) -> Result<(), DecodeError>
-        ensures { items self.new ≡ items self.old }
+        ensures unchanged { items self.new ≡ items self.old }
+        ensures err { IfErr result (λ e. e ≡ OutOfMemory) }
     {
         Ok(())
     }
@@ -48,10 +49,7 @@ impl<T: Clone + PartialEq + Debug + Drop> ProtoList<T> for Vec<T> {
         Vec::clear(self)
     }
 
-    fn reserve(&mut self, additional: usize) -> Result<(), DecodeError>
-        ensures items { self.new.items ≡ self.old.items }
-        ensures err { IfErr result (λ e. e ≡ OutOfMemory) }
-    {
+    fn reserve(&mut self, additional: usize) -> Result<(), DecodeError> {
         Vec::reserve(self, additional)?;
         Ok(())
     }
