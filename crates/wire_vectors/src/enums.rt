@@ -1,5 +1,7 @@
 //! Enum fields: numbers that an enum knows, and others that are kept.
 ghost use Rattle.std.specs.Prelude.{◌≡◌, pos, [], ◌∷◌, codes};
+ghost use Rattle.wire_text.specs.declared.enumeration.EnumValue.TheVariants.{Known, Unknown};
+ghost use Rattle.wire_text.specs.declared.tests.enums.Color.TheVariants.{Green};
 ghost use Rattle.wire_text.specs.EnumNumbers.{first_numbered, first_numbered_keeps};
 
 use crate::found::{Found, Stop, found_in};
@@ -102,6 +104,19 @@ impl Enumeration for Status {
     }
 }
 
+// What the contracts alone say of two numbers.
+fn green() -> EnumValue<Color>
+    ensures { result ≡ Known Green }
+{
+    EnumValue::from(1)
+}
+
+fn no_status() -> EnumValue<Status>
+    ensures { result ≡ Unknown (pos 0) }
+{
+    EnumValue::default()
+}
+
 fn hash_of(value: EnumValue<Color>) -> u64 {
     let mut state = DefaultHasher::new();
     value.hash(&mut state);
@@ -110,7 +125,7 @@ fn hash_of(value: EnumValue<Color>) -> u64 {
 
 #[test]
 fn a_number_is_known_or_kept(rt: HostRuntime) {
-    let green = EnumValue::<Color>::from(1);
+    let green = green();
     let other = EnumValue::<Color>::from(99);
     assert!(rt; green == EnumValue::Known(Color::Green));
     assert!(rt; other == EnumValue::Unknown(99));
@@ -124,7 +139,7 @@ fn a_number_is_known_or_kept(rt: HostRuntime) {
 
 #[test]
 fn the_default_has_the_number_zero(rt: HostRuntime) {
-    assert!(rt; EnumValue::<Status>::default() == EnumValue::Unknown(0));
+    assert!(rt; no_status() == EnumValue::Unknown(0));
     assert!(rt; EnumValue::<Color>::default() == EnumValue::Known(Color::Red));
 }
 
