@@ -1,5 +1,8 @@
 //! Short callers of the crates below, proved. The README shows them.
-ghost use Rattle.std.specs.Prelude.{◌≡◌, [], ◌++◌, OnOk, IfOk, IfErr};
+ghost use Rattle.std.specs.Prelude.{◌≡◌, ◌⊎◌, [], ◌++◌, string_bytes, OnOk, IfOk, IfErr};
+ghost use Rattle.wire_base.specs.declared.error.DecodeError.TheVariants.{OutOfMemory};
+ghost use Rattle.wire_base.specs.Read.{Reads};
+ghost use Rattle.wire_text.specs.StringPayload.{IsString, StringFault};
 ghost use Rattle.wire_base.specs.Fault.{ListFault, by_tag};
 ghost use Rattle.wire_base.specs.Field.{varint};
 ghost use Rattle.wire_base.specs.FieldNumber.{IsFieldNumber};
@@ -11,9 +14,11 @@ ghost use Rattle.wire_scalar.specs.Packed.{Appends};
 ghost use Rattle.wire_scalar.specs.Reading.{IsVarint};
 ghost use Rattle.wire_scalar.specs.ValueMap.{int32, sint64};
 
+use bytes::Buf;
 use std::alloc::Global;
 use wire_base::{DecodeError, EncodeError, EncodeSink, Tag, count_varints, encode_varint};
 use wire_scalar::{borrow_group, extend_packed_int32, put_sint64_field};
+use wire_text::decode_string;
 
 /// The field number of the first record.
 pub fn first_number(bytes: &[u8]) -> Result<u32, DecodeError>
@@ -55,4 +60,12 @@ pub fn scores_of(alloc: Global, payload: &[u8]) -> Result<Vec<i32>, DecodeError>
     let mut scores = Vec::new(alloc);
     extend_packed_int32(payload, &mut scores, count_varints(payload))?;
     Ok(scores)
+}
+
+/// The name at the front of the buffer, or why there is none.
+pub fn name_of<B: Buf>(alloc: Global, buf: &mut B) -> Result<String, DecodeError>
+    ensures ok { IfOk result (λ name. Reads (B.unread buf.old) (IsString (string_bytes name)) (B.unread buf.new)) }
+    ensures fault { IfErr result (λ e. (e ≡ OutOfMemory) ⊎ StringFault (B.unread buf.old) e) }
+{
+    decode_string(alloc, buf)
 }
