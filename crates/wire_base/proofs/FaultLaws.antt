@@ -6,7 +6,7 @@ use Rattle.wire_base.specs.declared.tag.WireType.TheVariants as types
 use Rattle.wire_base.specs.Fault.{Ending, by_input, by_tag, GoesOn, IsRecordTag, PayloadFault, ListFault}
 use Rattle.wire_base.specs.Field.{Payload, varint, fixed64, fixed32, bytes, group, Fields, none, field, type_of, joined}
 use Rattle.wire_base.specs.Laws.{NoPayloadBesideFault, NoListBesideFault, NoBodyBesideFault}
-use Rattle.wire_base.specs.Limits.{Limits, Fits, one_field, lowered, inner, both}
+use Rattle.wire_base.specs.Limits.{Limits, Fits, one_field, left_after, inner, both}
 use Rattle.wire_base.specs.Read.{Reads}
 use Rattle.wire_base.specs.Spells.{SpellsPayload, Spells, IsPayload}
 use Rattle.wire_base.specs.Tag.{IsTagSpelling, TagFault}
@@ -14,7 +14,7 @@ use Rattle.wire_base.specs.Text.{payload_charge, charge}
 use Rattle.wire_base.specs.Varint.{IsSpelling, VarintFault}
 use Rattle.wire_base.proofs.FieldLaws.{Ends, not_end_group, tag_not_nil, record_not_end, same_payload}
 use Rattle.wire_base.proofs.JoinedLaws.{charge-joined, Reads-joined}
-use Rattle.wire_base.proofs.LimitsLaws.{Fits-joined, lowered-joined, Fits-second, Fits-first, Fits-one_field, level_of_group, Fits-inside}
+use Rattle.wire_base.proofs.LimitsLaws.{Fits-joined, left_after-joined, Fits-second, Fits-first, Fits-one_field, level_of_group, Fits-inside}
 use Rattle.wire_base.proofs.TagLaws.{same_tag, no_tag_beside_fault_lemma}
 use Rattle.wire_base.proofs.VarintLaws.{same_varint, no_varint_beside_fault_lemma}
 
@@ -118,7 +118,7 @@ fixed32_not_short p n old rest h short = let kind = h.spelled.kind in absurd (cc
 
 -- a length, and as many bytes behind it
 pub length_of : (p : Payload) (n : ℕ) (old rest : List ℕ) → Reads old (IsPayload n types.LengthDelimited p) rest
-    → (b : List ℕ) × (p ≡ bytes b) × Reads old (λ text. IsSpelling text (length b)) (b ++ rest)
+    → (b : List ℕ) × (p ≡ bytes b) × Reads old (IsSpelling (length b)) (b ++ rest)
 length_of (bytes b) n old rest h =
     let parts = h.spelled.spelled in
     (b, refl, record { text = parts.0; parts = h.parts ∙ ap (λ l. l ++ rest) parts.1 ∙ append_assoc parts.0 b rest; spelled = parts.2 })
@@ -126,7 +126,7 @@ length_of p n old rest h = let kind = h.spelled.kind in absurd (cc)
 
 -- a payload of so many bytes stands in no fewer
 bytes_not_short : (p : Payload) (n : ℕ) (old rest behind : List ℕ) (len : ℕ) → Reads old (IsPayload n types.LengthDelimited p) rest
-    → Reads old (λ text. IsSpelling text len) behind → length behind < len → ⊥
+    → Reads old (IsSpelling len) behind → length behind < len → ⊥
 bytes_not_short p n old rest behind len h k short =
     let content = length_of p n old rest h in
     let same = same_varint old behind (content.0 ++ rest) len (length content.0) k content.2 in
@@ -180,10 +180,10 @@ goes_on ending (field m p more) mid rest behind n w h ends tag is =
 
 -- a record of a list that fits fits what the records before it leave
 pub Fits-next : (l : Limits) (gs more others : Fields) (fs : Fields) (n : ℕ) (p : Payload) → fs ≡ joined gs more → more ≡ field n p others → Fits (charge fs) l
-    → Fits (payload_charge p) (lowered l (charge gs))
+    → Fits (payload_charge p) (left_after l (charge gs))
 Fits-next l gs more others fs n p parts next h =
     let whole : charge fs ≡ both (charge gs) (charge (field n p others)) = ap charge (parts ∙ ap (joined gs) next) ∙ charge-joined gs (field n p others) in
-    Fits-first (lowered l (charge gs)) (payload_charge p) (charge others) (Fits-second l (charge gs) (charge (field n p others)) (subst (λ c. Fits c l) whole h))
+    Fits-first (left_after l (charge gs)) (payload_charge p) (charge others) (Fits-second l (charge gs) (charge (field n p others)) (subst (λ c. Fits c l) whole h))
 
 -- ---- no fault beside a reading
 
@@ -215,7 +215,7 @@ mutual
   payload_beside_fault l n w old e (PayloadFault.in_group slot level fault) p rest h fits =
       let inside = group_of p n old rest h in
       let body = body_of n inside.0 old rest inside.2 in
-      list_beside_fault (inner (lowered l one_field)) (by_tag n) old e fault inside.0 body.0 body.1 body.2 (Fits-inside l inside.0 (subst (λ q. Fits (payload_charge q) l) inside.1 fits))
+      list_beside_fault (inner (left_after l one_field)) (by_tag n) old e fault inside.0 body.0 body.1 body.2 (Fits-inside l inside.0 (subst (λ q. Fits (payload_charge q) l) inside.1 fits))
 
   -- records within the limits with their end, and a fault in their place
   pub list_beside_fault : (l : Limits) (ending : Ending) (old : List ℕ) (e : DecodeError) → ListFault l ending old e
@@ -229,21 +229,21 @@ mutual
   list_beside_fault l ending old e (ListFault.bad_payload gs mid n w behind h room tag is fault) fs rest k ends fits =
       let front = front_of gs fs old mid rest h k (Ends-from_as ending rest ends) in
       let next = goes_on ending front.more mid rest behind n w front.others ends tag is in
-      payload_beside_fault (lowered l (charge gs)) n w behind e fault next.payload next.mid next.reads
+      payload_beside_fault (left_after l (charge gs)) n w behind e fault next.payload next.mid next.reads
       (Fits-next l gs front.more next.others fs n next.payload front.parts next.parts fits)
 
 -- ---- faults behind records
 
 -- a fault behind records that were read within the limits is a fault of the whole
 pub ListFault-behind : (l : Limits) (ending : Ending) (gs : Fields) (old mid : List ℕ) (e : DecodeError) → Reads old (Spells gs) mid → Fits (charge gs) l
-    → ListFault (lowered l (charge gs)) ending mid e → ListFault l ending old e
+    → ListFault (left_after l (charge gs)) ending mid e → ListFault l ending old e
 ListFault-behind l ending gs old mid e h fits (ListFault.bad_tag fs rest k room goes fault) =
     ListFault.bad_tag (joined gs fs) rest (Reads-joined gs fs old mid rest h k) (Fits-joined l gs fs fits room) goes fault
 ListFault-behind l ending gs old mid e h fits (ListFault.other_end fs rest m after k room end other) =
     ListFault.other_end (joined gs fs) rest m after (Reads-joined gs fs old mid rest h k) (Fits-joined l gs fs fits room) end other
 ListFault-behind l ending gs old mid e h fits (ListFault.bad_payload fs rest n w after k room tag is fault) =
     ListFault.bad_payload (joined gs fs) rest n w after (Reads-joined gs fs old mid rest h k) (Fits-joined l gs fs fits room) tag is
-    (subst (λ m. PayloadFault m n w after e) (lowered-joined l gs fs) fault)
+    (subst (λ m. PayloadFault m n w after e) (left_after-joined l gs fs) fault)
 
 -- ---- the laws
 

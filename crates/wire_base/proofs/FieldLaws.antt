@@ -68,13 +68,13 @@ pub record SameList (fs gs : Fields) (a b r s : List ℕ) : Type 0 where
   pub rest : r ≡ s
 
 -- one varint is one payload
-same_number : (v w : ℕ) (a b r s : List ℕ) → IsSpelling a v → IsSpelling b w → a ++ r ≡ b ++ s → SamePayload (varint v) (varint w) a b r s
+same_number : (v w : ℕ) (a b r s : List ℕ) → IsSpelling v a → IsSpelling w b → a ++ r ≡ b ++ s → SamePayload (varint v) (varint w) a b r s
 same_number v w a b r s h k e =
     let same = same_varint (a ++ r) r s v w (record { text = a; parts = refl; spelled = h }) (record { text = b; parts = e; spelled = k }) in
     record { value = ap varint same.value; text = same.text; rest = same.rest }
 
 -- one length and as many bytes are one payload
-same_bytes : (c d a b r s : List ℕ) → (len : List ℕ) × (a ≡ len ++ c) × IsSpelling len (length c) → (len : List ℕ) × (b ≡ len ++ d) × IsSpelling len (length d)
+same_bytes : (c d a b r s : List ℕ) → (len : List ℕ) × (a ≡ len ++ c) × IsSpelling (length c) len → (len : List ℕ) × (b ≡ len ++ d) × IsSpelling (length d) len
     → a ++ r ≡ b ++ s → SamePayload (bytes c) (bytes d) a b r s
 same_bytes c d a b r s (len, parts, h) (len2, parts2, k) e =
     let split : len ++ (c ++ r) ≡ len2 ++ (d ++ s) = sym (append_assoc len c r) ∙ ap (λ l. l ++ r) (sym parts) ∙ e ∙ ap (λ l. l ++ s) parts2 ∙ append_assoc len2 d s in

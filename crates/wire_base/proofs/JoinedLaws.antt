@@ -9,7 +9,7 @@ use Rattle.wire_base.specs.Limits.{Charge, both}
 use Rattle.wire_base.specs.Read.{Reads}
 use Rattle.wire_base.specs.Spells.{Spells, IsPayload}
 use Rattle.wire_base.specs.Tag.{IsTagSpelling, tag_text}
-use Rattle.wire_base.specs.Text.{payload_text, text, size, payload_count, count, payload_depth, depth, payload_charge, charge}
+use Rattle.wire_base.specs.Text.{payload_text, text_of, size, payload_count, count, payload_depth, depth, payload_charge, charge}
 
 -- ---- lists
 
@@ -30,16 +30,16 @@ joined-push fs gs n p = joined_assoc fs (field n p none) gs
 -- ---- measures
 
 -- the shortest texts stand one behind the other
-pub text-joined : (fs gs : Fields) → text (joined fs gs) ≡ text fs ++ text gs
-text-joined none gs = refl
-text-joined (field n p fs) gs =
-    ap (λ l. tag_text n (type_of p) ++ (payload_text n p ++ l)) (text-joined fs gs)
-    ∙ ap (λ l. tag_text n (type_of p) ++ l) (sym (append_assoc (payload_text n p) (text fs) (text gs)))
-    ∙ sym (append_assoc (tag_text n (type_of p)) (payload_text n p ++ text fs) (text gs))
+pub text_of-joined : (fs gs : Fields) → text_of (joined fs gs) ≡ text_of fs ++ text_of gs
+text_of-joined none gs = refl
+text_of-joined (field n p fs) gs =
+    ap (λ l. tag_text n (type_of p) ++ (payload_text n p ++ l)) (text_of-joined fs gs)
+    ∙ ap (λ l. tag_text n (type_of p) ++ l) (sym (append_assoc (payload_text n p) (text_of fs) (text_of gs)))
+    ∙ sym (append_assoc (tag_text n (type_of p)) (payload_text n p ++ text_of fs) (text_of gs))
 
 -- sizes add up
 pub size-joined : (fs gs : Fields) → size (joined fs gs) ≡ size fs + size gs
-size-joined fs gs = ap length (text-joined fs gs) ∙ length-append (text fs) (text gs)
+size-joined fs gs = ap length (text_of-joined fs gs) ∙ length-append (text_of fs) (text_of gs)
 
 -- counts add up
 pub count-joined : (fs gs : Fields) → count (joined fs gs) ≡ count fs + count gs
@@ -73,8 +73,8 @@ pub charge-push : (fs : Fields) (n : ℕ) (p : Payload) → charge (push fs n p)
 charge-push fs n p = charge-joined fs (field n p none) ∙ ap (both (charge fs)) (charge-one n p)
 
 -- the text of one record more
-pub text-push : (fs : Fields) (n : ℕ) (p : Payload) → text (push fs n p) ≡ text fs ++ (tag_text n (type_of p) ++ payload_text n p)
-text-push fs n p = text-joined fs (field n p none) ∙ ap (λ l. text fs ++ (tag_text n (type_of p) ++ l)) (append-nil (payload_text n p))
+pub text_of-push : (fs : Fields) (n : ℕ) (p : Payload) → text_of (push fs n p) ≡ text_of fs ++ (tag_text n (type_of p) ++ payload_text n p)
+text_of-push fs n p = text_of-joined fs (field n p none) ∙ ap (λ l. text_of fs ++ (tag_text n (type_of p) ++ l)) (append-nil (payload_text n p))
 
 -- a record more counts as its payload does
 pub count-push : (fs : Fields) (n : ℕ) (p : Payload) → count (push fs n p) ≡ count fs + payload_count p
@@ -90,7 +90,7 @@ depth-push fs n p = omega (arith, depth-joined fs (field n p none))
 
 -- the size of one record more
 pub size-push : (fs : Fields) (n : ℕ) (p : Payload) → size (push fs n p) ≡ size fs + (length (tag_text n (type_of p)) + length (payload_text n p))
-size-push fs n p = ap length (text-push fs n p) ∙ length-append (text fs) _ ∙ ap (λ k. length (text fs) + k) (length-append (tag_text n (type_of p)) (payload_text n p))
+size-push fs n p = ap length (text_of-push fs n p) ∙ length-append (text_of fs) _ ∙ ap (λ k. length (text_of fs) + k) (length-append (tag_text n (type_of p)) (payload_text n p))
 
 -- two lists in range are one list in range
 pub AreInRange-joined : (fs gs : Fields) → AreInRange fs → AreInRange gs → AreInRange (joined fs gs)
@@ -152,4 +152,4 @@ pub joined_texts_spell_lemma : JoinedTextsSpell
 joined_texts_spell_lemma = Spells-joined
 
 pub joined_adds_up_lemma : JoinedAddsUp
-joined_adds_up_lemma fs gs = (text-joined fs gs, count_top-joined fs gs, charge-joined fs gs)
+joined_adds_up_lemma fs gs = (text_of-joined fs gs, count_top-joined fs gs, charge-joined fs gs)

@@ -2,7 +2,7 @@
 use Rattle.std.proofs.Common.{◌≡◌, ℕ, ◌+◌, ◌≤◌, ◌<◌, ◌⊎◌, inl, inr, Option, Some, None, refl, sym, ap, ◌∙◌, subst, arith, ⊎_elim}
 use Rattle.std.proofs.lemmas.Bool.{cases_lt}
 use Rattle.wire_base.specs.Field.{Payload, varint, fixed64, fixed32, bytes, group, Fields, none, joined}
-use Rattle.wire_base.specs.Limits.{Limits, Charge, HasRoom, less, Fits, lowered, both, one_field, inner, outer, IsNoMore, NoCountGrew}
+use Rattle.wire_base.specs.Limits.{Limits, Charge, HasRoom, less, Fits, left_after, both, one_field, inner, outer, IsNoMore, NoCountGrew}
 use Rattle.wire_base.specs.Text.{payload_count, count, payload_charge, charge}
 use Rattle.wire_base.proofs.JoinedLaws.{charge-joined}
 
@@ -45,12 +45,12 @@ same_limits : (l m : Limits) → l.depth ≡ m.depth → l.unknown_fields ≡ m.
 same_limits l m p q = λ i. record { depth = p i; unknown_fields = q i }
 
 -- one charge after the other
-pub lowered-both : (l : Limits) (a b : Charge) → lowered (lowered l a) b ≡ lowered l (both a b)
-lowered-both l a b = same_limits _ _ refl (less-less l.unknown_fields a.unknown_fields b.unknown_fields)
+pub left_after-both : (l : Limits) (a b : Charge) → left_after (left_after l a) b ≡ left_after l (both a b)
+left_after-both l a b = same_limits _ _ refl (less-less l.unknown_fields a.unknown_fields b.unknown_fields)
 
 -- no records leave the limits as they are
-pub lowered-none : (l : Limits) → lowered l (charge none) ≡ l
-lowered-none l = same_limits _ _ refl (less-zero l.unknown_fields)
+pub left_after-none : (l : Limits) → left_after l (charge none) ≡ l
+left_after-none l = same_limits _ _ refl (less-zero l.unknown_fields)
 
 -- no records fit all limits
 pub Fits-none : (l : Limits) → Fits (charge none) l
@@ -66,11 +66,11 @@ pub Fits-first : (l : Limits) (a b : Charge) → Fits (both a b) l → Fits a l
 Fits-first l a b h = record { depth = omega (arith, h.depth); unknown_fields = HasRoom-at_most l.unknown_fields a.unknown_fields _ (omega arith) h.unknown_fields }
 
 -- the second fits what the first leaves
-pub Fits-second : (l : Limits) (a b : Charge) → Fits (both a b) l → Fits b (lowered l a)
+pub Fits-second : (l : Limits) (a b : Charge) → Fits (both a b) l → Fits b (left_after l a)
 Fits-second l a b h = record { depth = omega (arith, h.depth); unknown_fields = HasRoom-second l.unknown_fields a.unknown_fields b.unknown_fields h.unknown_fields }
 
 -- a charge and another that fits what the first leaves fit both
-pub Fits-both : (l : Limits) (a b : Charge) → Fits a l → Fits b (lowered l a) → Fits (both a b) l
+pub Fits-both : (l : Limits) (a b : Charge) → Fits a l → Fits b (left_after l a) → Fits (both a b) l
 Fits-both l a b h k = record { depth = omega (arith, h.depth, k.depth); unknown_fields = HasRoom-add l.unknown_fields a.unknown_fields b.unknown_fields h.unknown_fields k.unknown_fields }
 
 -- a charge fits or not
@@ -100,24 +100,24 @@ pub level_of_group : (l : Limits) (fs : Fields) → Fits (payload_charge (group 
 level_of_group l fs h = omega (arith, h.depth)
 
 -- what a group holds fits one level down, behind the slot of the group
-pub Fits-inside : (l : Limits) (fs : Fields) → Fits (payload_charge (group fs)) l → Fits (charge fs) (inner (lowered l one_field))
+pub Fits-inside : (l : Limits) (fs : Fields) → Fits (payload_charge (group fs)) l → Fits (charge fs) (inner (left_after l one_field))
 Fits-inside l fs h = record { depth = omega (arith, h.depth); unknown_fields = HasRoom-second l.unknown_fields 1 (count fs) h.unknown_fields }
 
 -- a slot, a level and room for what it holds are room for a group
-pub Fits-group : (l : Limits) (fs : Fields) → Fits one_field l → 0 < l.depth → Fits (charge fs) (inner (lowered l one_field)) → Fits (payload_charge (group fs)) l
+pub Fits-group : (l : Limits) (fs : Fields) → Fits one_field l → 0 < l.depth → Fits (charge fs) (inner (left_after l one_field)) → Fits (payload_charge (group fs)) l
 Fits-group l fs h level k = record { depth = omega (arith, k.depth); unknown_fields = HasRoom-add l.unknown_fields 1 (count fs) h.unknown_fields k.unknown_fields }
 
 -- a group leaves of each count what its slot and its records leave
-pub lowered-group : (l : Limits) (fs : Fields) → (lowered (inner (lowered l one_field)) (charge fs)).unknown_fields ≡ (lowered l (payload_charge (group fs))).unknown_fields
-lowered-group l fs = less-less l.unknown_fields 1 (count fs)
+pub left_after-group : (l : Limits) (fs : Fields) → (left_after (inner (left_after l one_field)) (charge fs)).unknown_fields ≡ (left_after l (payload_charge (group fs))).unknown_fields
+left_after-group l fs = less-less l.unknown_fields 1 (count fs)
 
 -- a list that fits, and another that fits what it leaves, fit one behind the other
-pub Fits-joined : (l : Limits) (fs gs : Fields) → Fits (charge fs) l → Fits (charge gs) (lowered l (charge fs)) → Fits (charge (joined fs gs)) l
+pub Fits-joined : (l : Limits) (fs gs : Fields) → Fits (charge fs) l → Fits (charge gs) (left_after l (charge fs)) → Fits (charge (joined fs gs)) l
 Fits-joined l fs gs h k = subst (λ c. Fits c l) (sym (charge-joined fs gs)) (Fits-both l (charge fs) (charge gs) h k)
 
 -- one list after the other
-pub lowered-joined : (l : Limits) (fs gs : Fields) → lowered (lowered l (charge fs)) (charge gs) ≡ lowered l (charge (joined fs gs))
-lowered-joined l fs gs = lowered-both l (charge fs) (charge gs) ∙ ap (lowered l) (sym (charge-joined fs gs))
+pub left_after-joined : (l : Limits) (fs gs : Fields) → left_after (left_after l (charge fs)) (charge gs) ≡ left_after l (charge (joined fs gs))
+left_after-joined l fs gs = left_after-both l (charge fs) (charge gs) ∙ ap (left_after l) (sym (charge-joined fs gs))
 
 -- ---- counts that do not grow
 
@@ -132,9 +132,9 @@ IsNoMore-then (Some a) (Some b) None h k = k
 IsNoMore-then (Some a) (Some b) (Some c) h k = omega arith
 
 -- what a charge leaves, and what is left after that
-pub NoCountGrew-lowered : (l m : Limits) (c : Charge) → NoCountGrew (lowered l c) m → NoCountGrew l m
-NoCountGrew-lowered l m c h = record { unknown_fields = IsNoMore-then l.unknown_fields (less l.unknown_fields c.unknown_fields) m.unknown_fields (IsNoMore-less l.unknown_fields c.unknown_fields) h.unknown_fields }
+pub NoCountGrew-left_after : (l m : Limits) (c : Charge) → NoCountGrew (left_after l c) m → NoCountGrew l m
+NoCountGrew-left_after l m c h = record { unknown_fields = IsNoMore-then l.unknown_fields (less l.unknown_fields c.unknown_fields) m.unknown_fields (IsNoMore-less l.unknown_fields c.unknown_fields) h.unknown_fields }
 
 -- a group's slot and its level, its records, and the level again: the charge of the group
-pub outer-lowered-inner : (l : Limits) (fs : Fields) → 0 < l.depth → outer (lowered (inner (lowered l one_field)) (charge fs)) ≡ lowered l (payload_charge (group fs))
-outer-lowered-inner l fs level = same_limits _ _ (omega arith) (less-less l.unknown_fields 1 (count fs))
+pub outer-left_after-inner : (l : Limits) (fs : Fields) → 0 < l.depth → outer (left_after (inner (left_after l one_field)) (charge fs)) ≡ left_after l (payload_charge (group fs))
+outer-left_after-inner l fs level = same_limits _ _ (omega arith) (less-less l.unknown_fields 1 (count fs))

@@ -7,7 +7,7 @@ use Rattle.wire_base.specs.declared.tag.WireType.TheVariants as types
 use Rattle.wire_base.specs.Fault.{Ending, by_input, by_tag, GoesOn, IsRecordTag, PayloadFault, ListFault}
 use Rattle.wire_base.specs.Field.{Payload, Fields, none, field, type_of, joined}
 use Rattle.wire_base.specs.Laws.{OnePayloadFault, OneListFault}
-use Rattle.wire_base.specs.Limits.{Limits, Fits, one_field, lowered, inner}
+use Rattle.wire_base.specs.Limits.{Limits, Fits, one_field, left_after, inner}
 use Rattle.wire_base.specs.Read.{Reads}
 use Rattle.wire_base.specs.Spells.{SpellsPayload, Spells}
 use Rattle.wire_base.specs.Tag.{IsTagSpelling, TagFault}
@@ -33,7 +33,7 @@ record Place (l : Limits) (ending : Ending) (old : List ℕ) (e : DecodeError) :
   mid : List ℕ
   reads : Reads old (Spells before) mid
   fits : Fits (charge before) l
-  fault : FaultHere (lowered l (charge before)) ending mid e
+  fault : FaultHere (left_after l (charge before)) ending mid e
 
 -- the place of a fault
 place_of : (l : Limits) (ending : Ending) (old : List ℕ) (e : DecodeError) → ListFault l ending old e → Place l ending old e
@@ -76,11 +76,11 @@ here_beside_record l ending mid rest e n p more (bad_payload m w after tag is fa
     fits
 
 -- the place of a fault is no place before or behind that of another
-same_place : (l : Limits) (ending : Ending) (gs fs more : Fields) (mid rest : List ℕ) (e : DecodeError) → FaultHere (lowered l (charge gs)) ending mid e
+same_place : (l : Limits) (ending : Ending) (gs fs more : Fields) (mid rest : List ℕ) (e : DecodeError) → FaultHere (left_after l (charge gs)) ending mid e
     → fs ≡ joined gs more → Reads mid (Spells more) rest → Fits (charge fs) l → (gs ≡ fs) × (mid ≡ rest)
 same_place l ending gs fs none mid rest e fault parts others fits = (sym (parts ∙ joined-none gs), none_takes_nothing mid rest others)
 same_place l ending gs fs (field n p more) mid rest e fault parts others fits =
-    absurd (here_beside_record (lowered l (charge gs)) ending mid rest e n p more fault others (Fits-next l gs (field n p more) more fs n p parts refl fits))
+    absurd (here_beside_record (left_after l (charge gs)) ending mid rest e n p more fault others (Fits-next l gs (field n p more) more fs n p parts refl fits))
 
 -- two faults of one list have one place
 one_place : (l : Limits) (ending : Ending) (old : List ℕ) (e f : DecodeError) (h : Place l ending old e) (k : Place l ending old f) → (h.before ≡ k.before) × (h.mid ≡ k.mid)
@@ -91,11 +91,11 @@ one_place l ending old e f h k =
     (either_front h.before k.before old h.mid k.mid h.reads k.reads)
 
 -- the second fault, at the place of the first
-moved : (l : Limits) (ending : Ending) (old : List ℕ) (e f : DecodeError) (h : Place l ending old e) → ListFault l ending old f → FaultHere (lowered l (charge h.before)) ending h.mid f
+moved : (l : Limits) (ending : Ending) (old : List ℕ) (e f : DecodeError) (h : Place l ending old e) → ListFault l ending old f → FaultHere (left_after l (charge h.before)) ending h.mid f
 moved l ending old e f h other =
     let k = place_of l ending old f other in
     let same = one_place l ending old e f h k in
-    subst (λ gs. FaultHere (lowered l (charge gs)) ending h.mid f) (sym same.0) (subst (λ m. FaultHere (lowered l (charge k.before)) ending m f) (sym same.1) k.fault)
+    subst (λ gs. FaultHere (left_after l (charge gs)) ending h.mid f) (sym same.0) (subst (λ m. FaultHere (left_after l (charge k.before)) ending m f) (sym same.1) k.fault)
 
 -- ---- two faults at one place
 
@@ -167,7 +167,7 @@ no_length_once l n old e f slot fault (PayloadFault.no_length also other) = one_
 no_length_once l n old e f slot fault (PayloadFault.short_bytes len rest also h short) = absurd (no_varint_beside_fault_lemma old rest len e h fault)
 
 -- too few bytes for their length
-short_bytes_once : (l : Limits) (n : ℕ) (old rest : List ℕ) (len : ℕ) (f : DecodeError) → Fits one_field l → Reads old (λ text. IsSpelling text len) rest
+short_bytes_once : (l : Limits) (n : ℕ) (old rest : List ℕ) (len : ℕ) (f : DecodeError) → Fits one_field l → Reads old (IsSpelling len) rest
     → PayloadFault l n types.LengthDelimited old f → UnexpectedEof ≡ f
 short_bytes_once l n old rest len f slot h (PayloadFault.no_slot full) = absurd (full slot)
 short_bytes_once l n old rest len f slot h (PayloadFault.no_length also other) = absurd (no_varint_beside_fault_lemma old rest len f h other)
@@ -181,7 +181,7 @@ no_level_once l n old f slot flat (PayloadFault.in_group also level fault) = abs
 
 -- a fault inside a group is its one fault, where the inside has one
 in_group_once : (l : Limits) (n : ℕ) (old : List ℕ) (e f : DecodeError) → Fits one_field l → 0 < l.depth
-    → ((g : DecodeError) → ListFault (inner (lowered l one_field)) (by_tag n) old g → e ≡ g) → PayloadFault l n types.StartGroup old f → e ≡ f
+    → ((g : DecodeError) → ListFault (inner (left_after l one_field)) (by_tag n) old g → e ≡ g) → PayloadFault l n types.StartGroup old f → e ≡ f
 in_group_once l n old e f slot level again (PayloadFault.no_slot full) = absurd (full slot)
 in_group_once l n old e f slot level again (PayloadFault.no_level also flat) = absurd (omega arith)
 in_group_once l n old e f slot level again (PayloadFault.in_group also level2 fault) = again f fault
@@ -200,19 +200,19 @@ mutual
   one_payload_fault l n w old e (PayloadFault.end_outside slot) f other = end_only l n old f slot other
   one_payload_fault l n w old e (PayloadFault.no_level slot flat) f other = no_level_once l n old f slot flat other
   one_payload_fault l n w old e (PayloadFault.in_group slot level fault) f other =
-      in_group_once l n old e f slot level (one_list_fault (inner (lowered l one_field)) (by_tag n) old e fault) other
+      in_group_once l n old e f slot level (one_list_fault (inner (left_after l one_field)) (by_tag n) old e fault) other
 
   -- two faults of one list are one
   pub one_list_fault : (l : Limits) (ending : Ending) (old : List ℕ) (e : DecodeError) → ListFault l ending old e → (f : DecodeError) → ListFault l ending old f → e ≡ f
   one_list_fault l ending old e (ListFault.bad_tag gs mid h room goes fault) f other =
       let place : Place l ending old e = record { before = gs; mid = mid; reads = h; fits = room; fault = bad_tag goes fault } in
-      tag_once (lowered l (charge gs)) ending mid e f fault (moved l ending old e f place other)
+      tag_once (left_after l (charge gs)) ending mid e f fault (moved l ending old e f place other)
   one_list_fault l ending old e (ListFault.other_end {n = n} gs mid k after h room end differs) f other =
       let place : Place l (by_tag n) old (InvalidEndGroup k) = record { before = gs; mid = mid; reads = h; fits = room; fault = other_end n k after refl end } in
-      end_once (lowered l (charge gs)) n mid f k after end (moved l (by_tag n) old (InvalidEndGroup k) f place other)
+      end_once (left_after l (charge gs)) n mid f k after end (moved l (by_tag n) old (InvalidEndGroup k) f place other)
   one_list_fault l ending old e (ListFault.bad_payload gs mid n w after h room tag is fault) f other =
       let place : Place l ending old e = record { before = gs; mid = mid; reads = h; fits = room; fault = bad_payload n w after tag is fault } in
-      payload_once (lowered l (charge gs)) ending mid e f n w after tag is (one_payload_fault (lowered l (charge gs)) n w after e fault) (moved l ending old e f place other)
+      payload_once (left_after l (charge gs)) ending mid e f n w after tag is (one_payload_fault (left_after l (charge gs)) n w after e fault) (moved l ending old e f place other)
 
 -- ---- the laws
 

@@ -6,7 +6,7 @@ use Rattle.wire_base.specs.declared.error.DecodeError.{DecodeError}
 use Rattle.wire_base.specs.declared.tag.WireType.TheVariants as types
 use Rattle.wire_base.specs.Fault.{PayloadFault, ListFault, by_tag, in_group}
 use Rattle.wire_base.specs.Field.{varint, fixed64, fixed32, bytes, group, Fields}
-use Rattle.wire_base.specs.Limits.{Limits, Fits, one_field, inner, lowered}
+use Rattle.wire_base.specs.Limits.{Limits, Fits, one_field, inner, left_after}
 use Rattle.wire_base.specs.Read.{Reads}
 use Rattle.wire_base.specs.Tag.{IsTagSpelling}
 use Rattle.wire_base.specs.Taken.{TakesPayload, TakesFields, TakesBody}
@@ -14,7 +14,7 @@ use Rattle.wire_base.specs.Varint.{IsSpelling}
 use Rattle.wire_base.proofs.LimitsLaws.{Fits-group}
 
 module _ (l : Limits) (n : ℕ) (slot : Fits one_field l) where
-  pub takes_varint : (v : ℕ) (old new : List ℕ) → Reads old (λ text. IsSpelling text v) new → TakesPayload l n types.Varint (varint v) old new
+  pub takes_varint : (v : ℕ) (old new : List ℕ) → Reads old (IsSpelling v) new → TakesPayload l n types.Varint (varint v) old new
   takes_varint v old new r = record { read = record { text = r.text; parts = r.parts; spelled = record { kind = refl; spelled = r.spelled } }; fits = slot }
 
   pub takes_fixed64 : (old new : List ℕ) → 8 ≤ length old → new ≡ drop 8 old → TakesPayload l n types.Fixed64 (fixed64 (from_le_bytes w64 (take 8 old))) old new
@@ -29,23 +29,23 @@ module _ (l : Limits) (n : ℕ) (slot : Fits one_field l) where
     fits = slot;
   }
 
-  pub takes_bytes : (len : ℕ) (old mid new : List ℕ) → Reads old (λ text. IsSpelling text len) mid → len ≤ length mid → new ≡ drop len mid → TakesPayload l n types.LengthDelimited (bytes (take len mid)) old new
+  pub takes_bytes : (len : ℕ) (old mid new : List ℕ) → Reads old (IsSpelling len) mid → len ≤ length mid → new ≡ drop len mid → TakesPayload l n types.LengthDelimited (bytes (take len mid)) old new
   takes_bytes len old mid new r long e =
       let count : len ≡ length (take len mid) = omega (arith, length-take len mid) in
       record {
         read = record {
           text = r.text ++ take len mid;
           parts = r.parts ∙ ap (λ (t : List ℕ). r.text ++ t) (sym (take-append-drop len mid) ∙ ap (λ (t : List ℕ). take len mid ++ t) (sym e)) ∙ sym (append_assoc r.text (take len mid) new);
-          spelled = record { kind = refl; spelled = (r.text, refl, subst (λ (k : ℕ). IsSpelling r.text k) count r.spelled) };
+          spelled = record { kind = refl; spelled = (r.text, refl, subst (λ (k : ℕ). IsSpelling k r.text) count r.spelled) };
         };
         fits = slot;
       }
 
-  pub takes_group : (fs : Fields) (old new : List ℕ) → 0 < l.depth → TakesBody (inner (lowered l one_field)) n fs old new → TakesPayload l n types.StartGroup (group fs) old new
+  pub takes_group : (fs : Fields) (old new : List ℕ) → 0 < l.depth → TakesBody (inner (left_after l one_field)) n fs old new → TakesPayload l n types.StartGroup (group fs) old new
   takes_group fs old new level b = record { read = record { text = b.read.text; parts = b.read.parts; spelled = record { kind = refl; spelled = b.read.spelled } }; fits = Fits-group l fs slot level b.fits }
 
   -- a fault in the group, under the limits that are left there
-  pub fails_in_group : (left : Limits) (k : ℕ) {bytes : List ℕ} {e : DecodeError} → 0 < l.depth → left ≡ inner (lowered l one_field) → k ≡ n → ListFault left (by_tag k) bytes e → PayloadFault l n types.StartGroup bytes e
+  pub fails_in_group : (left : Limits) (k : ℕ) {bytes : List ℕ} {e : DecodeError} → 0 < l.depth → left ≡ inner (left_after l one_field) → k ≡ n → ListFault left (by_tag k) bytes e → PayloadFault l n types.StartGroup bytes e
   fails_in_group left k level is same f = in_group slot level (rw (is, same) at f)
 
 -- records and then the end tag are a group's body

@@ -9,7 +9,7 @@ use Rattle.wire_base.specs.declared.tag.WireType.TheVariants as types
 use Rattle.wire_base.specs.Fault.{Ending, by_input, by_tag, GoesOn, IsRecordTag, PayloadFault, ListFault}
 use Rattle.wire_base.specs.Field.{Payload, varint, fixed64, fixed32, bytes, group, Fields, none, field}
 use Rattle.wire_base.specs.Laws.{VarintOrFault, TagOrFault, PayloadOrFault, PayloadOrFaultStands, ListOrFaultStands, BodyOrFaultStands}
-use Rattle.wire_base.specs.Limits.{Limits, Fits, one_field, lowered, inner}
+use Rattle.wire_base.specs.Limits.{Limits, Fits, one_field, left_after, inner}
 use Rattle.wire_base.specs.Read.{Reads}
 use Rattle.wire_base.specs.Spells.{SpellsPayload, Spells, IsPayload}
 use Rattle.wire_base.specs.Tag.{IsTagSpelling}
@@ -18,7 +18,7 @@ use Rattle.wire_base.specs.Varint.{IsSpelling}
 use Rattle.wire_base.proofs.FaultLaws.{EndsAs, ListFault-behind}
 use Rattle.wire_base.proofs.FieldLaws.{tag_not_nil}
 use Rattle.wire_base.proofs.JoinedLaws.{Reads-joined, Reads-one, Reads-none, charge-one}
-use Rattle.wire_base.proofs.LimitsLaws.{Fits-none, Fits-both, Fits-group, lowered-none, fits_or_not}
+use Rattle.wire_base.proofs.LimitsLaws.{Fits-none, Fits-both, Fits-group, left_after-none, fits_or_not}
 use Rattle.wire_base.proofs.TagLaws.{tag_or_fault_lemma}
 use Rattle.wire_base.proofs.VarintLaws.{varint_or_fault_lemma}
 
@@ -59,7 +59,7 @@ fixed32_outcome l n old slot (inr enough) =
     inl (fixed32 (from_le_bytes w32 (take 4 old)), drop 4 old, record { text = take 4 old; parts = sym (take-append-drop 4 old); spelled = record { kind = refl; spelled = (length-take-le 4 old enough, refl) } }, slot)
 
 -- a length and so many bytes behind it are a payload
-content_outcome : (l : Limits) (n len : ℕ) (old rest : List ℕ) → Fits one_field l → Reads old (λ text. IsSpelling text len) rest → (length rest < len) ⊎ (len ≤ length rest)
+content_outcome : (l : Limits) (n len : ℕ) (old rest : List ℕ) → Fits one_field l → Reads old (IsSpelling len) rest → (length rest < len) ⊎ (len ≤ length rest)
     → PayloadOrFault l n types.LengthDelimited old
 content_outcome l n len old rest slot h (inl short) = inr (UnexpectedEof, PayloadFault.short_bytes len rest slot h short)
 content_outcome l n len old rest slot h (inr enough) =
@@ -69,7 +69,7 @@ content_outcome l n len old rest slot h (inr enough) =
       record {
         text = h.text ++ take len rest;
         parts = h.parts ∙ ap (λ r. h.text ++ r) (sym (take-append-drop len rest)) ∙ sym (append_assoc h.text (take len rest) (drop len rest));
-        spelled = record { kind = refl; spelled = (h.text, refl, subst (IsSpelling h.text) (sym (length-take-le len rest enough)) h.spelled) };
+        spelled = record { kind = refl; spelled = (h.text, refl, subst (λ k. IsSpelling k h.text) (sym (length-take-le len rest enough)) h.spelled) };
       },
       slot,
     )
@@ -88,7 +88,7 @@ body_from_list n fs old mid after h end = record {
 }
 
 -- the inside of a group
-group_outcome : (l : Limits) (n : ℕ) (old : List ℕ) → Fits one_field l → 0 < l.depth → ListOutcome (inner (lowered l one_field)) (by_tag n) old → PayloadOrFault l n types.StartGroup old
+group_outcome : (l : Limits) (n : ℕ) (old : List ℕ) → Fits one_field l → 0 < l.depth → ListOutcome (inner (left_after l one_field)) (by_tag n) old → PayloadOrFault l n types.StartGroup old
 group_outcome l n old slot level (inl (fs, mid, h, (after, end), fits)) =
     let body = body_from_list n fs old mid after h end in
     inl (group fs, after, record { text = body.text; parts = body.parts; spelled = record { kind = refl; spelled = body.spelled } }, Fits-group l fs slot level fits)
@@ -102,7 +102,7 @@ payload_with_slot l n types.LengthDelimited old lists slot = bytes_outcome l n o
 payload_with_slot l n types.StartGroup old lists slot =
     ⊎_elim
     (λ flat. inr (RecursionLimitExceeded, PayloadFault.no_level slot (omega arith)))
-    (λ level. group_outcome l n old slot level (lists (inner (lowered l one_field))))
+    (λ level. group_outcome l n old slot level (lists (inner (left_after l one_field))))
     (cases_lt l.depth 1)
 payload_with_slot l n types.EndGroup old lists slot = inr (InvalidWireType 4, PayloadFault.end_outside slot)
 payload_with_slot l n types.Fixed32 old lists slot = fixed32_outcome l n old slot (cases_lt (length old) 4)
@@ -115,23 +115,23 @@ payload_outcome l n w old lists = ⊎_elim (payload_with_slot l n w old lists) (
 
 -- a fault behind one record that was read within the limits
 one_record_more : (l : Limits) (ending : Ending) (n : ℕ) (w : WireType) (p : Payload) (old behind mid : List ℕ) → Reads old (IsTagSpelling n w) behind → Reads behind (IsPayload n w p) mid
-    → Fits (payload_charge p) l → ListOutcome (lowered l (payload_charge p)) ending mid → ListOutcome l ending old
+    → Fits (payload_charge p) l → ListOutcome (left_after l (payload_charge p)) ending mid → ListOutcome l ending old
 one_record_more l ending n w p old behind mid tag h fits (inl (fs, rest, others, ends, room)) =
     inl (field n p fs, rest, Reads-joined (field n p none) fs old mid rest (Reads-one n w p old behind mid tag h) others, ends, Fits-both l (payload_charge p) (charge fs) fits room)
 one_record_more l ending n w p old behind mid tag h fits (inr (e, fault)) =
     inr (
       e,
       ListFault-behind l ending (field n p none) old mid e (Reads-one n w p old behind mid tag h) (subst (λ c. Fits c l) (sym (charge-one n p)) fits)
-          (subst (λ c. ListFault (lowered l c) ending mid e) (sym (charge-one n p)) fault),
+          (subst (λ c. ListFault (left_after l c) ending mid e) (sym (charge-one n p)) fault),
     )
 
 -- a payload, and then the list goes on
 after_payload : (l : Limits) (ending : Ending) (n : ℕ) (w : WireType) (old behind : List ℕ) → Reads old (IsTagSpelling n w) behind → IsRecordTag ending w
     → ((m : Limits) (mid : List ℕ) → length mid ≤ length behind → ListOutcome m ending mid) → PayloadOrFault l n w behind → ListOutcome l ending old
 after_payload l ending n w old behind tag is lists (inl (p, mid, h, fits)) =
-    one_record_more l ending n w p old behind mid tag h fits (lists (lowered l (payload_charge p)) mid (rest_at_most behind h.text mid h.parts))
+    one_record_more l ending n w p old behind mid tag h fits (lists (left_after l (payload_charge p)) mid (rest_at_most behind h.text mid h.parts))
 after_payload l ending n w old behind tag is lists (inr (e, fault)) =
-    inr (e, ListFault.bad_payload none old n w behind (Reads-none old) (Fits-none l) tag is (subst (λ m. PayloadFault m n w behind e) (sym (lowered-none l)) fault))
+    inr (e, ListFault.bad_payload none old n w behind (Reads-none old) (Fits-none l) tag is (subst (λ m. PayloadFault m n w behind e) (sym (left_after-none l)) fault))
 
 -- a tag is that of a record, or the end tag of a group
 record_or_end : (ending : Ending) (w : WireType) → IsRecordTag ending w ⊎ ((n : ℕ) × (ending ≡ by_tag n) × (w ≡ types.EndGroup))

@@ -11,7 +11,7 @@ use Rattle.wire_base.specs.Laws.{OneTag, NoTagBesideFault, TagTextReadsBack, NoT
 use Rattle.wire_base.specs.Read.{Reads}
 use Rattle.wire_base.specs.Tag.{wire_number, tag_value, IsTagSpelling, tag_text, tag_error, no_varint, no_tag}
 use Rattle.wire_base.specs.Varint.{IsSpelling}
-use Rattle.wire_base.proofs.VarintLaws.{same_varint, no_varint_beside_fault_lemma, one_varint_fault_lemma, varint_or_fault_lemma, IsSpelling-shortest, shortest_at_most}
+use Rattle.wire_base.proofs.VarintLaws.{same_varint, no_varint_beside_fault_lemma, one_varint_fault_lemma, varint_or_fault_lemma, IsSpelling-shortest_varint, shortest_at_most}
 
 -- ---- wire types and their numbers
 
@@ -117,7 +117,7 @@ tag_or_error v =
 
 -- the shortest text of a tag is a text of it
 pub IsTagSpelling-tag_text : (n : ℕ) (w : WireType) → IsFieldNumber n → IsTagSpelling n w (tag_text n w)
-IsTagSpelling-tag_text n w h = record { number = h; varint = IsSpelling-shortest (tag_value n w) (omega (arith, tag_value-below n w h)) }
+IsTagSpelling-tag_text n w h = record { number = h; varint = IsSpelling-shortest_varint (tag_value n w) (omega (arith, tag_value-below n w h)) }
 
 -- two readings of a tag at the front of the same bytes are one
 pub record SameTag (t u old_rest new_rest : List ℕ) (n k : ℕ) (w x : WireType) : Type 0 where
@@ -127,7 +127,7 @@ pub record SameTag (t u old_rest new_rest : List ℕ) (n k : ℕ) (w x : WireTyp
   pub rest : old_rest ≡ new_rest
 
 -- a tag is a varint
-abbrev pub varint_of_tag : (bytes rest : List ℕ) (n : ℕ) (w : WireType) → Reads bytes (IsTagSpelling n w) rest → Reads bytes (λ text. IsSpelling text (tag_value n w)) rest
+abbrev pub varint_of_tag : (bytes rest : List ℕ) (n : ℕ) (w : WireType) → Reads bytes (IsTagSpelling n w) rest → Reads bytes (IsSpelling (tag_value n w)) rest
 varint_of_tag bytes rest n w p = record { text = p.text; parts = p.parts; spelled = p.spelled.varint }
 
 -- two tags at the front of one list are one
@@ -169,10 +169,10 @@ pub no_tag_text_is_shorter_lemma : NoTagTextIsShorter
 no_tag_text_is_shorter_lemma n w t h = shortest_at_most t (tag_value n w) h.varint
 
 -- a varint is a tag or none
-tag_or_fault_from_value : (bytes : List ℕ) (v : ℕ) (rest : List ℕ) → Reads bytes (λ text. IsSpelling text v) rest
+tag_or_fault_from_value : (bytes : List ℕ) (v : ℕ) (rest : List ℕ) → Reads bytes (IsSpelling v) rest
     → ((n : ℕ) × (w : WireType) × IsFieldNumber n × (tag_value n w ≡ v)) ⊎ ((e : DecodeError) × (tag_error v ≡ Some e)) → TagOrFault bytes
 tag_or_fault_from_value bytes v rest p (inl (n, w, h, same)) =
-    inl (n, w, rest, record { text = p.text; parts = p.parts; spelled = record { number = h; varint = subst (IsSpelling p.text) (sym same) p.spelled } })
+    inl (n, w, rest, record { text = p.text; parts = p.parts; spelled = record { number = h; varint = subst (λ v. IsSpelling v p.text) (sym same) p.spelled } })
 tag_or_fault_from_value bytes v rest p (inr (e, error)) = inr (e, no_tag v rest p error)
 
 -- a varint or a fault is a tag or a fault

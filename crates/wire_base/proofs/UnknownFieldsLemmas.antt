@@ -8,7 +8,7 @@ use Rattle.wire_base.specs.declared.unknown_fields.UnknownField.{UnknownField}
 use Rattle.wire_base.specs.Field.{Payload, Fields, none, field, joined, count_top, type_of}
 use Rattle.wire_base.specs.FieldsEq.{payload_eq, fields_eq}
 use Rattle.wire_base.specs.Tag.{tag_text}
-use Rattle.wire_base.specs.Text.{text, payload_text, record_text, count, payload_count}
+use Rattle.wire_base.specs.Text.{text_of, payload_text, record_text, count, payload_count}
 use Rattle.wire_base.specs.UnknownFields.{payload_of, fields_of, one_record}
 use Rattle.wire_base.proofs.JoinedLaws.{joined_assoc}
 
@@ -30,8 +30,8 @@ payload_count-at [] i f lt at = absurd (omega arith)
 payload_count-at (g ∷ fs) zero f lt at = rw at (omega arith)
 payload_count-at (g ∷ fs) (suc i) f lt at = omega (arith, payload_count-at fs i f (omega arith) at)
 
-pub text-field : (n : ℕ) (p : Payload) (rest : Fields) → text (field n p rest) ≡ record_text n p ++ text rest
-text-field n p rest = sym (append_assoc (tag_text n (type_of p)) (payload_text n p) (text rest))
+pub text_of-field : (n : ℕ) (p : Payload) (rest : Fields) → text_of (field n p rest) ≡ record_text n p ++ text_of rest
+text_of-field n p rest = sym (append_assoc (tag_text n (type_of p)) (payload_text n p) (text_of rest))
 
 -- a list is empty where its records are none
 pub is_empty-fields_of : (fs : List UnknownField) (b : Bool) → b ≡ eqb (length fs) 0 → IsTrue b ↔ (fields_of fs ≡ none)
@@ -39,8 +39,8 @@ is_empty-fields_of [] b e = rw e (λ t. refl, λ t. refl)
 is_empty-fields_of (f ∷ fs) b e = rw e (λ t. absurd (omega (arith, eqb-true _ 0 t)), λ t. cc)
 
 -- the text from a place on begins with that of the record there
-pub text-at : (fs : List UnknownField) (i : ℕ) (f : UnknownField) → i < length fs → f ≡ get_or fs i f → text (fields_of (drop i fs)) ≡ record_text f.number (payload_of f.value) ++ text (fields_of (drop (i + 1) fs))
-text-at fs i f lt at = ap text (fields_of-drop fs i f lt at) ∙ text-field f.number (payload_of f.value) (fields_of (drop (i + 1) fs))
+pub text_of-at : (fs : List UnknownField) (i : ℕ) (f : UnknownField) → i < length fs → f ≡ get_or fs i f → text_of (fields_of (drop i fs)) ≡ record_text f.number (payload_of f.value) ++ text_of (fields_of (drop (i + 1) fs))
+text_of-at fs i f lt at = ap text_of (fields_of-drop fs i f lt at) ∙ text_of-field f.number (payload_of f.value) (fields_of (drop (i + 1) fs))
 
 -- the test of two lists from a place on is that of the records there, and of what follows them
 pub fields_eq-at : (fs gs : List UnknownField) (i : ℕ) (f g : UnknownField) → i < length fs → i < length gs → f ≡ get_or fs i f → g ≡ get_or gs i g

@@ -7,7 +7,7 @@ use Rattle.wire_base.specs.declared.error.DecodeError.{DecodeError}
 use Rattle.wire_base.specs.declared.error.DecodeError.TheVariants.{UnexpectedEof, VarintTooLong}
 use Rattle.wire_base.specs.Laws.{ShortestReadsBack, NoSpellingBeginsAnother, OneVarint, NoVarintBesideFault, NoSpellingIsShorter, OneVarintFault, VarintOrFault}
 use Rattle.wire_base.specs.Read.{Reads}
-use Rattle.wire_base.specs.Varint.{value_of, AllContinue, IsEnded, IsSpelling, digits, shortest, VarintFault, cut_short, too_long}
+use Rattle.wire_base.specs.Varint.{value_of, AllContinue, IsEnded, IsSpelling, digits, shortest_varint, VarintFault, cut_short, too_long}
 
 -- ---- where a varint ends
 
@@ -141,28 +141,28 @@ length-digits (suc n) (suc k) v le low high =
 -- ---- the shortest spelling
 
 -- a number of 64 bits is written by its digits
-pub shortest-digits : (v : ℕ) → v < 2 ^ 64 → shortest v ≡ digits 9 v
-unfolding shortest
-shortest-digits v h = rw (lt-ltb v (2 ^ 64) h)
+pub shortest_varint-digits : (v : ℕ) → v < 2 ^ 64 → shortest_varint v ≡ digits 9 v
+unfolding shortest_varint
+shortest_varint-digits v h = rw (lt-ltb v (2 ^ 64) h)
 
 -- below 128 there is one byte
-pub shortest-low : (v : ℕ) → v < 128 → shortest v ≡ v ∷ []
-shortest-low v h = shortest-digits v (omega arith) ∙ digits-low 9 v h
+pub shortest_varint-low : (v : ℕ) → v < 128 → shortest_varint v ≡ v ∷ []
+shortest_varint-low v h = shortest_varint-digits v (omega arith) ∙ digits-low 9 v h
 
 -- from 128 on there is a continued byte, and the number 128 times smaller
-pub shortest-high : (v : ℕ) → 128 ≤ v → v < 2 ^ 64 → shortest v ≡ (v % 128 + 128) ∷ shortest (v / 128)
-shortest-high v h fits =
-    shortest-digits v fits ∙ digits-high 8 v h ∙ ap (λ l. (v % 128 + 128) ∷ l) (sym (digits-enough 8 (v / 128) (omega arith)) ∙ sym (shortest-digits (v / 128) (omega arith)))
+pub shortest_varint-high : (v : ℕ) → 128 ≤ v → v < 2 ^ 64 → shortest_varint v ≡ (v % 128 + 128) ∷ shortest_varint (v / 128)
+shortest_varint-high v h fits =
+    shortest_varint-digits v fits ∙ digits-high 8 v h ∙ ap (λ l. (v % 128 + 128) ∷ l) (sym (digits-enough 8 (v / 128) (omega arith)) ∙ sym (shortest_varint-digits (v / 128) (omega arith)))
 
 -- the shortest spelling is a spelling
-pub IsSpelling-shortest : (v : ℕ) → v < 2 ^ 64 → IsSpelling (shortest v) v
-IsSpelling-shortest v h =
+pub IsSpelling-shortest_varint : (v : ℕ) → v < 2 ^ 64 → IsSpelling v (shortest_varint v)
+IsSpelling-shortest_varint v h =
     let spelled = AreDigits-digits 9 v (omega arith) in
-    rw shortest-digits (record { ended = spelled.ended; at_most_ten = spelled.short; value = spelled.value; fits = h })
+    rw shortest_varint-digits (record { ended = spelled.ended; at_most_ten = spelled.short; value = spelled.value; fits = h })
 
 -- how long the shortest spelling is
-pub length-shortest : (k v : ℕ) → v < 2 ^ 64 → k ≤ 9 → (0 < k → 128 ^ k ≤ v) → v < 128 ^ suc k → length (shortest v) ≡ suc k
-length-shortest k v fits le low high = ap length (shortest-digits v fits) ∙ length-digits 9 k v le low high
+pub length-shortest_varint : (k v : ℕ) → v < 2 ^ 64 → k ≤ 9 → (0 < k → 128 ^ k ≤ v) → v < 128 ^ suc k → length (shortest_varint v) ≡ suc k
+length-shortest_varint k v fits le low high = ap length (shortest_varint-digits v fits) ∙ length-digits 9 k v le low high
 
 -- digits are no more than the bytes of any text of the number
 pub digits_at_most : (n : ℕ) (t : List ℕ) → IsEnded t → length (digits n (value_of t)) ≤ length t
@@ -196,13 +196,13 @@ digits_of_least (suc n) (b ∷ c ∷ t) h all le =
     (cases_lt v 128)
 
 -- no spelling is shorter
-pub shortest_at_most : (t : List ℕ) (v : ℕ) → IsSpelling t v → length (shortest v) ≤ length t
-shortest_at_most t v h = subst (λ w. length (shortest w) ≤ length t) h.value (rw (shortest-digits (value_of t) (subst (λ w. w < 2 ^ 64) (sym h.value) h.fits)) (digits_at_most 9 t h.ended))
+pub shortest_at_most : (t : List ℕ) (v : ℕ) → IsSpelling v t → length (shortest_varint v) ≤ length t
+shortest_at_most t v h = subst (λ w. length (shortest_varint w) ≤ length t) h.value (rw (shortest_varint-digits (value_of t) (subst (λ w. w < 2 ^ 64) (sym h.value) h.fits)) (digits_at_most 9 t h.ended))
 
 -- no other spelling is as short
-pub shortest_of_least : (t : List ℕ) (v : ℕ) → IsSpelling t v → All (λ b. b < 256) t → length t ≡ length (shortest v) → t ≡ shortest v
+pub shortest_of_least : (t : List ℕ) (v : ℕ) → IsSpelling v t → All (λ b. b < 256) t → length t ≡ length (shortest_varint v) → t ≡ shortest_varint v
 shortest_of_least t v h all same =
-    let written : shortest v ≡ digits 9 (value_of t) = shortest-digits v h.fits ∙ ap (digits 9) (sym h.value) in
+    let written : shortest_varint v ≡ digits 9 (value_of t) = shortest_varint-digits v h.fits ∙ ap (digits 9) (sym h.value) in
     digits_of_least 9 t h.ended all (omega (arith, ap length written)) ∙ sym written
 
 -- ---- readings and faults
@@ -214,7 +214,7 @@ pub record SameVarint (t u old_rest new_rest : List ℕ) (v w : ℕ) : Type 0 wh
   pub rest : old_rest ≡ new_rest
 
 -- two varints at the front of one list are one
-pub same_varint : (bytes r s : List ℕ) (v w : ℕ) (p : Reads bytes (λ text. IsSpelling text v) r) (q : Reads bytes (λ text. IsSpelling text w) s)
+pub same_varint : (bytes r s : List ℕ) (v w : ℕ) (p : Reads bytes (IsSpelling v) r) (q : Reads bytes (IsSpelling w) s)
     → SameVarint p.text q.text r s v w
 same_varint bytes r s v w p q =
     let same = one_ended p.text q.text r s p.spelled.ended q.spelled.ended (sym p.parts ∙ q.parts) in
@@ -236,7 +236,7 @@ beyond_ten front (y ∷ []) t tenth after rest e nine h same big short fits =
 beyond_ten front (y ∷ z ∷ more) t tenth after rest e nine h same big short fits = omega (arith, ap length e ∙ length-append front (y ∷ z ∷ more))
 
 -- no varint stands where a fault does
-pub no_reading_beside_fault : (bytes rest : List ℕ) (v : ℕ) (e : DecodeError) → Reads bytes (λ text. IsSpelling text v) rest → VarintFault bytes e → ⊥
+pub no_reading_beside_fault : (bytes rest : List ℕ) (v : ℕ) (e : DecodeError) → Reads bytes (IsSpelling v) rest → VarintFault bytes e → ⊥
 no_reading_beside_fault bytes rest v e p (cut_short all short) = continued_not_ended p.text rest (subst AllContinue p.parts all) p.spelled.ended
 no_reading_beside_fault bytes rest v e p (too_long front tenth after parts all nine big) =
     let past = past_continued front p.text rest (tenth ∷ after) all p.spelled.ended (sym p.parts ∙ parts) in
@@ -274,11 +274,11 @@ scan zero (b ∷ bs) = goes_on [] b bs refl tt refl
 scan (suc n) (b ∷ bs) = scanned_more n b bs (cases_lt b 128) (scan n bs)
 
 -- a varint's text of nine bytes or fewer has a value of 63 bits
-pub IsSpelling-nine : (t : List ℕ) → IsEnded t → length t ≤ 9 → IsSpelling t (value_of t)
+pub IsSpelling-nine : (t : List ℕ) → IsEnded t → length t ≤ 9 → IsSpelling (value_of t) t
 IsSpelling-nine t h short = record { ended = h; at_most_ten = omega arith; value = refl; fits = lt_of_lt_of_le (value_of-below t) (le_trans (pow-le-pow_right (omega arith) short) (omega arith)) }
 
 -- ten bytes, of which the last is 0 or 1, are a varint
-pub IsSpelling-ten : (front : List ℕ) (tenth : ℕ) → AllContinue front → length front ≡ 9 → tenth < 2 → IsSpelling (front ++ tenth ∷ []) (value_of (front ++ tenth ∷ []))
+pub IsSpelling-ten : (front : List ℕ) (tenth : ℕ) → AllContinue front → length front ≡ 9 → tenth < 2 → IsSpelling (value_of (front ++ tenth ∷ [])) (front ++ tenth ∷ [])
 IsSpelling-ten front tenth all nine low = record {
   ended = IsEnded-append front (tenth ∷ []) all (omega arith);
   at_most_ten = omega (arith, length-append front (tenth ∷ []));
@@ -302,7 +302,7 @@ varint_or_fault_lemma bytes = from_scanned bytes (scan 9 bytes)
 -- ---- the laws
 
 pub shortest_reads_back_lemma : ShortestReadsBack
-shortest_reads_back_lemma v rest fits = record { text = shortest v; parts = refl; spelled = IsSpelling-shortest v fits }
+shortest_reads_back_lemma v rest fits = record { text = shortest_varint v; parts = refl; spelled = IsSpelling-shortest_varint v fits }
 
 pub no_spelling_begins_another_lemma : NoSpellingBeginsAnother
 no_spelling_begins_another_lemma t more v u h k = nil_after_ended t more h.ended k.ended

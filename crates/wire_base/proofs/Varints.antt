@@ -8,7 +8,7 @@ use Rattle.std.proofs.Math.Nat.{mod-lt, mul-le-mul_right, div-lt_iff_lt-mul}
 use Rattle.std.proofs.Math.Pow.{pow_mono}
 use Rattle.wire_base.specs.declared.error.DecodeError.TheVariants.{UnexpectedEof, VarintTooLong}
 use Rattle.wire_base.specs.Read.{Reads}
-use Rattle.wire_base.specs.Varint.{value_of, AllContinue, IsEnded, IsSpelling, digits, shortest, VarintFault, cut_short, too_long}
+use Rattle.wire_base.specs.Varint.{value_of, AllContinue, IsEnded, IsSpelling, digits, shortest_varint, VarintFault, cut_short, too_long}
 
 -- ---- the shortest spelling
 
@@ -21,14 +21,14 @@ digits-suc (suc more) v h =
     ap (λ (tail : List ℕ). cond (ltb v 128) (v ∷ []) ((v % 128 + 128) ∷ tail)) (digits-suc more (v / 128) rest)
 
 -- a number below 128 is its own spelling
-pub shortest-last : (v : ℕ) → v < 128 → shortest v ≡ v ∷ []
-unfolding shortest
-shortest-last v h = rw (lt-ltb v (2 ^ 64) (omega arith), lt-ltb v 128 h) refl
+pub shortest_varint-last : (v : ℕ) → v < 128 → shortest_varint v ≡ v ∷ []
+unfolding shortest_varint
+shortest_varint-last v h = rw (lt-ltb v (2 ^ 64) (omega arith), lt-ltb v 128 h) refl
 
 -- another one begins with its low seven bits
-pub shortest-more : (v : ℕ) → 128 ≤ v → v < 2 ^ 64 → shortest v ≡ (v % 128 + 128) ∷ shortest (v / 128)
-unfolding shortest
-shortest-more v high fits =
+pub shortest_varint-more : (v : ℕ) → 128 ≤ v → v < 2 ^ 64 → shortest_varint v ≡ (v % 128 + 128) ∷ shortest_varint (v / 128)
+unfolding shortest_varint
+shortest_varint-more v high fits =
     let rest : v / 128 < 2 ^ 63 = (div-lt_iff_lt-mul {k = 128} {x = v} {y = 2 ^ 63} (omega arith)).1 (omega arith) in
     rw (lt-ltb v (2 ^ 64) fits, le-ltb v 128 high, lt-ltb (v / 128) (2 ^ 64) (omega arith), ← digits-suc 8 (v / 128) rest) refl
 
@@ -47,9 +47,9 @@ length-digits (suc k) (suc more) v le most least =
     rw (le-ltb v 128 high) (ap suc (length-digits k more (v / 128) (omega arith) below above))
 
 -- how long it is, by the place of the number's highest bit
-pub length-shortest : (v place : ℕ) → v < 2 ^ 64 → 2 ^ place ≤ max v 1 → max v 1 < 2 * 2 ^ place → place < 64 → place / 7 + 1 ≡ length (shortest v)
-unfolding shortest
-length-shortest v place fits least most small =
+pub length-shortest_varint : (v place : ℕ) → v < 2 ^ 64 → 2 ^ place ≤ max v 1 → max v 1 < 2 * 2 ^ place → place < 64 → place / 7 + 1 ≡ length (shortest_varint v)
+unfolding shortest_varint
+length-shortest_varint v place fits least most small =
     let up : 2 ^ suc place ≤ 2 ^ (7 * suc (place / 7)) = pow_mono {i = suc place} {j = 7 * suc (place / 7)} (omega arith) in
     let down : 2 ^ (7 * (place / 7)) ≤ 2 ^ place = pow_mono {i = 7 * (place / 7)} {j = place} (omega arith) in
     let double : 2 ^ suc place ≡ 2 * 2 ^ place = ap (λ n. 2 ^ n) (omega arith) ∙ pow-add 2 1 place in
@@ -117,7 +117,7 @@ ReadSoFar-more old now rest v count b so_far e high = record {
 
 -- the byte that lacks the continuation bit ends the number, where it fits 64 bits
 pub ReadSoFar-ends : (old now rest : List ℕ) (v count b : ℕ) → ReadSoFar old now v count → now ≡ b ∷ rest → b < 128 → count ≤ 9 → v + b % 128 * 2 ^ (7 * count) < 2 ^ 64
-    → Reads old (λ text. IsSpelling text (v + b % 128 * 2 ^ (7 * count))) rest
+    → Reads old (IsSpelling (v + b % 128 * 2 ^ (7 * count))) rest
 ReadSoFar-ends old now rest v count b so_far e low few fits = record {
   text = so_far.front ++ b ∷ [];
   parts = so_far.parts ∙ ap (λ (t : List ℕ). so_far.front ++ t) e ∙ sym (append_assoc so_far.front (b ∷ []) rest);

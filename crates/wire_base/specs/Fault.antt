@@ -5,7 +5,7 @@ use Rattle.wire_base.specs.declared.error.DecodeError.TheVariants.{UnexpectedEof
 use Rattle.wire_base.specs.declared.tag.WireType.{WireType}
 use Rattle.wire_base.specs.declared.tag.WireType.TheVariants as types
 use Rattle.wire_base.specs.Field.{Fields}
-use Rattle.wire_base.specs.Limits.{Limits, Fits, one_field, lowered, inner}
+use Rattle.wire_base.specs.Limits.{Limits, Fits, one_field, left_after, inner}
 use Rattle.wire_base.specs.Read.{Reads}
 use Rattle.wire_base.specs.Spells.{Spells}
 use Rattle.wire_base.specs.Tag.{IsTagSpelling, TagFault}
@@ -42,14 +42,14 @@ mutual
     no_length : {l : Limits} {n : ℕ} {bytes : List ℕ} {e : DecodeError}
         → Fits one_field l → VarintFault bytes e → PayloadFault l n types.LengthDelimited bytes e
     short_bytes : {l : Limits} {n : ℕ} {bytes : List ℕ} (len : ℕ) (rest : List ℕ)
-        → Fits one_field l → Reads bytes (λ text. IsSpelling text len) rest → length rest < len
+        → Fits one_field l → Reads bytes (IsSpelling len) rest → length rest < len
         → PayloadFault l n types.LengthDelimited bytes UnexpectedEof
     end_outside : {l : Limits} {n : ℕ} {bytes : List ℕ}
         → Fits one_field l → PayloadFault l n types.EndGroup bytes (InvalidWireType 4)
     no_level : {l : Limits} {n : ℕ} {bytes : List ℕ}
         → Fits one_field l → l.depth ≡ 0 → PayloadFault l n types.StartGroup bytes RecursionLimitExceeded
     in_group : {l : Limits} {n : ℕ} {bytes : List ℕ} {e : DecodeError}
-        → Fits one_field l → 0 < l.depth → ListFault (inner (lowered l one_field)) (by_tag n) bytes e
+        → Fits one_field l → 0 < l.depth → ListFault (inner (left_after l one_field)) (by_tag n) bytes e
         → PayloadFault l n types.StartGroup bytes e
 
   -- Records within the limits, and then a fault where the next record or the end should stand.
@@ -64,4 +64,4 @@ mutual
     bad_payload : {l : Limits} {ending : Ending} {bytes : List ℕ} {e : DecodeError} (fs : Fields) (rest : List ℕ) (n : ℕ) (w : WireType) (after : List ℕ)
         → Reads bytes (Spells fs) rest → Fits (charge fs) l
         → Reads rest (IsTagSpelling n w) after → IsRecordTag ending w
-        → PayloadFault (lowered l (charge fs)) n w after e → ListFault l ending bytes e
+        → PayloadFault (left_after l (charge fs)) n w after e → ListFault l ending bytes e

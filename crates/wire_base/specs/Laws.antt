@@ -7,38 +7,38 @@ use Rattle.wire_base.specs.Field.{Payload, group, Fields, none, field, type_of, 
 use Rattle.wire_base.specs.Fault.{Ending, by_input, by_tag, PayloadFault, ListFault}
 use Rattle.wire_base.specs.FieldNumber.{IsFieldNumber}
 use Rattle.wire_base.specs.InRange.{AreInRange}
-use Rattle.wire_base.specs.Limits.{Limits, Fits, both, lowered}
+use Rattle.wire_base.specs.Limits.{Limits, Fits, both, left_after}
 use Rattle.wire_base.specs.Taken.{TakesPayload, TakesFields}
 use Rattle.wire_base.specs.Read.{Reads}
 use Rattle.wire_base.specs.Sink.{PutAnswers, WriteAnswers, KeepsFront}
 use Rattle.wire_base.specs.Spells.{SpellsPayload, Spells, IsPayload}
-use Rattle.wire_base.specs.Text.{text, payload_charge, charge}
+use Rattle.wire_base.specs.Text.{text_of, payload_charge, charge}
 use Rattle.wire_base.specs.Tag.{IsTagSpelling, tag_text, TagFault}
-use Rattle.wire_base.specs.Varint.{IsSpelling, shortest, VarintFault}
+use Rattle.wire_base.specs.Varint.{IsSpelling, shortest_varint, VarintFault}
 
 -- ---- varints
 
 abbrev pub ShortestReadsBack : Type 0
-ShortestReadsBack = (v : ℕ) (rest : List ℕ) → v < 2 ^ 64 → Reads (shortest v ++ rest) (λ text. IsSpelling text v) rest
+ShortestReadsBack = (v : ℕ) (rest : List ℕ) → v < 2 ^ 64 → Reads (shortest_varint v ++ rest) (IsSpelling v) rest
 
 abbrev pub NoSpellingBeginsAnother : Type 0
-NoSpellingBeginsAnother = (text more : List ℕ) (v w : ℕ) → IsSpelling text v → IsSpelling (text ++ more) w → more ≡ []
+NoSpellingBeginsAnother = (text more : List ℕ) (v w : ℕ) → IsSpelling v text → IsSpelling w (text ++ more) → more ≡ []
 
 abbrev pub OneVarint : Type 0
-OneVarint = (bytes r s : List ℕ) (v w : ℕ) → Reads bytes (λ text. IsSpelling text v) r → Reads bytes (λ text. IsSpelling text w) s → (v ≡ w) × (r ≡ s)
+OneVarint = (bytes r s : List ℕ) (v w : ℕ) → Reads bytes (IsSpelling v) r → Reads bytes (IsSpelling w) s → (v ≡ w) × (r ≡ s)
 
 abbrev pub NoVarintBesideFault : Type 0
-NoVarintBesideFault = (bytes rest : List ℕ) (v : ℕ) (e : DecodeError) → Reads bytes (λ text. IsSpelling text v) rest → VarintFault bytes e → ⊥
+NoVarintBesideFault = (bytes rest : List ℕ) (v : ℕ) (e : DecodeError) → Reads bytes (IsSpelling v) rest → VarintFault bytes e → ⊥
 
 abbrev pub NoSpellingIsShorter : Type 0
-NoSpellingIsShorter = (text : List ℕ) (v : ℕ) → IsSpelling text v
-    → (length (shortest v) ≤ length text) × (All (λ b. b < 256) text → length text ≡ length (shortest v) → text ≡ shortest v)
+NoSpellingIsShorter = (text : List ℕ) (v : ℕ) → IsSpelling v text
+    → (length (shortest_varint v) ≤ length text) × (All (λ b. b < 256) text → length text ≡ length (shortest_varint v) → text ≡ shortest_varint v)
 
 abbrev pub OneVarintFault : Type 0
 OneVarintFault = (bytes : List ℕ) (e f : DecodeError) → VarintFault bytes e → VarintFault bytes f → e ≡ f
 
 abbrev pub VarintOrFault : List ℕ → Type 0
-VarintOrFault bytes = ((v : ℕ) × (rest : List ℕ) × Reads bytes (λ text. IsSpelling text v) rest) ⊎ ((e : DecodeError) × VarintFault bytes e)
+VarintOrFault bytes = ((v : ℕ) × (rest : List ℕ) × Reads bytes (IsSpelling v) rest) ⊎ ((e : DecodeError) × VarintFault bytes e)
 
 abbrev pub VarintOrFaultStands : Type 0
 VarintOrFaultStands = (bytes : List ℕ) → VarintOrFault bytes
@@ -83,25 +83,25 @@ abbrev pub OneBody : Type 0
 OneBody = (n : ℕ) (fs gs : Fields) (bytes r s : List ℕ) → Reads bytes (SpellsPayload n (group fs)) r → Reads bytes (SpellsPayload n (group gs)) s → (fs ≡ gs) × (r ≡ s)
 
 abbrev pub ShortestTextSpells : Type 0
-ShortestTextSpells = (fs : Fields) → AreInRange fs → Spells fs (text fs)
+ShortestTextSpells = (fs : Fields) → AreInRange fs → Spells fs (text_of fs)
 
 abbrev pub NoTextIsShorter : Type 0
-NoTextIsShorter = (fs : Fields) (t : List ℕ) → Spells fs t → length (text fs) ≤ length t
+NoTextIsShorter = (fs : Fields) (t : List ℕ) → Spells fs t → length (text_of fs) ≤ length t
 
 abbrev pub JoinedTextsSpell : Type 0
 JoinedTextsSpell = (fs gs : Fields) (t u : List ℕ) → Spells fs t → Spells gs u → Spells (joined fs gs) (t ++ u)
 
 abbrev pub JoinedAddsUp : Type 0
-JoinedAddsUp = (fs gs : Fields) → (text (joined fs gs) ≡ text fs ++ text gs) × (count_top (joined fs gs) ≡ count_top fs + count_top gs) × (charge (joined fs gs) ≡ both (charge fs) (charge gs))
+JoinedAddsUp = (fs gs : Fields) → (text_of (joined fs gs) ≡ text_of fs ++ text_of gs) × (count_top (joined fs gs) ≡ count_top fs + count_top gs) × (charge (joined fs gs) ≡ both (charge fs) (charge gs))
 
 abbrev pub TextSpellsOneList : Type 0
-TextSpellsOneList = (fs : Fields) → AreInRange fs → Spells fs (text fs) × ((gs : Fields) → Spells gs (text fs) → gs ≡ fs)
+TextSpellsOneList = (fs : Fields) → AreInRange fs → Spells fs (text_of fs) × ((gs : Fields) → Spells gs (text_of fs) → gs ≡ fs)
 
 -- no record takes nothing; and a record behind others takes what these leave
 pub record RecordsOneByOne : Type 0 where
   pub none : (l : Limits) (old : List ℕ) → TakesFields l Fields.none old old
   pub more : (l : Limits) (fs : Fields) (n : ℕ) (w : WireType) (p : Payload) (old mid behind new : List ℕ) → TakesFields l fs old mid → Reads mid (IsTagSpelling n w) behind
-      → TakesPayload (lowered l (charge fs)) n w p behind new → TakesFields l (push fs n p) old new
+      → TakesPayload (left_after l (charge fs)) n w p behind new → TakesFields l (push fs n p) old new
 
 -- ---- faults of records
 

@@ -28,8 +28,8 @@ pub record Fits (c : Charge) (l : Limits) : Type 0 where
   pub unknown_fields : HasRoom l.unknown_fields c.unknown_fields
 
 -- what a charge leaves: the levels are given back, the counts are not
-abbrev pub lowered : Limits → Charge → Limits
-lowered l c = record { depth = l.depth; unknown_fields = less l.unknown_fields c.unknown_fields }
+abbrev pub left_after : Limits → Charge → Limits
+left_after l c = record { depth = l.depth; unknown_fields = less l.unknown_fields c.unknown_fields }
 
 -- the charge of two things, one after the other
 abbrev pub both : Charge → Charge → Charge

@@ -10,11 +10,11 @@ use Rattle.wire_base.specs.Varint.{IsSpelling}
 abbrev mutual
   -- the text is a payload of a record with field number n
   pub SpellsPayload : ℕ → Payload → List ℕ → Type 0
-  SpellsPayload n (varint v) text = IsSpelling text v
+  SpellsPayload n (varint v) text = IsSpelling v text
   SpellsPayload n (fixed64 v) text = (length text ≡ 8) × (from_le_bytes w64 text ≡ v)
   SpellsPayload n (fixed32 v) text = (length text ≡ 4) × (from_le_bytes w32 text ≡ v)
   -- a length, and as many bytes
-  SpellsPayload n (bytes b) text = (len : List ℕ) × (text ≡ len ++ b) × IsSpelling len (length b)
+  SpellsPayload n (bytes b) text = (len : List ℕ) × (text ≡ len ++ b) × IsSpelling (length b) len
   -- records, and the end tag of the same field number
   SpellsPayload n (group fs) text = (body : List ℕ) × (end : List ℕ) × (text ≡ body ++ end) × Spells fs body × IsTagSpelling n EndGroup end
 

@@ -6,7 +6,7 @@ use Rattle.wire_base.specs.declared.tag.WireType.{WireType}
 use Rattle.wire_base.specs.declared.tag.WireType.TheVariants.{Varint, Fixed64, LengthDelimited, StartGroup, EndGroup, Fixed32}
 use Rattle.wire_base.specs.FieldNumber.{IsFieldNumber}
 use Rattle.wire_base.specs.Read.{Reads}
-use Rattle.wire_base.specs.Varint.{IsSpelling, VarintFault, shortest}
+use Rattle.wire_base.specs.Varint.{IsSpelling, VarintFault, shortest_varint}
 
 -- a wire type as it stands in the low three bits of a tag
 abbrev pub wire_number : WireType → ℕ
@@ -24,11 +24,11 @@ tag_value n w = 8 * n + wire_number w
 -- the text is a tag of field number n and wire type w, padded or not
 pub record IsTagSpelling (n : ℕ) (w : WireType) (text : List ℕ) : Type 0 where
   pub number : IsFieldNumber n
-  pub varint : IsSpelling text (tag_value n w)
+  pub varint : IsSpelling (tag_value n w) text
 
 -- the shortest text of a tag
 abbrev pub tag_text : ℕ → WireType → List ℕ
-tag_text n w = shortest (tag_value n w)
+tag_text n w = shortest_varint (tag_value n w)
 
 -- why a number is no tag, if it is none
 abbrev pub tag_error : ℕ → Option DecodeError
@@ -40,5 +40,5 @@ tag_error v =
 -- no tag stands at the front of these bytes, with the error that says why
 pub data TagFault : List ℕ → DecodeError → Type 0 where
   no_varint : {bytes : List ℕ} {e : DecodeError} → VarintFault bytes e → TagFault bytes e
-  no_tag : {bytes : List ℕ} {e : DecodeError} (v : ℕ) (rest : List ℕ) → Reads bytes (λ text. IsSpelling text v) rest
+  no_tag : {bytes : List ℕ} {e : DecodeError} (v : ℕ) (rest : List ℕ) → Reads bytes (IsSpelling v) rest
       → tag_error v ≡ Some e → TagFault bytes e

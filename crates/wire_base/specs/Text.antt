@@ -5,20 +5,20 @@ use Rattle.wire_base.specs.declared.tag.WireType.TheVariants.{EndGroup}
 use Rattle.wire_base.specs.Field.{Payload, varint, fixed64, fixed32, bytes, group, Fields, none, field, type_of}
 use Rattle.wire_base.specs.Limits.{Charge}
 use Rattle.wire_base.specs.Tag.{tag_text}
-use Rattle.wire_base.specs.Varint.{shortest}
+use Rattle.wire_base.specs.Varint.{shortest_varint}
 
 -- the grammar with the shortest varint everywhere
 abbrev mutual
   pub payload_text : ℕ → Payload → List ℕ
-  payload_text n (varint v) = shortest v
+  payload_text n (varint v) = shortest_varint v
   payload_text n (fixed64 v) = to_le_bytes w64 v
   payload_text n (fixed32 v) = to_le_bytes w32 v
-  payload_text n (bytes b) = shortest (length b) ++ b
-  payload_text n (group fs) = text fs ++ tag_text n EndGroup
+  payload_text n (bytes b) = shortest_varint (length b) ++ b
+  payload_text n (group fs) = text_of fs ++ tag_text n EndGroup
 
-  pub text : Fields → List ℕ
-  text none = []
-  text (field n p rest) = tag_text n (type_of p) ++ (payload_text n p ++ text rest)
+  pub text_of : Fields → List ℕ
+  text_of none = []
+  text_of (field n p rest) = tag_text n (type_of p) ++ (payload_text n p ++ text_of rest)
 
 -- the shortest text of one record
 abbrev pub record_text : ℕ → Payload → List ℕ
@@ -26,7 +26,7 @@ record_text n p = tag_text n (type_of p) ++ payload_text n p
 
 -- the length of the text
 abbrev pub size : Fields → ℕ
-size fs = length (text fs)
+size fs = length (text_of fs)
 
 -- every record counts, those nested in groups too
 abbrev mutual

@@ -21,7 +21,7 @@ IsEnded (b ∷ []) = b < 128
 IsEnded (b ∷ c ∷ bs) = (128 ≤ b) × IsEnded (c ∷ bs)
 
 -- the text is a varint of v, padded with zeros or not
-pub record IsSpelling (text : List ℕ) (v : ℕ) : Type 0 where
+pub record IsSpelling (v : ℕ) (text : List ℕ) : Type 0 where
   pub ended : IsEnded text
   pub at_most_ten : length text ≤ 10
   pub value : value_of text ≡ v
@@ -33,8 +33,8 @@ digits zero v = v ∷ []
 digits (suc more) v = if nat_lt v 128 then v ∷ [] else (v % 128 + 128) ∷ digits more (v / 128)
 
 -- the spelling of v of least length; ten bytes of 255 for a number that has none
-unfoldable pub shortest : ℕ → List ℕ
-shortest v = if nat_lt v (2 ^ 64) then digits 9 v else replicate 10 255
+unfoldable pub shortest_varint : ℕ → List ℕ
+shortest_varint v = if nat_lt v (2 ^ 64) then digits 9 v else replicate 10 255
 
 -- no varint stands at the front of these bytes, with the error that says why
 pub data VarintFault : List ℕ → DecodeError → Type 0 where

@@ -1,7 +1,7 @@
 //! What a decoder may still take: levels of nesting, and unknown fields.
 ghost use Rattle.std.specs.Prelude.{◌≡◌, ℕ, ◌+◌, ◌-◌, ◌^◌, ◌<◌, Some, OnOk, OnErr, IfErr};
 ghost use Rattle.wire_base.specs.declared.error.DecodeError.TheVariants.{RecursionLimitExceeded, UnknownFieldLimitExceeded};
-ghost use Rattle.wire_base.specs.Limits.{Fits, counted, one_field, lowered, inner, outer};
+ghost use Rattle.wire_base.specs.Limits.{Fits, counted, one_field, left_after, inner, outer};
 
 use crate::error::DecodeError;
 use std::marker::Model;
@@ -79,7 +79,7 @@ impl DecodeContext {
 
     /// Takes the slot of one unknown field.
     pub fn register_unknown_field(&mut self) -> Result<(), DecodeError>
-        ensures ok { OnOk result (self.new ≡ lowered self.old one_field) }
+        ensures ok { OnOk result (self.new ≡ left_after self.old one_field) }
         ensures taken { OnOk result (Fits one_field self.old) }
         ensures err { IfErr result (λ e. e ≡ UnknownFieldLimitExceeded) }
         ensures none_left { OnErr result (¬ Fits one_field self.old) }

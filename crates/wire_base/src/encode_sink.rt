@@ -9,7 +9,7 @@ use bytes::{BufMut, Bytes, BytesMut};
 /// A growing list of bytes. A put appends all of its bytes or none.
 pub trait EncodeSink {
     /// The bytes that were put, in order.
-    ghost held: { Self → List ℕ };
+    ghost bytes_of: { Self → List ℕ };
 
     /// The most bytes that the sink can count, where it counts them; else memory alone bounds it.
     ghost most: { Option ℕ };
@@ -19,57 +19,57 @@ pub trait EncodeSink {
     const IS_SEGMENTED: bool = false;
 
     fn put_u8(&mut self, value: u8) -> Result<(), EncodeError>
-        ensures ok { OnOk result (held self.new ≡ held self.old ++ value ∷ []) }
-        ensures err { OnErr result (held self.new ≡ held self.old) }
-        ensures cause { PutAnswers most (length (held self.old) + 1) result };
+        ensures ok { OnOk result (bytes_of self.new ≡ bytes_of self.old ++ value ∷ []) }
+        ensures err { OnErr result (bytes_of self.new ≡ bytes_of self.old) }
+        ensures cause { PutAnswers most (length (bytes_of self.old) + 1) result };
 
     fn put_slice(&mut self, bytes: &[u8]) -> Result<(), EncodeError>
-        ensures ok { OnOk result (held self.new ≡ held self.old ++ bytes.now) }
-        ensures err { OnErr result (held self.new ≡ held self.old) }
-        ensures cause { PutAnswers most (length (held self.old) + length bytes.now) result };
+        ensures ok { OnOk result (bytes_of self.new ≡ bytes_of self.old ++ bytes.now) }
+        ensures err { OnErr result (bytes_of self.new ≡ bytes_of self.old) }
+        ensures cause { PutAnswers most (length (bytes_of self.old) + length bytes.now) result };
 
     fn put_u32_le(&mut self, value: u32) -> Result<(), EncodeError>
-        ensures ok { OnOk result (held self.new ≡ held self.old ++ to_le_bytes w32 value) }
-        ensures err { OnErr result (held self.new ≡ held self.old) }
-        ensures cause { PutAnswers most (length (held self.old) + 4) result };
+        ensures ok { OnOk result (bytes_of self.new ≡ bytes_of self.old ++ to_le_bytes w32 value) }
+        ensures err { OnErr result (bytes_of self.new ≡ bytes_of self.old) }
+        ensures cause { PutAnswers most (length (bytes_of self.old) + 4) result };
 
     fn put_u64_le(&mut self, value: u64) -> Result<(), EncodeError>
-        ensures ok { OnOk result (held self.new ≡ held self.old ++ to_le_bytes w64 value) }
-        ensures err { OnErr result (held self.new ≡ held self.old) }
-        ensures cause { PutAnswers most (length (held self.old) + 8) result };
+        ensures ok { OnOk result (bytes_of self.new ≡ bytes_of self.old ++ to_le_bytes w64 value) }
+        ensures err { OnErr result (bytes_of self.new ≡ bytes_of self.old) }
+        ensures cause { PutAnswers most (length (bytes_of self.old) + 8) result };
 
     /// The two's complement, lowest byte first.
     fn put_i32_le(&mut self, value: i32) -> Result<(), EncodeError>
-        ensures ok { OnOk result (held self.new
-            ≡ held self.old ++ to_le_bytes w32 (cast_unsigned w32 value)) }
-        ensures err { OnErr result (held self.new ≡ held self.old) }
-        ensures cause { PutAnswers most (length (held self.old) + 4) result }
+        ensures ok { OnOk result (bytes_of self.new
+            ≡ bytes_of self.old ++ to_le_bytes w32 (cast_unsigned w32 value)) }
+        ensures err { OnErr result (bytes_of self.new ≡ bytes_of self.old) }
+        ensures cause { PutAnswers most (length (bytes_of self.old) + 4) result }
     {
         self.put_u32_le(value.cast_unsigned())
     }
 
     /// The two's complement, lowest byte first.
     fn put_i64_le(&mut self, value: i64) -> Result<(), EncodeError>
-        ensures ok { OnOk result (held self.new
-            ≡ held self.old ++ to_le_bytes w64 (cast_unsigned w64 value)) }
-        ensures err { OnErr result (held self.new ≡ held self.old) }
-        ensures cause { PutAnswers most (length (held self.old) + 8) result }
+        ensures ok { OnOk result (bytes_of self.new
+            ≡ bytes_of self.old ++ to_le_bytes w64 (cast_unsigned w64 value)) }
+        ensures err { OnErr result (bytes_of self.new ≡ bytes_of self.old) }
+        ensures cause { PutAnswers most (length (bytes_of self.old) + 8) result }
     {
         self.put_u64_le(value.cast_unsigned())
     }
 
     /// The bytes may be kept as they are, with no copy. They are given up where the put is refused.
     fn put_shared(&mut self, bytes: Bytes) -> Result<(), EncodeError>
-        ensures ok { OnOk result (held self.new ≡ held self.old ++ bytes) }
-        ensures err { OnErr result (held self.new ≡ held self.old) }
-        ensures cause { PutAnswers most (length (held self.old) + length bytes) result }
+        ensures ok { OnOk result (bytes_of self.new ≡ bytes_of self.old ++ bytes) }
+        ensures err { OnErr result (bytes_of self.new ≡ bytes_of self.old) }
+        ensures cause { PutAnswers most (length (bytes_of self.old) + length bytes) result }
     {
         self.put_slice(bytes.as_slice())
     }
 }
 
 impl EncodeSink for Vec<u8> {
-    ghost held = { λ sink. sink.items };
+    ghost bytes_of = { λ sink. sink.items };
 
     ghost most = { None };
 
@@ -95,7 +95,7 @@ impl EncodeSink for Vec<u8> {
 }
 
 impl EncodeSink for BytesMut {
-    ghost held = { λ sink. sink.items };
+    ghost bytes_of = { λ sink. sink.items };
 
     ghost most = { None };
 

@@ -95,11 +95,11 @@ impl Tag {
 
     /// Writes the shortest text of the tag.
     pub fn encode<S: EncodeSink>(&self, sink: &mut S) -> Result<(), EncodeError>
-        ensures ok { OnOk result (S.held sink.new
-            ≡ S.held sink.old ++ tag_text (tag_number self.now) (tag_type self.now)) }
-        ensures err { OnErr result (KeepsFront (S.held sink.old)
-            (tag_text (tag_number self.now) (tag_type self.now)) (S.held sink.new)) }
-        ensures cause { WriteAnswers S.most (S.held sink.old)
+        ensures ok { OnOk result (S.bytes_of sink.new
+            ≡ S.bytes_of sink.old ++ tag_text (tag_number self.now) (tag_type self.now)) }
+        ensures err { OnErr result (KeepsFront (S.bytes_of sink.old)
+            (tag_text (tag_number self.now) (tag_type self.now)) (S.bytes_of sink.new)) }
+        ensures cause { WriteAnswers S.most (S.bytes_of sink.old)
             (tag_text (tag_number self.now) (tag_type self.now)) result }
     {
         put_tag(self.field_number, self.wire_type, sink)

@@ -3,7 +3,7 @@ ghost use Rattle.std.specs.Prelude.{◌≡◌, [], ◌∷◌, ◌++◌, length, 
 ghost use Rattle.wire_base.specs.declared.error.DecodeError.TheVariants.{UnexpectedEof};
 ghost use Rattle.wire_base.specs.Read.{Reads};
 ghost use Rattle.wire_base.specs.Sink.{KeepsFront, WriteAnswers};
-ghost use Rattle.wire_base.specs.Varint.{IsSpelling, VarintFault, shortest};
+ghost use Rattle.wire_base.specs.Varint.{IsSpelling, VarintFault, shortest_varint};
 
 use crate::encode_sink::EncodeSink;
 use crate::error::{DecodeError, EncodeError};
@@ -11,16 +11,16 @@ use bytes::Buf;
 
 /// How many bytes the shortest varint of a number has: 1 to 10.
 pub fn varint_len(value: u64) -> usize
-    ensures { result ≡ length (shortest value) }
+    ensures { result ≡ length (shortest_varint value) }
 {
     value.max(1).ilog2() as usize / 7 + 1
 }
 
 /// Writes the shortest varint of a number.
 pub fn encode_varint<S: EncodeSink>(value: u64, sink: &mut S) -> Result<(), EncodeError>
-    ensures ok { OnOk result (S.held sink.new ≡ S.held sink.old ++ shortest value) }
-    ensures err { OnErr result (KeepsFront (S.held sink.old) (shortest value) (S.held sink.new)) }
-    ensures cause { WriteAnswers S.most (S.held sink.old) (shortest value) result }
+    ensures ok { OnOk result (S.bytes_of sink.new ≡ S.bytes_of sink.old ++ shortest_varint value) }
+    ensures err { OnErr result (KeepsFront (S.bytes_of sink.old) (shortest_varint value) (S.bytes_of sink.new)) }
+    ensures cause { WriteAnswers S.most (S.bytes_of sink.old) (shortest_varint value) result }
 {
     let mut rest = value;
     while rest >= 0x80 {
@@ -32,7 +32,7 @@ pub fn encode_varint<S: EncodeSink>(value: u64, sink: &mut S) -> Result<(), Enco
 
 /// Reads a varint, padded with zeros or not, from the front of the buffer.
 pub fn decode_varint<B: Buf>(buf: &mut B) -> Result<u64, DecodeError>
-    ensures ok { IfOk result (λ v. Reads (B.unread buf.old) (λ text. IsSpelling text v) (B.unread buf.new)) }
+    ensures ok { IfOk result (λ v. Reads (B.unread buf.old) (IsSpelling v) (B.unread buf.new)) }
     ensures fault { IfErr result (VarintFault (B.unread buf.old)) }
 {
     let mut value = 0u64;

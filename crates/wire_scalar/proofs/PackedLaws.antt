@@ -14,10 +14,10 @@ ended_is_some [] h = absurd h
 ended_is_some (b ∷ text) h = omega arith
 
 -- a varint and more is not no bytes
-not_none : (one more : List ℕ) (x : ℕ) → IsSpelling one x → [] ≡ one ++ more → ⊥
+not_none : (one more : List ℕ) (x : ℕ) → IsSpelling x one → [] ≡ one ++ more → ⊥
 not_none one more x s e = omega (arith, ap length e, length-append one more, ended_is_some one s.ended)
 
-first : (x : ℕ) (xs text : List ℕ) (s : SpellsEach IsVarint (x ∷ xs) text) → Reads text (λ t. IsSpelling t x) s.1
+first : (x : ℕ) (xs text : List ℕ) (s : SpellsEach IsVarint (x ∷ xs) text) → Reads text (IsSpelling x) s.1
 first x xs text s = record { text = s.0; parts = s.2; spelled = s.3 }
 
 module _ (one_varint : OneVarint) where
@@ -30,7 +30,7 @@ module _ (one_varint : OneVarint) where
       ap (λ (n : ℕ). n ∷ xs) same.0 ∙ ap (λ (ns : List ℕ). y ∷ ns) (one_list xs ys s.1 s.4 (subst (SpellsEach IsVarint ys) (sym same.1) t.4))
 
   -- the first number of a list that breaks off later
-  next : (y : ℕ) (ys front rest text : List ℕ) (t : SpellsEach IsVarint (y ∷ ys) front) → text ≡ front ++ rest → Reads text (λ u. IsSpelling u y) (t.1 ++ rest)
+  next : (y : ℕ) (ys front rest text : List ℕ) (t : SpellsEach IsVarint (y ∷ ys) front) → text ≡ front ++ rest → Reads text (IsSpelling y) (t.1 ++ rest)
   next y ys front rest text t is = record { text = t.0; parts = is ∙ ap (λ (u : List ℕ). u ++ rest) t.2 ∙ append_assoc t.0 t.1 rest; spelled = t.3 }
 
   module _ (beside : NoVarintBesideFault) where
@@ -38,7 +38,7 @@ module _ (one_varint : OneVarint) where
     beside_fault [] [] front rest text e s is t more fault = more (sym (ap (λ (u : List ℕ). u ++ rest) t) ∙ sym is ∙ s)
     beside_fault (x ∷ xs) [] front rest text e s is t more fault =
         let whole : text ≡ rest = is ∙ ap (λ (u : List ℕ). u ++ rest) t in
-        beside rest s.1 x e (subst (λ (u : List ℕ). Reads u (λ v. IsSpelling v x) s.1) whole (first x xs text s)) fault
+        beside rest s.1 x e (subst (λ (u : List ℕ). Reads u (IsSpelling x) s.1) whole (first x xs text s)) fault
     beside_fault [] (y ∷ ys) front rest text e s is t more fault =
         not_none t.0 (t.1 ++ rest) y t.3 (sym s ∙ is ∙ ap (λ (u : List ℕ). u ++ rest) t.2 ∙ append_assoc t.0 t.1 rest)
     beside_fault (x ∷ xs) (y ∷ ys) front rest text e s is t more fault =
@@ -69,7 +69,7 @@ module _ (one_varint : OneVarint) where
       one_fault xs ys text e f a b = same_fault xs ys a.front a.rest b.front b.rest e f (sym a.parts ∙ b.parts) a.spelled b.spelled a.fault b.fault
 
 -- one number more in front
-with_first : (x : ℕ) (text rest : List ℕ) → Reads text (λ t. IsSpelling t x) rest → PackedListOrFault rest → PackedListOrFault text
+with_first : (x : ℕ) (text rest : List ℕ) → Reads text (IsSpelling x) rest → PackedListOrFault rest → PackedListOrFault text
 with_first x text rest r (inl l) = inl (x ∷ l.0, (r.text, rest, r.parts, r.spelled, l.1))
 with_first x text rest r (inr b) =
     let broken = b.2 in
@@ -88,7 +88,7 @@ with_first x text rest r (inr b) =
 
 -- the bytes begin with a varint, behind which shorter texts are known, or with none
 from_front : (fuel b : ℕ) (bytes : List ℕ) → length (b ∷ bytes) ≤ suc fuel → ((text : List ℕ) → length text ≤ fuel → PackedListOrFault text)
-    → ((v : ℕ) × (rest : List ℕ) × Reads (b ∷ bytes) (λ t. IsSpelling t v) rest) ⊎ ((e : DecodeError) × VarintFault (b ∷ bytes) e) → PackedListOrFault (b ∷ bytes)
+    → ((v : ℕ) × (rest : List ℕ) × Reads (b ∷ bytes) (IsSpelling v) rest) ⊎ ((e : DecodeError) × VarintFault (b ∷ bytes) e) → PackedListOrFault (b ∷ bytes)
 from_front fuel b bytes le shorter (inl r) =
     let read = r.2 in
     with_first r.0 (b ∷ bytes) r.1 read (shorter r.1 (omega (arith, ap length read.parts, length-append read.text r.1, ended_is_some read.text read.spelled.ended)))

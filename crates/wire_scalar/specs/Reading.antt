@@ -7,7 +7,7 @@ use Rattle.wire_scalar.specs.ValueMap.{ValueMap}
 
 -- the text is a varint of x, padded or not
 abbrev pub IsVarint : ℕ → List ℕ → Type 0
-IsVarint x text = IsSpelling text x
+IsVarint x text = IsSpelling x text
 
 -- the text is x in so many bytes, the lowest first
 abbrev pub IsFixed : Width → ℕ → List ℕ → Type 0

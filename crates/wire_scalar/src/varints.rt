@@ -1,7 +1,7 @@
 //! Scalars that stand on the wire as varints.
 ghost use Rattle.std.specs.Prelude.{◌≡◌, ◌++◌, length, OnOk, OnErr, IfOk, IfErr};
 ghost use Rattle.wire_base.specs.Sink.{KeepsFront, WriteAnswers};
-ghost use Rattle.wire_base.specs.Varint.{VarintFault, shortest};
+ghost use Rattle.wire_base.specs.Varint.{VarintFault, shortest_varint};
 ghost use Rattle.wire_scalar.specs.Reading.{IsVarint, ReadsValue};
 ghost use Rattle.wire_scalar.specs.ValueMap.{int32, int64, uint32, uint64, sint32, sint64, bool};
 
@@ -22,9 +22,9 @@ pub(crate) fn decode_as<T: VarintScalar, B: Buf>(buf: &mut B) -> Result<T::Value
 
 /// Writes an `int32` as its shortest varint, a negative one as the 64 bits of its two's complement, in ten bytes.
 pub fn encode_int32<S: EncodeSink>(value: i32, sink: &mut S) -> Result<(), EncodeError>
-    ensures ok { OnOk result (S.held sink.new ≡ S.held sink.old ++ shortest (int32.enc value)) }
-    ensures err { OnErr result (KeepsFront (S.held sink.old) (shortest (int32.enc value)) (S.held sink.new)) }
-    ensures cause { WriteAnswers S.most (S.held sink.old) (shortest (int32.enc value)) result }
+    ensures ok { OnOk result (S.bytes_of sink.new ≡ S.bytes_of sink.old ++ shortest_varint (int32.enc value)) }
+    ensures err { OnErr result (KeepsFront (S.bytes_of sink.old) (shortest_varint (int32.enc value)) (S.bytes_of sink.new)) }
+    ensures cause { WriteAnswers S.most (S.bytes_of sink.old) (shortest_varint (int32.enc value)) result }
 {
     encode_varint(Int32::number_of(value), sink)
 }
@@ -47,16 +47,16 @@ pub fn decode_int32_packed<B: Buf>(buf: &mut B) -> Result<i32, DecodeError>
 
 /// How many bytes `encode_int32` writes.
 pub fn int32_encoded_len(value: i32) -> usize
-    ensures { result ≡ length (shortest (int32.enc value)) }
+    ensures { result ≡ length (shortest_varint (int32.enc value)) }
 {
     varint_len(Int32::number_of(value))
 }
 
 /// Writes an `int64` as its shortest varint, a negative one as the 64 bits of its two's complement, in ten bytes.
 pub fn encode_int64<S: EncodeSink>(value: i64, sink: &mut S) -> Result<(), EncodeError>
-    ensures ok { OnOk result (S.held sink.new ≡ S.held sink.old ++ shortest (int64.enc value)) }
-    ensures err { OnErr result (KeepsFront (S.held sink.old) (shortest (int64.enc value)) (S.held sink.new)) }
-    ensures cause { WriteAnswers S.most (S.held sink.old) (shortest (int64.enc value)) result }
+    ensures ok { OnOk result (S.bytes_of sink.new ≡ S.bytes_of sink.old ++ shortest_varint (int64.enc value)) }
+    ensures err { OnErr result (KeepsFront (S.bytes_of sink.old) (shortest_varint (int64.enc value)) (S.bytes_of sink.new)) }
+    ensures cause { WriteAnswers S.most (S.bytes_of sink.old) (shortest_varint (int64.enc value)) result }
 {
     encode_varint(Int64::number_of(value), sink)
 }
@@ -79,16 +79,16 @@ pub fn decode_int64_packed<B: Buf>(buf: &mut B) -> Result<i64, DecodeError>
 
 /// How many bytes `encode_int64` writes.
 pub fn int64_encoded_len(value: i64) -> usize
-    ensures { result ≡ length (shortest (int64.enc value)) }
+    ensures { result ≡ length (shortest_varint (int64.enc value)) }
 {
     varint_len(Int64::number_of(value))
 }
 
 /// Writes an `uint32` as its shortest varint.
 pub fn encode_uint32<S: EncodeSink>(value: u32, sink: &mut S) -> Result<(), EncodeError>
-    ensures ok { OnOk result (S.held sink.new ≡ S.held sink.old ++ shortest (uint32.enc value)) }
-    ensures err { OnErr result (KeepsFront (S.held sink.old) (shortest (uint32.enc value)) (S.held sink.new)) }
-    ensures cause { WriteAnswers S.most (S.held sink.old) (shortest (uint32.enc value)) result }
+    ensures ok { OnOk result (S.bytes_of sink.new ≡ S.bytes_of sink.old ++ shortest_varint (uint32.enc value)) }
+    ensures err { OnErr result (KeepsFront (S.bytes_of sink.old) (shortest_varint (uint32.enc value)) (S.bytes_of sink.new)) }
+    ensures cause { WriteAnswers S.most (S.bytes_of sink.old) (shortest_varint (uint32.enc value)) result }
 {
     encode_varint(Uint32::number_of(value), sink)
 }
@@ -111,16 +111,16 @@ pub fn decode_uint32_packed<B: Buf>(buf: &mut B) -> Result<u32, DecodeError>
 
 /// How many bytes `encode_uint32` writes.
 pub fn uint32_encoded_len(value: u32) -> usize
-    ensures { result ≡ length (shortest (uint32.enc value)) }
+    ensures { result ≡ length (shortest_varint (uint32.enc value)) }
 {
     varint_len(Uint32::number_of(value))
 }
 
 /// Writes an `uint64` as its shortest varint.
 pub fn encode_uint64<S: EncodeSink>(value: u64, sink: &mut S) -> Result<(), EncodeError>
-    ensures ok { OnOk result (S.held sink.new ≡ S.held sink.old ++ shortest (uint64.enc value)) }
-    ensures err { OnErr result (KeepsFront (S.held sink.old) (shortest (uint64.enc value)) (S.held sink.new)) }
-    ensures cause { WriteAnswers S.most (S.held sink.old) (shortest (uint64.enc value)) result }
+    ensures ok { OnOk result (S.bytes_of sink.new ≡ S.bytes_of sink.old ++ shortest_varint (uint64.enc value)) }
+    ensures err { OnErr result (KeepsFront (S.bytes_of sink.old) (shortest_varint (uint64.enc value)) (S.bytes_of sink.new)) }
+    ensures cause { WriteAnswers S.most (S.bytes_of sink.old) (shortest_varint (uint64.enc value)) result }
 {
     encode_varint(Uint64::number_of(value), sink)
 }
@@ -143,16 +143,16 @@ pub fn decode_uint64_packed<B: Buf>(buf: &mut B) -> Result<u64, DecodeError>
 
 /// How many bytes `encode_uint64` writes.
 pub fn uint64_encoded_len(value: u64) -> usize
-    ensures { result ≡ length (shortest (uint64.enc value)) }
+    ensures { result ≡ length (shortest_varint (uint64.enc value)) }
 {
     varint_len(Uint64::number_of(value))
 }
 
 /// Writes a `sint32` as its shortest varint, in zigzag order, in which numbers near zero are short.
 pub fn encode_sint32<S: EncodeSink>(value: i32, sink: &mut S) -> Result<(), EncodeError>
-    ensures ok { OnOk result (S.held sink.new ≡ S.held sink.old ++ shortest (sint32.enc value)) }
-    ensures err { OnErr result (KeepsFront (S.held sink.old) (shortest (sint32.enc value)) (S.held sink.new)) }
-    ensures cause { WriteAnswers S.most (S.held sink.old) (shortest (sint32.enc value)) result }
+    ensures ok { OnOk result (S.bytes_of sink.new ≡ S.bytes_of sink.old ++ shortest_varint (sint32.enc value)) }
+    ensures err { OnErr result (KeepsFront (S.bytes_of sink.old) (shortest_varint (sint32.enc value)) (S.bytes_of sink.new)) }
+    ensures cause { WriteAnswers S.most (S.bytes_of sink.old) (shortest_varint (sint32.enc value)) result }
 {
     encode_varint(Sint32::number_of(value), sink)
 }
@@ -175,16 +175,16 @@ pub fn decode_sint32_packed<B: Buf>(buf: &mut B) -> Result<i32, DecodeError>
 
 /// How many bytes `encode_sint32` writes.
 pub fn sint32_encoded_len(value: i32) -> usize
-    ensures { result ≡ length (shortest (sint32.enc value)) }
+    ensures { result ≡ length (shortest_varint (sint32.enc value)) }
 {
     varint_len(Sint32::number_of(value))
 }
 
 /// Writes a `sint64` as its shortest varint, in zigzag order, in which numbers near zero are short.
 pub fn encode_sint64<S: EncodeSink>(value: i64, sink: &mut S) -> Result<(), EncodeError>
-    ensures ok { OnOk result (S.held sink.new ≡ S.held sink.old ++ shortest (sint64.enc value)) }
-    ensures err { OnErr result (KeepsFront (S.held sink.old) (shortest (sint64.enc value)) (S.held sink.new)) }
-    ensures cause { WriteAnswers S.most (S.held sink.old) (shortest (sint64.enc value)) result }
+    ensures ok { OnOk result (S.bytes_of sink.new ≡ S.bytes_of sink.old ++ shortest_varint (sint64.enc value)) }
+    ensures err { OnErr result (KeepsFront (S.bytes_of sink.old) (shortest_varint (sint64.enc value)) (S.bytes_of sink.new)) }
+    ensures cause { WriteAnswers S.most (S.bytes_of sink.old) (shortest_varint (sint64.enc value)) result }
 {
     encode_varint(Sint64::number_of(value), sink)
 }
@@ -207,16 +207,16 @@ pub fn decode_sint64_packed<B: Buf>(buf: &mut B) -> Result<i64, DecodeError>
 
 /// How many bytes `encode_sint64` writes.
 pub fn sint64_encoded_len(value: i64) -> usize
-    ensures { result ≡ length (shortest (sint64.enc value)) }
+    ensures { result ≡ length (shortest_varint (sint64.enc value)) }
 {
     varint_len(Sint64::number_of(value))
 }
 
 /// Writes a `bool` as one byte, 00 or 01.
 pub fn encode_bool<S: EncodeSink>(value: bool, sink: &mut S) -> Result<(), EncodeError>
-    ensures ok { OnOk result (S.held sink.new ≡ S.held sink.old ++ shortest (bool.enc value)) }
-    ensures err { OnErr result (KeepsFront (S.held sink.old) (shortest (bool.enc value)) (S.held sink.new)) }
-    ensures cause { WriteAnswers S.most (S.held sink.old) (shortest (bool.enc value)) result }
+    ensures ok { OnOk result (S.bytes_of sink.new ≡ S.bytes_of sink.old ++ shortest_varint (bool.enc value)) }
+    ensures err { OnErr result (KeepsFront (S.bytes_of sink.old) (shortest_varint (bool.enc value)) (S.bytes_of sink.new)) }
+    ensures cause { WriteAnswers S.most (S.bytes_of sink.old) (shortest_varint (bool.enc value)) result }
 {
     encode_varint(Bool::number_of(value), sink)
 }

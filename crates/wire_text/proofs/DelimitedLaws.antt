@@ -14,7 +14,7 @@ use Rattle.wire_base.specs.Laws as base
 use Rattle.wire_base.specs.Limits.{Fits, one_field, uncounted}
 use Rattle.wire_base.specs.Read.{Reads}
 use Rattle.wire_base.specs.Spells.{IsPayload}
-use Rattle.wire_base.specs.Varint.{IsSpelling, shortest}
+use Rattle.wire_base.specs.Varint.{IsSpelling, shortest_varint}
 use Rattle.wire_text.specs.Delimited.{IsDelimited, DelimitedFault, no_length, cut_short}
 use Rattle.wire_text.specs.Laws.{ShortestReadsBack, OnePayload, NoPayloadBesideFault, OneFault, PayloadOrFault, PayloadOrFaultStands, NoStringBesideFault, OneStringFault, StringOrFaultStands}
 use Rattle.wire_text.specs.StringPayload.{IsString, StringFault, no_payload, not_utf8}
@@ -44,7 +44,7 @@ shortest_reads_back_lemma law payload rest few =
     let r = law (length payload) (payload ++ rest) few in
     record {
       text = r.text ++ payload;
-      parts = append_assoc (shortest (length payload)) payload rest ∙ r.parts ∙ sym (append_assoc r.text payload rest);
+      parts = append_assoc (shortest_varint (length payload)) payload rest ∙ r.parts ∙ sym (append_assoc r.text payload rest);
       spelled = (r.text, refl, r.spelled);
     }
 
@@ -61,7 +61,7 @@ pub one_fault_lemma : base.OnePayloadFault → OneFault
 one_fault_lemma law old e f one other = law (uncounted 0) 0 types.LengthDelimited old e f (as_fault old e one) (as_fault old f other)
 
 -- so many bytes behind a length, or too few
-behind_length : (len : ℕ) (old mid : List ℕ) → Reads old (λ text. IsSpelling text len) mid → (length mid < len) ⊎ (len ≤ length mid) → PayloadOrFault old
+behind_length : (len : ℕ) (old mid : List ℕ) → Reads old (IsSpelling len) mid → (length mid < len) ⊎ (len ≤ length mid) → PayloadOrFault old
 behind_length len old mid r (inl few) = inr (UnexpectedEof, cut_short len mid r few)
 behind_length len old mid r (inr there) = inl (take len mid, drop len mid, reads_payload len old mid (take len mid) (drop len mid) r there refl refl)
 

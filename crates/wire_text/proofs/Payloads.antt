@@ -11,14 +11,14 @@ use Rattle.wire_text.specs.Delimited.{IsDelimited, DelimitedFault, no_length, cu
 use Rattle.wire_text.specs.StringPayload.{IsString, StringFault, not_utf8}
 
 -- a length and as many bytes of what stands behind it
-pub reads_payload : (len : ℕ) (old mid payload new : List ℕ) → Reads old (λ text. IsSpelling text len) mid → len ≤ length mid → payload ≡ take len mid → new ≡ drop len mid
+pub reads_payload : (len : ℕ) (old mid payload new : List ℕ) → Reads old (IsSpelling len) mid → len ≤ length mid → payload ≡ take len mid → new ≡ drop len mid
     → Reads old (IsDelimited payload) new
 reads_payload len old mid payload new r there front behind =
     let count : len ≡ length (take len mid) = omega (arith, length-take len mid) in
     rw (front, behind) (record {
       text = r.text ++ take len mid;
       parts = r.parts ∙ ap (λ (t : List ℕ). r.text ++ t) (sym (take-append-drop len mid)) ∙ sym (append_assoc r.text (take len mid) (drop len mid));
-      spelled = (r.text, refl, subst (λ (k : ℕ). IsSpelling r.text k) count r.spelled);
+      spelled = (r.text, refl, subst (λ (k : ℕ). IsSpelling k r.text) count r.spelled);
     })
 
 -- no error of a length and what stands behind it is one of its bytes
@@ -28,7 +28,7 @@ is_no_utf8 bytes e (no_length (v.too_long front tenth rest parts all nine high))
 is_no_utf8 bytes e (cut_short len rest r few) same = absurd cc
 
 -- a payload and its text
-pub reads_string : (len : ℕ) (old mid payload new : List ℕ) → Reads old (λ text. IsSpelling text len) mid → len ≤ length mid → payload ≡ take len mid → new ≡ drop len mid
+pub reads_string : (len : ℕ) (old mid payload new : List ℕ) → Reads old (IsSpelling len) mid → len ≤ length mid → payload ≡ take len mid → new ≡ drop len mid
     → IsUtf8 payload → Reads old (IsString payload) new
 reads_string len old mid payload new r there front behind utf8 =
     let whole = reads_payload len old mid payload new r there front behind in

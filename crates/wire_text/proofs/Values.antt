@@ -23,7 +23,7 @@ lies_there len mid payload rest count parts chunk = (chunk.0, subst (IsChunkOf c
 cut_there : (len : ℕ) (mid payload rest : List ℕ) → len ≡ length payload → mid ≡ payload ++ rest → AreCut len mid → AreCut (length payload) (payload ++ rest)
 cut_there len mid payload rest count parts chunk = (chunk.0, subst (IsChunkOf chunk.0) parts chunk.1, omega (arith, chunk.2, count))
 
-module _ (answers : List ℕ → Answer → Type 0) (len : ℕ) (old mid : List ℕ) (r : Reads old (λ text. IsSpelling text len) mid) (there : len ≤ length mid) where
+module _ (answers : List ℕ → Answer → Type 0) (len : ℕ) (old mid : List ℕ) (r : Reads old (IsSpelling len) mid) (there : len ≤ length mid) where
   -- the bytes behind the length are taken
   pub takes_value : (value new : List ℕ) → answers (take len mid) (Ok value) → new ≡ drop len mid → TakesValue answers value old new
   takes_value value new taken behind = record { payload = take len mid; read = reads_payload len old mid (take len mid) new r there refl behind; taken = taken }

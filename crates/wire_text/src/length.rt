@@ -9,7 +9,7 @@ use wire_base::{DecodeError, decode_varint};
 
 /// Reads the length of a payload that is there as a whole.
 pub(crate) fn decode_length<B: Buf>(buf: &mut B) -> Result<usize, DecodeError>
-    ensures ok { IfOk result (λ len. Reads (B.unread buf.old) (λ text. IsSpelling text len) (B.unread buf.new)) }
+    ensures ok { IfOk result (λ len. Reads (B.unread buf.old) (IsSpelling len) (B.unread buf.new)) }
     ensures there { IfOk result (λ len. len ≤ length (B.unread buf.new)) }
     ensures fault { IfErr result (DelimitedFault (B.unread buf.old)) }
 {

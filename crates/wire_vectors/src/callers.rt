@@ -9,7 +9,7 @@ ghost use Rattle.wire_base.specs.FieldNumber.{IsFieldNumber};
 ghost use Rattle.wire_base.specs.Limits.{uncounted};
 ghost use Rattle.wire_base.specs.Tag.{TagFault};
 ghost use Rattle.wire_base.specs.Text.{record_text};
-ghost use Rattle.wire_base.specs.Varint.{shortest};
+ghost use Rattle.wire_base.specs.Varint.{shortest_varint};
 ghost use Rattle.wire_scalar.specs.Packed.{Appends};
 ghost use Rattle.wire_scalar.specs.Reading.{IsVarint};
 ghost use Rattle.wire_scalar.specs.ValueMap.{int32, sint64};
@@ -32,7 +32,7 @@ pub fn first_number(bytes: &[u8]) -> Result<u32, DecodeError>
 
 /// Writes two numbers as the shortest varints.
 pub fn put_pair<S: EncodeSink>(first: u64, second: u64, sink: &mut S) -> Result<(), EncodeError>
-    ensures ok { OnOk result (S.held sink.new ≡ (S.held sink.old ++ shortest first) ++ shortest second) }
+    ensures ok { OnOk result (S.bytes_of sink.new ≡ (S.bytes_of sink.old ++ shortest_varint first) ++ shortest_varint second) }
 {
     encode_varint(first, sink)?;
     encode_varint(second, sink)
@@ -48,7 +48,7 @@ pub fn body_of(bytes: &[u8], number: u32) -> Result<&[u8], DecodeError>
 
 /// Writes a balance as field 1.
 pub fn put_balance<S: EncodeSink>(balance: i64, sink: &mut S) -> Result<(), EncodeError>
-    ensures ok { OnOk result (S.held sink.new ≡ S.held sink.old ++ record_text 1 (varint (sint64.enc balance))) }
+    ensures ok { OnOk result (S.bytes_of sink.new ≡ S.bytes_of sink.old ++ record_text 1 (varint (sint64.enc balance))) }
 {
     put_sint64_field(1, balance, sink)
 }

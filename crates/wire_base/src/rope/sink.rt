@@ -52,7 +52,7 @@ impl Rope {
 }
 
 impl EncodeSink for Rope {
-    ghost held = { rope_bytes };
+    ghost bytes_of = { rope_bytes };
 
     ghost most = { Some (2 ^ 64 - 1) };
 

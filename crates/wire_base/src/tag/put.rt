@@ -13,9 +13,9 @@ pub(crate) fn put_tag<S: EncodeSink>(
     wire_type: WireType,
     sink: &mut S,
 ) -> Result<(), EncodeError>
-    ensures ok { OnOk result (S.held sink.new ≡ S.held sink.old ++ tag_text number wire_type) }
-    ensures err { OnErr result (KeepsFront (S.held sink.old) (tag_text number wire_type) (S.held sink.new)) }
-    ensures cause { WriteAnswers S.most (S.held sink.old) (tag_text number wire_type) result }
+    ensures ok { OnOk result (S.bytes_of sink.new ≡ S.bytes_of sink.old ++ tag_text number wire_type) }
+    ensures err { OnErr result (KeepsFront (S.bytes_of sink.old) (tag_text number wire_type) (S.bytes_of sink.new)) }
+    ensures cause { WriteAnswers S.most (S.bytes_of sink.old) (tag_text number wire_type) result }
 {
     encode_varint(8 * u64::from(number) + low_bits(wire_type), sink)
 }

@@ -3,7 +3,7 @@ ghost use Rattle.std.specs.Prelude.{◌≡◌, ◌⊎◌, OnErr, IfOk, IfErr, Ma
 ghost use Rattle.wire_base.specs.declared.error.DecodeError.TheVariants.{OutOfMemory};
 ghost use Rattle.wire_base.specs.Fault.{PayloadFault, ListFault, by_input, by_tag};
 ghost use Rattle.wire_base.specs.Field.{Fields};
-ghost use Rattle.wire_base.specs.Limits.{Fits, NoCountGrew, counted, lowered};
+ghost use Rattle.wire_base.specs.Limits.{Fits, NoCountGrew, counted, left_after};
 ghost use Rattle.wire_base.specs.Spells.{Spells};
 ghost use Rattle.wire_base.specs.TagView.{tag_number, tag_type};
 ghost use Rattle.wire_base.specs.Taken.{TakesPayload, TakesBody};
@@ -47,7 +47,7 @@ fn decode_all(
 ) -> Result<UnknownFields, DecodeError>
     ensures spelled { IfOk result (λ fs. Spells fs bytes.now) }
     ensures within { IfOk result (λ fs. Fits (charge fs) context.old) }
-    ensures charged { IfOk result (λ fs. context.new ≡ lowered context.old (charge fs)) }
+    ensures charged { IfOk result (λ fs. context.new ≡ left_after context.old (charge fs)) }
     ensures fault { IfErr result (λ e. (e ≡ OutOfMemory) ⊎ ListFault context.old by_input bytes.now e) }
     ensures counts { OnErr result (NoCountGrew context.old context.new) }
 {
@@ -76,7 +76,7 @@ pub fn decode_unknown_field<B: Buf>(
     ensures ok { IfOk result (λ field. TakesPayload context.old (tag_number tag) (tag_type tag)
         (payload_of field.value) (B.unread buf.old) (B.unread buf.new)) }
     ensures charged { IfOk result (λ field. context.new
-        ≡ lowered context.old (payload_charge (payload_of field.value))) }
+        ≡ left_after context.old (payload_charge (payload_of field.value))) }
     ensures fault { IfErr result (λ e. (e ≡ OutOfMemory)
         ⊎ PayloadFault context.old (tag_number tag) (tag_type tag) (B.unread buf.old) e) }
     ensures counts { OnErr result (NoCountGrew context.old context.new) }
@@ -99,7 +99,7 @@ fn decode_value<B: Buf>(
     ensures ok { IfOk result (λ value. TakesPayload context.old (tag_number tag) (tag_type tag)
         (payload_of value) (B.unread buf.old) (B.unread buf.new)) }
     ensures charged { IfOk result (λ value. context.new
-        ≡ lowered context.old (payload_charge (payload_of value))) }
+        ≡ left_after context.old (payload_charge (payload_of value))) }
     ensures fault { IfErr result (λ e. (e ≡ OutOfMemory)
         ⊎ PayloadFault context.old (tag_number tag) (tag_type tag) (B.unread buf.old) e) }
     ensures counts { OnErr result (NoCountGrew context.old context.new) }
@@ -132,7 +132,7 @@ fn decode_group<B: Buf>(
     context: &mut DecodeContext,
 ) -> Result<UnknownFields, DecodeError>
     ensures ok { IfOk result (λ fs. TakesBody context.old number fs (B.unread buf.old) (B.unread buf.new)) }
-    ensures charged { IfOk result (λ fs. context.new ≡ lowered context.old (charge fs)) }
+    ensures charged { IfOk result (λ fs. context.new ≡ left_after context.old (charge fs)) }
     ensures fault { IfErr result (λ e. (e ≡ OutOfMemory)
         ⊎ ListFault context.old (by_tag number) (B.unread buf.old) e) }
     ensures counts { OnErr result (NoCountGrew context.old context.new) }

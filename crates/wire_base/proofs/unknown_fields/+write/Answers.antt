@@ -5,9 +5,9 @@ use Rattle.wire_base.specs.declared.tag.WireType.TheVariants.{EndGroup}
 use Rattle.wire_base.specs.Tag.{tag_text}
 use Rattle.wire_base.specs.Text.{payload_text}
 use Rattle.wire_base.specs.UnknownFields.{payload_of}
-use Rattle.wire_base.specs.Varint.{shortest}
+use Rattle.wire_base.specs.Varint.{shortest_varint}
 use Rattle.wire_base.proofs.Sinks.{KeepsFront-longer, Written-breaks}
-use Rattle.wire_base.proofs.UnknownFieldsLemmas.{text-at}
+use Rattle.wire_base.proofs.UnknownFieldsLemmas.{text_of-at}
 use Rattle.wire_base.proofs.unknown_fields.+write.Goals as goal
 
 pub UnknownField::write_to-returns-in_err-put_tag-clause-err : goal.UnknownField::write_to-returns-in_err-put_tag-clause-err
@@ -22,7 +22,7 @@ UnknownFieldData::write_to-returns-in_err-encode_varint-in-LengthDelimited-claus
     let p = err_from_is_err_and c.from_residual.result c.from_residual.ensures.1 in
     let b = c.in-LengthDelimited.bytes in
     let len : length b.items ≡ c.len.result = sym (c.len.ensures ∙ b.ok.0) in
-    rw (p.1, c.in-LengthDelimited.is) (KeepsFront-longer _ _ _ _ b.items (ap (λ (n : ℕ). shortest n ++ b.items) len) (c.in_err-encode_varint-in-LengthDelimited).ensures.err)
+    rw (p.1, c.in-LengthDelimited.is) (KeepsFront-longer _ _ _ _ b.items (ap (λ (n : ℕ). shortest_varint n ++ b.items) len) (c.in_err-encode_varint-in-LengthDelimited).ensures.err)
 
 pub UnknownFieldData::write_to-returns-in_err-write_to-in-Group-clause-err : goal.UnknownFieldData::write_to-returns-in_err-write_to-in-Group-clause-err
 UnknownFieldData::write_to-returns-in_err-write_to-in-Group-clause-err g t c =
@@ -32,4 +32,4 @@ UnknownFieldData::write_to-returns-in_err-write_to-in-Group-clause-err g t c =
 pub UnknownFields::write_to-returns-in_err-write_to-clause-err : goal.UnknownFields::write_to-returns-in_err-write_to-clause-err
 UnknownFields::write_to-returns-in_err-write_to-clause-err g t c =
     let p = err_from_is_err_and c.from_residual.result c.from_residual.ensures.1 in
-    rw p.1 (Written-breaks g.S.EncodeSink.most _ _ _ _ _ _ _ c.loop-field.invariant (text-at _ _ _ c.loop-field-test.true c.field-item.is) c.in_err-write_to.ensures.err)
+    rw p.1 (Written-breaks g.S.EncodeSink.most _ _ _ _ _ _ _ c.loop-field.invariant (text_of-at _ _ _ c.loop-field-test.true c.field-item.is) c.in_err-write_to.ensures.err)

@@ -1,5 +1,5 @@
 use Rattle.std.proofs.Common.{ap, ◌∙◌, ◌++◌}
-use Rattle.wire_base.specs.Text.{text}
+use Rattle.wire_base.specs.Text.{text_of}
 use Rattle.wire_min.proofs.run.shortest_text.Goals as goal
 
 -- the vector was empty, and the text was written to it
@@ -7,5 +7,5 @@ pub returns-in-Ok-clause-ok : goal.returns-in-Ok-clause-ok
 returns-in-Ok-clause-ok c = record {
   fields = c.in_ok-fields.fields;
   taken = (c.in_ok-fields.ensures.spelled, c.in_ok-fields.ensures.within);
-  shortest = c.in-Ok.ensures.ok ∙ ap (λ l. l ++ text c.in_ok-fields.fields) c.new-output.ensures.items;
+  shortest_varint = c.in-Ok.ensures.ok ∙ ap (λ l. l ++ text c.in_ok-fields.fields) c.new-output.ensures.items;
 }

@@ -1,12 +1,12 @@
 use Rattle.std.proofs.Common.{sym, ap, ◌∙◌, inl, inr, ⊎_elim}
 use Rattle.std.proofs.lemmas.Result.{err_from_is_err_and}
 use Rattle.wire_base.specs.Fault.{by_tag, no_slot, no_varint, short_fixed64, short_fixed32, no_length, short_bytes, no_level, end_outside, bad_tag, other_end, bad_payload}
-use Rattle.wire_base.specs.Limits.{Limits, inner, lowered}
+use Rattle.wire_base.specs.Limits.{Limits, inner, left_after}
 use Rattle.wire_base.specs.UnknownFields.{payload_of}
 use Rattle.wire_base.specs.Text.{charge, payload_charge}
-use Rattle.wire_base.proofs.LimitsLaws.{NoCountGrew-lowered}
+use Rattle.wire_base.proofs.LimitsLaws.{NoCountGrew-left_after}
 use Rattle.wire_base.proofs.Payloads.{takes_bytes, takes_body, fails_in_group}
-use Rattle.wire_base.proofs.Takes.{takes_push, lowered-push}
+use Rattle.wire_base.proofs.Takes.{takes_push, left_after-push}
 use Rattle.wire_base.proofs.Results.{at_ok}
 use Rattle.wire_base.proofs.unknown_fields.decode.+decode.Goals as goal
 
@@ -111,7 +111,7 @@ decode_group-returns-in_err-field g t c =
       ok = tt;
       charged = tt;
       fault = ⊎_elim inl (λ f. inr (bad_payload {ending = by_tag c.args.number} _ _ _ _ _ loop.so_far.read loop.so_far.fits c.in_ok-tag.ensures.ok (λ end. c.in_default.not-EndGroup (c.wire_type.ensures ∙ end)) (rw loop.context at f))) refused.fault;
-      counts = NoCountGrew-lowered _ _ (charge c.loop-fields.fields) (rw loop.context at refused.counts);
+      counts = NoCountGrew-left_after _ _ (charge c.loop-fields.fields) (rw loop.context at refused.counts);
     })
 
 pub decode_group-loop-fields-preserved : goal.decode_group-loop-fields-preserved
@@ -121,5 +121,5 @@ decode_group-loop-fields-preserved g t c =
     let pushed = at_ok c.push.result _ (sym c.is_err.ensures.value ∙ c.if-is_err.false) c.push.ensures.ok in
     rw (pushed, read.number) (record {
       so_far = takes_push _ _ _ _ _ _ _ _ _ loop.so_far c.in_ok-tag.ensures.ok (rw loop.context at read.ok);
-      context = read.charged ∙ ap (λ (l : Limits). lowered l (payload_charge (payload_of c.in_ok-field.field.value))) loop.context ∙ lowered-push _ c.loop-fields.fields _ _;
+      context = read.charged ∙ ap (λ (l : Limits). left_after l (payload_charge (payload_of c.in_ok-field.field.value))) loop.context ∙ left_after-push _ c.loop-fields.fields _ _;
     })

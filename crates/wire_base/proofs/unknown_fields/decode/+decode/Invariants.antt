@@ -1,5 +1,5 @@
 use Rattle.std.proofs.Common.{◌≡◌, ◌+◌, ◌*◌, length}
-use Rattle.wire_base.specs.Limits.{lowered}
+use Rattle.wire_base.specs.Limits.{left_after}
 use Rattle.wire_base.specs.Taken.{TakesFields}
 use Rattle.wire_base.specs.Text.{charge}
 use Rattle.wire_base.proofs.unknown_fields.decode.+decode.Given as goal
@@ -16,7 +16,7 @@ decreases-decode_group g l = 3 * l.context.now.depth + 2
 abbrev pub invariant-decode_group-loop-fields : goal.invariant-decode_group-loop-fields
 invariant-decode_group-loop-fields g l = record {
   so_far : TakesFields l.fn.context l.fields (g.B.Buf.unread l.fn.buf) (g.B.Buf.unread l.buf);
-  context : l.context ≡ lowered l.fn.context (charge l.fields);
+  context : l.context ≡ left_after l.fn.context (charge l.fields);
 }
 
 abbrev pub decreases-decode_group-loop-fields : goal.decreases-decode_group-loop-fields

@@ -2,11 +2,11 @@ use Rattle.std.proofs.Common.{length, sym, ap, ◌∙◌, inl, inr, ⊎_elim}
 use Rattle.std.proofs.lemmas.Result.{err_from_is_err_and}
 use Rattle.std.proofs.lemmas.Bool.{eqb-false}
 use Rattle.wire_base.specs.Fault.{by_input, bad_tag, bad_payload}
-use Rattle.wire_base.specs.Limits.{Limits, lowered}
+use Rattle.wire_base.specs.Limits.{Limits, left_after}
 use Rattle.wire_base.specs.Text.{payload_charge}
 use Rattle.wire_base.specs.UnknownFields.{payload_of}
 use Rattle.wire_base.proofs.Results.{at_ok}
-use Rattle.wire_base.proofs.Takes.{takes_push, lowered-push}
+use Rattle.wire_base.proofs.Takes.{takes_push, left_after-push}
 use Rattle.wire_base.proofs.unknown_fields.decode.decode_all.Goals as goal
 
 pub returns-in_err-tag-clause-fault : goal.returns-in_err-tag-clause-fault
@@ -30,5 +30,5 @@ loop-buf-preserved c =
     let pushed = at_ok c.push.result _ (sym c.is_err.ensures.value ∙ c.if-is_err.false) c.push.ensures.ok in
     rw (pushed, read.number) (record {
       so_far = takes_push _ _ _ _ _ _ _ _ _ loop.so_far c.in_ok-tag.ensures.ok (rw loop.context at read.ok);
-      context = read.charged ∙ ap (λ (l : Limits). lowered l (payload_charge (payload_of c.in_ok-field.field.value))) loop.context ∙ lowered-push _ c.loop-buf.fields _ _;
+      context = read.charged ∙ ap (λ (l : Limits). left_after l (payload_charge (payload_of c.in_ok-field.field.value))) loop.context ∙ left_after-push _ c.loop-buf.fields _ _;
     })

@@ -1,5 +1,5 @@
 use Rattle.std.proofs.Common.{◌≡◌, length}
-use Rattle.wire_base.specs.Limits.{lowered}
+use Rattle.wire_base.specs.Limits.{left_after}
 use Rattle.wire_base.specs.Taken.{TakesFields}
 use Rattle.wire_base.specs.Text.{charge}
 use Rattle.wire_base.proofs.unknown_fields.decode.decode_all.Given as goal
@@ -7,7 +7,7 @@ use Rattle.wire_base.proofs.unknown_fields.decode.decode_all.Given as goal
 abbrev pub invariant-loop-buf : goal.invariant-loop-buf
 invariant-loop-buf l = record {
   so_far : TakesFields l.fn.context l.fields l.fn.bytes l.buf;
-  context : l.context ≡ lowered l.fn.context (charge l.fields);
+  context : l.context ≡ left_after l.fn.context (charge l.fields);
 }
 
 abbrev pub decreases-loop-buf : goal.decreases-loop-buf
