@@ -1,16 +1,20 @@
 -- Laws of records: one reading.
-use Rattle.std.proofs.Common.{◌≡◌, ℕ, ◌⊎◌, inl, inr, List, [], ◌∷◌, ◌++◌, length, refl, sym, ap, ap₂, ◌∙◌, subst, append_assoc, append-nil}
+use Rattle.std.proofs.Common.{◌≡◌, ℕ, ◌<◌, ◌⊎◌, inl, inr, List, [], ◌∷◌, ◌++◌, length, refl, sym, ap, ◌∙◌, subst, append-nil, append_assoc, arith, ⊎_elim, length-append}
 use Rattle.std.specs.Int.{w32, w64, from_le_bytes}
 use Rattle.wire_base.specs.declared.tag.WireType.{WireType}
 use Rattle.wire_base.specs.declared.tag.WireType.TheVariants.{EndGroup}
-use Rattle.wire_base.specs.Field.{Payload, varint, fixed64, fixed32, bytes, group, Fields, none, field, type_of}
-use Rattle.wire_base.specs.Laws.{PayloadIsField, OnePayload, OneList, OneBody}
+use Rattle.wire_base.specs.Delimited.{IsDelimited}
+use Rattle.wire_base.specs.Field.{Payload, varint, fixed64, fixed32, bytes, group, Fields, none, field, type_of, joined}
+use Rattle.wire_base.specs.InRange.{AreNumbered, IsPayloadNumbered}
 use Rattle.wire_base.specs.Read.{Reads}
+use Rattle.wire_base.specs.RecordLaws.{PayloadIsField, OnePayload, OneSpelled, SpelledAreNumbered}
 use Rattle.wire_base.specs.Spells.{SpellsPayload, Spells, IsPayload}
 use Rattle.wire_base.specs.Tag.{IsTagSpelling}
-use Rattle.wire_base.specs.Varint.{IsSpelling}
+use Rattle.wire_base.specs.Varint.{IsSpelling, IsEnded}
+use Rattle.wire_base.proofs.DelimitedLaws.{same_delimited}
 use Rattle.wire_base.proofs.ListLaws.{one_beginning}
-use Rattle.wire_base.proofs.TagLaws.{SameTag, same_tag}
+use Rattle.wire_base.proofs.ReadLaws.{Reads-inside, Reads-as, Reads-shorter}
+use Rattle.wire_base.proofs.TagLaws.{same_tag}
 use Rattle.wire_base.proofs.VarintLaws.{same_varint}
 
 -- ---- one record
@@ -20,20 +24,16 @@ payload_is_field_lemma n p t = (there n p t, back n p t)
   where
     -- the record taken apart
     there : (n : ℕ) (p : Payload) (t : List ℕ) → Spells (field n p none) t
-        → (tag : List ℕ) × (payload : List ℕ) × (t ≡ tag ++ payload) × IsTagSpelling n (type_of p) tag × IsPayload n (type_of p) p payload
-    there n p t (tag, payload, more, parts, h, k, end) =
-        (tag, payload, parts ∙ ap (λ l. tag ++ (payload ++ l)) end ∙ ap (λ l. tag ++ l) (append-nil payload), h, record { kind = refl; spelled = k })
+        → (payload : List ℕ) × Reads t (IsTagSpelling n (type_of p)) payload × IsPayload n (type_of p) p payload
+    there n p t (behind, rest, tag, h, end) =
+        (behind, tag, record { kind = refl; spelled = subst (SpellsPayload n p) (sym (h.parts ∙ ap (λ l. h.text ++ l) end ∙ append-nil h.text)) h.spelled })
 
     -- and put together
-    back : (n : ℕ) (p : Payload) (t : List ℕ) → ((tag : List ℕ) × (payload : List ℕ) × (t ≡ tag ++ payload) × IsTagSpelling n (type_of p) tag × IsPayload n (type_of p) p payload)
+    back : (n : ℕ) (p : Payload) (t : List ℕ)
+        → (payload : List ℕ) × Reads t (IsTagSpelling n (type_of p)) payload × IsPayload n (type_of p) p payload
         → Spells (field n p none) t
-    back n p t (tag, payload, parts, h, k) = (tag, payload, [], parts ∙ ap (λ l. tag ++ l) (sym (append-nil payload)), h, k.spelled, refl)
-
--- ---- what follows a list of records
-
--- nothing, or the end tag of a group
-abbrev pub Ends : List ℕ → Type 0
-Ends rest = (rest ≡ []) ⊎ ((n : ℕ) × (after : List ℕ) × Reads rest (IsTagSpelling n EndGroup) after)
+    back n p t (payload, tag, h) =
+        (payload, [], tag, record { text = payload; parts = sym (append-nil payload); spelled = h.spelled }, refl)
 
 -- no payload stands behind an end tag
 pub not_end_group : (p : Payload) → type_of p ≡ EndGroup → ⊥
@@ -43,132 +43,211 @@ not_end_group (fixed32 v) e = cc
 not_end_group (bytes b) e = cc
 not_end_group (group fs) e = cc
 
--- no tag is empty
-pub tag_not_nil : (n : ℕ) (w : WireType) (tag more : List ℕ) → IsTagSpelling n w tag → tag ++ more ≡ [] → ⊥
-tag_not_nil n w [] more h e = h.varint.ended
-tag_not_nil n w (b ∷ tag) more h e = cc
+-- what follows a tag is shorter than what it stands in
+pub rest_below : (n : ℕ) (w : WireType) (old rest : List ℕ) → Reads old (IsTagSpelling n w) rest → length rest < length old
+rest_below n w old rest h = past_tag h.text h.spelled.varint.ended h.parts
+  where
+    past_tag : (text : List ℕ) → IsEnded text → old ≡ text ++ rest → length rest < length old
+    past_tag [] ended e = absurd ended
+    past_tag (b ∷ text) ended e = omega (arith, ap length e ∙ length-append (b ∷ text) rest)
 
--- where a record's tag stands, nothing ends
-pub record_not_end : (n : ℕ) (p : Payload) (tag more rest : List ℕ) → IsTagSpelling n (type_of p) tag → rest ≡ tag ++ more → Ends rest → ⊥
-record_not_end n p tag more rest h e (inl end) = tag_not_nil n (type_of p) tag more h (sym e ∙ end)
-record_not_end n p tag more rest h e (inr (k, after, end)) =
-    let same = same_tag rest more after n k (type_of p) EndGroup (record { text = tag; parts = e; spelled = h }) end in
-    not_end_group p same.kind
+-- a list that begins with a record, taken apart
+pub record Head (n : ℕ) (p : Payload) (fs : Fields) (old new : List ℕ) : Type 0 where
+  pub behind : List ℕ
+  pub rest : List ℕ
+  pub tag : Reads old (IsTagSpelling n (type_of p)) behind
+  pub payload : Reads behind (SpellsPayload n p) rest
+  pub others : Reads rest (Spells fs) new
+
+-- a text of records that is behind another one stands at its front, with no byte between them
+pub Reads-here : (IsText : List ℕ → Type 0) (text new : List ℕ) → IsText text → Reads (text ++ new) IsText new
+Reads-here IsText text new h = record { text = text; parts = refl; spelled = h }
+
+-- the tag, the payload and the other records, one behind the other
+pub head_of : (n : ℕ) (p : Payload) (fs : Fields) (old new : List ℕ) → Reads old (Spells (field n p fs)) new → Head n p fs old new
+head_of n p fs old new h =
+    let (behind, rest, tag, payload, others) = h.spelled in
+    record {
+      behind = behind ++ new;
+      rest = rest ++ new;
+      tag = Reads-inside (IsTagSpelling n (type_of p)) old h.text behind new h.parts tag;
+      payload = Reads-inside (SpellsPayload n p) (behind ++ new) behind rest new refl payload;
+      others = Reads-here (Spells fs) rest new others;
+    }
+
+-- the empty list takes nothing
+pub none_takes_nothing : (old new : List ℕ) → Reads old (Spells none) new → old ≡ new
+none_takes_nothing old new h = h.parts ∙ ap (λ l. l ++ new) h.spelled
+
+-- the records of a group's body, and its end tag
+pub record Body (n : ℕ) (fs : Fields) (old new : List ℕ) : Type 0 where
+  pub end : List ℕ
+  pub fields : Reads old (Spells fs) end
+  pub tag : Reads end (IsTagSpelling n EndGroup) new
+
+pub body_of : (n : ℕ) (fs : Fields) (old new : List ℕ) → Reads old (SpellsPayload n (group fs)) new → Body n fs old new
+body_of n fs old new h =
+    let (end, fields, tag) = h.spelled in
+    record {
+      end = end ++ new;
+      fields = Reads-inside (Spells fs) old h.text end new h.parts fields;
+      tag = Reads-here (IsTagSpelling n EndGroup) end new tag;
+    }
 
 -- ---- one reading
 
-pub record SamePayload (p q : Payload) (a b r s : List ℕ) : Type 0 where
-  pub value : p ≡ q
-  pub text : a ≡ b
-  pub rest : r ≡ s
+-- of two lists the second goes on where the first ends
+pub record Front (fs gs : Fields) (mid new : List ℕ) : Type 0 where
+  pub more : Fields
+  pub parts : gs ≡ joined fs more
+  pub others : Reads mid (Spells more) new
 
-pub record SameList (fs gs : Fields) (a b r s : List ℕ) : Type 0 where
-  pub value : fs ≡ gs
-  pub text : a ≡ b
-  pub rest : r ≡ s
+-- where a record stands, no end tag does
+pub record_not_end : (n k : ℕ) (p : Payload) (fs : Fields) (old new after : List ℕ) → Reads old (Spells (field n p fs)) new
+    → Reads old (IsTagSpelling k EndGroup) after → ⊥
+record_not_end n k p fs old new after h end =
+    let head = head_of n p fs old new h in
+    not_end_group p (same_tag old head.behind after n k (type_of p) EndGroup head.tag end).kind
 
--- one varint is one payload
-same_number : (v w : ℕ) (a b r s : List ℕ) → IsSpelling v a → IsSpelling w b → a ++ r ≡ b ++ s → SamePayload (varint v) (varint w) a b r s
-same_number v w a b r s h k e =
-    let same = same_varint (a ++ r) r s v w (record { text = a; parts = refl; spelled = h }) (record { text = b; parts = e; spelled = k }) in
-    record { value = ap varint same.value; text = same.text; rest = same.rest }
+pub joined-none : (fs : Fields) → joined fs none ≡ fs
+joined-none none = refl
+joined-none (field n p fs) = ap (field n p) (joined-none fs)
 
--- one length and as many bytes are one payload
-same_bytes : (c d a b r s : List ℕ) → (len : List ℕ) × (a ≡ len ++ c) × IsSpelling (length c) len → (len : List ℕ) × (b ≡ len ++ d) × IsSpelling (length d) len
-    → a ++ r ≡ b ++ s → SamePayload (bytes c) (bytes d) a b r s
-same_bytes c d a b r s (len, parts, h) (len2, parts2, k) e =
-    let split : len ++ (c ++ r) ≡ len2 ++ (d ++ s) = sym (append_assoc len c r) ∙ ap (λ l. l ++ r) (sym parts) ∙ e ∙ ap (λ l. l ++ s) parts2 ∙ append_assoc len2 d s in
-    let front = same_varint (len ++ (c ++ r)) (c ++ r) (d ++ s) _ _ (record { text = len; parts = refl; spelled = h }) (record { text = len2; parts = split; spelled = k }) in
-    let content = one_beginning c d r s front.value front.rest in
-    record { value = ap bytes content.0; text = parts ∙ ap₂ (λ l m. l ++ m) front.text content.0 ∙ sym parts2; rest = content.1 }
+-- a list that is the front of another, both before an end tag, is that list
+front_to_tag : (n : ℕ) (fs gs : Fields) (mid end r s : List ℕ) → Reads mid (IsTagSpelling n EndGroup) r → Reads end (IsTagSpelling n EndGroup) s
+    → (more : Fields) → gs ≡ joined fs more → Reads mid (Spells more) end → (gs ≡ fs) × (r ≡ s)
+front_to_tag n fs gs mid end r s h k none parts others =
+    let same = none_takes_nothing mid end others in
+    (parts ∙ joined-none fs, (same_tag end r s n n EndGroup EndGroup (subst (λ l. Reads l (IsTagSpelling n EndGroup) r) same h) k).rest)
+front_to_tag n fs gs mid end r s h k (field m q more) parts others = absurd (record_not_end m n q more mid end r others h)
 
--- 8 bytes are one payload
-same_fixed64 : (v w : ℕ) (a b r s : List ℕ) → (length a ≡ 8) × (from_le_bytes w64 a ≡ v) → (length b ≡ 8) × (from_le_bytes w64 b ≡ w) → a ++ r ≡ b ++ s → SamePayload (fixed64 v) (fixed64 w) a b r s
-same_fixed64 v w a b r s (eight, is) (eight2, is2) e =
-    let same = one_beginning a b r s (eight ∙ sym eight2) e in
-    record { value = ap fixed64 (sym is ∙ ap (λ l. from_le_bytes w64 l) same.0 ∙ is2); text = same.0; rest = same.1 }
+-- two bodies of groups at the front of one list are one
+same_body : (n : ℕ) (fs gs : Fields) (old r s : List ℕ) (h : Body n fs old r) (k : Body n gs old s)
+    → Front fs gs h.end k.end ⊎ Front gs fs k.end h.end → (fs ≡ gs) × (r ≡ s)
+same_body n fs gs old r s h k (inl front) =
+    let same = front_to_tag n fs gs h.end k.end r s h.tag k.tag front.more front.parts front.others in (sym same.0, same.1)
+same_body n fs gs old r s h k (inr front) =
+    let same = front_to_tag n gs fs k.end h.end s r k.tag h.tag front.more front.parts front.others in (same.0, sym same.1)
 
--- 4 bytes are one payload
-same_fixed32 : (v w : ℕ) (a b r s : List ℕ) → (length a ≡ 4) × (from_le_bytes w32 a ≡ v) → (length b ≡ 4) × (from_le_bytes w32 b ≡ w) → a ++ r ≡ b ++ s → SamePayload (fixed32 v) (fixed32 w) a b r s
-same_fixed32 v w a b r s (four, is) (four2, is2) e =
-    let same = one_beginning a b r s (four ∙ sym four2) e in
-    record { value = ap fixed32 (sym is ∙ ap (λ l. from_le_bytes w32 l) same.0 ∙ is2); text = same.0; rest = same.1 }
+same_number : (v w : ℕ) (old r s : List ℕ) → Reads old (IsSpelling v) r → Reads old (IsSpelling w) s → (varint v ≡ varint w) × (r ≡ s)
+same_number v w old r s h k = let same = same_varint old r s v w h k in (ap varint same.value, same.rest)
 
--- two lists in parts, with what follows each
-opened : (a b x y z w r s : List ℕ) → a ≡ x ++ y → b ≡ z ++ w → a ++ r ≡ b ++ s → x ++ (y ++ r) ≡ z ++ (w ++ s)
-opened a b x y z w r s p q e = sym (append_assoc x y r) ∙ ap (λ l. l ++ r) (sym p) ∙ e ∙ ap (λ l. l ++ s) q ∙ append_assoc z w s
+same_bytes : (b c old r s : List ℕ) → Reads old (IsDelimited b) r → Reads old (IsDelimited c) s → (bytes b ≡ bytes c) × (r ≡ s)
+same_bytes b c old r s h k = let same = same_delimited b c old r s h k in (ap bytes same.0, same.1)
 
--- an end tag is an end, whatever follows it
-pub end_tag_ends : (n : ℕ) (tag rest : List ℕ) → IsTagSpelling n EndGroup tag → Ends (tag ++ rest)
-end_tag_ends n tag rest h = inr (n, rest, record { text = tag; parts = refl; spelled = h })
+same_fixed64 : (v w : ℕ) (old r s : List ℕ) → Reads old (SpellsPayload 0 (fixed64 v)) r → Reads old (SpellsPayload 0 (fixed64 w)) s
+    → (fixed64 v ≡ fixed64 w) × (r ≡ s)
+same_fixed64 v w old r s h k =
+    let same = one_beginning h.text k.text r s (h.spelled.0 ∙ sym k.spelled.0) (sym h.parts ∙ k.parts) in
+    (ap fixed64 (sym h.spelled.1 ∙ ap (λ l. from_le_bytes w64 l) same.0 ∙ k.spelled.1), same.1)
 
--- one body and one end tag are one group
-same_group : (fs gs : Fields) (n : ℕ) (a b r s : List ℕ) (h : SpellsPayload n (group fs) a) (k : SpellsPayload n (group gs) b)
-    → SameList fs gs h.0 k.0 (h.1 ++ r) (k.1 ++ s) → SamePayload (group fs) (group gs) a b r s
-same_group fs gs n a b r s h k same =
-    let tags = same_tag (h.1 ++ r) r s n n EndGroup EndGroup (record { text = h.1; parts = refl; spelled = h.4 }) (record { text = k.1; parts = same.rest; spelled = k.4 }) in
-    record { value = ap group same.value; text = h.2 ∙ ap₂ (λ x y. x ++ y) same.text tags.text ∙ sym k.2; rest = tags.rest }
+same_fixed32 : (v w : ℕ) (old r s : List ℕ) → Reads old (SpellsPayload 0 (fixed32 v)) r → Reads old (SpellsPayload 0 (fixed32 w)) s
+    → (fixed32 v ≡ fixed32 w) × (r ≡ s)
+same_fixed32 v w old r s h k =
+    let same = one_beginning h.text k.text r s (h.spelled.0 ∙ sym k.spelled.0) (sym h.parts ∙ k.parts) in
+    (ap fixed32 (sym h.spelled.1 ∙ ap (λ l. from_le_bytes w32 l) same.0 ∙ k.spelled.1), same.1)
 
--- the tags at the front of two lists that are one
-record_tags : (p q : Payload) (fs gs : Fields) (n m : ℕ) (a b r s : List ℕ) (h : Spells (field n p fs) a) (k : Spells (field m q gs) b) → a ++ r ≡ b ++ s
-    → SameTag h.0 k.0 (h.1 ++ (h.2 ++ r)) (k.1 ++ (k.2 ++ s)) n m (type_of p) (type_of q)
-record_tags p q fs gs n m a b r s h k e =
-    let split = opened a b h.0 (h.1 ++ h.2) k.0 (k.1 ++ k.2) r s h.3 k.3 e in
-    let tags = same_tag _ _ _ n m (type_of p) (type_of q) (record { text = h.0; parts = refl; spelled = h.4 }) (record { text = k.0; parts = split; spelled = k.4 }) in
-    record { text = tags.text; number = tags.number; kind = tags.kind; rest = sym (append_assoc h.1 h.2 r) ∙ tags.rest ∙ append_assoc k.1 k.2 s }
+-- the record at the front of both lists is one, where its payload is
+same_tags : (n m : ℕ) (p q : Payload) (fs gs : Fields) (old r s : List ℕ) (h : Head n p fs old r) (k : Head m q gs old s)
+    → (n ≡ m) × (type_of p ≡ type_of q) × (h.behind ≡ k.behind)
+same_tags n m p q fs gs old r s h k =
+    let same = same_tag old h.behind k.behind n m (type_of p) (type_of q) h.tag k.tag in (same.number, same.kind, same.rest)
 
--- one tag, one payload and one rest are one list
-same_records : (p q : Payload) (fs gs : Fields) (n m : ℕ) (a b r s : List ℕ) (h : Spells (field n p fs) a) (k : Spells (field m q gs) b)
-    → h.0 ≡ k.0 → n ≡ m → SamePayload p q h.1 k.1 (h.2 ++ r) (k.2 ++ s) → SameList fs gs h.2 k.2 r s → SameList (field n p fs) (field m q gs) a b r s
-same_records p q fs gs n m a b r s h k tags numbers front later =
-    let payload = front.value in
-    let rest = later.value in
-    record {
-      value = cc;
-      text = h.3 ∙ ap₂ (λ x y. x ++ y) tags (ap₂ (λ x y. x ++ y) front.text later.text) ∙ sym k.3;
-      rest = later.rest;
-    }
+-- the payload of the second record, behind the tag of the first
+moved_payload : (n m : ℕ) (q : Payload) (behind other rest : List ℕ) → n ≡ m → behind ≡ other → Reads other (SpellsPayload m q) rest
+    → Reads behind (SpellsPayload n q) rest
+moved_payload n m q behind other rest number same h =
+    subst (λ k. Reads behind (SpellsPayload k q) rest) (sym number) (subst (λ l. Reads l (SpellsPayload m q) rest) (sym same) h)
+
+-- one record more at the front of both
+longer_front : (n m : ℕ) (p q : Payload) (fs gs : Fields) (mid new : List ℕ) → n ≡ m → p ≡ q → Front fs gs mid new → Front (field n p fs) (field m q gs) mid new
+longer_front n m p q fs gs mid new number same front = record {
+  more = front.more;
+  parts = λ i. field (sym number i) (sym same i) (front.parts i);
+  others = front.others;
+}
+
+either_longer : (n m : ℕ) (p q : Payload) (fs gs : Fields) (r s : List ℕ) → n ≡ m → p ≡ q → Front fs gs r s ⊎ Front gs fs s r
+    → Front (field n p fs) (field m q gs) r s ⊎ Front (field m q gs) (field n p fs) s r
+either_longer n m p q fs gs r s number same (inl front) = inl (longer_front n m p q fs gs r s number same front)
+either_longer n m p q fs gs r s number same (inr front) = inr (longer_front m n q p gs fs s r (sym number) (sym same) front)
 
 mutual
-  -- two payloads behind one tag, at the front of one list, are one
-  pub same_payload : (p q : Payload) (n : ℕ) (a b r s : List ℕ) → type_of p ≡ type_of q → SpellsPayload n p a → SpellsPayload n q b → a ++ r ≡ b ++ s → SamePayload p q a b r s
-  same_payload (varint v) (varint w) n a b r s t h k e = same_number v w a b r s h k e
-  same_payload (varint v) q n a b r s t h k e = absurd (cc)
-  same_payload (fixed64 v) (fixed64 w) n a b r s t h k e = same_fixed64 v w a b r s h k e
-  same_payload (fixed64 v) q n a b r s t h k e = absurd (cc)
-  same_payload (fixed32 v) (fixed32 w) n a b r s t h k e = same_fixed32 v w a b r s h k e
-  same_payload (fixed32 v) q n a b r s t h k e = absurd (cc)
-  same_payload (bytes c) (bytes d) n a b r s t h k e = same_bytes c d a b r s h k e
-  same_payload (bytes c) q n a b r s t h k e = absurd (cc)
-  same_payload (group fs) (group gs) n a b r s t h k e =
-      same_group fs gs n a b r s h k
-      (same_list fs gs h.0 k.0 (h.1 ++ r) (k.1 ++ s) h.3 k.3 (end_tag_ends n h.1 r h.4) (end_tag_ends n k.1 s k.4) (opened a b h.0 h.1 k.0 k.1 r s h.2 k.2 e))
-  same_payload (group fs) q n a b r s t h k e = absurd (cc)
+  -- two payloads behind one tag are one
+  pub same_payload : (p q : Payload) (n : ℕ) (old r s : List ℕ) → type_of p ≡ type_of q → Reads old (SpellsPayload n p) r → Reads old (SpellsPayload n q) s → (p ≡ q) × (r ≡ s)
+  same_payload (varint v) (varint w) n old r s t h k = same_number v w old r s h k
+  same_payload (varint v) q n old r s t h k = absurd (cc)
+  same_payload (fixed64 v) (fixed64 w) n old r s t h k = same_fixed64 v w old r s h k
+  same_payload (fixed64 v) q n old r s t h k = absurd (cc)
+  same_payload (fixed32 v) (fixed32 w) n old r s t h k = same_fixed32 v w old r s h k
+  same_payload (fixed32 v) q n old r s t h k = absurd (cc)
+  same_payload (bytes b) (bytes c) n old r s t h k = same_bytes b c old r s h k
+  same_payload (bytes b) q n old r s t h k = absurd (cc)
+  same_payload (group fs) (group gs) n old r s t h k =
+      let one = body_of n fs old r h in
+      let other = body_of n gs old s k in
+      let same = same_body n fs gs old r s one other (either_front fs gs old one.end other.end one.fields other.fields) in
+      (ap group same.0, same.1)
+  same_payload (group fs) q n old r s t h k = absurd (cc)
 
-  -- two lists of records at the front of one list, each with an end behind it, are one
-  pub same_list : (fs gs : Fields) (a b r s : List ℕ) → Spells fs a → Spells gs b → Ends r → Ends s → a ++ r ≡ b ++ s → SameList fs gs a b r s
-  same_list none none a b r s h k x y e = record { value = refl; text = h ∙ sym k; rest = ap (λ l. l ++ r) (sym h) ∙ e ∙ ap (λ l. l ++ s) k }
-  same_list none (field n p gs) a b r s h k x y e =
-      absurd (record_not_end n p k.0 _ r k.4 (opened a b [] [] k.0 (k.1 ++ k.2) r s h k.3 e) x)
-  same_list (field n p fs) none a b r s h k x y e =
-      absurd (record_not_end n p h.0 _ s h.4 (sym (opened a b h.0 (h.1 ++ h.2) [] [] r s h.3 k e)) y)
-  same_list (field n p fs) (field m q gs) a b r s h k x y e =
-      let tags = record_tags p q fs gs n m a b r s h k e in
-      let front = same_payload p q n h.1 k.1 (h.2 ++ r) (k.2 ++ s) tags.kind h.5 (subst (λ j. SpellsPayload j q k.1) (sym tags.number) k.5) tags.rest in
-      same_records p q fs gs n m a b r s h k tags.text tags.number front (same_list fs gs h.2 k.2 r s h.6 k.6 x y front.rest)
+  -- of two lists of records at the front of the same bytes, one is the front of the other
+  pub either_front : (fs gs : Fields) (old r s : List ℕ) → Reads old (Spells fs) r → Reads old (Spells gs) s → Front fs gs r s ⊎ Front gs fs s r
+  either_front none gs old r s h k =
+      inl (record { more = gs; parts = refl; others = subst (λ l. Reads l (Spells gs) s) (none_takes_nothing old r h) k })
+  either_front (field n p fs) none old r s h k =
+      inr (record { more = field n p fs; parts = refl; others = subst (λ l. Reads l (Spells (field n p fs)) r) (none_takes_nothing old s k) h })
+  either_front (field n p fs) (field m q gs) old r s h k =
+      let one = head_of n p fs old r h in
+      let other = head_of m q gs old s k in
+      let tags = same_tags n m p q fs gs old r s one other in
+      let payloads = same_payload p q n one.behind one.rest other.rest tags.1 one.payload (moved_payload n m q one.behind other.behind other.rest tags.0 tags.2 other.payload) in
+      either_longer n m p q fs gs r s tags.0 payloads.0
+      (either_front fs gs one.rest r s one.others (subst (λ l. Reads l (Spells gs) s) (sym payloads.1) other.others))
+
+-- ---- field numbers
+
+mutual
+  payload_numbered : (n : ℕ) (p : Payload) (t : List ℕ) → SpellsPayload n p t → IsPayloadNumbered p
+  payload_numbered n (varint v) t h = tt
+  payload_numbered n (fixed64 v) t h = tt
+  payload_numbered n (fixed32 v) t h = tt
+  payload_numbered n (bytes b) t h = tt
+  payload_numbered n (group fs) t (end, fields, tag) = numbered fs fields.text fields.spelled
+
+  numbered : (fs : Fields) (t : List ℕ) → Spells fs t → AreNumbered fs
+  numbered none t h = tt
+  numbered (field n p fs) t (behind, rest, tag, payload, others) =
+      (tag.spelled.number, payload_numbered n p payload.text payload.spelled, numbered fs rest others)
 
 -- ---- the laws
 
 pub one_payload_lemma : OnePayload
-one_payload_lemma n w p q old r s x y =
-    let same = same_payload p q n x.text y.text r s (x.spelled.kind ∙ sym y.spelled.kind) x.spelled.spelled y.spelled.spelled (sym x.parts ∙ y.parts) in
-    (same.value, same.rest)
+one_payload_lemma n w p q old r s h k =
+    same_payload p q n old r s (h.spelled.kind ∙ sym k.spelled.kind)
+    (Reads-as (IsPayload n w p) (SpellsPayload n p) old r h h.spelled.spelled)
+    (Reads-as (IsPayload n w q) (SpellsPayload n q) old s k k.spelled.spelled)
 
-pub one_list_lemma : OneList
-one_list_lemma fs gs old h k = (same_list fs gs old old [] [] h k (inl refl) (inl refl) refl).value
+-- all of the bytes are records
+pub Reads-all : (fs : Fields) (old : List ℕ) → Spells fs old → Reads old (Spells fs) []
+Reads-all fs old h = record { text = old; parts = sym (append-nil old); spelled = h }
 
-pub one_body_lemma : OneBody
-one_body_lemma n fs gs old r s x y =
-    let same = same_payload (group fs) (group gs) n x.text y.text r s refl x.spelled y.spelled (sym x.parts ∙ y.parts) in
-    let value = same.value in
-    (cc, same.rest)
+-- records behind which nothing is left are those of all the bytes
+pub Spells-all : (fs : Fields) (old new : List ℕ) → Reads old (Spells fs) new → new ≡ [] → Spells fs old
+Spells-all fs old new h e = subst (Spells fs) (sym (h.parts ∙ ap (λ l. h.text ++ l) e ∙ append-nil h.text)) h.spelled
+
+-- a list that goes on where nothing is left has no more
+nothing_more : (fs gs : Fields) (more : Fields) → gs ≡ joined fs more → Reads [] (Spells more) [] → gs ≡ fs
+nothing_more fs gs none parts h = parts ∙ joined-none fs
+nothing_more fs gs (field n p more) parts h =
+    let head = head_of n p more [] [] h in
+    absurd (omega (arith, rest_below n (type_of p) [] head.behind head.tag))
+
+pub one_spelled_lemma : OneSpelled
+one_spelled_lemma fs gs old h k =
+    ⊎_elim
+    (λ front. sym (nothing_more fs gs front.more front.parts front.others))
+    (λ front. nothing_more gs fs front.more front.parts front.others)
+    (either_front fs gs old [] [] (Reads-all fs old h) (Reads-all gs old k))
+
+pub spelled_are_numbered_lemma : SpelledAreNumbered
+spelled_are_numbered_lemma = numbered

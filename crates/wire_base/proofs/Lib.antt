@@ -1,12 +1,13 @@
 pub mod Decoded
+pub mod DelimitedLaws
 pub mod FaultLaws
 pub mod FieldLaws
 pub mod JoinedLaws
 pub mod LimitsLaws
 pub mod ListLaws
-pub mod OneFaultLaws
 pub mod Payloads
 pub mod PlainReader
+pub mod ReadLaws
 pub mod Results
 pub mod RopeReads
 pub mod Ropes

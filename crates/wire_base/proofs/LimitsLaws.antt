@@ -1,99 +1,253 @@
--- Laws of limits: what fits, and what is left. One more budget is an edit of this file.
+-- The algebra of limits and charges. One budget more is a line in each lemma on all counts together.
 use Rattle.std.proofs.Common.{◌≡◌, ℕ, ◌+◌, ◌≤◌, ◌<◌, ◌⊎◌, inl, inr, Option, Some, None, refl, sym, ap, ◌∙◌, subst, arith, ⊎_elim}
 use Rattle.std.proofs.lemmas.Bool.{cases_lt}
-use Rattle.wire_base.specs.Field.{Payload, varint, fixed64, fixed32, bytes, group, Fields, none, joined}
-use Rattle.wire_base.specs.Limits.{Limits, Charge, HasRoom, less, Fits, left_after, both, one_field, inner, outer, IsNoMore, NoCountGrew}
-use Rattle.wire_base.specs.Text.{payload_count, count, payload_charge, charge}
-use Rattle.wire_base.proofs.JoinedLaws.{charge-joined}
+use Rattle.wire_base.specs.Charge.{total, payload_charge, charge}
+use Rattle.wire_base.specs.Field.{Payload, Fields, none, field, group, joined, varint, fixed64, fixed32, bytes}
+use Rattle.wire_base.specs.Limits.{Counts, Budgets, HasRoom, less, IsNoMore, HaveRoom, each_less, AreNoMore, sums, no_counts, Limits, Charge, Fits, left_after, both, no_charge, one_field, nested, inner, outer, NoCountGrew, uncounted}
+use Rattle.wire_base.specs.LimitsLaws.{ChargesAddUp, LimitsAddUp, LevelsAddUp, CountsFall}
 
 -- ---- one count
 
--- room for more is room for less
-pub HasRoom-at_most : (o : Option ℕ) (a b : ℕ) → a ≤ b → HasRoom o b → HasRoom o a
-HasRoom-at_most None a b le h = tt
-HasRoom-at_most (Some left) a b le h = omega arith
+HasRoom-none : (left : Option ℕ) → HasRoom left 0
+HasRoom-none None = tt
+HasRoom-none (Some left) = omega arith
 
--- room for both leaves room for the second
-pub HasRoom-second : (o : Option ℕ) (a b : ℕ) → HasRoom o (a + b) → HasRoom (less o a) b
+HasRoom-first : (left : Option ℕ) (a b : ℕ) → HasRoom left (a + b) → HasRoom left a
+HasRoom-first None a b h = tt
+HasRoom-first (Some left) a b h = omega arith
+
+HasRoom-second : (left : Option ℕ) (a b : ℕ) → HasRoom left (a + b) → HasRoom (less left a) b
 HasRoom-second None a b h = tt
 HasRoom-second (Some left) a b h = omega arith
 
--- room for one, and then for another, is room for both
-pub HasRoom-add : (o : Option ℕ) (a b : ℕ) → HasRoom o a → HasRoom (less o a) b → HasRoom o (a + b)
-HasRoom-add None a b h k = tt
-HasRoom-add (Some left) a b h k = omega arith
+HasRoom-sum : (left : Option ℕ) (a b : ℕ) → HasRoom left a → HasRoom (less left a) b → HasRoom left (a + b)
+HasRoom-sum None a b h k = tt
+HasRoom-sum (Some left) a b h k = omega arith
 
--- a count has room or not
-pub room_or_not : (o : Option ℕ) (a : ℕ) → HasRoom o a ⊎ ¬ HasRoom o a
+-- a budget has room or not
+pub room_or_not : (left : Option ℕ) (a : ℕ) → HasRoom left a ⊎ ¬ HasRoom left a
 room_or_not None a = inl tt
 room_or_not (Some left) a = ⊎_elim (λ past. inr (λ h. omega arith)) inl (cases_lt left a)
 
--- one taken after the other
-less-less : (o : Option ℕ) (a b : ℕ) → less (less o a) b ≡ less o (a + b)
+less-less : (left : Option ℕ) (a b : ℕ) → less (less left a) b ≡ less left (a + b)
 less-less None a b = refl
 less-less (Some left) a b = ap (λ n. Some n) (omega arith)
 
--- nothing taken leaves the count
-less-zero : (o : Option ℕ) → less o 0 ≡ o
-less-zero None = refl
-less-zero (Some left) = ap (λ n. Some n) (omega arith)
+less-none : (left : Option ℕ) → less left 0 ≡ left
+less-none None = refl
+less-none (Some left) = ap (λ n. Some n) (omega arith)
 
--- ---- limits and charges
+IsNoMore-itself : (left : Option ℕ) → IsNoMore left left
+IsNoMore-itself None = tt
+IsNoMore-itself (Some left) = omega arith
 
--- limits of one depth and one count are one
-same_limits : (l m : Limits) → l.depth ≡ m.depth → l.unknown_fields ≡ m.unknown_fields → l ≡ m
-same_limits l m p q = λ i. record { depth = p i; unknown_fields = q i }
+IsNoMore-less : (left : Option ℕ) (a : ℕ) → IsNoMore (less left a) left
+IsNoMore-less None a = tt
+IsNoMore-less (Some left) a = omega arith
+
+IsNoMore-again : (a b c : Option ℕ) → IsNoMore b a → IsNoMore c b → IsNoMore c a
+IsNoMore-again None b c h k = tt
+IsNoMore-again (Some a) None c h k = absurd h
+IsNoMore-again (Some a) (Some b) None h k = k
+IsNoMore-again (Some a) (Some b) (Some c) h k = omega arith
+
+-- ---- all counts together
+
+same_counts : (a b : Counts) → a.unknown_fields ≡ b.unknown_fields → a.element_memory ≡ b.element_memory → a ≡ b
+same_counts a b p q = λ i. record { unknown_fields = p i; element_memory = q i }
+
+same_budgets : (a b : Budgets) → a.unknown_fields ≡ b.unknown_fields → a.element_memory ≡ b.element_memory → a ≡ b
+same_budgets a b p q = λ i. record { unknown_fields = p i; element_memory = q i }
+
+HaveRoom-none : (left : Budgets) → HaveRoom left no_counts
+HaveRoom-none left = record {
+  unknown_fields = HasRoom-none left.unknown_fields;
+  element_memory = HasRoom-none left.element_memory;
+}
+
+HaveRoom-first : (left : Budgets) (a b : Counts) → HaveRoom left (sums a b) → HaveRoom left a
+HaveRoom-first left a b h = record {
+  unknown_fields = HasRoom-first left.unknown_fields a.unknown_fields b.unknown_fields h.unknown_fields;
+  element_memory = HasRoom-first left.element_memory a.element_memory b.element_memory h.element_memory;
+}
+
+HaveRoom-second : (left : Budgets) (a b : Counts) → HaveRoom left (sums a b) → HaveRoom (each_less left a) b
+HaveRoom-second left a b h = record {
+  unknown_fields = HasRoom-second left.unknown_fields a.unknown_fields b.unknown_fields h.unknown_fields;
+  element_memory = HasRoom-second left.element_memory a.element_memory b.element_memory h.element_memory;
+}
+
+HaveRoom-sums : (left : Budgets) (a b : Counts) → HaveRoom left a → HaveRoom (each_less left a) b → HaveRoom left (sums a b)
+HaveRoom-sums left a b h k = record {
+  unknown_fields = HasRoom-sum left.unknown_fields a.unknown_fields b.unknown_fields h.unknown_fields k.unknown_fields;
+  element_memory = HasRoom-sum left.element_memory a.element_memory b.element_memory h.element_memory k.element_memory;
+}
+
+-- all budgets have room, or one has none
+rooms_or_not : (left : Budgets) (a : Counts) → HaveRoom left a ⊎ ¬ HaveRoom left a
+rooms_or_not left a =
+    ⊎_elim
+    (λ fields. ⊎_elim
+        (λ memory. inl (record { unknown_fields = fields; element_memory = memory }))
+        (λ full. inr (λ h. full h.element_memory))
+        (room_or_not left.element_memory a.element_memory))
+    (λ full. inr (λ h. full h.unknown_fields))
+    (room_or_not left.unknown_fields a.unknown_fields)
+
+each_less-each_less : (left : Budgets) (a b : Counts) → each_less (each_less left a) b ≡ each_less left (sums a b)
+each_less-each_less left a b =
+    same_budgets _ _
+    (less-less left.unknown_fields a.unknown_fields b.unknown_fields)
+    (less-less left.element_memory a.element_memory b.element_memory)
+
+each_less-none : (left : Budgets) → each_less left no_counts ≡ left
+each_less-none left = same_budgets _ _ (less-none left.unknown_fields) (less-none left.element_memory)
+
+AreNoMore-itself : (left : Budgets) → AreNoMore left left
+AreNoMore-itself left = record {
+  unknown_fields = IsNoMore-itself left.unknown_fields;
+  element_memory = IsNoMore-itself left.element_memory;
+}
+
+AreNoMore-each_less : (left : Budgets) (a : Counts) → AreNoMore (each_less left a) left
+AreNoMore-each_less left a = record {
+  unknown_fields = IsNoMore-less left.unknown_fields a.unknown_fields;
+  element_memory = IsNoMore-less left.element_memory a.element_memory;
+}
+
+AreNoMore-again : (a b c : Budgets) → AreNoMore b a → AreNoMore c b → AreNoMore c a
+AreNoMore-again a b c h k = record {
+  unknown_fields = IsNoMore-again a.unknown_fields b.unknown_fields c.unknown_fields h.unknown_fields k.unknown_fields;
+  element_memory = IsNoMore-again a.element_memory b.element_memory c.element_memory h.element_memory k.element_memory;
+}
+
+sums_assoc : (a b c : Counts) → sums (sums a b) c ≡ sums a (sums b c)
+sums_assoc a b c = same_counts _ _ (omega arith) (omega arith)
+
+sums-none_first : (a : Counts) → sums no_counts a ≡ a
+sums-none_first a = same_counts _ _ (omega arith) (omega arith)
+
+sums-none_last : (a : Counts) → sums a no_counts ≡ a
+sums-none_last a = same_counts _ _ (omega arith) (omega arith)
+
+-- ---- charges
+
+same_charge : (a b : Charge) → a.depth ≡ b.depth → a.counts ≡ b.counts → a ≡ b
+same_charge a b p q = λ i. record { depth = p i; counts = q i }
+
+pub both_assoc : (a b c : Charge) → both (both a b) c ≡ both a (both b c)
+both_assoc a b c = same_charge _ _ (omega arith) (sums_assoc a.counts b.counts c.counts)
+
+pub both-nothing_first : (a : Charge) → both no_charge a ≡ a
+both-nothing_first a = same_charge _ _ (omega arith) (sums-none_first a.counts)
+
+pub both-nothing_last : (a : Charge) → both a no_charge ≡ a
+both-nothing_last a = same_charge _ _ (omega arith) (sums-none_last a.counts)
+
+-- charges of joined lists add up
+pub total-joined : (charge_of : ℕ → Payload → Charge) (fs gs : Fields) → total charge_of (joined fs gs) ≡ both (total charge_of fs) (total charge_of gs)
+total-joined charge_of none gs = sym (both-nothing_first (total charge_of gs))
+total-joined charge_of (field n p fs) gs =
+    ap (both (charge_of n p)) (total-joined charge_of fs gs)
+    ∙ sym (both_assoc (charge_of n p) (total charge_of fs) (total charge_of gs))
+
+-- the charge of unknown fields is such a total
+pub charge-total : (fs : Fields) → charge fs ≡ total (λ n p. payload_charge p) fs
+charge-total none = refl
+charge-total (field n p fs) = ap (both (payload_charge p)) (charge-total fs)
+
+pub charge-joined : (fs gs : Fields) → charge (joined fs gs) ≡ both (charge fs) (charge gs)
+charge-joined fs gs =
+    let unknown : ℕ → Payload → Charge = λ n p. payload_charge p in
+    charge-total (joined fs gs) ∙ total-joined unknown fs gs
+    ∙ ap (λ c. both c (total unknown gs)) (sym (charge-total fs))
+    ∙ ap (both (charge fs)) (sym (charge-total gs))
+
+-- one record alone is charged what its payload is
+pub charge-one : (n : ℕ) (p : Payload) → charge (field n p none) ≡ payload_charge p
+charge-one n p = both-nothing_last (payload_charge p)
+
+-- one record more is charged as its payload
+pub charge-push : (fs : Fields) (n : ℕ) (p : Payload) → charge (joined fs (field n p none)) ≡ both (charge fs) (payload_charge p)
+charge-push fs n p = charge-joined fs (field n p none) ∙ ap (both (charge fs)) (charge-one n p)
+
+-- ---- limits
+
+same_limits : (l m : Limits) → l.depth ≡ m.depth → l.counts ≡ m.counts → l ≡ m
+same_limits l m p q = λ i. record { depth = p i; counts = q i }
 
 -- one charge after the other
 pub left_after-both : (l : Limits) (a b : Charge) → left_after (left_after l a) b ≡ left_after l (both a b)
-left_after-both l a b = same_limits _ _ refl (less-less l.unknown_fields a.unknown_fields b.unknown_fields)
+left_after-both l a b = same_limits _ _ refl (each_less-each_less l.counts a.counts b.counts)
 
--- no records leave the limits as they are
-pub left_after-none : (l : Limits) → left_after l (charge none) ≡ l
-left_after-none l = same_limits _ _ refl (less-zero l.unknown_fields)
+-- nothing leaves the limits as they are
+pub left_after-nothing : (l : Limits) → left_after l no_charge ≡ l
+left_after-nothing l = same_limits _ _ refl (each_less-none l.counts)
 
--- no records fit all limits
-pub Fits-none : (l : Limits) → Fits (charge none) l
-Fits-none l = record { depth = omega arith; unknown_fields = HasRoom-at_most l.unknown_fields 0 0 (omega arith) (room_of_none l.unknown_fields) }
-  where
-    -- each count has room for nothing
-    room_of_none : (o : Option ℕ) → HasRoom o 0
-    room_of_none None = tt
-    room_of_none (Some left) = omega arith
+-- nothing fits all limits
+pub Fits-nothing : (l : Limits) → Fits no_charge l
+Fits-nothing l = record { depth = omega arith; counts = HaveRoom-none l.counts }
 
 -- the first of two charges that fit
 pub Fits-first : (l : Limits) (a b : Charge) → Fits (both a b) l → Fits a l
-Fits-first l a b h = record { depth = omega (arith, h.depth); unknown_fields = HasRoom-at_most l.unknown_fields a.unknown_fields _ (omega arith) h.unknown_fields }
+Fits-first l a b h = record { depth = omega (arith, h.depth); counts = HaveRoom-first l.counts a.counts b.counts h.counts }
 
 -- the second fits what the first leaves
 pub Fits-second : (l : Limits) (a b : Charge) → Fits (both a b) l → Fits b (left_after l a)
-Fits-second l a b h = record { depth = omega (arith, h.depth); unknown_fields = HasRoom-second l.unknown_fields a.unknown_fields b.unknown_fields h.unknown_fields }
+Fits-second l a b h = record { depth = omega (arith, h.depth); counts = HaveRoom-second l.counts a.counts b.counts h.counts }
 
 -- a charge and another that fits what the first leaves fit both
 pub Fits-both : (l : Limits) (a b : Charge) → Fits a l → Fits b (left_after l a) → Fits (both a b) l
-Fits-both l a b h k = record { depth = omega (arith, h.depth, k.depth); unknown_fields = HasRoom-add l.unknown_fields a.unknown_fields b.unknown_fields h.unknown_fields k.unknown_fields }
+Fits-both l a b h k = record { depth = omega (arith, h.depth, k.depth); counts = HaveRoom-sums l.counts a.counts b.counts h.counts k.counts }
 
 -- a charge fits or not
 pub fits_or_not : (l : Limits) (a : Charge) → Fits a l ⊎ ¬ Fits a l
 fits_or_not l a =
     ⊎_elim
     (λ deep. inr (λ h. omega (arith, h.depth)))
-    (λ low. ⊎_elim (λ room. inl (record { depth = low; unknown_fields = room })) (λ full. inr (λ h. full h.unknown_fields)) (room_or_not l.unknown_fields a.unknown_fields))
+    (λ low. ⊎_elim (λ room. inl (record { depth = low; counts = room })) (λ full. inr (λ h. full h.counts)) (rooms_or_not l.counts a.counts))
     (cases_lt l.depth a.depth)
 
--- ---- records
+-- ---- levels
 
--- each record counts
-pub payload_count-positive : (p : Payload) → 1 ≤ payload_count p
-payload_count-positive (varint v) = omega arith
-payload_count-positive (fixed64 v) = omega arith
-payload_count-positive (fixed32 v) = omega arith
-payload_count-positive (bytes b) = omega arith
-payload_count-positive (group fs) = omega arith
+-- what fits one level down has a level
+pub nested-level : (l : Limits) (c : Charge) → Fits (nested c) l → 0 < l.depth
+nested-level l c h = omega (arith, h.depth)
+
+pub nested-inside : (l : Limits) (c : Charge) → Fits (nested c) l → Fits c (inner l)
+nested-inside l c h = record { depth = omega (arith, h.depth); counts = h.counts }
+
+pub Fits-nested : (l : Limits) (c : Charge) → 0 < l.depth → Fits c (inner l) → Fits (nested c) l
+Fits-nested l c level h = record { depth = omega (arith, h.depth); counts = h.counts }
+
+-- a level, what is taken there, and the level again
+pub left_after-nested : (l : Limits) (c : Charge) → 0 < l.depth → outer (left_after (inner l) c) ≡ left_after l (nested c)
+left_after-nested l c level = same_limits _ _ (omega arith) refl
+
+-- ---- counts that do not grow
+
+pub NoCountGrew-itself : (l : Limits) → NoCountGrew l l
+NoCountGrew-itself l = record { counts = AreNoMore-itself l.counts }
+
+pub NoCountGrew-left_after : (l : Limits) (c : Charge) → NoCountGrew l (left_after l c)
+NoCountGrew-left_after l c = record { counts = AreNoMore-each_less l.counts c.counts }
+
+pub NoCountGrew-again : (l m k : Limits) → NoCountGrew l m → NoCountGrew m k → NoCountGrew l k
+NoCountGrew-again l m k h j = record { counts = AreNoMore-again l.counts m.counts k.counts h.counts j.counts }
+
+-- what is left after a charge, and what is left after that
+pub NoCountGrew-after : (l m : Limits) (c : Charge) → NoCountGrew (left_after l c) m → NoCountGrew l m
+NoCountGrew-after l m c h = NoCountGrew-again l (left_after l c) m (NoCountGrew-left_after l c) h
+
+-- ---- unknown fields
 
 -- a record fits only where one slot does
 pub Fits-one_field : (l : Limits) (p : Payload) → Fits (payload_charge p) l → Fits one_field l
-Fits-one_field l p h = record { depth = omega arith; unknown_fields = HasRoom-at_most l.unknown_fields 1 (payload_count p) (payload_count-positive p) h.unknown_fields }
+Fits-one_field l (varint v) h = h
+Fits-one_field l (fixed64 v) h = h
+Fits-one_field l (fixed32 v) h = h
+Fits-one_field l (bytes b) h = h
+Fits-one_field l (group fs) h = Fits-first l one_field (nested (charge fs)) h
 
 -- a group that fits has a level
 pub level_of_group : (l : Limits) (fs : Fields) → Fits (payload_charge (group fs)) l → 0 < l.depth
@@ -101,40 +255,44 @@ level_of_group l fs h = omega (arith, h.depth)
 
 -- what a group holds fits one level down, behind the slot of the group
 pub Fits-inside : (l : Limits) (fs : Fields) → Fits (payload_charge (group fs)) l → Fits (charge fs) (inner (left_after l one_field))
-Fits-inside l fs h = record { depth = omega (arith, h.depth); unknown_fields = HasRoom-second l.unknown_fields 1 (count fs) h.unknown_fields }
+Fits-inside l fs h = nested-inside (left_after l one_field) (charge fs) (Fits-second l one_field (nested (charge fs)) h)
 
 -- a slot, a level and room for what it holds are room for a group
 pub Fits-group : (l : Limits) (fs : Fields) → Fits one_field l → 0 < l.depth → Fits (charge fs) (inner (left_after l one_field)) → Fits (payload_charge (group fs)) l
-Fits-group l fs h level k = record { depth = omega (arith, k.depth); unknown_fields = HasRoom-add l.unknown_fields 1 (count fs) h.unknown_fields k.unknown_fields }
-
--- a group leaves of each count what its slot and its records leave
-pub left_after-group : (l : Limits) (fs : Fields) → (left_after (inner (left_after l one_field)) (charge fs)).unknown_fields ≡ (left_after l (payload_charge (group fs))).unknown_fields
-left_after-group l fs = less-less l.unknown_fields 1 (count fs)
-
--- a list that fits, and another that fits what it leaves, fit one behind the other
-pub Fits-joined : (l : Limits) (fs gs : Fields) → Fits (charge fs) l → Fits (charge gs) (left_after l (charge fs)) → Fits (charge (joined fs gs)) l
-Fits-joined l fs gs h k = subst (λ c. Fits c l) (sym (charge-joined fs gs)) (Fits-both l (charge fs) (charge gs) h k)
-
--- one list after the other
-pub left_after-joined : (l : Limits) (fs gs : Fields) → left_after (left_after l (charge fs)) (charge gs) ≡ left_after l (charge (joined fs gs))
-left_after-joined l fs gs = left_after-both l (charge fs) (charge gs) ∙ ap (left_after l) (sym (charge-joined fs gs))
-
--- ---- counts that do not grow
-
-IsNoMore-less : (o : Option ℕ) (taken : ℕ) → IsNoMore (less o taken) o
-IsNoMore-less None taken = tt
-IsNoMore-less (Some left) taken = omega arith
-
-IsNoMore-then : (a b c : Option ℕ) → IsNoMore b a → IsNoMore c b → IsNoMore c a
-IsNoMore-then None b c h k = tt
-IsNoMore-then (Some a) None c h k = absurd h
-IsNoMore-then (Some a) (Some b) None h k = k
-IsNoMore-then (Some a) (Some b) (Some c) h k = omega arith
-
--- what a charge leaves, and what is left after that
-pub NoCountGrew-left_after : (l m : Limits) (c : Charge) → NoCountGrew (left_after l c) m → NoCountGrew l m
-NoCountGrew-left_after l m c h = record { unknown_fields = IsNoMore-then l.unknown_fields (less l.unknown_fields c.unknown_fields) m.unknown_fields (IsNoMore-less l.unknown_fields c.unknown_fields) h.unknown_fields }
+Fits-group l fs h level k = Fits-both l one_field (nested (charge fs)) h (Fits-nested (left_after l one_field) (charge fs) level k)
 
 -- a group's slot and its level, its records, and the level again: the charge of the group
-pub outer-left_after-inner : (l : Limits) (fs : Fields) → 0 < l.depth → outer (left_after (inner (left_after l one_field)) (charge fs)) ≡ left_after l (payload_charge (group fs))
-outer-left_after-inner l fs level = same_limits _ _ (omega arith) (less-less l.unknown_fields 1 (count fs))
+pub left_after-group : (l : Limits) (fs : Fields) → 0 < l.depth → outer (left_after (inner (left_after l one_field)) (charge fs)) ≡ left_after l (payload_charge (group fs))
+left_after-group l fs level = left_after-nested (left_after l one_field) (charge fs) level ∙ left_after-both l one_field (nested (charge fs))
+
+-- without a count there is a slot for each field
+pub uncounted_slot : (levels : ℕ) → Fits one_field (uncounted levels)
+uncounted_slot levels = record { depth = omega arith; counts = record { unknown_fields = tt; element_memory = tt } }
+
+-- ---- the laws
+
+pub charges_add_up_lemma : ChargesAddUp
+charges_add_up_lemma = record {
+  assoc = both_assoc;
+  nothing_first = both-nothing_first;
+  nothing_last = both-nothing_last;
+  lists = total-joined;
+  unknown = charge-total;
+}
+
+pub limits_add_up_lemma : LimitsAddUp
+limits_add_up_lemma = record {
+  both_fit = λ l a b. (λ h. (Fits-first l a b h, Fits-second l a b h), λ h. Fits-both l a b h.0 h.1);
+  left_after_both = left_after-both;
+  nothing_fits = Fits-nothing;
+  left_after_nothing = left_after-nothing;
+}
+
+pub levels_add_up_lemma : LevelsAddUp
+levels_add_up_lemma = record {
+  nested_fits = λ l c. (λ h. (nested-level l c h, nested-inside l c h), λ h. Fits-nested l c h.0 h.1);
+  left_after_nested = left_after-nested;
+}
+
+pub counts_fall_lemma : CountsFall
+counts_fall_lemma = record { unchanged = NoCountGrew-itself; after = NoCountGrew-left_after; again = NoCountGrew-again }

@@ -7,7 +7,8 @@ use Rattle.wire_base.specs.declared.tag.WireType.{WireType}
 use Rattle.wire_base.specs.declared.tag.WireType.TheVariants.{Varint, Fixed64, LengthDelimited, StartGroup, EndGroup, Fixed32}
 use Rattle.wire_base.specs.declared.error.DecodeError.TheVariants.{InvalidWireType, InvalidFieldNumber}
 use Rattle.wire_base.specs.FieldNumber.{IsFieldNumber}
-use Rattle.wire_base.specs.Laws.{OneTag, NoTagBesideFault, TagTextReadsBack, NoTagTextIsShorter, OneTagFault, TagOrFault, TagOrFaultStands, VarintOrFault}
+use Rattle.wire_base.specs.TagLaws.{OneTag, NoTagBesideFault, TagTextReadsBack, NoTagTextIsShorter, OneTagFault, TagOrFault, TagOrFaultStands}
+use Rattle.wire_base.specs.VarintLaws.{VarintOrFault}
 use Rattle.wire_base.specs.Read.{Reads}
 use Rattle.wire_base.specs.Tag.{wire_number, tag_value, IsTagSpelling, tag_text, tag_error, no_varint, no_tag}
 use Rattle.wire_base.specs.Varint.{IsSpelling}

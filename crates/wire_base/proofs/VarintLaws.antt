@@ -5,7 +5,7 @@ use Rattle.std.proofs.lemmas.Bool.{cases_lt}
 use Rattle.std.proofs.lemmas.List.Elements.{All-head, All-tail}
 use Rattle.wire_base.specs.declared.error.DecodeError.{DecodeError}
 use Rattle.wire_base.specs.declared.error.DecodeError.TheVariants.{UnexpectedEof, VarintTooLong}
-use Rattle.wire_base.specs.Laws.{ShortestReadsBack, NoSpellingBeginsAnother, OneVarint, NoVarintBesideFault, NoSpellingIsShorter, OneVarintFault, VarintOrFault}
+use Rattle.wire_base.specs.VarintLaws.{ShortestReadsBack, NoSpellingBeginsAnother, OneVarint, NoVarintBesideFault, NoSpellingIsShorter, OneVarintFault, VarintOrFault}
 use Rattle.wire_base.specs.Read.{Reads}
 use Rattle.wire_base.specs.Varint.{value_of, AllContinue, IsEnded, IsSpelling, digits, shortest_varint, VarintFault, cut_short, too_long}
 

@@ -1,69 +1,134 @@
--- What may still be taken, and what is taken: the levels of nesting, and the unknown fields. All that is
--- known of budgets stands here, so that one more is an edit of this module.
+-- What may still be taken, and what is taken: levels of nesting, and counts. Levels are a greatest value and
+-- are given back; counts are sums and are not. All that is known of budgets stands here, so that one more
+-- is an edit of this module and of its laws.
 use Rattle.std.specs.Prelude.{ℕ, ◌+◌, ◌-◌, ◌≤◌, max, Option, Some, None}
 
--- how much may still be taken; a count of none is no limit
-pub record Limits : Type 0 where
-  pub depth : ℕ
-  pub unknown_fields : Option ℕ
+-- ---- counts
 
--- how much a record or a list of records takes
-pub record Charge : Type 0 where
-  pub depth : ℕ
+-- how much is taken of each thing that is counted
+pub record Counts : Type 0 where
   pub unknown_fields : ℕ
+  pub element_memory : ℕ
 
--- a count that has so much left
+-- how much of each may still be taken; none is no limit
+pub record Budgets : Type 0 where
+  pub unknown_fields : Option ℕ
+  pub element_memory : Option ℕ
+
+-- a budget that has so much left
 abbrev pub HasRoom : Option ℕ → ℕ → Type 0
 HasRoom None taken = Unit {0}
 HasRoom (Some left) taken = taken ≤ left
 
--- what is left of a count
+-- what is left of a budget
 abbrev pub less : Option ℕ → ℕ → Option ℕ
 less None taken = None
 less (Some left) taken = Some (left - taken)
 
--- a charge within the limits
-pub record Fits (c : Charge) (l : Limits) : Type 0 where
-  pub depth : c.depth ≤ l.depth
-  pub unknown_fields : HasRoom l.unknown_fields c.unknown_fields
-
--- what a charge leaves: the levels are given back, the counts are not
-abbrev pub left_after : Limits → Charge → Limits
-left_after l c = record { depth = l.depth; unknown_fields = less l.unknown_fields c.unknown_fields }
-
--- the charge of two things, one after the other
-abbrev pub both : Charge → Charge → Charge
-both a b = record { depth = max a.depth b.depth; unknown_fields = a.unknown_fields + b.unknown_fields }
-
-abbrev pub no_charge : Charge
-no_charge = record { depth = 0; unknown_fields = 0 }
-
--- one unknown field, and a group or a message one level down
-abbrev pub one_field : Charge
-one_field = record { depth = 0; unknown_fields = 1 }
-
--- what is left one level down, for the inside of a group
-abbrev pub inner : Limits → Limits
-inner l = record { depth = l.depth - 1; unknown_fields = l.unknown_fields }
-
--- what is left one level up again
-abbrev pub outer : Limits → Limits
-outer l = record { depth = l.depth + 1; unknown_fields = l.unknown_fields }
-
--- a count is not greater than another; no limit is greater than each
+-- a budget is not greater than another; no limit is greater than each
 abbrev pub IsNoMore : Option ℕ → Option ℕ → Type 0
 IsNoMore new None = Unit {0}
 IsNoMore None (Some old) = ⊥
 IsNoMore (Some new) (Some old) = new ≤ old
 
+-- there is room for each count
+pub record HaveRoom (left : Budgets) (taken : Counts) : Type 0 where
+  pub unknown_fields : HasRoom left.unknown_fields taken.unknown_fields
+  pub element_memory : HasRoom left.element_memory taken.element_memory
+
+-- what is left of each budget
+abbrev pub each_less : Budgets → Counts → Budgets
+each_less left taken = record {
+  unknown_fields = less left.unknown_fields taken.unknown_fields;
+  element_memory = less left.element_memory taken.element_memory;
+}
+
+-- no budget is greater than it was
+pub record AreNoMore (new old : Budgets) : Type 0 where
+  pub unknown_fields : IsNoMore new.unknown_fields old.unknown_fields
+  pub element_memory : IsNoMore new.element_memory old.element_memory
+
+-- each count of two things together
+abbrev pub sums : Counts → Counts → Counts
+sums a b = record {
+  unknown_fields = a.unknown_fields + b.unknown_fields;
+  element_memory = a.element_memory + b.element_memory;
+}
+
+abbrev pub no_counts : Counts
+no_counts = record { unknown_fields = 0; element_memory = 0 }
+
+abbrev pub no_budgets : Budgets
+no_budgets = record { unknown_fields = None; element_memory = None }
+
+-- ---- limits and charges
+
+-- how much may still be taken
+pub record Limits : Type 0 where
+  pub depth : ℕ
+  pub counts : Budgets
+
+-- how much a record or a list of records takes
+pub record Charge : Type 0 where
+  pub depth : ℕ
+  pub counts : Counts
+
+-- a charge within the limits
+pub record Fits (c : Charge) (l : Limits) : Type 0 where
+  pub depth : c.depth ≤ l.depth
+  pub counts : HaveRoom l.counts c.counts
+
+-- what a charge leaves: the levels are given back, the counts are not
+abbrev pub left_after : Limits → Charge → Limits
+left_after l c = record { depth = l.depth; counts = each_less l.counts c.counts }
+
+-- the charge of two things, one after the other
+abbrev pub both : Charge → Charge → Charge
+both a b = record { depth = max a.depth b.depth; counts = sums a.counts b.counts }
+
+abbrev pub no_charge : Charge
+no_charge = record { depth = 0; counts = no_counts }
+
+-- the charge of one unknown field, apart from what stands inside it
+abbrev pub one_field : Charge
+one_field = record { depth = 0; counts = record { unknown_fields = 1; element_memory = 0 } }
+
+-- the charge of an element of so many bytes
+abbrev pub element_of : ℕ → Charge
+element_of bytes = record { depth = 0; counts = record { unknown_fields = 0; element_memory = bytes } }
+
+-- the charge of what stands one level down, in a group or a message
+abbrev pub nested : Charge → Charge
+nested c = record { depth = c.depth + 1; counts = c.counts }
+
+-- what is left one level down
+abbrev pub inner : Limits → Limits
+inner l = record { depth = l.depth - 1; counts = l.counts }
+
+-- what is left one level up again
+abbrev pub outer : Limits → Limits
+outer l = record { depth = l.depth + 1; counts = l.counts }
+
 -- no count is greater than it was; the levels may be anything
 pub record NoCountGrew (old new : Limits) : Type 0 where
-  pub unknown_fields : IsNoMore new.unknown_fields old.unknown_fields
+  pub counts : AreNoMore new.counts old.counts
 
--- so many levels, and no count of fields
+-- ---- limits of a kind
+
+-- so many levels, and no count
 abbrev pub uncounted : ℕ → Limits
-uncounted levels = record { depth = levels; unknown_fields = None }
+uncounted levels = record { depth = levels; counts = no_budgets }
 
--- so many levels and so many fields
+-- so many levels and so many unknown fields
 abbrev pub counted : ℕ → ℕ → Limits
-counted levels fields = record { depth = levels; unknown_fields = Some fields }
+counted levels fields = record {
+  depth = levels;
+  counts = record { unknown_fields = Some fields; element_memory = None };
+}
+
+-- the same limits, with so many bytes for elements
+abbrev pub with_elements : Limits → ℕ → Limits
+with_elements l bytes = record {
+  depth = l.depth;
+  counts = record { unknown_fields = l.counts.unknown_fields; element_memory = Some bytes };
+}

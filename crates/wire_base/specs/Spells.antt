@@ -1,9 +1,11 @@
 -- The grammar: which texts spell a payload, and which spell records one after another.
-use Rattle.std.specs.Prelude.{◌≡◌, ℕ, List, [], ◌++◌, length}
+use Rattle.std.specs.Prelude.{◌≡◌, ℕ, List, [], length}
 use Rattle.std.specs.Int.{w32, w64, from_le_bytes}
 use Rattle.wire_base.specs.declared.tag.WireType.{WireType}
 use Rattle.wire_base.specs.declared.tag.WireType.TheVariants.{EndGroup}
+use Rattle.wire_base.specs.Delimited.{IsDelimited}
 use Rattle.wire_base.specs.Field.{Payload, varint, fixed64, fixed32, bytes, group, Fields, none, field, type_of}
+use Rattle.wire_base.specs.Read.{Reads}
 use Rattle.wire_base.specs.Tag.{IsTagSpelling}
 use Rattle.wire_base.specs.Varint.{IsSpelling}
 
@@ -13,16 +15,17 @@ abbrev mutual
   SpellsPayload n (varint v) text = IsSpelling v text
   SpellsPayload n (fixed64 v) text = (length text ≡ 8) × (from_le_bytes w64 text ≡ v)
   SpellsPayload n (fixed32 v) text = (length text ≡ 4) × (from_le_bytes w32 text ≡ v)
-  -- a length, and as many bytes
-  SpellsPayload n (bytes b) text = (len : List ℕ) × (text ≡ len ++ b) × IsSpelling (length b) len
+  SpellsPayload n (bytes b) text = IsDelimited b text
   -- records, and the end tag of the same field number
-  SpellsPayload n (group fs) text = (body : List ℕ) × (end : List ℕ) × (text ≡ body ++ end) × Spells fs body × IsTagSpelling n EndGroup end
+  SpellsPayload n (group fs) text =
+      (end : List ℕ) × Reads text (Spells fs) end × IsTagSpelling n EndGroup end
 
-  -- the text is these records, one after another: a tag and a payload each
+  -- the text is these records, one after another: a tag, its payload, and the other records
   pub Spells : Fields → List ℕ → Type 0
   Spells none text = text ≡ []
-  Spells (field n p rest) text =
-      (tag : List ℕ) × (payload : List ℕ) × (more : List ℕ) × (text ≡ tag ++ (payload ++ more)) × IsTagSpelling n (type_of p) tag × SpellsPayload n p payload × Spells rest more
+  Spells (field n p others) text =
+      (behind : List ℕ) × (rest : List ℕ) × Reads text (IsTagSpelling n (type_of p)) behind
+      × Reads behind (SpellsPayload n p) rest × Spells others rest
 
 -- bytes behind a tag (n, w) are its payload, with this value
 pub record IsPayload (n : ℕ) (w : WireType) (p : Payload) (text : List ℕ) : Type 0 where

@@ -1,7 +1,7 @@
-//! What a decoder may still take: levels of nesting, and unknown fields.
-ghost use Rattle.std.specs.Prelude.{◌≡◌, ℕ, ◌+◌, ◌-◌, ◌^◌, ◌<◌, Some, OnOk, OnErr, IfErr};
-ghost use Rattle.wire_base.specs.declared.error.DecodeError.TheVariants.{RecursionLimitExceeded, UnknownFieldLimitExceeded};
-ghost use Rattle.wire_base.specs.Limits.{Fits, counted, one_field, left_after, inner, outer};
+//! What a decoder may still take: levels of nesting, unknown fields, and bytes for elements.
+ghost use Rattle.std.specs.Prelude.{◌≡◌, ℕ, ◌-◌, ◌^◌, ◌<◌, Some, OnOk, OnErr, IfErr};
+ghost use Rattle.wire_base.specs.declared.error.DecodeError.TheVariants.{RecursionLimitExceeded, UnknownFieldLimitExceeded, ElementMemoryLimitExceeded};
+ghost use Rattle.wire_base.specs.Limits.{Fits, counted, with_elements, one_field, element_of, left_after, inner, outer};
 
 use crate::error::DecodeError;
 use std::marker::Model;
@@ -18,24 +18,43 @@ pub const DEFAULT_UNKNOWN_FIELD_LIMIT: usize = 1_000_000;
 pub struct DecodeContext {
     depth: u32,
     unknown_fields: usize,
+    element_memory: Option<usize>,
 }
 
 impl Model for DecodeContext {
-    ghost use Rattle.wire_base.specs.Limits.{Limits, counted};
+    ghost use Rattle.std.specs.Prelude.{Some};
+    ghost use Rattle.wire_base.specs.Limits.{Limits};
 
     ghost Value = { Limits };
 
-    ghost view = { λ c. counted c.depth c.unknown_fields };
+    ghost view = { λ c. record {
+      depth = c.depth;
+      counts = record {
+        unknown_fields = Some c.unknown_fields;
+        element_memory = c.element_memory;
+      };
+    } };
 }
 
 impl DecodeContext {
-    /// So many levels of nesting, and so many unknown fields.
+    /// So many levels of nesting and so many unknown fields, and no limit on bytes for elements.
     pub fn new(depth: u32, unknown_fields: usize) -> DecodeContext
         ensures { result ≡ counted depth unknown_fields }
     {
         DecodeContext {
             depth,
             unknown_fields,
+            element_memory: None,
+        }
+    }
+
+    /// The same limits, with so many bytes for the elements that message types charge.
+    pub fn with_element_memory(self, bytes: usize) -> DecodeContext
+        ensures { result ≡ with_elements self bytes }
+    {
+        DecodeContext {
+            element_memory: Some(bytes),
+            ..self
         }
     }
 
@@ -48,9 +67,16 @@ impl DecodeContext {
 
     /// The unknown fields that may still be kept.
     pub fn remaining_unknown_fields(&self) -> usize
-        ensures { self.now.unknown_fields ≡ Some result }
+        ensures { self.now.counts.unknown_fields ≡ Some result }
     {
         self.unknown_fields
+    }
+
+    /// The bytes that elements may still take, where there is a limit.
+    pub fn remaining_element_memory(&self) -> Option<usize>
+        ensures { result ≡ self.now.counts.element_memory }
+    {
+        self.element_memory
     }
 
     /// Takes one level.
@@ -89,6 +115,23 @@ impl DecodeContext {
             return Err(DecodeError::UnknownFieldLimitExceeded);
         }
         self.unknown_fields -= 1;
+        Ok(())
+    }
+
+    /// Takes so many bytes for an element. Without a limit nothing changes.
+    pub fn register_element_memory(&mut self, bytes: usize) -> Result<(), DecodeError>
+        ensures ok { OnOk result (self.new ≡ left_after self.old (element_of bytes)) }
+        ensures taken { OnOk result (Fits (element_of bytes) self.old) }
+        ensures err { IfErr result (λ e. e ≡ ElementMemoryLimitExceeded) }
+        ensures none_left { OnErr result (¬ Fits (element_of bytes) self.old) }
+        ensures unchanged { OnErr result (self.new ≡ self.old) }
+    {
+        if let Some(left) = self.element_memory {
+            if left < bytes {
+                return Err(DecodeError::ElementMemoryLimitExceeded);
+            }
+            self.element_memory = Some(left - bytes);
+        }
         Ok(())
     }
 }
