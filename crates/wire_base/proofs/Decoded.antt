@@ -1,21 +1,70 @@
--- Where bytes spell records within the limits, no reader of them gives others or another error than want
--- of memory.
-use Rattle.std.proofs.Common.{◌≡◌, ◌⊎◌, ℕ, List, [], Result, Ok, Err, refl, ⊎_elim}
+-- What decoding of unknown fields tells, step by step.
+use Rattle.std.proofs.Common.{◌≡◌, ◌<◌, ◌≤◌, ◌⊎◌, inl, inr, ℕ, List, [], length, take, drop, Result, Ok, Err, refl, sym, ap, ◌∙◌, ⊎_elim}
 use Rattle.std.specs.Prelude.{IfOk, IfErr, MatchResult}
 use Rattle.wire_base.specs.declared.error.DecodeError.{DecodeError}
 use Rattle.wire_base.specs.declared.error.DecodeError.TheVariants.{OutOfMemory}
-use Rattle.wire_base.specs.Charge.{charge}
-use Rattle.wire_base.specs.Ending.{by_input}
-use Rattle.wire_base.specs.Fault.{ListFault}
-use Rattle.wire_base.specs.Field.{Fields}
-use Rattle.wire_base.specs.Limits.{Limits, Fits}
+use Rattle.wire_base.specs.declared.tag.WireType.{WireType}
+use Rattle.wire_base.specs.declared.tag.WireType.TheVariants as types
+use Rattle.wire_base.specs.Charge.{charge, payload_charge}
+use Rattle.wire_base.specs.Ending.{Ending, by_input, by_tag, GoesOn, IsRecordTag}
+use Rattle.wire_base.specs.Fault.{NextTagFault, PayloadFault, ListFault, no_tag, bad_payload, past, in_group}
+use Rattle.wire_base.specs.Field.{Payload, Fields, none, field, group, joined, push}
+use Rattle.wire_base.specs.Limits.{Limits, Fits, left_after, one_field, inner}
+use Rattle.wire_base.specs.Read.{Reads}
+use Rattle.wire_base.specs.Refusal.{PayloadWantsMemory, FieldsWantMemory, for_bytes, for_field, for_payload, in_group as memory_in_group, PayloadRefusal, ListRefusal}
 use Rattle.wire_base.specs.Spells.{Spells}
+use Rattle.wire_base.specs.Tag.{IsTagSpelling}
+use Rattle.wire_base.specs.Taken.{TakesFields, TakesPayload}
+use Rattle.wire_base.specs.Varint.{IsSpelling}
+use Rattle.wire_base.proofs.DelimitedLaws.{delimited_at}
 use Rattle.wire_base.proofs.FieldLaws.{one_spelled_lemma}
 use Rattle.wire_base.proofs.FaultLaws.{no_list_beside_fault_lemma}
+use Rattle.wire_base.proofs.JoinedLaws.{Reads-push}
 use Rattle.wire_base.proofs.Takes.{whole_input_lemma}
 
-pub only_these : (l : Limits) (bytes : List ℕ) (r : Result Fields DecodeError) → IfOk r (λ fs. Spells fs bytes) → IfErr r (λ e. (e ≡ OutOfMemory) ⊎ ListFault l by_input bytes e)
+-- ---- one payload
+
+-- memory for a payload that is there
+pub no_memory_for_bytes : (l : Limits) (n len : ℕ) (old mid : List ℕ) → Reads old (IsSpelling len) mid → len ≤ length mid
+    → PayloadRefusal l n types.LengthDelimited old OutOfMemory
+no_memory_for_bytes l n len old mid h there = inr (refl, for_bytes (take len mid) (drop len mid) (delimited_at len old mid (drop len mid) h there refl))
+
+-- a refusal in a group, under the limits that are left there
+pub refused_in_group : (l left : Limits) (n k : ℕ) (old : List ℕ) (e : DecodeError) → Fits one_field l → 0 < l.depth → left ≡ inner (left_after l one_field) → k ≡ n
+    → ListRefusal left (by_tag k) old e → PayloadRefusal l n types.StartGroup old e
+refused_in_group l left n k old e slot level is same (inl fault) = inl (in_group slot level (rw (is, same) at fault))
+refused_in_group l left n k old e slot level is same (inr memory) = inr (memory.0, memory_in_group memory.1)
+
+-- ---- one record of a list
+
+module _ (l : Limits) (ending : Ending) (fs : Fields) (old rest : List ℕ) (h : TakesFields (charge fs) l fs old rest) where
+  -- behind the records that were read, no tag of another
+  pub refused_tag : (e : DecodeError) → GoesOn ending rest → NextTagFault ending rest e → ListRefusal l ending old e
+  refused_tag e goes fault = inl (past fs rest h goes (no_tag fault))
+
+  -- or no payload
+  pub refused_payload : (left : Limits) (n : ℕ) (w : WireType) (behind : List ℕ) (e : DecodeError) → GoesOn ending rest → Reads rest (IsTagSpelling n w) behind → IsRecordTag ending w
+      → left ≡ left_after l (charge fs) → PayloadRefusal left n w behind e → ListRefusal l ending old e
+  refused_payload left n w behind e goes tag is left_is (inl fault) = inl (past fs rest h goes (bad_payload n w behind tag is (rw left_is at fault)))
+  refused_payload left n w behind e goes tag is left_is (inr memory) = inr (memory.0, for_payload fs rest n w behind h.read tag memory.1)
+
+  -- or no memory to keep it
+  pub refused_push : (left : Limits) (n : ℕ) (w : WireType) (p : Payload) (behind new : List ℕ) → Reads rest (IsTagSpelling n w) behind
+      → TakesPayload (payload_charge p) left n w p behind new → ListRefusal l ending old OutOfMemory
+  refused_push left n w p behind new tag payload = inr (refl, for_field (push fs n p) new (some fs) (Reads-push fs n w p old rest behind new h.read tag payload.read))
+    where
+      some : (gs : Fields) → push gs n p ≡ none → ⊥
+      some none e = cc
+      some (field m q gs) e = cc
+
+-- ---- the whole input
+
+-- where bytes spell records within the limits, no reader of them gives others or another error than want of memory
+pub only_these : (l : Limits) (bytes : List ℕ) (r : Result Fields DecodeError) → IfOk r (λ fs. Spells fs bytes) → IfErr r (ListRefusal l by_input bytes)
     → (fs : Fields) → Spells fs bytes → Fits (charge fs) l → MatchResult r (λ read. read ≡ fs) (λ e. e ≡ OutOfMemory)
-only_these l bytes (Ok read) spelled fault fs s fits = one_spelled_lemma read fs bytes spelled s
-only_these l bytes (Err e) spelled fault fs s fits =
-    ⊎_elim (λ memory. memory) (λ f. absurd (no_list_beside_fault_lemma l by_input bytes [] e fs f ((whole_input_lemma (charge fs) l fs bytes []).1 (s, fits, refl)))) fault
+only_these l bytes (Ok read) spelled refusal fs s fits = one_spelled_lemma read fs bytes spelled s
+only_these l bytes (Err e) spelled refusal fs s fits =
+    ⊎_elim
+    (λ fault. absurd (no_list_beside_fault_lemma l by_input bytes [] e fs fault ((whole_input_lemma (charge fs) l fs bytes []).1 (s, fits, refl))))
+    (λ memory. memory.0)
+    refusal

@@ -67,7 +67,7 @@ one_length : (len other : ℕ) (old mid rest : List ℕ) → Reads old (IsSpelli
     → Reads old (IsSpelling other) rest → len ≡ other
 one_length len other old mid rest h k = (same_varint old mid rest len other h k).value
 
-one_fault : (most : Option ℕ) (old : List ℕ) (e f : DecodeError) → DelimitedFault most old e
+pub one_fault : (most : Option ℕ) (old : List ℕ) (e f : DecodeError) → DelimitedFault most old e
     → DelimitedFault most old f → e ≡ f
 one_fault most old e f (no_length h) (no_length k) = one_varint_fault_lemma old e f h k
 one_fault most old e f (no_length h) (too_large len mid k large) = absurd (no_varint_beside_fault_lemma old mid len e k h)

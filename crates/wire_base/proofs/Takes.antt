@@ -116,6 +116,13 @@ nothing_left : (l : List ℕ) → length l ≤ 0 → l ≡ []
 nothing_left [] h = refl
 nothing_left (b ∷ l) h = absurd (omega arith)
 
+-- what stands behind records is shorter than what stands before the last of them
+before_last : (before : Fields) (n : ℕ) (p : Payload) (old mid new : List ℕ) → Reads old (Spells before) mid → Reads mid (Spells (field n p none)) new → length new < length mid
+before_last before n p old mid new h k =
+    let head = head_of n p none mid new k in
+    let same = none_takes_nothing head.rest new head.others in
+    omega (arith, rest_below n (type_of p) mid head.behind head.tag, Reads-shorter (SpellsPayload n p) head.behind head.rest head.payload, ap length same)
+
 -- the last of records that stand at the front, where a list goes on before what they leave
 pub last_before : (ending : Ending) (fs : Fields) (old mid : List ℕ) → Reads old (Spells fs) mid
     → ((rest : List ℕ) → length mid < length rest → GoesOn ending rest) → LastGoesOn ending fs old
@@ -131,7 +138,7 @@ last_before ending (field n p fs) old mid h goes =
       split.mid,
       last.parts,
       split.first,
-      goes split.mid (before_last last.before none last.n last.p old split.mid mid split.first split.second),
+      goes split.mid (before_last last.before last.n last.p old split.mid mid split.first split.second),
     )
 
 pub whole_input_lemma : WholeInput

@@ -9,7 +9,7 @@ use Rattle.wire_base.specs.Field.{Payload, Fields, none, field, joined, count_to
 use Rattle.wire_base.specs.FieldsEq.{payload_eq, fields_eq}
 use Rattle.wire_base.specs.Tag.{tag_text}
 use Rattle.wire_base.specs.Text.{text_of, payload_text, record_text}
-use Rattle.wire_base.specs.UnknownFieldsSize.{count, payload_count}
+use Rattle.wire_base.specs.Charge.{count, payload_count}
 use Rattle.wire_base.specs.UnknownFields.{payload_of, fields_of, one_record}
 use Rattle.wire_base.proofs.JoinedLaws.{joined_assoc}
 

@@ -21,3 +21,10 @@ abbrev mutual
   pub charge : Fields → Charge
   charge none = no_charge
   charge (field n p rest) = both (payload_charge p) (charge rest)
+
+-- how many records a payload counts as, those nested in groups too
+abbrev pub payload_count : Payload → ℕ
+payload_count p = (payload_charge p).counts.unknown_fields
+
+abbrev pub count : Fields → ℕ
+count fs = (charge fs).counts.unknown_fields

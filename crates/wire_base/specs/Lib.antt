@@ -10,12 +10,11 @@ pub mod FieldsEq
 pub mod FieldsEqLaws
 pub mod Filtered
 pub mod InRange
-pub mod Laws
 pub mod Limits
 pub mod LimitsLaws
-pub mod Memory
 pub mod Read
 pub mod RecordLaws
+pub mod Refusal
 pub mod Rope
 pub mod Sink
 pub mod Spells
@@ -28,3 +27,4 @@ pub mod UnknownFields
 pub mod UnknownFieldsSize
 pub mod Varint
 pub mod VarintLaws
+pub mod WriteLaws

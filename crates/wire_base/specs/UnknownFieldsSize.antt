@@ -1,21 +1,13 @@
 -- A group counts more than the records in it: what a recursion into unknown fields goes by.
-use Rattle.std.specs.Prelude.{ℕ, ◌≤◌, List, [], ◌∷◌}
+use Rattle.std.specs.Prelude.{◌≤◌, List, [], ◌∷◌}
 use Rattle.std.proofs.Common.{arith}
 use denote.Param.Weighed.{most}
 use Rattle.wire_base.specs.declared.unknown_fields.UnknownField.{UnknownField}
 use Rattle.wire_base.specs.declared.unknown_fields.UnknownFieldData.{UnknownFieldData}
 use Rattle.wire_base.specs.declared.unknown_fields.UnknownFieldData.TheVariants.{Varint, Fixed64, Fixed32, LengthDelimited, Group}
 use Rattle.wire_base.specs.declared.unknown_fields.UnknownFields.TheDeep.{deep-UnknownField, deep-UnknownFieldData}
-use Rattle.wire_base.specs.Charge.{payload_charge, charge}
-use Rattle.wire_base.specs.Field.{Payload, Fields}
+use Rattle.wire_base.specs.Charge.{payload_count, count}
 use Rattle.wire_base.specs.UnknownFields.{payload_of, fields_of}
-
--- how many records a payload counts as, those nested in groups too
-abbrev pub payload_count : Payload → ℕ
-payload_count p = (payload_charge p).counts.unknown_fields
-
-abbrev pub count : Fields → ℕ
-count fs = (charge fs).counts.unknown_fields
 
 pub data_le-count : (v : UnknownFieldData) → deep-UnknownFieldData v ≤ payload_count (payload_of v)
 data_le-count (Varint v) = omega arith

@@ -1,6 +1,7 @@
 //! Why bytes are refused, and why a value cannot be written.
 ghost use Rattle.std.specs.Prelude.{◌≡◌};
 
+use bytes::TryGetError;
 use std::alloc::{AllocError, AllocFailed};
 use thiserror::Error;
 
@@ -105,6 +106,16 @@ impl<T: Drop> From<AllocFailed<T>> for DecodeError {
 
     fn from(_error: AllocFailed<T>) -> DecodeError {
         DecodeError::OutOfMemory
+    }
+}
+
+impl From<TryGetError> for DecodeError {
+    ghost use Rattle.wire_base.specs.declared.error.DecodeError.TheVariants.{UnexpectedEof};
+
+    ghost from_gives = { λ _ e. e ≡ UnexpectedEof };
+
+    fn from(_error: TryGetError) -> DecodeError {
+        DecodeError::UnexpectedEof
     }
 }
 

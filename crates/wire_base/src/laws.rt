@@ -1,5 +1,10 @@
 //! Laws of the definitions that the contracts cite: each function is a theorem, and does nothing.
-ghost use Rattle.wire_base.specs.Laws.{ShortestReadsBack, NoSpellingBeginsAnother, OneVarint, NoVarintBesideFault, OneVarintFault, VarintOrFaultStands, NoSpellingIsShorter, TagTextReadsBack, OneTag, NoTagBesideFault, OneTagFault, TagOrFaultStands, NoTagTextIsShorter, PayloadIsField, OnePayload, OneList, OneBody, ShortestTextSpells, NoTextIsShorter, JoinedTextsSpell, JoinedAddsUp, NoPayloadBesideFault, NoListBesideFault, NoBodyBesideFault, OnePayloadFault, OneListFault, PayloadOrFaultStands, ListOrFaultStands, BodyOrFaultStands, TextSpellsOneList, RecordsOneByOne, TwoParts, PutIsWrite};
+ghost use Rattle.wire_base.specs.VarintLaws.{ShortestReadsBack, NoSpellingBeginsAnother, OneVarint, NoVarintBesideFault, OneVarintFault, VarintOrFaultStands, NoSpellingIsShorter, DelimitedReadsBack, OneDelimited, NoDelimitedBesideFault, OneDelimitedFault, DelimitedOrFaultStands};
+ghost use Rattle.wire_base.specs.TagLaws.{TagTextReadsBack, OneTag, NoTagBesideFault, OneTagFault, TagOrFaultStands, NoTagTextIsShorter};
+ghost use Rattle.wire_base.specs.LimitsLaws.{ChargesAddUp, LimitsAddUp, LevelsAddUp, CountsFall};
+ghost use Rattle.wire_base.specs.RecordLaws.{PayloadIsField, OnePayload, OneSpelled, OneList, WholeInput, JoinedTextsSpell, JoinedAddsUp, RecordsOneByOne, ShortestTextSpells, NoTextIsShorter, TextSpellsOneList, SpelledAreNumbered};
+ghost use Rattle.wire_base.specs.FaultLaws.{NoPayloadBesideFault, NoListBesideFault, OnePayloadFault, OneListFault, PayloadOrFaultStands, ListOrFaultStands};
+ghost use Rattle.wire_base.specs.WriteLaws.{TwoParts, PutIsWrite, NoTextIsWritten};
 
 /// The shortest varint of a number reads back as that number, whatever follows it.
 pub fn shortest_reads_back()
@@ -36,12 +41,38 @@ pub fn no_spelling_is_shorter()
     ensures { NoSpellingIsShorter }
 {}
 
+/// The shortest text of a length-delimited payload reads back as it, whatever follows.
+pub fn delimited_reads_back()
+    ensures { DelimitedReadsBack }
+{}
+
+/// The same bytes begin with one length-delimited payload at most.
+pub fn one_delimited()
+    ensures { OneDelimited }
+{}
+
+/// Where the grammar names a fault, the bytes begin with no length-delimited payload that is short enough.
+pub fn no_delimited_beside_fault()
+    ensures { NoDelimitedBesideFault }
+{}
+
+/// The same bytes have one fault of a length-delimited payload at most.
+pub fn one_delimited_fault()
+    ensures { OneDelimitedFault }
+{}
+
+/// All bytes begin with a length-delimited payload that is short enough or have a fault.
+pub fn delimited_or_fault()
+    ensures { DelimitedOrFaultStands }
+{}
+
 /// The shortest text of a tag reads back as that tag, whatever follows it.
 pub fn tag_text_reads_back()
     ensures { TagTextReadsBack }
 {}
 
-/// The same bytes begin with one tag at most: its field number, its wire type and what follows are determined.
+/// The same bytes begin with one tag at most: its field number, its wire type and what follows are
+/// determined.
 pub fn one_tag()
     ensures { OneTag }
 {}
@@ -66,24 +97,67 @@ pub fn no_tag_text_is_shorter()
     ensures { NoTagTextIsShorter }
 {}
 
+/// Charges are added up in any grouping, and those of joined lists add up.
+pub fn charges_add_up()
+    ensures { ChargesAddUp }
+{}
+
+/// A sum fits exactly where its first part fits and its second fits what is left.
+pub fn limits_add_up()
+    ensures { LimitsAddUp }
+{}
+
+/// A charge one level down fits exactly where there is a level and it fits what is left there.
+pub fn levels_add_up()
+    ensures { LevelsAddUp }
+{}
+
+/// A charge makes no count greater, and counts that do not grow twice do not grow.
+pub fn counts_fall()
+    ensures { CountsFall }
+{}
+
 /// A record is a tag and the payload of that tag.
 pub fn payload_is_field()
     ensures { PayloadIsField }
 {}
 
-/// Behind one tag the same bytes begin with one payload at most: its value and what follows are determined.
+/// Behind one tag the same bytes begin with one payload at most: its value and what follows are
+/// determined.
 pub fn one_payload()
     ensures { OnePayload }
 {}
 
-/// The same bytes are one list of records at most.
+/// A text spells one list of records at most.
+pub fn one_spelled()
+    ensures { OneSpelled }
+{}
+
+/// One list of records at most ends so at the front of the same bytes: its records and what follows
+/// are determined.
 pub fn one_list()
     ensures { OneList }
 {}
 
-/// The same bytes begin with one body of a group at most: its records and what follows are determined.
-pub fn one_body()
-    ensures { OneBody }
+/// A list that ends with the input is spelled by all of the bytes.
+pub fn whole_input()
+    ensures { WholeInput }
+{}
+
+/// A text of records and then a text of more records are a text of them all.
+pub fn joined_texts_spell()
+    ensures { JoinedTextsSpell }
+{}
+
+/// The shortest texts of two lists, their counts and their charges add up to those of the joined
+/// list.
+pub fn joined_adds_up()
+    ensures { JoinedAddsUp }
+{}
+
+/// Records are taken one by one: none takes nothing, and one more takes from what the others leave.
+pub fn records_one_by_one()
+    ensures { RecordsOneByOne }
 {}
 
 /// The shortest text of records whose numbers fit is a text of them.
@@ -96,25 +170,15 @@ pub fn no_text_is_shorter()
     ensures { NoTextIsShorter }
 {}
 
-/// A text of records and then a text of more records are a text of them all.
-pub fn joined_texts_spell()
-    ensures { JoinedTextsSpell }
-{}
-
-/// The shortest texts of two lists, their counts and their charges add up to those of the joined list.
-pub fn joined_adds_up()
-    ensures { JoinedAddsUp }
-{}
-
 /// The shortest text of records whose numbers fit spells these records and no others: what is decoded
 /// from it is what was written.
 pub fn text_spells_one_list()
     ensures { TextSpellsOneList }
 {}
 
-/// Records are taken one by one: none takes nothing, and one more takes from what the others leave.
-pub fn records_one_by_one()
-    ensures { RecordsOneByOne }
+/// Records that a text spells have field numbers from 1 to `MAX_FIELD_NUMBER`, inside groups too.
+pub fn spelled_are_numbered()
+    ensures { SpelledAreNumbered }
 {}
 
 /// Where the grammar names a fault, no payload within the limits stands behind the tag.
@@ -122,14 +186,9 @@ pub fn no_payload_beside_fault()
     ensures { NoPayloadBesideFault }
 {}
 
-/// Where the grammar names a fault, the bytes are no list of records within the limits.
+/// Where the grammar names a fault, no list of records within the limits stands there that ends so.
 pub fn no_list_beside_fault()
     ensures { NoListBesideFault }
-{}
-
-/// Where the grammar names a fault, the bytes begin with no body of a group within the limits.
-pub fn no_body_beside_fault()
-    ensures { NoBodyBesideFault }
 {}
 
 /// Behind one tag the same bytes have one fault of a payload at most.
@@ -147,14 +206,9 @@ pub fn payload_or_fault()
     ensures { PayloadOrFaultStands }
 {}
 
-/// All bytes are records within the limits or have a fault.
+/// All bytes begin with a list of records within the limits that ends so, or have a fault.
 pub fn list_or_fault()
     ensures { ListOrFaultStands }
-{}
-
-/// All bytes begin with the body of a group within the limits or have a fault.
-pub fn body_or_fault()
-    ensures { BodyOrFaultStands }
 {}
 
 /// A write of two texts, one behind the other, is a write of the joined text.
@@ -165,4 +219,9 @@ pub fn two_parts()
 /// A put is a write of its bytes.
 pub fn put_is_a_write()
     ensures { PutIsWrite }
+{}
+
+/// Where there is nothing to write, it is written.
+pub fn no_text_is_written()
+    ensures { NoTextIsWritten }
 {}

@@ -18,6 +18,7 @@ mod varint;
 pub use decode_context::{DEFAULT_UNKNOWN_FIELD_LIMIT, DecodeContext, RECURSION_LIMIT};
 pub use encode_sink::EncodeSink;
 pub use error::{DecodeError, EncodeError};
+pub use payload::{copy_bytes, decode_length, take_bytes};
 pub use rope::{DEFAULT_MIN_SEGMENT, Rope, RopeBuf};
 pub use skip::{skip_field, skip_field_depth};
 pub use tag::{

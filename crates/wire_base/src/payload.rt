@@ -1,12 +1,46 @@
 //! Payloads that are a known number of bytes.
-ghost use Rattle.std.specs.Prelude.{◌≡◌, ◌<◌, ◌≤◌, length, take, drop, OnOk, OnErr, IfOk, IfErr};
-ghost use Rattle.std.specs.Int.{w32, w64, from_le_bytes};
+ghost use Rattle.std.specs.Prelude.{◌≡◌, ◌<◌, ◌≤◌, true, false, [], length, take, drop, OnOk, OnErr, IfOk, IfErr};
+ghost use Rattle.std.specs.Vec.{vec_capacity};
 ghost use Rattle.wire_base.specs.declared.error.DecodeError.TheVariants.{UnexpectedEof};
-ghost use Rattle.wire_base.specs.Payload.{IsShortOrNoMemory};
+ghost use Rattle.wire_base.specs.Delimited.{DelimitedFault};
+ghost use Rattle.wire_base.specs.Limits.{HasRoom};
+ghost use Rattle.wire_base.specs.Read.{Reads};
+ghost use Rattle.wire_base.specs.Varint.{IsSpelling};
 
 use crate::error::DecodeError;
+use crate::varint::decode_varint;
 use bytes::Buf;
-use std::alloc::Global;
+use std::alloc::{AllocError, Global};
+
+/// Reads the length of a payload that is there as a whole, and is at most `max` bytes, where there is
+/// a maximum. A length above it is `MessageTooLarge`, also where fewer bytes remain.
+pub fn decode_length<B: Buf>(buf: &mut B, max: Option<usize>) -> Result<usize, DecodeError>
+    ensures ok { IfOk result (λ len. Reads (B.unread buf.old) (IsSpelling len) (B.unread buf.new)) }
+    ensures within { IfOk result (λ len. HasRoom max len) }
+    ensures there { IfOk result (λ len. len ≤ length (B.unread buf.new)) }
+    ensures fault { IfErr result (DelimitedFault max (B.unread buf.old)) }
+    ensures kept { B.kept buf.new ≡ B.kept buf.old }
+{
+    let len = decode_varint(buf)?;
+    if is_above(len, max) {
+        return Err(DecodeError::MessageTooLarge);
+    }
+    if (buf.remaining() as u64) < len {
+        return Err(DecodeError::UnexpectedEof);
+    }
+    Ok(len as usize)
+}
+
+// Whether a length is past the maximum, where there is one.
+fn is_above(len: u64, max: Option<usize>) -> bool
+    ensures above { result ≡ true → ¬ HasRoom max len }
+    ensures within { result ≡ false → HasRoom max len }
+{
+    match max {
+        Some(max) => (max as u64) < len,
+        None => false,
+    }
+}
 
 /// Passes over so many bytes.
 pub(crate) fn skip_bytes<B: Buf>(buf: &mut B, len: u64) -> Result<(), DecodeError>
@@ -14,6 +48,7 @@ pub(crate) fn skip_bytes<B: Buf>(buf: &mut B, len: u64) -> Result<(), DecodeErro
     ensures long { OnOk result (len ≤ length (B.unread buf.old)) }
     ensures err { IfErr result (λ e. e ≡ UnexpectedEof) }
     ensures short { OnErr result (length (B.unread buf.old) < len) }
+    ensures kept { B.kept buf.new ≡ B.kept buf.old }
 {
     if (buf.remaining() as u64) < len {
         return Err(DecodeError::UnexpectedEof);
@@ -22,56 +57,32 @@ pub(crate) fn skip_bytes<B: Buf>(buf: &mut B, len: u64) -> Result<(), DecodeErro
     Ok(())
 }
 
-/// Takes four bytes as a number, the lowest first.
-pub(crate) fn take_fixed32<B: Buf>(buf: &mut B) -> Result<u32, DecodeError>
-    ensures ok { IfOk result (λ v. v ≡ from_le_bytes w32 (take 4 (B.unread buf.old))) }
-    ensures rest { OnOk result (B.unread buf.new ≡ drop 4 (B.unread buf.old)) }
-    ensures long { OnOk result (4 ≤ length (B.unread buf.old)) }
-    ensures err { IfErr result (λ e. e ≡ UnexpectedEof) }
-    ensures short { OnErr result (length (B.unread buf.old) < 4) }
-{
-    if buf.remaining() < 4 {
-        return Err(DecodeError::UnexpectedEof);
-    }
-    Ok(buf.get_u32_le())
-}
-
-/// Takes eight bytes as a number, the lowest first.
-pub(crate) fn take_fixed64<B: Buf>(buf: &mut B) -> Result<u64, DecodeError>
-    ensures ok { IfOk result (λ v. v ≡ from_le_bytes w64 (take 8 (B.unread buf.old))) }
-    ensures rest { OnOk result (B.unread buf.new ≡ drop 8 (B.unread buf.old)) }
-    ensures long { OnOk result (8 ≤ length (B.unread buf.old)) }
-    ensures err { IfErr result (λ e. e ≡ UnexpectedEof) }
-    ensures short { OnErr result (length (B.unread buf.old) < 8) }
-{
-    if buf.remaining() < 8 {
-        return Err(DecodeError::UnexpectedEof);
-    }
-    Ok(buf.get_u64_le())
-}
-
-/// Copies so many bytes into a vector of just their size. Nothing is reserved before the bytes are known
-/// to be there.
-pub(crate) fn take_bytes<B: Buf>(
-    alloc: Global,
-    buf: &mut B,
-    len: u64,
-) -> Result<Vec<u8>, DecodeError>
+/// Copies so many bytes, which are there, into a vector of just their size.
+pub fn take_bytes<B: Buf>(alloc: Global, buf: &mut B, len: usize) -> Result<Vec<u8>, AllocError>
+    requires there { len ≤ length (B.unread buf.old) }
     ensures ok { IfOk result (λ bytes. bytes.items ≡ take len (B.unread buf.old)) }
     ensures rest { OnOk result (B.unread buf.new ≡ drop len (B.unread buf.old)) }
-    ensures long { OnOk result (len ≤ length (B.unread buf.old)) }
-    ensures err { IfErr result (IsShortOrNoMemory len (B.unread buf.old)) }
+    ensures unchanged { OnErr result (B.unread buf.new ≡ B.unread buf.old) }
+    ensures kept { B.kept buf.new ≡ B.kept buf.old }
 {
-    if (buf.remaining() as u64) < len {
-        return Err(DecodeError::UnexpectedEof);
-    }
-    let len = len as usize;
     let mut bytes = Vec::with_capacity(alloc, len)?;
+    copy_bytes(buf, len, &mut bytes);
+    Ok(bytes)
+}
+
+/// Copies so many bytes, which are there, into an empty vector that has room for them.
+pub fn copy_bytes<B: Buf>(buf: &mut B, len: usize, bytes: &mut Vec<u8>)
+    requires empty { bytes.old.items ≡ [] }
+    requires room { len ≤ vec_capacity bytes.old }
+    requires there { len ≤ length (B.unread buf.old) }
+    ensures items { bytes.new.items ≡ take len (B.unread buf.old) }
+    ensures rest { B.unread buf.new ≡ drop len (B.unread buf.old) }
+    ensures kept { B.kept buf.new ≡ B.kept buf.old }
+{
     while bytes.len() < len {
         let chunk = buf.chunk();
         let count = chunk.len().min(len - bytes.len());
-        bytes.extend_from_slice(&chunk[..count])?;
+        bytes.extend_from_slice(&chunk[..count]).unwrap();
         buf.advance(count);
     }
-    Ok(bytes)
 }

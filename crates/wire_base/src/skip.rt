@@ -1,23 +1,27 @@
 //! Passing over records that nobody asked for.
 ghost use Rattle.std.specs.Prelude.{◌≡◌, OnOk, IfErr};
-ghost use Rattle.wire_base.specs.Fault.{PayloadFault, ListFault, by_tag};
+ghost use Rattle.wire_base.specs.Charge.{payload_charge, charge};
+ghost use Rattle.wire_base.specs.Ending.{by_tag};
+ghost use Rattle.wire_base.specs.Fault.{PayloadFault, ListFault};
 ghost use Rattle.wire_base.specs.Field.{Payload, Fields};
 ghost use Rattle.wire_base.specs.Limits.{uncounted};
 ghost use Rattle.wire_base.specs.TagView.{tag_number, tag_type};
-ghost use Rattle.wire_base.specs.Taken.{TakesPayload, TakesBody};
+ghost use Rattle.wire_base.specs.Taken.{TakesPayload, TakesUntil};
 
 use crate::decode_context::RECURSION_LIMIT;
 use crate::error::DecodeError;
-use crate::payload::skip_bytes;
+use crate::payload::{decode_length, skip_bytes};
 use crate::tag::{Tag, WireType};
 use crate::varint::decode_varint;
 use bytes::Buf;
 
 /// Passes over the payload of a tag that was read, in which groups nest at most 100 deep.
 pub fn skip_field<B: Buf>(tag: Tag, buf: &mut B) -> Result<(), DecodeError>
-    ensures ok { OnOk result ((p : Payload)
-        × TakesPayload (uncounted 100) (tag_number tag) (tag_type tag) p (B.unread buf.old) (B.unread buf.new)) }
-    ensures fault { IfErr result (PayloadFault (uncounted 100) (tag_number tag) (tag_type tag) (B.unread buf.old)) }
+    ensures ok { OnOk result ((p : Payload) × TakesPayload (payload_charge p) (uncounted 100)
+        (tag_number tag) (tag_type tag) p (B.unread buf.old) (B.unread buf.new)) }
+    ensures fault { IfErr result
+        (PayloadFault (uncounted 100) (tag_number tag) (tag_type tag) (B.unread buf.old)) }
+    ensures kept { B.kept buf.new ≡ B.kept buf.old }
 {
     skip_field_depth(tag, buf, RECURSION_LIMIT)
 }
@@ -25,9 +29,11 @@ pub fn skip_field<B: Buf>(tag: Tag, buf: &mut B) -> Result<(), DecodeError>
 /// Passes over the payload of a tag that was read, in which groups nest at most so deep.
 #[cycle(skip)]
 pub fn skip_field_depth<B: Buf>(tag: Tag, buf: &mut B, depth: u32) -> Result<(), DecodeError>
-    ensures ok { OnOk result ((p : Payload)
-        × TakesPayload (uncounted depth) (tag_number tag) (tag_type tag) p (B.unread buf.old) (B.unread buf.new)) }
-    ensures fault { IfErr result (PayloadFault (uncounted depth) (tag_number tag) (tag_type tag) (B.unread buf.old)) }
+    ensures ok { OnOk result ((p : Payload) × TakesPayload (payload_charge p) (uncounted depth)
+        (tag_number tag) (tag_type tag) p (B.unread buf.old) (B.unread buf.new)) }
+    ensures fault { IfErr result
+        (PayloadFault (uncounted depth) (tag_number tag) (tag_type tag) (B.unread buf.old)) }
+    ensures kept { B.kept buf.new ≡ B.kept buf.old }
 {
     match tag.wire_type() {
         WireType::Varint => {
@@ -36,8 +42,9 @@ pub fn skip_field_depth<B: Buf>(tag: Tag, buf: &mut B, depth: u32) -> Result<(),
         }
         WireType::Fixed64 => skip_bytes(buf, 8),
         WireType::LengthDelimited => {
-            let len = decode_varint(buf)?;
-            skip_bytes(buf, len)
+            let len = decode_length(buf, None)?;
+            buf.advance(len);
+            Ok(())
         }
         WireType::StartGroup => {
             if depth == 0 {
@@ -53,18 +60,13 @@ pub fn skip_field_depth<B: Buf>(tag: Tag, buf: &mut B, depth: u32) -> Result<(),
 // Passes over the body of a group of this number, its end tag too.
 #[cycle(skip)]
 fn skip_group<B: Buf>(number: u32, buf: &mut B, depth: u32) -> Result<(), DecodeError>
-    ensures ok { OnOk result ((fs : Fields)
-        × TakesBody (uncounted depth) number fs (B.unread buf.old) (B.unread buf.new)) }
+    ensures ok { OnOk result ((fs : Fields) × TakesUntil (charge fs) (uncounted depth)
+        (by_tag number) fs (B.unread buf.old) (B.unread buf.new)) }
     ensures fault { IfErr result (ListFault (uncounted depth) (by_tag number) (B.unread buf.old)) }
+    ensures kept { B.kept buf.new ≡ B.kept buf.old }
 {
-    loop {
-        let tag = Tag::decode(buf)?;
-        if let WireType::EndGroup = tag.wire_type() {
-            if tag.field_number() == number {
-                return Ok(());
-            }
-            return Err(DecodeError::InvalidEndGroup(tag.field_number()));
-        }
+    while let Some(tag) = Tag::decode_in_group(buf, number)? {
         skip_field_depth(tag, buf, depth)?;
     }
+    Ok(())
 }

@@ -1,5 +1,5 @@
 //! Tags: the field number and the wire type of a record.
-ghost use Rattle.std.specs.Prelude.{◌≡◌, ◌++◌, ◌+◌, ◌-◌, ◌^◌, ◌<◌, ◌≤◌, ◌*◌, length, OnOk, OnErr, IfOk, IfErr};
+ghost use Rattle.std.specs.Prelude.{◌≡◌, ◌≢◌, ◌++◌, ◌+◌, ◌-◌, ◌^◌, ◌<◌, ◌≤◌, ◌*◌, length, IfOk, IfErr, IfSome, IfNone};
 ghost use Rattle.wire_base.specs.FieldNumber.{IsFieldNumber};
 
 use crate::encode_sink::EncodeSink;
@@ -63,8 +63,11 @@ pub struct Tag {
 }
 
 impl Tag {
+    ghost use Rattle.wire_base.specs.declared.tag.WireType.TheVariants.{EndGroup};
+    ghost use Rattle.wire_base.specs.Ending.{by_tag, Ends};
+    ghost use Rattle.wire_base.specs.Fault.{NextTagFault};
     ghost use Rattle.wire_base.specs.Read.{Reads};
-    ghost use Rattle.wire_base.specs.Sink.{KeepsFront, WriteAnswers};
+    ghost use Rattle.wire_base.specs.Sink.{Writes};
     ghost use Rattle.wire_base.specs.Tag.{IsTagSpelling, TagFault, tag_text};
     ghost use Rattle.wire_base.specs.TagView.{tag_number, tag_type};
 
@@ -95,12 +98,8 @@ impl Tag {
 
     /// Writes the shortest text of the tag.
     pub fn encode<S: EncodeSink>(&self, sink: &mut S) -> Result<(), EncodeError>
-        ensures ok { OnOk result (S.bytes_of sink.new
-            ≡ S.bytes_of sink.old ++ tag_text (tag_number self.now) (tag_type self.now)) }
-        ensures err { OnErr result (KeepsFront (S.bytes_of sink.old)
-            (tag_text (tag_number self.now) (tag_type self.now)) (S.bytes_of sink.new)) }
-        ensures cause { WriteAnswers S.most (S.bytes_of sink.old)
-            (tag_text (tag_number self.now) (tag_type self.now)) result }
+        ensures { Writes S.most (tag_text (tag_number self.now) (tag_type self.now))
+            (S.bytes_of sink.old) (S.bytes_of sink.new) result }
     {
         put_tag(self.field_number, self.wire_type, sink)
     }
@@ -110,6 +109,7 @@ impl Tag {
         ensures ok { IfOk result (λ tag. Reads (B.unread buf.old)
             (IsTagSpelling (tag_number tag) (tag_type tag)) (B.unread buf.new)) }
         ensures fault { IfErr result (TagFault (B.unread buf.old)) }
+        ensures kept { B.kept buf.new ≡ B.kept buf.old }
     {
         let value = decode_varint(buf)?;
         if value >= 1 << 32 {
@@ -124,5 +124,26 @@ impl Tag {
             field_number,
             wire_type,
         })
+    }
+
+    /// Reads the tag of the next record in the body of a group of this number: none where its end tag
+    /// stands, which is taken.
+    pub fn decode_in_group<B: Buf>(buf: &mut B, number: u32) -> Result<Option<Tag>, DecodeError>
+        ensures record { IfOk result (λ next. IfSome next (λ tag. Reads (B.unread buf.old)
+            (IsTagSpelling (tag_number tag) (tag_type tag)) (B.unread buf.new))) }
+        ensures inside { IfOk result (λ next. IfSome next (λ tag. tag_type tag ≢ EndGroup)) }
+        ensures end { IfOk result (λ next. IfNone next (Ends (by_tag number)
+            (B.unread buf.old) (B.unread buf.new))) }
+        ensures fault { IfErr result (NextTagFault (by_tag number) (B.unread buf.old)) }
+        ensures kept { B.kept buf.new ≡ B.kept buf.old }
+    {
+        let tag = Tag::decode(buf)?;
+        if let WireType::EndGroup = tag.wire_type {
+            if tag.field_number == number {
+                return Ok(None);
+            }
+            return Err(DecodeError::InvalidEndGroup(tag.field_number));
+        }
+        Ok(Some(tag))
     }
 }

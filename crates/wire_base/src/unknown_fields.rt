@@ -45,7 +45,6 @@ pub enum UnknownFieldData {
 impl Model for UnknownFields {
     ghost use Rattle.wire_base.specs.Field.{Fields};
     ghost use Rattle.wire_base.specs.FieldsCode.{fields_code};
-    ghost use Rattle.wire_base.specs.Text.{count};
 
     ghost Value = { Fields };
 
@@ -54,6 +53,8 @@ impl Model for UnknownFields {
     ghost use Rattle.wire_base.specs.UnknownFields.{fields_of};
 
     ghost view = { λ s. fields_of s.fields.items };
+
+    ghost use Rattle.wire_base.specs.Charge.{count};
 
     ghost size = { count };
 

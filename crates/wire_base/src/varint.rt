@@ -2,7 +2,7 @@
 ghost use Rattle.std.specs.Prelude.{◌≡◌, [], ◌∷◌, ◌++◌, length, count_by, nat_lt, OnOk, OnErr, IfOk, IfErr};
 ghost use Rattle.wire_base.specs.declared.error.DecodeError.TheVariants.{UnexpectedEof};
 ghost use Rattle.wire_base.specs.Read.{Reads};
-ghost use Rattle.wire_base.specs.Sink.{KeepsFront, WriteAnswers};
+ghost use Rattle.wire_base.specs.Sink.{Writes};
 ghost use Rattle.wire_base.specs.Varint.{IsSpelling, VarintFault, shortest_varint};
 
 use crate::encode_sink::EncodeSink;
@@ -18,9 +18,7 @@ pub fn varint_len(value: u64) -> usize
 
 /// Writes the shortest varint of a number.
 pub fn encode_varint<S: EncodeSink>(value: u64, sink: &mut S) -> Result<(), EncodeError>
-    ensures ok { OnOk result (S.bytes_of sink.new ≡ S.bytes_of sink.old ++ shortest_varint value) }
-    ensures err { OnErr result (KeepsFront (S.bytes_of sink.old) (shortest_varint value) (S.bytes_of sink.new)) }
-    ensures cause { WriteAnswers S.most (S.bytes_of sink.old) (shortest_varint value) result }
+    ensures { Writes S.most (shortest_varint value) (S.bytes_of sink.old) (S.bytes_of sink.new) result }
 {
     let mut rest = value;
     while rest >= 0x80 {
@@ -34,6 +32,7 @@ pub fn encode_varint<S: EncodeSink>(value: u64, sink: &mut S) -> Result<(), Enco
 pub fn decode_varint<B: Buf>(buf: &mut B) -> Result<u64, DecodeError>
     ensures ok { IfOk result (λ v. Reads (B.unread buf.old) (IsSpelling v) (B.unread buf.new)) }
     ensures fault { IfErr result (VarintFault (B.unread buf.old)) }
+    ensures kept { B.kept buf.new ≡ B.kept buf.old }
 {
     let mut value = 0u64;
     for index in 0..9u32 {
@@ -61,6 +60,7 @@ pub fn count_varints(payload: &[u8]) -> usize
 fn next_byte<B: Buf>(buf: &mut B) -> Result<u8, DecodeError>
     ensures byte { IfOk result (λ byte. B.unread buf.old ≡ byte ∷ B.unread buf.new) }
     ensures end { IfErr result (λ e. (e ≡ UnexpectedEof) × (B.unread buf.old ≡ [])) }
+    ensures kept { B.kept buf.new ≡ B.kept buf.old }
 {
     match buf.chunk().first() {
         Some(&byte) => {

@@ -1,70 +1,70 @@
 //! Unknown fields from bytes.
-ghost use Rattle.std.specs.Prelude.{◌≡◌, ◌⊎◌, OnErr, IfOk, IfErr, MatchResult};
+ghost use Rattle.std.specs.Prelude.{◌≡◌, OnErr, IfOk, IfErr, MatchResult};
 ghost use Rattle.wire_base.specs.declared.error.DecodeError.TheVariants.{OutOfMemory};
-ghost use Rattle.wire_base.specs.Fault.{PayloadFault, ListFault, by_input, by_tag};
+ghost use Rattle.wire_base.specs.Charge.{charge, payload_charge};
+ghost use Rattle.wire_base.specs.Ending.{by_input, by_tag};
 ghost use Rattle.wire_base.specs.Field.{Fields};
 ghost use Rattle.wire_base.specs.Limits.{Fits, NoCountGrew, counted, left_after};
+ghost use Rattle.wire_base.specs.Refusal.{PayloadRefusal, ListRefusal};
 ghost use Rattle.wire_base.specs.Spells.{Spells};
 ghost use Rattle.wire_base.specs.TagView.{tag_number, tag_type};
-ghost use Rattle.wire_base.specs.Taken.{TakesPayload, TakesBody};
-ghost use Rattle.wire_base.specs.Text.{charge, payload_charge};
+ghost use Rattle.wire_base.specs.Taken.{TakesPayload, TakesUntil};
 ghost use Rattle.wire_base.specs.UnknownFields.{payload_of};
 
 use super::{UnknownField, UnknownFieldData, UnknownFields};
 use crate::decode_context::{DEFAULT_UNKNOWN_FIELD_LIMIT, DecodeContext, RECURSION_LIMIT};
 use crate::error::DecodeError;
-use crate::payload::{take_bytes, take_fixed32, take_fixed64};
+use crate::payload::{decode_length, take_bytes};
 use crate::tag::{Tag, WireType};
 use crate::varint::decode_varint;
 use bytes::Buf;
 use std::alloc::Global;
 
 impl UnknownFields {
-    /// Reads all of the bytes as records, in which groups nest at most `RECURSION_LIMIT` deep and which are
-    /// at most `DEFAULT_UNKNOWN_FIELD_LIMIT`, those in groups counted.
+    /// Reads all of the bytes as records, in which groups nest at most 100 deep and which are at most
+    /// 1,000,000, those in groups counted.
     pub fn decode_from_slice(alloc: Global, bytes: &[u8]) -> Result<UnknownFields, DecodeError>
         ensures spelled { IfOk result (λ fs. Spells fs bytes.now) }
-        ensures within { IfOk result (λ fs.
-            Fits (charge fs) (counted RECURSION_LIMIT DEFAULT_UNKNOWN_FIELD_LIMIT)) }
-        ensures fault { IfErr result (λ e. (e ≡ OutOfMemory)
-            ⊎ ListFault (counted RECURSION_LIMIT DEFAULT_UNKNOWN_FIELD_LIMIT) by_input bytes.now e) }
+        ensures within { IfOk result (λ fs. Fits (charge fs) (counted 100 1000000)) }
+        ensures fault { IfErr result (ListRefusal (counted 100 1000000) by_input bytes.now) }
 
         // What the bytes spell within the limits is what is read, unless memory runs out.
-        ensures only { (fs : Fields) → Spells fs bytes.now
-            → Fits (charge fs) (counted RECURSION_LIMIT DEFAULT_UNKNOWN_FIELD_LIMIT)
+        ensures only { (fs : Fields) → Spells fs bytes.now → Fits (charge fs) (counted 100 1000000)
             → MatchResult result (λ read. read ≡ fs) (λ e. e ≡ OutOfMemory) }
     {
         let mut context = DecodeContext::new(RECURSION_LIMIT, DEFAULT_UNKNOWN_FIELD_LIMIT);
-        decode_all(alloc, bytes, &mut context)
+        UnknownFields::decode_from_slice_within(alloc, bytes, &mut context)
     }
-}
 
-// Reads all of the bytes as records.
-fn decode_all(
-    alloc: Global,
-    bytes: &[u8],
-    context: &mut DecodeContext,
-) -> Result<UnknownFields, DecodeError>
-    ensures spelled { IfOk result (λ fs. Spells fs bytes.now) }
-    ensures within { IfOk result (λ fs. Fits (charge fs) context.old) }
-    ensures charged { IfOk result (λ fs. context.new ≡ left_after context.old (charge fs)) }
-    ensures fault { IfErr result (λ e. (e ≡ OutOfMemory) ⊎ ListFault context.old by_input bytes.now e) }
-    ensures counts { OnErr result (NoCountGrew context.old context.new) }
-{
-    let mut buf = bytes;
-    let mut fields = UnknownFields::new(alloc);
-    while !buf.is_empty() {
-        let tag = Tag::decode(&mut buf)?;
-        let field = decode_unknown_field(alloc, tag, &mut buf, context)?;
-        if fields.push(field).is_err() {
-            return Err(DecodeError::OutOfMemory);
+    /// Reads all of the bytes as records, under the limits of the context. A refused attempt may have
+    /// used up slots of it.
+    pub fn decode_from_slice_within(
+        alloc: Global,
+        bytes: &[u8],
+        context: &mut DecodeContext,
+    ) -> Result<UnknownFields, DecodeError>
+        ensures spelled { IfOk result (λ fs. Spells fs bytes.now) }
+        ensures within { IfOk result (λ fs. Fits (charge fs) context.old) }
+        ensures charged { IfOk result (λ fs. context.new ≡ left_after context.old (charge fs)) }
+        ensures fault { IfErr result (ListRefusal context.old by_input bytes.now) }
+        ensures counts { OnErr result (NoCountGrew context.old context.new) }
+    {
+        let mut buf = bytes;
+        let mut fields = UnknownFields::new(alloc);
+        while !buf.is_empty() {
+            let tag = Tag::decode(&mut buf)?;
+            let field = decode_unknown_field(alloc, tag, &mut buf, context)?;
+            if fields.push(field).is_err() {
+                return Err(DecodeError::OutOfMemory);
+            }
         }
+        Ok(fields)
     }
-    Ok(fields)
 }
 
 /// Reads the payload of a tag that was read, and keeps it as a field. It takes one unknown field for
-/// itself and one for each field in its groups, and a level for each group in another.
+/// itself and one for each field in its groups, and a level for each group in another. Memory is wanted
+/// only for a payload that is there.
 #[cycle(decode)]
 pub fn decode_unknown_field<B: Buf>(
     alloc: Global,
@@ -73,13 +73,15 @@ pub fn decode_unknown_field<B: Buf>(
     context: &mut DecodeContext,
 ) -> Result<UnknownField, DecodeError>
     ensures number { IfOk result (λ field. field.number ≡ tag_number tag) }
-    ensures ok { IfOk result (λ field. TakesPayload context.old (tag_number tag) (tag_type tag)
-        (payload_of field.value) (B.unread buf.old) (B.unread buf.new)) }
+    ensures ok { IfOk result (λ field. TakesPayload (payload_charge (payload_of field.value))
+        context.old (tag_number tag) (tag_type tag) (payload_of field.value)
+        (B.unread buf.old) (B.unread buf.new)) }
     ensures charged { IfOk result (λ field. context.new
         ≡ left_after context.old (payload_charge (payload_of field.value))) }
-    ensures fault { IfErr result (λ e. (e ≡ OutOfMemory)
-        ⊎ PayloadFault context.old (tag_number tag) (tag_type tag) (B.unread buf.old) e) }
+    ensures fault { IfErr result
+        (PayloadRefusal context.old (tag_number tag) (tag_type tag) (B.unread buf.old)) }
     ensures counts { OnErr result (NoCountGrew context.old context.new) }
+    ensures kept { B.kept buf.new ≡ B.kept buf.old }
 {
     let value = decode_value(alloc, tag, buf, context)?;
     Ok(UnknownField {
@@ -96,20 +98,22 @@ fn decode_value<B: Buf>(
     buf: &mut B,
     context: &mut DecodeContext,
 ) -> Result<UnknownFieldData, DecodeError>
-    ensures ok { IfOk result (λ value. TakesPayload context.old (tag_number tag) (tag_type tag)
-        (payload_of value) (B.unread buf.old) (B.unread buf.new)) }
+    ensures ok { IfOk result (λ value. TakesPayload (payload_charge (payload_of value))
+        context.old (tag_number tag) (tag_type tag) (payload_of value)
+        (B.unread buf.old) (B.unread buf.new)) }
     ensures charged { IfOk result (λ value. context.new
         ≡ left_after context.old (payload_charge (payload_of value))) }
-    ensures fault { IfErr result (λ e. (e ≡ OutOfMemory)
-        ⊎ PayloadFault context.old (tag_number tag) (tag_type tag) (B.unread buf.old) e) }
+    ensures fault { IfErr result
+        (PayloadRefusal context.old (tag_number tag) (tag_type tag) (B.unread buf.old)) }
     ensures counts { OnErr result (NoCountGrew context.old context.new) }
+    ensures kept { B.kept buf.new ≡ B.kept buf.old }
 {
     context.register_unknown_field()?;
     match tag.wire_type() {
         WireType::Varint => Ok(UnknownFieldData::Varint(decode_varint(buf)?)),
-        WireType::Fixed64 => Ok(UnknownFieldData::Fixed64(take_fixed64(buf)?)),
+        WireType::Fixed64 => Ok(UnknownFieldData::Fixed64(buf.try_get_u64_le()?)),
         WireType::LengthDelimited => {
-            let len = decode_varint(buf)?;
+            let len = decode_length(buf, None)?;
             Ok(UnknownFieldData::LengthDelimited(take_bytes(alloc, buf, len)?))
         }
         WireType::StartGroup => {
@@ -119,7 +123,7 @@ fn decode_value<B: Buf>(
             Ok(UnknownFieldData::Group(fields))
         }
         WireType::EndGroup => Err(DecodeError::InvalidWireType(4)),
-        WireType::Fixed32 => Ok(UnknownFieldData::Fixed32(take_fixed32(buf)?)),
+        WireType::Fixed32 => Ok(UnknownFieldData::Fixed32(buf.try_get_u32_le()?)),
     }
 }
 
@@ -131,24 +135,19 @@ fn decode_group<B: Buf>(
     buf: &mut B,
     context: &mut DecodeContext,
 ) -> Result<UnknownFields, DecodeError>
-    ensures ok { IfOk result (λ fs. TakesBody context.old number fs (B.unread buf.old) (B.unread buf.new)) }
+    ensures ok { IfOk result (λ fs. TakesUntil (charge fs) context.old (by_tag number) fs
+        (B.unread buf.old) (B.unread buf.new)) }
     ensures charged { IfOk result (λ fs. context.new ≡ left_after context.old (charge fs)) }
-    ensures fault { IfErr result (λ e. (e ≡ OutOfMemory)
-        ⊎ ListFault context.old (by_tag number) (B.unread buf.old) e) }
+    ensures fault { IfErr result (ListRefusal context.old (by_tag number) (B.unread buf.old)) }
     ensures counts { OnErr result (NoCountGrew context.old context.new) }
+    ensures kept { B.kept buf.new ≡ B.kept buf.old }
 {
     let mut fields = UnknownFields::new(alloc);
-    loop {
-        let tag = Tag::decode(buf)?;
-        if let WireType::EndGroup = tag.wire_type() {
-            if tag.field_number() == number {
-                return Ok(fields);
-            }
-            return Err(DecodeError::InvalidEndGroup(tag.field_number()));
-        }
+    while let Some(tag) = Tag::decode_in_group(buf, number)? {
         let field = decode_unknown_field(alloc, tag, buf, context)?;
         if fields.push(field).is_err() {
             return Err(DecodeError::OutOfMemory);
         }
     }
+    Ok(fields)
 }

@@ -1,10 +1,12 @@
-use Rattle.std.proofs.Common.{sym, ◌∙◌, arith}
+use Rattle.std.proofs.Common.{sym, ◌∙◌, arith, refl}
 use Rattle.std.proofs.lemmas.Result.{err_from_is_err_and}
-use Rattle.wire_base.specs.Fault.{by_tag, no_varint, no_length, no_level, end_outside, bad_tag, other_end, bad_payload}
+use Rattle.wire_base.specs.Fault.{no_varint, no_bytes, no_level, end_outside, no_tag, bad_payload, past}
 use Rattle.wire_base.specs.Field.{none, push}
-use Rattle.wire_base.proofs.Payloads.{takes_body}
-use Rattle.wire_base.proofs.Skips.{skips_varint, skips_fixed64, stops_fixed64, skips_fixed32, stops_fixed32, skips_bytes, stops_bytes, skips_group, stops_group, uncounted_slot}
-use Rattle.wire_base.proofs.Takes.{takes_none, takes_push}
+use Rattle.wire_base.proofs.LimitsLaws.{uncounted_slot}
+use Rattle.wire_base.proofs.Payloads.{takes_until}
+use Rattle.wire_base.proofs.Results.{at_none}
+use Rattle.wire_base.proofs.Skips.{skips_varint, skips_fixed64, stops_fixed64, skips_fixed32, stops_fixed32, skips_bytes, skips_group, stops_group}
+use Rattle.wire_base.proofs.Takes.{takes_none, takes_field}
 use Rattle.wire_base.proofs.skip.+skip.Goals as goal
 
 -- ---- one payload
@@ -40,17 +42,12 @@ pub skip_field_depth-returns-in_err-len-in-LengthDelimited-clause-fault : goal.s
 skip_field_depth-returns-in_err-len-in-LengthDelimited-clause-fault g t c =
     let r = c.from_residual-in_err-len-in-LengthDelimited in
     let p = err_from_is_err_and r.result r.ensures.1 in
-    rw (p.1, p.2, sym c.wire_type.ensures ∙ c.in-LengthDelimited.is) (no_length (uncounted_slot _) (c.in_err-len-in-LengthDelimited).ensures.fault)
+    rw (p.1, p.2, sym c.wire_type.ensures ∙ c.in-LengthDelimited.is) (no_bytes (uncounted_slot _) (c.in_err-len-in-LengthDelimited).ensures.fault)
 
 pub skip_field_depth-returns-in_ok-len-in-LengthDelimited-clause-ok : goal.skip_field_depth-returns-in_ok-len-in-LengthDelimited-clause-ok
 skip_field_depth-returns-in_ok-len-in-LengthDelimited-clause-ok g t c =
-    let s = c.skip_bytes-in-LengthDelimited in
-    skips_bytes _ _ _ (uncounted_slot _) s.result _ _ _ _ (sym c.wire_type.ensures ∙ c.in-LengthDelimited.is) (c.in_ok-len-in-LengthDelimited).ensures.ok s.ensures.ok s.ensures.long
-
-pub skip_field_depth-returns-in_ok-len-in-LengthDelimited-clause-fault : goal.skip_field_depth-returns-in_ok-len-in-LengthDelimited-clause-fault
-skip_field_depth-returns-in_ok-len-in-LengthDelimited-clause-fault g t c =
-    let s = c.skip_bytes-in-LengthDelimited in
-    stops_bytes _ _ _ (uncounted_slot _) s.result _ _ _ (sym c.wire_type.ensures ∙ c.in-LengthDelimited.is) (c.in_ok-len-in-LengthDelimited).ensures.ok s.ensures.err s.ensures.short
+    let length = c.in_ok-len-in-LengthDelimited in
+    skips_bytes _ _ _ (uncounted_slot _) _ _ _ _ (sym c.wire_type.ensures ∙ c.in-LengthDelimited.is) length.ensures.ok length.ensures.there c.advance.ensures.value
 
 pub skip_field_depth-returns-then-depth-eq0-clause-fault : goal.skip_field_depth-returns-then-depth-eq0-clause-fault
 skip_field_depth-returns-then-depth-eq0-clause-fault g t c =
@@ -71,39 +68,32 @@ skip_field_depth-returns-in-EndGroup-clause-fault g t c =
 -- ---- the body of a group
 
 pub skip_group-loop-tag-init : goal.skip_group-loop-tag-init
-skip_group-loop-tag-init g t c = (none, takes_none _ _)
+skip_group-loop-tag-init g t c = record { so_far = (none, takes_none _ _); kept = refl }
 
 pub skip_group-returns-in_err-tag-clause-fault : goal.skip_group-returns-in_err-tag-clause-fault
 skip_group-returns-in_err-tag-clause-fault g t c =
     let p = err_from_is_err_and c.from_residual.result c.from_residual.ensures.1 in
-    let so_far = c.loop-tag.invariant in
-    rw (p.1, p.2) (bad_tag so_far.0 _ so_far.1.read so_far.1.fits tt c.in_err-tag.ensures.fault)
+    let so_far = c.loop-tag.invariant.so_far in
+    rw (p.1, p.2) (past so_far.0 _ so_far.1 tt (no_tag c.in_err-tag.ensures.fault))
 
-pub skip_group-returns-then-field_number-number-clause-ok : goal.skip_group-returns-then-field_number-number-clause-ok
-skip_group-returns-then-field_number-number-clause-ok g t c =
-    let so_far = c.loop-tag.invariant in
-    let r = rw (sym c.wire_type.ensures ∙ c.in-EndGroup.is, sym c.field_number.ensures.number ∙ c.if-field_number-number.true) at c.in_ok-tag.ensures.ok in
-    (so_far.0, takes_body _ _ so_far.0 _ _ _ so_far.1 r)
-
-pub skip_group-returns-in-EndGroup-clause-fault : goal.skip_group-returns-in-EndGroup-clause-fault
-skip_group-returns-in-EndGroup-clause-fault g t c =
-    let so_far = c.loop-tag.invariant in
-    let again = c.field_number-in-EndGroup.ensures.number in
-    let r = rw (sym c.wire_type.ensures ∙ c.in-EndGroup.is, sym again) at c.in_ok-tag.ensures.ok in
-    other_end so_far.0 _ _ _ so_far.1.read so_far.1.fits r (λ same. c.if-field_number-number.false (c.field_number.ensures.number ∙ sym again ∙ same))
+pub skip_group-returns-clause-ok : goal.skip_group-returns-clause-ok
+skip_group-returns-clause-ok g t c =
+    let so_far = c.loop-tag.invariant.so_far in
+    (so_far.0, takes_until _ _ so_far.0 _ _ _ so_far.1 (at_none _ _ c.in_default.not-Some c.in_ok-tag.ensures.end))
 
 pub skip_group-loop-tag-preserved : goal.skip_group-loop-tag-preserved
 skip_group-loop-tag-preserved g t c =
-    let so_far = c.loop-tag.invariant in
+    let so_far = c.loop-tag.invariant.so_far in
     let p = c.in_ok-skip_field_depth.ensures.ok in
-    (push so_far.0 _ p.0, takes_push _ so_far.0 _ _ p.0 _ _ _ _ so_far.1 c.in_ok-tag.ensures.ok p.1)
+    record {
+      so_far = (push so_far.0 _ p.0, takes_field _ so_far.0 _ _ p.0 _ _ _ _ so_far.1 (rw c.in-Some.is at c.in_ok-tag.ensures.record) p.1);
+      kept = c.in_ok-skip_field_depth.ensures.kept ∙ c.in_ok-tag.ensures.kept ∙ c.loop-tag.invariant.kept;
+    }
 
-pub skip_group-returns-in_err-skip_field_depth : goal.skip_group-returns-in_err-skip_field_depth
-skip_group-returns-in_err-skip_field_depth g t c =
+pub skip_group-returns-in_err-skip_field_depth-clause-fault : goal.skip_group-returns-in_err-skip_field_depth-clause-fault
+skip_group-returns-in_err-skip_field_depth-clause-fault g t c =
     let r = c.from_residual-in_err-skip_field_depth in
     let p = err_from_is_err_and r.result r.ensures.1 in
-    let so_far = c.loop-tag.invariant in
-    rw (p.1, p.2) (record {
-      ok = tt;
-      fault = bad_payload {ending = by_tag c.args.number} so_far.0 _ _ _ _ so_far.1.read so_far.1.fits c.in_ok-tag.ensures.ok (λ end. c.in_default.not-EndGroup (c.wire_type.ensures ∙ end)) c.in_err-skip_field_depth.ensures.fault;
-    })
+    let so_far = c.loop-tag.invariant.so_far in
+    rw (p.1, p.2) (past so_far.0 _ so_far.1 tt
+    (bad_payload _ _ _ (rw c.in-Some.is at c.in_ok-tag.ensures.record) (rw c.in-Some.is at c.in_ok-tag.ensures.inside) c.in_err-skip_field_depth.ensures.fault))

@@ -1,4 +1,5 @@
-use Rattle.std.proofs.Common.{◌+◌, ◌*◌, length}
+use Rattle.std.proofs.Common.{◌≡◌, ◌+◌, ◌*◌, length}
+use Rattle.wire_base.specs.Charge.{charge}
 use Rattle.wire_base.specs.Field.{Fields}
 use Rattle.wire_base.specs.Limits.{uncounted}
 use Rattle.wire_base.specs.Taken.{TakesFields}
@@ -11,8 +12,10 @@ abbrev pub decreases-skip_group : goal.decreases-skip_group
 decreases-skip_group g l = 2 * l.depth + 1
 
 abbrev pub invariant-skip_group-loop-tag : goal.invariant-skip_group-loop-tag
-invariant-skip_group-loop-tag g l =
-    (fs : Fields) × TakesFields (uncounted l.fn.depth) fs (g.B.Buf.unread l.fn.buf) (g.B.Buf.unread l.buf)
+invariant-skip_group-loop-tag g l = record {
+  so_far : (fs : Fields) × TakesFields (charge fs) (uncounted l.fn.depth) fs (g.B.Buf.unread l.fn.buf) (g.B.Buf.unread l.buf);
+  kept : g.B.Buf.kept l.buf ≡ g.B.Buf.kept l.fn.buf;
+}
 
 abbrev pub decreases-skip_group-loop-tag : goal.decreases-skip_group-loop-tag
 decreases-skip_group-loop-tag g l = length (g.B.Buf.unread l.buf)

@@ -1,7 +1,7 @@
 use Rattle.std.proofs.Common.{sym, ap, ◌∙◌}
 use Rattle.wire_base.specs.Field.{joined}
 use Rattle.wire_base.specs.UnknownFields.{fields_of}
-use Rattle.wire_base.proofs.JoinedLaws.{joined-none}
+use Rattle.wire_base.proofs.FieldLaws.{joined-none}
 use Rattle.wire_base.proofs.UnknownFieldsLemmas.{joined-copy, fields_of-end}
 use Rattle.wire_base.proofs.unknown_fields.compare.+clone.Goals as goal
 

@@ -1,7 +1,7 @@
 use Rattle.std.proofs.Common.{◌≡◌, ◌+◌, ◌*◌, length}
+use Rattle.wire_base.specs.Charge.{charge}
 use Rattle.wire_base.specs.Limits.{left_after}
 use Rattle.wire_base.specs.Taken.{TakesFields}
-use Rattle.wire_base.specs.Text.{charge}
 use Rattle.wire_base.proofs.unknown_fields.decode.+decode.Given as goal
 
 abbrev pub decreases-decode_unknown_field : goal.decreases-decode_unknown_field
@@ -15,8 +15,9 @@ decreases-decode_group g l = 3 * l.context.now.depth + 2
 
 abbrev pub invariant-decode_group-loop-fields : goal.invariant-decode_group-loop-fields
 invariant-decode_group-loop-fields g l = record {
-  so_far : TakesFields l.fn.context l.fields (g.B.Buf.unread l.fn.buf) (g.B.Buf.unread l.buf);
+  so_far : TakesFields (charge l.fields) l.fn.context l.fields (g.B.Buf.unread l.fn.buf) (g.B.Buf.unread l.buf);
   context : l.context ≡ left_after l.fn.context (charge l.fields);
+  kept : g.B.Buf.kept l.buf ≡ g.B.Buf.kept l.fn.buf;
 }
 
 abbrev pub decreases-decode_group-loop-fields : goal.decreases-decode_group-loop-fields

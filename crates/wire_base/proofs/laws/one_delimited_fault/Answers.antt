@@ -1,0 +1,5 @@
+use Rattle.wire_base.proofs.DelimitedLaws.{one_delimited_fault_lemma}
+use Rattle.wire_base.proofs.laws.one_delimited_fault.Goals as goal
+
+pub returns : goal.returns
+returns c = one_delimited_fault_lemma
