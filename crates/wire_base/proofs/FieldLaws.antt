@@ -7,7 +7,7 @@ use Rattle.wire_base.specs.Delimited.{IsDelimited}
 use Rattle.wire_base.specs.Field.{Payload, varint, fixed64, fixed32, bytes, group, Fields, none, field, type_of, joined}
 use Rattle.wire_base.specs.InRange.{AreNumbered, IsPayloadNumbered}
 use Rattle.wire_base.specs.Read.{Reads}
-use Rattle.wire_base.specs.RecordLaws.{PayloadIsField, OnePayload, OneSpelled, SpelledAreNumbered}
+use Rattle.wire_base.specs.RecordLaws.{PayloadIsField, OnePayload, OneSpelled, SpelledAreNumbered, NumberedTogether}
 use Rattle.wire_base.specs.Spells.{SpellsPayload, Spells, IsPayload}
 use Rattle.wire_base.specs.Tag.{IsTagSpelling}
 use Rattle.wire_base.specs.Varint.{IsSpelling, IsEnded}
@@ -207,7 +207,7 @@ mutual
 -- ---- field numbers
 
 mutual
-  payload_numbered : (n : ℕ) (p : Payload) (t : List ℕ) → SpellsPayload n p t → IsPayloadNumbered p
+  pub payload_numbered : (n : ℕ) (p : Payload) (t : List ℕ) → SpellsPayload n p t → IsPayloadNumbered p
   payload_numbered n (varint v) t h = tt
   payload_numbered n (fixed64 v) t h = tt
   payload_numbered n (fixed32 v) t h = tt
@@ -251,3 +251,14 @@ one_spelled_lemma fs gs old h k =
 
 pub spelled_are_numbered_lemma : SpelledAreNumbered
 spelled_are_numbered_lemma = numbered
+
+numbered_both : (fs gs : Fields) → AreNumbered fs → AreNumbered gs → AreNumbered (joined fs gs)
+numbered_both none gs h k = k
+numbered_both (field n p fs) gs h k = (h.0, h.1, numbered_both fs gs h.2 k)
+
+numbered_parts : (fs gs : Fields) → AreNumbered (joined fs gs) → AreNumbered fs × AreNumbered gs
+numbered_parts none gs h = (tt, h)
+numbered_parts (field n p fs) gs h = let later = numbered_parts fs gs h.2 in ((h.0, h.1, later.0), later.1)
+
+pub numbered_together_lemma : NumberedTogether
+numbered_together_lemma fs gs = (numbered_parts fs gs, λ h. numbered_both fs gs h.0 h.1)

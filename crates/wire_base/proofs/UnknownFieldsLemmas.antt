@@ -2,11 +2,13 @@
 use Rattle.std.proofs.Common.{◌≡◌, ℕ, zero, suc, ◌+◌, ◌<◌, ◌≤◌, Bool, true, false, ◌==◌, ◌&&◌, eqb, ◌≢◌, List, [], ◌∷◌, ◌++◌, length, get_or, drop, refl, sym, ap, ◌∙◌, append_assoc, add-one, arith}
 use Rattle.std.proofs.lemmas.Bool.{eqb-true, and_right}
 use Rattle.std.specs.Prelude.{IsTrue, ◌↔◌}
+use Rattle.std.specs.List.{items_where_true}
 use Rattle.std.proofs.Math.ListN.{drop_of_length-le}
 use Rattle.std.proofs.Math.Seq.{drop-cons}
 use Rattle.wire_base.specs.declared.unknown_fields.UnknownField.{UnknownField}
 use Rattle.wire_base.specs.Field.{Payload, Fields, none, field, joined, count_top, type_of}
 use Rattle.wire_base.specs.FieldsEq.{payload_eq, fields_eq}
+use Rattle.wire_base.specs.InRange.{AreFitting, AreNumbered, IsPayloadFitting}
 use Rattle.wire_base.specs.Tag.{tag_text}
 use Rattle.wire_base.specs.Text.{text_of, payload_text, record_text}
 use Rattle.wire_base.specs.Charge.{count, payload_count}
@@ -89,3 +91,23 @@ fields_eq-more fs gs i f g lt lt' at at' same = fields_eq-at fs gs i f g lt lt' 
 pub fields_eq-other : (fs gs : List UnknownField) (i : ℕ) (f g : UnknownField) → i < length fs → i < length gs → f ≡ get_or fs i f → g ≡ get_or gs i g → fields_eq (one_record f) (one_record g) ≡ false
     → fields_eq (fields_of (drop i fs)) (fields_of (drop i gs)) ≡ false
 fields_eq-other fs gs i f g lt lt' at at' other = fields_eq-at fs gs i f g lt lt' at at' ∙ other_here _ _ _ other
+
+-- ---- numbers that fit
+
+-- one record more whose numbers fit
+pub AreFitting-append : (fs : List UnknownField) (f : UnknownField) → AreFitting (fields_of fs) → IsPayloadFitting (payload_of f.value) → AreFitting (fields_of (fs ++ f ∷ []))
+AreFitting-append [] f h k = (k, tt)
+AreFitting-append (g ∷ fs) f h k = (h.0, AreFitting-append fs f h.1 k)
+
+-- the records that a test keeps
+pub AreFitting-kept : (bs : List Bool) (fs : List UnknownField) → AreFitting (fields_of fs) → AreFitting (fields_of (items_where_true bs fs))
+AreFitting-kept [] fs h = tt
+AreFitting-kept (b ∷ bs) [] h = tt
+AreFitting-kept (true ∷ bs) (f ∷ fs) h = (h.0, AreFitting-kept bs fs h.1)
+AreFitting-kept (false ∷ bs) (f ∷ fs) h = AreFitting-kept bs fs h.1
+
+pub AreNumbered-kept : (bs : List Bool) (fs : List UnknownField) → AreNumbered (fields_of fs) → AreNumbered (fields_of (items_where_true bs fs))
+AreNumbered-kept [] fs h = tt
+AreNumbered-kept (b ∷ bs) [] h = tt
+AreNumbered-kept (true ∷ bs) (f ∷ fs) h = (h.0, h.1, AreNumbered-kept bs fs h.2)
+AreNumbered-kept (false ∷ bs) (f ∷ fs) h = AreNumbered-kept bs fs h.2

@@ -81,3 +81,8 @@ TextSpellsOneList =
 -- what is spelled has field numbers that a field may have
 abbrev pub SpelledAreNumbered : Type 0
 SpelledAreNumbered = (fs : Fields) (text : List ℕ) → Spells fs text → AreNumbered fs
+
+-- a joined list has such numbers exactly where both lists have
+abbrev pub NumberedTogether : Type 0
+NumberedTogether =
+    (fs gs : Fields) → AreNumbered (joined fs gs) ↔ (AreNumbered fs × AreNumbered gs)

@@ -2,7 +2,7 @@
 ghost use Rattle.wire_base.specs.VarintLaws.{ShortestReadsBack, NoSpellingBeginsAnother, OneVarint, NoVarintBesideFault, OneVarintFault, VarintOrFaultStands, NoSpellingIsShorter, DelimitedReadsBack, OneDelimited, NoDelimitedBesideFault, OneDelimitedFault, DelimitedOrFaultStands};
 ghost use Rattle.wire_base.specs.TagLaws.{TagTextReadsBack, OneTag, NoTagBesideFault, OneTagFault, TagOrFaultStands, NoTagTextIsShorter};
 ghost use Rattle.wire_base.specs.LimitsLaws.{ChargesAddUp, LimitsAddUp, LevelsAddUp, CountsFall};
-ghost use Rattle.wire_base.specs.RecordLaws.{PayloadIsField, OnePayload, OneSpelled, OneList, WholeInput, JoinedTextsSpell, JoinedAddsUp, RecordsOneByOne, ShortestTextSpells, NoTextIsShorter, TextSpellsOneList, SpelledAreNumbered};
+ghost use Rattle.wire_base.specs.RecordLaws.{PayloadIsField, OnePayload, OneSpelled, OneList, WholeInput, JoinedTextsSpell, JoinedAddsUp, RecordsOneByOne, ShortestTextSpells, NoTextIsShorter, TextSpellsOneList, SpelledAreNumbered, NumberedTogether};
 ghost use Rattle.wire_base.specs.FaultLaws.{NoPayloadBesideFault, NoListBesideFault, OnePayloadFault, OneListFault, PayloadOrFaultStands, ListOrFaultStands};
 ghost use Rattle.wire_base.specs.WriteLaws.{TwoParts, PutIsWrite, NoTextIsWritten};
 
@@ -179,6 +179,11 @@ pub fn text_spells_one_list()
 /// Records that a text spells have field numbers from 1 to `MAX_FIELD_NUMBER`, inside groups too.
 pub fn spelled_are_numbered()
     ensures { SpelledAreNumbered }
+{}
+
+/// A joined list has such field numbers exactly where both lists have.
+pub fn numbered_together()
+    ensures { NumberedTogether }
 {}
 
 /// Where the grammar names a fault, no payload within the limits stands behind the tag.

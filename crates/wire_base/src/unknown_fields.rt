@@ -54,6 +54,10 @@ impl Model for UnknownFields {
 
     ghost view = { λ s. fields_of s.fields.items };
 
+    ghost use Rattle.wire_base.specs.InRange.{AreFitting};
+
+    ghost invariant = { λ s. AreFitting (fields_of s.fields.items) };
+
     ghost use Rattle.wire_base.specs.Charge.{count};
 
     ghost size = { count };
@@ -68,6 +72,7 @@ impl UnknownFields {
     ghost use Rattle.std.specs.Fn.{CalledAt};
     ghost use Rattle.std.specs.List.Retain.{IsFiltered};
     ghost use Rattle.wire_base.specs.Filtered.{KeptBy};
+    ghost use Rattle.wire_base.specs.InRange.{AreFitting, AreNumbered};
     ghost use Rattle.wire_base.specs.UnknownFields.{payload_of, fields_of};
 
     /// No fields. Nothing is allocated before the first push.
@@ -98,6 +103,7 @@ impl UnknownFields {
         ensures err { OnErr result (self.new ≡ self.old) }
         ensures returned { IfErr result (λ given. given ≡ field) }
     {
+        field.value.numbers_fit();
         match self.fields.push(field) {
             Ok(()) => Ok(()),
             Err(refused) => Err(refused.value),
@@ -111,6 +117,14 @@ impl UnknownFields {
         self.fields.iter()
     }
 
+    /// The numbers and lengths of payloads fit their widths, since the types of Rust hold no others: a
+    /// theorem, which does nothing.
+    pub fn numbers_fit(&self)
+        ensures { AreFitting self.now }
+    {
+        let _fields = &self.fields;
+    }
+
     /// Takes all records out.
     pub fn clear(&mut self)
         ensures { self.new ≡ none }
@@ -121,9 +135,33 @@ impl UnknownFields {
     /// Keeps the records, in order, of which the test answers true. It is asked once of each.
     pub fn retain<F: Fn(&UnknownField) -> bool + Drop>(&mut self, test: F)
         requires { F.IsAlwaysCallable test }
-        ensures { KeptBy (IsFiltered (CalledAt F.FnMut) test) self.old self.new }
+        ensures kept { KeptBy (IsFiltered (CalledAt F.FnMut) test) self.old self.new }
+        ensures numbered { AreNumbered self.old → AreNumbered self.new }
     {
         self.fields.retain(test);
+    }
+}
+
+impl UnknownFieldData {
+    ghost use Rattle.wire_base.specs.InRange.{IsPayloadFitting};
+    ghost use Rattle.wire_base.specs.UnknownFields.{payload_of};
+
+    // As `numbers_fit` of `UnknownFields`, for one payload.
+    fn numbers_fit(&self)
+        ensures { IsPayloadFitting (payload_of self.now) }
+    {
+        match self {
+            UnknownFieldData::Varint(value) | UnknownFieldData::Fixed64(value) => {
+                let _value = *value;
+            }
+            UnknownFieldData::Fixed32(value) => {
+                let _value = *value;
+            }
+            UnknownFieldData::LengthDelimited(bytes) => {
+                let _len = bytes.len();
+            }
+            UnknownFieldData::Group(fields) => fields.numbers_fit(),
+        }
     }
 }
 

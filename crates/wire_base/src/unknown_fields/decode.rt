@@ -4,6 +4,7 @@ ghost use Rattle.wire_base.specs.declared.error.DecodeError.TheVariants.{OutOfMe
 ghost use Rattle.wire_base.specs.Charge.{charge, payload_charge};
 ghost use Rattle.wire_base.specs.Ending.{by_input, by_tag};
 ghost use Rattle.wire_base.specs.Field.{Fields};
+ghost use Rattle.wire_base.specs.InRange.{AreFitting, AreNumbered, IsPayloadFitting, IsPayloadNumbered};
 ghost use Rattle.wire_base.specs.Limits.{Fits, NoCountGrew, counted, left_after};
 ghost use Rattle.wire_base.specs.Refusal.{PayloadRefusal, ListRefusal};
 ghost use Rattle.wire_base.specs.Spells.{Spells};
@@ -26,6 +27,7 @@ impl UnknownFields {
     pub fn decode_from_slice(alloc: Global, bytes: &[u8]) -> Result<UnknownFields, DecodeError>
         ensures spelled { IfOk result (λ fs. Spells fs bytes.now) }
         ensures within { IfOk result (λ fs. Fits (charge fs) (counted 100 1000000)) }
+        ensures in_range { IfOk result (λ fs. AreFitting fs × AreNumbered fs) }
         ensures fault { IfErr result (ListRefusal (counted 100 1000000) by_input bytes.now) }
 
         // What the bytes spell within the limits is what is read, unless memory runs out.
@@ -45,6 +47,7 @@ impl UnknownFields {
     ) -> Result<UnknownFields, DecodeError>
         ensures spelled { IfOk result (λ fs. Spells fs bytes.now) }
         ensures within { IfOk result (λ fs. Fits (charge fs) context.old) }
+        ensures in_range { IfOk result (λ fs. AreFitting fs × AreNumbered fs) }
         ensures charged { IfOk result (λ fs. context.new ≡ left_after context.old (charge fs)) }
         ensures fault { IfErr result (ListRefusal context.old by_input bytes.now) }
         ensures counts { OnErr result (NoCountGrew context.old context.new) }
@@ -58,6 +61,7 @@ impl UnknownFields {
                 return Err(DecodeError::OutOfMemory);
             }
         }
+        fields.numbers_fit();
         Ok(fields)
     }
 }
@@ -73,6 +77,8 @@ pub fn decode_unknown_field<B: Buf>(
     context: &mut DecodeContext,
 ) -> Result<UnknownField, DecodeError>
     ensures number { IfOk result (λ field. field.number ≡ tag_number tag) }
+    ensures in_range { IfOk result (λ field.
+        IsPayloadFitting (payload_of field.value) × IsPayloadNumbered (payload_of field.value)) }
     ensures ok { IfOk result (λ field. TakesPayload (payload_charge (payload_of field.value))
         context.old (tag_number tag) (tag_type tag) (payload_of field.value)
         (B.unread buf.old) (B.unread buf.new)) }
@@ -84,6 +90,7 @@ pub fn decode_unknown_field<B: Buf>(
     ensures kept { B.kept buf.new ≡ B.kept buf.old }
 {
     let value = decode_value(alloc, tag, buf, context)?;
+    value.numbers_fit();
     Ok(UnknownField {
         number: tag.field_number(),
         value,

@@ -7,6 +7,7 @@ use Rattle.wire_base.specs.Fault.{bad_tag}
 use Rattle.wire_base.specs.Limits.{Limits, left_after}
 use Rattle.wire_base.specs.UnknownFields.{payload_of}
 use Rattle.wire_base.proofs.Decoded.{refused_tag, refused_payload, refused_push}
+use Rattle.wire_base.proofs.FieldLaws.{spelled_are_numbered_lemma}
 use Rattle.wire_base.proofs.ListLaws.{some_left}
 use Rattle.wire_base.proofs.Results.{at_ok}
 use Rattle.wire_base.proofs.Takes.{takes_field, left_after-push}
@@ -37,3 +38,7 @@ loop-buf-preserved c =
       so_far = takes_field _ _ _ _ _ _ _ _ _ loop.so_far c.in_ok-tag.ensures.ok (rw loop.context at read.ok);
       context = read.charged ∙ ap (λ (l : Limits). left_after l (payload_charge (payload_of c.in_ok-field.field.value))) loop.context ∙ left_after-push _ c.loop-buf.fields _ _;
     })
+
+pub returns-clause-in_range : goal.returns-clause-in_range
+returns-clause-in_range c =
+    (c.numbers_fit.ensures, spelled_are_numbered_lemma c.loop-buf.fields _ c.loop-buf.invariant.so_far.read.spelled)

@@ -13,3 +13,7 @@ pub UnknownFieldsClone::clone-returns : goal.UnknownFieldsClone::clone-returns
 UnknownFieldsClone::clone-returns t c = record {
   cases = sym (joined-none _) ∙ ap (joined (fields_of c.loop-field.fields.items)) (sym (fields_of-end _ _ c.loop-field-test.false)) ∙ c.loop-field.invariant;
 }
+
+pub UnknownFieldsClone::clone-invariant_of-result : goal.UnknownFieldsClone::clone-invariant_of-result
+UnknownFieldsClone::clone-invariant_of-result t c =
+    rw (sym (joined-none _) ∙ ap (joined (fields_of c.loop-field.fields.items)) (sym (fields_of-end _ _ c.loop-field-test.false)) ∙ c.loop-field.invariant ∙ sym c.self.view_is) c.self.invariant

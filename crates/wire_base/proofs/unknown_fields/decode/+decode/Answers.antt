@@ -7,6 +7,7 @@ use Rattle.wire_base.specs.Limits.{Limits, inner, left_after}
 use Rattle.wire_base.specs.UnknownFields.{payload_of}
 use Rattle.wire_base.proofs.Decoded.{no_memory_for_bytes, refused_in_group, refused_tag, refused_payload, refused_push}
 use Rattle.wire_base.proofs.DelimitedLaws.{delimited_at}
+use Rattle.wire_base.proofs.FieldLaws.{payload_numbered}
 use Rattle.wire_base.proofs.LimitsLaws.{NoCountGrew-after}
 use Rattle.wire_base.proofs.Payloads.{takes_delimited, takes_group, takes_until}
 use Rattle.wire_base.proofs.Results.{at_ok, at_none}
@@ -92,6 +93,10 @@ decode_value-returns-in_ok-fields-in-StartGroup-clause-ok g t c =
 pub decode_value-returns-in-EndGroup-clause-fault : goal.decode_value-returns-in-EndGroup-clause-fault
 decode_value-returns-in-EndGroup-clause-fault g t c =
     rw (sym c.wire_type.ensures ∙ c.in-EndGroup.is) (inl (end_outside c.in_ok-register_unknown_field.ensures.taken))
+
+pub decode_unknown_field-returns-clause-in_range : goal.decode_unknown_field-returns-clause-in_range
+decode_unknown_field-returns-clause-in_range g t c =
+    (c.numbers_fit.ensures, payload_numbered _ _ _ c.in_ok-value.ensures.ok.read.spelled.spelled)
 
 -- ---- the body of a group
 
