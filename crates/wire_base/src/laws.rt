@@ -1,5 +1,5 @@
 //! Laws of the definitions that the contracts cite: each function is a theorem, and does nothing.
-ghost use Rattle.wire_base.specs.Laws.{ShortestReadsBack, NoSpellingBeginsAnother, OneVarint, NoVarintBesideFault, OneVarintFault, VarintOrFaultStands, NoSpellingIsShorter, TagTextReadsBack, OneTag, NoTagBesideFault, OneTagFault, TagOrFaultStands, NoTagTextIsShorter, PayloadIsField, OnePayload, OneList, OneBody, ShortestTextSpells, NoTextIsShorter, JoinedTextsSpell, JoinedAddsUp, NoPayloadBesideFault, NoListBesideFault, NoBodyBesideFault, OnePayloadFault, OneListFault, PayloadOrFaultStands, ListOrFaultStands, BodyOrFaultStands, TextSpellsOneList, RecordsOneByOne, TwoParts, PutIsWrite, NoTextIsWritten};
+ghost use Rattle.wire_base.specs.Laws.{ShortestReadsBack, NoSpellingBeginsAnother, OneVarint, NoVarintBesideFault, OneVarintFault, VarintOrFaultStands, NoSpellingIsShorter, TagTextReadsBack, OneTag, NoTagBesideFault, OneTagFault, TagOrFaultStands, NoTagTextIsShorter, PayloadIsField, OnePayload, OneList, OneBody, ShortestTextSpells, NoTextIsShorter, JoinedTextsSpell, JoinedAddsUp, NoPayloadBesideFault, NoListBesideFault, NoBodyBesideFault, OnePayloadFault, OneListFault, PayloadOrFaultStands, ListOrFaultStands, BodyOrFaultStands, TextSpellsOneList, RecordsOneByOne, TwoParts, PutIsWrite};
 
 /// The shortest varint of a number reads back as that number, whatever follows it.
 pub fn shortest_reads_back()
@@ -165,9 +165,4 @@ pub fn two_parts()
 /// A put is a write of its bytes.
 pub fn put_is_a_write()
     ensures { PutIsWrite }
-{}
-
-/// Where there is nothing to write, it is written.
-pub fn no_text_is_written()
-    ensures { NoTextIsWritten }
 {}
