@@ -22,9 +22,12 @@ pub(crate) fn decode_as<T: VarintScalar, B: Buf>(buf: &mut B) -> Result<T::Value
 
 /// Writes an `int32` as its shortest varint, a negative one as the 64 bits of its two's complement, in ten bytes.
 pub fn encode_int32<S: EncodeSink>(value: i32, sink: &mut S) -> Result<(), EncodeError>
-    ensures ok { OnOk result (S.bytes_of sink.new ≡ S.bytes_of sink.old ++ shortest_varint (int32.enc value)) }
-    ensures err { OnErr result (KeepsFront (S.bytes_of sink.old) (shortest_varint (int32.enc value)) (S.bytes_of sink.new)) }
-    ensures cause { WriteAnswers S.most (S.bytes_of sink.old) (shortest_varint (int32.enc value)) result }
+    ensures ok { OnOk result (S.bytes_of sink.new
+        ≡ S.bytes_of sink.old ++ shortest_varint (int32.enc value)) }
+    ensures err { OnErr result (KeepsFront (S.bytes_of sink.old)
+        (shortest_varint (int32.enc value)) (S.bytes_of sink.new)) }
+    ensures cause { WriteAnswers S.most (S.bytes_of sink.old)
+        (shortest_varint (int32.enc value)) result }
 {
     encode_varint(Int32::number_of(value), sink)
 }
@@ -54,9 +57,12 @@ pub fn int32_encoded_len(value: i32) -> usize
 
 /// Writes an `int64` as its shortest varint, a negative one as the 64 bits of its two's complement, in ten bytes.
 pub fn encode_int64<S: EncodeSink>(value: i64, sink: &mut S) -> Result<(), EncodeError>
-    ensures ok { OnOk result (S.bytes_of sink.new ≡ S.bytes_of sink.old ++ shortest_varint (int64.enc value)) }
-    ensures err { OnErr result (KeepsFront (S.bytes_of sink.old) (shortest_varint (int64.enc value)) (S.bytes_of sink.new)) }
-    ensures cause { WriteAnswers S.most (S.bytes_of sink.old) (shortest_varint (int64.enc value)) result }
+    ensures ok { OnOk result (S.bytes_of sink.new
+        ≡ S.bytes_of sink.old ++ shortest_varint (int64.enc value)) }
+    ensures err { OnErr result (KeepsFront (S.bytes_of sink.old)
+        (shortest_varint (int64.enc value)) (S.bytes_of sink.new)) }
+    ensures cause { WriteAnswers S.most (S.bytes_of sink.old)
+        (shortest_varint (int64.enc value)) result }
 {
     encode_varint(Int64::number_of(value), sink)
 }
@@ -86,9 +92,12 @@ pub fn int64_encoded_len(value: i64) -> usize
 
 /// Writes an `uint32` as its shortest varint.
 pub fn encode_uint32<S: EncodeSink>(value: u32, sink: &mut S) -> Result<(), EncodeError>
-    ensures ok { OnOk result (S.bytes_of sink.new ≡ S.bytes_of sink.old ++ shortest_varint (uint32.enc value)) }
-    ensures err { OnErr result (KeepsFront (S.bytes_of sink.old) (shortest_varint (uint32.enc value)) (S.bytes_of sink.new)) }
-    ensures cause { WriteAnswers S.most (S.bytes_of sink.old) (shortest_varint (uint32.enc value)) result }
+    ensures ok { OnOk result (S.bytes_of sink.new
+        ≡ S.bytes_of sink.old ++ shortest_varint (uint32.enc value)) }
+    ensures err { OnErr result (KeepsFront (S.bytes_of sink.old)
+        (shortest_varint (uint32.enc value)) (S.bytes_of sink.new)) }
+    ensures cause { WriteAnswers S.most (S.bytes_of sink.old)
+        (shortest_varint (uint32.enc value)) result }
 {
     encode_varint(Uint32::number_of(value), sink)
 }
@@ -118,9 +127,12 @@ pub fn uint32_encoded_len(value: u32) -> usize
 
 /// Writes an `uint64` as its shortest varint.
 pub fn encode_uint64<S: EncodeSink>(value: u64, sink: &mut S) -> Result<(), EncodeError>
-    ensures ok { OnOk result (S.bytes_of sink.new ≡ S.bytes_of sink.old ++ shortest_varint (uint64.enc value)) }
-    ensures err { OnErr result (KeepsFront (S.bytes_of sink.old) (shortest_varint (uint64.enc value)) (S.bytes_of sink.new)) }
-    ensures cause { WriteAnswers S.most (S.bytes_of sink.old) (shortest_varint (uint64.enc value)) result }
+    ensures ok { OnOk result (S.bytes_of sink.new
+        ≡ S.bytes_of sink.old ++ shortest_varint (uint64.enc value)) }
+    ensures err { OnErr result (KeepsFront (S.bytes_of sink.old)
+        (shortest_varint (uint64.enc value)) (S.bytes_of sink.new)) }
+    ensures cause { WriteAnswers S.most (S.bytes_of sink.old)
+        (shortest_varint (uint64.enc value)) result }
 {
     encode_varint(Uint64::number_of(value), sink)
 }
@@ -150,9 +162,12 @@ pub fn uint64_encoded_len(value: u64) -> usize
 
 /// Writes a `sint32` as its shortest varint, in zigzag order, in which numbers near zero are short.
 pub fn encode_sint32<S: EncodeSink>(value: i32, sink: &mut S) -> Result<(), EncodeError>
-    ensures ok { OnOk result (S.bytes_of sink.new ≡ S.bytes_of sink.old ++ shortest_varint (sint32.enc value)) }
-    ensures err { OnErr result (KeepsFront (S.bytes_of sink.old) (shortest_varint (sint32.enc value)) (S.bytes_of sink.new)) }
-    ensures cause { WriteAnswers S.most (S.bytes_of sink.old) (shortest_varint (sint32.enc value)) result }
+    ensures ok { OnOk result (S.bytes_of sink.new
+        ≡ S.bytes_of sink.old ++ shortest_varint (sint32.enc value)) }
+    ensures err { OnErr result (KeepsFront (S.bytes_of sink.old)
+        (shortest_varint (sint32.enc value)) (S.bytes_of sink.new)) }
+    ensures cause { WriteAnswers S.most (S.bytes_of sink.old)
+        (shortest_varint (sint32.enc value)) result }
 {
     encode_varint(Sint32::number_of(value), sink)
 }
@@ -182,9 +197,12 @@ pub fn sint32_encoded_len(value: i32) -> usize
 
 /// Writes a `sint64` as its shortest varint, in zigzag order, in which numbers near zero are short.
 pub fn encode_sint64<S: EncodeSink>(value: i64, sink: &mut S) -> Result<(), EncodeError>
-    ensures ok { OnOk result (S.bytes_of sink.new ≡ S.bytes_of sink.old ++ shortest_varint (sint64.enc value)) }
-    ensures err { OnErr result (KeepsFront (S.bytes_of sink.old) (shortest_varint (sint64.enc value)) (S.bytes_of sink.new)) }
-    ensures cause { WriteAnswers S.most (S.bytes_of sink.old) (shortest_varint (sint64.enc value)) result }
+    ensures ok { OnOk result (S.bytes_of sink.new
+        ≡ S.bytes_of sink.old ++ shortest_varint (sint64.enc value)) }
+    ensures err { OnErr result (KeepsFront (S.bytes_of sink.old)
+        (shortest_varint (sint64.enc value)) (S.bytes_of sink.new)) }
+    ensures cause { WriteAnswers S.most (S.bytes_of sink.old)
+        (shortest_varint (sint64.enc value)) result }
 {
     encode_varint(Sint64::number_of(value), sink)
 }
@@ -214,9 +232,12 @@ pub fn sint64_encoded_len(value: i64) -> usize
 
 /// Writes a `bool` as one byte, 00 or 01.
 pub fn encode_bool<S: EncodeSink>(value: bool, sink: &mut S) -> Result<(), EncodeError>
-    ensures ok { OnOk result (S.bytes_of sink.new ≡ S.bytes_of sink.old ++ shortest_varint (bool.enc value)) }
-    ensures err { OnErr result (KeepsFront (S.bytes_of sink.old) (shortest_varint (bool.enc value)) (S.bytes_of sink.new)) }
-    ensures cause { WriteAnswers S.most (S.bytes_of sink.old) (shortest_varint (bool.enc value)) result }
+    ensures ok { OnOk result (S.bytes_of sink.new
+        ≡ S.bytes_of sink.old ++ shortest_varint (bool.enc value)) }
+    ensures err { OnErr result (KeepsFront (S.bytes_of sink.old)
+        (shortest_varint (bool.enc value)) (S.bytes_of sink.new)) }
+    ensures cause { WriteAnswers S.most (S.bytes_of sink.old)
+        (shortest_varint (bool.enc value)) result }
 {
     encode_varint(Bool::number_of(value), sink)
 }
