@@ -25,9 +25,11 @@ pub fn encode_fixed32<S: EncodeSink>(value: u32, sink: &mut S) -> Result<(), Enc
 
 /// Reads a `fixed32`. The buffer stays as it was where fewer bytes are left.
 pub fn decode_fixed32<B: Buf>(buf: &mut B) -> Result<u32, DecodeError>
-    ensures ok { IfOk result (λ value. ReadsValue (IsFixed w32) fixed32 (B.unread buf.old) value (B.unread buf.new)) }
+    ensures ok { IfOk result (λ value.
+        ReadsValue (IsFixed w32) fixed32 (B.unread buf.old) value (B.unread buf.new)) }
     ensures short { IfErr result (λ e. (e ≡ UnexpectedEof) × (length (B.unread buf.old) < 4)) }
     ensures unchanged { OnErr result (B.unread buf.new ≡ B.unread buf.old) }
+    ensures kept { B.kept buf.new ≡ B.kept buf.old }
 {
     if buf.remaining() < FIXED32_ENCODED_LEN {
         return Err(DecodeError::UnexpectedEof);
@@ -45,9 +47,11 @@ pub fn encode_fixed64<S: EncodeSink>(value: u64, sink: &mut S) -> Result<(), Enc
 
 /// Reads a `fixed64`. The buffer stays as it was where fewer bytes are left.
 pub fn decode_fixed64<B: Buf>(buf: &mut B) -> Result<u64, DecodeError>
-    ensures ok { IfOk result (λ value. ReadsValue (IsFixed w64) fixed64 (B.unread buf.old) value (B.unread buf.new)) }
+    ensures ok { IfOk result (λ value.
+        ReadsValue (IsFixed w64) fixed64 (B.unread buf.old) value (B.unread buf.new)) }
     ensures short { IfErr result (λ e. (e ≡ UnexpectedEof) × (length (B.unread buf.old) < 8)) }
     ensures unchanged { OnErr result (B.unread buf.new ≡ B.unread buf.old) }
+    ensures kept { B.kept buf.new ≡ B.kept buf.old }
 {
     if buf.remaining() < FIXED64_ENCODED_LEN {
         return Err(DecodeError::UnexpectedEof);
@@ -65,9 +69,11 @@ pub fn encode_sfixed32<S: EncodeSink>(value: i32, sink: &mut S) -> Result<(), En
 
 /// Reads a `sfixed32`. The buffer stays as it was where fewer bytes are left.
 pub fn decode_sfixed32<B: Buf>(buf: &mut B) -> Result<i32, DecodeError>
-    ensures ok { IfOk result (λ value. ReadsValue (IsFixed w32) sfixed32 (B.unread buf.old) value (B.unread buf.new)) }
+    ensures ok { IfOk result (λ value.
+        ReadsValue (IsFixed w32) sfixed32 (B.unread buf.old) value (B.unread buf.new)) }
     ensures short { IfErr result (λ e. (e ≡ UnexpectedEof) × (length (B.unread buf.old) < 4)) }
     ensures unchanged { OnErr result (B.unread buf.new ≡ B.unread buf.old) }
+    ensures kept { B.kept buf.new ≡ B.kept buf.old }
 {
     Ok(decode_fixed32(buf)?.cast_signed())
 }
@@ -82,9 +88,11 @@ pub fn encode_sfixed64<S: EncodeSink>(value: i64, sink: &mut S) -> Result<(), En
 
 /// Reads a `sfixed64`. The buffer stays as it was where fewer bytes are left.
 pub fn decode_sfixed64<B: Buf>(buf: &mut B) -> Result<i64, DecodeError>
-    ensures ok { IfOk result (λ value. ReadsValue (IsFixed w64) sfixed64 (B.unread buf.old) value (B.unread buf.new)) }
+    ensures ok { IfOk result (λ value.
+        ReadsValue (IsFixed w64) sfixed64 (B.unread buf.old) value (B.unread buf.new)) }
     ensures short { IfErr result (λ e. (e ≡ UnexpectedEof) × (length (B.unread buf.old) < 8)) }
     ensures unchanged { OnErr result (B.unread buf.new ≡ B.unread buf.old) }
+    ensures kept { B.kept buf.new ≡ B.kept buf.old }
 {
     Ok(decode_fixed64(buf)?.cast_signed())
 }
@@ -103,8 +111,10 @@ pub(crate) trait FixedScalar {
     const LEN: usize;
 
     fn decode(buf: &mut &[u8]) -> Result<Self::Value, DecodeError>
-        ensures ok { IfOk result (λ value. ReadsValue (IsFixed width) map buf.old.now value buf.new.now) }
-        ensures short { IfErr result (λ e. (e ≡ UnexpectedEof) × (length buf.old.now < byte_len width)) };
+        ensures ok { IfOk result (λ value.
+            ReadsValue (IsFixed width) map buf.old.now value buf.new.now) }
+        ensures short { IfErr result (λ e.
+            (e ≡ UnexpectedEof) × (length buf.old.now < byte_len width)) };
 
     ghost len_is: { LEN ≡ byte_len width };
 }
