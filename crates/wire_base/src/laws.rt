@@ -4,7 +4,7 @@ ghost use Rattle.wire_base.specs.TagLaws.{TagTextReadsBack, OneTag, NoTagBesideF
 ghost use Rattle.wire_base.specs.LimitsLaws.{ChargesAddUp, LimitsAddUp, LevelsAddUp, CountsFall};
 ghost use Rattle.wire_base.specs.RecordLaws.{PayloadIsField, OnePayload, OneSpelled, OneList, WholeInput, JoinedTextsSpell, JoinedAddsUp, RecordsOneByOne, ShortestTextSpells, NoTextIsShorter, TextSpellsOneList, SpelledAreNumbered, NumberedTogether};
 ghost use Rattle.wire_base.specs.FaultLaws.{NoPayloadBesideFault, NoListBesideFault, OnePayloadFault, OneListFault, PayloadOrFaultStands, ListOrFaultStands};
-ghost use Rattle.wire_base.specs.WriteLaws.{TwoParts, PutIsWrite, NoTextIsWritten};
+ghost use Rattle.wire_base.specs.WriteLaws.{TwoParts, PutIsWrite};
 
 /// The shortest varint of a number reads back as that number, whatever follows it.
 pub fn shortest_reads_back()
@@ -224,9 +224,4 @@ pub fn two_parts()
 /// A put is a write of its bytes.
 pub fn put_is_a_write()
     ensures { PutIsWrite }
-{}
-
-/// Where there is nothing to write, it is written.
-pub fn no_text_is_written()
-    ensures { NoTextIsWritten }
 {}

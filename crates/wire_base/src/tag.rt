@@ -1,5 +1,5 @@
 //! Tags: the field number and the wire type of a record.
-ghost use Rattle.std.specs.Prelude.{◌≡◌, ◌≢◌, ◌++◌, ◌+◌, ◌-◌, ◌^◌, ◌<◌, ◌≤◌, ◌*◌, length, IfOk, IfErr, IfSome, IfNone};
+ghost use Rattle.std.specs.Prelude.{◌≡◌, ◌≢◌, ◌++◌, ◌+◌, ◌-◌, ◌^◌, ◌<◌, ◌≤◌, ◌*◌, length, OnOk, OnErr, IfOk, IfErr, IfSome, IfNone};
 ghost use Rattle.wire_base.specs.FieldNumber.{IsFieldNumber};
 
 use crate::encode_sink::EncodeSink;
@@ -67,7 +67,7 @@ impl Tag {
     ghost use Rattle.wire_base.specs.Ending.{by_tag, Ends};
     ghost use Rattle.wire_base.specs.Fault.{NextTagFault};
     ghost use Rattle.wire_base.specs.Read.{Reads};
-    ghost use Rattle.wire_base.specs.Sink.{Writes};
+    ghost use Rattle.wire_base.specs.Sink.{KeepsFront, WriteAnswers};
     ghost use Rattle.wire_base.specs.Tag.{IsTagSpelling, TagFault, tag_text};
     ghost use Rattle.wire_base.specs.TagView.{tag_number, tag_type};
 
@@ -98,8 +98,12 @@ impl Tag {
 
     /// Writes the shortest text of the tag.
     pub fn encode<S: EncodeSink>(&self, sink: &mut S) -> Result<(), EncodeError>
-        ensures { Writes S.most (tag_text (tag_number self.now) (tag_type self.now))
-            (S.bytes_of sink.old) (S.bytes_of sink.new) result }
+        ensures ok { OnOk result (S.bytes_of sink.new
+            ≡ S.bytes_of sink.old ++ tag_text (tag_number self.now) (tag_type self.now)) }
+        ensures err { OnErr result (KeepsFront (S.bytes_of sink.old)
+            (tag_text (tag_number self.now) (tag_type self.now)) (S.bytes_of sink.new)) }
+        ensures cause { WriteAnswers S.most (S.bytes_of sink.old)
+            (tag_text (tag_number self.now) (tag_type self.now)) result }
     {
         put_tag(self.field_number, self.wire_type, sink)
     }

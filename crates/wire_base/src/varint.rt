@@ -2,7 +2,7 @@
 ghost use Rattle.std.specs.Prelude.{◌≡◌, [], ◌∷◌, ◌++◌, length, count_by, nat_lt, OnOk, OnErr, IfOk, IfErr};
 ghost use Rattle.wire_base.specs.declared.error.DecodeError.TheVariants.{UnexpectedEof};
 ghost use Rattle.wire_base.specs.Read.{Reads};
-ghost use Rattle.wire_base.specs.Sink.{Writes};
+ghost use Rattle.wire_base.specs.Sink.{KeepsFront, WriteAnswers};
 ghost use Rattle.wire_base.specs.Varint.{IsSpelling, VarintFault, shortest_varint};
 
 use crate::encode_sink::EncodeSink;
@@ -18,7 +18,10 @@ pub fn varint_len(value: u64) -> usize
 
 /// Writes the shortest varint of a number.
 pub fn encode_varint<S: EncodeSink>(value: u64, sink: &mut S) -> Result<(), EncodeError>
-    ensures { Writes S.most (shortest_varint value) (S.bytes_of sink.old) (S.bytes_of sink.new) result }
+    ensures ok { OnOk result (S.bytes_of sink.new ≡ S.bytes_of sink.old ++ shortest_varint value) }
+    ensures err { OnErr result (KeepsFront (S.bytes_of sink.old)
+        (shortest_varint value) (S.bytes_of sink.new)) }
+    ensures cause { WriteAnswers S.most (S.bytes_of sink.old) (shortest_varint value) result }
 {
     let mut rest = value;
     while rest >= 0x80 {

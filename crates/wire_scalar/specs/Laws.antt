@@ -2,8 +2,9 @@
 use Rattle.std.specs.Prelude.{◌≡◌, ◌⊎◌, ℕ, ◌*◌, List, ◌++◌, length, count_by, nat_lt}
 use Rattle.std.specs.Int.{Width, byte_len}
 use Rattle.wire_base.specs.declared.error.DecodeError.{DecodeError}
+use Rattle.wire_base.specs.Varint.{IsSpelling}
 use Rattle.wire_scalar.specs.Packed.{SpellsEach, BreaksOff}
-use Rattle.wire_scalar.specs.Reading.{IsFixed, IsVarint, ReadsValue}
+use Rattle.wire_scalar.specs.Reading.{IsFixed, ReadsValue}
 use Rattle.wire_scalar.specs.ValueMap.{ValueMap}
 
 -- what is read from the number that is written for a value is that value
@@ -16,7 +17,7 @@ TextReadsBack IsText text map InRange = (value : _) (rest : List ℕ) → InRang
 
 -- a payload of varints has as many elements as bytes below 128
 abbrev pub VarintsAreCounted : Type 0
-VarintsAreCounted = (numbers text : List ℕ) → SpellsEach IsVarint numbers text → count_by (λ byte. nat_lt byte 128) text ≡ length numbers
+VarintsAreCounted = (numbers text : List ℕ) → SpellsEach IsSpelling numbers text → count_by (λ byte. nat_lt byte 128) text ≡ length numbers
 
 -- a payload of elements of a fixed width has the width's bytes for each
 abbrev pub FixedAreMultiples : Type 0
@@ -25,16 +26,16 @@ FixedAreMultiples = (width : Width) (numbers text : List ℕ) → SpellsEach (Is
 -- ---- packed varints
 
 abbrev pub OnePackedList : Type 0
-OnePackedList = (numbers others text : List ℕ) → SpellsEach IsVarint numbers text → SpellsEach IsVarint others text → numbers ≡ others
+OnePackedList = (numbers others text : List ℕ) → SpellsEach IsSpelling numbers text → SpellsEach IsSpelling others text → numbers ≡ others
 
 abbrev pub NoPackedListBesideFault : Type 0
-NoPackedListBesideFault = (numbers others text : List ℕ) (e : DecodeError) → SpellsEach IsVarint numbers text → BreaksOff others text e → ⊥
+NoPackedListBesideFault = (numbers others text : List ℕ) (e : DecodeError) → SpellsEach IsSpelling numbers text → BreaksOff others text e → ⊥
 
 abbrev pub OnePackedFault : Type 0
 OnePackedFault = (numbers others text : List ℕ) (e f : DecodeError) → BreaksOff numbers text e → BreaksOff others text f → (numbers ≡ others) × (e ≡ f)
 
 abbrev pub PackedListOrFault : List ℕ → Type 0
-PackedListOrFault text = ((numbers : List ℕ) × SpellsEach IsVarint numbers text) ⊎ ((numbers : List ℕ) × (e : DecodeError) × BreaksOff numbers text e)
+PackedListOrFault text = ((numbers : List ℕ) × SpellsEach IsSpelling numbers text) ⊎ ((numbers : List ℕ) × (e : DecodeError) × BreaksOff numbers text e)
 
 abbrev pub PackedListOrFaultStands : Type 0
 PackedListOrFaultStands = (text : List ℕ) → PackedListOrFault text

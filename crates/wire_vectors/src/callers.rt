@@ -9,9 +9,8 @@ ghost use Rattle.wire_base.specs.FieldNumber.{IsFieldNumber};
 ghost use Rattle.wire_base.specs.Limits.{uncounted};
 ghost use Rattle.wire_base.specs.Tag.{TagFault};
 ghost use Rattle.wire_base.specs.Text.{record_text};
-ghost use Rattle.wire_base.specs.Varint.{shortest_varint};
+ghost use Rattle.wire_base.specs.Varint.{IsSpelling, shortest_varint};
 ghost use Rattle.wire_scalar.specs.Packed.{Appends};
-ghost use Rattle.wire_scalar.specs.Reading.{IsVarint};
 ghost use Rattle.wire_scalar.specs.ValueMap.{int32, sint64};
 
 use bytes::Buf;
@@ -55,10 +54,10 @@ pub fn put_balance<S: EncodeSink>(balance: i64, sink: &mut S) -> Result<(), Enco
 
 /// The scores of a packed list, or why it is none.
 pub fn scores_of(alloc: Global, payload: &[u8]) -> Result<Vec<i32>, DecodeError>
-    ensures ok { IfOk result (λ scores. Appends IsVarint int32 payload.now [] scores.items) }
+    ensures ok { IfOk result (λ scores. Appends IsSpelling int32 payload.now [] scores.items) }
 {
     let mut scores = Vec::new(alloc);
-    extend_packed_int32(payload, &mut scores, count_varints(payload))?;
+    extend_packed_int32(alloc, payload, &mut scores, count_varints(payload))?;
     Ok(scores)
 }
 

@@ -1,5 +1,5 @@
-ghost use Rattle.std.specs.Prelude.{◌≡◌, ◌+◌, ◌*◌, ◌++◌, length};
-ghost use Rattle.wire_base.specs.Sink.{Writes};
+ghost use Rattle.std.specs.Prelude.{◌≡◌, ◌+◌, ◌*◌, ◌++◌, length, OnOk, OnErr};
+ghost use Rattle.wire_base.specs.Sink.{KeepsFront, WriteAnswers};
 ghost use Rattle.wire_base.specs.Tag.{wire_number, tag_text};
 
 use super::WireType;
@@ -13,8 +13,11 @@ pub(crate) fn put_tag<S: EncodeSink>(
     wire_type: WireType,
     sink: &mut S,
 ) -> Result<(), EncodeError>
-    ensures { Writes S.most (tag_text number wire_type)
-        (S.bytes_of sink.old) (S.bytes_of sink.new) result }
+    ensures ok { OnOk result (S.bytes_of sink.new
+        ≡ S.bytes_of sink.old ++ tag_text number wire_type) }
+    ensures err { OnErr result (KeepsFront (S.bytes_of sink.old)
+        (tag_text number wire_type) (S.bytes_of sink.new)) }
+    ensures cause { WriteAnswers S.most (S.bytes_of sink.old) (tag_text number wire_type) result }
 {
     encode_varint(8 * u64::from(number) + low_bits(wire_type), sink)
 }

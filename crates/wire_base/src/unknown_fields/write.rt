@@ -1,6 +1,6 @@
 //! Unknown fields as bytes.
-ghost use Rattle.std.specs.Prelude.{◌≡◌};
-ghost use Rattle.wire_base.specs.Sink.{Writes};
+ghost use Rattle.std.specs.Prelude.{◌≡◌, ◌++◌, OnOk, OnErr};
+ghost use Rattle.wire_base.specs.Sink.{KeepsFront, WriteAnswers};
 ghost use Rattle.wire_base.specs.Field.{type_of};
 ghost use Rattle.wire_base.specs.Text.{text_of, payload_text, record_text};
 ghost use Rattle.wire_base.specs.UnknownFields.{payload_of};
@@ -15,8 +15,10 @@ impl UnknownFields {
     /// Writes the shortest text of the records. Padding that they came with is gone.
     #[cycle(write)]
     pub fn write_to<S: EncodeSink>(&self, sink: &mut S) -> Result<(), EncodeError>
-        ensures { Writes S.most (text_of self.now)
-            (S.bytes_of sink.old) (S.bytes_of sink.new) result }
+        ensures ok { OnOk result (S.bytes_of sink.new ≡ S.bytes_of sink.old ++ text_of self.now) }
+        ensures err { OnErr result (KeepsFront (S.bytes_of sink.old)
+            (text_of self.now) (S.bytes_of sink.new)) }
+        ensures cause { WriteAnswers S.most (S.bytes_of sink.old) (text_of self.now) result }
     {
         for field in &self.fields {
             field.write_to(sink)?;
@@ -29,8 +31,12 @@ impl UnknownField {
     /// Writes the shortest text of the record. Its number may be one that decoding refuses.
     #[cycle(write)]
     pub fn write_to<S: EncodeSink>(&self, sink: &mut S) -> Result<(), EncodeError>
-        ensures { Writes S.most (record_text self.now.number (payload_of self.now.value))
-            (S.bytes_of sink.old) (S.bytes_of sink.new) result }
+        ensures ok { OnOk result (S.bytes_of sink.new
+            ≡ S.bytes_of sink.old ++ record_text self.now.number (payload_of self.now.value)) }
+        ensures err { OnErr result (KeepsFront (S.bytes_of sink.old)
+            (record_text self.now.number (payload_of self.now.value)) (S.bytes_of sink.new)) }
+        ensures cause { WriteAnswers S.most (S.bytes_of sink.old)
+            (record_text self.now.number (payload_of self.now.value)) result }
     {
         put_tag(self.number, self.value.wire_type(), sink)?;
         self.value.write_to(self.number, sink)
@@ -54,8 +60,12 @@ impl UnknownFieldData {
     // Writes the shortest text of the payload of a record with this number.
     #[cycle(write)]
     fn write_to<S: EncodeSink>(&self, number: u32, sink: &mut S) -> Result<(), EncodeError>
-        ensures { Writes S.most (payload_text number (payload_of self.now))
-            (S.bytes_of sink.old) (S.bytes_of sink.new) result }
+        ensures ok { OnOk result (S.bytes_of sink.new
+            ≡ S.bytes_of sink.old ++ payload_text number (payload_of self.now)) }
+        ensures err { OnErr result (KeepsFront (S.bytes_of sink.old)
+            (payload_text number (payload_of self.now)) (S.bytes_of sink.new)) }
+        ensures cause { WriteAnswers S.most (S.bytes_of sink.old)
+            (payload_text number (payload_of self.now)) result }
     {
         match self {
             UnknownFieldData::Varint(value) => encode_varint(*value, sink),
