@@ -2,7 +2,7 @@
 ghost use Rattle.std.specs.Prelude.{◌≡◌, ◌<◌, ◌≤◌, true, false, [], length, take, drop, OnOk, OnErr, IfOk, IfErr};
 ghost use Rattle.std.specs.Vec.{vec_capacity};
 ghost use Rattle.wire_base.specs.declared.error.DecodeError.TheVariants.{UnexpectedEof};
-ghost use Rattle.wire_base.specs.Delimited.{DelimitedFault};
+ghost use Rattle.wire_base.specs.Delimited.{IsDelimited, DelimitedFault};
 ghost use Rattle.wire_base.specs.Limits.{HasRoom};
 ghost use Rattle.wire_base.specs.Read.{Reads};
 ghost use Rattle.wire_base.specs.Varint.{IsSpelling};
@@ -18,6 +18,8 @@ pub fn decode_length<B: Buf>(buf: &mut B, max: Option<usize>) -> Result<usize, D
     ensures ok { IfOk result (λ len. Reads (B.unread buf.old) (IsSpelling len) (B.unread buf.new)) }
     ensures within { IfOk result (λ len. HasRoom max len) }
     ensures there { IfOk result (λ len. len ≤ length (B.unread buf.new)) }
+    ensures payload { IfOk result (λ len. Reads (B.unread buf.old)
+        (IsDelimited (take len (B.unread buf.new))) (drop len (B.unread buf.new))) }
     ensures fault { IfErr result (DelimitedFault max (B.unread buf.old)) }
     ensures kept { B.kept buf.new ≡ B.kept buf.old }
 {

@@ -1,3 +1,4 @@
+pub mod Borrowing
 pub mod Counting
 pub mod FixedTexts
 pub mod PackedLaws

@@ -2,7 +2,7 @@
 use Rattle.std.proofs.Common.{◌≡◌, ◌≢◌, ◌⊎◌, inl, inr, ℕ, zero, suc, ◌≤◌, List, [], ◌∷◌, ◌++◌, length, refl, sym, ap, subst, ◌∙◌, append_assoc, arith}
 use Rattle.std.proofs.lemmas.List.{length-append}
 use Rattle.wire_base.specs.declared.error.DecodeError.{DecodeError}
-use Rattle.wire_base.specs.Laws.{OneVarint, NoVarintBesideFault, OneVarintFault, VarintOrFaultStands}
+use Rattle.wire_base.specs.VarintLaws.{OneVarint, NoVarintBesideFault, OneVarintFault, VarintOrFaultStands}
 use Rattle.wire_base.specs.Read.{Reads}
 use Rattle.wire_base.specs.Varint.{IsEnded, IsSpelling, VarintFault}
 use Rattle.wire_scalar.specs.Laws.{OnePackedList, NoPackedListBesideFault, OnePackedFault, PackedListOrFault, PackedListOrFaultStands}

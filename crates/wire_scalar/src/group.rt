@@ -1,10 +1,11 @@
 //! Groups that are not copied.
 ghost use Rattle.std.specs.Prelude.{◌≡◌, OnErr, IfOk, IfErr};
-ghost use Rattle.wire_base.specs.Fault.{ListFault, by_tag};
+ghost use Rattle.wire_base.specs.Ending.{by_tag};
+ghost use Rattle.wire_base.specs.Fault.{ListFault};
 ghost use Rattle.wire_base.specs.Limits.{uncounted};
 ghost use Rattle.wire_scalar.specs.Borrow.{BorrowsBody};
 
-use wire_base::{DecodeError, Tag, WireType, laws, skip_field_depth};
+use wire_base::{DecodeError, Tag, laws, skip_field_depth};
 
 /// The body of a group whose start tag was read, up to the end tag of the same number. The slice then
 /// begins behind that tag. Groups in the body nest at most so deep; the group itself is not counted.
@@ -13,7 +14,8 @@ pub fn borrow_group<'a>(
     number: u32,
     depth: u32,
 ) -> Result<&'a [u8], DecodeError>
-    ensures ok { IfOk result (λ body. BorrowsBody (uncounted depth) number body.now buf.old.now buf.new.now) }
+    ensures ok { IfOk result (λ body. BorrowsBody (uncounted depth) number
+        body.now buf.old.now buf.new.now) }
     ensures fault { IfErr result (ListFault (uncounted depth) (by_tag number) buf.old.now) }
     ensures unchanged { OnErr result (buf.new.now ≡ buf.old.now) }
 {
@@ -24,20 +26,17 @@ pub fn borrow_group<'a>(
 
 // The body of a group, and what follows its end tag.
 fn split_group(start: &[u8], number: u32, depth: u32) -> Result<(&[u8], &[u8]), DecodeError>
-    ensures ok { IfOk result (λ parts. BorrowsBody (uncounted depth) number parts.0.now start.now parts.1.now) }
+    ensures ok { IfOk result (λ parts. BorrowsBody (uncounted depth) number
+        parts.0.now start.now parts.1.now) }
     ensures fault { IfErr result (ListFault (uncounted depth) (by_tag number) start.now) }
 {
     laws::records_one_by_one();
+    laws::charges_add_up();
     let mut rest = start;
-    loop {
-        let body_len = start.len() - rest.len();
-        let tag = Tag::decode(&mut rest)?;
-        if let WireType::EndGroup = tag.wire_type() {
-            if tag.field_number() == number {
-                return Ok((&start[..body_len], rest));
-            }
-            return Err(DecodeError::InvalidEndGroup(tag.field_number()));
-        }
+    let mut body_len = 0;
+    while let Some(tag) = Tag::decode_in_group(&mut rest, number)? {
         skip_field_depth(tag, &mut rest, depth)?;
+        body_len = start.len() - rest.len();
     }
+    Ok((&start[..body_len], rest))
 }

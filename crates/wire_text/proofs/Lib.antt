@@ -1,3 +1,3 @@
-pub mod DelimitedLaws
 pub mod Payloads
+pub mod StringLaws
 pub mod Values

@@ -1,51 +1,40 @@
--- What a type that a user plugged in makes of what stands behind a length.
-use Rattle.std.proofs.Common.{◌≡◌, ◌⊎◌, inl, inr, ⊎_elim, ℕ, ◌<◌, ◌≤◌, List, ◌++◌, length, take, drop, Result, Ok, Err, refl, sym, subst, ◌∙◌, arith}
-use Rattle.std.specs.Prelude.{IfOk, IfErr}
-use Rattle.std.proofs.lemmas.List.{take-append-drop, length-take}
+-- What a type that a user plugged in makes of a payload that was read.
+use Rattle.std.proofs.Common.{◌≡◌, ◌≤◌, ◌⊎◌, inl, inr, ℕ, List, ◌++◌, length, take, drop, Result, Ok, Err, refl, sym, ap, ◌∙◌, take-append-drop}
+use Rattle.std.proofs.lemmas.List.{take-append-le}
 use Rattle.bytes.specs.Unread.{IsChunkOf}
+use Rattle.std.specs.Prelude.{IfOk, IfErr}
 use Rattle.wire_base.specs.declared.error.DecodeError.{DecodeError}
 use Rattle.wire_base.specs.declared.error.DecodeError.TheVariants.{OutOfMemory}
+use Rattle.wire_base.specs.Delimited.{IsDelimited}
 use Rattle.wire_base.specs.Read.{Reads}
-use Rattle.wire_base.specs.Varint.{IsSpelling}
-use Rattle.wire_text.specs.FromWire.{Answer, TakesValue, ValueFault, refused, LieInChunk, AreCut, lent, handed_over}
-use Rattle.wire_text.proofs.Payloads.{reads_payload}
+use Rattle.wire_text.specs.FromWire.{Answer, TakesValue, ValueFault, ValueRefusal, AfterRefusal, refused}
 
--- what the chunk at the front shows of so many bytes
-pub chunk_cuts : (len : ℕ) (chunk bytes : List ℕ) → IsChunkOf chunk bytes → length chunk < len → AreCut len bytes
-chunk_cuts len chunk bytes shown few = (chunk, shown, few)
+module _ (answers : List ℕ → Answer → Type 0) (old payload rest : List ℕ) (h : Reads old (IsDelimited payload) rest) where
+  pub takes_value : (value new : List ℕ) → new ≡ rest → answers payload (Ok value) → TakesValue answers value old new
+  takes_value value new same taken = record { payload = payload; read = rw same h; taken = taken }
 
-pub chunk_holds : (len : ℕ) (chunk bytes : List ℕ) → IsChunkOf chunk bytes → len ≤ length chunk → LieInChunk len bytes
-chunk_holds len chunk bytes shown all = (chunk, shown, all)
+  -- the type refused it, or had no memory for it
+  pub refuses_value : (e : DecodeError) (new : List ℕ) → AfterRefusal payload rest new → (e ≡ OutOfMemory) ⊎ answers payload (Err e) → ValueRefusal answers old new e
+  refuses_value e new left (inl memory) = inr (memory, (rest, (payload, h)))
+  refuses_value e new left (inr answer) = inl (refused payload rest h answer left)
 
-lies_there : (len : ℕ) (mid payload rest : List ℕ) → len ≡ length payload → mid ≡ payload ++ rest → LieInChunk len mid → LieInChunk (length payload) (payload ++ rest)
-lies_there len mid payload rest count parts chunk = (chunk.0, subst (IsChunkOf chunk.0) parts chunk.1, omega (arith, chunk.2, count))
+  -- what it answers to a payload that was handed over
+  pub takes_owned : {P : Type 0} (view : P → List ℕ) (result : Result P DecodeError) (new : List ℕ) → new ≡ rest → IfOk result (λ value. answers payload (Ok (view value)))
+      → IfOk result (λ value. TakesValue answers (view value) old new)
+  takes_owned view (Ok value) new same taken = takes_value (view value) new same taken
+  takes_owned view (Err e) new same taken = tt
 
-cut_there : (len : ℕ) (mid payload rest : List ℕ) → len ≡ length payload → mid ≡ payload ++ rest → AreCut len mid → AreCut (length payload) (payload ++ rest)
-cut_there len mid payload rest count parts chunk = (chunk.0, subst (IsChunkOf chunk.0) parts chunk.1, omega (arith, chunk.2, count))
+  pub refuses_owned : {P : Type 0} (result : Result P DecodeError) (new : List ℕ) → new ≡ rest → IfErr result (λ e. (e ≡ OutOfMemory) ⊎ answers payload (Err e))
+      → IfErr result (ValueRefusal answers old new)
+  refuses_owned (Ok value) new same why = tt
+  refuses_owned (Err e) new same why = refuses_value e new (inr same) why
 
-module _ (answers : List ℕ → Answer → Type 0) (len : ℕ) (old mid : List ℕ) (r : Reads old (IsSpelling len) mid) (there : len ≤ length mid) where
-  -- the bytes behind the length are taken
-  pub takes_value : (value new : List ℕ) → answers (take len mid) (Ok value) → new ≡ drop len mid → TakesValue answers value old new
-  takes_value value new taken behind = record { payload = take len mid; read = reads_payload len old mid (take len mid) new r there refl behind; taken = taken }
+-- so many bytes of a chunk that has as many
+pub chunk_front : (len : ℕ) (chunk bytes : List ℕ) → IsChunkOf chunk bytes → len ≤ length chunk → take len chunk ≡ take len bytes
+chunk_front len chunk bytes shown enough =
+    sym (take-append-le len chunk (drop (length chunk) bytes) enough)
+    ∙ ap (take len) (ap (λ l. l ++ drop (length chunk) bytes) (sym shown.front) ∙ take-append-drop (length chunk) bytes)
 
-  -- lent bytes are refused
-  pub refused_lent : (e : DecodeError) (new : List ℕ) → (e ≡ OutOfMemory) ⊎ answers (take len mid) (Err e) → new ≡ mid → LieInChunk len mid → (e ≡ OutOfMemory) ⊎ ValueFault answers old new e
-  refused_lent e new why same chunk =
-      let read = reads_payload len old mid (take len mid) (drop len mid) r there refl refl in
-      let parts = sym (take-append-drop len mid) in
-      let lies = lies_there len mid (take len mid) (drop len mid) (omega (arith, length-take len mid)) parts chunk in
-      ⊎_elim inl (λ answer. inr (rw (same ∙ parts) (refused (take len mid) (drop len mid) read answer (lent lies)))) why
-
-  module _ {P : Type 0} (view : P → List ℕ) (payload new : List ℕ) (front : payload ≡ take len mid) (behind : new ≡ drop len mid) where
-    -- bytes that were handed over are taken
-    pub takes_owned : (result : Result P DecodeError) → IfOk result (λ value. answers payload (Ok (view value))) → IfOk result (λ value. TakesValue answers (view value) old new)
-    takes_owned (Ok value) taken = takes_value (view value) new (rw front at taken) behind
-    takes_owned (Err e) taken = tt
-
-    -- bytes that were handed over are refused
-    pub refused_owned : (result : Result P DecodeError) → IfErr result (λ e. (e ≡ OutOfMemory) ⊎ answers payload (Err e)) → AreCut len mid → IfErr result (λ e. (e ≡ OutOfMemory) ⊎ ValueFault answers old new e)
-    refused_owned (Ok value) why chunk = tt
-    refused_owned (Err e) why chunk =
-        let read = reads_payload len old mid (take len mid) (drop len mid) r there refl refl in
-        let cut = cut_there len mid (take len mid) (drop len mid) (omega (arith, length-take len mid)) (sym (take-append-drop len mid)) chunk in
-        ⊎_elim inl (λ answer. inr (rw behind (refused (take len mid) (drop len mid) read (rw front at answer) (handed_over cut)))) why
+-- what is left is so many bytes and the rest
+pub lent_back : (len : ℕ) (mid new : List ℕ) → new ≡ mid → AfterRefusal (take len mid) (drop len mid) new
+lent_back len mid new same = inl (same ∙ sym (take-append-drop len mid))

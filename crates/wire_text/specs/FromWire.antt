@@ -1,10 +1,10 @@
 -- What a type that a user plugged in makes of a payload.
-use Rattle.std.specs.Prelude.{◌≡◌, ◌<◌, ◌≤◌, ℕ, List, ◌++◌, length, Result, Ok, Err, IsUtf8}
-use Rattle.bytes.specs.Unread.{IsChunkOf}
+use Rattle.std.specs.Prelude.{◌≡◌, ◌⊎◌, ℕ, List, ◌++◌, Result, Ok, Err, None, IsUtf8}
 use Rattle.wire_base.specs.declared.error.DecodeError.{DecodeError}
-use Rattle.wire_base.specs.declared.error.DecodeError.TheVariants.{InvalidUtf8, InvalidMessageSet, Custom}
+use Rattle.wire_base.specs.declared.error.DecodeError.TheVariants.{InvalidUtf8, InvalidMessageSet, Custom, OutOfMemory}
 use Rattle.wire_base.specs.Read.{Reads}
-use Rattle.wire_text.specs.Delimited.{IsDelimited, DelimitedFault}
+use Rattle.wire_base.specs.Delimited.{IsDelimited, DelimitedFault}
+use Rattle.wire_text.specs.BytesPayload.{HasPayload}
 
 -- what a type answers to the bytes of a payload: the bytes of its value, or an error
 abbrev pub Answer : Type 0
@@ -41,21 +41,17 @@ pub record TakesValue (answers : List ℕ → Answer → Type 0) (value old new 
   pub read : Reads old (IsDelimited payload) new
   pub taken : answers payload (Ok value)
 
--- the chunk at the front of these bytes has so many of them, or fewer
-abbrev pub LieInChunk : ℕ → List ℕ → Type 0
-LieInChunk len bytes = (chunk : List ℕ) × IsChunkOf chunk bytes × (len ≤ length chunk)
-
-abbrev pub AreCut : ℕ → List ℕ → Type 0
-AreCut len bytes = (chunk : List ℕ) × IsChunkOf chunk bytes × (length chunk < len)
-
--- A payload that the type refused is left where it lies in the chunk at the front, which is lent to the
--- type. Elsewhere it is handed over, and so it is taken.
-pub data AfterRefusal (payload rest : List ℕ) : List ℕ → Type 0 where
-  lent : LieInChunk (length payload) (payload ++ rest) → AfterRefusal payload rest (payload ++ rest)
-  handed_over : AreCut (length payload) (payload ++ rest) → AfterRefusal payload rest rest
+-- A payload that the type refused was lent to it, and is left in the buffer, or was handed over, and is taken.
+-- Which of the two depends on the chunks of the buffer, of which no more is known than that each is a front.
+abbrev pub AfterRefusal : List ℕ → List ℕ → List ℕ → Type 0
+AfterRefusal payload rest new = (new ≡ payload ++ rest) ⊎ (new ≡ rest)
 
 -- no value stood at the front of old, with the error that says why, and new is what is left
 pub data ValueFault (answers : List ℕ → Answer → Type 0) (old new : List ℕ) : DecodeError → Type 0 where
-  no_payload : {e : DecodeError} → DelimitedFault old e → ValueFault answers old new e
+  no_payload : {e : DecodeError} → DelimitedFault None old e → ValueFault answers old new e
   refused : {e : DecodeError} (payload rest : List ℕ) → Reads old (IsDelimited payload) rest
       → answers payload (Err e) → AfterRefusal payload rest new → ValueFault answers old new e
+
+-- the fault of the value, or want of memory for a payload that is there
+abbrev pub ValueRefusal : (List ℕ → Answer → Type 0) → List ℕ → List ℕ → DecodeError → Type 0
+ValueRefusal answers old new e = ValueFault answers old new e ⊎ ((e ≡ OutOfMemory) × HasPayload old)

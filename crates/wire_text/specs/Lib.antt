@@ -1,4 +1,4 @@
-pub mod Delimited
+pub mod BytesPayload
 pub mod EnumNumbers
 pub mod Enumeration
 pub mod FromWire

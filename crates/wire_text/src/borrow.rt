@@ -1,21 +1,21 @@
 //! Strings and bytes that are not copied.
-ghost use Rattle.std.specs.Prelude.{◌≡◌, ◌≢◌, OnErr, IfOk, IfErr};
+ghost use Rattle.std.specs.Prelude.{◌≡◌, ◌≢◌, None, OnErr, IfOk, IfErr};
 ghost use Rattle.wire_base.specs.declared.error.DecodeError.TheVariants.{InvalidUtf8};
+ghost use Rattle.wire_base.specs.Delimited.{IsDelimited, DelimitedFault};
 ghost use Rattle.wire_base.specs.Read.{Reads};
-ghost use Rattle.wire_text.specs.Delimited.{IsDelimited, DelimitedFault};
-ghost use Rattle.wire_text.specs.StringPayload.{IsString, StringFault, PassesPayload};
+ghost use Rattle.wire_text.specs.BytesPayload.{PassesPayload};
+ghost use Rattle.wire_text.specs.StringPayload.{IsString, StringFault};
 
-use crate::length::decode_length;
-use wire_base::DecodeError;
+use wire_base::{DecodeError, decode_length};
 
 /// The bytes of a length-delimited payload. The slice then begins behind them.
 pub fn borrow_bytes<'a>(buf: &mut &'a [u8]) -> Result<&'a [u8], DecodeError>
     ensures ok { IfOk result (λ payload. Reads buf.old.now (IsDelimited payload.now) buf.new.now) }
-    ensures fault { IfErr result (DelimitedFault buf.old.now) }
+    ensures fault { IfErr result (DelimitedFault None buf.old.now) }
     ensures unchanged { OnErr result (buf.new.now ≡ buf.old.now) }
 {
     let mut rest = *buf;
-    let len = decode_length(&mut rest)?;
+    let len = decode_length(&mut rest, None)?;
     let (payload, behind) = rest.split_at(len);
     *buf = behind;
     Ok(payload)
@@ -30,8 +30,5 @@ pub fn borrow_str<'a>(buf: &mut &'a [u8]) -> Result<&'a str, DecodeError>
     ensures unchanged { IfErr result (λ e. e ≢ InvalidUtf8 → buf.new.now ≡ buf.old.now) }
 {
     let payload = borrow_bytes(buf)?;
-    match simdutf8::basic::from_utf8(payload) {
-        Ok(text) => Ok(text),
-        Err(_) => Err(DecodeError::InvalidUtf8),
-    }
+    simdutf8::basic::from_utf8(payload).or(Err(DecodeError::InvalidUtf8))
 }

@@ -1,11 +1,11 @@
 //! Strings and bytes into a sink.
 ghost use Rattle.std.specs.Prelude.{◌≡◌, ◌≤◌, ◌^◌, ◌++◌, length, OnOk, OnErr, IfOk, IfErr};
 ghost use Rattle.wire_base.specs.declared.error.EncodeError.TheVariants.{LengthOverflow};
+ghost use Rattle.wire_base.specs.Delimited.{delimited_text};
 ghost use Rattle.wire_base.specs.Field.{bytes};
 ghost use Rattle.wire_base.specs.FieldNumber.{IsFieldNumber};
 ghost use Rattle.wire_base.specs.Sink.{KeepsFront, WriteAnswers};
 ghost use Rattle.wire_base.specs.Text.{record_text};
-ghost use Rattle.wire_text.specs.Delimited.{delimited_text};
 
 use wire_base::{EncodeError, EncodeSink, Tag, WireType, encode_varint, laws, varint_len};
 
@@ -26,10 +26,9 @@ pub fn bytes_encoded_len(value: &[u8]) -> Result<usize, EncodeError>
     ensures err { IfErr result (λ e. e ≡ LengthOverflow) }
     ensures over { OnErr result (2 ^ 64 ≤ length (delimited_text value.now)) }
 {
-    match varint_len(value.len() as u64).checked_add(value.len()) {
-        Some(len) => Ok(len),
-        None => Err(EncodeError::LengthOverflow),
-    }
+    varint_len(value.len() as u64)
+        .checked_add(value.len())
+        .ok_or(EncodeError::LengthOverflow)
 }
 
 /// Writes the length of a string and its UTF-8 bytes.

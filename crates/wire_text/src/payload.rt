@@ -1,37 +1,24 @@
 //! The bytes of a payload, copied once.
-ghost use Rattle.std.specs.Prelude.{◌≡◌, ◌≤◌, [], length, take, drop, string_bytes, IsUtf8, OnOk, OnErr, IfOk, IfErr};
+ghost use Rattle.std.specs.Prelude.{◌≡◌, ◌≤◌, [], string_bytes, IsUtf8, OnOk, OnErr, IfOk, IfErr};
 ghost use Rattle.std.specs.Vec.{vec_capacity};
 ghost use Rattle.wire_base.specs.declared.error.DecodeError.TheVariants.{InvalidUtf8};
 
-use bytes::Buf;
-use std::alloc::AllocError;
+use std::alloc::{AllocError, Global};
 use std::mem;
 use wire_base::DecodeError;
 
-/// Copies so many bytes into an empty vector that has room for them.
-pub(crate) fn copy_bytes<B: Buf>(buf: &mut B, len: usize, bytes: &mut Vec<u8>)
-    requires empty { bytes.old.items ≡ [] }
-    requires room { len ≤ vec_capacity bytes.old }
-    requires there { len ≤ length (B.unread buf.old) }
-    ensures items { bytes.new.items ≡ take len (B.unread buf.old) }
-    ensures rest { B.unread buf.new ≡ drop len (B.unread buf.old) }
-{
-    while bytes.len() < len {
-        let chunk = buf.chunk();
-        let count = chunk.len().min(len - bytes.len());
-        bytes.extend_from_slice(&chunk[..count]).unwrap();
-        buf.advance(count);
-    }
-}
-
 /// Empties a vector, which then has room for so many bytes. What it held is not copied.
-pub(crate) fn make_room(value: &mut Vec<u8>, len: usize) -> Result<(), AllocError>
+pub(crate) fn make_room(
+    alloc: Global,
+    value: &mut Vec<u8>,
+    len: usize,
+) -> Result<(), AllocError>
     ensures empty { OnOk result (value.new.items ≡ []) }
     ensures room { OnOk result (len ≤ vec_capacity value.new) }
     ensures unchanged { OnErr result (value.new.items ≡ value.old.items) }
 {
     if value.capacity() < len {
-        *value = Vec::with_capacity(*value.allocator(), len)?;
+        *value = Vec::with_capacity(alloc, len)?;
     } else {
         value.clear();
     }
@@ -39,13 +26,16 @@ pub(crate) fn make_room(value: &mut Vec<u8>, len: usize) -> Result<(), AllocErro
 }
 
 /// Empties a string, and hands out its room, or room for so many bytes where it has less.
-pub(crate) fn take_room(value: &mut String, len: usize) -> Result<Vec<u8>, AllocError>
+pub(crate) fn take_room(
+    alloc: Global,
+    value: &mut String,
+    len: usize,
+) -> Result<Vec<u8>, AllocError>
     ensures empty { IfOk result (λ room. room.items ≡ []) }
     ensures room { IfOk result (λ room. len ≤ vec_capacity room) }
     ensures emptied { OnOk result (string_bytes value.new ≡ []) }
     ensures unchanged { OnErr result (string_bytes value.new ≡ string_bytes value.old) }
 {
-    let alloc = *value.allocator();
     if value.capacity() < len {
         let room = Vec::with_capacity(alloc, len)?;
         *value = String::new(alloc);

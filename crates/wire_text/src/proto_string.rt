@@ -1,12 +1,12 @@
 //! Types that a string field may have, and decoding into them.
 ghost use Rattle.std.specs.Prelude.{◌≡◌, ◌≤◌, ◌⊎◌, ℕ, List, [], Ok, Err, length, take, drop, OnErr, OnSome, IfSome, IfNone, string_bytes, IfOk, IfErr};
 ghost use Rattle.wire_base.specs.declared.error.DecodeError.TheVariants.{OutOfMemory};
-ghost use Rattle.wire_text.specs.FromWire.{Answer, IsByBytes, TakesValue, ValueFault, LieInChunk, AreCut, answers_text};
+ghost use Rattle.wire_text.specs.FromWire.{Answer, IsByBytes, TakesValue, ValueRefusal, answers_text};
 ghost use Rattle.wire_text.specs.FromWireLaws.{answers_text_by_bytes};
 ghost use Rattle.wire_text.specs.WirePayload.{payload_bytes};
 
-use crate::length::decode_length;
 use crate::payload::into_text;
+use crate::plugged::{PluggedString, decode_plugged};
 use crate::wire_payload::WirePayload;
 use bytes::Buf;
 use std::alloc::Global;
@@ -70,47 +70,12 @@ impl ProtoString for String {
 
 /// What the type makes of a string field's payload. A payload that lies in one chunk is lent to it, and
 /// taken from the buffer only where the type takes it; any other is copied and handed over.
-pub fn decode_string_to<P: ProtoString, B: Buf>(
-    alloc: Global,
-    buf: &mut B,
-) -> Result<P, DecodeError>
-    ensures ok { IfOk result (λ value. TakesValue P.answers (P.text value) (B.unread buf.old) (B.unread buf.new)) }
-    ensures fault { IfErr result (λ e. (e ≡ OutOfMemory)
-        ⊎ ValueFault P.answers (B.unread buf.old) (B.unread buf.new) e) }
+pub fn decode_string_to<P: ProtoString, B: Buf>(alloc: Global, buf: &mut B) -> Result<P, DecodeError>
+    ensures ok { IfOk result (λ value. TakesValue P.answers (P.text value)
+        (B.unread buf.old) (B.unread buf.new)) }
+    ensures fault { IfErr result (ValueRefusal P.answers (B.unread buf.old) (B.unread buf.new)) }
+    ensures kept { B.kept buf.new ≡ B.kept buf.old }
 {
-    let len = decode_length(buf)?;
-    match string_in_chunk(alloc, buf, len)? {
-        Some(value) => Ok(value),
-        None => {
-            let payload = WirePayload::copied_from(alloc, buf, len)?;
-            P::from_wire(alloc, payload)
-        }
-    }
-}
-
-// The string that so many bytes make, if they lie in one chunk. Refused bytes are not taken.
-#[tactic(auto, using(crate::proofs::Values::chunk_cuts, crate::proofs::Values::chunk_holds))]
-fn string_in_chunk<P: ProtoString, B: Buf>(
-    alloc: Global,
-    buf: &mut B,
-    len: usize,
-) -> Result<Option<P>, DecodeError>
-    requires { len ≤ length (B.unread buf.old) }
-    ensures value { IfOk result (λ found. IfSome found (λ value.
-        P.answers (take len (B.unread buf.old)) (Ok (P.text value)))) }
-    ensures rest { IfOk result (λ found. OnSome found (B.unread buf.new ≡ drop len (B.unread buf.old))) }
-    ensures none { IfOk result (λ found. IfNone found (B.unread buf.new ≡ B.unread buf.old)) }
-    ensures refused { IfErr result (λ e. (e ≡ OutOfMemory)
-        ⊎ P.answers (take len (B.unread buf.old)) (Err e)) }
-    ensures unchanged { OnErr result (B.unread buf.new ≡ B.unread buf.old) }
-    ensures cut { IfOk result (λ found. IfNone found (AreCut len (B.unread buf.old))) }
-    ensures whole { OnErr result (LieInChunk len (B.unread buf.old)) }
-{
-    let chunk = buf.chunk();
-    if chunk.len() < len {
-        return Ok(None);
-    }
-    let value = P::from_wire(alloc, WirePayload::borrowed(&chunk[..len]))?;
-    buf.advance(len);
-    Ok(Some(value))
+    let PluggedString(value) = decode_plugged::<PluggedString<P>, B>(alloc, buf)?;
+    Ok(value)
 }

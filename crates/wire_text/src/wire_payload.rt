@@ -1,9 +1,8 @@
 //! What a decoder hands to a type that a user plugged in.
-ghost use Rattle.std.specs.Prelude.{◌≡◌, ◌≤◌, ◌==◌, Bool, true, false, length, take, drop, IsUtf8, OnOk, OnErr, IfOk, IfErr, IsOk};
+ghost use Rattle.std.specs.Prelude.{◌≡◌, ◌==◌, Bool, true, false, length, IsUtf8, OnOk, OnErr, IfOk, IfErr, IsOk};
 ghost use Rattle.wire_base.specs.declared.error.DecodeError.TheVariants.{InvalidUtf8, OutOfMemory};
 
-use crate::payload::copy_bytes;
-use bytes::{Buf, Bytes};
+use bytes::Bytes;
 use std::alloc::{AllocError, Global};
 use wire_base::DecodeError;
 
@@ -90,10 +89,7 @@ impl<'a> WirePayload<'a> {
         ensures err { IfErr result (λ e. e ≡ InvalidUtf8) }
         ensures not_utf8 { OnErr result (¬ IsUtf8 (payload_bytes self.now)) }
     {
-        match simdutf8::basic::from_utf8(self.as_slice()) {
-            Ok(text) => Ok(text),
-            Err(_) => Err(DecodeError::InvalidUtf8),
-        }
+        simdutf8::basic::from_utf8(self.as_slice()).or(Err(DecodeError::InvalidUtf8))
     }
 
     /// The bytes as a run of their own, which takes no memory where they are one.
@@ -120,21 +116,5 @@ impl<'a> WirePayload<'a> {
                 Err(shared) => Ok(Vec::from_slice(alloc, shared.as_slice())?),
             },
         }
-    }
-
-    // Takes so many bytes as a payload of their own.
-    pub(crate) fn copied_from<B: Buf>(
-        alloc: Global,
-        buf: &mut B,
-        len: usize,
-    ) -> Result<WirePayload<'a>, DecodeError>
-        requires { len ≤ length (B.unread buf.old) }
-        ensures bytes { IfOk result (λ payload. payload_bytes payload ≡ take len (B.unread buf.old)) }
-        ensures rest { OnOk result (B.unread buf.new ≡ drop len (B.unread buf.old)) }
-        ensures err { IfErr result (λ e. e ≡ OutOfMemory) }
-    {
-        let mut bytes = Vec::with_capacity(alloc, len)?;
-        copy_bytes(buf, len, &mut bytes);
-        Ok(WirePayload::owned(Bytes::from_vec(bytes)?))
     }
 }

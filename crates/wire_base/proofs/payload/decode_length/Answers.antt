@@ -1,6 +1,7 @@
-use Rattle.std.proofs.Common.{subst, ◌<◌}
+use Rattle.std.proofs.Common.{subst, ◌<◌, arith, refl}
 use Rattle.std.proofs.lemmas.Result.{err_from_is_err_and}
 use Rattle.wire_base.specs.Delimited.{no_length, too_large, cut_short}
+use Rattle.wire_base.proofs.DelimitedLaws.{delimited_at}
 use Rattle.wire_base.proofs.payload.decode_length.Goals as goal
 
 pub returns-in_err-len-clause-fault : goal.returns-in_err-len-clause-fault
@@ -16,3 +17,6 @@ pub returns-then-remaining-len-clause-fault : goal.returns-then-remaining-len-cl
 returns-then-remaining-len-clause-fault g c =
     cut_short _ _ c.in_ok-len.ensures.ok (c.is_above.ensures.within c.if-is_above.false)
     (subst (λ n. n < c.in_ok-len.len) c.remaining.ensures c.if-remaining-len.true)
+
+pub returns-clause-payload : goal.returns-clause-payload
+returns-clause-payload g c = delimited_at _ _ _ _ c.in_ok-len.ensures.ok (omega (arith, c.remaining.ensures)) refl

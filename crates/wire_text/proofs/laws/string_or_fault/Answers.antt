@@ -1,5 +1,5 @@
-use Rattle.wire_text.proofs.DelimitedLaws.{string_or_fault_lemma}
+use Rattle.wire_text.proofs.StringLaws.{string_or_fault_lemma}
 use Rattle.wire_text.proofs.laws.string_or_fault.Goals as goal
 
 pub returns : goal.returns
-returns c = string_or_fault_lemma c.payload_or_fault.ensures
+returns c = string_or_fault_lemma c.delimited_or_fault.ensures
