@@ -14,8 +14,8 @@ pub trait EncodeSink {
     /// The most bytes that the sink can count, where it counts them; else memory alone bounds it.
     ghost most: { Option ℕ };
 
-    /// Whether the sink can keep a shared run of bytes as a segment of its own, so that a caller that
-    /// has one saves the copy by `put_shared`.
+    /// Whether the sink can keep a shared run of bytes as a segment of its own, so that a caller
+    /// that has one saves the copy by `put_shared`.
     const IS_SEGMENTED: bool = false;
 
     fn put_u8(&mut self, value: u8) -> Result<(), EncodeError>

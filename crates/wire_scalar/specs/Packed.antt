@@ -9,7 +9,8 @@ use Rattle.wire_scalar.specs.ValueMap.{ValueMap}
 abbrev pub SpellsEach : (ℕ → List ℕ → Type 0) → List ℕ → List ℕ → Type 0
 SpellsEach IsText [] text = text ≡ []
 SpellsEach IsText (x ∷ xs) text =
-    (one : List ℕ) × (more : List ℕ) × (text ≡ one ++ more) × IsText x one × SpellsEach IsText xs more
+    (one : List ℕ) × (more : List ℕ) × (text ≡ one ++ more)
+    × IsText x one × SpellsEach IsText xs more
 
 -- the payload is a text of each of some numbers, and their values stand in after behind before
 pub record Appends {T : Type 0} (IsText : ℕ → List ℕ → Type 0) (values : ValueMap T)
@@ -34,8 +35,8 @@ FixedRefusal size payload e =
     ((e ≡ UnexpectedEof) × (length payload % size ≢ 0))
     ⊎ ((e ≡ OutOfMemory) × (length payload % size ≡ 0))
 
--- the payload is a varint of each of these numbers and then bytes that begin with no varint, for this
--- fault
+-- the payload is a varint of each of these numbers and then bytes that begin with no varint, for
+-- this fault
 pub record BreaksOff (numbers payload : List ℕ) (e : DecodeError) : Type 0 where
   pub front : List ℕ
   pub rest : List ℕ

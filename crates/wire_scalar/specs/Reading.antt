@@ -8,8 +8,8 @@ use Rattle.wire_scalar.specs.ValueMap.{ValueMap}
 abbrev pub IsFixed : Width → ℕ → List ℕ → Type 0
 IsFixed width x text = (length text ≡ byte_len width) × (from_le_bytes width text ≡ x)
 
--- a text of a number stands at the front of old, the value is what the map reads from it, and new is
--- what follows
+-- a text of a number stands at the front of old, the value is what the map reads from it, and new
+-- is what follows
 pub record ReadsValue {T : Type 0} (IsText : ℕ → List ℕ → Type 0) (map : ValueMap T)
     (old : List ℕ) (value : T) (new : List ℕ) : Type 0 where
   pub number : ℕ
