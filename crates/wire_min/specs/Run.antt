@@ -1,21 +1,22 @@
 -- What a run takes, what it refuses, and what it writes.
-use Rattle.std.specs.Prelude.{◌≡◌, ℕ, List, ◌++◌, Option}
+use Rattle.std.specs.Prelude.{◌≡◌, ℕ, List, [], ◌++◌, Option}
 use Rattle.std.specs.Io.KnownBytes.{Appends}
-use Rattle.wire_base.specs.declared.decode_context.TheConstants.{RECURSION_LIMIT, DEFAULT_UNKNOWN_FIELD_LIMIT}
 use Rattle.wire_base.specs.declared.error.DecodeError.{DecodeError}
-use Rattle.wire_base.specs.Fault.{ListFault, by_input}
+use Rattle.wire_base.specs.Charge.{charge}
+use Rattle.wire_base.specs.Ending.{by_input}
+use Rattle.wire_base.specs.Fault.{ListFault}
 use Rattle.wire_base.specs.Field.{Fields}
-use Rattle.wire_base.specs.Limits.{Limits, Fits, counted}
-use Rattle.wire_base.specs.Spells.{Spells}
-use Rattle.wire_base.specs.Text.{text_of, charge}
+use Rattle.wire_base.specs.Limits.{Limits, counted}
+use Rattle.wire_base.specs.Taken.{TakesFields}
+use Rattle.wire_base.specs.Text.{text_of}
 
 -- what a run takes at most
 abbrev pub run_limits : Limits
-run_limits = counted RECURSION_LIMIT DEFAULT_UNKNOWN_FIELD_LIMIT
+run_limits = counted 100 1000000
 
--- the input is taken as these records: it spells them, and they are within the limits
+-- all of the input is taken as these records, within the limits
 abbrev pub IsTaken : List ℕ → Fields → Type 0
-IsTaken input fields = Spells fields input × Fits (charge fields) run_limits
+IsTaken input fields = TakesFields (charge fields) run_limits fields input []
 
 -- the input is refused: it spells no records within the limits, and this says why
 abbrev pub IsRefused : List ℕ → DecodeError → Type 0

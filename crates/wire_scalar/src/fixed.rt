@@ -31,10 +31,7 @@ pub fn decode_fixed32<B: Buf>(buf: &mut B) -> Result<u32, DecodeError>
     ensures unchanged { OnErr result (B.unread buf.new ≡ B.unread buf.old) }
     ensures kept { B.kept buf.new ≡ B.kept buf.old }
 {
-    if buf.remaining() < FIXED32_ENCODED_LEN {
-        return Err(DecodeError::UnexpectedEof);
-    }
-    Ok(buf.get_u32_le())
+    Ok(buf.try_get_u32_le()?)
 }
 
 /// Writes a `fixed64`: eight bytes, the lowest first.
@@ -53,10 +50,7 @@ pub fn decode_fixed64<B: Buf>(buf: &mut B) -> Result<u64, DecodeError>
     ensures unchanged { OnErr result (B.unread buf.new ≡ B.unread buf.old) }
     ensures kept { B.kept buf.new ≡ B.kept buf.old }
 {
-    if buf.remaining() < FIXED64_ENCODED_LEN {
-        return Err(DecodeError::UnexpectedEof);
-    }
-    Ok(buf.get_u64_le())
+    Ok(buf.try_get_u64_le()?)
 }
 
 /// Writes a `sfixed32`: the two's complement in four bytes, the lowest first.

@@ -1,4 +1,4 @@
-use Rattle.std.proofs.Common.{ap, ◌∙◌, ◌++◌}
+use Rattle.std.proofs.Common.{sym, ap, ◌∙◌, ◌++◌, append-nil}
 use Rattle.wire_base.specs.Text.{text_of}
 use Rattle.wire_min.proofs.run.shortest_text.Goals as goal
 
@@ -6,6 +6,13 @@ use Rattle.wire_min.proofs.run.shortest_text.Goals as goal
 pub returns-in-Ok-clause-ok : goal.returns-in-Ok-clause-ok
 returns-in-Ok-clause-ok c = record {
   fields = c.in_ok-fields.fields;
-  taken = (c.in_ok-fields.ensures.spelled, c.in_ok-fields.ensures.within);
+  taken = record {
+    read = record {
+      text = c.args.input.now;
+      parts = sym (append-nil c.args.input.now);
+      spelled = c.in_ok-fields.ensures.spelled;
+    };
+    fits = c.in_ok-fields.ensures.within;
+  };
   shortest = c.in-Ok.ensures.ok ∙ ap (λ l. l ++ text_of c.in_ok-fields.fields) c.new-output.ensures.items;
 }
