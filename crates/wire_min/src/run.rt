@@ -55,10 +55,7 @@ fn read_to_end<R: Read>(alloc: Global, reader: &mut Counted<R>) -> Result<Vec<u8
     let mut chunk = [0u8; CHUNK];
     // Each turn but the last adds a byte, and a vector holds fewer bytes than there are turns.
     for _ in 0..u64::MAX {
-        let count = match reader.read(&mut chunk) {
-            Ok(count) => count,
-            Err(_) => return Err(RunError::ReadFailed),
-        };
+        let count = reader.read(&mut chunk).or(Err(RunError::ReadFailed))?;
         if count == 0 {
             return Ok(bytes);
         }
@@ -76,10 +73,8 @@ fn shortest_text(alloc: Global, input: &[u8]) -> Result<Vec<u8>, RunError>
     let fields = UnknownFields::decode_from_slice(alloc, input)?;
     let mut output = Vec::new(alloc);
     // A vector is refused bytes for want of memory alone.
-    match fields.write_to(&mut output) {
-        Ok(()) => Ok(output),
-        Err(_) => Err(RunError::OutOfMemory),
-    }
+    fields.write_to(&mut output).or(Err(RunError::OutOfMemory))?;
+    Ok(output)
 }
 
 // Writes all of the bytes, and flushes.
@@ -91,10 +86,7 @@ fn send<W: Write>(writer: &mut Counted<W>, bytes: &[u8]) -> Result<(), RunError>
     ensures failures { failures_of writer.new ≡ failures_of writer.old + failed_writes result }
 {
     write_all(writer, bytes)?;
-    match writer.flush() {
-        Ok(()) => Ok(()),
-        Err(_) => Err(RunError::WriteFailed),
-    }
+    writer.flush().or(Err(RunError::WriteFailed))
 }
 
 // Writes all of the bytes, in as many writes as it takes.

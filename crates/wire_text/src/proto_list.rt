@@ -39,10 +39,7 @@ impl<T: Clone + PartialEq + Debug + Drop> ProtoList<T> for Vec<T> {
     ghost items = { λ list. list.items };
 
     fn push(&mut self, value: T) -> Result<(), T> {
-        match Vec::push(self, value) {
-            Ok(()) => Ok(()),
-            Err(refused) => Err(refused.value),
-        }
+        Vec::push(self, value).map_err(|refused| refused.value)
     }
 
     fn clear(&mut self) {

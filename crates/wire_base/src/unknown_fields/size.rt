@@ -72,8 +72,5 @@ fn sum(a: usize, b: usize) -> Result<usize, EncodeError>
     ensures err { IfErr result (λ e. e ≡ LengthOverflow) }
     ensures over { OnErr result (2 ^ 64 ≤ a + b) }
 {
-    match a.checked_add(b) {
-        Some(len) => Ok(len),
-        None => Err(EncodeError::LengthOverflow),
-    }
+    a.checked_add(b).ok_or(EncodeError::LengthOverflow)
 }
