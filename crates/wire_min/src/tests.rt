@@ -6,6 +6,7 @@ use crate::report;
 use crate::run::run;
 use devices::{Habits, Shelf, Source, WILLING};
 use std::alloc::Global;
+use std::cell::Cell;
 use std::fmt::Display;
 use std::io;
 use std::io::ErrorKind;
@@ -224,4 +225,45 @@ fn a_line_that_cannot_be_written_leaves_the_status(rt: HostRuntime) {
         );
     }
     assert_eq!(rt; report(&Closed, Ok(())), ExitCode::SUCCESS);
+}
+
+// A standard error that compares each line with the one that is due.
+#[derive(Drop)]
+struct Listener {
+    alloc: Global,
+    due: &'static str,
+    lines: Cell<u32>,
+    heard: Cell<Found>,
+}
+
+impl Eprint for Listener {
+    fn eprint<D: Display + Drop>(&self, _value: D) -> io::Result<()> {
+        self.heard.set(Found::Other);
+        Ok(())
+    }
+
+    fn eprintln<D: Display + Drop>(&self, value: D) -> io::Result<()> {
+        self.lines.set(self.lines.get().saturating_add(1));
+        self.heard.set(match value.to_string(self.alloc) {
+            Ok(line) if line.as_str() == self.due => Found::Own,
+            Ok(_) => Found::Other,
+            Err(_) => Found::OutOfMemory,
+        });
+        Ok(())
+    }
+}
+
+#[test]
+fn each_line_is_put_once_on_standard_error(rt: HostRuntime) {
+    for (error, due, status) in lines() {
+        let listener = Listener {
+            alloc: rt.alloc(),
+            due,
+            lines: Cell::new(0),
+            heard: Cell::new(Found::Other),
+        };
+        assert_eq!(rt; report(&listener, Err(error)), ExitCode::from(status), "{due}");
+        assert_eq!(rt; listener.lines.get(), 1, "{due}");
+        assert_ne!(rt; listener.heard.get(), Found::Other, "{due}");
+    }
 }

@@ -1,21 +1,23 @@
 //! Short callers of the crates below, proved. The README shows them.
-ghost use Rattle.std.specs.Prelude.{◌≡◌, ◌⊎◌, [], ◌++◌, string_bytes, OnOk, IfOk, IfErr};
-ghost use Rattle.wire_base.specs.declared.error.DecodeError.TheVariants.{OutOfMemory};
-ghost use Rattle.wire_base.specs.Read.{Reads};
-ghost use Rattle.wire_text.specs.StringPayload.{IsString, StringFault};
-ghost use Rattle.wire_base.specs.Fault.{ListFault, by_tag};
+ghost use Rattle.std.specs.Prelude.{◌≡◌, [], ◌++◌, string_bytes, OnOk, IfOk, IfErr};
+ghost use Rattle.wire_base.specs.Ending.{by_tag};
+ghost use Rattle.wire_base.specs.Fault.{ListFault};
 ghost use Rattle.wire_base.specs.Field.{varint};
 ghost use Rattle.wire_base.specs.FieldNumber.{IsFieldNumber};
 ghost use Rattle.wire_base.specs.Limits.{uncounted};
+ghost use Rattle.wire_base.specs.Read.{Reads};
 ghost use Rattle.wire_base.specs.Tag.{TagFault};
 ghost use Rattle.wire_base.specs.Text.{record_text};
 ghost use Rattle.wire_base.specs.Varint.{IsSpelling, shortest_varint};
 ghost use Rattle.wire_scalar.specs.Packed.{Appends};
 ghost use Rattle.wire_scalar.specs.ValueMap.{int32, sint64};
+ghost use Rattle.wire_text.specs.StringPayload.{IsString, StringRefusal};
 
 use bytes::Buf;
 use std::alloc::Global;
-use wire_base::{DecodeError, EncodeError, EncodeSink, Tag, count_varints, encode_varint};
+use wire_base::{
+    DecodeError, EncodeError, EncodeSink, Tag, UnknownFields, count_varints, encode_varint, laws,
+};
 use wire_scalar::{borrow_group, extend_packed_int32, put_sint64_field};
 use wire_text::decode_string;
 
@@ -67,7 +69,25 @@ pub fn scores_of(alloc: Global, payload: &[u8]) -> Result<Vec<i32>, DecodeError>
 pub fn name_of<B: Buf>(alloc: Global, buf: &mut B) -> Result<String, DecodeError>
     ensures ok { IfOk result (λ name.
         Reads (B.unread buf.old) (IsString (string_bytes name)) (B.unread buf.new)) }
-    ensures fault { IfErr result (λ e. (e ≡ OutOfMemory) ⊎ StringFault (B.unread buf.old) e) }
+    ensures fault { IfErr result (StringRefusal (B.unread buf.old)) }
 {
     decode_string(alloc, buf)
+}
+
+/// Records but for those of one number, and what is read from their text: the same records.
+pub fn without(
+    alloc: Global,
+    bytes: &[u8],
+    number: u32,
+) -> Result<(UnknownFields, UnknownFields), DecodeError>
+    ensures same { IfOk result (λ both. both.0 ≡ both.1) }
+{
+    let mut fields = UnknownFields::decode_from_slice(alloc, bytes)?;
+    fields.retain(|field| field.number != number);
+    fields.numbers_fit();
+    laws::text_spells_one_list();
+    let mut text = Vec::new(alloc);
+    fields.write_to(&mut text).or(Err(DecodeError::OutOfMemory))?;
+    let again = UnknownFields::decode_from_slice(alloc, &text)?;
+    Ok((again, fields))
 }

@@ -13,28 +13,31 @@ pub(crate) fn cut(alloc: Global, bytes: &[u8], place: usize) -> Result<RopeBuf, 
     let mut rope = Rope::with_min_segment(alloc, 1);
     rope.put_shared(Bytes::copy_from_slice(alloc, &bytes[..place])?)?;
     rope.put_shared(Bytes::copy_from_slice(alloc, &bytes[place..])?)?;
-    match RopeBuf::from_rope(rope) {
-        Ok(buf) => Ok(buf),
-        Err(_) => Err(Stop::Memory),
-    }
+    RopeBuf::from_rope(rope).or(Err(Stop::Memory))
 }
 
-// What stands at the front: a tag and its payload, or the first fault.
-fn read_field<B: Buf>(alloc: Global, buf: &mut B) -> Result<UnknownField, DecodeError> {
-    let mut context = DecodeContext::new(100, 2);
-    let tag = match Tag::decode(buf) {
-        Ok(tag) => tag,
-        Err(error) => return Err(error),
-    };
+// What stands at the front under so many slots: a tag and its payload, or the first fault.
+fn read_field<B: Buf>(
+    alloc: Global,
+    buf: &mut B,
+    slots: usize,
+) -> Result<UnknownField, DecodeError> {
+    let mut context = DecodeContext::new(100, slots);
+    let tag = Tag::decode(buf)?;
     decode_unknown_field(alloc, tag, buf, &mut context)
 }
 
 // Reads the bytes whole and cut at a place. Want of memory on either side is no answer.
-fn same_when_cut(alloc: Global, bytes: &[u8], place: usize) -> Result<bool, Stop> {
+fn same_when_cut(
+    alloc: Global,
+    bytes: &[u8],
+    place: usize,
+    slots: usize,
+) -> Result<bool, Stop> {
     let mut pieces = cut(alloc, bytes, place)?;
     let mut whole = bytes;
-    let first = read_field(alloc, &mut whole);
-    let second = read_field(alloc, &mut pieces);
+    let first = read_field(alloc, &mut whole, slots);
+    let second = read_field(alloc, &mut pieces, slots);
     if first == Err(DecodeError::OutOfMemory) || second == Err(DecodeError::OutOfMemory) {
         return Err(Stop::Memory);
     }
@@ -61,9 +64,11 @@ const INPUTS: [&[u8]; 6] = [
 
 fn each_place(alloc: Global, bytes: &[u8]) -> Found {
     for place in 0..=bytes.len() {
-        let found = found_in(same_when_cut(alloc, bytes, place));
-        if found != Found::Own {
-            return found;
+        for slots in [1, 2] {
+            let found = found_in(same_when_cut(alloc, bytes, place, slots));
+            if found != Found::Own {
+                return found;
+            }
         }
     }
     Found::Own
@@ -126,8 +131,10 @@ fn varints(alloc: Global) -> [Found; 5] {
 #[test]
 fn each_row_answers_its_own_or_lacks_memory(rt: HostRuntime) {
     for bytes in INPUTS {
-        let half = found_in(same_when_cut(rt.alloc(), bytes, bytes.len() / 2));
-        assert_ne!(rt; half, Found::Other, "{bytes:?}");
+        for slots in [1, 2] {
+            let half = found_in(same_when_cut(rt.alloc(), bytes, bytes.len() / 2, slots));
+            assert_ne!(rt; half, Found::Other, "{bytes:?}");
+        }
     }
     for depth in [100, 101] {
         let half = found_in(deepest_when_cut(rt.alloc(), depth, depth));

@@ -3,10 +3,12 @@ use crate::chunks::cut;
 use crate::found::{Found, Stop, found_in};
 use bytes::{Buf, Bytes};
 use std::alloc::Global;
-use wire_base::DecodeError;
+use wire_base::{
+    DecodeContext, DecodeError, Tag, WireType, decode_length, decode_unknown_field,
+};
 use wire_text::{
-    WirePayload, borrow_bytes, bytes_encoded_len, decode_bytes, decode_bytes_to_bytes,
-    encode_bytes, merge_bytes, put_bytes_field,
+    WirePayload, borrow_bytes, bytes_encoded_len, decode_bytes, decode_bytes_to,
+    decode_bytes_to_bytes, encode_bytes, merge_bytes, put_bytes_field,
 };
 
 #[test]
@@ -19,11 +21,36 @@ fn bytes_are_borrowed(rt: HostRuntime) {
     assert!(rt; buf == b"\x02\xc3".as_slice());
 }
 
+// A length of 2 ^ 63, of 2 ^ 64 - 1, and of one byte more than follows.
+pub(crate) const LENGTHS: [&[u8]; 3] = [
+    b"\x80\x80\x80\x80\x80\x80\x80\x80\x80\x01a",
+    b"\xff\xff\xff\xff\xff\xff\xff\xff\xff\x01",
+    b"\x02a",
+];
+
+// No call reserves what a length promises that is not there, so none answers want of memory.
 #[test]
-fn the_greatest_length_is_short_input(rt: HostRuntime) {
-    let mut buf: &[u8] = b"\xff\xff\xff\xff\xff\xff\xff\xff\xff\x01";
-    let found = decode_bytes(rt.alloc(), &mut buf);
-    assert!(rt; found == Err(DecodeError::UnexpectedEof));
+fn lengths_that_lie_are_short_input(rt: HostRuntime) {
+    let alloc = rt.alloc();
+    for bytes in LENGTHS {
+        let (mut lent, mut own) = (bytes, bytes);
+        assert!(rt; borrow_bytes(&mut lent) == Err(DecodeError::UnexpectedEof));
+        assert!(rt; decode_bytes(alloc, &mut own) == Err(DecodeError::UnexpectedEof));
+        let (mut shared, mut merged) = (bytes, bytes);
+        let found = decode_bytes_to_bytes(alloc, &mut shared);
+        assert!(rt; matches!(found, Err(DecodeError::UnexpectedEof)));
+        let mut value = Vec::new(alloc);
+        assert!(rt; merge_bytes(alloc, &mut value, &mut merged) == Err(DecodeError::UnexpectedEof));
+        let (mut plugged, mut unknown) = (bytes, bytes);
+        let found: Result<Vec<u8>, DecodeError> = decode_bytes_to(alloc, &mut plugged);
+        assert!(rt; found == Err(DecodeError::UnexpectedEof));
+        let tag = Tag::new(1, WireType::LengthDelimited);
+        let mut context = DecodeContext::new(0, 1);
+        let found = decode_unknown_field(alloc, tag, &mut unknown, &mut context);
+        assert!(rt; found == Err(DecodeError::UnexpectedEof));
+        let mut rest = bytes;
+        assert!(rt; decode_length(&mut rest, None) == Err(DecodeError::UnexpectedEof));
+    }
 }
 
 fn writes(alloc: Global) -> Result<bool, Stop> {
@@ -53,7 +80,7 @@ fn merges(
 ) -> Result<bool, Stop> {
     let mut value = Vec::from_slice(alloc, b"old")?;
     let mut buf = cut(alloc, bytes, bytes.len() / 2)?;
-    let found = merge_bytes(&mut value, &mut buf);
+    let found = merge_bytes(alloc, &mut value, &mut buf);
     if found == Err(DecodeError::OutOfMemory) && value.as_slice() == b"old".as_slice() {
         return Err(Stop::Memory);
     }

@@ -1,11 +1,12 @@
 //! Strings: written, read, merged and borrowed.
 use crate::chunks::cut;
 use crate::found::{Found, Stop, found_in};
+use crate::payloads::LENGTHS;
 use bytes::Buf;
 use std::alloc::Global;
 use wire_base::DecodeError;
 use wire_text::{
-    borrow_str, decode_string, encode_string, merge_string, put_string_field, string_encoded_len,
+    borrow_str, decode_string, decode_string_to, encode_string, merge_string, put_string_field, string_encoded_len,
 };
 
 #[test]
@@ -19,6 +20,22 @@ fn strings_are_borrowed(rt: HostRuntime) {
     buf = b"\x02h";
     assert!(rt; borrow_str(&mut buf) == Err(DecodeError::UnexpectedEof));
     assert!(rt; buf == b"\x02h".as_slice());
+}
+
+// No call reserves what a length promises that is not there.
+#[test]
+fn lengths_that_lie_are_short_input(rt: HostRuntime) {
+    let alloc = rt.alloc();
+    for bytes in LENGTHS {
+        let (mut lent, mut own) = (bytes, bytes);
+        assert!(rt; borrow_str(&mut lent) == Err(DecodeError::UnexpectedEof));
+        assert!(rt; decode_string(alloc, &mut own) == Err(DecodeError::UnexpectedEof));
+        let (mut merged, mut plugged) = (bytes, bytes);
+        let mut value = String::new(alloc);
+        assert!(rt; merge_string(alloc, &mut value, &mut merged) == Err(DecodeError::UnexpectedEof));
+        let found: Result<String, DecodeError> = decode_string_to(alloc, &mut plugged);
+        assert!(rt; found == Err(DecodeError::UnexpectedEof));
+    }
 }
 
 fn writes(alloc: Global) -> Result<bool, Stop> {
@@ -52,7 +69,7 @@ fn merges(
 ) -> Result<bool, Stop> {
     let mut value = String::from_str(alloc, "old")?;
     let mut buf = cut(alloc, bytes, bytes.len() / 2)?;
-    let found = merge_string(&mut value, &mut buf);
+    let found = merge_string(alloc, &mut value, &mut buf);
     if found == Err(DecodeError::OutOfMemory) && value.as_str() == "old" {
         return Err(Stop::Memory);
     }

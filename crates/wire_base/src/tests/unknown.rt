@@ -32,6 +32,16 @@ fn rewrites(alloc: Global, bytes: &[u8], count: usize, text: &[u8]) -> Result<bo
     )
 }
 
+// A padded tag and a padded number are one field of number 1 with the varint 0.
+fn padded_tree(alloc: Global) -> Result<bool, Stop> {
+    let fields = UnknownFields::decode_from_slice(alloc, b"\x88\x00\x80\x00")?;
+    let mut found = fields.into_iter();
+    Ok(
+        found.next() == Some(field(1, UnknownFieldData::Varint(0)))
+            && found.next().is_none(),
+    )
+}
+
 fn field(number: u32, value: UnknownFieldData) -> UnknownField {
     UnknownField { number, value }
 }
@@ -163,7 +173,7 @@ fn iterates(alloc: Global) -> Result<bool, Stop> {
     Ok(borrowed == 1234 && owned == 1234)
 }
 
-fn whole_rows(alloc: Global) -> [(&'static str, Found); 13] {
+fn whole_rows(alloc: Global) -> [(&'static str, Found); 14] {
     let end_two = DecodeError::InvalidEndGroup(2);
     let outside = DecodeError::InvalidWireType(4);
     let short = DecodeError::UnexpectedEof;
@@ -173,6 +183,7 @@ fn whole_rows(alloc: Global) -> [(&'static str, Found); 13] {
             "padded",
             found_in(rewrites(alloc, b"\x88\x00\x80\x00", 1, b"\x08\x00")),
         ),
+        ("a padded tree", found_in(padded_tree(alloc))),
         (
             "bytes",
             found_in(rewrites(alloc, b"\x92\x00\x81\x00A", 1, b"\x12\x01A")),
@@ -349,4 +360,31 @@ fn payloads_are_skipped(rt: HostRuntime) {
         skip_field(Tag::new(1, WireType::LengthDelimited), &mut buf),
         Err(DecodeError::UnexpectedEof)
     );
+}
+
+#[test]
+fn element_memory_is_taken_where_there_is_a_limit(rt: HostRuntime) {
+    let mut context = DecodeContext::new(1, 1);
+    assert_eq!(rt; context.remaining_element_memory(), None);
+    assert_eq!(rt; context.register_element_memory(usize::MAX), Ok(()));
+    let mut context = context.with_element_memory(64);
+    assert_eq!(rt; context.register_element_memory(40), Ok(()));
+    assert_eq!(rt;
+        context.register_element_memory(25),
+        Err(DecodeError::ElementMemoryLimitExceeded)
+    );
+    assert_eq!(rt; context.remaining_element_memory(), Some(24));
+    assert_eq!(rt; context.register_element_memory(24), Ok(()));
+    assert_eq!(rt; (context.depth(), context.remaining_unknown_fields()), (1, 1));
+}
+
+#[test]
+fn a_caller_names_the_limits(rt: HostRuntime) {
+    let mut context = DecodeContext::new(0, 2);
+    let found =
+        UnknownFields::decode_from_slice_within(rt.alloc(), b"\x08\x00\x10\x00", &mut context);
+    assert_eq!(rt; found.map(|fields| fields.len()), Ok(2));
+    assert_eq!(rt; context.remaining_unknown_fields(), 0);
+    let found = UnknownFields::decode_from_slice_within(rt.alloc(), b"\x0b\x0c", &mut context);
+    assert_eq!(rt; found, Err(DecodeError::UnknownFieldLimitExceeded));
 }
