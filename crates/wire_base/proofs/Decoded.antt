@@ -25,33 +25,54 @@ use Rattle.wire_base.proofs.Takes.{whole_input_lemma}
 -- ---- one payload
 
 -- memory for a payload that is there
-pub no_memory_for_bytes : (l : Limits) (n len : ℕ) (old mid : List ℕ) → Reads old (IsSpelling len) mid → len ≤ length mid
+pub no_memory_for_bytes : (l : Limits) (n len : ℕ) (old mid : List ℕ)
+    → Reads old (IsSpelling len) mid → len ≤ length mid
     → PayloadRefusal l n types.LengthDelimited old OutOfMemory
-no_memory_for_bytes l n len old mid h there = inr (refl, for_bytes (take len mid) (drop len mid) (delimited_at len old mid (drop len mid) h there refl))
+no_memory_for_bytes l n len old mid h there =
+    inr (
+      refl,
+      for_bytes (take len mid) (drop len mid)
+          (delimited_at len old mid (drop len mid) h there refl),
+    )
 
 -- a refusal in a group, under the limits that are left there
-pub refused_in_group : (l left : Limits) (n k : ℕ) (old : List ℕ) (e : DecodeError) → Fits one_field l → 0 < l.depth → left ≡ inner (left_after l one_field) → k ≡ n
+pub refused_in_group : (l left : Limits) (n k : ℕ) (old : List ℕ) (e : DecodeError)
+    → Fits one_field l → 0 < l.depth → left ≡ inner (left_after l one_field) → k ≡ n
     → ListRefusal left (by_tag k) old e → PayloadRefusal l n types.StartGroup old e
-refused_in_group l left n k old e slot level is same (inl fault) = inl (in_group slot level (rw (is, same) at fault))
-refused_in_group l left n k old e slot level is same (inr memory) = inr (memory.0, memory_in_group memory.1)
+refused_in_group l left n k old e slot level is same (inl fault) =
+    inl (in_group slot level (rw (is, same) at fault))
+refused_in_group l left n k old e slot level is same (inr memory) =
+    inr (memory.0, memory_in_group memory.1)
 
 -- ---- one record of a list
 
-module _ (l : Limits) (ending : Ending) (fs : Fields) (old rest : List ℕ) (h : TakesFields (charge fs) l fs old rest) where
+module _ (l : Limits) (ending : Ending) (fs : Fields) (old rest : List ℕ)
+    (h : TakesFields (charge fs) l fs old rest) where
   -- behind the records that were read, no tag of another
-  pub refused_tag : (e : DecodeError) → GoesOn ending rest → NextTagFault ending rest e → ListRefusal l ending old e
+  pub refused_tag : (e : DecodeError) → GoesOn ending rest → NextTagFault ending rest e
+      → ListRefusal l ending old e
   refused_tag e goes fault = inl (past fs rest h goes (no_tag fault))
 
   -- or no payload
-  pub refused_payload : (left : Limits) (n : ℕ) (w : WireType) (behind : List ℕ) (e : DecodeError) → GoesOn ending rest → Reads rest (IsTagSpelling n w) behind → IsRecordTag ending w
-      → left ≡ left_after l (charge fs) → PayloadRefusal left n w behind e → ListRefusal l ending old e
-  refused_payload left n w behind e goes tag is left_is (inl fault) = inl (past fs rest h goes (bad_payload n w behind tag is (rw left_is at fault)))
-  refused_payload left n w behind e goes tag is left_is (inr memory) = inr (memory.0, for_payload fs rest n w behind h.read tag memory.1)
+  pub refused_payload : (left : Limits) (n : ℕ) (w : WireType) (behind : List ℕ) (e : DecodeError)
+      → GoesOn ending rest → Reads rest (IsTagSpelling n w) behind → IsRecordTag ending w
+      → left ≡ left_after l (charge fs) → PayloadRefusal left n w behind e
+      → ListRefusal l ending old e
+  refused_payload left n w behind e goes tag is left_is (inl fault) =
+      inl (past fs rest h goes (bad_payload n w behind tag is (rw left_is at fault)))
+  refused_payload left n w behind e goes tag is left_is (inr memory) =
+      inr (memory.0, for_payload fs rest n w behind h.read tag memory.1)
 
   -- or no memory to keep it
-  pub refused_push : (left : Limits) (n : ℕ) (w : WireType) (p : Payload) (behind new : List ℕ) → Reads rest (IsTagSpelling n w) behind
+  pub refused_push : (left : Limits) (n : ℕ) (w : WireType) (p : Payload) (behind new : List ℕ)
+      → Reads rest (IsTagSpelling n w) behind
       → TakesPayload (payload_charge p) left n w p behind new → ListRefusal l ending old OutOfMemory
-  refused_push left n w p behind new tag payload = inr (refl, for_field (push fs n p) new (some fs) (Reads-push fs n w p old rest behind new h.read tag payload.read))
+  refused_push left n w p behind new tag payload =
+      inr (
+        refl,
+        for_field (push fs n p) new (some fs)
+            (Reads-push fs n w p old rest behind new h.read tag payload.read),
+      )
     where
       some : (gs : Fields) → push gs n p ≡ none → ⊥
       some none e = cc
@@ -59,12 +80,17 @@ module _ (l : Limits) (ending : Ending) (fs : Fields) (old rest : List ℕ) (h :
 
 -- ---- the whole input
 
--- where bytes spell records within the limits, no reader of them gives others or another error than want of memory
-pub only_these : (l : Limits) (bytes : List ℕ) (r : Result Fields DecodeError) → IfOk r (λ fs. Spells fs bytes) → IfErr r (ListRefusal l by_input bytes)
-    → (fs : Fields) → Spells fs bytes → Fits (charge fs) l → MatchResult r (λ read. read ≡ fs) (λ e. e ≡ OutOfMemory)
+-- where bytes spell records within the limits, no reader of them gives others or another error than
+-- want of memory
+pub only_these : (l : Limits) (bytes : List ℕ) (r : Result Fields DecodeError)
+    → IfOk r (λ fs. Spells fs bytes) → IfErr r (ListRefusal l by_input bytes)
+    → (fs : Fields) → Spells fs bytes → Fits (charge fs) l
+    → MatchResult r (λ read. read ≡ fs) (λ e. e ≡ OutOfMemory)
 only_these l bytes (Ok read) spelled refusal fs s fits = one_spelled_lemma read fs bytes spelled s
 only_these l bytes (Err e) spelled refusal fs s fits =
     ⊎_elim
-    (λ fault. absurd (no_list_beside_fault_lemma l by_input bytes [] e fs fault ((whole_input_lemma (charge fs) l fs bytes []).1 (s, fits, refl))))
+    (λ fault. absurd
+    (no_list_beside_fault_lemma l by_input bytes [] e fs fault
+    ((whole_input_lemma (charge fs) l fs bytes []).1 (s, fits, refl))))
     (λ memory. memory.0)
     refusal

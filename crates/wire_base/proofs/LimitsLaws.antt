@@ -1,4 +1,5 @@
--- The algebra of limits and charges. One budget more is a line in each lemma on all counts together.
+-- The algebra of limits and charges. One budget more is a line in each lemma on all counts
+-- together.
 use Rattle.std.proofs.Common.{◌≡◌, ℕ, ◌+◌, ◌≤◌, ◌<◌, ◌⊎◌, inl, inr, Option, Some, None, refl, sym, ap, ◌∙◌, subst, arith, ⊎_elim}
 use Rattle.std.proofs.lemmas.Bool.{cases_lt}
 use Rattle.wire_base.specs.Charge.{total, payload_charge, charge}
@@ -20,7 +21,8 @@ HasRoom-second : (left : Option ℕ) (a b : ℕ) → HasRoom left (a + b) → Ha
 HasRoom-second None a b h = tt
 HasRoom-second (Some left) a b h = omega arith
 
-HasRoom-sum : (left : Option ℕ) (a b : ℕ) → HasRoom left a → HasRoom (less left a) b → HasRoom left (a + b)
+HasRoom-sum : (left : Option ℕ) (a b : ℕ) → HasRoom left a → HasRoom (less left a) b
+    → HasRoom left (a + b)
 HasRoom-sum None a b h k = tt
 HasRoom-sum (Some left) a b h k = omega arith
 
@@ -53,10 +55,12 @@ IsNoMore-again (Some a) (Some b) (Some c) h k = omega arith
 
 -- ---- all counts together
 
-same_counts : (a b : Counts) → a.unknown_fields ≡ b.unknown_fields → a.element_memory ≡ b.element_memory → a ≡ b
+same_counts : (a b : Counts) → a.unknown_fields ≡ b.unknown_fields
+    → a.element_memory ≡ b.element_memory → a ≡ b
 same_counts a b p q = λ i. record { unknown_fields = p i; element_memory = q i }
 
-same_budgets : (a b : Budgets) → a.unknown_fields ≡ b.unknown_fields → a.element_memory ≡ b.element_memory → a ≡ b
+same_budgets : (a b : Budgets) → a.unknown_fields ≡ b.unknown_fields
+    → a.element_memory ≡ b.element_memory → a ≡ b
 same_budgets a b p q = λ i. record { unknown_fields = p i; element_memory = q i }
 
 HaveRoom-none : (left : Budgets) → HaveRoom left no_counts
@@ -71,13 +75,15 @@ HaveRoom-first left a b h = record {
   element_memory = HasRoom-first left.element_memory a.element_memory b.element_memory h.element_memory;
 }
 
-HaveRoom-second : (left : Budgets) (a b : Counts) → HaveRoom left (sums a b) → HaveRoom (each_less left a) b
+HaveRoom-second : (left : Budgets) (a b : Counts) → HaveRoom left (sums a b)
+    → HaveRoom (each_less left a) b
 HaveRoom-second left a b h = record {
   unknown_fields = HasRoom-second left.unknown_fields a.unknown_fields b.unknown_fields h.unknown_fields;
   element_memory = HasRoom-second left.element_memory a.element_memory b.element_memory h.element_memory;
 }
 
-HaveRoom-sums : (left : Budgets) (a b : Counts) → HaveRoom left a → HaveRoom (each_less left a) b → HaveRoom left (sums a b)
+HaveRoom-sums : (left : Budgets) (a b : Counts) → HaveRoom left a → HaveRoom (each_less left a) b
+    → HaveRoom left (sums a b)
 HaveRoom-sums left a b h k = record {
   unknown_fields = HasRoom-sum left.unknown_fields a.unknown_fields b.unknown_fields h.unknown_fields k.unknown_fields;
   element_memory = HasRoom-sum left.element_memory a.element_memory b.element_memory h.element_memory k.element_memory;
@@ -88,20 +94,22 @@ rooms_or_not : (left : Budgets) (a : Counts) → HaveRoom left a ⊎ ¬ HaveRoom
 rooms_or_not left a =
     ⊎_elim
     (λ fields. ⊎_elim
-        (λ memory. inl (record { unknown_fields = fields; element_memory = memory }))
-        (λ full. inr (λ h. full h.element_memory))
-        (room_or_not left.element_memory a.element_memory))
+    (λ memory. inl (record { unknown_fields = fields; element_memory = memory }))
+    (λ full. inr (λ h. full h.element_memory))
+    (room_or_not left.element_memory a.element_memory))
     (λ full. inr (λ h. full h.unknown_fields))
     (room_or_not left.unknown_fields a.unknown_fields)
 
-each_less-each_less : (left : Budgets) (a b : Counts) → each_less (each_less left a) b ≡ each_less left (sums a b)
+each_less-each_less : (left : Budgets) (a b : Counts)
+    → each_less (each_less left a) b ≡ each_less left (sums a b)
 each_less-each_less left a b =
     same_budgets _ _
     (less-less left.unknown_fields a.unknown_fields b.unknown_fields)
     (less-less left.element_memory a.element_memory b.element_memory)
 
 each_less-none : (left : Budgets) → each_less left no_counts ≡ left
-each_less-none left = same_budgets _ _ (less-none left.unknown_fields) (less-none left.element_memory)
+each_less-none left =
+    same_budgets _ _ (less-none left.unknown_fields) (less-none left.element_memory)
 
 AreNoMore-itself : (left : Budgets) → AreNoMore left left
 AreNoMore-itself left = record {
@@ -145,7 +153,8 @@ pub both-nothing_last : (a : Charge) → both a no_charge ≡ a
 both-nothing_last a = same_charge _ _ (omega arith) (sums-none_last a.counts)
 
 -- charges of joined lists add up
-pub total-joined : (charge_of : ℕ → Payload → Charge) (fs gs : Fields) → total charge_of (joined fs gs) ≡ both (total charge_of fs) (total charge_of gs)
+pub total-joined : (charge_of : ℕ → Payload → Charge) (fs gs : Fields)
+    → total charge_of (joined fs gs) ≡ both (total charge_of fs) (total charge_of gs)
 total-joined charge_of none gs = sym (both-nothing_first (total charge_of gs))
 total-joined charge_of (field n p fs) gs =
     ap (both (charge_of n p)) (total-joined charge_of fs gs)
@@ -168,7 +177,8 @@ pub charge-one : (n : ℕ) (p : Payload) → charge (field n p none) ≡ payload
 charge-one n p = both-nothing_last (payload_charge p)
 
 -- one record more is charged as its payload
-pub charge-push : (fs : Fields) (n : ℕ) (p : Payload) → charge (joined fs (field n p none)) ≡ both (charge fs) (payload_charge p)
+pub charge-push : (fs : Fields) (n : ℕ) (p : Payload)
+    → charge (joined fs (field n p none)) ≡ both (charge fs) (payload_charge p)
 charge-push fs n p = charge-joined fs (field n p none) ∙ ap (both (charge fs)) (charge-one n p)
 
 -- ---- limits
@@ -177,7 +187,8 @@ same_limits : (l m : Limits) → l.depth ≡ m.depth → l.counts ≡ m.counts �
 same_limits l m p q = λ i. record { depth = p i; counts = q i }
 
 -- one charge after the other
-pub left_after-both : (l : Limits) (a b : Charge) → left_after (left_after l a) b ≡ left_after l (both a b)
+pub left_after-both : (l : Limits) (a b : Charge)
+    → left_after (left_after l a) b ≡ left_after l (both a b)
 left_after-both l a b = same_limits _ _ refl (each_less-each_less l.counts a.counts b.counts)
 
 -- nothing leaves the limits as they are
@@ -190,22 +201,38 @@ Fits-nothing l = record { depth = omega arith; counts = HaveRoom-none l.counts }
 
 -- the first of two charges that fit
 pub Fits-first : (l : Limits) (a b : Charge) → Fits (both a b) l → Fits a l
-Fits-first l a b h = record { depth = omega (arith, h.depth); counts = HaveRoom-first l.counts a.counts b.counts h.counts }
+Fits-first l a b h =
+    record {
+      depth = omega
+          (arith, h.depth);
+      counts = HaveRoom-first l.counts a.counts b.counts h.counts;
+    }
 
 -- the second fits what the first leaves
 pub Fits-second : (l : Limits) (a b : Charge) → Fits (both a b) l → Fits b (left_after l a)
-Fits-second l a b h = record { depth = omega (arith, h.depth); counts = HaveRoom-second l.counts a.counts b.counts h.counts }
+Fits-second l a b h =
+    record {
+      depth = omega
+          (arith, h.depth);
+      counts = HaveRoom-second l.counts a.counts b.counts h.counts;
+    }
 
 -- a charge and another that fits what the first leaves fit both
 pub Fits-both : (l : Limits) (a b : Charge) → Fits a l → Fits b (left_after l a) → Fits (both a b) l
-Fits-both l a b h k = record { depth = omega (arith, h.depth, k.depth); counts = HaveRoom-sums l.counts a.counts b.counts h.counts k.counts }
+Fits-both l a b h k =
+    record {
+      depth = omega
+          (arith, h.depth, k.depth);
+      counts = HaveRoom-sums l.counts a.counts b.counts h.counts k.counts;
+    }
 
 -- a charge fits or not
 pub fits_or_not : (l : Limits) (a : Charge) → Fits a l ⊎ ¬ Fits a l
 fits_or_not l a =
     ⊎_elim
     (λ deep. inr (λ h. omega (arith, h.depth)))
-    (λ low. ⊎_elim (λ room. inl (record { depth = low; counts = room })) (λ full. inr (λ h. full h.counts)) (rooms_or_not l.counts a.counts))
+    (λ low. ⊎_elim (λ room. inl (record { depth = low; counts = room }))
+    (λ full. inr (λ h. full h.counts)) (rooms_or_not l.counts a.counts))
     (cases_lt l.depth a.depth)
 
 -- ---- levels
@@ -221,7 +248,8 @@ pub Fits-nested : (l : Limits) (c : Charge) → 0 < l.depth → Fits c (inner l)
 Fits-nested l c level h = record { depth = omega (arith, h.depth); counts = h.counts }
 
 -- a level, what is taken there, and the level again
-pub left_after-nested : (l : Limits) (c : Charge) → 0 < l.depth → outer (left_after (inner l) c) ≡ left_after l (nested c)
+pub left_after-nested : (l : Limits) (c : Charge) → 0 < l.depth
+    → outer (left_after (inner l) c) ≡ left_after l (nested c)
 left_after-nested l c level = same_limits _ _ (omega arith) refl
 
 -- ---- counts that do not grow
@@ -233,10 +261,12 @@ pub NoCountGrew-left_after : (l : Limits) (c : Charge) → NoCountGrew l (left_a
 NoCountGrew-left_after l c = record { counts = AreNoMore-each_less l.counts c.counts }
 
 pub NoCountGrew-again : (l m k : Limits) → NoCountGrew l m → NoCountGrew m k → NoCountGrew l k
-NoCountGrew-again l m k h j = record { counts = AreNoMore-again l.counts m.counts k.counts h.counts j.counts }
+NoCountGrew-again l m k h j =
+    record { counts = AreNoMore-again l.counts m.counts k.counts h.counts j.counts }
 
 -- what is left after a charge, and what is left after that
-pub NoCountGrew-after : (l m : Limits) (c : Charge) → NoCountGrew (left_after l c) m → NoCountGrew l m
+pub NoCountGrew-after : (l m : Limits) (c : Charge) → NoCountGrew (left_after l c) m
+    → NoCountGrew l m
 NoCountGrew-after l m c h = NoCountGrew-again l (left_after l c) m (NoCountGrew-left_after l c) h
 
 -- ---- unknown fields
@@ -254,20 +284,30 @@ pub level_of_group : (l : Limits) (fs : Fields) → Fits (payload_charge (group 
 level_of_group l fs h = omega (arith, h.depth)
 
 -- what a group holds fits one level down, behind the slot of the group
-pub Fits-inside : (l : Limits) (fs : Fields) → Fits (payload_charge (group fs)) l → Fits (charge fs) (inner (left_after l one_field))
-Fits-inside l fs h = nested-inside (left_after l one_field) (charge fs) (Fits-second l one_field (nested (charge fs)) h)
+pub Fits-inside : (l : Limits) (fs : Fields) → Fits (payload_charge (group fs)) l
+    → Fits (charge fs) (inner (left_after l one_field))
+Fits-inside l fs h =
+    nested-inside (left_after l one_field) (charge fs)
+    (Fits-second l one_field (nested (charge fs)) h)
 
 -- a slot, a level and room for what it holds are room for a group
-pub Fits-group : (l : Limits) (fs : Fields) → Fits one_field l → 0 < l.depth → Fits (charge fs) (inner (left_after l one_field)) → Fits (payload_charge (group fs)) l
-Fits-group l fs h level k = Fits-both l one_field (nested (charge fs)) h (Fits-nested (left_after l one_field) (charge fs) level k)
+pub Fits-group : (l : Limits) (fs : Fields) → Fits one_field l → 0 < l.depth
+    → Fits (charge fs) (inner (left_after l one_field)) → Fits (payload_charge (group fs)) l
+Fits-group l fs h level k =
+    Fits-both l one_field (nested (charge fs)) h
+    (Fits-nested (left_after l one_field) (charge fs) level k)
 
 -- a group's slot and its level, its records, and the level again: the charge of the group
-pub left_after-group : (l : Limits) (fs : Fields) → 0 < l.depth → outer (left_after (inner (left_after l one_field)) (charge fs)) ≡ left_after l (payload_charge (group fs))
-left_after-group l fs level = left_after-nested (left_after l one_field) (charge fs) level ∙ left_after-both l one_field (nested (charge fs))
+pub left_after-group : (l : Limits) (fs : Fields) → 0 < l.depth
+    → outer (left_after (inner (left_after l one_field)) (charge fs)) ≡ left_after l
+    (payload_charge (group fs))
+left_after-group l fs level = left_after-nested (left_after l one_field) (charge fs) level
+    ∙ left_after-both l one_field (nested (charge fs))
 
 -- without a count there is a slot for each field
 pub uncounted_slot : (levels : ℕ) → Fits one_field (uncounted levels)
-uncounted_slot levels = record { depth = omega arith; counts = record { unknown_fields = tt; element_memory = tt } }
+uncounted_slot levels =
+    record { depth = omega arith; counts = record { unknown_fields = tt; element_memory = tt } }
 
 -- ---- the laws
 
@@ -282,7 +322,8 @@ charges_add_up_lemma = record {
 
 pub limits_add_up_lemma : LimitsAddUp
 limits_add_up_lemma = record {
-  both_fit = λ l a b. (λ h. (Fits-first l a b h, Fits-second l a b h), λ h. Fits-both l a b h.0 h.1);
+  both_fit = λ l a b.
+      (λ h. (Fits-first l a b h, Fits-second l a b h), λ h. Fits-both l a b h.0 h.1);
   left_after_both = left_after-both;
   nothing_fits = Fits-nothing;
   left_after_nothing = left_after-nothing;
@@ -290,7 +331,8 @@ limits_add_up_lemma = record {
 
 pub levels_add_up_lemma : LevelsAddUp
 levels_add_up_lemma = record {
-  nested_fits = λ l c. (λ h. (nested-level l c h, nested-inside l c h), λ h. Fits-nested l c h.0 h.1);
+  nested_fits = λ l c.
+      (λ h. (nested-level l c h, nested-inside l c h), λ h. Fits-nested l c h.0 h.1);
   left_after_nested = left_after-nested;
 }
 

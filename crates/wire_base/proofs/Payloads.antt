@@ -20,38 +20,65 @@ use Rattle.wire_base.proofs.ReadLaws.{Reads-take, joined_parts}
 use Rattle.wire_base.proofs.Takes.{last_before}
 
 module _ (l : Limits) (n : ℕ) (slot : Fits one_field l) where
-  pub takes_varint : (v : ℕ) (old new : List ℕ) → Reads old (IsSpelling v) new → TakesPayload one_field l n types.Varint (varint v) old new
+  pub takes_varint : (v : ℕ) (old new : List ℕ) → Reads old (IsSpelling v) new
+      → TakesPayload one_field l n types.Varint (varint v) old new
   takes_varint v old new h = record { read = payload_as n (varint v) old new h; fits = slot }
 
-  pub takes_fixed64 : (old new : List ℕ) → 8 ≤ length old → new ≡ drop 8 old → TakesPayload one_field l n types.Fixed64 (fixed64 (from_le_bytes w64 (take 8 old))) old new
+  pub takes_fixed64 : (old new : List ℕ) → 8 ≤ length old → new ≡ drop 8 old
+      → TakesPayload one_field l n types.Fixed64 (fixed64 (from_le_bytes w64 (take 8 old))) old new
   takes_fixed64 old new long e =
       let v = from_le_bytes w64 (take 8 old) in
-      record { read = payload_as n (fixed64 v) old new (Reads-take (SpellsPayload n (fixed64 v)) 8 old new e (length-take-le 8 old long, refl)); fits = slot }
+      record {
+        read = payload_as n (fixed64 v) old new
+            (Reads-take (SpellsPayload n (fixed64 v)) 8 old new e
+            (length-take-le 8 old long, refl));
+        fits = slot;
+      }
 
-  pub takes_fixed32 : (old new : List ℕ) → 4 ≤ length old → new ≡ drop 4 old → TakesPayload one_field l n types.Fixed32 (fixed32 (from_le_bytes w32 (take 4 old))) old new
+  pub takes_fixed32 : (old new : List ℕ) → 4 ≤ length old → new ≡ drop 4 old
+      → TakesPayload one_field l n types.Fixed32 (fixed32 (from_le_bytes w32 (take 4 old))) old new
   takes_fixed32 old new long e =
       let v = from_le_bytes w32 (take 4 old) in
-      record { read = payload_as n (fixed32 v) old new (Reads-take (SpellsPayload n (fixed32 v)) 4 old new e (length-take-le 4 old long, refl)); fits = slot }
+      record {
+        read = payload_as n (fixed32 v) old new
+            (Reads-take (SpellsPayload n (fixed32 v)) 4 old new e
+            (length-take-le 4 old long, refl));
+        fits = slot;
+      }
 
-  pub takes_delimited : (b old new : List ℕ) → Reads old (IsDelimited b) new → TakesPayload one_field l n types.LengthDelimited (bytes b) old new
+  pub takes_delimited : (b old new : List ℕ) → Reads old (IsDelimited b) new
+      → TakesPayload one_field l n types.LengthDelimited (bytes b) old new
   takes_delimited b old new h = record { read = payload_as n (bytes b) old new h; fits = slot }
 
-  pub takes_group : (fs : Fields) (old new : List ℕ) → 0 < l.depth → TakesUntil (charge fs) (inner (left_after l one_field)) (by_tag n) fs old new
+  pub takes_group : (fs : Fields) (old new : List ℕ) → 0 < l.depth
+      → TakesUntil (charge fs) (inner (left_after l one_field)) (by_tag n) fs old new
       → TakesPayload (payload_charge (group fs)) l n types.StartGroup (group fs) old new
   takes_group fs old new level h = record {
     read = payload_as n (group fs) old new (record {
       text = h.fields.read.text ++ h.ended.text;
-      parts = joined_parts (Spells fs) (IsTagSpelling n types.EndGroup) old h.end new h.fields.read h.ended;
-      spelled = (h.ended.text, record { text = h.fields.read.text; parts = refl; spelled = h.fields.read.spelled }, h.ended.spelled);
+      parts = joined_parts (Spells fs)
+          (IsTagSpelling n types.EndGroup) old h.end new h.fields.read h.ended;
+      spelled =
+          (h.ended.text, record { text = h.fields.read.text; parts = refl; spelled = h.fields.read.spelled }, h.ended.spelled);
     });
     fits = Fits-group l fs slot level h.fields.fits;
   }
 
   -- a fault in the group, under the limits that are left there
-  pub fails_in_group : (left : Limits) (k : ℕ) {bytes : List ℕ} {e : DecodeError} → 0 < l.depth → left ≡ inner (left_after l one_field) → k ≡ n → ListFault left (by_tag k) bytes e → PayloadFault l n types.StartGroup bytes e
+  pub fails_in_group : (left : Limits) (k : ℕ) {bytes : List ℕ} {e : DecodeError} → 0 < l.depth
+      → left ≡ inner (left_after l one_field) → k ≡ n → ListFault left (by_tag k) bytes e
+      → PayloadFault l n types.StartGroup bytes e
   fails_in_group left k level is same f = in_group slot level (rw (is, same) at f)
 
 -- records up to a place where they end
-pub takes_until : (l : Limits) (n : ℕ) (fs : Fields) (old mid new : List ℕ) → TakesFields (charge fs) l fs old mid → Reads mid (IsTagSpelling n types.EndGroup) new
+pub takes_until : (l : Limits) (n : ℕ) (fs : Fields) (old mid new : List ℕ)
+    → TakesFields (charge fs) l fs old mid → Reads mid (IsTagSpelling n types.EndGroup) new
     → TakesUntil (charge fs) l (by_tag n) fs old new
-takes_until l n fs old mid new h end = record { end = mid; fields = h; ended = end; last = last_before (by_tag n) fs old mid h.read (λ rest longer. tt) }
+takes_until l n fs old mid new h end =
+    record {
+      end = mid;
+      fields = h;
+      ended = end;
+      last = last_before (by_tag n) fs old mid h.read
+          (λ rest longer. tt);
+    }

@@ -12,7 +12,8 @@ Reads-inside IsText old text rest new e h = record {
 }
 
 -- a text and its rest, without what stands behind the rest
-pub Reads-alone : (IsText : List ℕ → Type 0) (old rest new : List ℕ) (h : Reads old IsText (rest ++ new))
+pub Reads-alone : (IsText : List ℕ
+    → Type 0) (old rest new : List ℕ) (h : Reads old IsText (rest ++ new))
     → Reads (h.text ++ rest) IsText rest
 Reads-alone IsText old rest new h = record { text = h.text; parts = refl; spelled = h.spelled }
 

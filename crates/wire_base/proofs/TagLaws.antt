@@ -101,13 +101,20 @@ pub tag_error-none : (v : ℕ) → v < 2 ^ 32 → v % 8 < 6 → 8 ≤ v → tag_
 tag_error-none v h low high = grind (arith, nat_tests)
 
 -- a number is a tag's, or it has an error
-pub tag_or_error : (v : ℕ) → ((n : ℕ) × (w : WireType) × IsFieldNumber n × (tag_value n w ≡ v)) ⊎ ((e : DecodeError) × (tag_error v ≡ Some e))
+pub tag_or_error : (v : ℕ) → ((n : ℕ) × (w : WireType) × IsFieldNumber n × (tag_value n w ≡ v))
+    ⊎ ((e : DecodeError) × (tag_error v ≡ Some e))
 tag_or_error v =
     ⊎_elim
     (λ small. ⊎_elim
     (λ typed. ⊎_elim
     (λ low. inr (InvalidFieldNumber, tag_error-small v typed low))
-    (λ high. inl (v / 8, numbered (v % 8), (omega arith, omega arith), omega (arith, wire_number-numbered (v % 8) typed)))
+    (λ high. inl (
+      v / 8,
+      numbered (v % 8),
+      (omega arith, omega arith),
+      omega
+          (arith, wire_number-numbered (v % 8) typed),
+    ))
     (cases_lt v 8))
     (λ untyped. inr (InvalidWireType (v % 8), tag_error-type v small untyped))
     (cases_lt (v % 8) 6))
@@ -117,8 +124,14 @@ tag_or_error v =
 -- ---- the laws
 
 -- the shortest text of a tag is a text of it
-pub IsTagSpelling-tag_text : (n : ℕ) (w : WireType) → IsFieldNumber n → IsTagSpelling n w (tag_text n w)
-IsTagSpelling-tag_text n w h = record { number = h; varint = IsSpelling-shortest_varint (tag_value n w) (omega (arith, tag_value-below n w h)) }
+pub IsTagSpelling-tag_text : (n : ℕ) (w : WireType) → IsFieldNumber n
+    → IsTagSpelling n w (tag_text n w)
+IsTagSpelling-tag_text n w h =
+    record {
+      number = h;
+      varint = IsSpelling-shortest_varint (tag_value n w)
+          (omega (arith, tag_value-below n w h));
+    }
 
 -- two readings of a tag at the front of the same bytes are one
 pub record SameTag (t u old_rest new_rest : List ℕ) (n k : ℕ) (w x : WireType) : Type 0 where
@@ -128,26 +141,34 @@ pub record SameTag (t u old_rest new_rest : List ℕ) (n k : ℕ) (w x : WireTyp
   pub rest : old_rest ≡ new_rest
 
 -- a tag is a varint
-abbrev pub varint_of_tag : (bytes rest : List ℕ) (n : ℕ) (w : WireType) → Reads bytes (IsTagSpelling n w) rest → Reads bytes (IsSpelling (tag_value n w)) rest
-varint_of_tag bytes rest n w p = record { text = p.text; parts = p.parts; spelled = p.spelled.varint }
+abbrev pub varint_of_tag : (bytes rest : List ℕ) (n : ℕ) (w : WireType)
+    → Reads bytes (IsTagSpelling n w) rest → Reads bytes (IsSpelling (tag_value n w)) rest
+varint_of_tag bytes rest n w p =
+    record { text = p.text; parts = p.parts; spelled = p.spelled.varint }
 
 -- two tags at the front of one list are one
-pub same_tag : (bytes r s : List ℕ) (n k : ℕ) (w x : WireType) (p : Reads bytes (IsTagSpelling n w) r) (q : Reads bytes (IsTagSpelling k x) s)
+pub same_tag : (bytes r s : List ℕ) (n k : ℕ) (w x : WireType)
+    (p : Reads bytes (IsTagSpelling n w) r) (q : Reads bytes (IsTagSpelling k x) s)
     → SameTag p.text q.text r s n k w x
 same_tag bytes r s n k w x p q =
-    let same = same_varint bytes r s _ _ (varint_of_tag bytes r n w p) (varint_of_tag bytes s k x q) in
+    let same = same_varint bytes r s _ _ (varint_of_tag bytes r n w p)
+    (varint_of_tag bytes s k x q) in
     let parts = one_tag_value n k w x same.value in
     record { text = same.text; number = parts.0; kind = parts.1; rest = same.rest }
 
 pub one_tag_lemma : OneTag
-one_tag_lemma bytes r s n k w x p q = let same = same_tag bytes r s n k w x p q in (same.number, same.kind, same.rest)
+one_tag_lemma bytes r s n k w x p q =
+    let same = same_tag bytes r s n k w x p q in (same.number, same.kind, same.rest)
 
 -- the number of a tag has no error
 tag_error-tag_value : (n : ℕ) (w : WireType) → IsFieldNumber n → tag_error (tag_value n w) ≡ None
-tag_error-tag_value n w h = tag_error-none (tag_value n w) (tag_value-below n w h) (omega (arith, wire_number-below w, tag_value-type n w)) (tag_value-at_least n w h)
+tag_error-tag_value n w h =
+    tag_error-none (tag_value n w) (tag_value-below n w h)
+    (omega (arith, wire_number-below w, tag_value-type n w)) (tag_value-at_least n w h)
 
 pub no_tag_beside_fault_lemma : NoTagBesideFault
-no_tag_beside_fault_lemma bytes rest n w e p (no_varint fault) = no_varint_beside_fault_lemma bytes rest (tag_value n w) e (varint_of_tag bytes rest n w p) fault
+no_tag_beside_fault_lemma bytes rest n w e p (no_varint fault) =
+    no_varint_beside_fault_lemma bytes rest (tag_value n w) e (varint_of_tag bytes rest n w p) fault
 no_tag_beside_fault_lemma bytes rest n w e p (no_tag v after q error) =
     let same = same_varint bytes rest after _ v (varint_of_tag bytes rest n w p) q in
     let none = tag_error-tag_value n w p.spelled.number in
@@ -156,29 +177,34 @@ no_tag_beside_fault_lemma bytes rest n w e p (no_tag v after q error) =
 
 pub one_tag_fault_lemma : OneTagFault
 one_tag_fault_lemma bytes e f (no_varint p) (no_varint q) = one_varint_fault_lemma bytes e f p q
-one_tag_fault_lemma bytes e f (no_varint p) (no_tag v after q error) = absurd (no_varint_beside_fault_lemma bytes after v e q p)
-one_tag_fault_lemma bytes e f (no_tag v after q error) (no_varint p) = absurd (no_varint_beside_fault_lemma bytes after v f q p)
+one_tag_fault_lemma bytes e f (no_varint p) (no_tag v after q error) =
+    absurd (no_varint_beside_fault_lemma bytes after v e q p)
+one_tag_fault_lemma bytes e f (no_tag v after q error) (no_varint p) =
+    absurd (no_varint_beside_fault_lemma bytes after v f q p)
 one_tag_fault_lemma bytes e f (no_tag v after p error) (no_tag u after2 q error2) =
     let same = same_varint bytes after after2 v u p q in
     let both : Some e ≡ Some f = sym error ∙ ap tag_error same.value ∙ error2 in
     cc
 
 pub tag_text_reads_back_lemma : TagTextReadsBack
-tag_text_reads_back_lemma n w rest h = record { text = tag_text n w; parts = refl; spelled = IsTagSpelling-tag_text n w h }
+tag_text_reads_back_lemma n w rest h =
+    record { text = tag_text n w; parts = refl; spelled = IsTagSpelling-tag_text n w h }
 
 pub no_tag_text_is_shorter_lemma : NoTagTextIsShorter
 no_tag_text_is_shorter_lemma n w t h = shortest_at_most t (tag_value n w) h.varint
 
 -- a varint is a tag or none
 tag_or_fault_from_value : (bytes : List ℕ) (v : ℕ) (rest : List ℕ) → Reads bytes (IsSpelling v) rest
-    → ((n : ℕ) × (w : WireType) × IsFieldNumber n × (tag_value n w ≡ v)) ⊎ ((e : DecodeError) × (tag_error v ≡ Some e)) → TagOrFault bytes
+    → ((n : ℕ) × (w : WireType) × IsFieldNumber n × (tag_value n w ≡ v))
+    ⊎ ((e : DecodeError) × (tag_error v ≡ Some e)) → TagOrFault bytes
 tag_or_fault_from_value bytes v rest p (inl (n, w, h, same)) =
     inl (n, w, rest, record { text = p.text; parts = p.parts; spelled = record { number = h; varint = subst (λ v. IsSpelling v p.text) (sym same) p.spelled } })
 tag_or_fault_from_value bytes v rest p (inr (e, error)) = inr (e, no_tag v rest p error)
 
 -- a varint or a fault is a tag or a fault
 tag_or_fault_from_varint : (bytes : List ℕ) → VarintOrFault bytes → TagOrFault bytes
-tag_or_fault_from_varint bytes (inl (v, rest, p)) = tag_or_fault_from_value bytes v rest p (tag_or_error v)
+tag_or_fault_from_varint bytes (inl (v, rest, p)) =
+    tag_or_fault_from_value bytes v rest p (tag_or_error v)
 tag_or_fault_from_varint bytes (inr (e, fault)) = inr (e, no_varint fault)
 
 pub tag_or_fault_lemma : TagOrFaultStands

@@ -13,7 +13,8 @@ pub tag_error-type : (v : ℕ) → v < 2 ^ 32 → 5 < v % 8 → tag_error v ≡ 
 tag_error-type v small high = rw (lt-leb (2 ^ 32) v small, le-leb 6 (v % 8) high) refl
 
 pub tag_error-zero : (v : ℕ) → v < 8 → v % 8 ≤ 5 → tag_error v ≡ Some InvalidFieldNumber
-tag_error-zero v zero low = rw (lt-leb (2 ^ 32) v (omega arith), lt-leb 6 (v % 8) (omega arith), lt-ltb v 8 zero) refl
+tag_error-zero v zero low =
+    rw (lt-leb (2 ^ 32) v (omega arith), lt-leb 6 (v % 8) (omega arith), lt-ltb v 8 zero) refl
 
 pub wire_number-below : (w : WireType) → wire_number w ≤ 5
 wire_number-below Varint = omega arith

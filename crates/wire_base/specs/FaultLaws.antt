@@ -1,4 +1,5 @@
--- What holds of the faults of records. Each statement is proved as the contract of a law of src/laws.rt.
+-- What holds of the faults of records. Each statement is proved as the contract of a law of
+-- src/laws.rt.
 use Rattle.std.specs.Prelude.{◌≡◌, ℕ, ◌⊎◌, List}
 use Rattle.wire_base.specs.declared.error.DecodeError.{DecodeError}
 use Rattle.wire_base.specs.declared.tag.WireType.{WireType}
@@ -36,7 +37,8 @@ PayloadOrFault l n w bytes =
     ⊎ ((e : DecodeError) × PayloadFault l n w bytes e)
 
 abbrev pub PayloadOrFaultStands : Type 0
-PayloadOrFaultStands = (l : Limits) (n : ℕ) (w : WireType) (bytes : List ℕ) → PayloadOrFault l n w bytes
+PayloadOrFaultStands = (l : Limits) (n : ℕ) (w : WireType) (bytes : List ℕ)
+    → PayloadOrFault l n w bytes
 
 -- a list within the limits that ends so, or why there is none
 abbrev pub ListOrFault : Limits → Ending → List ℕ → Type 0

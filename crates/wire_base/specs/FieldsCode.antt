@@ -21,7 +21,8 @@ abbrev mutual
   marks none = []
   marks (field n p rest) = payload_marks n p ++ marks rest
 
--- records that are read back from the end: those that stand so far, and those behind each open group
+-- records that are read back from the end: those that stand so far, and those behind each open
+-- group
 pub data Stack : Type 0 where
   bottom : Fields → Stack
   within : Fields → Stack → Stack
@@ -68,25 +69,32 @@ joined-none none = refl
 joined-none (field n p rest) = ap (field n p) (joined-none rest)
 
 mutual
-  payload_read : (n : ℕ) (p : Payload) (ms : List Mark) → unmark (payload_marks n p ++ ms) ≡ with_top (field n p (top (unmark ms))) (unmark ms)
+  payload_read : (n : ℕ) (p : Payload) (ms : List Mark)
+      → unmark (payload_marks n p ++ ms) ≡ with_top (field n p (top (unmark ms))) (unmark ms)
   payload_read n (varint v) ms = refl
   payload_read n (fixed64 v) ms = refl
   payload_read n (fixed32 v) ms = refl
   payload_read n (bytes b) ms = refl
   payload_read n (group fs) ms =
-      ap (λ (t : List Mark). close n (unmark t)) (append_assoc (marks fs) ((n, (5, (0, []))) ∷ []) ms)
+      ap (λ (t : List Mark). close n (unmark t))
+      (append_assoc (marks fs) ((n, (5, (0, []))) ∷ []) ms)
       ∙ ap (close n) (marks_read fs ((n, (5, (0, []))) ∷ ms))
-      ∙ ap (λ (gs : Fields). with_top (field n (group gs) (top (unmark ms))) (unmark ms)) (joined-none fs)
+      ∙ ap (λ (gs : Fields). with_top (field n (group gs) (top (unmark ms))) (unmark ms))
+      (joined-none fs)
 
   -- marks are read back as the records that they were made of, in front of what follows
-  marks_read : (fs : Fields) (ms : List Mark) → unmark (marks fs ++ ms) ≡ with_top (joined fs (top (unmark ms))) (unmark ms)
+  marks_read : (fs : Fields) (ms : List Mark)
+      → unmark (marks fs ++ ms) ≡ with_top (joined fs (top (unmark ms))) (unmark ms)
   marks_read none ms = sym (with_top-top (unmark ms))
   marks_read (field n p rest) ms =
       ap unmark (append_assoc (payload_marks n p) (marks rest) ms)
       ∙ payload_read n p (marks rest ++ ms)
       ∙ ap (λ (s : Stack). with_top (field n p (top s)) s) (marks_read rest ms)
-      ∙ ap (λ (gs : Fields). with_top (field n p gs) (with_top (joined rest (top (unmark ms))) (unmark ms))) (top-with_top (joined rest (top (unmark ms))) (unmark ms))
-      ∙ with_top-twice (field n p (joined rest (top (unmark ms)))) (joined rest (top (unmark ms))) (unmark ms)
+      ∙ ap (λ (gs : Fields). with_top (field n p gs)
+      (with_top (joined rest (top (unmark ms))) (unmark ms)))
+      (top-with_top (joined rest (top (unmark ms))) (unmark ms))
+      ∙ with_top-twice (field n p (joined rest (top (unmark ms)))) (joined rest (top (unmark ms)))
+      (unmark ms)
 
 pub read_back : (fs : Fields) → top (unmark (marks fs)) ≡ fs
 read_back fs =
@@ -96,4 +104,6 @@ read_back fs =
 
 abbrev pub fields_code : Coded Fields
 fields_code =
-    code_by (List Mark) (coded_list (coded× coded_ℕ (coded× coded_ℕ (coded× coded_ℕ (coded_list coded_ℕ))))) marks (λ ms. top (unmark ms)) read_back
+    code_by (List Mark)
+    (coded_list (coded× coded_ℕ (coded× coded_ℕ (coded× coded_ℕ (coded_list coded_ℕ))))) marks
+    (λ ms. top (unmark ms)) read_back

@@ -23,7 +23,8 @@ mutual
   fields_same (field n p fs) (field m q gs) h =
       let first = and_parts (n == m) (payload_eq p q && fields_eq fs gs) h in
       let both = and_parts (payload_eq p q) (fields_eq fs gs) first.1 in
-      λ i. field ((unsigned_Decides n m).0 first.0 i) (payload_same p q both.0 i) (fields_same fs gs both.1 i)
+      λ i. field ((unsigned_Decides n m).0 first.0 i) (payload_same p q both.0 i)
+      (fields_same fs gs both.1 i)
   fields_same _ _ h = absurd cc
 
 mutual
@@ -36,13 +37,17 @@ mutual
 
   fields_itself : (fs : Fields) → fields_eq fs fs ≡ true
   fields_itself none = refl
-  fields_itself (field n p fs) = and_from _ _ ((unsigned_Decides n n).1 refl) (and_from _ _ (payload_itself p) (fields_itself fs))
+  fields_itself (field n p fs) =
+      and_from _ _ ((unsigned_Decides n n).1 refl)
+      (and_from _ _ (payload_itself p) (fields_itself fs))
 
 pub payload_eq-Decides : (p q : Payload) → Decides (payload_eq p q) (p ≡ q)
-payload_eq-Decides p q = (payload_same p q, λ e. subst (λ (r : Payload). payload_eq p r ≡ true) e (payload_itself p))
+payload_eq-Decides p q =
+    (payload_same p q, λ e. subst (λ (r : Payload). payload_eq p r ≡ true) e (payload_itself p))
 
 pub fields_eq-Decides : (fs gs : Fields) → Decides (fields_eq fs gs) (fs ≡ gs)
-fields_eq-Decides fs gs = (fields_same fs gs, λ e. subst (λ (hs : Fields). fields_eq fs hs ≡ true) e (fields_itself fs))
+fields_eq-Decides fs gs =
+    (fields_same fs gs, λ e. subst (λ (hs : Fields). fields_eq fs hs ≡ true) e (fields_itself fs))
 
 pub payload_equiv : IsEquivalence payload_eq
 payload_equiv = decided payload_eq payload_eq-Decides
@@ -57,14 +62,19 @@ pub fields_per : IsPartialEquivalence fields_eq
 fields_per = partial_equiv_from_equiv fields_equiv
 
 -- what is equal is hashed alike
-pub payload_writes-same : (p q : Payload) → IsTrue (payload_eq p q) → payload_writes p ≡ payload_writes q
+pub payload_writes-same : (p q : Payload) → IsTrue (payload_eq p q)
+    → payload_writes p ≡ payload_writes q
 payload_writes-same p q h = ap payload_writes (payload_same p q h)
 
-pub fields_writes-same : (fs gs : Fields) → IsTrue (fields_eq fs gs) → fields_writes fs ≡ fields_writes gs
+pub fields_writes-same : (fs gs : Fields) → IsTrue (fields_eq fs gs)
+    → fields_writes fs ≡ fields_writes gs
 fields_writes-same fs gs h = ap fields_writes (fields_same fs gs h)
 
-pub record_writes-same : (n m : ℕ) (p q : Payload) → IsTrue (fields_eq (field n p none) (field m q none)) → fed.u32 n ++ payload_writes p ≡ fed.u32 m ++ payload_writes q
+pub record_writes-same : (n m : ℕ) (p q : Payload)
+    → IsTrue (fields_eq (field n p none) (field m q none))
+    → fed.u32 n ++ payload_writes p ≡ fed.u32 m ++ payload_writes q
 record_writes-same n m p q h =
     let first = and_parts (n == m) (payload_eq p q && true) h in
     let second = and_parts (payload_eq p q) true first.1 in
-    λ i. fed.u32 ((unsigned_Decides n m).0 first.0 i) ++ payload_writes (payload_same p q second.0 i)
+    λ i. fed.u32 ((unsigned_Decides n m).0 first.0 i) ++ payload_writes
+    (payload_same p q second.0 i)

@@ -1,5 +1,7 @@
--- What may still be taken, and what is taken: levels of nesting, and counts. Levels are a greatest value and
--- are given back; counts are sums and are not. All that is known of budgets stands here, so that one more
+-- What may still be taken, and what is taken: levels of nesting, and counts. Levels are a greatest
+-- value and
+-- are given back; counts are sums and are not. All that is known of budgets stands here, so that
+-- one more
 -- is an edit of this module and of its laws.
 use Rattle.std.specs.Prelude.{ℕ, ◌+◌, ◌-◌, ◌≤◌, max, Option, Some, None}
 
@@ -95,7 +97,8 @@ one_field = record { depth = 0; counts = record { unknown_fields = 1; element_me
 
 -- the charge of an element of so many bytes
 abbrev pub element_of : ℕ → Charge
-element_of bytes = record { depth = 0; counts = record { unknown_fields = 0; element_memory = bytes } }
+element_of bytes =
+    record { depth = 0; counts = record { unknown_fields = 0; element_memory = bytes } }
 
 -- the charge of what stands one level down, in a group or a message
 abbrev pub nested : Charge → Charge

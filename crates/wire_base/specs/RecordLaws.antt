@@ -1,4 +1,5 @@
--- What holds of records and of their texts. Each statement is proved as the contract of a law of src/laws.rt.
+-- What holds of records and of their texts. Each statement is proved as the contract of a law of
+-- src/laws.rt.
 use Rattle.std.specs.Prelude.{◌≡◌, ℕ, ◌+◌, ◌≤◌, ◌↔◌, List, [], ◌++◌, length}
 use Rattle.wire_base.specs.declared.tag.WireType.{WireType}
 use Rattle.wire_base.specs.Charge.{charge}
@@ -20,7 +21,7 @@ PayloadIsField =
     (n : ℕ) (p : Payload) (text : List ℕ)
     → Spells (field n p none) text
     ↔ ((payload : List ℕ) × Reads text (IsTagSpelling n (type_of p)) payload
-        × IsPayload n (type_of p) p payload)
+    × IsPayload n (type_of p) p payload)
 
 abbrev pub OnePayload : Type 0
 OnePayload =

@@ -1,4 +1,5 @@
--- Why unknown fields are not decoded: a fault of the bytes, or want of memory for what stands there as a whole.
+-- Why unknown fields are not decoded: a fault of the bytes, or want of memory for what stands there
+-- as a whole.
 use Rattle.std.specs.Prelude.{◌≡◌, ◌≢◌, ◌⊎◌, ℕ, List}
 use Rattle.wire_base.specs.declared.error.DecodeError.{DecodeError}
 use Rattle.wire_base.specs.declared.error.DecodeError.TheVariants.{OutOfMemory}
@@ -27,7 +28,8 @@ mutual
     for_field : {bytes : List ℕ} (fs : Fields) (rest : List ℕ)
         → fs ≢ none → Reads bytes (Spells fs) rest → FieldsWantMemory bytes
     -- or its payload does, behind other records
-    for_payload : {bytes : List ℕ} (fs : Fields) (rest : List ℕ) (n : ℕ) (w : WireType) (behind : List ℕ)
+    for_payload : {bytes : List ℕ} (fs : Fields) (rest : List ℕ) (n : ℕ) (w : WireType)
+        (behind : List ℕ)
         → Reads bytes (Spells fs) rest → Reads rest (IsTagSpelling n w) behind
         → PayloadWantsMemory w behind → FieldsWantMemory bytes
 

@@ -13,8 +13,11 @@ pub record RopeParts : Type 0 where
 -- it is stored as the tuple of its fields
 abbrev pub rope_code : Coded RopeParts
 rope_code =
-    code_by (List (List ℕ) × (List ℕ × ℕ)) (coded× (coded_list (coded_list coded_ℕ)) (coded× (coded_list coded_ℕ) coded_ℕ))
-    (λ r. (r.segments, (r.tail, r.min_segment))) (λ p. record { segments = p.0; tail = p.1.0; min_segment = p.1.1 }) (λ _. refl)
+    code_by (List (List ℕ)
+    × (List ℕ
+    × ℕ)) (coded× (coded_list (coded_list coded_ℕ)) (coded× (coded_list coded_ℕ) coded_ℕ))
+    (λ r. (r.segments, (r.tail, r.min_segment)))
+    (λ p. record { segments = p.0; tail = p.1.0; min_segment = p.1.1 }) (λ _. refl)
 
 -- each segment has a byte
 abbrev pub AllFilled : List (List ℕ) → Type 0
@@ -39,23 +42,28 @@ empty_rope min_segment = record { segments = []; tail = []; min_segment = min_se
 
 -- bytes behind the tail
 abbrev pub with_bytes : RopeParts → List ℕ → RopeParts
-with_bytes r bytes = record { segments = r.segments; tail = r.tail ++ bytes; min_segment = r.min_segment }
+with_bytes r bytes =
+    record { segments = r.segments; tail = r.tail ++ bytes; min_segment = r.min_segment }
 
 -- a segment of its own behind all others
 abbrev pub with_segment : RopeParts → List ℕ → RopeParts
-with_segment r bytes = record { segments = all_segments r ++ bytes ∷ []; tail = []; min_segment = r.min_segment }
+with_segment r bytes =
+    record { segments = all_segments r ++ bytes ∷ []; tail = []; min_segment = r.min_segment }
 
 -- a shared run is a segment of its own where it is long enough, and goes behind the tail otherwise
 abbrev pub with_shared : RopeParts → List ℕ → RopeParts
-with_shared r bytes = if nat_lt (length bytes) r.min_segment then with_bytes r bytes else with_segment r bytes
+with_shared r bytes =
+    if nat_lt (length bytes) r.min_segment then with_bytes r bytes else with_segment r bytes
 
 -- the bytes of the first segment
 abbrev pub first_segment : List (List ℕ) → List ℕ
 first_segment [] = []
 first_segment (s ∷ segments) = s
 
--- the segments that are left once n bytes are read: what is left of the one that the last of them lies
+-- the segments that are left once n bytes are read: what is left of the one that the last of them
+-- lies
 -- in, and those behind it as they are
 abbrev pub left_segments : ℕ → List (List ℕ) → List (List ℕ)
 left_segments n [] = []
-left_segments n (s ∷ segments) = if nat_lt n (length s) then drop n s ∷ segments else left_segments (n - length s) segments
+left_segments n (s ∷ segments) =
+    if nat_lt n (length s) then drop n s ∷ segments else left_segments (n - length s) segments

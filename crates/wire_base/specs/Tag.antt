@@ -40,5 +40,6 @@ tag_error v =
 -- no tag stands at the front of these bytes, with the error that says why
 pub data TagFault : List ℕ → DecodeError → Type 0 where
   no_varint : {bytes : List ℕ} {e : DecodeError} → VarintFault bytes e → TagFault bytes e
-  no_tag : {bytes : List ℕ} {e : DecodeError} (v : ℕ) (rest : List ℕ) → Reads bytes (IsSpelling v) rest
+  no_tag : {bytes : List ℕ} {e : DecodeError} (v : ℕ) (rest : List ℕ)
+      → Reads bytes (IsSpelling v) rest
       → tag_error v ≡ Some e → TagFault bytes e

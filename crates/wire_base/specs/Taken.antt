@@ -7,7 +7,8 @@ use Rattle.wire_base.specs.Limits.{Limits, Charge, Fits}
 use Rattle.wire_base.specs.Read.{Reads}
 use Rattle.wire_base.specs.Spells.{Spells, IsPayload}
 
--- behind a tag (n, w) the payload p stands at the front of old, its charge fits, and new is what follows
+-- behind a tag (n, w) the payload p stands at the front of old, its charge fits, and new is what
+-- follows
 pub record TakesPayload (c : Charge) (l : Limits) (n : ℕ) (w : WireType) (p : Payload)
     (old new : List ℕ) : Type 0 where
   pub read : Reads old (IsPayload n w p) new
@@ -18,14 +19,16 @@ pub record TakesFields (c : Charge) (l : Limits) (fs : Fields) (old new : List �
   pub read : Reads old (Spells fs) new
   pub fits : Fits c l
 
--- the last of the records that stand at the front of old, where there is one, begins where the list goes on
+-- the last of the records that stand at the front of old, where there is one, begins where the list
+-- goes on
 abbrev pub LastGoesOn : Ending → Fields → List ℕ → Type 0
 LastGoesOn ending fs old =
     (fs ≡ none)
     ⊎ ((before : Fields) × (n : ℕ) × (p : Payload) × (rest : List ℕ) × (fs ≡ push before n p)
-        × Reads old (Spells before) rest × GoesOn ending rest)
+    × Reads old (Spells before) rest × GoesOn ending rest)
 
--- The records fs stand at the front of old, their charge fits, the list ends behind the last of them and not
+-- The records fs stand at the front of old, their charge fits, the list ends behind the last of
+-- them and not
 -- before it, and new is what follows its end.
 pub record TakesUntil (c : Charge) (l : Limits) (ending : Ending) (fs : Fields)
     (old new : List ℕ) : Type 0 where

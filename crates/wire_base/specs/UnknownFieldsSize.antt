@@ -17,6 +17,7 @@ data_le-count (LengthDelimited b) = omega arith
 data_le-count (Group fs) = omega arith
 
 -- no group counts more than all of the list
-pub most_le-count : (fs : List UnknownField) → most (λ f. deep-UnknownField f) fs ≤ count (fields_of fs)
+pub most_le-count : (fs : List UnknownField)
+    → most (λ f. deep-UnknownField f) fs ≤ count (fields_of fs)
 most_le-count [] = omega arith
 most_le-count (f ∷ fs) = omega (arith, data_le-count f.value, most_le-count fs)

@@ -39,7 +39,9 @@ shortest_varint v = if nat_lt v (2 ^ 64) then digits 9 v else replicate 10 255
 -- no varint stands at the front of these bytes, with the error that says why
 pub data VarintFault : List ℕ → DecodeError → Type 0 where
   -- the bytes end before the varint does
-  cut_short : {bytes : List ℕ} → AllContinue bytes → length bytes < 10 → VarintFault bytes UnexpectedEof
+  cut_short : {bytes : List ℕ} → AllContinue bytes → length bytes < 10
+      → VarintFault bytes UnexpectedEof
   -- nine bytes continue, and the tenth is not the last or has a bit beyond 64
-  too_long : {bytes : List ℕ} (front : List ℕ) (tenth : ℕ) (rest : List ℕ) → bytes ≡ front ++ tenth ∷ rest
+  too_long : {bytes : List ℕ} (front : List ℕ) (tenth : ℕ) (rest : List ℕ)
+      → bytes ≡ front ++ tenth ∷ rest
       → AllContinue front → length front ≡ 9 → 2 ≤ tenth → VarintFault bytes VarintTooLong

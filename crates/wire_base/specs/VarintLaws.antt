@@ -1,4 +1,5 @@
--- What holds of varints and of length-delimited payloads. Each statement is proved as the contract of a law
+-- What holds of varints and of length-delimited payloads. Each statement is proved as the contract
+-- of a law
 -- of src/laws.rt.
 use Rattle.std.specs.Prelude.{◌≡◌, ℕ, ◌^◌, ◌<◌, ◌≤◌, ◌⊎◌, List, [], ◌++◌, length, All, Option}
 use Rattle.wire_base.specs.declared.error.DecodeError.{DecodeError}
@@ -31,7 +32,8 @@ abbrev pub NoSpellingIsShorter : Type 0
 NoSpellingIsShorter =
     (text : List ℕ) (v : ℕ) → IsSpelling v text
     → (length (shortest_varint v) ≤ length text)
-    × (All (λ b. b < 256) text → length text ≡ length (shortest_varint v) → text ≡ shortest_varint v)
+    × (All (λ b. b < 256) text → length text ≡ length (shortest_varint v)
+    → text ≡ shortest_varint v)
 
 abbrev pub OneVarintFault : Type 0
 OneVarintFault =
@@ -71,7 +73,7 @@ OneDelimitedFault =
 abbrev pub DelimitedOrFault : Option ℕ → List ℕ → Type 0
 DelimitedOrFault most bytes =
     ((payload : List ℕ) × (rest : List ℕ) × Reads bytes (IsDelimited payload) rest
-        × HasRoom most (length payload))
+    × HasRoom most (length payload))
     ⊎ ((e : DecodeError) × DelimitedFault most bytes e)
 
 abbrev pub DelimitedOrFaultStands : Type 0

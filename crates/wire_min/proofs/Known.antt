@@ -5,7 +5,8 @@ use Rattle.std.specs.Io.KnownBytes.{Consumes, IsAtEnd}
 
 -- where a last read gives no byte, the bytes before it are all that there was
 pub Consumes-to_end : (old mid new : Option (List ℕ)) (bytes buf : List ℕ) (n : ℕ)
-    → n ≡ 0 → Consumes old mid bytes → Consumes mid new (take n buf) → IsAtEnd new → IfSome old (λ xs. bytes ≡ xs)
+    → n ≡ 0 → Consumes old mid bytes → Consumes mid new (take n buf) → IsAtEnd new
+    → IfSome old (λ xs. bytes ≡ xs)
 Consumes-to_end None mid new bytes buf n h p q e = tt
 Consumes-to_end (Some x) None new bytes buf n h p q e = absurd p
 Consumes-to_end (Some x) (Some y) None bytes buf n h p q e = absurd q

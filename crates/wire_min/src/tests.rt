@@ -262,7 +262,11 @@ fn each_line_is_put_once_on_standard_error(rt: HostRuntime) {
             lines: Cell::new(0),
             heard: Cell::new(Found::Other),
         };
-        assert_eq!(rt; report(&listener, Err(error)), ExitCode::from(status), "{due}");
+        assert_eq!(rt;
+            report(&listener, Err(error)),
+            ExitCode::from(status),
+            "{due}"
+        );
         assert_eq!(rt; listener.lines.get(), 1, "{due}");
         assert_ne!(rt; listener.heard.get(), Found::Other, "{due}");
     }

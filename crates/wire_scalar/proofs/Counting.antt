@@ -19,13 +19,15 @@ one_end [] h = absurd h
 one_end (b ∷ []) h = rw (lt-ltb b 128 h) refl
 one_end (b ∷ c ∷ bytes) h = rw (le-ltb b 128 h.0) (one_end (c ∷ bytes) h.1)
 
-pub varints_counted : (numbers text : List ℕ) → SpellsEach IsSpelling numbers text → ends text ≡ length numbers
+pub varints_counted : (numbers text : List ℕ) → SpellsEach IsSpelling numbers text
+    → ends text ≡ length numbers
 varints_counted [] text s = ap ends s
 varints_counted (x ∷ xs) text s =
     let parts : ends text ≡ ends s.0 + ends s.1 = ap ends s.2 ∙ sum_by-append _ s.0 s.1 in
     omega (arith, parts, one_end s.0 s.3.ended, varints_counted xs s.1 s.4)
 
-pub fixed_counted : (width : Width) (numbers text : List ℕ) → SpellsEach (IsFixed width) numbers text → length text ≡ byte_len width * length numbers
+pub fixed_counted : (width : Width) (numbers text : List ℕ)
+    → SpellsEach (IsFixed width) numbers text → length text ≡ byte_len width * length numbers
 fixed_counted width [] text s = omega (arith, ap length s)
 fixed_counted width (x ∷ xs) text s =
     omega (arith, ap length s.2, length-append s.0 s.1, s.3.0, fixed_counted width xs s.1 s.4, mul-suc (byte_len width) (length xs))

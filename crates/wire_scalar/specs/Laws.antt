@@ -25,7 +25,8 @@ VarintsAreCounted = (numbers text : List ℕ) → SpellsEach IsSpelling numbers 
 
 -- a payload of elements of a fixed width has the width's bytes for each
 abbrev pub FixedAreMultiples : Type 0
-FixedAreMultiples = (width : Width) (numbers text : List ℕ) → SpellsEach (IsFixed width) numbers text
+FixedAreMultiples = (width : Width) (numbers text : List ℕ)
+    → SpellsEach (IsFixed width) numbers text
     → length text ≡ byte_len width * length numbers
 
 -- ---- packed varints

@@ -27,17 +27,22 @@ no_string bytes e (inl fault) = inl (no_payload fault)
 no_string bytes e (inr memory) = inr memory
 
 -- a payload that is a text
-pub reads_string : (payload old new : List ℕ) → Reads old (IsDelimited payload) new → IsUtf8 payload → Reads old (IsString payload) new
-reads_string payload old new r utf8 = record { text = r.text; parts = r.parts; spelled = record { delimited = r.spelled; utf8 = utf8 } }
+pub reads_string : (payload old new : List ℕ) → Reads old (IsDelimited payload) new → IsUtf8 payload
+    → Reads old (IsString payload) new
+reads_string payload old new r utf8 =
+    record { text = r.text; parts = r.parts; spelled = record { delimited = r.spelled; utf8 = utf8 } }
 
 -- a payload whose bytes are no text
-pub refused_text : {T : Type 0} (r : Result T DecodeError) (old payload new : List ℕ) → Reads old (IsDelimited payload) new → IfErr r (λ e. e ≡ InvalidUtf8) → OnErr r (¬ IsUtf8 payload)
+pub refused_text : {T : Type 0} (r : Result T DecodeError) (old payload new : List ℕ)
+    → Reads old (IsDelimited payload) new → IfErr r (λ e. e ≡ InvalidUtf8)
+    → OnErr r (¬ IsUtf8 payload)
     → IfErr r (StringRefusal old)
 refused_text (Ok value) old payload new r err invalid = tt
 refused_text (Err e) old payload new r err invalid = rw err (inl (not_utf8 payload new r invalid))
 
 -- a payload that is tested, and not copied
-pub borrowed_text : {T E : Type 0} (P : T → Type 0) (r : Result T E) (old payload new : List ℕ) → Reads old (IsDelimited payload) new → MatchResult r P (λ _. ¬ IsUtf8 payload)
+pub borrowed_text : {T E : Type 0} (P : T → Type 0) (r : Result T E) (old payload new : List ℕ)
+    → Reads old (IsDelimited payload) new → MatchResult r P (λ _. ¬ IsUtf8 payload)
     → IfErr (result_or {D = DecodeError} r (Err InvalidUtf8)) (StringFault old)
 borrowed_text P (Ok text) old payload new h test = tt
 borrowed_text P (Err e) old payload new h test = not_utf8 payload new h test

@@ -5,7 +5,8 @@ use Rattle.wire_base.specs.declared.error.DecodeError.TheVariants.{OutOfMemory}
 use Rattle.wire_base.specs.Delimited.{IsDelimited, DelimitedFault}
 use Rattle.wire_base.specs.Read.{Reads}
 
--- a length-delimited payload stood at the front of old, whatever its bytes, and new is what follows it
+-- a length-delimited payload stood at the front of old, whatever its bytes, and new is what follows
+-- it
 abbrev pub PassesPayload : List ℕ → List ℕ → Type 0
 PassesPayload old new = (payload : List ℕ) × Reads old (IsDelimited payload) new
 

@@ -23,7 +23,8 @@ AreSameAnswers _ _ = ⊥
 
 -- what is answered follows from the bytes
 abbrev pub IsByBytes : (List ℕ → Answer → Type 0) → Type 0
-IsByBytes answers = (payload : List ℕ) (one other : Answer) → answers payload one → answers payload other → AreSameAnswers one other
+IsByBytes answers = (payload : List ℕ) (one other : Answer) → answers payload one
+    → answers payload other → AreSameAnswers one other
 
 -- a text is taken, and other bytes are refused
 abbrev pub answers_text : List ℕ → Answer → Type 0
@@ -41,13 +42,16 @@ pub record TakesValue (answers : List ℕ → Answer → Type 0) (value old new 
   pub read : Reads old (IsDelimited payload) new
   pub taken : answers payload (Ok value)
 
--- A payload that the type refused was lent to it, and is left in the buffer, or was handed over, and is taken.
--- Which of the two depends on the chunks of the buffer, of which no more is known than that each is a front.
+-- A payload that the type refused was lent to it, and is left in the buffer, or was handed over,
+-- and is taken.
+-- Which of the two depends on the chunks of the buffer, of which no more is known than that each is
+-- a front.
 abbrev pub AfterRefusal : List ℕ → List ℕ → List ℕ → Type 0
 AfterRefusal payload rest new = (new ≡ payload ++ rest) ⊎ (new ≡ rest)
 
 -- no value stood at the front of old, with the error that says why, and new is what is left
-pub data ValueFault (answers : List ℕ → Answer → Type 0) (old new : List ℕ) : DecodeError → Type 0 where
+pub data ValueFault (answers : List ℕ → Answer → Type 0) (old new : List ℕ) : DecodeError
+    → Type 0 where
   no_payload : {e : DecodeError} → DelimitedFault None old e → ValueFault answers old new e
   refused : {e : DecodeError} (payload rest : List ℕ) → Reads old (IsDelimited payload) rest
       → answers payload (Err e) → AfterRefusal payload rest new → ValueFault answers old new e

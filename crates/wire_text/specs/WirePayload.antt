@@ -20,4 +20,5 @@ is_owned_payload payload = is_owned_source payload.source
 
 -- the same bytes, lent or their own alike
 abbrev pub IsSamePayload : WirePayload → WirePayload → Type 0
-IsSamePayload source copy = (payload_bytes copy ≡ payload_bytes source) × (is_owned_payload copy ≡ is_owned_payload source)
+IsSamePayload source copy = (payload_bytes copy ≡ payload_bytes source)
+    × (is_owned_payload copy ≡ is_owned_payload source)

@@ -8,11 +8,7 @@ use std::mem;
 use wire_base::DecodeError;
 
 /// Empties a vector, which then has room for so many bytes. What it held is not copied.
-pub(crate) fn make_room(
-    alloc: Global,
-    value: &mut Vec<u8>,
-    len: usize,
-) -> Result<(), AllocError>
+pub(crate) fn make_room(alloc: Global, value: &mut Vec<u8>, len: usize) -> Result<(), AllocError>
     ensures empty { OnOk result (value.new.items ≡ []) }
     ensures room { OnOk result (len ≤ vec_capacity value.new) }
     ensures unchanged { OnErr result (value.new.items ≡ value.old.items) }

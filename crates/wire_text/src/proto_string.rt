@@ -70,7 +70,10 @@ impl ProtoString for String {
 
 /// What the type makes of a string field's payload. A payload that lies in one chunk is lent to it, and
 /// taken from the buffer only where the type takes it; any other is copied and handed over.
-pub fn decode_string_to<P: ProtoString, B: Buf>(alloc: Global, buf: &mut B) -> Result<P, DecodeError>
+pub fn decode_string_to<P: ProtoString, B: Buf>(
+    alloc: Global,
+    buf: &mut B,
+) -> Result<P, DecodeError>
     ensures ok { IfOk result (λ value. TakesValue P.answers (P.text value)
         (B.unread buf.old) (B.unread buf.new)) }
     ensures fault { IfErr result (ValueRefusal P.answers (B.unread buf.old) (B.unread buf.new)) }

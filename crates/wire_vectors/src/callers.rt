@@ -87,7 +87,9 @@ pub fn without(
     fields.numbers_fit();
     laws::text_spells_one_list();
     let mut text = Vec::new(alloc);
-    fields.write_to(&mut text).or(Err(DecodeError::OutOfMemory))?;
+    fields
+        .write_to(&mut text)
+        .or(Err(DecodeError::OutOfMemory))?;
     let again = UnknownFields::decode_from_slice(alloc, &text)?;
     Ok((again, fields))
 }

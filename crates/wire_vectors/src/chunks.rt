@@ -28,12 +28,7 @@ fn read_field<B: Buf>(
 }
 
 // Reads the bytes whole and cut at a place. Want of memory on either side is no answer.
-fn same_when_cut(
-    alloc: Global,
-    bytes: &[u8],
-    place: usize,
-    slots: usize,
-) -> Result<bool, Stop> {
+fn same_when_cut(alloc: Global, bytes: &[u8], place: usize, slots: usize) -> Result<bool, Stop> {
     let mut pieces = cut(alloc, bytes, place)?;
     let mut whole = bytes;
     let first = read_field(alloc, &mut whole, slots);

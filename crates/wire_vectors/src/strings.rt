@@ -6,7 +6,8 @@ use bytes::Buf;
 use std::alloc::Global;
 use wire_base::DecodeError;
 use wire_text::{
-    borrow_str, decode_string, decode_string_to, encode_string, merge_string, put_string_field, string_encoded_len,
+    borrow_str, decode_string, decode_string_to, encode_string, merge_string, put_string_field,
+    string_encoded_len,
 };
 
 #[test]
@@ -32,7 +33,9 @@ fn lengths_that_lie_are_short_input(rt: HostRuntime) {
         assert!(rt; decode_string(alloc, &mut own) == Err(DecodeError::UnexpectedEof));
         let (mut merged, mut plugged) = (bytes, bytes);
         let mut value = String::new(alloc);
-        assert!(rt; merge_string(alloc, &mut value, &mut merged) == Err(DecodeError::UnexpectedEof));
+        assert!(rt;
+            merge_string(alloc, &mut value, &mut merged) == Err(DecodeError::UnexpectedEof)
+        );
         let found: Result<String, DecodeError> = decode_string_to(alloc, &mut plugged);
         assert!(rt; found == Err(DecodeError::UnexpectedEof));
     }

@@ -36,10 +36,7 @@ fn rewrites(alloc: Global, bytes: &[u8], count: usize, text: &[u8]) -> Result<bo
 fn padded_tree(alloc: Global) -> Result<bool, Stop> {
     let fields = UnknownFields::decode_from_slice(alloc, b"\x88\x00\x80\x00")?;
     let mut found = fields.into_iter();
-    Ok(
-        found.next() == Some(field(1, UnknownFieldData::Varint(0)))
-            && found.next().is_none(),
-    )
+    Ok(found.next() == Some(field(1, UnknownFieldData::Varint(0))) && found.next().is_none())
 }
 
 fn field(number: u32, value: UnknownFieldData) -> UnknownField {
@@ -375,14 +372,20 @@ fn element_memory_is_taken_where_there_is_a_limit(rt: HostRuntime) {
     );
     assert_eq!(rt; context.remaining_element_memory(), Some(24));
     assert_eq!(rt; context.register_element_memory(24), Ok(()));
-    assert_eq!(rt; (context.depth(), context.remaining_unknown_fields()), (1, 1));
+    assert_eq!(rt;
+        (context.depth(), context.remaining_unknown_fields()),
+        (1, 1)
+    );
 }
 
 #[test]
 fn a_caller_names_the_limits(rt: HostRuntime) {
     let mut context = DecodeContext::new(0, 2);
-    let found =
-        UnknownFields::decode_from_slice_within(rt.alloc(), b"\x08\x00\x10\x00", &mut context);
+    let found = UnknownFields::decode_from_slice_within(
+        rt.alloc(),
+        b"\x08\x00\x10\x00",
+        &mut context,
+    );
     assert_eq!(rt; found.map(|fields| fields.len()), Ok(2));
     assert_eq!(rt; context.remaining_unknown_fields(), 0);
     let found = UnknownFields::decode_from_slice_within(rt.alloc(), b"\x0b\x0c", &mut context);

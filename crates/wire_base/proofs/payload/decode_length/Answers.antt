@@ -19,4 +19,5 @@ returns-then-remaining-len-clause-fault g c =
     (subst (λ n. n < c.in_ok-len.len) c.remaining.ensures c.if-remaining-len.true)
 
 pub returns-clause-payload : goal.returns-clause-payload
-returns-clause-payload g c = delimited_at _ _ _ _ c.in_ok-len.ensures.ok (omega (arith, c.remaining.ensures)) refl
+returns-clause-payload g c =
+    delimited_at _ _ _ _ c.in_ok-len.ensures.ok (omega (arith, c.remaining.ensures)) refl

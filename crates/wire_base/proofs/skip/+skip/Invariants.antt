@@ -13,7 +13,9 @@ decreases-skip_group g l = 2 * l.depth + 1
 
 abbrev pub invariant-skip_group-loop-tag : goal.invariant-skip_group-loop-tag
 invariant-skip_group-loop-tag g l = record {
-  so_far : (fs : Fields) × TakesFields (charge fs) (uncounted l.fn.depth) fs (g.B.Buf.unread l.fn.buf) (g.B.Buf.unread l.buf);
+  so_far : (fs : Fields)
+      × TakesFields (charge fs) (uncounted l.fn.depth) fs (g.B.Buf.unread l.fn.buf)
+      (g.B.Buf.unread l.buf);
   kept : g.B.Buf.kept l.buf ≡ g.B.Buf.kept l.fn.buf;
 }
 

@@ -6,7 +6,8 @@ use Rattle.wire_min.proofs.run.read_to_end.Given as goal
 
 abbrev pub invariant-loop : goal.invariant-loop
 invariant-loop g l = record {
-  bytes : Consumes (g.R.Read.remaining (device_of l.initial.reader)) (g.R.Read.remaining (device_of l.reader)) l.bytes.items;
+  bytes : Consumes (g.R.Read.remaining (device_of l.initial.reader))
+      (g.R.Read.remaining (device_of l.reader)) l.bytes.items;
   turns : l.counter ≤ length l.bytes.items;
   failures : failures_of l.reader ≡ failures_of l.initial.reader;
 }

@@ -14,5 +14,6 @@ returns-in-Ok-clause-ok c = record {
     };
     fits = c.in_ok-fields.ensures.within;
   };
-  shortest = c.in-Ok.ensures.ok ∙ ap (λ l. l ++ text_of c.in_ok-fields.fields) c.new-output.ensures.items;
+  shortest = c.in-Ok.ensures.ok
+      ∙ ap (λ l. l ++ text_of c.in_ok-fields.fields) c.new-output.ensures.items;
 }

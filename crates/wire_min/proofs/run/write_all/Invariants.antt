@@ -6,7 +6,9 @@ use Rattle.wire_min.proofs.run.write_all.Given as goal
 
 abbrev pub invariant-loop-rest : goal.invariant-loop-rest
 invariant-loop-rest g l = record {
-  written : (done : List ℕ) × (l.bytes ≡ done ++ l.rest) × Appends (g.W.Write.contents (device_of l.initial.writer)) (g.W.Write.contents (device_of l.writer)) done;
+  written : (done : List ℕ) × (l.bytes ≡ done ++ l.rest)
+      × Appends (g.W.Write.contents (device_of l.initial.writer))
+      (g.W.Write.contents (device_of l.writer)) done;
   failures : failures_of l.writer ≡ failures_of l.initial.writer;
 }
 

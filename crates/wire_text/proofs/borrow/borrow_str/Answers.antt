@@ -9,4 +9,6 @@ returns-in_err-payload-clause-fault c =
     rw (p.1, p.2) (no_payload c.in_err-payload.ensures.fault)
 
 pub returns-clause-fault : goal.returns-clause-fault
-returns-clause-fault c = rw c.or.ensures (borrowed_text _ c.from_utf8.result _ _ _ c.in_ok-payload.ensures.ok c.from_utf8.ensures)
+returns-clause-fault c =
+    rw c.or.ensures
+    (borrowed_text _ c.from_utf8.result _ _ _ c.in_ok-payload.ensures.ok c.from_utf8.ensures)

@@ -19,5 +19,9 @@ pub returns-in_err-value-clause-fault : goal.returns-in_err-value-clause-fault
 returns-in_err-value-clause-fault g c =
     let r = c.from_residual-in_err-value in
     let p = err_from_is_err_and r.result r.ensures.1 in
-    rw (p.1, p.2) (refuses_value g.T.FromWire.answers _ _ _ c.in_ok-len.ensures.payload _ _ (lent_back _ _ _ refl)
-    (rw (c.borrowed.ensures.bytes ∙ chunk_front _ _ _ c.chunk-chunk.ensures (omega (arith, c.if-chunk-len.false))) at c.in_err-value.ensures.err))
+    rw (p.1, p.2)
+    (refuses_value g.T.FromWire.answers _ _ _ c.in_ok-len.ensures.payload _ _
+    (lent_back _ _ _ refl)
+    (rw (c.borrowed.ensures.bytes
+    ∙ chunk_front _ _ _ c.chunk-chunk.ensures
+    (omega (arith, c.if-chunk-len.false))) at c.in_err-value.ensures.err))

@@ -7,7 +7,8 @@ pub invariant_of-self-2 : goal.invariant_of-self-2
 invariant_of-self-2 c =
     let old = c.self.inside.finished.items in
     let tail = c.self.inside.tail.items in
-    let is : c.push.new.self.items ≡ (old ++ tail_segments tail) ++ c.args.bytes ∷ [] = search rules in (
+    let is : c.push.new.self.items ≡
+    (old ++ tail_segments tail) ++ c.args.bytes ∷ [] = search rules in (
       search rules ∙ sym (length-with_segment old _ tail _ c.args.bytes is (search rules)),
       AllFilled-with_segment old _ tail c.args.bytes is c.self.invariant.1 c.requires,
       c.self.invariant.2,

@@ -11,14 +11,19 @@ returns-in_err-value-clause-fault g c =
 
 pub returns-then-value-clause-fault : goal.returns-then-value-clause-fault
 returns-then-value-clause-fault g c =
-    no_tag c.in_ok-value.value _ c.in_ok-value.ensures.ok (tag_error-large c.in_ok-value.value c.if-value.true)
+    no_tag c.in_ok-value.value _ c.in_ok-value.ensures.ok
+    (tag_error-large c.in_ok-value.value c.if-value.true)
 
 pub returns-in_err-wire_type-clause-fault : goal.returns-in_err-wire_type-clause-fault
 returns-in_err-wire_type-clause-fault g c =
     let p = err_from_is_err_and c.from_residual-in_err-wire_type.result c.from_residual-in_err-wire_type.ensures.1 in
     let err = c.in_err-wire_type.ensures.err in
-    rw (p.1, p.2, err.1) (no_tag c.in_ok-value.value _ c.in_ok-value.ensures.ok (tag_error-type c.in_ok-value.value (omega arith) err.0))
+    rw (p.1, p.2, err.1)
+    (no_tag c.in_ok-value.value _ c.in_ok-value.ensures.ok
+    (tag_error-type c.in_ok-value.value (omega arith) err.0))
 
 pub returns-then-field_number-eq0-clause-fault : goal.returns-then-field_number-eq0-clause-fault
 returns-then-field_number-eq0-clause-fault g c =
-    no_tag c.in_ok-value.value _ c.in_ok-value.ensures.ok (tag_error-zero c.in_ok-value.value (omega arith) (rw c.in_ok-wire_type.ensures.ok at (wire_number-below c.in_ok-wire_type.wire_type)))
+    no_tag c.in_ok-value.value _ c.in_ok-value.ensures.ok
+    (tag_error-zero c.in_ok-value.value (omega arith)
+    (rw c.in_ok-wire_type.ensures.ok at (wire_number-below c.in_ok-wire_type.wire_type)))

@@ -10,4 +10,5 @@ returns-in_err-tag-clause-fault g c =
 
 pub returns-in-EndGroup-clause-fault : goal.returns-in-EndGroup-clause-fault
 returns-in-EndGroup-clause-fault g c =
-    other_end _ _ (rw c.in-EndGroup.is at c.in_ok-tag.ensures.ok) (λ same. c.if-tag-number.false same)
+    other_end _ _ (rw c.in-EndGroup.is at c.in_ok-tag.ensures.ok)
+    (λ same. c.if-tag-number.false same)

@@ -16,14 +16,20 @@ use Rattle.wire_base.proofs.unknown_fields.UnknownFields.decode_from_slice_withi
 pub returns-in_err-tag-clause-fault : goal.returns-in_err-tag-clause-fault
 returns-in_err-tag-clause-fault c =
     let p = err_from_is_err_and c.from_residual.result c.from_residual.ensures.1 in
-    rw (p.1, p.2) (refused_tag _ by_input _ _ _ c.loop-buf.invariant.so_far _ (some_left _ (eqb-false _ _ (sym c.is_empty.ensures ∙ c.loop-buf-test.true))) (bad_tag c.in_err-tag.ensures.fault))
+    rw (p.1, p.2)
+    (refused_tag _ by_input _ _ _ c.loop-buf.invariant.so_far _
+    (some_left _ (eqb-false _ _ (sym c.is_empty.ensures
+    ∙ c.loop-buf-test.true))) (bad_tag c.in_err-tag.ensures.fault))
 
 pub returns-in_err-field-clause-fault : goal.returns-in_err-field-clause-fault
 returns-in_err-field-clause-fault c =
     let r = c.from_residual-in_err-field in
     let p = err_from_is_err_and r.result r.ensures.1 in
     let loop = c.loop-buf.invariant in
-    rw (p.1, p.2) (refused_payload _ by_input _ _ _ loop.so_far _ _ _ _ _ (some_left _ (eqb-false _ _ (sym c.is_empty.ensures ∙ c.loop-buf-test.true))) c.in_ok-tag.ensures.ok tt loop.context c.in_err-field.ensures.fault)
+    rw (p.1, p.2)
+    (refused_payload _ by_input _ _ _ loop.so_far _ _ _ _ _
+    (some_left _ (eqb-false _ _ (sym c.is_empty.ensures
+    ∙ c.loop-buf-test.true))) c.in_ok-tag.ensures.ok tt loop.context c.in_err-field.ensures.fault)
 
 pub returns-then-is_err-clause-fault : goal.returns-then-is_err-clause-fault
 returns-then-is_err-clause-fault c =
@@ -33,10 +39,15 @@ pub loop-buf-preserved : goal.loop-buf-preserved
 loop-buf-preserved c =
     let loop = c.loop-buf.invariant in
     let read = c.in_ok-field.ensures in
-    let pushed = at_ok c.push.result _ (sym c.is_err.ensures.value ∙ c.if-is_err.false) c.push.ensures.ok in
+    let pushed = at_ok c.push.result _ (sym c.is_err.ensures.value
+    ∙ c.if-is_err.false) c.push.ensures.ok in
     rw (pushed, read.number) (record {
-      so_far = takes_field _ _ _ _ _ _ _ _ _ loop.so_far c.in_ok-tag.ensures.ok (rw loop.context at read.ok);
-      context = read.charged ∙ ap (λ (l : Limits). left_after l (payload_charge (payload_of c.in_ok-field.field.value))) loop.context ∙ left_after-push _ c.loop-buf.fields _ _;
+      so_far = takes_field _ _ _ _ _ _ _ _ _ loop.so_far c.in_ok-tag.ensures.ok
+          (rw loop.context at read.ok);
+      context = read.charged
+          ∙ ap (λ (l : Limits). left_after l
+          (payload_charge (payload_of c.in_ok-field.field.value))) loop.context
+          ∙ left_after-push _ c.loop-buf.fields _ _;
     })
 
 pub returns-clause-in_range : goal.returns-clause-in_range

@@ -8,5 +8,7 @@ abbrev pub invariant-UnknownFieldsPartialEq::eq-loop-index : goal.invariant-Unkn
 invariant-UnknownFieldsPartialEq::eq-loop-index l = record {
   end : l.index-end ≡ length l.self-inside.fields.items;
   as_long : length l.other-inside.fields.items ≡ length l.self-inside.fields.items;
-  rest : fields_eq l.fn.self l.fn.other ≡ fields_eq (fields_of (drop l.index l.self-inside.fields.items)) (fields_of (drop l.index l.other-inside.fields.items));
+  rest : fields_eq l.fn.self l.fn.other ≡ fields_eq
+      (fields_of (drop l.index l.self-inside.fields.items))
+      (fields_of (drop l.index l.other-inside.fields.items));
 }

@@ -27,42 +27,75 @@ decode_value-returns-in_err-decode_varint-in-Varint-clause-fault g t c =
     let r = c.from_residual-in_err-decode_varint-in-Varint in
     let p = err_from_is_err_and r.result r.ensures.1 in
     let slot = c.in_ok-register_unknown_field.ensures.taken in
-    rw (p.1, p.2, sym c.wire_type.ensures ∙ c.in-Varint.is) (inl (no_varint slot (c.in_err-decode_varint-in-Varint).ensures.fault))
+    rw (
+      p.1,
+      p.2,
+      sym c.wire_type.ensures
+          ∙ c.in-Varint.is,
+    ) (inl (no_varint slot (c.in_err-decode_varint-in-Varint).ensures.fault))
 
 pub decode_value-returns-in_err-try_get_u64_le-in-Fixed64-clause-fault : goal.decode_value-returns-in_err-try_get_u64_le-in-Fixed64-clause-fault
 decode_value-returns-in_err-try_get_u64_le-in-Fixed64-clause-fault g t c =
     let r = c.from_residual-in_err-try_get_u64_le-in-Fixed64 in
     let p = err_from_is_err_and r.result r.ensures.1 in
     let short = (c.in_err-try_get_u64_le-in-Fixed64).ensures.rest in
-    rw (p.1, p.2, sym c.wire_type.ensures ∙ c.in-Fixed64.is) (inl (short_fixed64 c.in_ok-register_unknown_field.ensures.taken short.0))
+    rw (
+      p.1,
+      p.2,
+      sym c.wire_type.ensures
+          ∙ c.in-Fixed64.is,
+    )
+    (inl (short_fixed64 c.in_ok-register_unknown_field.ensures.taken short.0))
 
 pub decode_value-returns-in_err-try_get_u32_le-in-Fixed32-clause-fault : goal.decode_value-returns-in_err-try_get_u32_le-in-Fixed32-clause-fault
 decode_value-returns-in_err-try_get_u32_le-in-Fixed32-clause-fault g t c =
     let r = c.from_residual-in_err-try_get_u32_le-in-Fixed32 in
     let p = err_from_is_err_and r.result r.ensures.1 in
     let short = (c.in_err-try_get_u32_le-in-Fixed32).ensures.rest in
-    rw (p.1, p.2, sym c.wire_type.ensures ∙ c.in-Fixed32.is) (inl (short_fixed32 c.in_ok-register_unknown_field.ensures.taken short.0))
+    rw (
+      p.1,
+      p.2,
+      sym c.wire_type.ensures
+          ∙ c.in-Fixed32.is,
+    )
+    (inl (short_fixed32 c.in_ok-register_unknown_field.ensures.taken short.0))
 
 pub decode_value-returns-in_err-len-in-LengthDelimited-clause-fault : goal.decode_value-returns-in_err-len-in-LengthDelimited-clause-fault
 decode_value-returns-in_err-len-in-LengthDelimited-clause-fault g t c =
     let r = c.from_residual-in_err-len-in-LengthDelimited in
     let p = err_from_is_err_and r.result r.ensures.1 in
     let slot = c.in_ok-register_unknown_field.ensures.taken in
-    rw (p.1, p.2, sym c.wire_type.ensures ∙ c.in-LengthDelimited.is) (inl (no_bytes slot (c.in_err-len-in-LengthDelimited).ensures.fault))
+    rw (
+      p.1,
+      p.2,
+      sym c.wire_type.ensures
+          ∙ c.in-LengthDelimited.is,
+    )
+    (inl (no_bytes slot (c.in_err-len-in-LengthDelimited).ensures.fault))
 
 pub decode_value-returns-in_err-take_bytes-in-LengthDelimited-clause-fault : goal.decode_value-returns-in_err-take_bytes-in-LengthDelimited-clause-fault
 decode_value-returns-in_err-take_bytes-in-LengthDelimited-clause-fault g t c =
     let r = c.from_residual-in_err-take_bytes-in-LengthDelimited in
     let p = err_from_is_err_and r.result r.ensures.1 in
     let len = (c.in_ok-len-in-LengthDelimited).ensures in
-    rw (p.1, p.2, sym c.wire_type.ensures ∙ c.in-LengthDelimited.is) (no_memory_for_bytes _ _ _ _ _ len.ok len.there)
+    rw (
+      p.1,
+      p.2,
+      sym c.wire_type.ensures
+          ∙ c.in-LengthDelimited.is,
+    ) (no_memory_for_bytes _ _ _ _ _ len.ok len.there)
 
 pub decode_value-returns-in_ok-take_bytes-in-LengthDelimited-clause-ok : goal.decode_value-returns-in_ok-take_bytes-in-LengthDelimited-clause-ok
 decode_value-returns-in_ok-take_bytes-in-LengthDelimited-clause-ok g t c =
     let slot = c.in_ok-register_unknown_field.ensures.taken in
     let len = (c.in_ok-len-in-LengthDelimited).ensures in
     let b = (c.in_ok-take_bytes-in-LengthDelimited).ensures in
-    rw (sym c.wire_type.ensures ∙ c.in-LengthDelimited.is, b.ok) (takes_delimited _ _ slot _ _ _ (delimited_at _ _ _ _ len.ok len.there b.rest))
+    rw (
+      sym c.wire_type.ensures
+          ∙ c.in-LengthDelimited.is,
+      b.ok,
+    )
+    (takes_delimited _ _ slot _ _ _ (delimited_at _ _ _ _ len.ok len.there b.rest))
 
 pub decode_value-returns-in_err-descend-in-StartGroup-clause-fault : goal.decode_value-returns-in_err-descend-in-StartGroup-clause-fault
 decode_value-returns-in_err-descend-in-StartGroup-clause-fault g t c =
@@ -70,7 +103,13 @@ decode_value-returns-in_err-descend-in-StartGroup-clause-fault g t c =
     let p = err_from_is_err_and r.result r.ensures.1 in
     let refused = (c.in_err-descend-in-StartGroup).ensures in
     let level = rw c.in_ok-register_unknown_field.ensures.ok at refused.none_left in
-    rw (p.1, p.2, refused.err, sym c.wire_type.ensures ∙ c.in-StartGroup.is) (inl (no_level c.in_ok-register_unknown_field.ensures.taken level))
+    rw (
+      p.1,
+      p.2,
+      refused.err,
+      sym c.wire_type.ensures
+          ∙ c.in-StartGroup.is,
+    ) (inl (no_level c.in_ok-register_unknown_field.ensures.taken level))
 
 pub decode_value-returns-in_err-fields-in-StartGroup-clause-fault : goal.decode_value-returns-in_err-fields-in-StartGroup-clause-fault
 decode_value-returns-in_err-fields-in-StartGroup-clause-fault g t c =
@@ -80,19 +119,28 @@ decode_value-returns-in_err-fields-in-StartGroup-clause-fault g t c =
     let level = (c.in_ok-descend-in-StartGroup).ensures in
     let taken = rw slot.ok at level.taken in
     rw (p.1, p.2, sym c.wire_type.ensures ∙ c.in-StartGroup.is)
-    (refused_in_group _ _ _ _ _ _ slot.taken taken (level.ok ∙ ap inner slot.ok) c.field_number.ensures.number (c.in_err-fields-in-StartGroup).ensures.fault)
+    (refused_in_group _ _ _ _ _ _ slot.taken taken (level.ok
+    ∙ ap inner slot.ok) c.field_number.ensures.number
+    (c.in_err-fields-in-StartGroup).ensures.fault)
 
 pub decode_value-returns-in_ok-fields-in-StartGroup-clause-ok : goal.decode_value-returns-in_ok-fields-in-StartGroup-clause-ok
 decode_value-returns-in_ok-fields-in-StartGroup-clause-ok g t c =
     let slot = c.in_ok-register_unknown_field.ensures in
     let level = (c.in_ok-descend-in-StartGroup).ensures in
     let taken = rw slot.ok at level.taken in
-    let fields = rw (level.ok ∙ ap inner slot.ok, c.field_number.ensures.number) at (c.in_ok-fields-in-StartGroup).ensures.ok in
-    rw (sym c.wire_type.ensures ∙ c.in-StartGroup.is) (takes_group _ _ slot.taken _ _ _ taken fields)
+    let fields = rw (
+      level.ok
+          ∙ ap inner slot.ok,
+      c.field_number.ensures.number,
+    ) at
+    (c.in_ok-fields-in-StartGroup).ensures.ok in
+    rw (sym c.wire_type.ensures
+    ∙ c.in-StartGroup.is) (takes_group _ _ slot.taken _ _ _ taken fields)
 
 pub decode_value-returns-in-EndGroup-clause-fault : goal.decode_value-returns-in-EndGroup-clause-fault
 decode_value-returns-in-EndGroup-clause-fault g t c =
-    rw (sym c.wire_type.ensures ∙ c.in-EndGroup.is) (inl (end_outside c.in_ok-register_unknown_field.ensures.taken))
+    rw (sym c.wire_type.ensures
+    ∙ c.in-EndGroup.is) (inl (end_outside c.in_ok-register_unknown_field.ensures.taken))
 
 pub decode_unknown_field-returns-clause-in_range : goal.decode_unknown_field-returns-clause-in_range
 decode_unknown_field-returns-clause-in_range g t c =
@@ -103,7 +151,9 @@ decode_unknown_field-returns-clause-in_range g t c =
 pub decode_group-returns-in_err-tag-clause-fault : goal.decode_group-returns-in_err-tag-clause-fault
 decode_group-returns-in_err-tag-clause-fault g t c =
     let p = err_from_is_err_and c.from_residual.result c.from_residual.ensures.1 in
-    rw (p.1, p.2) (refused_tag _ (by_tag c.args.number) _ _ _ c.loop-fields.invariant.so_far _ tt c.in_err-tag.ensures.fault)
+    rw (p.1, p.2)
+    (refused_tag _
+    (by_tag c.args.number) _ _ _ c.loop-fields.invariant.so_far _ tt c.in_err-tag.ensures.fault)
 
 pub decode_group-returns-in_err-field-clause-fault : goal.decode_group-returns-in_err-field-clause-fault
 decode_group-returns-in_err-field-clause-fault g t c =
@@ -111,23 +161,32 @@ decode_group-returns-in_err-field-clause-fault g t c =
     let loop = c.loop-fields.invariant in
     let tag = c.in_ok-tag.ensures in
     rw (p.1, p.2)
-    (refused_payload _ (by_tag c.args.number) _ _ _ loop.so_far _ _ _ _ _ tt (rw c.in-Some.is at tag.record) (rw c.in-Some.is at tag.inside) loop.context c.in_err-field.ensures.fault)
+    (refused_payload _ (by_tag c.args.number) _ _ _ loop.so_far _ _ _ _ _ tt
+    (rw c.in-Some.is at tag.record)
+    (rw c.in-Some.is at tag.inside) loop.context c.in_err-field.ensures.fault)
 
 pub decode_group-returns-then-is_err-clause-fault : goal.decode_group-returns-then-is_err-clause-fault
 decode_group-returns-then-is_err-clause-fault g t c =
-    refused_push _ (by_tag c.args.number) _ _ _ c.loop-fields.invariant.so_far _ _ _ _ _ _ (rw c.in-Some.is at c.in_ok-tag.ensures.record) c.in_ok-field.ensures.ok
+    refused_push _ (by_tag c.args.number) _ _ _ c.loop-fields.invariant.so_far _ _ _ _ _ _
+    (rw c.in-Some.is at c.in_ok-tag.ensures.record) c.in_ok-field.ensures.ok
 
 pub decode_group-returns-clause-ok : goal.decode_group-returns-clause-ok
 decode_group-returns-clause-ok g t c =
-    takes_until _ _ _ _ _ _ c.loop-fields.invariant.so_far (at_none _ _ c.in_default.not-Some c.in_ok-tag.ensures.end)
+    takes_until _ _ _ _ _ _ c.loop-fields.invariant.so_far
+    (at_none _ _ c.in_default.not-Some c.in_ok-tag.ensures.end)
 
 pub decode_group-loop-fields-preserved : goal.decode_group-loop-fields-preserved
 decode_group-loop-fields-preserved g t c =
     let loop = c.loop-fields.invariant in
     let read = c.in_ok-field.ensures in
-    let pushed = at_ok c.push.result _ (sym c.is_err.ensures.value ∙ c.if-is_err.false) c.push.ensures.ok in
+    let pushed = at_ok c.push.result _ (sym c.is_err.ensures.value
+    ∙ c.if-is_err.false) c.push.ensures.ok in
     rw (pushed, read.number) (record {
-      so_far = takes_field _ _ _ _ _ _ _ _ _ loop.so_far (rw c.in-Some.is at c.in_ok-tag.ensures.record) (rw loop.context at read.ok);
-      context = read.charged ∙ ap (λ (l : Limits). left_after l (payload_charge (payload_of c.in_ok-field.field.value))) loop.context ∙ left_after-push _ c.loop-fields.fields _ _;
+      so_far = takes_field _ _ _ _ _ _ _ _ _ loop.so_far
+          (rw c.in-Some.is at c.in_ok-tag.ensures.record) (rw loop.context at read.ok);
+      context = read.charged
+          ∙ ap (λ (l : Limits). left_after l
+          (payload_charge (payload_of c.in_ok-field.field.value))) loop.context
+          ∙ left_after-push _ c.loop-fields.fields _ _;
       kept = read.kept ∙ c.in_ok-tag.ensures.kept ∙ loop.kept;
     })

@@ -15,7 +15,8 @@ decreases-decode_group g l = 3 * l.context.now.depth + 2
 
 abbrev pub invariant-decode_group-loop-fields : goal.invariant-decode_group-loop-fields
 invariant-decode_group-loop-fields g l = record {
-  so_far : TakesFields (charge l.fields) l.fn.context l.fields (g.B.Buf.unread l.fn.buf) (g.B.Buf.unread l.buf);
+  so_far : TakesFields (charge l.fields) l.fn.context l.fields (g.B.Buf.unread l.fn.buf)
+      (g.B.Buf.unread l.buf);
   context : l.context ≡ left_after l.fn.context (charge l.fields);
   kept : g.B.Buf.kept l.buf ≡ g.B.Buf.kept l.fn.buf;
 }

@@ -8,9 +8,13 @@ pub invariant_of-self : goal.invariant_of-self
 invariant_of-self c =
     let old = c.self.inside.segments.items in
     let left = ap concat c.drop_front.ensures ∙ concat-left_segments c.args.cnt old in
-    let sizes = ap length left ∙ length-drop c.args.cnt (concat old) in
-    (omega arith, All-same (λ s. 0 < length s) _ _ c.drop_front.ensures (AllFilled-left_segments c.args.cnt old c.self.invariant.1))
+    let sizes = ap length left ∙ length-drop c.args.cnt (concat old) in (
+      omega arith,
+      All-same (λ s. 0 < length s) _ _ c.drop_front.ensures
+          (AllFilled-left_segments c.args.cnt old c.self.invariant.1),
+    )
 
 pub returns-clause-value : goal.returns-clause-value
 returns-clause-value c =
-    ap concat c.drop_front.ensures ∙ concat-left_segments c.args.cnt c.self.inside.segments.items ∙ ap (λ l. drop c.args.cnt (concat l)) c.self.view_is
+    ap concat c.drop_front.ensures ∙ concat-left_segments c.args.cnt c.self.inside.segments.items
+    ∙ ap (λ l. drop c.args.cnt (concat l)) c.self.view_is

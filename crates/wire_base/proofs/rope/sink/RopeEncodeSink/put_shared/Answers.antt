@@ -6,4 +6,5 @@ use Rattle.wire_base.proofs.rope.sink.RopeEncodeSink.put_shared.Goals as goal
 
 pub returns-clause-ok : goal.returns-clause-ok
 returns-clause-ok c =
-    on_ok_weaker c.push_segment.result (λ is. ap rope_bytes is ∙ rope_bytes-with_segment c.args.self.now c.args.bytes) c.push_segment.ensures.ok
+    on_ok_weaker c.push_segment.result (λ is. ap rope_bytes is
+    ∙ rope_bytes-with_segment c.args.self.now c.args.bytes) c.push_segment.ensures.ok
