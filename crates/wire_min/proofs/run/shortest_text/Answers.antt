@@ -1,10 +1,11 @@
 use Rattle.std.proofs.Common.{sym, ap, ◌∙◌, ◌++◌, append-nil}
 use Rattle.wire_base.specs.Text.{text_of}
+use Rattle.wire_min.proofs.Results.{ok_before}
 use Rattle.wire_min.proofs.run.shortest_text.Goals as goal
 
 -- the vector was empty, and the text was written to it
-pub returns-in-Ok-clause-ok : goal.returns-in-Ok-clause-ok
-returns-in-Ok-clause-ok c = record {
+pub returns-clause-ok : goal.returns-clause-ok
+returns-clause-ok c = record {
   fields = c.in_ok-fields.fields;
   taken = record {
     read = record {
@@ -14,6 +15,6 @@ returns-in-Ok-clause-ok c = record {
     };
     fits = c.in_ok-fields.ensures.within;
   };
-  shortest = c.in-Ok.ensures.ok
+  shortest = (rw (ok_before c.write_to.result _ _ c.in_ok-or.ensures) at c.write_to.ensures.ok)
       ∙ ap (λ l. l ++ text_of c.in_ok-fields.fields) c.new-output.ensures.items;
 }
