@@ -1,0 +1,3 @@
+pub mod Delimiting
+pub mod Measured
+pub mod SizesLaws

@@ -1,3 +1,5 @@
+pub mod Encoding
 pub mod Records
 pub mod Sizes
 pub mod Tape
+pub mod Writes

@@ -1,5 +1,5 @@
 -- The records of a value: records of the grammar, where a payload may also be an embedded message.
-use Rattle.std.specs.Prelude.{ℕ, Bool, true, false, List, length}
+use Rattle.std.specs.Prelude.{ℕ, List, length}
 use Rattle.wire_base.specs.Field.{Payload, Fields}
 use Rattle.wire_base.specs.Text.{text_of}
 

@@ -1,9 +1,11 @@
 //! Messages of the Protocol Buffers wire format, with all names of the crates below.
 #![tactic(auto)]
 
+mod message;
 mod size;
 mod size_cache;
 
+pub use message::Message;
 pub use size::MAX_MESSAGE_BYTES;
 pub use size::checked_encode_size;
 pub use size::saturate_size;
