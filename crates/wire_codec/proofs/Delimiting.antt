@@ -9,15 +9,15 @@ use Rattle.wire_codec.specs.Encoding.{TriesToWrite}
 use Rattle.wire_codec.specs.Writes.{Writes}
 
 -- a write that is not refused for size
-pub tries_small : (len : ℕ) (most : Option ℕ) (old text new : List ℕ) (r : Result (Unit {0}) EncodeError) → len ≤ 2147483647 → Writes most old text new r → TriesToWrite len most old text new r
+pub tries_small : (len : ℕ) (most : Option ℕ) (old text new : List ℕ) (r : Result (Unit {0}) EncodeError) → len ≤ 2147483647 → Writes most text old new r → TriesToWrite len most text old new r
 tries_small len most old text new r small w = record { fits = λ fits. w; too_large = λ large. absurd (omega arith) }
 
 module _ (two : TwoParts) (most : Option ℕ) where
-  first_refused : (old first second new : List ℕ) (e : EncodeError) → KeepsFront old first new → WriteAnswers most old first (Err e) → Writes most old (first ++ second) new (Err e)
+  first_refused : (old first second new : List ℕ) (e : EncodeError) → KeepsFront old first new → WriteAnswers most old first (Err e) → Writes most (first ++ second) old new (Err e)
   first_refused old first second new e kept why = record { ok = tt; err = two.front old first second new kept; cause = two.refused most old first second e why }
 
   second_done : (old first second mid new : List ℕ) (done : Unit {0}) (r : Result (Unit {0}) EncodeError) → mid ≡ old ++ first → WriteAnswers most old first (Ok done)
-      → Writes most mid second new r → Writes most old (first ++ second) new r
+      → Writes most second mid new r → Writes most (first ++ second) old new r
   second_done old first second mid new done (Ok u) is before w = record {
     ok = w.ok ∙ ap (λ (t : List ℕ). t ++ second) is ∙ append_assoc old first second;
     err = tt;
@@ -31,14 +31,14 @@ module _ (two : TwoParts) (most : Option ℕ) where
 
   -- the length is refused
   pub length_refused : (old text new : List ℕ) (v : ℕ) (e : EncodeError) → v ≡ length text → KeepsFront old (shortest_varint v) new → WriteAnswers most old (shortest_varint v) (Err e)
-      → Writes most old (delimited_text text) new (Err e)
+      → Writes most (delimited_text text) old new (Err e)
   length_refused old text new v e is kept why =
       first_refused old (shortest_varint (length text)) text new e (subst (λ (n : ℕ). KeepsFront old (shortest_varint n) new) is kept)
       (subst (λ (n : ℕ). WriteAnswers most old (shortest_varint n) (Err e)) is why)
 
   -- the length is written
   pub behind_length : (old text mid new : List ℕ) (v : ℕ) (done : Unit {0}) (r : Result (Unit {0}) EncodeError) → v ≡ length text → mid ≡ old ++ shortest_varint v
-      → WriteAnswers most old (shortest_varint v) (Ok done) → Writes most mid text new r → Writes most old (delimited_text text) new r
+      → WriteAnswers most old (shortest_varint v) (Ok done) → Writes most text mid new r → Writes most (delimited_text text) old new r
   behind_length old text mid new v done r is wrote before w =
       second_done old (shortest_varint (length text)) text mid new done r (wrote ∙ ap (λ (n : ℕ). old ++ shortest_varint n) is)
       (subst (λ (n : ℕ). WriteAnswers most old (shortest_varint n) (Ok done)) is before) w

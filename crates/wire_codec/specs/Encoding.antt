@@ -23,8 +23,8 @@ pub record TriesToAnswer {T : Type 0} (result : Result T EncodeError) (len : ℕ
 
 -- A text is written where the message has no more bytes than one may have. Else the call is refused,
 -- and the sink stays as it was.
-pub record TriesToWrite (len : ℕ) (most : Option ℕ) (old text new : List ℕ) (result : Result (Unit {0}) EncodeError) : Type 0 where
-  pub fits : len ≤ 2147483647 → Writes most old text new result
+pub record TriesToWrite (len : ℕ) (most : Option ℕ) (text old new : List ℕ) (result : Result (Unit {0}) EncodeError) : Type 0 where
+  pub fits : len ≤ 2147483647 → Writes most text old new result
   pub too_large : 2147483647 < len → IsRefused MessageTooLarge result × (new ≡ old)
 
 -- the same call without the number that it answers
@@ -33,9 +33,9 @@ without_len (Ok len) = Ok tt
 without_len (Err e) = Err e
 
 -- A text is written, and its length answered, where it is within the budget too.
-pub record WritesWithin (max_bytes : ℕ) (most : Option ℕ) (old text new : List ℕ) (result : Result ℕ EncodeError) : Type 0 where
+pub record WritesWithin (max_bytes : ℕ) (most : Option ℕ) (text old new : List ℕ) (result : Result ℕ EncodeError) : Type 0 where
   pub ok : IfOk result (λ len. len ≡ length text)
-  pub fits : length text ≤ 2147483647 → length text ≤ max_bytes → Writes most old text new (without_len result)
+  pub fits : length text ≤ 2147483647 → length text ≤ max_bytes → Writes most text old new (without_len result)
   pub too_large : 2147483647 < length text → IsRefused MessageTooLarge result × (new ≡ old)
   pub over_budget : length text ≤ 2147483647 → max_bytes < length text
       → IsRefused (ExceedsBudget (length text) max_bytes) result × (new ≡ old)

@@ -48,8 +48,8 @@ pub trait Message: Clone + PartialEq + Drop {
     ) -> Result<(), EncodeError>
         requires sizes { NextAre (sizes (records (view self.now))) cache.old }
         requires size { size (records (view self.now)) ≤ 2147483647 }
-        ensures written { Writes S.most (S.bytes_of sink.old) (text (records (view self.now)))
-            (S.bytes_of sink.new) result }
+        ensures written { Writes S.most (text (records (view self.now)))
+            (S.bytes_of sink.old) (S.bytes_of sink.new) result }
         ensures read { OnOk result (cache.new
             ≡ advanced cache.old (length (sizes (records (view self.now))))) };
 
@@ -59,8 +59,8 @@ pub trait Message: Clone + PartialEq + Drop {
     /// Writes the text with a cache of its own.
     fn encode<S: EncodeSink>(&self, alloc: Global, sink: &mut S) -> Result<(), EncodeError>
         requires { size (records (view self.now)) ≤ 2147483647 }
-        ensures { Writes S.most (S.bytes_of sink.old) (text (records (view self.now)))
-            (S.bytes_of sink.new) result }
+        ensures { Writes S.most (text (records (view self.now)))
+            (S.bytes_of sink.old) (S.bytes_of sink.new) result }
     {
         self.encode_with_cache(&mut SizeCache::new(alloc), sink)
     }
@@ -72,8 +72,8 @@ pub trait Message: Clone + PartialEq + Drop {
         sink: &mut S,
     ) -> Result<(), EncodeError>
         requires { size (records (view self.now)) ≤ 2147483647 }
-        ensures written { Writes S.most (S.bytes_of sink.old) (text (records (view self.now)))
-            (S.bytes_of sink.new) result }
+        ensures written { Writes S.most (text (records (view self.now)))
+            (S.bytes_of sink.old) (S.bytes_of sink.new) result }
         ensures read { OnOk result (cache.new ≡ read_tape (records (view self.now))) }
     {
         cache.clear();
@@ -91,8 +91,9 @@ pub trait Message: Clone + PartialEq + Drop {
     }
 
     fn try_encode<S: EncodeSink>(&self, alloc: Global, sink: &mut S) -> Result<(), EncodeError>
-        ensures { TriesToWrite (size (records (view self.now))) S.most (S.bytes_of sink.old)
-            (text (records (view self.now))) (S.bytes_of sink.new) result }
+        ensures { TriesToWrite (size (records (view self.now))) S.most
+            (text (records (view self.now))) (S.bytes_of sink.old)
+            (S.bytes_of sink.new) result }
     {
         self.try_encode_with_cache(&mut SizeCache::new(alloc), sink)
     }
@@ -102,8 +103,9 @@ pub trait Message: Clone + PartialEq + Drop {
         cache: &mut SizeCache,
         sink: &mut S,
     ) -> Result<(), EncodeError>
-        ensures written { TriesToWrite (size (records (view self.now))) S.most (S.bytes_of sink.old)
-            (text (records (view self.now))) (S.bytes_of sink.new) result }
+        ensures written { TriesToWrite (size (records (view self.now))) S.most
+            (text (records (view self.now))) (S.bytes_of sink.old)
+            (S.bytes_of sink.new) result }
         ensures read { OnOk result (cache.new ≡ read_tape (records (view self.now))) }
     {
         cache.clear();
@@ -125,8 +127,8 @@ pub trait Message: Clone + PartialEq + Drop {
         sink: &mut S,
     ) -> Result<(), EncodeError>
         requires { size (records (view self.now)) ≤ 2147483647 }
-        ensures { Writes S.most (S.bytes_of sink.old)
-            (delimited_text (text (records (view self.now)))) (S.bytes_of sink.new) result }
+        ensures { Writes S.most (delimited_text (text (records (view self.now))))
+            (S.bytes_of sink.old) (S.bytes_of sink.new) result }
     {
         laws::two_parts();
         let mut cache = SizeCache::new(alloc);
@@ -140,8 +142,9 @@ pub trait Message: Clone + PartialEq + Drop {
         alloc: Global,
         sink: &mut S,
     ) -> Result<(), EncodeError>
-        ensures { TriesToWrite (size (records (view self.now))) S.most (S.bytes_of sink.old)
-            (delimited_text (text (records (view self.now)))) (S.bytes_of sink.new) result }
+        ensures { TriesToWrite (size (records (view self.now))) S.most
+            (delimited_text (text (records (view self.now)))) (S.bytes_of sink.old)
+            (S.bytes_of sink.new) result }
     {
         laws::two_parts();
         let mut cache = SizeCache::new(alloc);
@@ -196,8 +199,8 @@ pub trait Message: Clone + PartialEq + Drop {
         max_bytes: u32,
         sink: &mut S,
     ) -> Result<u32, EncodeError>
-        ensures { WritesWithin max_bytes S.most (S.bytes_of sink.old)
-            (text (records (view self.now))) (S.bytes_of sink.new) result }
+        ensures { WritesWithin max_bytes S.most (text (records (view self.now)))
+            (S.bytes_of sink.old) (S.bytes_of sink.new) result }
     {
         self.try_encode_bounded_with_cache(max_bytes, &mut SizeCache::new(alloc), sink)
     }
@@ -208,8 +211,8 @@ pub trait Message: Clone + PartialEq + Drop {
         cache: &mut SizeCache,
         sink: &mut S,
     ) -> Result<u32, EncodeError>
-        ensures written { WritesWithin max_bytes S.most (S.bytes_of sink.old)
-            (text (records (view self.now))) (S.bytes_of sink.new) result }
+        ensures written { WritesWithin max_bytes S.most (text (records (view self.now)))
+            (S.bytes_of sink.old) (S.bytes_of sink.new) result }
         ensures read { OnOk result (cache.new ≡ read_tape (records (view self.now))) }
     {
         cache.clear();
