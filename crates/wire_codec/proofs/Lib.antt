@@ -1,3 +1,4 @@
 pub mod Delimiting
 pub mod Measured
+pub mod RecordsLaws
 pub mod SizesLaws

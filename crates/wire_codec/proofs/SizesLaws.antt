@@ -1,6 +1,6 @@
 -- No embedded message is longer than the records that it stands in: where the whole is small, no size is cut.
-use Rattle.std.proofs.Common.{◌≡◌, ℕ, ◌≤◌, List, [], ◌∷◌, ◌++◌, length, map, refl, arith, length-append}
-use Rattle.std.proofs.lemmas.List.Elements.{All-nil, All-cons, All-head, All-tail, All-append}
+use Rattle.std.proofs.Common.{◌≡◌, ℕ, ◌^◌, ◌<◌, ◌≤◌, List, [], ◌∷◌, ◌++◌, length, map, refl, arith, length-append}
+use Rattle.std.proofs.lemmas.List.Elements.{All-nil, All-cons, All-head, All-tail, All-append, All-weaker}
 use Rattle.std.specs.Prelude.{All}
 use Rattle.wire_base.specs.declared.tag.WireType.TheVariants.{EndGroup}
 use Rattle.wire_base.specs.Field.{type_of}
@@ -28,16 +28,21 @@ mutual
       let payload = length-append (payload_text n (plain_payload p)) (text rest) in
       All-append (λ k. k ≤ most) (payload_sizes p) (sizes rest) (payload_sizes_below p n most (omega arith)) (sizes_below rest most (omega arith))
 
-uncut : (ns : List ℕ) → All (λ k. k ≤ 2147483647) ns → map cut ns ≡ ns
+uncut : (ns : List ℕ) → All (λ k. k < 2 ^ 32) ns → map cut ns ≡ ns
 uncut [] h = refl
 uncut (n ∷ ns) h =
-    let P : ℕ → Type 0 = λ k. k ≤ 2147483647 in
+    let P : ℕ → Type 0 = λ k. k < 2 ^ 32 in
     let first : cut n ≡ n = omega (arith, All-head P n ns h) in
     let others : map cut ns ≡ ns = uncut ns (All-tail P n ns h) in
     cc
 
+pub cut_sizes-below : (rs : Records) → size rs < 2 ^ 32 → cut_sizes rs ≡ sizes rs
+cut_sizes-below rs small =
+    let below = sizes_below rs (size rs) (omega arith) in
+    uncut (sizes rs) (All-weaker (λ k. k ≤ size rs) (λ k. k < 2 ^ 32) (λ k h. omega arith) (sizes rs) below)
+
 pub cut_sizes-small : (rs : Records) → size rs ≤ 2147483647 → cut_sizes rs ≡ sizes rs
-cut_sizes-small rs small = uncut (sizes rs) (sizes_below rs 2147483647 small)
+cut_sizes-small rs small = cut_sizes-below rs (omega arith)
 
 -- a size that was not cut
 pub uncut_size : (answer n : ℕ) → answer ≡ cut n → answer ≤ 2147483647 → n ≤ 2147483647

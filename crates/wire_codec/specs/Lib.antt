@@ -1,4 +1,5 @@
 pub mod Encoding
+pub mod Laws
 pub mod Records
 pub mod Sizes
 pub mod Tape

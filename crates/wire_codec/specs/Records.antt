@@ -39,3 +39,21 @@ text rs = text_of (plain rs)
 -- the length of the text
 abbrev pub size : Records → ℕ
 size rs = length (text rs)
+
+-- one list behind another
+abbrev pub joined : Records → Records → Records
+joined none more = more
+joined (field n p rest) more = field n p (joined rest more)
+
+-- records of the grammar as records of a value, none of them an embedded message
+abbrev mutual
+  pub of_payload : Payload → ValuePayload
+  of_payload (Payload.varint v) = varint v
+  of_payload (Payload.fixed64 v) = fixed64 v
+  of_payload (Payload.fixed32 v) = fixed32 v
+  of_payload (Payload.bytes b) = bytes b
+  of_payload (Payload.group fs) = group (of_fields fs)
+
+  pub of_fields : Fields → Records
+  of_fields Fields.none = none
+  of_fields (Fields.field n p rest) = field n (of_payload p) (of_fields rest)

@@ -1,6 +1,7 @@
 //! Messages of the Protocol Buffers wire format, with all names of the crates below.
 #![tactic(auto)]
 
+pub mod laws;
 mod message;
 mod size;
 mod size_cache;

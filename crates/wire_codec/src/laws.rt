@@ -1,0 +1,21 @@
+//! Laws of the definitions that the contracts cite: each function is a theorem, and does nothing.
+ghost use Rattle.wire_codec.specs.Laws.{NoSizeIsAboveTheWhole, SmallSizesAreUncut, JoinedAddsUp, FieldsArePlain};
+
+pub use wire_base::laws::{put_is_a_write, two_parts};
+
+/// No embedded message is longer than the records that it stands in. So no size is cut where the
+/// whole is below `2^32`.
+pub fn sizes_fit()
+    ensures above { NoSizeIsAboveTheWhole }
+    ensures uncut { SmallSizesAreUncut }
+{}
+
+/// The text and the sizes of records one behind another are theirs, one behind another.
+pub fn joined_records_add_up()
+    ensures { JoinedAddsUp }
+{}
+
+/// Records of the grammar, kept in a value as they are, stand for themselves and have no sizes.
+pub fn fields_are_plain()
+    ensures { FieldsArePlain }
+{}
