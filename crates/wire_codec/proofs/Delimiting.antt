@@ -13,10 +13,10 @@ pub tries_small : (len : ℕ) (most : Option ℕ) (old text new : List ℕ) (r :
 tries_small len most old text new r small w = record { fits = λ fits. w; too_large = λ large. absurd (omega arith) }
 
 module _ (two : TwoParts) (most : Option ℕ) where
-  first_refused : (old first second new : List ℕ) (e : EncodeError) → KeepsFront old first new → WriteAnswers most old first (Err e) → Writes most (first ++ second) old new (Err e)
+  pub first_refused : (old first second new : List ℕ) (e : EncodeError) → KeepsFront old first new → WriteAnswers most old first (Err e) → Writes most (first ++ second) old new (Err e)
   first_refused old first second new e kept why = record { ok = tt; err = two.front old first second new kept; cause = two.refused most old first second e why }
 
-  second_done : (old first second mid new : List ℕ) (done : Unit {0}) (r : Result (Unit {0}) EncodeError) → mid ≡ old ++ first → WriteAnswers most old first (Ok done)
+  pub second_done : (old first second mid new : List ℕ) (done : Unit {0}) (r : Result (Unit {0}) EncodeError) → mid ≡ old ++ first → WriteAnswers most old first (Ok done)
       → Writes most second mid new r → Writes most (first ++ second) old new r
   second_done old first second mid new done (Ok u) is before w = record {
     ok = w.ok ∙ ap (λ (t : List ℕ). t ++ second) is ∙ append_assoc old first second;

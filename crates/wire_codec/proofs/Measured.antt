@@ -1,5 +1,5 @@
 -- A blank tape after the first pass, and after the second.
-use Rattle.std.proofs.Common.{◌≡◌, ℕ, ◌≤◌, List, [], length, refl, sym, ap, ◌∙◌, zero-add}
+use Rattle.std.proofs.Common.{◌≡◌, ℕ, ◌≤◌, List, [], length, refl, sym, ap, ◌∙◌, zero-add, add-zero}
 use Rattle.std.specs.Prelude.{Result, OnOk}
 use Rattle.std.proofs.lemmas.List.{append-nil}
 use Rattle.std.proofs.lemmas.Result.{on_ok_weaker}
@@ -26,3 +26,9 @@ all_read_now rs t new is small read = read ∙ ap (λ (u : Tape). advanced u (le
 pub all_read : (rs : Records) (t new : Tape) {T : Type 0} (r : Result T EncodeError) → t ≡ recorded blank (cut_sizes rs) → size rs ≤ 2147483647
     → OnOk r (new ≡ advanced t (length (sizes rs))) → OnOk r (new ≡ read_tape rs)
 all_read rs t new r is small read = on_ok_weaker r (all_read_now rs t new is small) read
+
+pub flat_measured : (rs : Records) (t : Tape) → sizes rs ≡ [] → t ≡ recorded t (cut_sizes rs)
+flat_measured rs t none = rw none (ap (λ (ns : List ℕ). record { sizes = ns; cursor = t.cursor }) (sym (append-nil t.sizes)))
+
+pub flat_written : (rs : Records) (t : Tape) → sizes rs ≡ [] → t ≡ advanced t (length (sizes rs))
+flat_written rs t none = rw none (ap (λ (n : ℕ). record { sizes = t.sizes; cursor = n }) (sym (add-zero t.cursor)))

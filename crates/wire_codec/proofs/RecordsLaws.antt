@@ -3,7 +3,7 @@ use Rattle.std.proofs.Common.{◌≡◌, ℕ, List, [], ◌++◌, refl, sym, ap,
 use Rattle.wire_base.specs.Field.{Payload, Fields, type_of}
 use Rattle.wire_base.specs.Tag.{tag_text}
 use Rattle.wire_base.specs.Text.{payload_text}
-use Rattle.wire_codec.specs.Records.{ValuePayload, varint, fixed64, fixed32, bytes, group, embedded, Records, none, field, plain, plain_payload, text, joined, of_payload, of_fields}
+use Rattle.wire_codec.specs.Records.{Records, none, field, plain, plain_payload, text, joined, of_payload, of_fields}
 use Rattle.wire_codec.specs.Sizes.{payload_sizes, sizes}
 
 pub text-joined : (rs qs : Records) → text (joined rs qs) ≡ text rs ++ text qs

@@ -1,5 +1,5 @@
 //! Laws of the definitions that the contracts cite: each function is a theorem, and does nothing.
-ghost use Rattle.wire_codec.specs.Laws.{NoSizeIsAboveTheWhole, SmallSizesAreUncut, JoinedAddsUp, FieldsArePlain};
+ghost use Rattle.wire_codec.specs.Laws.{NoSizeIsAboveTheWhole, SmallSizesAreUncut, JoinedAddsUp, FieldsArePlain, FlatKeepsTheTape, PieceByPiece};
 
 pub use wire_base::laws::{put_is_a_write, two_parts};
 
@@ -19,3 +19,15 @@ pub fn joined_records_add_up()
 pub fn fields_are_plain()
     ensures { FieldsArePlain }
 {}
+
+/// A message with no embedded message records and reads no sizes.
+pub fn flat_messages_have_no_sizes()
+    ensures { FlatKeepsTheTape }
+{}
+
+/// A text may be written piece by piece.
+pub fn piece_by_piece()
+    ensures { PieceByPiece }
+{
+    two_parts();
+}

@@ -3,14 +3,18 @@
 
 pub mod laws;
 mod message;
+mod message_name;
 mod size;
 mod size_cache;
+mod size_cache_pool;
 
 pub use message::Message;
+pub use message_name::MessageName;
 pub use size::MAX_MESSAGE_BYTES;
 pub use size::checked_encode_size;
 pub use size::saturate_size;
 pub use size_cache::SizeCache;
+pub use size_cache_pool::SizeCachePool;
 pub use wire_base::DEFAULT_MIN_SEGMENT;
 pub use wire_base::DEFAULT_UNKNOWN_FIELD_LIMIT;
 pub use wire_base::DecodeContext;

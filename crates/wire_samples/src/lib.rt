@@ -1,13 +1,6 @@
-// A library with one function.
+//! Message types as a compiler of schemas would write them, proved to encode what they say.
 #![tactic(auto)]
 
-ghost use Rattle.std.specs.Prelude.{◌≡◌};
-ghost use Rattle.wire_samples.specs.Echo.{echo_of};
+mod repeat;
 
-// The `ensures` clause is the contract: what `echo` returns is `echo_of` of its argument, a definition
-// in `specs/Echo.antt`, which a caller's clause can cite too.
-pub fn echo(x: usize) -> usize
-    ensures { result ≡ echo_of x }
-{
-    x
-}
+pub use repeat::Repeat;
