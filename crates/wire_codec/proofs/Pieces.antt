@@ -32,10 +32,14 @@ module _ (two : TwoParts) (most : Option ℕ) (whole old now : List ℕ) where
   last new left r w put =
       subst (λ (t : List ℕ). Writes most t old new r) (sym w.parts) (second_done two most old w.front left now new tt r w.written.ok w.written.cause put)
 
+done : (most : Option ℕ) (whole old now : List ℕ) → IsWrittenTo most whole old now [] → Writes most whole old now (Ok tt)
+done most whole old now w = subst (λ (t : List ℕ). Writes most t old now (Ok tt)) (sym (w.parts ∙ append-nil w.front)) w.written
+
 pub piece_by_piece_lemma : TwoParts → PieceByPiece
 piece_by_piece_lemma two = record {
   start = start;
   more = λ most whole old now. more two most whole old now;
   refused = λ most whole old now. refused two most whole old now;
   last = λ most whole old now. last two most whole old now;
+  done = done;
 }

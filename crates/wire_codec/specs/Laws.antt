@@ -28,7 +28,7 @@ pub record FlatKeepsTheTape : Type 0 where
   pub measured : (rs : Records) (t : Tape) → sizes rs ≡ [] → t ≡ recorded t (cut_sizes rs)
   pub written : (rs : Records) (t : Tape) → sizes rs ≡ [] → t ≡ advanced t (length (sizes rs))
 
--- a text that is written piece by piece: at the start, after a piece, where a piece is refused, and with the last piece
+-- a text that is written piece by piece: at the start, after a piece, where a piece is refused, with the last piece, and where nothing is left
 pub record PieceByPiece : Type 0 where
   pub start : (most : Option ℕ) (whole old : List ℕ) → IsWrittenTo most whole old old whole
   pub more : (most : Option ℕ) (whole old now next left piece after : List ℕ) (done : Unit {0})
@@ -37,3 +37,4 @@ pub record PieceByPiece : Type 0 where
       → IsWrittenTo most whole old now left → left ≡ piece ++ after → Writes most piece now new (Err e) → Writes most whole old new (Err e)
   pub last : (most : Option ℕ) (whole old now new left : List ℕ) (r : Result (Unit {0}) EncodeError)
       → IsWrittenTo most whole old now left → Writes most left now new r → Writes most whole old new r
+  pub done : (most : Option ℕ) (whole old now : List ℕ) → IsWrittenTo most whole old now [] → Writes most whole old now (Ok tt)

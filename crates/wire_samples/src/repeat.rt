@@ -1,8 +1,8 @@
 //! A message of many short records.
-ghost use Rattle.wire_samples.specs.Repeat.{repeat_records};
-
 use std::alloc::Global;
-use wire_codec::{EncodeError, EncodeSink, Message, SizeCache, laws, put_uint64_field, saturate_size};
+use wire_codec::{
+    EncodeError, EncodeSink, Message, SizeCache, laws, put_uint64_field, saturate_size,
+};
 
 /// A count that is spelled out, a record for each, and a mark behind it.
 #[derive(Clone, Debug, Drop, PartialEq)]
@@ -32,11 +32,9 @@ impl Message for Repeat {
     }
 
     fn compute_size(&self, _cache: &mut SizeCache) -> Result<u32, EncodeError> {
-        let mut size = self.times.saturating_mul(2);
-        if self.extra {
-            size = size.saturating_add(3);
-        }
-        Ok(saturate_size(size))
+        laws::flat_messages_have_no_sizes();
+        let extra = if self.extra { 3 } else { 0 };
+        Ok(saturate_size(self.times.saturating_mul(2).saturating_add(extra)))
     }
 
     fn write_to<S: EncodeSink>(
@@ -44,11 +42,13 @@ impl Message for Repeat {
         _cache: &mut SizeCache,
         sink: &mut S,
     ) -> Result<(), EncodeError> {
+        laws::flat_messages_have_no_sizes();
+        laws::piece_by_piece();
         for _ in 0..self.times {
             put_uint64_field(1, 0, sink)?;
         }
         if self.extra {
-            put_uint64_field(2, 128, sink)?;
+            return put_uint64_field(2, 128, sink);
         }
         Ok(())
     }
