@@ -1,6 +1,6 @@
 -- The records of fields that are left out where they have their default value.
-use Rattle.std.specs.Prelude.{ℕ, ◌-◌, ◌^◌, min, ℤ, pos, negsuc, zero, suc, List, [], ◌∷◌, ◌++◌}
-use Rattle.wire_codec.specs.Grammar.{int32, shortest_varint}
+use Rattle.std.specs.Prelude.{ℕ, ◌+◌, ◌-◌, ◌^◌, min, ℤ, pos, negsuc, zero, suc, List, [], ◌∷◌, ◌++◌, length}
+use Rattle.wire_codec.specs.Grammar.{LengthDelimited, int32, tag_text, shortest_varint}
 use Rattle.wire_codec.specs.Records.{Records, none, field, varint, bytes}
 
 -- a number, where it is not 0
@@ -27,3 +27,7 @@ packed_int32_field n (v ∷ vs) = field n (bytes (packed_int32 (v ∷ vs))) none
 -- a length, or the greatest number of 64 bits where it is more
 abbrev pub in_64_bits : ℕ → ℕ
 in_64_bits n = min n (2 ^ 64 - 1)
+
+-- how many bytes a field takes whose payload has so many
+abbrev pub delimited_size : ℕ → ℕ → ℕ
+delimited_size n len = length (tag_text n LengthDelimited) + (length (shortest_varint len) + len)

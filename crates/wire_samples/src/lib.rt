@@ -1,6 +1,9 @@
 //! Message types as a compiler of schemas would write them, proved to encode what they say.
 #![tactic(auto)]
 
+mod fields;
+mod person;
 mod repeat;
 
+pub use person::Person;
 pub use repeat::Repeat;
