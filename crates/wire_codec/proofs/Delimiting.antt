@@ -1,5 +1,6 @@
 -- A text with its length written before it.
 use Rattle.std.proofs.Common.{◌≡◌, ℕ, ◌≤◌, List, ◌++◌, length, Option, Result, Ok, Err, subst, ap, ◌∙◌, append_assoc, arith}
+use Rattle.std.proofs.lemmas.Result.{on_ok_weaker}
 use Rattle.wire_base.specs.declared.error.EncodeError.{EncodeError}
 use Rattle.wire_base.specs.Laws.{TwoParts}
 use Rattle.wire_base.specs.Sink.{KeepsFront, WriteAnswers}
@@ -10,7 +11,7 @@ use Rattle.wire_codec.specs.Writes.{Writes}
 
 -- a write that is not refused for size
 pub tries_small : (len : ℕ) (most : Option ℕ) (old text new : List ℕ) (r : Result (Unit {0}) EncodeError) → len ≤ 2147483647 → Writes most text old new r → TriesToWrite len most text old new r
-tries_small len most old text new r small w = record { fits = λ fits. w; too_large = λ large. absurd (omega arith) }
+tries_small len most old text new r small w = record { within = on_ok_weaker r (λ done. small) w.ok; fits = λ fits. w; too_large = λ large. absurd (omega arith) }
 
 module _ (two : TwoParts) (most : Option ℕ) where
   pub first_refused : (old first second new : List ℕ) (e : EncodeError) → KeepsFront old first new → WriteAnswers most old first (Err e) → Writes most (first ++ second) old new (Err e)

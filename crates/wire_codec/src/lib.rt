@@ -7,6 +7,8 @@ mod message_name;
 mod size;
 mod size_cache;
 mod size_cache_pool;
+#[cfg(test)]
+mod tests;
 
 pub use message::Message;
 pub use message_name::MessageName;

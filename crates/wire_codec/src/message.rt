@@ -218,10 +218,7 @@ pub trait Message: Clone + PartialEq + Drop {
         cache.clear();
         let len = checked_encode_size(self.compute_size(cache)?)?;
         if len > max_bytes {
-            return Err(EncodeError::ExceedsBudget {
-                len,
-                max_bytes,
-            });
+            return Err(EncodeError::ExceedsBudget { len, max_bytes });
         }
         self.write_to(cache, sink)?;
         Ok(len)

@@ -172,3 +172,51 @@ impl SizeCachePool {
         answer
     }
 }
+
+#[cfg(test)]
+mod tests {
+    use super::SizeCachePool;
+    use crate::size_cache::SizeCache;
+    use std::alloc::{AllocError, Global};
+
+    fn released(alloc: Global, pool: &mut SizeCachePool) -> Result<(), AllocError> {
+        pool.release(SizeCache::with_spill_buffer(vec![in alloc; 1]?));
+        Ok(())
+    }
+
+    // A pool of one keeps one buffer when two caches come back, and none after the next is taken.
+    fn keeps_one(alloc: Global) -> Result<bool, AllocError> {
+        let mut pool = SizeCachePool::new(alloc, 1, usize::MAX);
+        released(alloc, &mut pool)?;
+        released(alloc, &mut pool)?;
+        let after_two = pool.buffers.len();
+        let cache = pool.acquire();
+        let after_next = pool.buffers.len();
+        pool.release(cache);
+        Ok(after_two == 1 && after_next == 0)
+    }
+
+    // A buffer with too much room is shrunk or given up, and one with none is not kept.
+    fn keeps_small_ones(alloc: Global) -> Result<bool, AllocError> {
+        let mut pool = SizeCachePool::new(alloc, 4, 8);
+        let large = Vec::with_capacity(alloc, 100)?;
+        pool.release(SizeCache::with_spill_buffer(large));
+        pool.release(SizeCache::new(alloc));
+        Ok(
+            pool.buffers
+                .iter()
+                .all(|buffer| buffer.capacity() != 0 && buffer.capacity() <= 8),
+        )
+    }
+
+    #[test]
+    fn buffers_are_kept_or_given_up(rt: HostRuntime) {
+        assert_ne!(rt; keeps_small_ones(rt.alloc()), Ok(false));
+    }
+
+    #[test]
+    fn ample_memory_keeps_buffers(rt: HostRuntime) {
+        assert_eq!(rt; keeps_one(rt.alloc()), Ok(true));
+        assert_eq!(rt; keeps_small_ones(rt.alloc()), Ok(true));
+    }
+}
