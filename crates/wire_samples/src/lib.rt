@@ -4,6 +4,8 @@
 mod fields;
 mod person;
 mod repeat;
+#[cfg(test)]
+mod tests;
 
 pub use person::Person;
 pub use repeat::Repeat;
