@@ -4,7 +4,7 @@ use Rattle.wire_base.specs.declared.error.EncodeError.{EncodeError}
 use Rattle.wire_base.specs.Field.{Fields}
 use Rattle.wire_codec.specs.Records.{Records, plain, text, size, joined, of_fields}
 use Rattle.wire_codec.specs.Sizes.{sizes, cut_sizes}
-use Rattle.wire_codec.specs.Tape.{Tape, recorded, advanced}
+use Rattle.wire_codec.specs.Tape.{Tape, NextAre, blank, recorded, advanced}
 use Rattle.wire_codec.specs.Writes.{Writes, IsWrittenTo}
 
 abbrev pub NoSizeIsAboveTheWhole : Type 0
@@ -12,6 +12,10 @@ NoSizeIsAboveTheWhole = (rs : Records) → All (λ n. n ≤ size rs) (sizes rs)
 
 abbrev pub SmallSizesAreUncut : Type 0
 SmallSizesAreUncut = (rs : Records) → size rs < 2 ^ 32 → cut_sizes rs ≡ sizes rs
+
+-- a blank tape that a small message was measured with has the sizes that it is written with
+abbrev pub MeasuredAreNext : Type 0
+MeasuredAreNext = (rs : Records) (t : Tape) → t ≡ recorded blank (cut_sizes rs) → size rs ≤ 2147483647 → NextAre (sizes rs) t
 
 -- records one behind another
 pub record JoinedAddsUp : Type 0 where

@@ -1,13 +1,14 @@
 //! Laws of the definitions that the contracts cite: each function is a theorem, and does nothing.
-ghost use Rattle.wire_codec.specs.Laws.{NoSizeIsAboveTheWhole, SmallSizesAreUncut, JoinedAddsUp, FieldsArePlain, FlatKeepsTheTape, PieceByPiece};
+ghost use Rattle.wire_codec.specs.Laws.{NoSizeIsAboveTheWhole, SmallSizesAreUncut, MeasuredAreNext, JoinedAddsUp, FieldsArePlain, FlatKeepsTheTape, PieceByPiece};
 
 pub use wire_base::laws::{put_is_a_write, two_parts};
 
 /// No embedded message is longer than the records that it stands in. So no size is cut where the
-/// whole is below `2^32`.
+/// whole is below `2^32`, and what was measured with an empty cache can be written with it.
 pub fn sizes_fit()
     ensures above { NoSizeIsAboveTheWhole }
     ensures uncut { SmallSizesAreUncut }
+    ensures next { MeasuredAreNext }
 {}
 
 /// The text and the sizes of records one behind another are theirs, one behind another.

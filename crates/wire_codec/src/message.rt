@@ -148,8 +148,9 @@ pub trait Message: Clone + PartialEq + Drop {
     {
         laws::two_parts();
         let mut cache = SizeCache::new(alloc);
-        let len = checked_encode_size(self.compute_size(&mut cache)?)?;
-        encode_varint(u64::from(len), sink)?;
+        let size = self.compute_size(&mut cache)?;
+        let len = u64::from(checked_encode_size(size)?);
+        encode_varint(len, sink)?;
         self.write_to(&mut cache, sink)
     }
 

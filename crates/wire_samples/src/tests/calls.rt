@@ -2,7 +2,7 @@
 use super::{Found, HI, Stop, found_in, hi};
 use crate::repeat::Repeat;
 use std::alloc::Global;
-use wire_codec::{Message, SizeCache};
+use wire_codec::{Message, SizeCache, laws};
 
 // The calls that test the size.
 fn trying_calls<M: Message>(alloc: Global, message: &M, text: &[u8]) -> Result<bool, Stop> {
@@ -48,8 +48,21 @@ fn asking_calls<M: Message>(alloc: Global, message: &M, text: &[u8]) -> Result<b
     )
 }
 
+// The two passes by hand.
+fn two_passes<M: Message>(alloc: Global, message: &M, text: &[u8]) -> Result<bool, Stop> {
+    laws::sizes_fit();
+    message.try_encoded_len(alloc)?;
+    let mut cache = SizeCache::new(alloc);
+    let mut sink = Vec::new(alloc);
+    let size = message.compute_size(&mut cache)?;
+    message.write_to(&mut cache, &mut sink)?;
+    Ok(size as usize == text.len() && sink.as_slice() == text)
+}
+
 fn all_calls<M: Message>(alloc: Global, message: &M, text: &[u8]) -> Result<bool, Stop> {
-    Ok(trying_calls(alloc, message, text)? && asking_calls(alloc, message, text)?)
+    Ok(trying_calls(alloc, message, text)?
+        && asking_calls(alloc, message, text)?
+        && two_passes(alloc, message, text)?)
 }
 
 fn of_person(alloc: Global) -> Result<bool, Stop> {
