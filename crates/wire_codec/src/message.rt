@@ -149,8 +149,8 @@ pub trait Message: Clone + PartialEq + Drop {
         laws::two_parts();
         let mut cache = SizeCache::new(alloc);
         let size = self.compute_size(&mut cache)?;
-        let len = u64::from(checked_encode_size(size)?);
-        encode_varint(len, sink)?;
+        checked_encode_size(size)?;
+        encode_varint(u64::from(size), sink)?;
         self.write_to(&mut cache, sink)
     }
 
