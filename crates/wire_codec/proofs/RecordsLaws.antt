@@ -3,7 +3,8 @@ use Rattle.std.proofs.Common.{◌≡◌, ℕ, List, [], ◌++◌, refl, sym, ap,
 use Rattle.wire_base.specs.Field.{Payload, Fields, type_of}
 use Rattle.wire_base.specs.Tag.{tag_text}
 use Rattle.wire_base.specs.Text.{payload_text}
-use Rattle.wire_codec.specs.Records.{Records, none, field, plain, plain_payload, text, joined, of_payload, of_fields}
+use Rattle.wire_codec.specs.Records.{Records, none, field, plain, plain_payload, text, joined}
+use Rattle.wire_codec.specs.Records.{of_payload, of_fields}
 use Rattle.wire_codec.specs.Sizes.{payload_sizes, sizes}
 
 pub text-joined : (rs qs : Records) → text (joined rs qs) ≡ text rs ++ text qs
@@ -18,7 +19,8 @@ text-joined (field n p rest) qs =
 pub sizes-joined : (rs qs : Records) → sizes (joined rs qs) ≡ sizes rs ++ sizes qs
 sizes-joined none qs = refl
 sizes-joined (field n p rest) qs =
-    ap (λ (ns : List ℕ). payload_sizes p ++ ns) (sizes-joined rest qs) ∙ sym (append_assoc (payload_sizes p) (sizes rest) (sizes qs))
+    ap (λ (ns : List ℕ). payload_sizes p ++ ns) (sizes-joined rest qs)
+    ∙ sym (append_assoc (payload_sizes p) (sizes rest) (sizes qs))
 
 mutual
   plain-of_payload : (p : Payload) → plain_payload (of_payload p) ≡ p
@@ -30,7 +32,9 @@ mutual
 
   pub plain-of_fields : (fs : Fields) → plain (of_fields fs) ≡ fs
   plain-of_fields Fields.none = refl
-  plain-of_fields (Fields.field n p rest) = ap (λ (q : Payload). Fields.field n q (plain (of_fields rest))) (plain-of_payload p) ∙ ap (Fields.field n p) (plain-of_fields rest)
+  plain-of_fields (Fields.field n p rest) =
+      ap (λ (q : Payload). Fields.field n q (plain (of_fields rest))) (plain-of_payload p)
+      ∙ ap (Fields.field n p) (plain-of_fields rest)
 
 mutual
   sizes-of_payload : (p : Payload) → payload_sizes (of_payload p) ≡ []
@@ -42,4 +46,5 @@ mutual
 
   pub sizes-of_fields : (fs : Fields) → sizes (of_fields fs) ≡ []
   sizes-of_fields Fields.none = refl
-  sizes-of_fields (Fields.field n p rest) = ap (λ (ns : List ℕ). ns ++ sizes (of_fields rest)) (sizes-of_payload p) ∙ sizes-of_fields rest
+  sizes-of_fields (Fields.field n p rest) =
+      ap (λ (ns : List ℕ). ns ++ sizes (of_fields rest)) (sizes-of_payload p) ∙ sizes-of_fields rest

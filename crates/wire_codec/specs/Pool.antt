@@ -11,12 +11,14 @@ pub record PoolState : Type 0 where
 -- it is stored as the tuple of its fields
 abbrev pub pool_code : Coded PoolState
 pool_code =
-    code_by (List ℕ × (ℕ × ℕ)) (coded× (coded_list coded_ℕ) (coded× coded_ℕ coded_ℕ)) (λ s. (s.capacities, (s.max_buffers, s.max_capacity)))
+    code_by (List ℕ × (ℕ × ℕ)) (coded× (coded_list coded_ℕ) (coded× coded_ℕ coded_ℕ))
+    (λ s. (s.capacities, (s.max_buffers, s.max_capacity)))
     (λ p. record { capacities = p.0; max_buffers = p.1.0; max_capacity = p.1.1 }) (λ _. refl)
 
 -- no buffers, under these limits
 abbrev pub empty_pool : ℕ → ℕ → PoolState
-empty_pool max_buffers max_capacity = record { capacities = []; max_buffers = max_buffers; max_capacity = max_capacity }
+empty_pool max_buffers max_capacity =
+    record { capacities = []; max_buffers = max_buffers; max_capacity = max_capacity }
 
 -- no more buffers than the limit, and each has room, but for no more sizes than the limit
 pub record IsWithinLimits (s : PoolState) : Type 0 where

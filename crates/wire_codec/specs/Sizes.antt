@@ -1,6 +1,7 @@
 -- The sizes of embedded messages, which are measured first and then written in front of them.
 use Rattle.std.specs.Prelude.{ℕ, ◌-◌, ◌^◌, min, List, [], ◌∷◌, ◌++◌, map}
-use Rattle.wire_codec.specs.Records.{ValuePayload, varint, fixed64, fixed32, bytes, group, embedded, Records, none, field, size}
+use Rattle.wire_codec.specs.Records.{ValuePayload, varint, fixed64, fixed32, bytes, group, embedded}
+use Rattle.wire_codec.specs.Records.{Records, none, field, size}
 
 -- the text lengths of all embedded messages, an outer one before its inner ones, left to right
 abbrev mutual

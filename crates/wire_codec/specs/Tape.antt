@@ -9,7 +9,8 @@ pub record Tape : Type 0 where
 -- it is stored as the pair of its fields
 abbrev pub tape_code : Coded Tape
 tape_code =
-    code_by (List ℕ × ℕ) (coded× (coded_list coded_ℕ) coded_ℕ) (λ t. (t.sizes, t.cursor)) (λ p. record { sizes = p.0; cursor = p.1 }) (λ _. refl)
+    code_by (List ℕ × ℕ) (coded× (coded_list coded_ℕ) coded_ℕ) (λ t. (t.sizes, t.cursor))
+    (λ p. record { sizes = p.0; cursor = p.1 }) (λ _. refl)
 
 -- no sizes
 abbrev pub blank : Tape

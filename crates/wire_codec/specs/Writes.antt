@@ -3,7 +3,8 @@ use Rattle.std.specs.Prelude.{◌≡◌, ℕ, List, ◌++◌, Option, Result, Ok
 use Rattle.wire_base.specs.declared.error.EncodeError.{EncodeError}
 use Rattle.wire_base.specs.Sink.{KeepsFront, WriteAnswers}
 
-pub record Writes (most : Option ℕ) (text old new : List ℕ) (result : Result (Unit {0}) EncodeError) : Type 0 where
+pub record Writes (most : Option ℕ) (text old new : List ℕ)
+    (result : Result (Unit {0}) EncodeError) : Type 0 where
   pub ok : OnOk result (new ≡ old ++ text)
   pub err : OnErr result (KeepsFront old text new)
   pub cause : WriteAnswers most old text result

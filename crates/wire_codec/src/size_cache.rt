@@ -7,8 +7,8 @@ use std::alloc::Global;
 use std::marker::Model;
 use wire_base::EncodeError;
 
-/// The sizes of embedded messages in the order of their tags, an outer one before its inner ones, and
-/// a cursor at the next one to read.
+/// The sizes of embedded messages in the order of their tags, an outer one before its inner ones,
+/// and a cursor at the next one to read.
 #[derive(Drop)]
 pub struct SizeCache {
     sizes: Vec<u32>,
@@ -67,8 +67,8 @@ impl SizeCache {
         self.cursor = 0;
     }
 
-    /// Adds a slot, which reads 0 until it is set, and answers its index: call it before the embedded
-    /// message is measured, so that the slot stands before those of the messages in it.
+    /// Adds a slot, which reads 0 until it is set, and answers its index. It is called before the
+    /// embedded message is measured, so that the slot stands before those of the messages in it.
     pub fn reserve(&mut self) -> Result<usize, EncodeError>
         ensures index { IfOk result (λ index. index ≡ length self.old.sizes) }
         ensures slot { IfOk result (λ _. self.new ≡ recorded self.old (0 ∷ [])) }

@@ -45,8 +45,8 @@ impl Model for SizeCachePool {
 }
 
 impl SizeCachePool {
-    /// A pool that keeps at most so many buffers, each with room for at most so many sizes. Nothing is
-    /// allocated before the first is kept.
+    /// A pool that keeps at most so many buffers, each with room for at most so many sizes. Nothing
+    /// is allocated before the first is kept.
     pub fn new(alloc: Global, max_buffers: usize, max_capacity: usize) -> SizeCachePool
         ensures { result ≡ empty_pool max_buffers max_capacity }
     {
@@ -75,8 +75,8 @@ impl SizeCachePool {
         }
     }
 
-    /// Keeps the memory of the cache where the limits allow it, shrunk where it has too much. It is given
-    /// up where shrinking leaves too much or where there is no memory to keep it.
+    /// Keeps the memory of the cache where the limits allow it, shrunk where it has too much. It is
+    /// given up where shrinking leaves too much or where there is no memory to keep it.
     pub fn release(&mut self, cache: SizeCache)
         ensures limits { KeepsLimits self.old self.new }
         ensures kept { (self.new ≡ self.old) ⊎ ((capacity : ℕ)

@@ -12,7 +12,13 @@ pub record PersonValue : Type 0 where
   pub unknown : Fields
 
 abbrev pub value_of : Person → PersonValue
-value_of m = record { id = m.id; name = string_bytes m.name; scores = m.scores.items; unknown = m.unknown }
+value_of m = record {
+  id = m.id;
+  name = string_bytes m.name;
+  scores = m.scores.items;
+  unknown =
+      m.unknown;
+}
 
 abbrev pub default_person : PersonValue
 default_person = record { id = pos 0; name = []; scores = []; unknown = Fields.none }
@@ -20,4 +26,5 @@ default_person = record { id = pos 0; name = []; scores = []; unknown = Fields.n
 -- in the order of the numbers, and the unknown fields behind
 abbrev pub person_records : PersonValue → Records
 person_records p =
-    joined (int32_field 1 p.id) (joined (bytes_field 2 p.name) (joined (packed_int32_field 3 p.scores) (of_fields p.unknown)))
+    joined (int32_field 1 p.id) (joined (bytes_field 2 p.name)
+    (joined (packed_int32_field 3 p.scores) (of_fields p.unknown)))

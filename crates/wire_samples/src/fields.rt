@@ -3,7 +3,8 @@ ghost use Rattle.std.specs.Prelude.{◌≡◌, ◌^◌, ◌<◌, length};
 ghost use Rattle.wire_codec.specs.Grammar.{IsFieldNumber};
 ghost use Rattle.wire_codec.specs.Records.{text, size};
 ghost use Rattle.wire_codec.specs.Writes.{Writes};
-ghost use Rattle.wire_samples.specs.FieldRecords.{int32_field, bytes_field, packed_int32, packed_int32_field, in_64_bits, delimited_size};
+ghost use Rattle.wire_samples.specs.FieldRecords.{int32_field, bytes_field, packed_int32};
+ghost use Rattle.wire_samples.specs.FieldRecords.{packed_int32_field, in_64_bits, delimited_size};
 
 use wire_codec::{
     EncodeError, EncodeSink, encode_int32, int32_encoded_len, laws, put_bytes_field,

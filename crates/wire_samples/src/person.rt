@@ -41,7 +41,8 @@ impl MessageName for Person {
 }
 
 impl Message for Person {
-    ghost use Rattle.wire_samples.specs.Person.{PersonValue, value_of, person_records, default_person};
+    ghost use Rattle.wire_samples.specs.Person.{PersonValue, value_of};
+    ghost use Rattle.wire_samples.specs.Person.{person_records, default_person};
 
     ghost Value = { PersonValue };
 

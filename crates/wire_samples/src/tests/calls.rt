@@ -60,9 +60,11 @@ fn two_passes<M: Message>(alloc: Global, message: &M, text: &[u8]) -> Result<boo
 }
 
 fn all_calls<M: Message>(alloc: Global, message: &M, text: &[u8]) -> Result<bool, Stop> {
-    Ok(trying_calls(alloc, message, text)?
-        && asking_calls(alloc, message, text)?
-        && two_passes(alloc, message, text)?)
+    Ok(
+        trying_calls(alloc, message, text)?
+            && asking_calls(alloc, message, text)?
+            && two_passes(alloc, message, text)?,
+    )
 }
 
 fn of_person(alloc: Global) -> Result<bool, Stop> {

@@ -9,9 +9,12 @@ loop-value-preserved c =
     let fits : SFits w32 (get_or c.args.values.now at (pos 0)) = search rules in
     record {
       fits = omega arith;
-      counted = counted_more c.args.values.now at c.loop-value.len c.int32_encoded_len.result c.saturating_add-len.result _ c.loop-value-test.true (to_z-of_z fits) c.int32_encoded_len.ensures c.saturating_add-len.ensures
+      counted = counted_more c.args.values.now at c.loop-value.len c.int32_encoded_len.result
+          c.saturating_add-len.result _ c.loop-value-test.true (to_z-of_z fits)
+          c.int32_encoded_len.ensures c.saturating_add-len.ensures
           ∙ c.loop-value.invariant.counted;
     }
 
 pub returns : goal.returns
-returns c = counted_all c.args.values.now c.loop-value.value-index c.loop-value.len c.loop-value-test.false c.loop-value.invariant.fits c.loop-value.invariant.counted
+returns c = counted_all c.args.values.now c.loop-value.value-index c.loop-value.len
+    c.loop-value-test.false c.loop-value.invariant.fits c.loop-value.invariant.counted

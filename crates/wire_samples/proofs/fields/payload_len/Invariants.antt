@@ -6,5 +6,6 @@ use Rattle.wire_samples.proofs.fields.payload_len.Given as goal
 abbrev pub invariant-loop-value : goal.invariant-loop-value
 invariant-loop-value l = record {
   fits : l.len < 2 ^ 64;
-  counted : in_64_bits (l.len + length (packed_int32 (drop l.value-index l.values))) ≡ in_64_bits (length (packed_int32 l.fn.values));
+  counted : in_64_bits (l.len + length (packed_int32 (drop l.value-index l.values))) ≡ in_64_bits
+      (length (packed_int32 l.fn.values));
 }

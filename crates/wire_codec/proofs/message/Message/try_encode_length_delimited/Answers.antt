@@ -15,12 +15,14 @@ write_to-requires-clause-sizes g c =
 
 pub returns-in_err-encode_varint : goal.returns-in_err-encode_varint
 returns-in_err-encode_varint g c =
-    let p = err_from_is_err_and c.from_residual-in_err-encode_varint.result c.from_residual-in_err-encode_varint.ensures.1 in
+    let p = err_from_is_err_and c.from_residual-in_err-encode_varint.result
+    c.from_residual-in_err-encode_varint.ensures.1 in
     let tested : c.in_ok-size.size ≤ 2147483647 = search rules in
     let small = uncut_size _ _ c.in_ok-size.ensures.size tested in
     let len = c.from.ensures ∙ whole_size _ _ c.in_ok-size.ensures.size small in
     let put = c.in_err-encode_varint.ensures in
-    rw (p.1, p.2) (tries_small _ _ _ _ _ _ small (length_refused c.two_parts.ensures _ _ _ _ _ _ len put.err put.cause))
+    rw (p.1, p.2) (tries_small _ _ _ _ _ _ small
+    (length_refused c.two_parts.ensures _ _ _ _ _ _ len put.err put.cause))
 
 pub returns : goal.returns
 returns g c =
@@ -28,4 +30,5 @@ returns g c =
     let small = uncut_size _ _ c.in_ok-size.ensures.size tested in
     let len = c.from.ensures ∙ whole_size _ _ c.in_ok-size.ensures.size small in
     let put = c.in_ok-encode_varint.ensures in
-    tries_small _ _ _ _ _ _ small (behind_length c.two_parts.ensures _ _ _ _ _ _ _ c.write_to.result len put.ok put.cause c.write_to.ensures.written)
+    tries_small _ _ _ _ _ _ small (behind_length c.two_parts.ensures _ _ _ _ _ _ _ c.write_to.result
+    len put.ok put.cause c.write_to.ensures.written)
