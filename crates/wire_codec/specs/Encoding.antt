@@ -25,8 +25,8 @@ pub record TriesToAnswer {T : Type 0} (result : Result T EncodeError) (len : ℕ
   pub fits : len ≤ 2147483647 → IfErr result (λ e. e ≡ OutOfMemory)
   pub too_large : 2147483647 < len → IsRefused MessageTooLarge result
 
--- A text is written where the message may have so many bytes. Else the call is refused, and the sink
--- stays as it was.
+-- A text is written where the message may have so many bytes. Else the call is refused, and the
+-- sink stays as it was.
 pub record TriesToWrite (len : ℕ) (most : Option ℕ) (text old new : List ℕ)
     (result : Result (Unit {0}) EncodeError) : Type 0 where
   pub within : OnOk result (len ≤ 2147483647)

@@ -1,6 +1,7 @@
 //! Laws of the definitions that the contracts cite: each function is a theorem, and does nothing.
 ghost use Rattle.wire_codec.specs.Laws.{NoSizeIsAboveTheWhole, SmallSizesAreUncut, MeasuredAreNext};
-ghost use Rattle.wire_codec.specs.Laws.{JoinedAddsUp, FieldsArePlain, FlatKeepsTheTape, PieceByPiece};
+ghost use Rattle.wire_codec.specs.Laws.{JoinedAddsUp, FieldsArePlain};
+ghost use Rattle.wire_codec.specs.Laws.{FlatKeepsTheTape, PieceByPiece};
 
 pub use wire_base::laws::{put_is_a_write, two_parts};
 

@@ -16,8 +16,8 @@ use wire_base::{EncodeError, EncodeSink, encode_varint, laws};
 
 /// A type whose values are encoded as records.
 ///
-/// A value is measured in one pass, which records the sizes of the embedded messages, and written in
-/// a second one, which reads them.
+/// A value is measured in one pass, which records the sizes of the embedded messages, and written
+/// in a second one, which reads them.
 pub trait Message: Clone + PartialEq + Drop {
     /// What contracts see of a value.
     ghost Value: { Type 0 };
