@@ -1,5 +1,6 @@
 -- What a put and a longer write do to the bytes that a sink holds.
-use Rattle.std.specs.Prelude.{◌≡◌, ◌≢◌, ℕ, ◌+◌, ◌<◌, List, [], ◌++◌, length, Option, Some, None, Result, Ok, Err}
+use Rattle.std.specs.Prelude.{◌≡◌, ◌≢◌, ℕ, ◌+◌, ◌<◌, List, [], ◌++◌, length}
+use Rattle.std.specs.Prelude.{Option, Some, None, Result, Ok, Err, OnOk, OnErr}
 use Rattle.wire_base.specs.declared.error.EncodeError.{EncodeError}
 use Rattle.wire_base.specs.declared.error.EncodeError.TheVariants.{MessageTooLarge, ExceedsBudget, OutOfMemory, LengthOverflow}
 
@@ -32,3 +33,10 @@ pub record KeepsFront (old text new : List ℕ) : Type 0 where
   pub rest : List ℕ
   pub parts : text ≡ front ++ rest
   pub held : new ≡ old ++ front
+
+-- a put of a text: all of it behind old, or nothing and the cause
+pub record Puts (most : Option ℕ) (text old new : List ℕ) (result : Result (Unit {0}) EncodeError)
+    : Type 0 where
+  pub ok : OnOk result (new ≡ old ++ text)
+  pub err : OnErr result (new ≡ old)
+  pub cause : PutAnswers most (length old + length text) result

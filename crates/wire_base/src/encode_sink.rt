@@ -1,7 +1,7 @@
 //! Where encoded bytes go.
-ghost use Rattle.std.specs.Prelude.{◌≡◌, ℕ, ◌+◌, List, [], ◌∷◌, ◌++◌, length, Option, None, OnOk, OnErr};
+ghost use Rattle.std.specs.Prelude.{ℕ, List, [], ◌∷◌, Option, None};
 ghost use Rattle.std.specs.Int.{w32, w64, cast_unsigned, to_le_bytes};
-ghost use Rattle.wire_base.specs.Sink.{PutAnswers};
+ghost use Rattle.wire_base.specs.Sink.{Puts};
 
 use crate::error::EncodeError;
 use bytes::{BufMut, Bytes, BytesMut};
@@ -14,55 +14,43 @@ pub trait EncodeSink {
     /// The most bytes that the sink can count, where it counts them; else memory alone bounds it.
     ghost most: { Option ℕ };
 
-    /// Whether the sink can keep a shared run of bytes as a segment of its own, so that a caller that
-    /// has one saves the copy by `put_shared`.
+    /// Whether the sink can keep a shared run of bytes as a segment of its own, so that a caller
+    /// that has one saves the copy by `put_shared`.
     const IS_SEGMENTED: bool = false;
 
     fn put_u8(&mut self, value: u8) -> Result<(), EncodeError>
-        ensures ok { OnOk result (bytes_of self.new ≡ bytes_of self.old ++ value ∷ []) }
-        ensures err { OnErr result (bytes_of self.new ≡ bytes_of self.old) }
-        ensures cause { PutAnswers most (length (bytes_of self.old) + 1) result };
+        ensures { Puts most (value ∷ []) (bytes_of self.old) (bytes_of self.new) result };
 
     fn put_slice(&mut self, bytes: &[u8]) -> Result<(), EncodeError>
-        ensures ok { OnOk result (bytes_of self.new ≡ bytes_of self.old ++ bytes.now) }
-        ensures err { OnErr result (bytes_of self.new ≡ bytes_of self.old) }
-        ensures cause { PutAnswers most (length (bytes_of self.old) + length bytes.now) result };
+        ensures { Puts most bytes.now (bytes_of self.old) (bytes_of self.new) result };
 
     fn put_u32_le(&mut self, value: u32) -> Result<(), EncodeError>
-        ensures ok { OnOk result (bytes_of self.new ≡ bytes_of self.old ++ to_le_bytes w32 value) }
-        ensures err { OnErr result (bytes_of self.new ≡ bytes_of self.old) }
-        ensures cause { PutAnswers most (length (bytes_of self.old) + 4) result };
+        ensures { Puts most (to_le_bytes w32 value)
+            (bytes_of self.old) (bytes_of self.new) result };
 
     fn put_u64_le(&mut self, value: u64) -> Result<(), EncodeError>
-        ensures ok { OnOk result (bytes_of self.new ≡ bytes_of self.old ++ to_le_bytes w64 value) }
-        ensures err { OnErr result (bytes_of self.new ≡ bytes_of self.old) }
-        ensures cause { PutAnswers most (length (bytes_of self.old) + 8) result };
+        ensures { Puts most (to_le_bytes w64 value)
+            (bytes_of self.old) (bytes_of self.new) result };
 
     /// The two's complement, lowest byte first.
     fn put_i32_le(&mut self, value: i32) -> Result<(), EncodeError>
-        ensures ok { OnOk result (bytes_of self.new
-            ≡ bytes_of self.old ++ to_le_bytes w32 (cast_unsigned w32 value)) }
-        ensures err { OnErr result (bytes_of self.new ≡ bytes_of self.old) }
-        ensures cause { PutAnswers most (length (bytes_of self.old) + 4) result }
+        ensures { Puts most (to_le_bytes w32 (cast_unsigned w32 value))
+            (bytes_of self.old) (bytes_of self.new) result }
     {
         self.put_u32_le(value.cast_unsigned())
     }
 
     /// The two's complement, lowest byte first.
     fn put_i64_le(&mut self, value: i64) -> Result<(), EncodeError>
-        ensures ok { OnOk result (bytes_of self.new
-            ≡ bytes_of self.old ++ to_le_bytes w64 (cast_unsigned w64 value)) }
-        ensures err { OnErr result (bytes_of self.new ≡ bytes_of self.old) }
-        ensures cause { PutAnswers most (length (bytes_of self.old) + 8) result }
+        ensures { Puts most (to_le_bytes w64 (cast_unsigned w64 value))
+            (bytes_of self.old) (bytes_of self.new) result }
     {
         self.put_u64_le(value.cast_unsigned())
     }
 
     /// The bytes may be kept as they are, with no copy. They are given up where the put is refused.
     fn put_shared(&mut self, bytes: Bytes) -> Result<(), EncodeError>
-        ensures ok { OnOk result (bytes_of self.new ≡ bytes_of self.old ++ bytes) }
-        ensures err { OnErr result (bytes_of self.new ≡ bytes_of self.old) }
-        ensures cause { PutAnswers most (length (bytes_of self.old) + length bytes) result }
+        ensures { Puts most bytes (bytes_of self.old) (bytes_of self.new) result }
     {
         self.put_slice(bytes.as_slice())
     }

@@ -19,7 +19,8 @@ pub fn varint_len(value: u64) -> usize
 /// Writes the shortest varint of a number.
 pub fn encode_varint<S: EncodeSink>(value: u64, sink: &mut S) -> Result<(), EncodeError>
     ensures ok { OnOk result (S.bytes_of sink.new ≡ S.bytes_of sink.old ++ shortest_varint value) }
-    ensures err { OnErr result (KeepsFront (S.bytes_of sink.old) (shortest_varint value) (S.bytes_of sink.new)) }
+    ensures err { OnErr result (KeepsFront (S.bytes_of sink.old)
+        (shortest_varint value) (S.bytes_of sink.new)) }
     ensures cause { WriteAnswers S.most (S.bytes_of sink.old) (shortest_varint value) result }
 {
     let mut rest = value;
@@ -34,6 +35,7 @@ pub fn encode_varint<S: EncodeSink>(value: u64, sink: &mut S) -> Result<(), Enco
 pub fn decode_varint<B: Buf>(buf: &mut B) -> Result<u64, DecodeError>
     ensures ok { IfOk result (λ v. Reads (B.unread buf.old) (IsSpelling v) (B.unread buf.new)) }
     ensures fault { IfErr result (VarintFault (B.unread buf.old)) }
+    ensures kept { B.kept buf.new ≡ B.kept buf.old }
 {
     let mut value = 0u64;
     for index in 0..9u32 {
@@ -61,6 +63,7 @@ pub fn count_varints(payload: &[u8]) -> usize
 fn next_byte<B: Buf>(buf: &mut B) -> Result<u8, DecodeError>
     ensures byte { IfOk result (λ byte. B.unread buf.old ≡ byte ∷ B.unread buf.new) }
     ensures end { IfErr result (λ e. (e ≡ UnexpectedEof) × (B.unread buf.old ≡ [])) }
+    ensures kept { B.kept buf.new ≡ B.kept buf.old }
 {
     match buf.chunk().first() {
         Some(&byte) => {

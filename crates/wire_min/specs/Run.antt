@@ -25,7 +25,7 @@ IsRefused input e = ListFault run_limits by_input input e
 pub record IsShortest (input output : List ℕ) : Type 0 where
   pub fields : Fields
   pub taken : IsTaken input fields
-  pub shortest_varint : output ≡ text fields
+  pub shortest : output ≡ text_of fields
 
 -- known bytes grow by a front of these
 pub record AppendsFront (old new : Option (List ℕ)) (bytes : List ℕ) : Type 0 where
@@ -37,11 +37,11 @@ pub record AppendsFront (old new : Option (List ℕ)) (bytes : List ℕ) : Type 
 -- a writer's known bytes grow by the shortest text of what the input spells
 pub record WritesShortest (input : List ℕ) (old new : Option (List ℕ)) : Type 0 where
   pub output : List ℕ
-  pub shortest_varint : IsShortest input output
+  pub shortest : IsShortest input output
   pub written : Appends old new output
 
 -- a writer's known bytes grow by a front of the shortest text of what the input spells
 pub record WritesFront (input : List ℕ) (old new : Option (List ℕ)) : Type 0 where
   pub output : List ℕ
-  pub shortest_varint : IsShortest input output
+  pub shortest : IsShortest input output
   pub written : AppendsFront old new output

@@ -6,9 +6,9 @@ use Rattle.std.proofs.lemmas.List.{length-append}
 use Rattle.std.proofs.Math.Nat.{mul-suc}
 use Rattle.std.specs.Int.{Width, byte_len}
 use Rattle.std.specs.Prelude.{count_by}
-use Rattle.wire_base.specs.Varint.{IsEnded}
+use Rattle.wire_base.specs.Varint.{IsSpelling, IsEnded}
 use Rattle.wire_scalar.specs.Packed.{SpellsEach}
-use Rattle.wire_scalar.specs.Reading.{IsFixed, IsVarint}
+use Rattle.wire_scalar.specs.Reading.{IsFixed}
 
 abbrev ends : List ℕ → ℕ
 ends bytes = count_by (λ byte. nat_lt byte 128) bytes
@@ -19,7 +19,7 @@ one_end [] h = absurd h
 one_end (b ∷ []) h = rw (lt-ltb b 128 h) refl
 one_end (b ∷ c ∷ bytes) h = rw (le-ltb b 128 h.0) (one_end (c ∷ bytes) h.1)
 
-pub varints_counted : (numbers text : List ℕ) → SpellsEach IsVarint numbers text → ends text ≡ length numbers
+pub varints_counted : (numbers text : List ℕ) → SpellsEach IsSpelling numbers text → ends text ≡ length numbers
 varints_counted [] text s = ap ends s
 varints_counted (x ∷ xs) text s =
     let parts : ends text ≡ ends s.0 + ends s.1 = ap ends s.2 ∙ sum_by-append _ s.0 s.1 in

@@ -7,7 +7,6 @@ use Rattle.wire_base.specs.Read.{Reads}
 use Rattle.wire_base.specs.Varint.{IsEnded, IsSpelling, VarintFault}
 use Rattle.wire_scalar.specs.Laws.{OnePackedList, NoPackedListBesideFault, OnePackedFault, PackedListOrFault, PackedListOrFaultStands}
 use Rattle.wire_scalar.specs.Packed.{SpellsEach}
-use Rattle.wire_scalar.specs.Reading.{IsVarint}
 
 ended_is_some : (text : List ℕ) → IsEnded text → 1 ≤ length text
 ended_is_some [] h = absurd h
@@ -17,7 +16,7 @@ ended_is_some (b ∷ text) h = omega arith
 not_none : (one more : List ℕ) (x : ℕ) → IsSpelling x one → [] ≡ one ++ more → ⊥
 not_none one more x s e = omega (arith, ap length e, length-append one more, ended_is_some one s.ended)
 
-first : (x : ℕ) (xs text : List ℕ) (s : SpellsEach IsVarint (x ∷ xs) text) → Reads text (IsSpelling x) s.1
+first : (x : ℕ) (xs text : List ℕ) (s : SpellsEach IsSpelling (x ∷ xs) text) → Reads text (IsSpelling x) s.1
 first x xs text s = record { text = s.0; parts = s.2; spelled = s.3 }
 
 module _ (one_varint : OneVarint) where
@@ -27,14 +26,14 @@ module _ (one_varint : OneVarint) where
   one_list (x ∷ xs) [] text s t = absurd (not_none s.0 s.1 x s.3 (sym t ∙ s.2))
   one_list (x ∷ xs) (y ∷ ys) text s t =
       let same = one_varint text s.1 t.1 x y (first x xs text s) (first y ys text t) in
-      ap (λ (n : ℕ). n ∷ xs) same.0 ∙ ap (λ (ns : List ℕ). y ∷ ns) (one_list xs ys s.1 s.4 (subst (SpellsEach IsVarint ys) (sym same.1) t.4))
+      ap (λ (n : ℕ). n ∷ xs) same.0 ∙ ap (λ (ns : List ℕ). y ∷ ns) (one_list xs ys s.1 s.4 (subst (SpellsEach IsSpelling ys) (sym same.1) t.4))
 
   -- the first number of a list that breaks off later
-  next : (y : ℕ) (ys front rest text : List ℕ) (t : SpellsEach IsVarint (y ∷ ys) front) → text ≡ front ++ rest → Reads text (IsSpelling y) (t.1 ++ rest)
+  next : (y : ℕ) (ys front rest text : List ℕ) (t : SpellsEach IsSpelling (y ∷ ys) front) → text ≡ front ++ rest → Reads text (IsSpelling y) (t.1 ++ rest)
   next y ys front rest text t is = record { text = t.0; parts = is ∙ ap (λ (u : List ℕ). u ++ rest) t.2 ∙ append_assoc t.0 t.1 rest; spelled = t.3 }
 
   module _ (beside : NoVarintBesideFault) where
-    beside_fault : (xs ys front rest text : List ℕ) (e : DecodeError) → SpellsEach IsVarint xs text → text ≡ front ++ rest → SpellsEach IsVarint ys front → rest ≢ [] → VarintFault rest e → ⊥
+    beside_fault : (xs ys front rest text : List ℕ) (e : DecodeError) → SpellsEach IsSpelling xs text → text ≡ front ++ rest → SpellsEach IsSpelling ys front → rest ≢ [] → VarintFault rest e → ⊥
     beside_fault [] [] front rest text e s is t more fault = more (sym (ap (λ (u : List ℕ). u ++ rest) t) ∙ sym is ∙ s)
     beside_fault (x ∷ xs) [] front rest text e s is t more fault =
         let whole : text ≡ rest = is ∙ ap (λ (u : List ℕ). u ++ rest) t in
@@ -49,7 +48,7 @@ module _ (one_varint : OneVarint) where
     no_list_beside_fault xs ys text e s b = beside_fault xs ys b.front b.rest text e s b.parts b.spelled b.more b.fault
 
     module _ (one : OneVarintFault) where
-      same_fault : (xs ys front rest front2 rest2 : List ℕ) (e f : DecodeError) → front ++ rest ≡ front2 ++ rest2 → SpellsEach IsVarint xs front → SpellsEach IsVarint ys front2
+      same_fault : (xs ys front rest front2 rest2 : List ℕ) (e f : DecodeError) → front ++ rest ≡ front2 ++ rest2 → SpellsEach IsSpelling xs front → SpellsEach IsSpelling ys front2
           → VarintFault rest e → VarintFault rest2 f → (xs ≡ ys) × (e ≡ f)
       same_fault [] [] front rest front2 rest2 e f is s t a b =
           let whole : rest ≡ rest2 = sym (ap (λ (u : List ℕ). u ++ rest) s) ∙ is ∙ ap (λ (u : List ℕ). u ++ rest2) t in

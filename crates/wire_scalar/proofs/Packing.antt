@@ -5,9 +5,9 @@ use Rattle.std.proofs.lemmas.List.{append-nil, length-append}
 use Rattle.std.specs.Int.{Width, byte_len}
 use Rattle.std.specs.Prelude.{map}
 use Rattle.wire_base.specs.declared.error.DecodeError.{DecodeError}
-use Rattle.wire_base.specs.Varint.{VarintFault}
+use Rattle.wire_base.specs.Varint.{IsSpelling, VarintFault}
 use Rattle.wire_scalar.specs.Packed.{SpellsEach, Appends, AppendsFront, StopsAtFault}
-use Rattle.wire_scalar.specs.Reading.{IsVarint, IsFixed, ReadsValue}
+use Rattle.wire_scalar.specs.Reading.{IsFixed, ReadsValue}
 use Rattle.wire_scalar.specs.ValueMap.{ValueMap}
 
 -- a text of one number more at the end
@@ -50,11 +50,12 @@ module _ {T : Type 0} (IsText : ℕ → List ℕ → Type 0) (values : ValueMap 
   pub Appended-all : (now : List T) → Appended IsText values payload [] before now → Appends IsText values payload before now
   Appended-all now a = record { numbers = a.appended.numbers; spelled = rw (a.parts ∙ append-nil a.front) a.appended.spelled; appended = a.appended.appended }
 
-  pub Appended-front : (left : List ℕ) (now : List T) → Appended IsText values payload left before now → AppendsFront IsText values payload before now
-  Appended-front left now a = record { front = a.front; rest = left; parts = a.parts; appended = a.appended }
+  pub Appended-front : (left : List ℕ) (now : List T) → Appended IsText values payload left before now
+      → (payload ≢ [] → left ≢ []) → AppendsFront IsText values payload before now
+  Appended-front left now a more = record { front = a.front; rest = left; parts = a.parts; unfinished = more; appended = a.appended }
 
 -- what is left is no varint
-pub Appended-stops : {T : Type 0} (values : ValueMap T) (payload left : List ℕ) (before now : List T) (e : DecodeError) → Appended IsVarint values payload left before now → left ≢ [] → VarintFault left e
+pub Appended-stops : {T : Type 0} (values : ValueMap T) (payload left : List ℕ) (before now : List T) (e : DecodeError) → Appended IsSpelling values payload left before now → left ≢ [] → VarintFault left e
     → StopsAtFault values payload before now e
 Appended-stops values payload left before now e a more fault =
     let so_far = a.appended in

@@ -2,19 +2,16 @@
 use Rattle.std.specs.Prelude.{◌≡◌, ℕ, List, length}
 use Rattle.std.specs.Int.{Width, byte_len, from_le_bytes}
 use Rattle.wire_base.specs.Read.{Reads}
-use Rattle.wire_base.specs.Varint.{IsSpelling}
 use Rattle.wire_scalar.specs.ValueMap.{ValueMap}
-
--- the text is a varint of x, padded or not
-abbrev pub IsVarint : ℕ → List ℕ → Type 0
-IsVarint x text = IsSpelling x text
 
 -- the text is x in so many bytes, the lowest first
 abbrev pub IsFixed : Width → ℕ → List ℕ → Type 0
 IsFixed width x text = (length text ≡ byte_len width) × (from_le_bytes width text ≡ x)
 
--- a text of a number stands at the front of old, the value is what the map reads from it, and new is what follows
-pub record ReadsValue {T : Type 0} (IsText : ℕ → List ℕ → Type 0) (map : ValueMap T) (old : List ℕ) (value : T) (new : List ℕ) : Type 0 where
+-- a text of a number stands at the front of old, the value is what the map reads from it, and new
+-- is what follows
+pub record ReadsValue {T : Type 0} (IsText : ℕ → List ℕ → Type 0) (map : ValueMap T)
+    (old : List ℕ) (value : T) (new : List ℕ) : Type 0 where
   pub number : ℕ
   pub read : Reads old (IsText number) new
   pub is : value ≡ map.dec number

@@ -20,9 +20,12 @@ pub fn put_int32_field<S: EncodeSink>(
     sink: &mut S,
 ) -> Result<(), EncodeError>
     requires { IsFieldNumber number }
-    ensures ok { OnOk result (S.bytes_of sink.new ≡ S.bytes_of sink.old ++ record_text number (varint (int32.enc value))) }
-    ensures err { OnErr result (KeepsFront (S.bytes_of sink.old) (record_text number (varint (int32.enc value))) (S.bytes_of sink.new)) }
-    ensures cause { WriteAnswers S.most (S.bytes_of sink.old) (record_text number (varint (int32.enc value))) result }
+    ensures ok { OnOk result (S.bytes_of sink.new
+        ≡ S.bytes_of sink.old ++ record_text number (varint (int32.enc value))) }
+    ensures err { OnErr result (KeepsFront (S.bytes_of sink.old)
+        (record_text number (varint (int32.enc value))) (S.bytes_of sink.new)) }
+    ensures cause { WriteAnswers S.most (S.bytes_of sink.old)
+        (record_text number (varint (int32.enc value))) result }
 {
     put_varint(number, WireType::Varint, Int32::number_of(value), sink)
 }
@@ -34,9 +37,12 @@ pub fn put_int64_field<S: EncodeSink>(
     sink: &mut S,
 ) -> Result<(), EncodeError>
     requires { IsFieldNumber number }
-    ensures ok { OnOk result (S.bytes_of sink.new ≡ S.bytes_of sink.old ++ record_text number (varint (int64.enc value))) }
-    ensures err { OnErr result (KeepsFront (S.bytes_of sink.old) (record_text number (varint (int64.enc value))) (S.bytes_of sink.new)) }
-    ensures cause { WriteAnswers S.most (S.bytes_of sink.old) (record_text number (varint (int64.enc value))) result }
+    ensures ok { OnOk result (S.bytes_of sink.new
+        ≡ S.bytes_of sink.old ++ record_text number (varint (int64.enc value))) }
+    ensures err { OnErr result (KeepsFront (S.bytes_of sink.old)
+        (record_text number (varint (int64.enc value))) (S.bytes_of sink.new)) }
+    ensures cause { WriteAnswers S.most (S.bytes_of sink.old)
+        (record_text number (varint (int64.enc value))) result }
 {
     put_varint(number, WireType::Varint, Int64::number_of(value), sink)
 }
@@ -48,9 +54,12 @@ pub fn put_uint32_field<S: EncodeSink>(
     sink: &mut S,
 ) -> Result<(), EncodeError>
     requires { IsFieldNumber number }
-    ensures ok { OnOk result (S.bytes_of sink.new ≡ S.bytes_of sink.old ++ record_text number (varint (uint32.enc value))) }
-    ensures err { OnErr result (KeepsFront (S.bytes_of sink.old) (record_text number (varint (uint32.enc value))) (S.bytes_of sink.new)) }
-    ensures cause { WriteAnswers S.most (S.bytes_of sink.old) (record_text number (varint (uint32.enc value))) result }
+    ensures ok { OnOk result (S.bytes_of sink.new
+        ≡ S.bytes_of sink.old ++ record_text number (varint (uint32.enc value))) }
+    ensures err { OnErr result (KeepsFront (S.bytes_of sink.old)
+        (record_text number (varint (uint32.enc value))) (S.bytes_of sink.new)) }
+    ensures cause { WriteAnswers S.most (S.bytes_of sink.old)
+        (record_text number (varint (uint32.enc value))) result }
 {
     put_varint(number, WireType::Varint, Uint32::number_of(value), sink)
 }
@@ -62,9 +71,12 @@ pub fn put_uint64_field<S: EncodeSink>(
     sink: &mut S,
 ) -> Result<(), EncodeError>
     requires { IsFieldNumber number }
-    ensures ok { OnOk result (S.bytes_of sink.new ≡ S.bytes_of sink.old ++ record_text number (varint (uint64.enc value))) }
-    ensures err { OnErr result (KeepsFront (S.bytes_of sink.old) (record_text number (varint (uint64.enc value))) (S.bytes_of sink.new)) }
-    ensures cause { WriteAnswers S.most (S.bytes_of sink.old) (record_text number (varint (uint64.enc value))) result }
+    ensures ok { OnOk result (S.bytes_of sink.new
+        ≡ S.bytes_of sink.old ++ record_text number (varint (uint64.enc value))) }
+    ensures err { OnErr result (KeepsFront (S.bytes_of sink.old)
+        (record_text number (varint (uint64.enc value))) (S.bytes_of sink.new)) }
+    ensures cause { WriteAnswers S.most (S.bytes_of sink.old)
+        (record_text number (varint (uint64.enc value))) result }
 {
     put_varint(number, WireType::Varint, Uint64::number_of(value), sink)
 }
@@ -76,9 +88,12 @@ pub fn put_sint32_field<S: EncodeSink>(
     sink: &mut S,
 ) -> Result<(), EncodeError>
     requires { IsFieldNumber number }
-    ensures ok { OnOk result (S.bytes_of sink.new ≡ S.bytes_of sink.old ++ record_text number (varint (sint32.enc value))) }
-    ensures err { OnErr result (KeepsFront (S.bytes_of sink.old) (record_text number (varint (sint32.enc value))) (S.bytes_of sink.new)) }
-    ensures cause { WriteAnswers S.most (S.bytes_of sink.old) (record_text number (varint (sint32.enc value))) result }
+    ensures ok { OnOk result (S.bytes_of sink.new
+        ≡ S.bytes_of sink.old ++ record_text number (varint (sint32.enc value))) }
+    ensures err { OnErr result (KeepsFront (S.bytes_of sink.old)
+        (record_text number (varint (sint32.enc value))) (S.bytes_of sink.new)) }
+    ensures cause { WriteAnswers S.most (S.bytes_of sink.old)
+        (record_text number (varint (sint32.enc value))) result }
 {
     put_varint(number, WireType::Varint, Sint32::number_of(value), sink)
 }
@@ -90,9 +105,12 @@ pub fn put_sint64_field<S: EncodeSink>(
     sink: &mut S,
 ) -> Result<(), EncodeError>
     requires { IsFieldNumber number }
-    ensures ok { OnOk result (S.bytes_of sink.new ≡ S.bytes_of sink.old ++ record_text number (varint (sint64.enc value))) }
-    ensures err { OnErr result (KeepsFront (S.bytes_of sink.old) (record_text number (varint (sint64.enc value))) (S.bytes_of sink.new)) }
-    ensures cause { WriteAnswers S.most (S.bytes_of sink.old) (record_text number (varint (sint64.enc value))) result }
+    ensures ok { OnOk result (S.bytes_of sink.new
+        ≡ S.bytes_of sink.old ++ record_text number (varint (sint64.enc value))) }
+    ensures err { OnErr result (KeepsFront (S.bytes_of sink.old)
+        (record_text number (varint (sint64.enc value))) (S.bytes_of sink.new)) }
+    ensures cause { WriteAnswers S.most (S.bytes_of sink.old)
+        (record_text number (varint (sint64.enc value))) result }
 {
     put_varint(number, WireType::Varint, Sint64::number_of(value), sink)
 }
@@ -104,9 +122,12 @@ pub fn put_bool_field<S: EncodeSink>(
     sink: &mut S,
 ) -> Result<(), EncodeError>
     requires { IsFieldNumber number }
-    ensures ok { OnOk result (S.bytes_of sink.new ≡ S.bytes_of sink.old ++ record_text number (varint (bool.enc value))) }
-    ensures err { OnErr result (KeepsFront (S.bytes_of sink.old) (record_text number (varint (bool.enc value))) (S.bytes_of sink.new)) }
-    ensures cause { WriteAnswers S.most (S.bytes_of sink.old) (record_text number (varint (bool.enc value))) result }
+    ensures ok { OnOk result (S.bytes_of sink.new
+        ≡ S.bytes_of sink.old ++ record_text number (varint (bool.enc value))) }
+    ensures err { OnErr result (KeepsFront (S.bytes_of sink.old)
+        (record_text number (varint (bool.enc value))) (S.bytes_of sink.new)) }
+    ensures cause { WriteAnswers S.most (S.bytes_of sink.old)
+        (record_text number (varint (bool.enc value))) result }
 {
     put_varint(number, WireType::Varint, Bool::number_of(value), sink)
 }
@@ -118,11 +139,15 @@ pub fn put_fixed32_field<S: EncodeSink>(
     sink: &mut S,
 ) -> Result<(), EncodeError>
     requires { IsFieldNumber number }
-    ensures ok { OnOk result (S.bytes_of sink.new ≡ S.bytes_of sink.old ++ record_text number (four_bytes (fixed32.enc value))) }
-    ensures err { OnErr result (KeepsFront (S.bytes_of sink.old) (record_text number (four_bytes (fixed32.enc value))) (S.bytes_of sink.new)) }
-    ensures cause { WriteAnswers S.most (S.bytes_of sink.old) (record_text number (four_bytes (fixed32.enc value))) result }
+    ensures ok { OnOk result (S.bytes_of sink.new
+        ≡ S.bytes_of sink.old ++ record_text number (four_bytes (fixed32.enc value))) }
+    ensures err { OnErr result (KeepsFront (S.bytes_of sink.old)
+        (record_text number (four_bytes (fixed32.enc value))) (S.bytes_of sink.new)) }
+    ensures cause { WriteAnswers S.most (S.bytes_of sink.old)
+        (record_text number (four_bytes (fixed32.enc value))) result }
 {
     laws::two_parts();
+    laws::put_is_a_write();
     Tag::new(number, WireType::Fixed32).encode(sink)?;
     encode_fixed32(value, sink)
 }
@@ -134,11 +159,15 @@ pub fn put_fixed64_field<S: EncodeSink>(
     sink: &mut S,
 ) -> Result<(), EncodeError>
     requires { IsFieldNumber number }
-    ensures ok { OnOk result (S.bytes_of sink.new ≡ S.bytes_of sink.old ++ record_text number (eight_bytes (fixed64.enc value))) }
-    ensures err { OnErr result (KeepsFront (S.bytes_of sink.old) (record_text number (eight_bytes (fixed64.enc value))) (S.bytes_of sink.new)) }
-    ensures cause { WriteAnswers S.most (S.bytes_of sink.old) (record_text number (eight_bytes (fixed64.enc value))) result }
+    ensures ok { OnOk result (S.bytes_of sink.new
+        ≡ S.bytes_of sink.old ++ record_text number (eight_bytes (fixed64.enc value))) }
+    ensures err { OnErr result (KeepsFront (S.bytes_of sink.old)
+        (record_text number (eight_bytes (fixed64.enc value))) (S.bytes_of sink.new)) }
+    ensures cause { WriteAnswers S.most (S.bytes_of sink.old)
+        (record_text number (eight_bytes (fixed64.enc value))) result }
 {
     laws::two_parts();
+    laws::put_is_a_write();
     Tag::new(number, WireType::Fixed64).encode(sink)?;
     encode_fixed64(value, sink)
 }
@@ -150,9 +179,12 @@ pub fn put_sfixed32_field<S: EncodeSink>(
     sink: &mut S,
 ) -> Result<(), EncodeError>
     requires { IsFieldNumber number }
-    ensures ok { OnOk result (S.bytes_of sink.new ≡ S.bytes_of sink.old ++ record_text number (four_bytes (sfixed32.enc value))) }
-    ensures err { OnErr result (KeepsFront (S.bytes_of sink.old) (record_text number (four_bytes (sfixed32.enc value))) (S.bytes_of sink.new)) }
-    ensures cause { WriteAnswers S.most (S.bytes_of sink.old) (record_text number (four_bytes (sfixed32.enc value))) result }
+    ensures ok { OnOk result (S.bytes_of sink.new
+        ≡ S.bytes_of sink.old ++ record_text number (four_bytes (sfixed32.enc value))) }
+    ensures err { OnErr result (KeepsFront (S.bytes_of sink.old)
+        (record_text number (four_bytes (sfixed32.enc value))) (S.bytes_of sink.new)) }
+    ensures cause { WriteAnswers S.most (S.bytes_of sink.old)
+        (record_text number (four_bytes (sfixed32.enc value))) result }
 {
     put_fixed32_field(number, value.cast_unsigned(), sink)
 }
@@ -164,9 +196,12 @@ pub fn put_sfixed64_field<S: EncodeSink>(
     sink: &mut S,
 ) -> Result<(), EncodeError>
     requires { IsFieldNumber number }
-    ensures ok { OnOk result (S.bytes_of sink.new ≡ S.bytes_of sink.old ++ record_text number (eight_bytes (sfixed64.enc value))) }
-    ensures err { OnErr result (KeepsFront (S.bytes_of sink.old) (record_text number (eight_bytes (sfixed64.enc value))) (S.bytes_of sink.new)) }
-    ensures cause { WriteAnswers S.most (S.bytes_of sink.old) (record_text number (eight_bytes (sfixed64.enc value))) result }
+    ensures ok { OnOk result (S.bytes_of sink.new
+        ≡ S.bytes_of sink.old ++ record_text number (eight_bytes (sfixed64.enc value))) }
+    ensures err { OnErr result (KeepsFront (S.bytes_of sink.old)
+        (record_text number (eight_bytes (sfixed64.enc value))) (S.bytes_of sink.new)) }
+    ensures cause { WriteAnswers S.most (S.bytes_of sink.old)
+        (record_text number (eight_bytes (sfixed64.enc value))) result }
 {
     put_fixed64_field(number, value.cast_unsigned(), sink)
 }
@@ -178,9 +213,12 @@ pub fn put_len_delimited_header<S: EncodeSink>(
     sink: &mut S,
 ) -> Result<(), EncodeError>
     requires { IsFieldNumber number }
-    ensures ok { OnOk result (S.bytes_of sink.new ≡ S.bytes_of sink.old ++ tag_text number LengthDelimited ++ shortest_varint len) }
-    ensures err { OnErr result (KeepsFront (S.bytes_of sink.old) (tag_text number LengthDelimited ++ shortest_varint len) (S.bytes_of sink.new)) }
-    ensures cause { WriteAnswers S.most (S.bytes_of sink.old) (tag_text number LengthDelimited ++ shortest_varint len) result }
+    ensures ok { OnOk result (S.bytes_of sink.new
+        ≡ S.bytes_of sink.old ++ tag_text number LengthDelimited ++ shortest_varint len) }
+    ensures err { OnErr result (KeepsFront (S.bytes_of sink.old)
+        (tag_text number LengthDelimited ++ shortest_varint len) (S.bytes_of sink.new)) }
+    ensures cause { WriteAnswers S.most (S.bytes_of sink.old)
+        (tag_text number LengthDelimited ++ shortest_varint len) result }
 {
     put_varint(number, WireType::LengthDelimited, len, sink)
 }
@@ -188,8 +226,10 @@ pub fn put_len_delimited_header<S: EncodeSink>(
 /// Writes the tag that begins a group.
 pub fn put_group_start<S: EncodeSink>(number: u32, sink: &mut S) -> Result<(), EncodeError>
     requires { IsFieldNumber number }
-    ensures ok { OnOk result (S.bytes_of sink.new ≡ S.bytes_of sink.old ++ tag_text number StartGroup) }
-    ensures err { OnErr result (KeepsFront (S.bytes_of sink.old) (tag_text number StartGroup) (S.bytes_of sink.new)) }
+    ensures ok { OnOk result (S.bytes_of sink.new
+        ≡ S.bytes_of sink.old ++ tag_text number StartGroup) }
+    ensures err { OnErr result (KeepsFront (S.bytes_of sink.old)
+        (tag_text number StartGroup) (S.bytes_of sink.new)) }
     ensures cause { WriteAnswers S.most (S.bytes_of sink.old) (tag_text number StartGroup) result }
 {
     Tag::new(number, WireType::StartGroup).encode(sink)
@@ -198,8 +238,10 @@ pub fn put_group_start<S: EncodeSink>(number: u32, sink: &mut S) -> Result<(), E
 /// Writes the tag that ends a group.
 pub fn put_group_end<S: EncodeSink>(number: u32, sink: &mut S) -> Result<(), EncodeError>
     requires { IsFieldNumber number }
-    ensures ok { OnOk result (S.bytes_of sink.new ≡ S.bytes_of sink.old ++ tag_text number EndGroup) }
-    ensures err { OnErr result (KeepsFront (S.bytes_of sink.old) (tag_text number EndGroup) (S.bytes_of sink.new)) }
+    ensures ok { OnOk result (S.bytes_of sink.new
+        ≡ S.bytes_of sink.old ++ tag_text number EndGroup) }
+    ensures err { OnErr result (KeepsFront (S.bytes_of sink.old)
+        (tag_text number EndGroup) (S.bytes_of sink.new)) }
     ensures cause { WriteAnswers S.most (S.bytes_of sink.old) (tag_text number EndGroup) result }
 {
     Tag::new(number, WireType::EndGroup).encode(sink)
@@ -213,9 +255,12 @@ fn put_varint<S: EncodeSink>(
     sink: &mut S,
 ) -> Result<(), EncodeError>
     requires { IsFieldNumber number }
-    ensures ok { OnOk result (S.bytes_of sink.new ≡ S.bytes_of sink.old ++ tag_text number wire_type ++ shortest_varint value) }
-    ensures err { OnErr result (KeepsFront (S.bytes_of sink.old) (tag_text number wire_type ++ shortest_varint value) (S.bytes_of sink.new)) }
-    ensures cause { WriteAnswers S.most (S.bytes_of sink.old) (tag_text number wire_type ++ shortest_varint value) result }
+    ensures ok { OnOk result (S.bytes_of sink.new
+        ≡ S.bytes_of sink.old ++ tag_text number wire_type ++ shortest_varint value) }
+    ensures err { OnErr result (KeepsFront (S.bytes_of sink.old)
+        (tag_text number wire_type ++ shortest_varint value) (S.bytes_of sink.new)) }
+    ensures cause { WriteAnswers S.most (S.bytes_of sink.old)
+        (tag_text number wire_type ++ shortest_varint value) result }
 {
     laws::two_parts();
     Tag::new(number, wire_type).encode(sink)?;

@@ -2,12 +2,12 @@
 ghost use Rattle.std.specs.Prelude.{◌≡◌, ℕ, ◌++◌, ◌<◌, length, refl, OnOk, OnErr, IfOk, IfErr};
 ghost use Rattle.std.specs.Int.{Width, byte_len, w32, w64, to_le_bytes};
 ghost use Rattle.wire_base.specs.declared.error.DecodeError.TheVariants.{UnexpectedEof};
-ghost use Rattle.wire_base.specs.Sink.{KeepsFront, WriteAnswers};
+ghost use Rattle.wire_base.specs.Sink.{Puts};
 ghost use Rattle.wire_scalar.specs.Reading.{IsFixed, ReadsValue};
 ghost use Rattle.wire_scalar.specs.ValueMap.{ValueMap, fixed32, fixed64, sfixed32, sfixed64};
 
 use bytes::Buf;
-use wire_base::{DecodeError, EncodeError, EncodeSink, laws};
+use wire_base::{DecodeError, EncodeError, EncodeSink};
 
 /// How many bytes a `fixed32` or a `sfixed32` has on the wire.
 pub const FIXED32_ENCODED_LEN: usize = 4;
@@ -17,19 +17,19 @@ pub const FIXED64_ENCODED_LEN: usize = 8;
 
 /// Writes a `fixed32`: four bytes, the lowest first.
 pub fn encode_fixed32<S: EncodeSink>(value: u32, sink: &mut S) -> Result<(), EncodeError>
-    ensures ok { OnOk result (S.bytes_of sink.new ≡ S.bytes_of sink.old ++ to_le_bytes w32 (fixed32.enc value)) }
-    ensures err { OnErr result (KeepsFront (S.bytes_of sink.old) (to_le_bytes w32 (fixed32.enc value)) (S.bytes_of sink.new)) }
-    ensures cause { WriteAnswers S.most (S.bytes_of sink.old) (to_le_bytes w32 (fixed32.enc value)) result }
+    ensures { Puts S.most (to_le_bytes w32 (fixed32.enc value))
+        (S.bytes_of sink.old) (S.bytes_of sink.new) result }
 {
-    laws::put_is_a_write();
     sink.put_u32_le(value)
 }
 
 /// Reads a `fixed32`. The buffer stays as it was where fewer bytes are left.
 pub fn decode_fixed32<B: Buf>(buf: &mut B) -> Result<u32, DecodeError>
-    ensures ok { IfOk result (λ value. ReadsValue (IsFixed w32) fixed32 (B.unread buf.old) value (B.unread buf.new)) }
+    ensures ok { IfOk result (λ value.
+        ReadsValue (IsFixed w32) fixed32 (B.unread buf.old) value (B.unread buf.new)) }
     ensures short { IfErr result (λ e. (e ≡ UnexpectedEof) × (length (B.unread buf.old) < 4)) }
     ensures unchanged { OnErr result (B.unread buf.new ≡ B.unread buf.old) }
+    ensures kept { B.kept buf.new ≡ B.kept buf.old }
 {
     if buf.remaining() < FIXED32_ENCODED_LEN {
         return Err(DecodeError::UnexpectedEof);
@@ -39,19 +39,19 @@ pub fn decode_fixed32<B: Buf>(buf: &mut B) -> Result<u32, DecodeError>
 
 /// Writes a `fixed64`: eight bytes, the lowest first.
 pub fn encode_fixed64<S: EncodeSink>(value: u64, sink: &mut S) -> Result<(), EncodeError>
-    ensures ok { OnOk result (S.bytes_of sink.new ≡ S.bytes_of sink.old ++ to_le_bytes w64 (fixed64.enc value)) }
-    ensures err { OnErr result (KeepsFront (S.bytes_of sink.old) (to_le_bytes w64 (fixed64.enc value)) (S.bytes_of sink.new)) }
-    ensures cause { WriteAnswers S.most (S.bytes_of sink.old) (to_le_bytes w64 (fixed64.enc value)) result }
+    ensures { Puts S.most (to_le_bytes w64 (fixed64.enc value))
+        (S.bytes_of sink.old) (S.bytes_of sink.new) result }
 {
-    laws::put_is_a_write();
     sink.put_u64_le(value)
 }
 
 /// Reads a `fixed64`. The buffer stays as it was where fewer bytes are left.
 pub fn decode_fixed64<B: Buf>(buf: &mut B) -> Result<u64, DecodeError>
-    ensures ok { IfOk result (λ value. ReadsValue (IsFixed w64) fixed64 (B.unread buf.old) value (B.unread buf.new)) }
+    ensures ok { IfOk result (λ value.
+        ReadsValue (IsFixed w64) fixed64 (B.unread buf.old) value (B.unread buf.new)) }
     ensures short { IfErr result (λ e. (e ≡ UnexpectedEof) × (length (B.unread buf.old) < 8)) }
     ensures unchanged { OnErr result (B.unread buf.new ≡ B.unread buf.old) }
+    ensures kept { B.kept buf.new ≡ B.kept buf.old }
 {
     if buf.remaining() < FIXED64_ENCODED_LEN {
         return Err(DecodeError::UnexpectedEof);
@@ -61,38 +61,38 @@ pub fn decode_fixed64<B: Buf>(buf: &mut B) -> Result<u64, DecodeError>
 
 /// Writes a `sfixed32`: the two's complement in four bytes, the lowest first.
 pub fn encode_sfixed32<S: EncodeSink>(value: i32, sink: &mut S) -> Result<(), EncodeError>
-    ensures ok { OnOk result (S.bytes_of sink.new ≡ S.bytes_of sink.old ++ to_le_bytes w32 (sfixed32.enc value)) }
-    ensures err { OnErr result (KeepsFront (S.bytes_of sink.old) (to_le_bytes w32 (sfixed32.enc value)) (S.bytes_of sink.new)) }
-    ensures cause { WriteAnswers S.most (S.bytes_of sink.old) (to_le_bytes w32 (sfixed32.enc value)) result }
+    ensures { Puts S.most (to_le_bytes w32 (sfixed32.enc value))
+        (S.bytes_of sink.old) (S.bytes_of sink.new) result }
 {
-    laws::put_is_a_write();
     sink.put_i32_le(value)
 }
 
 /// Reads a `sfixed32`. The buffer stays as it was where fewer bytes are left.
 pub fn decode_sfixed32<B: Buf>(buf: &mut B) -> Result<i32, DecodeError>
-    ensures ok { IfOk result (λ value. ReadsValue (IsFixed w32) sfixed32 (B.unread buf.old) value (B.unread buf.new)) }
+    ensures ok { IfOk result (λ value.
+        ReadsValue (IsFixed w32) sfixed32 (B.unread buf.old) value (B.unread buf.new)) }
     ensures short { IfErr result (λ e. (e ≡ UnexpectedEof) × (length (B.unread buf.old) < 4)) }
     ensures unchanged { OnErr result (B.unread buf.new ≡ B.unread buf.old) }
+    ensures kept { B.kept buf.new ≡ B.kept buf.old }
 {
     Ok(decode_fixed32(buf)?.cast_signed())
 }
 
 /// Writes a `sfixed64`: the two's complement in eight bytes, the lowest first.
 pub fn encode_sfixed64<S: EncodeSink>(value: i64, sink: &mut S) -> Result<(), EncodeError>
-    ensures ok { OnOk result (S.bytes_of sink.new ≡ S.bytes_of sink.old ++ to_le_bytes w64 (sfixed64.enc value)) }
-    ensures err { OnErr result (KeepsFront (S.bytes_of sink.old) (to_le_bytes w64 (sfixed64.enc value)) (S.bytes_of sink.new)) }
-    ensures cause { WriteAnswers S.most (S.bytes_of sink.old) (to_le_bytes w64 (sfixed64.enc value)) result }
+    ensures { Puts S.most (to_le_bytes w64 (sfixed64.enc value))
+        (S.bytes_of sink.old) (S.bytes_of sink.new) result }
 {
-    laws::put_is_a_write();
     sink.put_i64_le(value)
 }
 
 /// Reads a `sfixed64`. The buffer stays as it was where fewer bytes are left.
 pub fn decode_sfixed64<B: Buf>(buf: &mut B) -> Result<i64, DecodeError>
-    ensures ok { IfOk result (λ value. ReadsValue (IsFixed w64) sfixed64 (B.unread buf.old) value (B.unread buf.new)) }
+    ensures ok { IfOk result (λ value.
+        ReadsValue (IsFixed w64) sfixed64 (B.unread buf.old) value (B.unread buf.new)) }
     ensures short { IfErr result (λ e. (e ≡ UnexpectedEof) × (length (B.unread buf.old) < 8)) }
     ensures unchanged { OnErr result (B.unread buf.new ≡ B.unread buf.old) }
+    ensures kept { B.kept buf.new ≡ B.kept buf.old }
 {
     Ok(decode_fixed64(buf)?.cast_signed())
 }
@@ -111,8 +111,10 @@ pub(crate) trait FixedScalar {
     const LEN: usize;
 
     fn decode(buf: &mut &[u8]) -> Result<Self::Value, DecodeError>
-        ensures ok { IfOk result (λ value. ReadsValue (IsFixed width) map buf.old.now value buf.new.now) }
-        ensures short { IfErr result (λ e. (e ≡ UnexpectedEof) × (length buf.old.now < byte_len width)) };
+        ensures ok { IfOk result (λ value.
+            ReadsValue (IsFixed width) map buf.old.now value buf.new.now) }
+        ensures short { IfErr result (λ e.
+            (e ≡ UnexpectedEof) × (length buf.old.now < byte_len width)) };
 
     ghost len_is: { LEN ≡ byte_len width };
 }

@@ -1,12 +1,13 @@
 //! Laws of the definitions that the contracts cite: each function is a theorem, and does nothing.
 ghost use Rattle.std.specs.Prelude.{◌<◌, ◌^◌, FitsSigned};
 ghost use Rattle.std.specs.Int.{w32, w64, to_le_bytes};
-ghost use Rattle.wire_base.specs.Varint.{shortest_varint};
+ghost use Rattle.wire_base.specs.Varint.{IsSpelling, shortest_varint};
 ghost use Rattle.wire_scalar.specs.Laws.{ReadsBack, TextReadsBack, VarintsAreCounted, FixedAreMultiples, OnePackedList, NoPackedListBesideFault, OnePackedFault, PackedListOrFaultStands};
-ghost use Rattle.wire_scalar.specs.Reading.{IsFixed, IsVarint};
+ghost use Rattle.wire_scalar.specs.Reading.{IsFixed};
 ghost use Rattle.wire_scalar.specs.ValueMap.{int32, int64, uint32, uint64, sint32, sint64, bool, fixed32, fixed64, sfixed32, sfixed64};
 
-/// What is read from the number that is written for a value is that value, for every value of each type.
+/// What is read from the number that is written for a value is that value, for every value of each
+/// type.
 pub fn values_read_back()
     ensures int32 { ReadsBack int32 (FitsSigned w32) }
     ensures int64 { ReadsBack int64 (FitsSigned w64) }
@@ -21,18 +22,20 @@ pub fn values_read_back()
     ensures sfixed64 { ReadsBack sfixed64 (FitsSigned w64) }
 {}
 
-/// A value stands at the front of the text that is written for it, whatever follows, for every value of
-/// each type.
+/// A value stands at the front of the text that is written for it, whatever follows, for every value
+/// of each type.
 pub fn texts_read_back()
-    ensures int32 { TextReadsBack IsVarint shortest_varint int32 (FitsSigned w32) }
-    ensures int64 { TextReadsBack IsVarint shortest_varint int64 (FitsSigned w64) }
-    ensures uint32 { TextReadsBack IsVarint shortest_varint uint32 (λ value. value < 2 ^ 32) }
-    ensures uint64 { TextReadsBack IsVarint shortest_varint uint64 (λ value. value < 2 ^ 64) }
-    ensures sint32 { TextReadsBack IsVarint shortest_varint sint32 (FitsSigned w32) }
-    ensures sint64 { TextReadsBack IsVarint shortest_varint sint64 (FitsSigned w64) }
-    ensures bool { TextReadsBack IsVarint shortest_varint bool (λ _. Unit {0}) }
-    ensures fixed32 { TextReadsBack (IsFixed w32) (to_le_bytes w32) fixed32 (λ value. value < 2 ^ 32) }
-    ensures fixed64 { TextReadsBack (IsFixed w64) (to_le_bytes w64) fixed64 (λ value. value < 2 ^ 64) }
+    ensures int32 { TextReadsBack IsSpelling shortest_varint int32 (FitsSigned w32) }
+    ensures int64 { TextReadsBack IsSpelling shortest_varint int64 (FitsSigned w64) }
+    ensures uint32 { TextReadsBack IsSpelling shortest_varint uint32 (λ value. value < 2 ^ 32) }
+    ensures uint64 { TextReadsBack IsSpelling shortest_varint uint64 (λ value. value < 2 ^ 64) }
+    ensures sint32 { TextReadsBack IsSpelling shortest_varint sint32 (FitsSigned w32) }
+    ensures sint64 { TextReadsBack IsSpelling shortest_varint sint64 (FitsSigned w64) }
+    ensures bool { TextReadsBack IsSpelling shortest_varint bool (λ _. Unit {0}) }
+    ensures fixed32 { TextReadsBack (IsFixed w32) (to_le_bytes w32) fixed32
+        (λ value. value < 2 ^ 32) }
+    ensures fixed64 { TextReadsBack (IsFixed w64) (to_le_bytes w64) fixed64
+        (λ value. value < 2 ^ 64) }
     ensures sfixed32 { TextReadsBack (IsFixed w32) (to_le_bytes w32) sfixed32 (FitsSigned w32) }
     ensures sfixed64 { TextReadsBack (IsFixed w64) (to_le_bytes w64) sfixed64 (FitsSigned w64) }
 {

@@ -1,145 +1,181 @@
 //! Lists of scalars in one payload.
-ghost use Rattle.std.specs.Prelude.{◌≡◌, ◌≢◌, ◌%◌, ◌++◌, ◌⊎◌, List, length, OnOk, OnErr, IfErr};
+ghost use Rattle.std.specs.Prelude.{◌≡◌, ◌%◌, ◌++◌, ◌⊎◌, List, length, OnOk, OnErr, IfErr};
 ghost use Rattle.std.specs.Int.{byte_len, w32, w64};
-ghost use Rattle.wire_base.specs.declared.error.DecodeError.TheVariants.{OutOfMemory, UnexpectedEof};
-ghost use Rattle.wire_scalar.specs.Packed.{Appends, AppendsFront, StopsAtFault};
-ghost use Rattle.wire_scalar.specs.Reading.{IsFixed, IsVarint};
+ghost use Rattle.wire_base.specs.declared.error.DecodeError.TheVariants.{OutOfMemory};
+ghost use Rattle.wire_base.specs.Varint.{IsSpelling};
+ghost use Rattle.wire_scalar.specs.Packed.{Appends, AppendsFront, FixedRefusal, StopsAtFault};
+ghost use Rattle.wire_scalar.specs.Reading.{IsFixed};
 ghost use Rattle.wire_scalar.specs.ValueMap.{int32, int64, uint32, uint64, sint32, sint64, bool, fixed32, fixed64, sfixed32, sfixed64};
 
 use crate::fixed::{Fixed32, Fixed64, FixedScalar, Sfixed32, Sfixed64};
 use crate::scalar::{Bool, Int32, Int64, Sint32, Sint64, Uint32, Uint64, VarintScalar};
 use crate::varints::decode_as;
+use std::alloc::Global;
 use wire_base::DecodeError;
 
-/// Appends the elements of a packed list of `int32`, up to the first that is no varint, with room for so many
-/// reserved first.
+/// Appends the elements of a packed list of `int32`, up to the first that is no varint, with room
+/// for so many reserved first.
 pub fn extend_packed_int32(
+    _alloc: Global,
     payload: &[u8],
     out: &mut Vec<i32>,
     reserve: usize,
 ) -> Result<(), DecodeError>
-    ensures ok { OnOk result (Appends IsVarint int32 payload.now out.old.items out.new.items) }
-    ensures fault { IfErr result (λ e. ((e ≡ OutOfMemory) × AppendsFront IsVarint int32 payload.now out.old.items out.new.items)
+    ensures ok { OnOk result (Appends IsSpelling int32 payload.now out.old.items out.new.items) }
+    ensures fault { IfErr result (λ e.
+        ((e ≡ OutOfMemory) × AppendsFront IsSpelling int32 payload.now out.old.items out.new.items)
         ⊎ StopsAtFault int32 payload.now out.old.items out.new.items e) }
 {
     extend_as::<Int32>(payload, out, reserve)
 }
 
-/// Appends the elements of a packed list of `int64`, up to the first that is no varint, with room for so many
-/// reserved first.
+/// Appends the elements of a packed list of `int64`, up to the first that is no varint, with room
+/// for so many reserved first.
 pub fn extend_packed_int64(
+    _alloc: Global,
     payload: &[u8],
     out: &mut Vec<i64>,
     reserve: usize,
 ) -> Result<(), DecodeError>
-    ensures ok { OnOk result (Appends IsVarint int64 payload.now out.old.items out.new.items) }
-    ensures fault { IfErr result (λ e. ((e ≡ OutOfMemory) × AppendsFront IsVarint int64 payload.now out.old.items out.new.items)
+    ensures ok { OnOk result (Appends IsSpelling int64 payload.now out.old.items out.new.items) }
+    ensures fault { IfErr result (λ e.
+        ((e ≡ OutOfMemory) × AppendsFront IsSpelling int64 payload.now out.old.items out.new.items)
         ⊎ StopsAtFault int64 payload.now out.old.items out.new.items e) }
 {
     extend_as::<Int64>(payload, out, reserve)
 }
 
-/// Appends the elements of a packed list of `uint32`, up to the first that is no varint, with room for so many
-/// reserved first.
+/// Appends the elements of a packed list of `uint32`, up to the first that is no varint, with room
+/// for so many reserved first.
 pub fn extend_packed_uint32(
+    _alloc: Global,
     payload: &[u8],
     out: &mut Vec<u32>,
     reserve: usize,
 ) -> Result<(), DecodeError>
-    ensures ok { OnOk result (Appends IsVarint uint32 payload.now out.old.items out.new.items) }
-    ensures fault { IfErr result (λ e. ((e ≡ OutOfMemory) × AppendsFront IsVarint uint32 payload.now out.old.items out.new.items)
+    ensures ok { OnOk result (Appends IsSpelling uint32 payload.now out.old.items out.new.items) }
+    ensures fault { IfErr result (λ e.
+        ((e ≡ OutOfMemory) × AppendsFront IsSpelling uint32 payload.now out.old.items out.new.items)
         ⊎ StopsAtFault uint32 payload.now out.old.items out.new.items e) }
 {
     extend_as::<Uint32>(payload, out, reserve)
 }
 
-/// Appends the elements of a packed list of `uint64`, up to the first that is no varint, with room for so many
-/// reserved first.
+/// Appends the elements of a packed list of `uint64`, up to the first that is no varint, with room
+/// for so many reserved first.
 pub fn extend_packed_uint64(
+    _alloc: Global,
     payload: &[u8],
     out: &mut Vec<u64>,
     reserve: usize,
 ) -> Result<(), DecodeError>
-    ensures ok { OnOk result (Appends IsVarint uint64 payload.now out.old.items out.new.items) }
-    ensures fault { IfErr result (λ e. ((e ≡ OutOfMemory) × AppendsFront IsVarint uint64 payload.now out.old.items out.new.items)
+    ensures ok { OnOk result (Appends IsSpelling uint64 payload.now out.old.items out.new.items) }
+    ensures fault { IfErr result (λ e.
+        ((e ≡ OutOfMemory) × AppendsFront IsSpelling uint64 payload.now out.old.items out.new.items)
         ⊎ StopsAtFault uint64 payload.now out.old.items out.new.items e) }
 {
     extend_as::<Uint64>(payload, out, reserve)
 }
 
-/// Appends the elements of a packed list of `sint32`, up to the first that is no varint, with room for so many
-/// reserved first.
+/// Appends the elements of a packed list of `sint32`, up to the first that is no varint, with room
+/// for so many reserved first.
 pub fn extend_packed_sint32(
+    _alloc: Global,
     payload: &[u8],
     out: &mut Vec<i32>,
     reserve: usize,
 ) -> Result<(), DecodeError>
-    ensures ok { OnOk result (Appends IsVarint sint32 payload.now out.old.items out.new.items) }
-    ensures fault { IfErr result (λ e. ((e ≡ OutOfMemory) × AppendsFront IsVarint sint32 payload.now out.old.items out.new.items)
+    ensures ok { OnOk result (Appends IsSpelling sint32 payload.now out.old.items out.new.items) }
+    ensures fault { IfErr result (λ e.
+        ((e ≡ OutOfMemory) × AppendsFront IsSpelling sint32 payload.now out.old.items out.new.items)
         ⊎ StopsAtFault sint32 payload.now out.old.items out.new.items e) }
 {
     extend_as::<Sint32>(payload, out, reserve)
 }
 
-/// Appends the elements of a packed list of `sint64`, up to the first that is no varint, with room for so many
-/// reserved first.
+/// Appends the elements of a packed list of `sint64`, up to the first that is no varint, with room
+/// for so many reserved first.
 pub fn extend_packed_sint64(
+    _alloc: Global,
     payload: &[u8],
     out: &mut Vec<i64>,
     reserve: usize,
 ) -> Result<(), DecodeError>
-    ensures ok { OnOk result (Appends IsVarint sint64 payload.now out.old.items out.new.items) }
-    ensures fault { IfErr result (λ e. ((e ≡ OutOfMemory) × AppendsFront IsVarint sint64 payload.now out.old.items out.new.items)
+    ensures ok { OnOk result (Appends IsSpelling sint64 payload.now out.old.items out.new.items) }
+    ensures fault { IfErr result (λ e.
+        ((e ≡ OutOfMemory) × AppendsFront IsSpelling sint64 payload.now out.old.items out.new.items)
         ⊎ StopsAtFault sint64 payload.now out.old.items out.new.items e) }
 {
     extend_as::<Sint64>(payload, out, reserve)
 }
 
-/// Appends the elements of a packed list of `bool`, up to the first that is no varint, with room for so many
-/// reserved first.
+/// Appends the elements of a packed list of `bool`, up to the first that is no varint, with room
+/// for so many reserved first.
 pub fn extend_packed_bool(
+    _alloc: Global,
     payload: &[u8],
     out: &mut Vec<bool>,
     reserve: usize,
 ) -> Result<(), DecodeError>
-    ensures ok { OnOk result (Appends IsVarint bool payload.now out.old.items out.new.items) }
-    ensures fault { IfErr result (λ e. ((e ≡ OutOfMemory) × AppendsFront IsVarint bool payload.now out.old.items out.new.items)
+    ensures ok { OnOk result (Appends IsSpelling bool payload.now out.old.items out.new.items) }
+    ensures fault { IfErr result (λ e.
+        ((e ≡ OutOfMemory) × AppendsFront IsSpelling bool payload.now out.old.items out.new.items)
         ⊎ StopsAtFault bool payload.now out.old.items out.new.items e) }
 {
     extend_as::<Bool>(payload, out, reserve)
 }
 
 /// Appends the elements of a packed list of `fixed32`, all or none.
-pub fn extend_packed_fixed32(payload: &[u8], out: &mut Vec<u32>) -> Result<(), DecodeError>
-    ensures ok { OnOk result (Appends (IsFixed w32) fixed32 payload.now out.old.items out.new.items) }
-    ensures err { IfErr result (λ e. (e ≡ OutOfMemory) ⊎ ((e ≡ UnexpectedEof) × (length payload.now % 4 ≢ 0))) }
+pub fn extend_packed_fixed32(
+    _alloc: Global,
+    payload: &[u8],
+    out: &mut Vec<u32>,
+) -> Result<(), DecodeError>
+    ensures ok { OnOk result
+        (Appends (IsFixed w32) fixed32 payload.now out.old.items out.new.items) }
+    ensures err { IfErr result (FixedRefusal 4 payload.now) }
     ensures unchanged { OnErr result (out.new.items ≡ out.old.items) }
 {
     extend_fixed::<Fixed32>(payload, out)
 }
 
 /// Appends the elements of a packed list of `fixed64`, all or none.
-pub fn extend_packed_fixed64(payload: &[u8], out: &mut Vec<u64>) -> Result<(), DecodeError>
-    ensures ok { OnOk result (Appends (IsFixed w64) fixed64 payload.now out.old.items out.new.items) }
-    ensures err { IfErr result (λ e. (e ≡ OutOfMemory) ⊎ ((e ≡ UnexpectedEof) × (length payload.now % 8 ≢ 0))) }
+pub fn extend_packed_fixed64(
+    _alloc: Global,
+    payload: &[u8],
+    out: &mut Vec<u64>,
+) -> Result<(), DecodeError>
+    ensures ok { OnOk result
+        (Appends (IsFixed w64) fixed64 payload.now out.old.items out.new.items) }
+    ensures err { IfErr result (FixedRefusal 8 payload.now) }
     ensures unchanged { OnErr result (out.new.items ≡ out.old.items) }
 {
     extend_fixed::<Fixed64>(payload, out)
 }
 
 /// Appends the elements of a packed list of `sfixed32`, all or none.
-pub fn extend_packed_sfixed32(payload: &[u8], out: &mut Vec<i32>) -> Result<(), DecodeError>
-    ensures ok { OnOk result (Appends (IsFixed w32) sfixed32 payload.now out.old.items out.new.items) }
-    ensures err { IfErr result (λ e. (e ≡ OutOfMemory) ⊎ ((e ≡ UnexpectedEof) × (length payload.now % 4 ≢ 0))) }
+pub fn extend_packed_sfixed32(
+    _alloc: Global,
+    payload: &[u8],
+    out: &mut Vec<i32>,
+) -> Result<(), DecodeError>
+    ensures ok { OnOk result
+        (Appends (IsFixed w32) sfixed32 payload.now out.old.items out.new.items) }
+    ensures err { IfErr result (FixedRefusal 4 payload.now) }
     ensures unchanged { OnErr result (out.new.items ≡ out.old.items) }
 {
     extend_fixed::<Sfixed32>(payload, out)
 }
 
 /// Appends the elements of a packed list of `sfixed64`, all or none.
-pub fn extend_packed_sfixed64(payload: &[u8], out: &mut Vec<i64>) -> Result<(), DecodeError>
-    ensures ok { OnOk result (Appends (IsFixed w64) sfixed64 payload.now out.old.items out.new.items) }
-    ensures err { IfErr result (λ e. (e ≡ OutOfMemory) ⊎ ((e ≡ UnexpectedEof) × (length payload.now % 8 ≢ 0))) }
+pub fn extend_packed_sfixed64(
+    _alloc: Global,
+    payload: &[u8],
+    out: &mut Vec<i64>,
+) -> Result<(), DecodeError>
+    ensures ok { OnOk result
+        (Appends (IsFixed w64) sfixed64 payload.now out.old.items out.new.items) }
+    ensures err { IfErr result (FixedRefusal 8 payload.now) }
     ensures unchanged { OnErr result (out.new.items ≡ out.old.items) }
 {
     extend_fixed::<Sfixed64>(payload, out)
@@ -151,8 +187,9 @@ fn extend_as<T: VarintScalar>(
     out: &mut Vec<T::Value>,
     reserve: usize,
 ) -> Result<(), DecodeError>
-    ensures ok { OnOk result (Appends IsVarint T.map payload.now out.old.items out.new.items) }
-    ensures fault { IfErr result (λ e. ((e ≡ OutOfMemory) × AppendsFront IsVarint T.map payload.now out.old.items out.new.items)
+    ensures ok { OnOk result (Appends IsSpelling T.map payload.now out.old.items out.new.items) }
+    ensures fault { IfErr result (λ e.
+        ((e ≡ OutOfMemory) × AppendsFront IsSpelling T.map payload.now out.old.items out.new.items)
         ⊎ StopsAtFault T.map payload.now out.old.items out.new.items e) }
 {
     out.reserve(reserve)?;
@@ -165,8 +202,9 @@ fn extend_as<T: VarintScalar>(
 
 // Appends the elements, all or none.
 fn extend_fixed<T: FixedScalar>(payload: &[u8], out: &mut Vec<T::Value>) -> Result<(), DecodeError>
-    ensures ok { OnOk result (Appends (IsFixed T.width) T.map payload.now out.old.items out.new.items) }
-    ensures err { IfErr result (λ e. (e ≡ OutOfMemory) ⊎ ((e ≡ UnexpectedEof) × (length payload.now % byte_len T.width ≢ 0))) }
+    ensures ok { OnOk result
+        (Appends (IsFixed T.width) T.map payload.now out.old.items out.new.items) }
+    ensures err { IfErr result (FixedRefusal (byte_len T.width) payload.now) }
     ensures unchanged { OnErr result (out.new.items ≡ out.old.items) }
 {
     if payload.len() % T::LEN != 0 {
@@ -183,7 +221,8 @@ fn extend_fixed<T: FixedScalar>(payload: &[u8], out: &mut Vec<T::Value>) -> Resu
 // Appends elements one by one, of a payload that is a multiple of their length.
 fn push_all<T: FixedScalar>(payload: &[u8], out: &mut Vec<T::Value>) -> Result<(), DecodeError>
     requires { length payload.now % byte_len T.width ≡ 0 }
-    ensures ok { OnOk result (Appends (IsFixed T.width) T.map payload.now out.old.items out.new.items) }
+    ensures ok { OnOk result
+        (Appends (IsFixed T.width) T.map payload.now out.old.items out.new.items) }
     ensures err { IfErr result (λ e. e ≡ OutOfMemory) }
     ensures front { OnErr result ((more : List T.Value) × (out.new.items ≡ out.old.items ++ more)) }
 {

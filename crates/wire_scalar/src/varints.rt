@@ -1,8 +1,8 @@
 //! Scalars that stand on the wire as varints.
 ghost use Rattle.std.specs.Prelude.{◌≡◌, ◌++◌, length, OnOk, OnErr, IfOk, IfErr};
 ghost use Rattle.wire_base.specs.Sink.{KeepsFront, WriteAnswers};
-ghost use Rattle.wire_base.specs.Varint.{VarintFault, shortest_varint};
-ghost use Rattle.wire_scalar.specs.Reading.{IsVarint, ReadsValue};
+ghost use Rattle.wire_base.specs.Varint.{IsSpelling, VarintFault, shortest_varint};
+ghost use Rattle.wire_scalar.specs.Reading.{ReadsValue};
 ghost use Rattle.wire_scalar.specs.ValueMap.{int32, int64, uint32, uint64, sint32, sint64, bool};
 
 use crate::scalar::{Bool, Int32, Int64, Sint32, Sint64, Uint32, Uint64, VarintScalar};
@@ -14,33 +14,43 @@ pub const BOOL_ENCODED_LEN: usize = 1;
 
 // Reads a varint as a value of the type.
 pub(crate) fn decode_as<T: VarintScalar, B: Buf>(buf: &mut B) -> Result<T::Value, DecodeError>
-    ensures ok { IfOk result (λ value. ReadsValue IsVarint T.map (B.unread buf.old) value (B.unread buf.new)) }
+    ensures ok { IfOk result (λ value.
+        ReadsValue IsSpelling T.map (B.unread buf.old) value (B.unread buf.new)) }
     ensures fault { IfErr result (VarintFault (B.unread buf.old)) }
+    ensures kept { B.kept buf.new ≡ B.kept buf.old }
 {
     Ok(T::value_of(decode_varint(buf)?))
 }
 
-/// Writes an `int32` as its shortest varint, a negative one as the 64 bits of its two's complement, in ten bytes.
+/// Writes an `int32` as its shortest varint, a negative one as the 64 bits of its two's complement,
+/// in ten bytes.
 pub fn encode_int32<S: EncodeSink>(value: i32, sink: &mut S) -> Result<(), EncodeError>
-    ensures ok { OnOk result (S.bytes_of sink.new ≡ S.bytes_of sink.old ++ shortest_varint (int32.enc value)) }
-    ensures err { OnErr result (KeepsFront (S.bytes_of sink.old) (shortest_varint (int32.enc value)) (S.bytes_of sink.new)) }
-    ensures cause { WriteAnswers S.most (S.bytes_of sink.old) (shortest_varint (int32.enc value)) result }
+    ensures ok { OnOk result (S.bytes_of sink.new
+        ≡ S.bytes_of sink.old ++ shortest_varint (int32.enc value)) }
+    ensures err { OnErr result (KeepsFront (S.bytes_of sink.old)
+        (shortest_varint (int32.enc value)) (S.bytes_of sink.new)) }
+    ensures cause { WriteAnswers S.most (S.bytes_of sink.old)
+        (shortest_varint (int32.enc value)) result }
 {
     encode_varint(Int32::number_of(value), sink)
 }
 
 /// Reads an `int32`: the low 32 bits of a varint.
 pub fn decode_int32<B: Buf>(buf: &mut B) -> Result<i32, DecodeError>
-    ensures ok { IfOk result (λ value. ReadsValue IsVarint int32 (B.unread buf.old) value (B.unread buf.new)) }
+    ensures ok { IfOk result (λ value.
+        ReadsValue IsSpelling int32 (B.unread buf.old) value (B.unread buf.new)) }
     ensures fault { IfErr result (VarintFault (B.unread buf.old)) }
+    ensures kept { B.kept buf.new ≡ B.kept buf.old }
 {
     decode_as::<Int32, B>(buf)
 }
 
 /// Reads an element of a packed list, as `decode_int32` does.
 pub fn decode_int32_packed<B: Buf>(buf: &mut B) -> Result<i32, DecodeError>
-    ensures ok { IfOk result (λ value. ReadsValue IsVarint int32 (B.unread buf.old) value (B.unread buf.new)) }
+    ensures ok { IfOk result (λ value.
+        ReadsValue IsSpelling int32 (B.unread buf.old) value (B.unread buf.new)) }
     ensures fault { IfErr result (VarintFault (B.unread buf.old)) }
+    ensures kept { B.kept buf.new ≡ B.kept buf.old }
 {
     decode_int32(buf)
 }
@@ -52,27 +62,35 @@ pub fn int32_encoded_len(value: i32) -> usize
     varint_len(Int32::number_of(value))
 }
 
-/// Writes an `int64` as its shortest varint, a negative one as the 64 bits of its two's complement, in ten bytes.
+/// Writes an `int64` as its shortest varint, a negative one as the 64 bits of its two's complement,
+/// in ten bytes.
 pub fn encode_int64<S: EncodeSink>(value: i64, sink: &mut S) -> Result<(), EncodeError>
-    ensures ok { OnOk result (S.bytes_of sink.new ≡ S.bytes_of sink.old ++ shortest_varint (int64.enc value)) }
-    ensures err { OnErr result (KeepsFront (S.bytes_of sink.old) (shortest_varint (int64.enc value)) (S.bytes_of sink.new)) }
-    ensures cause { WriteAnswers S.most (S.bytes_of sink.old) (shortest_varint (int64.enc value)) result }
+    ensures ok { OnOk result (S.bytes_of sink.new
+        ≡ S.bytes_of sink.old ++ shortest_varint (int64.enc value)) }
+    ensures err { OnErr result (KeepsFront (S.bytes_of sink.old)
+        (shortest_varint (int64.enc value)) (S.bytes_of sink.new)) }
+    ensures cause { WriteAnswers S.most (S.bytes_of sink.old)
+        (shortest_varint (int64.enc value)) result }
 {
     encode_varint(Int64::number_of(value), sink)
 }
 
 /// Reads an `int64`: the 64 bits of a varint.
 pub fn decode_int64<B: Buf>(buf: &mut B) -> Result<i64, DecodeError>
-    ensures ok { IfOk result (λ value. ReadsValue IsVarint int64 (B.unread buf.old) value (B.unread buf.new)) }
+    ensures ok { IfOk result (λ value.
+        ReadsValue IsSpelling int64 (B.unread buf.old) value (B.unread buf.new)) }
     ensures fault { IfErr result (VarintFault (B.unread buf.old)) }
+    ensures kept { B.kept buf.new ≡ B.kept buf.old }
 {
     decode_as::<Int64, B>(buf)
 }
 
 /// Reads an element of a packed list, as `decode_int64` does.
 pub fn decode_int64_packed<B: Buf>(buf: &mut B) -> Result<i64, DecodeError>
-    ensures ok { IfOk result (λ value. ReadsValue IsVarint int64 (B.unread buf.old) value (B.unread buf.new)) }
+    ensures ok { IfOk result (λ value.
+        ReadsValue IsSpelling int64 (B.unread buf.old) value (B.unread buf.new)) }
     ensures fault { IfErr result (VarintFault (B.unread buf.old)) }
+    ensures kept { B.kept buf.new ≡ B.kept buf.old }
 {
     decode_int64(buf)
 }
@@ -84,27 +102,34 @@ pub fn int64_encoded_len(value: i64) -> usize
     varint_len(Int64::number_of(value))
 }
 
-/// Writes an `uint32` as its shortest varint.
+/// Writes a `uint32` as its shortest varint.
 pub fn encode_uint32<S: EncodeSink>(value: u32, sink: &mut S) -> Result<(), EncodeError>
-    ensures ok { OnOk result (S.bytes_of sink.new ≡ S.bytes_of sink.old ++ shortest_varint (uint32.enc value)) }
-    ensures err { OnErr result (KeepsFront (S.bytes_of sink.old) (shortest_varint (uint32.enc value)) (S.bytes_of sink.new)) }
-    ensures cause { WriteAnswers S.most (S.bytes_of sink.old) (shortest_varint (uint32.enc value)) result }
+    ensures ok { OnOk result (S.bytes_of sink.new
+        ≡ S.bytes_of sink.old ++ shortest_varint (uint32.enc value)) }
+    ensures err { OnErr result (KeepsFront (S.bytes_of sink.old)
+        (shortest_varint (uint32.enc value)) (S.bytes_of sink.new)) }
+    ensures cause { WriteAnswers S.most (S.bytes_of sink.old)
+        (shortest_varint (uint32.enc value)) result }
 {
     encode_varint(Uint32::number_of(value), sink)
 }
 
 /// Reads a `uint32`: the low 32 bits of a varint.
 pub fn decode_uint32<B: Buf>(buf: &mut B) -> Result<u32, DecodeError>
-    ensures ok { IfOk result (λ value. ReadsValue IsVarint uint32 (B.unread buf.old) value (B.unread buf.new)) }
+    ensures ok { IfOk result (λ value.
+        ReadsValue IsSpelling uint32 (B.unread buf.old) value (B.unread buf.new)) }
     ensures fault { IfErr result (VarintFault (B.unread buf.old)) }
+    ensures kept { B.kept buf.new ≡ B.kept buf.old }
 {
     decode_as::<Uint32, B>(buf)
 }
 
 /// Reads an element of a packed list, as `decode_uint32` does.
 pub fn decode_uint32_packed<B: Buf>(buf: &mut B) -> Result<u32, DecodeError>
-    ensures ok { IfOk result (λ value. ReadsValue IsVarint uint32 (B.unread buf.old) value (B.unread buf.new)) }
+    ensures ok { IfOk result (λ value.
+        ReadsValue IsSpelling uint32 (B.unread buf.old) value (B.unread buf.new)) }
     ensures fault { IfErr result (VarintFault (B.unread buf.old)) }
+    ensures kept { B.kept buf.new ≡ B.kept buf.old }
 {
     decode_uint32(buf)
 }
@@ -116,27 +141,34 @@ pub fn uint32_encoded_len(value: u32) -> usize
     varint_len(Uint32::number_of(value))
 }
 
-/// Writes an `uint64` as its shortest varint.
+/// Writes a `uint64` as its shortest varint.
 pub fn encode_uint64<S: EncodeSink>(value: u64, sink: &mut S) -> Result<(), EncodeError>
-    ensures ok { OnOk result (S.bytes_of sink.new ≡ S.bytes_of sink.old ++ shortest_varint (uint64.enc value)) }
-    ensures err { OnErr result (KeepsFront (S.bytes_of sink.old) (shortest_varint (uint64.enc value)) (S.bytes_of sink.new)) }
-    ensures cause { WriteAnswers S.most (S.bytes_of sink.old) (shortest_varint (uint64.enc value)) result }
+    ensures ok { OnOk result (S.bytes_of sink.new
+        ≡ S.bytes_of sink.old ++ shortest_varint (uint64.enc value)) }
+    ensures err { OnErr result (KeepsFront (S.bytes_of sink.old)
+        (shortest_varint (uint64.enc value)) (S.bytes_of sink.new)) }
+    ensures cause { WriteAnswers S.most (S.bytes_of sink.old)
+        (shortest_varint (uint64.enc value)) result }
 {
     encode_varint(Uint64::number_of(value), sink)
 }
 
 /// Reads a `uint64`.
 pub fn decode_uint64<B: Buf>(buf: &mut B) -> Result<u64, DecodeError>
-    ensures ok { IfOk result (λ value. ReadsValue IsVarint uint64 (B.unread buf.old) value (B.unread buf.new)) }
+    ensures ok { IfOk result (λ value.
+        ReadsValue IsSpelling uint64 (B.unread buf.old) value (B.unread buf.new)) }
     ensures fault { IfErr result (VarintFault (B.unread buf.old)) }
+    ensures kept { B.kept buf.new ≡ B.kept buf.old }
 {
     decode_as::<Uint64, B>(buf)
 }
 
 /// Reads an element of a packed list, as `decode_uint64` does.
 pub fn decode_uint64_packed<B: Buf>(buf: &mut B) -> Result<u64, DecodeError>
-    ensures ok { IfOk result (λ value. ReadsValue IsVarint uint64 (B.unread buf.old) value (B.unread buf.new)) }
+    ensures ok { IfOk result (λ value.
+        ReadsValue IsSpelling uint64 (B.unread buf.old) value (B.unread buf.new)) }
     ensures fault { IfErr result (VarintFault (B.unread buf.old)) }
+    ensures kept { B.kept buf.new ≡ B.kept buf.old }
 {
     decode_uint64(buf)
 }
@@ -150,25 +182,32 @@ pub fn uint64_encoded_len(value: u64) -> usize
 
 /// Writes a `sint32` as its shortest varint, in zigzag order, in which numbers near zero are short.
 pub fn encode_sint32<S: EncodeSink>(value: i32, sink: &mut S) -> Result<(), EncodeError>
-    ensures ok { OnOk result (S.bytes_of sink.new ≡ S.bytes_of sink.old ++ shortest_varint (sint32.enc value)) }
-    ensures err { OnErr result (KeepsFront (S.bytes_of sink.old) (shortest_varint (sint32.enc value)) (S.bytes_of sink.new)) }
-    ensures cause { WriteAnswers S.most (S.bytes_of sink.old) (shortest_varint (sint32.enc value)) result }
+    ensures ok { OnOk result (S.bytes_of sink.new
+        ≡ S.bytes_of sink.old ++ shortest_varint (sint32.enc value)) }
+    ensures err { OnErr result (KeepsFront (S.bytes_of sink.old)
+        (shortest_varint (sint32.enc value)) (S.bytes_of sink.new)) }
+    ensures cause { WriteAnswers S.most (S.bytes_of sink.old)
+        (shortest_varint (sint32.enc value)) result }
 {
     encode_varint(Sint32::number_of(value), sink)
 }
 
 /// Reads a `sint32`: the low 32 bits of a varint, out of zigzag order.
 pub fn decode_sint32<B: Buf>(buf: &mut B) -> Result<i32, DecodeError>
-    ensures ok { IfOk result (λ value. ReadsValue IsVarint sint32 (B.unread buf.old) value (B.unread buf.new)) }
+    ensures ok { IfOk result (λ value.
+        ReadsValue IsSpelling sint32 (B.unread buf.old) value (B.unread buf.new)) }
     ensures fault { IfErr result (VarintFault (B.unread buf.old)) }
+    ensures kept { B.kept buf.new ≡ B.kept buf.old }
 {
     decode_as::<Sint32, B>(buf)
 }
 
 /// Reads an element of a packed list, as `decode_sint32` does.
 pub fn decode_sint32_packed<B: Buf>(buf: &mut B) -> Result<i32, DecodeError>
-    ensures ok { IfOk result (λ value. ReadsValue IsVarint sint32 (B.unread buf.old) value (B.unread buf.new)) }
+    ensures ok { IfOk result (λ value.
+        ReadsValue IsSpelling sint32 (B.unread buf.old) value (B.unread buf.new)) }
     ensures fault { IfErr result (VarintFault (B.unread buf.old)) }
+    ensures kept { B.kept buf.new ≡ B.kept buf.old }
 {
     decode_sint32(buf)
 }
@@ -182,25 +221,32 @@ pub fn sint32_encoded_len(value: i32) -> usize
 
 /// Writes a `sint64` as its shortest varint, in zigzag order, in which numbers near zero are short.
 pub fn encode_sint64<S: EncodeSink>(value: i64, sink: &mut S) -> Result<(), EncodeError>
-    ensures ok { OnOk result (S.bytes_of sink.new ≡ S.bytes_of sink.old ++ shortest_varint (sint64.enc value)) }
-    ensures err { OnErr result (KeepsFront (S.bytes_of sink.old) (shortest_varint (sint64.enc value)) (S.bytes_of sink.new)) }
-    ensures cause { WriteAnswers S.most (S.bytes_of sink.old) (shortest_varint (sint64.enc value)) result }
+    ensures ok { OnOk result (S.bytes_of sink.new
+        ≡ S.bytes_of sink.old ++ shortest_varint (sint64.enc value)) }
+    ensures err { OnErr result (KeepsFront (S.bytes_of sink.old)
+        (shortest_varint (sint64.enc value)) (S.bytes_of sink.new)) }
+    ensures cause { WriteAnswers S.most (S.bytes_of sink.old)
+        (shortest_varint (sint64.enc value)) result }
 {
     encode_varint(Sint64::number_of(value), sink)
 }
 
 /// Reads a `sint64`: a varint, out of zigzag order.
 pub fn decode_sint64<B: Buf>(buf: &mut B) -> Result<i64, DecodeError>
-    ensures ok { IfOk result (λ value. ReadsValue IsVarint sint64 (B.unread buf.old) value (B.unread buf.new)) }
+    ensures ok { IfOk result (λ value.
+        ReadsValue IsSpelling sint64 (B.unread buf.old) value (B.unread buf.new)) }
     ensures fault { IfErr result (VarintFault (B.unread buf.old)) }
+    ensures kept { B.kept buf.new ≡ B.kept buf.old }
 {
     decode_as::<Sint64, B>(buf)
 }
 
 /// Reads an element of a packed list, as `decode_sint64` does.
 pub fn decode_sint64_packed<B: Buf>(buf: &mut B) -> Result<i64, DecodeError>
-    ensures ok { IfOk result (λ value. ReadsValue IsVarint sint64 (B.unread buf.old) value (B.unread buf.new)) }
+    ensures ok { IfOk result (λ value.
+        ReadsValue IsSpelling sint64 (B.unread buf.old) value (B.unread buf.new)) }
     ensures fault { IfErr result (VarintFault (B.unread buf.old)) }
+    ensures kept { B.kept buf.new ≡ B.kept buf.old }
 {
     decode_sint64(buf)
 }
@@ -214,25 +260,32 @@ pub fn sint64_encoded_len(value: i64) -> usize
 
 /// Writes a `bool` as one byte, 00 or 01.
 pub fn encode_bool<S: EncodeSink>(value: bool, sink: &mut S) -> Result<(), EncodeError>
-    ensures ok { OnOk result (S.bytes_of sink.new ≡ S.bytes_of sink.old ++ shortest_varint (bool.enc value)) }
-    ensures err { OnErr result (KeepsFront (S.bytes_of sink.old) (shortest_varint (bool.enc value)) (S.bytes_of sink.new)) }
-    ensures cause { WriteAnswers S.most (S.bytes_of sink.old) (shortest_varint (bool.enc value)) result }
+    ensures ok { OnOk result (S.bytes_of sink.new
+        ≡ S.bytes_of sink.old ++ shortest_varint (bool.enc value)) }
+    ensures err { OnErr result (KeepsFront (S.bytes_of sink.old)
+        (shortest_varint (bool.enc value)) (S.bytes_of sink.new)) }
+    ensures cause { WriteAnswers S.most (S.bytes_of sink.old)
+        (shortest_varint (bool.enc value)) result }
 {
     encode_varint(Bool::number_of(value), sink)
 }
 
 /// Reads a `bool`: each varint but 0 is true.
 pub fn decode_bool<B: Buf>(buf: &mut B) -> Result<bool, DecodeError>
-    ensures ok { IfOk result (λ value. ReadsValue IsVarint bool (B.unread buf.old) value (B.unread buf.new)) }
+    ensures ok { IfOk result (λ value.
+        ReadsValue IsSpelling bool (B.unread buf.old) value (B.unread buf.new)) }
     ensures fault { IfErr result (VarintFault (B.unread buf.old)) }
+    ensures kept { B.kept buf.new ≡ B.kept buf.old }
 {
     decode_as::<Bool, B>(buf)
 }
 
 /// Reads an element of a packed list, as `decode_bool` does.
 pub fn decode_bool_packed<B: Buf>(buf: &mut B) -> Result<bool, DecodeError>
-    ensures ok { IfOk result (λ value. ReadsValue IsVarint bool (B.unread buf.old) value (B.unread buf.new)) }
+    ensures ok { IfOk result (λ value.
+        ReadsValue IsSpelling bool (B.unread buf.old) value (B.unread buf.new)) }
     ensures fault { IfErr result (VarintFault (B.unread buf.old)) }
+    ensures kept { B.kept buf.new ≡ B.kept buf.old }
 {
     decode_bool(buf)
 }

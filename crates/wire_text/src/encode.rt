@@ -34,8 +34,10 @@ pub fn bytes_encoded_len(value: &[u8]) -> Result<usize, EncodeError>
 
 /// Writes the length of a string and its UTF-8 bytes.
 pub fn encode_string<S: EncodeSink>(value: &str, sink: &mut S) -> Result<(), EncodeError>
-    ensures ok { OnOk result (S.bytes_of sink.new ≡ S.bytes_of sink.old ++ delimited_text value.now) }
-    ensures err { OnErr result (KeepsFront (S.bytes_of sink.old) (delimited_text value.now) (S.bytes_of sink.new)) }
+    ensures ok { OnOk result (S.bytes_of sink.new
+        ≡ S.bytes_of sink.old ++ delimited_text value.now) }
+    ensures err { OnErr result (KeepsFront (S.bytes_of sink.old)
+        (delimited_text value.now) (S.bytes_of sink.new)) }
     ensures cause { WriteAnswers S.most (S.bytes_of sink.old) (delimited_text value.now) result }
 {
     encode_bytes(value.as_bytes(), sink)
@@ -43,8 +45,10 @@ pub fn encode_string<S: EncodeSink>(value: &str, sink: &mut S) -> Result<(), Enc
 
 /// Writes the length of the bytes, and the bytes.
 pub fn encode_bytes<S: EncodeSink>(value: &[u8], sink: &mut S) -> Result<(), EncodeError>
-    ensures ok { OnOk result (S.bytes_of sink.new ≡ S.bytes_of sink.old ++ delimited_text value.now) }
-    ensures err { OnErr result (KeepsFront (S.bytes_of sink.old) (delimited_text value.now) (S.bytes_of sink.new)) }
+    ensures ok { OnOk result (S.bytes_of sink.new
+        ≡ S.bytes_of sink.old ++ delimited_text value.now) }
+    ensures err { OnErr result (KeepsFront (S.bytes_of sink.old)
+        (delimited_text value.now) (S.bytes_of sink.new)) }
     ensures cause { WriteAnswers S.most (S.bytes_of sink.old) (delimited_text value.now) result }
 {
     laws::two_parts();
@@ -60,9 +64,12 @@ pub fn put_string_field<S: EncodeSink>(
     sink: &mut S,
 ) -> Result<(), EncodeError>
     requires { IsFieldNumber number }
-    ensures ok { OnOk result (S.bytes_of sink.new ≡ S.bytes_of sink.old ++ record_text number (bytes value.now)) }
-    ensures err { OnErr result (KeepsFront (S.bytes_of sink.old) (record_text number (bytes value.now)) (S.bytes_of sink.new)) }
-    ensures cause { WriteAnswers S.most (S.bytes_of sink.old) (record_text number (bytes value.now)) result }
+    ensures ok { OnOk result (S.bytes_of sink.new
+        ≡ S.bytes_of sink.old ++ record_text number (bytes value.now)) }
+    ensures err { OnErr result (KeepsFront (S.bytes_of sink.old)
+        (record_text number (bytes value.now)) (S.bytes_of sink.new)) }
+    ensures cause { WriteAnswers S.most (S.bytes_of sink.old)
+        (record_text number (bytes value.now)) result }
 {
     put_bytes_field(number, value.as_bytes(), sink)
 }
@@ -74,9 +81,12 @@ pub fn put_bytes_field<S: EncodeSink>(
     sink: &mut S,
 ) -> Result<(), EncodeError>
     requires { IsFieldNumber number }
-    ensures ok { OnOk result (S.bytes_of sink.new ≡ S.bytes_of sink.old ++ record_text number (bytes value.now)) }
-    ensures err { OnErr result (KeepsFront (S.bytes_of sink.old) (record_text number (bytes value.now)) (S.bytes_of sink.new)) }
-    ensures cause { WriteAnswers S.most (S.bytes_of sink.old) (record_text number (bytes value.now)) result }
+    ensures ok { OnOk result (S.bytes_of sink.new
+        ≡ S.bytes_of sink.old ++ record_text number (bytes value.now)) }
+    ensures err { OnErr result (KeepsFront (S.bytes_of sink.old)
+        (record_text number (bytes value.now)) (S.bytes_of sink.new)) }
+    ensures cause { WriteAnswers S.most (S.bytes_of sink.old)
+        (record_text number (bytes value.now)) result }
 {
     laws::two_parts();
     Tag::new(number, WireType::LengthDelimited).encode(sink)?;

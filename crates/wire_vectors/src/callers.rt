@@ -9,9 +9,8 @@ ghost use Rattle.wire_base.specs.FieldNumber.{IsFieldNumber};
 ghost use Rattle.wire_base.specs.Limits.{uncounted};
 ghost use Rattle.wire_base.specs.Tag.{TagFault};
 ghost use Rattle.wire_base.specs.Text.{record_text};
-ghost use Rattle.wire_base.specs.Varint.{shortest_varint};
+ghost use Rattle.wire_base.specs.Varint.{IsSpelling, shortest_varint};
 ghost use Rattle.wire_scalar.specs.Packed.{Appends};
-ghost use Rattle.wire_scalar.specs.Reading.{IsVarint};
 ghost use Rattle.wire_scalar.specs.ValueMap.{int32, sint64};
 
 use bytes::Buf;
@@ -32,7 +31,8 @@ pub fn first_number(bytes: &[u8]) -> Result<u32, DecodeError>
 
 /// Writes two numbers as the shortest varints.
 pub fn put_pair<S: EncodeSink>(first: u64, second: u64, sink: &mut S) -> Result<(), EncodeError>
-    ensures ok { OnOk result (S.bytes_of sink.new ≡ (S.bytes_of sink.old ++ shortest_varint first) ++ shortest_varint second) }
+    ensures ok { OnOk result (S.bytes_of sink.new
+        ≡ (S.bytes_of sink.old ++ shortest_varint first) ++ shortest_varint second) }
 {
     encode_varint(first, sink)?;
     encode_varint(second, sink)
@@ -48,23 +48,25 @@ pub fn body_of(bytes: &[u8], number: u32) -> Result<&[u8], DecodeError>
 
 /// Writes a balance as field 1.
 pub fn put_balance<S: EncodeSink>(balance: i64, sink: &mut S) -> Result<(), EncodeError>
-    ensures ok { OnOk result (S.bytes_of sink.new ≡ S.bytes_of sink.old ++ record_text 1 (varint (sint64.enc balance))) }
+    ensures ok { OnOk result (S.bytes_of sink.new
+        ≡ S.bytes_of sink.old ++ record_text 1 (varint (sint64.enc balance))) }
 {
     put_sint64_field(1, balance, sink)
 }
 
 /// The scores of a packed list, or why it is none.
 pub fn scores_of(alloc: Global, payload: &[u8]) -> Result<Vec<i32>, DecodeError>
-    ensures ok { IfOk result (λ scores. Appends IsVarint int32 payload.now [] scores.items) }
+    ensures ok { IfOk result (λ scores. Appends IsSpelling int32 payload.now [] scores.items) }
 {
     let mut scores = Vec::new(alloc);
-    extend_packed_int32(payload, &mut scores, count_varints(payload))?;
+    extend_packed_int32(alloc, payload, &mut scores, count_varints(payload))?;
     Ok(scores)
 }
 
 /// The name at the front of the buffer, or why there is none.
 pub fn name_of<B: Buf>(alloc: Global, buf: &mut B) -> Result<String, DecodeError>
-    ensures ok { IfOk result (λ name. Reads (B.unread buf.old) (IsString (string_bytes name)) (B.unread buf.new)) }
+    ensures ok { IfOk result (λ name.
+        Reads (B.unread buf.old) (IsString (string_bytes name)) (B.unread buf.new)) }
     ensures fault { IfErr result (λ e. (e ≡ OutOfMemory) ⊎ StringFault (B.unread buf.old) e) }
 {
     decode_string(alloc, buf)

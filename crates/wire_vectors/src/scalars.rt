@@ -155,7 +155,7 @@ fn list_of_int32(
     elements: &[i32],
 ) -> Result<bool, Stop> {
     let mut list = Vec::new(alloc);
-    let found = extend_packed_int32(payload, &mut list, count_varints(payload));
+    let found = extend_packed_int32(alloc, payload, &mut list, count_varints(payload));
     if let Err(DecodeError::OutOfMemory) = found {
         return Err(Stop::Memory);
     }
@@ -173,17 +173,17 @@ fn lists_of_int32(alloc: Global) -> Result<bool, Stop> {
 
 fn lists_of_varints(alloc: Global) -> Result<bool, Stop> {
     let mut int64s = Vec::new(alloc);
-    extend_packed_int64(MINUS_ONE, &mut int64s, 1)?;
+    extend_packed_int64(alloc, MINUS_ONE, &mut int64s, 1)?;
     let mut uint32s = Vec::new(alloc);
-    extend_packed_uint32(b"\x05\xac\x02", &mut uint32s, 0)?;
+    extend_packed_uint32(alloc, b"\x05\xac\x02", &mut uint32s, 0)?;
     let mut uint64s = Vec::new(alloc);
-    extend_packed_uint64(MINUS_ONE, &mut uint64s, 1)?;
+    extend_packed_uint64(alloc, MINUS_ONE, &mut uint64s, 1)?;
     let mut sint32s = Vec::new(alloc);
-    extend_packed_sint32(b"\x03\x04", &mut sint32s, 2)?;
+    extend_packed_sint32(alloc, b"\x03\x04", &mut sint32s, 2)?;
     let mut sint64s = Vec::new(alloc);
-    extend_packed_sint64(MINUS_ONE, &mut sint64s, 1)?;
+    extend_packed_sint64(alloc, MINUS_ONE, &mut sint64s, 1)?;
     let mut bools = Vec::new(alloc);
-    extend_packed_bool(b"\x00\x80\x01\x80\x00", &mut bools, 3)?;
+    extend_packed_bool(alloc, b"\x00\x80\x01\x80\x00", &mut bools, 3)?;
     Ok(
         int64s.as_slice() == [-1].as_slice()
             && uint32s.as_slice() == [5, 300].as_slice()
@@ -196,13 +196,13 @@ fn lists_of_varints(alloc: Global) -> Result<bool, Stop> {
 
 fn lists_of_fixed(alloc: Global) -> Result<bool, Stop> {
     let mut fixed32s = Vec::new(alloc);
-    extend_packed_fixed32(b"\x01\x00\x00\x00\xff\x00\x00\x00", &mut fixed32s)?;
+    extend_packed_fixed32(alloc, b"\x01\x00\x00\x00\xff\x00\x00\x00", &mut fixed32s)?;
     let mut fixed64s = Vec::new(alloc);
-    extend_packed_fixed64(b"\x01\x00\x00\x00\xff\x00\x00\x00", &mut fixed64s)?;
+    extend_packed_fixed64(alloc, b"\x01\x00\x00\x00\xff\x00\x00\x00", &mut fixed64s)?;
     let mut sfixed32s = Vec::new(alloc);
-    extend_packed_sfixed32(b"\xff\xff\xff\xff\x01\x00\x00\x00", &mut sfixed32s)?;
+    extend_packed_sfixed32(alloc, b"\xff\xff\xff\xff\x01\x00\x00\x00", &mut sfixed32s)?;
     let mut sfixed64s = Vec::new(alloc);
-    extend_packed_sfixed64(b"\xfe\xff\xff\xff\xff\xff\xff\xff", &mut sfixed64s)?;
+    extend_packed_sfixed64(alloc, b"\xfe\xff\xff\xff\xff\xff\xff\xff", &mut sfixed64s)?;
     Ok(
         fixed32s.as_slice() == [1, 255].as_slice()
             && fixed64s.as_slice() == [0xff_0000_0001].as_slice()
@@ -213,9 +213,13 @@ fn lists_of_fixed(alloc: Global) -> Result<bool, Stop> {
 
 fn cut_lists_of_fixed(alloc: Global) -> Result<bool, Stop> {
     let mut fixed32s = Vec::new(alloc);
-    let short = extend_packed_fixed32(b"\x01\x00\x00\x00\x02", &mut fixed32s);
+    let short = extend_packed_fixed32(alloc, b"\x01\x00\x00\x00\x02", &mut fixed32s);
     let mut fixed64s = Vec::from_slice(alloc, &[7])?;
-    let long = extend_packed_fixed64(b"\x01\x02\x03\x04\x05\x06\x07\x08\x09", &mut fixed64s);
+    let long = extend_packed_fixed64(
+        alloc,
+        b"\x01\x02\x03\x04\x05\x06\x07\x08\x09",
+        &mut fixed64s,
+    );
     Ok(
         short == Err(DecodeError::UnexpectedEof)
             && fixed32s.is_empty()

@@ -13,14 +13,17 @@ pub(crate) fn put_tag<S: EncodeSink>(
     wire_type: WireType,
     sink: &mut S,
 ) -> Result<(), EncodeError>
-    ensures ok { OnOk result (S.bytes_of sink.new ≡ S.bytes_of sink.old ++ tag_text number wire_type) }
-    ensures err { OnErr result (KeepsFront (S.bytes_of sink.old) (tag_text number wire_type) (S.bytes_of sink.new)) }
+    ensures ok { OnOk result (S.bytes_of sink.new
+        ≡ S.bytes_of sink.old ++ tag_text number wire_type) }
+    ensures err { OnErr result (KeepsFront (S.bytes_of sink.old)
+        (tag_text number wire_type) (S.bytes_of sink.new)) }
     ensures cause { WriteAnswers S.most (S.bytes_of sink.old) (tag_text number wire_type) result }
 {
     encode_varint(8 * u64::from(number) + low_bits(wire_type), sink)
 }
 
-/// How many bytes the shortest text of a tag has: 1 to 5, and 5 for a number that no field may have.
+/// How many bytes the shortest text of a tag has: 1 to 5, and 5 for a number that no field may
+/// have.
 pub(crate) fn tag_len(number: u32, wire_type: WireType) -> usize
     ensures { result ≡ length (tag_text number wire_type) }
 {

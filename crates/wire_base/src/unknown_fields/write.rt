@@ -16,7 +16,8 @@ impl UnknownFields {
     #[cycle(write)]
     pub fn write_to<S: EncodeSink>(&self, sink: &mut S) -> Result<(), EncodeError>
         ensures ok { OnOk result (S.bytes_of sink.new ≡ S.bytes_of sink.old ++ text_of self.now) }
-        ensures err { OnErr result (KeepsFront (S.bytes_of sink.old) (text_of self.now) (S.bytes_of sink.new)) }
+        ensures err { OnErr result (KeepsFront (S.bytes_of sink.old)
+            (text_of self.now) (S.bytes_of sink.new)) }
         ensures cause { WriteAnswers S.most (S.bytes_of sink.old) (text_of self.now) result }
     {
         for field in &self.fields {

@@ -7,5 +7,5 @@ pub returns-in-Ok-clause-ok : goal.returns-in-Ok-clause-ok
 returns-in-Ok-clause-ok c = record {
   fields = c.in_ok-fields.fields;
   taken = (c.in_ok-fields.ensures.spelled, c.in_ok-fields.ensures.within);
-  shortest_varint = c.in-Ok.ensures.ok ∙ ap (λ l. l ++ text c.in_ok-fields.fields) c.new-output.ensures.items;
+  shortest = c.in-Ok.ensures.ok ∙ ap (λ l. l ++ text_of c.in_ok-fields.fields) c.new-output.ensures.items;
 }
