@@ -1,0 +1,36 @@
+//! Laws of the definitions that the contracts cite: each function is a theorem, and does nothing.
+ghost use Rattle.wire_codec.specs.Laws.{NoSizeIsAboveTheWhole, SmallSizesAreUncut, MeasuredAreNext};
+ghost use Rattle.wire_codec.specs.Laws.{JoinedAddsUp, FieldsArePlain};
+ghost use Rattle.wire_codec.specs.Laws.{FlatKeepsTheTape, PieceByPiece};
+
+pub use wire_base::laws::{put_is_a_write, two_parts};
+
+/// No embedded message is longer than the records that it stands in. So no size is cut where the
+/// whole is below `2^32`, and what was measured with an empty cache can be written with it.
+pub fn sizes_fit()
+    ensures above { NoSizeIsAboveTheWhole }
+    ensures uncut { SmallSizesAreUncut }
+    ensures next { MeasuredAreNext }
+{}
+
+/// The text and the sizes of records one behind another are theirs, one behind another.
+pub fn joined_records_add_up()
+    ensures { JoinedAddsUp }
+{}
+
+/// Records of the grammar, kept in a value as they are, stand for themselves and have no sizes.
+pub fn fields_are_plain()
+    ensures { FieldsArePlain }
+{}
+
+/// A message with no embedded message records and reads no sizes.
+pub fn flat_messages_have_no_sizes()
+    ensures { FlatKeepsTheTape }
+{}
+
+/// A text may be written piece by piece.
+pub fn piece_by_piece()
+    ensures { PieceByPiece }
+{
+    two_parts();
+}

@@ -1,0 +1,227 @@
+//! Message types, and the calls that encode a value of any of them.
+ghost use Rattle.std.specs.Prelude.{◌≡◌, ◌≤◌, ◌<◌, length, Option, OnOk, IfOk, IfErr};
+ghost use Rattle.wire_base.specs.declared.error.EncodeError.TheVariants.{OutOfMemory};
+ghost use Rattle.wire_codec.specs.Encoding.{TriesToAnswer, TriesToWrite, WritesWithin, read_tape};
+ghost use Rattle.wire_codec.specs.Records.{Records, text, size};
+ghost use Rattle.wire_codec.specs.Sizes.{cut, cut_sizes, sizes};
+ghost use Rattle.wire_codec.specs.Tape.{NextAre, recorded, advanced};
+ghost use Rattle.wire_codec.specs.Writes.{Writes};
+ghost use Rattle.wire_text.specs.Delimited.{delimited_text};
+
+use crate::size::checked_encode_size;
+use crate::size_cache::SizeCache;
+use bytes::Bytes;
+use std::alloc::Global;
+use wire_base::{EncodeError, EncodeSink, encode_varint, laws};
+
+/// A type whose values are encoded as records.
+///
+/// A value is measured in one pass, which records the sizes of the embedded messages, and written
+/// in a second one, which reads them.
+pub trait Message: Clone + PartialEq + Drop {
+    /// What contracts see of a value.
+    ghost Value: { Type 0 };
+
+    ghost view: { Self → Value };
+
+    /// The records of a value, in the order in which they are written.
+    ghost records: { Value → Records };
+
+    ghost default: { Value };
+
+    fn default_value(alloc: Global) -> Self
+        ensures { view result ≡ default };
+
+    /// Records the sizes of the embedded messages, an outer one before its inner ones, and answers
+    /// the size of the text. Each is cut at `u32::MAX`.
+    fn compute_size(&self, cache: &mut SizeCache) -> Result<u32, EncodeError>
+        ensures size { IfOk result (λ answer. answer ≡ cut (size (records (view self.now)))) }
+        ensures sizes { OnOk result (cache.new
+            ≡ recorded cache.old (cut_sizes (records (view self.now)))) }
+        ensures err { IfErr result (λ e. e ≡ OutOfMemory) };
+
+    /// Writes the shortest text of the records, with the sizes that the cache has next.
+    fn write_to<S: EncodeSink>(
+        &self,
+        cache: &mut SizeCache,
+        sink: &mut S,
+    ) -> Result<(), EncodeError>
+        requires sizes { NextAre (sizes (records (view self.now))) cache.old }
+        requires size { size (records (view self.now)) ≤ 2147483647 }
+        ensures written { Writes S.most (text (records (view self.now)))
+            (S.bytes_of sink.old) (S.bytes_of sink.new) result }
+        ensures read { OnOk result (cache.new
+            ≡ advanced cache.old (length (sizes (records (view self.now))))) };
+
+    fn clear(&mut self)
+        ensures { view self.new ≡ default };
+
+    /// Writes the text with a cache of its own.
+    fn encode<S: EncodeSink>(&self, alloc: Global, sink: &mut S) -> Result<(), EncodeError>
+        requires { size (records (view self.now)) ≤ 2147483647 }
+        ensures { Writes S.most (text (records (view self.now)))
+            (S.bytes_of sink.old) (S.bytes_of sink.new) result }
+    {
+        self.encode_with_cache(&mut SizeCache::new(alloc), sink)
+    }
+
+    /// Writes the text with this cache, whose sizes are cleared first.
+    fn encode_with_cache<S: EncodeSink>(
+        &self,
+        cache: &mut SizeCache,
+        sink: &mut S,
+    ) -> Result<(), EncodeError>
+        requires { size (records (view self.now)) ≤ 2147483647 }
+        ensures written { Writes S.most (text (records (view self.now)))
+            (S.bytes_of sink.old) (S.bytes_of sink.new) result }
+        ensures read { OnOk result (cache.new ≡ read_tape (records (view self.now))) }
+    {
+        cache.clear();
+        self.compute_size(cache)?;
+        self.write_to(cache, sink)
+    }
+
+    /// The size of the text.
+    fn encoded_len(&self, alloc: Global) -> Result<u32, EncodeError>
+        requires { size (records (view self.now)) ≤ 2147483647 }
+        ensures ok { IfOk result (λ len. len ≡ size (records (view self.now))) }
+        ensures err { IfErr result (λ e. e ≡ OutOfMemory) }
+    {
+        self.compute_size(&mut SizeCache::new(alloc))
+    }
+
+    fn try_encode<S: EncodeSink>(&self, alloc: Global, sink: &mut S) -> Result<(), EncodeError>
+        ensures { TriesToWrite (size (records (view self.now))) S.most
+            (text (records (view self.now))) (S.bytes_of sink.old)
+            (S.bytes_of sink.new) result }
+    {
+        self.try_encode_with_cache(&mut SizeCache::new(alloc), sink)
+    }
+
+    fn try_encode_with_cache<S: EncodeSink>(
+        &self,
+        cache: &mut SizeCache,
+        sink: &mut S,
+    ) -> Result<(), EncodeError>
+        ensures written { TriesToWrite (size (records (view self.now))) S.most
+            (text (records (view self.now))) (S.bytes_of sink.old)
+            (S.bytes_of sink.new) result }
+        ensures read { OnOk result (cache.new ≡ read_tape (records (view self.now))) }
+    {
+        cache.clear();
+        checked_encode_size(self.compute_size(cache)?)?;
+        self.write_to(cache, sink)
+    }
+
+    fn try_encoded_len(&self, alloc: Global) -> Result<u32, EncodeError>
+        ensures { TriesToAnswer result (size (records (view self.now)))
+            (λ len. len ≡ size (records (view self.now))) }
+    {
+        checked_encode_size(self.compute_size(&mut SizeCache::new(alloc))?)
+    }
+
+    /// Writes the size of the text as a varint, and the text.
+    fn encode_length_delimited<S: EncodeSink>(
+        &self,
+        alloc: Global,
+        sink: &mut S,
+    ) -> Result<(), EncodeError>
+        requires { size (records (view self.now)) ≤ 2147483647 }
+        ensures { Writes S.most (delimited_text (text (records (view self.now))))
+            (S.bytes_of sink.old) (S.bytes_of sink.new) result }
+    {
+        laws::two_parts();
+        let mut cache = SizeCache::new(alloc);
+        let len = self.compute_size(&mut cache)?;
+        encode_varint(u64::from(len), sink)?;
+        self.write_to(&mut cache, sink)
+    }
+
+    fn try_encode_length_delimited<S: EncodeSink>(
+        &self,
+        alloc: Global,
+        sink: &mut S,
+    ) -> Result<(), EncodeError>
+        ensures { TriesToWrite (size (records (view self.now))) S.most
+            (delimited_text (text (records (view self.now)))) (S.bytes_of sink.old)
+            (S.bytes_of sink.new) result }
+    {
+        laws::two_parts();
+        let mut cache = SizeCache::new(alloc);
+        let size = self.compute_size(&mut cache)?;
+        checked_encode_size(size)?;
+        encode_varint(u64::from(size), sink)?;
+        self.write_to(&mut cache, sink)
+    }
+
+    /// The text in a vector of just its length.
+    fn encode_to_vec(&self, alloc: Global) -> Result<Vec<u8>, EncodeError>
+        requires { size (records (view self.now)) ≤ 2147483647 }
+        ensures ok { IfOk result (λ bytes. bytes.items ≡ text (records (view self.now))) }
+        ensures err { IfErr result (λ e. e ≡ OutOfMemory) }
+    {
+        let mut cache = SizeCache::new(alloc);
+        let len = self.compute_size(&mut cache)?;
+        let mut bytes = Vec::with_capacity(alloc, len as usize)?;
+        self.write_to(&mut cache, &mut bytes)?;
+        Ok(bytes)
+    }
+
+    fn try_encode_to_vec(&self, alloc: Global) -> Result<Vec<u8>, EncodeError>
+        ensures { TriesToAnswer result (size (records (view self.now)))
+            (λ bytes. bytes.items ≡ text (records (view self.now))) }
+    {
+        let mut cache = SizeCache::new(alloc);
+        let len = checked_encode_size(self.compute_size(&mut cache)?)?;
+        let mut bytes = Vec::with_capacity(alloc, len as usize)?;
+        self.write_to(&mut cache, &mut bytes)?;
+        Ok(bytes)
+    }
+
+    fn encode_to_bytes(&self, alloc: Global) -> Result<Bytes, EncodeError>
+        requires { size (records (view self.now)) ≤ 2147483647 }
+        ensures ok { IfOk result (λ bytes. bytes ≡ text (records (view self.now))) }
+        ensures err { IfErr result (λ e. e ≡ OutOfMemory) }
+    {
+        Ok(Bytes::from_vec(self.encode_to_vec(alloc)?)?)
+    }
+
+    fn try_encode_to_bytes(&self, alloc: Global) -> Result<Bytes, EncodeError>
+        ensures { TriesToAnswer result (size (records (view self.now)))
+            (λ bytes. bytes ≡ text (records (view self.now))) }
+    {
+        Ok(Bytes::from_vec(self.try_encode_to_vec(alloc)?)?)
+    }
+
+    /// Writes the text where it has at most so many bytes, and answers its size.
+    fn try_encode_bounded<S: EncodeSink>(
+        &self,
+        alloc: Global,
+        max_bytes: u32,
+        sink: &mut S,
+    ) -> Result<u32, EncodeError>
+        ensures { WritesWithin max_bytes S.most (text (records (view self.now)))
+            (S.bytes_of sink.old) (S.bytes_of sink.new) result }
+    {
+        self.try_encode_bounded_with_cache(max_bytes, &mut SizeCache::new(alloc), sink)
+    }
+
+    fn try_encode_bounded_with_cache<S: EncodeSink>(
+        &self,
+        max_bytes: u32,
+        cache: &mut SizeCache,
+        sink: &mut S,
+    ) -> Result<u32, EncodeError>
+        ensures written { WritesWithin max_bytes S.most (text (records (view self.now)))
+            (S.bytes_of sink.old) (S.bytes_of sink.new) result }
+        ensures read { OnOk result (cache.new ≡ read_tape (records (view self.now))) }
+    {
+        cache.clear();
+        let len = checked_encode_size(self.compute_size(cache)?)?;
+        if len > max_bytes {
+            return Err(EncodeError::ExceedsBudget { len, max_bytes });
+        }
+        self.write_to(cache, sink)?;
+        Ok(len)
+    }
+}

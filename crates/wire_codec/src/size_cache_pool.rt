@@ -1,0 +1,222 @@
+//! Size caches that are used again.
+ghost use Rattle.std.specs.Prelude.{◌≡◌, ◌≤◌, ◌⊎◌, ℕ, ◌∷◌, [], ◌++◌, length, IfOk, IfErr};
+ghost use Rattle.wire_base.specs.declared.error.EncodeError.TheVariants.{OutOfMemory};
+ghost use Rattle.wire_codec.specs.Encoding.{TriesToAnswer, TriesToWrite, WritesWithin};
+ghost use Rattle.wire_codec.specs.Pool.{KeepsLimits, IsWithinLimits, empty_pool};
+ghost use Rattle.wire_codec.specs.Records.{text, size};
+ghost use Rattle.wire_codec.specs.Tape.{blank};
+ghost use Rattle.wire_codec.specs.Writes.{Writes};
+
+use crate::message::Message;
+use crate::size::checked_encode_size;
+use crate::size_cache::SizeCache;
+use std::alloc::Global;
+use std::marker::Model;
+use wire_base::{EncodeError, EncodeSink};
+
+/// Memory of size caches that were given back, for the next ones. Encoding with it writes the same
+/// bytes and gives the same answers as encoding with a new cache.
+#[derive(Drop)]
+pub struct SizeCachePool {
+    buffers: Vec<Vec<u32>>,
+    max_buffers: usize,
+    max_capacity: usize,
+}
+
+impl Model for SizeCachePool {
+    ghost use Rattle.std.specs.Prelude.{map, vec_capacity};
+    ghost use Rattle.wire_codec.specs.Pool.{PoolState, pool_code, IsWithinLimits};
+
+    ghost Value = { PoolState };
+
+    ghost coded = { pool_code };
+
+    ghost view = { λ pool. record {
+      capacities = map (λ buffer. vec_capacity buffer) pool.buffers.items;
+      max_buffers = pool.max_buffers;
+      max_capacity = pool.max_capacity;
+    } };
+
+    ghost invariant = { λ pool. IsWithinLimits (record {
+      capacities = map (λ buffer. vec_capacity buffer) pool.buffers.items;
+      max_buffers = pool.max_buffers;
+      max_capacity = pool.max_capacity;
+    }) };
+}
+
+impl SizeCachePool {
+    /// A pool that keeps at most so many buffers, each with room for at most so many sizes. Nothing
+    /// is allocated before the first is kept.
+    pub fn new(alloc: Global, max_buffers: usize, max_capacity: usize) -> SizeCachePool
+        ensures { result ≡ empty_pool max_buffers max_capacity }
+    {
+        SizeCachePool {
+            buffers: Vec::new(alloc),
+            max_buffers,
+            max_capacity,
+        }
+    }
+
+    /// A pool of one buffer, for values that are encoded one after another.
+    pub fn sequential(alloc: Global, max_capacity: usize) -> SizeCachePool
+        ensures { result ≡ empty_pool 1 max_capacity }
+    {
+        SizeCachePool::new(alloc, 1, max_capacity)
+    }
+
+    /// An empty cache, in the memory of a kept buffer where there is one.
+    pub fn acquire(&mut self) -> SizeCache
+        ensures cache { result ≡ blank }
+        ensures limits { KeepsLimits self.old self.new }
+    {
+        match self.buffers.pop() {
+            Some(buffer) => SizeCache::with_spill_buffer(buffer),
+            None => SizeCache::new(*self.buffers.allocator()),
+        }
+    }
+
+    /// Keeps the memory of the cache where the limits allow it, shrunk where it has too much. It is
+    /// given up where shrinking leaves too much or where there is no memory to keep it.
+    pub fn release(&mut self, cache: SizeCache)
+        ensures limits { KeepsLimits self.old self.new }
+        ensures kept { (self.new ≡ self.old) ⊎ ((capacity : ℕ)
+            × (self.new.capacities ≡ self.old.capacities ++ capacity ∷ [])) }
+    {
+        if self.buffers.len() >= self.max_buffers {
+            return;
+        }
+        let mut buffer = cache.into_spill_buffer();
+        if buffer.capacity() > self.max_capacity {
+            buffer.clear();
+            buffer.shrink_to(self.max_capacity);
+        }
+        if buffer.capacity() == 0 || buffer.capacity() > self.max_capacity {
+            return;
+        }
+        let _ = self.buffers.push(buffer);
+    }
+
+    /// As `Message::encoded_len`.
+    pub fn encoded_len<M: Message>(&mut self, message: &M) -> Result<u32, EncodeError>
+        requires { size (M.records (M.view message.now)) ≤ 2147483647 }
+        ensures ok { IfOk result (λ len. len ≡ size (M.records (M.view message.now))) }
+        ensures err { IfErr result (λ e. e ≡ OutOfMemory) }
+        ensures limits { KeepsLimits self.old self.new }
+    {
+        let mut cache = self.acquire();
+        let answer = message.compute_size(&mut cache);
+        self.release(cache);
+        answer
+    }
+
+    /// As `Message::encode`.
+    pub fn encode<M: Message, S: EncodeSink>(
+        &mut self,
+        message: &M,
+        sink: &mut S,
+    ) -> Result<(), EncodeError>
+        requires { size (M.records (M.view message.now)) ≤ 2147483647 }
+        ensures written { Writes S.most (text (M.records (M.view message.now)))
+            (S.bytes_of sink.old) (S.bytes_of sink.new) result }
+        ensures limits { KeepsLimits self.old self.new }
+    {
+        let mut cache = self.acquire();
+        let answer = message.encode_with_cache(&mut cache, sink);
+        self.release(cache);
+        answer
+    }
+
+    /// As `Message::try_encoded_len`.
+    pub fn try_encoded_len<M: Message>(&mut self, message: &M) -> Result<u32, EncodeError>
+        ensures size { TriesToAnswer result (size (M.records (M.view message.now)))
+            (λ len. len ≡ size (M.records (M.view message.now))) }
+        ensures limits { KeepsLimits self.old self.new }
+    {
+        let mut cache = self.acquire();
+        let answer = message.compute_size(&mut cache);
+        self.release(cache);
+        checked_encode_size(answer?)
+    }
+
+    /// As `Message::try_encode`.
+    pub fn try_encode<M: Message, S: EncodeSink>(
+        &mut self,
+        message: &M,
+        sink: &mut S,
+    ) -> Result<(), EncodeError>
+        ensures written { TriesToWrite (size (M.records (M.view message.now))) S.most
+            (text (M.records (M.view message.now))) (S.bytes_of sink.old)
+            (S.bytes_of sink.new) result }
+        ensures limits { KeepsLimits self.old self.new }
+    {
+        let mut cache = self.acquire();
+        let answer = message.try_encode_with_cache(&mut cache, sink);
+        self.release(cache);
+        answer
+    }
+
+    /// As `Message::try_encode_bounded`.
+    pub fn try_encode_bounded<M: Message, S: EncodeSink>(
+        &mut self,
+        message: &M,
+        max_bytes: u32,
+        sink: &mut S,
+    ) -> Result<u32, EncodeError>
+        ensures written { WritesWithin max_bytes S.most (text (M.records (M.view message.now)))
+            (S.bytes_of sink.old) (S.bytes_of sink.new) result }
+        ensures limits { KeepsLimits self.old self.new }
+    {
+        let mut cache = self.acquire();
+        let answer = message.try_encode_bounded_with_cache(max_bytes, &mut cache, sink);
+        self.release(cache);
+        answer
+    }
+}
+
+#[cfg(test)]
+mod tests {
+    use super::SizeCachePool;
+    use crate::size_cache::SizeCache;
+    use std::alloc::{AllocError, Global};
+
+    fn released(alloc: Global, pool: &mut SizeCachePool) -> Result<(), AllocError> {
+        pool.release(SizeCache::with_spill_buffer(vec![in alloc; 1]?));
+        Ok(())
+    }
+
+    // A pool of one keeps one buffer when two caches come back, and none after the next is taken.
+    fn keeps_one(alloc: Global) -> Result<bool, AllocError> {
+        let mut pool = SizeCachePool::new(alloc, 1, usize::MAX);
+        released(alloc, &mut pool)?;
+        released(alloc, &mut pool)?;
+        let after_two = pool.buffers.len();
+        let cache = pool.acquire();
+        let after_next = pool.buffers.len();
+        pool.release(cache);
+        Ok(after_two == 1 && after_next == 0)
+    }
+
+    // A buffer with too much room is shrunk or given up, and one with none is not kept.
+    fn keeps_small_ones(alloc: Global) -> Result<bool, AllocError> {
+        let mut pool = SizeCachePool::new(alloc, 4, 8);
+        let large = Vec::with_capacity(alloc, 100)?;
+        pool.release(SizeCache::with_spill_buffer(large));
+        pool.release(SizeCache::new(alloc));
+        Ok(
+            pool.buffers
+                .iter()
+                .all(|buffer| buffer.capacity() != 0 && buffer.capacity() <= 8),
+        )
+    }
+
+    #[test]
+    fn buffers_are_kept_or_given_up(rt: HostRuntime) {
+        assert_ne!(rt; keeps_small_ones(rt.alloc()), Ok(false));
+    }
+
+    #[test]
+    fn ample_memory_keeps_buffers(rt: HostRuntime) {
+        assert_eq!(rt; keeps_one(rt.alloc()), Ok(true));
+        assert_eq!(rt; keeps_small_ones(rt.alloc()), Ok(true));
+    }
+}

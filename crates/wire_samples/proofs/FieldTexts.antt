@@ -1,0 +1,91 @@
+-- The text of a packed field, number by number.
+use Rattle.std.proofs.Common.{◌≡◌, ℕ, ◌+◌, ◌-◌, ◌^◌, ◌<◌, ◌≤◌, min, zero, suc, List, [], ◌∷◌, ◌++◌}
+use Rattle.std.proofs.Common.{length, get_or, drop, refl, sym, ap, ◌∙◌, append_assoc, add-one}
+use Rattle.std.proofs.Common.{arith, drop-cons, length-append}
+use Rattle.std.specs.Prelude.{ℤ, pos, negsuc, false, ◌==◌}
+use Rattle.std.proofs.lemmas.List.{append-nil, drop_all}
+use Rattle.wire_codec.specs.Grammar.{LengthDelimited, tag_text, shortest_varint, int32}
+use Rattle.wire_codec.specs.Records.{text, size}
+use Rattle.wire_codec.specs.Sizes.{sizes}
+use Rattle.wire_samples.specs.FieldRecords.{int32_field, bytes_field, packed_int32}
+use Rattle.wire_samples.specs.FieldRecords.{packed_int32_field, in_64_bits}
+
+-- z is the number at i, as the code reads it
+pub next_number : (values : List ℤ) (i : ℕ) (z : ℤ) → i < length values
+    → z ≡ get_or values i (pos 0)
+    → packed_int32 (drop i values) ≡ shortest_varint (int32.enc z) ++ packed_int32
+    (drop (i + 1) values)
+next_number values i z more is = rw (is, add-one, drop-cons values i (pos 0)) refl
+
+-- one number more is counted
+pub counted_more : (values : List ℤ) (i len one next : ℕ) (z : ℤ) → i < length values
+    → z ≡ get_or values i (pos 0) → one ≡ length (shortest_varint (int32.enc z))
+    → next ≡ min (len + one) (2 ^ 64 - 1)
+    → in_64_bits (next + length (packed_int32 (drop (i + 1) values))) ≡ in_64_bits
+    (len + length (packed_int32 (drop i values)))
+counted_more values i len one next z more at_i is sum =
+    let parts = ap length (next_number values i z more at_i) in
+    omega (
+      arith,
+      parts,
+      length-append (shortest_varint (int32.enc z))
+          (packed_int32 (drop (i + 1) values)),
+    )
+
+-- the header, and then the numbers
+some_parts : (n len : ℕ) (v : ℤ) (vs : List ℤ) → len ≡ length (packed_int32 (v ∷ vs))
+    → text (packed_int32_field n (v ∷ vs))
+    ≡ (tag_text n LengthDelimited ++ shortest_varint len) ++ packed_int32 (v ∷ vs)
+some_parts n len v vs is =
+    let payload = packed_int32 (v ∷ vs) in
+    let tag = tag_text n LengthDelimited in
+    ap (λ (t : List ℕ). tag ++ t) (append-nil (shortest_varint (length payload) ++ payload))
+    ∙ sym (append_assoc tag (shortest_varint (length payload)) payload)
+    ∙ ap (λ (k : ℕ). (tag ++ shortest_varint k) ++ payload) (sym is)
+
+pub packed_parts : (n len : ℕ) (values : List ℤ) → (length values == 0) ≡ false
+    → len ≡ length (packed_int32 values)
+    → text (packed_int32_field n values)
+    ≡ (tag_text n LengthDelimited ++ shortest_varint len) ++ packed_int32 values
+packed_parts n len [] some is = absurd cc
+packed_parts n len (v ∷ vs) some is = some_parts n len v vs is
+
+-- no number is left
+pub no_number : (values : List ℤ) (i : ℕ) → length values ≤ i → packed_int32 (drop i values) ≡ []
+no_number values i all = ap packed_int32 (drop_all i values all)
+
+pub counted_all : (values : List ℤ) (i len : ℕ) → length values ≤ i → len < 2 ^ 64
+    → in_64_bits (len + length (packed_int32 (drop i values))) ≡ in_64_bits
+    (length (packed_int32 values)) → len ≡ in_64_bits (length (packed_int32 values))
+counted_all values i len all fits is = omega (arith, ap length (no_number values i all))
+
+pub regrouped : (old a b new : List ℕ) → new ≡ (old ++ a) ++ b → new ≡ old ++ (a ++ b)
+regrouped old a b new is = is ∙ append_assoc old a b
+
+-- ---- sizes
+
+pub sizes-int32_field : (n : ℕ) (v : ℤ) → sizes (int32_field n v) ≡ []
+sizes-int32_field n (pos zero) = refl
+sizes-int32_field n (pos (suc k)) = refl
+sizes-int32_field n (negsuc k) = refl
+
+pub sizes-bytes_field : (n : ℕ) (b : List ℕ) → sizes (bytes_field n b) ≡ []
+sizes-bytes_field n [] = refl
+sizes-bytes_field n (x ∷ xs) = refl
+
+pub sizes-packed_int32_field : (n : ℕ) (values : List ℤ) → sizes (packed_int32_field n values) ≡ []
+sizes-packed_int32_field n [] = refl
+sizes-packed_int32_field n (v ∷ vs) = refl
+
+-- a payload is no longer than its field
+pub packed-within_field : (n : ℕ) (values : List ℤ)
+    → length (packed_int32 values) ≤ size (packed_int32_field n values)
+packed-within_field n [] = omega arith
+packed-within_field n (v ∷ vs) =
+    let payload = packed_int32 (v ∷ vs) in
+    omega (
+      arith,
+      ap length (some_parts n (length payload) v vs refl),
+      length-append
+          (tag_text n LengthDelimited ++ shortest_varint (length payload)) payload,
+    )

@@ -1,0 +1,3 @@
+pub mod FieldTexts
+pub mod Persons
+pub mod Repeats

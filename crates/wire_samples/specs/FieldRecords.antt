@@ -1,0 +1,34 @@
+-- The records of fields that are left out where they have their default value.
+use Rattle.std.specs.Prelude.{ℕ, ◌+◌, ◌-◌, ◌^◌, min, ℤ, pos, negsuc, zero, suc, List, [], ◌∷◌, ◌++◌}
+use Rattle.std.specs.Prelude.{length}
+use Rattle.wire_codec.specs.Grammar.{LengthDelimited, int32, tag_text, shortest_varint}
+use Rattle.wire_codec.specs.Records.{Records, none, field, varint, bytes}
+
+-- a number, where it is not 0
+abbrev pub int32_field : ℕ → ℤ → Records
+int32_field n (pos zero) = none
+int32_field n (pos (suc k)) = field n (varint (int32.enc (pos (suc k)))) none
+int32_field n (negsuc k) = field n (varint (int32.enc (negsuc k))) none
+
+-- bytes, where there are any
+abbrev pub bytes_field : ℕ → List ℕ → Records
+bytes_field n [] = none
+bytes_field n (b ∷ more) = field n (bytes (b ∷ more)) none
+
+-- the varints of numbers, one after another
+abbrev pub packed_int32 : List ℤ → List ℕ
+packed_int32 [] = []
+packed_int32 (v ∷ vs) = shortest_varint (int32.enc v) ++ packed_int32 vs
+
+-- numbers in one payload, where there are any
+abbrev pub packed_int32_field : ℕ → List ℤ → Records
+packed_int32_field n [] = none
+packed_int32_field n (v ∷ vs) = field n (bytes (packed_int32 (v ∷ vs))) none
+
+-- a length, or the greatest number of 64 bits where it is more
+abbrev pub in_64_bits : ℕ → ℕ
+in_64_bits n = min n (2 ^ 64 - 1)
+
+-- how many bytes a field takes whose payload has so many
+abbrev pub delimited_size : ℕ → ℕ → ℕ
+delimited_size n len = length (tag_text n LengthDelimited) + (length (shortest_varint len) + len)

@@ -1,0 +1,11 @@
+//! Message types as a compiler of schemas would write them, proved to encode what they say.
+#![tactic(auto)]
+
+mod fields;
+mod person;
+mod repeat;
+#[cfg(test)]
+mod tests;
+
+pub use person::Person;
+pub use repeat::Repeat;

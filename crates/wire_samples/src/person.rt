@@ -1,0 +1,106 @@
+//! A message with a field of each common kind.
+ghost use Rattle.std.specs.Prelude.{◌≡◌, length};
+ghost use Rattle.wire_codec.specs.Grammar.{text_of};
+ghost use Rattle.wire_samples.specs.FieldRecords.{in_64_bits};
+ghost use Rattle.wire_samples.specs.Person.{value_of};
+
+use crate::fields::{
+    bytes_len, int32_len, packed_int32_len, put_bytes, put_int32, put_packed_int32,
+};
+use std::alloc::Global;
+use wire_codec::{
+    EncodeError, EncodeSink, Message, MessageName, SizeCache, UnknownFields, laws, saturate_size,
+};
+
+/// A person, by number and name, with scores. Fields that a schema of later date has are kept.
+#[derive(Clone, Debug, Drop, PartialEq)]
+pub struct Person {
+    pub id: i32,
+    pub name: String,
+    pub scores: Vec<i32>,
+    unknown: UnknownFields,
+}
+
+impl Person {
+    /// The fields that decoding found and this type does not know.
+    pub fn unknown(&self) -> &UnknownFields
+        ensures { result.now ≡ (value_of self.now).unknown }
+    {
+        &self.unknown
+    }
+}
+
+impl MessageName for Person {
+    const PACKAGE: &'static str = "wire.samples";
+
+    const NAME: &'static str = "Person";
+
+    const FULL_NAME: &'static str = "wire.samples.Person";
+
+    const TYPE_URL: &'static str = "type.googleapis.com/wire.samples.Person";
+}
+
+impl Message for Person {
+    ghost use Rattle.wire_samples.specs.Person.{PersonValue, value_of};
+    ghost use Rattle.wire_samples.specs.Person.{person_records, default_person};
+
+    ghost Value = { PersonValue };
+
+    ghost view = { value_of };
+
+    ghost records = { person_records };
+
+    ghost default = { default_person };
+
+    fn default_value(alloc: Global) -> Person {
+        Person {
+            id: 0,
+            name: String::new(alloc),
+            scores: Vec::new(alloc),
+            unknown: UnknownFields::new(alloc),
+        }
+    }
+
+    fn compute_size(&self, _cache: &mut SizeCache) -> Result<u32, EncodeError> {
+        laws::flat_messages_have_no_sizes();
+        laws::joined_records_add_up();
+        laws::fields_are_plain();
+        let mut size = int32_len(1, self.id);
+        size = size.saturating_add(bytes_len(2, self.name.as_bytes()));
+        size = size.saturating_add(packed_int32_len(3, &self.scores));
+        size = size.saturating_add(unknown_len(&self.unknown));
+        Ok(saturate_size(size))
+    }
+
+    fn write_to<S: EncodeSink>(
+        &self,
+        _cache: &mut SizeCache,
+        sink: &mut S,
+    ) -> Result<(), EncodeError> {
+        laws::flat_messages_have_no_sizes();
+        laws::joined_records_add_up();
+        laws::fields_are_plain();
+        laws::piece_by_piece();
+        put_int32(1, self.id, sink)?;
+        put_bytes(2, self.name.as_bytes(), sink)?;
+        put_packed_int32(3, &self.scores, sink)?;
+        self.unknown.write_to(sink)
+    }
+
+    fn clear(&mut self) {
+        self.id = 0;
+        self.name.clear();
+        self.scores.clear();
+        self.unknown.clear();
+    }
+}
+
+// How many bytes the unknown fields take.
+fn unknown_len(unknown: &UnknownFields) -> u64
+    ensures { result ≡ in_64_bits (length (text_of unknown.now)) }
+{
+    match unknown.encoded_len() {
+        Ok(len) => len as u64,
+        Err(_) => u64::MAX,
+    }
+}

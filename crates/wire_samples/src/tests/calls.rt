@@ -1,0 +1,95 @@
+//! Each call that encodes, once with success, for each type.
+use super::{Found, HI, Stop, found_in, hi};
+use crate::repeat::Repeat;
+use std::alloc::Global;
+use wire_codec::{Message, SizeCache, laws};
+
+// The calls that test the size.
+fn trying_calls<M: Message>(alloc: Global, message: &M, text: &[u8]) -> Result<bool, Stop> {
+    let mut cache = SizeCache::new(alloc);
+    let mut sink = Vec::new(alloc);
+    message.try_encode(alloc, &mut sink)?;
+    message.try_encode_with_cache(&mut cache, &mut sink)?;
+    message.try_encode_bounded(alloc, u32::MAX, &mut sink)?;
+    let size = message.try_encode_bounded_with_cache(u32::MAX, &mut cache, &mut sink)?;
+    let whole = message.try_encode_to_vec(alloc)?;
+    let shared = message.try_encode_to_bytes(alloc)?;
+    let mut delimited = Vec::new(alloc);
+    message.try_encode_length_delimited(alloc, &mut delimited)?;
+    Ok(
+        size as usize == text.len()
+            && message.try_encoded_len(alloc)? == size
+            && sink.len() == 4 * text.len()
+            && sink.chunks(text.len().max(1)).all(|part| part == text)
+            && whole.as_slice() == text
+            && shared.as_slice() == text
+            && delimited.get(1..) == Some(text),
+    )
+}
+
+// The calls that ask for the size condition, once it was tested.
+fn asking_calls<M: Message>(alloc: Global, message: &M, text: &[u8]) -> Result<bool, Stop> {
+    message.try_encoded_len(alloc)?;
+    let mut cache = SizeCache::new(alloc);
+    let mut sink = Vec::new(alloc);
+    message.encode(alloc, &mut sink)?;
+    message.encode_with_cache(&mut cache, &mut sink)?;
+    let whole = message.encode_to_vec(alloc)?;
+    let shared = message.encode_to_bytes(alloc)?;
+    let mut delimited = Vec::new(alloc);
+    message.encode_length_delimited(alloc, &mut delimited)?;
+    Ok(
+        message.encoded_len(alloc)? as usize == text.len()
+            && sink.len() == 2 * text.len()
+            && sink.chunks(text.len().max(1)).all(|part| part == text)
+            && whole.as_slice() == text
+            && shared.as_slice() == text
+            && delimited.get(1..) == Some(text),
+    )
+}
+
+// The two passes by hand.
+fn two_passes<M: Message>(alloc: Global, message: &M, text: &[u8]) -> Result<bool, Stop> {
+    laws::sizes_fit();
+    message.try_encoded_len(alloc)?;
+    let mut cache = SizeCache::new(alloc);
+    let mut sink = Vec::new(alloc);
+    let size = message.compute_size(&mut cache)?;
+    message.write_to(&mut cache, &mut sink)?;
+    Ok(size as usize == text.len() && sink.as_slice() == text)
+}
+
+fn all_calls<M: Message>(alloc: Global, message: &M, text: &[u8]) -> Result<bool, Stop> {
+    Ok(
+        trying_calls(alloc, message, text)?
+            && asking_calls(alloc, message, text)?
+            && two_passes(alloc, message, text)?,
+    )
+}
+
+fn of_person(alloc: Global) -> Result<bool, Stop> {
+    all_calls(alloc, &hi(alloc)?, HI)
+}
+
+fn of_repeat(alloc: Global) -> Result<bool, Stop> {
+    let message = Repeat {
+        times: 1,
+        extra: true,
+    };
+    all_calls(alloc, &message, b"\x08\x00\x10\x80\x01")
+}
+
+fn rows(alloc: Global) -> [Found; 2] {
+    [found_in(of_person(alloc)), found_in(of_repeat(alloc))]
+}
+
+// With a refused allocation a row may find no memory, and never anything else.
+#[test]
+fn calls_answer_or_lack_memory(rt: HostRuntime) {
+    assert!(rt; rows(rt.alloc()).iter().all(|found| *found != Found::Other));
+}
+
+#[test]
+fn ample_memory_answers_each_call(rt: HostRuntime) {
+    assert!(rt; rows(rt.alloc()).iter().all(|found| *found == Found::Own));
+}
