@@ -3,10 +3,10 @@ use Rattle.std.proofs.Common.{◌≡◌, ℕ, ◌≤◌, List, ◌++◌, length,
 use Rattle.std.proofs.Common.{◌∙◌, append_assoc, arith}
 use Rattle.std.proofs.lemmas.Result.{on_ok_weaker}
 use Rattle.wire_base.specs.declared.error.EncodeError.{EncodeError}
-use Rattle.wire_base.specs.Laws.{TwoParts}
+use Rattle.wire_base.specs.WriteLaws.{TwoParts}
 use Rattle.wire_base.specs.Sink.{KeepsFront, WriteAnswers}
 use Rattle.wire_base.specs.Varint.{shortest_varint}
-use Rattle.wire_text.specs.Delimited.{delimited_text}
+use Rattle.wire_base.specs.Delimited.{delimited_text}
 use Rattle.wire_codec.specs.Encoding.{TriesToWrite}
 use Rattle.wire_codec.specs.Writes.{Writes}
 

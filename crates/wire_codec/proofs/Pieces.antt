@@ -3,7 +3,7 @@ use Rattle.std.proofs.Common.{◌≡◌, ℕ, List, [], ◌++◌, Option, Result
 use Rattle.std.proofs.Common.{◌∙◌, append_assoc}
 use Rattle.std.proofs.lemmas.List.{append-nil}
 use Rattle.wire_base.specs.declared.error.EncodeError.{EncodeError}
-use Rattle.wire_base.specs.Laws.{TwoParts}
+use Rattle.wire_base.specs.WriteLaws.{TwoParts}
 use Rattle.wire_codec.specs.Laws.{PieceByPiece}
 use Rattle.wire_codec.specs.Writes.{Writes, IsWrittenTo}
 use Rattle.wire_codec.proofs.Delimiting.{first_refused, second_done}

@@ -11,4 +11,4 @@ pub use Rattle.wire_base.specs.Text.{payload_text, record_text, text_of}
 unfoldable pub use Rattle.wire_base.specs.Varint.{shortest_varint}
 pub use Rattle.wire_scalar.specs.ValueMap.{ValueMap, int32, int64, uint32, uint64, sint32, sint64}
 pub use Rattle.wire_scalar.specs.ValueMap.{bool, fixed32, fixed64, sfixed32, sfixed64}
-pub use Rattle.wire_text.specs.Delimited.{delimited_text}
+pub use Rattle.wire_base.specs.Delimited.{delimited_text}

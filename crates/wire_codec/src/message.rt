@@ -6,7 +6,7 @@ ghost use Rattle.wire_codec.specs.Records.{Records, text, size};
 ghost use Rattle.wire_codec.specs.Sizes.{cut, cut_sizes, sizes};
 ghost use Rattle.wire_codec.specs.Tape.{NextAre, recorded, advanced};
 ghost use Rattle.wire_codec.specs.Writes.{Writes};
-ghost use Rattle.wire_text.specs.Delimited.{delimited_text};
+ghost use Rattle.wire_base.specs.Delimited.{delimited_text};
 
 use crate::size::checked_encode_size;
 use crate::size_cache::SizeCache;
