@@ -1,5 +1,5 @@
 -- What decoding of unknown fields tells, step by step.
-use Rattle.std.proofs.Common.{◌≡◌, ◌<◌, ◌≤◌, ◌⊎◌, inl, inr, ℕ, List, [], length, take, drop, Result, Ok, Err, refl, sym, ap, ◌∙◌, ⊎_elim}
+use Rattle.std.proofs.Common.{◌≡◌, ◌<◌, ◌≤◌, ◌⊎◌, inl, inr, ℕ, List, [], length, take, drop, Result, Ok, Err, refl, sym, ap, subst, ◌∙◌, ⊎_elim}
 use Rattle.std.specs.Prelude.{IfOk, IfErr, MatchResult}
 use Rattle.wire_base.specs.declared.error.DecodeError.{DecodeError}
 use Rattle.wire_base.specs.declared.error.DecodeError.TheVariants.{OutOfMemory}
@@ -17,21 +17,21 @@ use Rattle.wire_base.specs.Tag.{IsTagSpelling}
 use Rattle.wire_base.specs.Taken.{TakesFields, TakesPayload}
 use Rattle.wire_base.specs.Varint.{IsSpelling}
 use Rattle.wire_base.proofs.DelimitedLaws.{delimited_at}
-use Rattle.wire_base.proofs.FieldLaws.{one_spelled_lemma}
+use Rattle.wire_base.proofs.FieldLaws.{one_spelled_lemma, none_takes_nothing}
 use Rattle.wire_base.proofs.FaultLaws.{no_list_beside_fault_lemma}
-use Rattle.wire_base.proofs.JoinedLaws.{Reads-push}
-use Rattle.wire_base.proofs.Takes.{whole_input_lemma}
+use Rattle.wire_base.proofs.LimitsLaws.{left_after-nothing}
+use Rattle.wire_base.proofs.Takes.{takes_field, whole_input_lemma}
 
 -- ---- one payload
 
 -- memory for a payload that is there
-pub no_memory_for_bytes : (l : Limits) (n len : ℕ) (old mid : List ℕ)
+pub no_memory_for_bytes : (l : Limits) (n len : ℕ) (old mid : List ℕ) → Fits one_field l
     → Reads old (IsSpelling len) mid → len ≤ length mid
     → PayloadRefusal l n types.LengthDelimited old OutOfMemory
-no_memory_for_bytes l n len old mid h there =
+no_memory_for_bytes l n len old mid slot h there =
     inr (
       refl,
-      for_bytes (take len mid) (drop len mid)
+      for_bytes (take len mid) (drop len mid) slot
           (delimited_at len old mid (drop len mid) h there refl),
     )
 
@@ -42,9 +42,26 @@ pub refused_in_group : (l left : Limits) (n k : ℕ) (old : List ℕ) (e : Decod
 refused_in_group l left n k old e slot level is same (inl fault) =
     inl (in_group slot level (rw (is, same) at fault))
 refused_in_group l left n k old e slot level is same (inr memory) =
-    inr (memory.0, memory_in_group memory.1)
+    inr (memory.0, memory_in_group slot level (rw is at memory.1))
 
 -- ---- one record of a list
+
+-- one record more is not none
+push_not_none : (gs : Fields) (n : ℕ) (p : Payload) → push gs n p ≡ none → ⊥
+push_not_none none n p e = cc
+push_not_none (field m q gs) n p e = cc
+
+-- memory that a record wants behind others is wanted in their list
+wanted_behind : (l : Limits) (fs : Fields) (old rest : List ℕ) (n : ℕ) (w : WireType)
+    (behind : List ℕ) → TakesFields (charge fs) l fs old rest
+    → Reads rest (IsTagSpelling n w) behind
+    → PayloadWantsMemory (left_after l (charge fs)) w behind → FieldsWantMemory l old
+wanted_behind l none old rest n w behind h tag memory =
+    let same = none_takes_nothing old rest h.read in
+    for_payload n w behind (subst (λ t. Reads t (IsTagSpelling n w) behind) (sym same) tag)
+    (subst (λ m. PayloadWantsMemory m w behind) (left_after-nothing l) memory)
+wanted_behind l (field m q fs) old rest n w behind h tag memory =
+    for_field (field m q fs) rest (λ e. cc) h
 
 module _ (l : Limits) (ending : Ending) (fs : Fields) (old rest : List ℕ)
     (h : TakesFields (charge fs) l fs old rest) where
@@ -61,22 +78,19 @@ module _ (l : Limits) (ending : Ending) (fs : Fields) (old rest : List ℕ)
   refused_payload left n w behind e goes tag is left_is (inl fault) =
       inl (past fs rest h goes (bad_payload n w behind tag is (rw left_is at fault)))
   refused_payload left n w behind e goes tag is left_is (inr memory) =
-      inr (memory.0, for_payload fs rest n w behind h.read tag memory.1)
+      inr (memory.0, wanted_behind l fs old rest n w behind h tag (rw left_is at memory.1))
 
   -- or no memory to keep it
   pub refused_push : (left : Limits) (n : ℕ) (w : WireType) (p : Payload) (behind new : List ℕ)
-      → Reads rest (IsTagSpelling n w) behind
-      → TakesPayload (payload_charge p) left n w p behind new → ListRefusal l ending old OutOfMemory
-  refused_push left n w p behind new tag payload =
+      → Reads rest (IsTagSpelling n w) behind → left ≡ left_after l (charge fs)
+      → TakesPayload (payload_charge p) left n w p behind new
+      → ListRefusal l ending old OutOfMemory
+  refused_push left n w p behind new tag left_is payload =
       inr (
         refl,
-        for_field (push fs n p) new (some fs)
-            (Reads-push fs n w p old rest behind new h.read tag payload.read),
+        for_field (push fs n p) new (push_not_none fs n p)
+            (takes_field l fs n w p old rest behind new h tag (rw left_is at payload)),
       )
-    where
-      some : (gs : Fields) → push gs n p ≡ none → ⊥
-      some none e = cc
-      some (field m q gs) e = cc
 
 -- ---- the whole input
 

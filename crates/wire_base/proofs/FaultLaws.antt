@@ -97,7 +97,8 @@ end_beside_fault l (by_tag n) old new e (RecordFault.no_tag (bad_tag fault)) goe
 end_beside_fault l (by_tag n) old new e
     (RecordFault.no_tag (other_end k behind tag other)) goes ends = other
     (same_tag old behind new k n types.EndGroup types.EndGroup tag ends).number
-end_beside_fault l (by_tag n) old new e (RecordFault.bad_payload m w behind tag is fault) goes ends =
+end_beside_fault l (by_tag n) old new e
+    (RecordFault.bad_payload m w behind tag is fault) goes ends =
     is (same_tag old behind new m n w types.EndGroup tag ends).kind
 
 -- of a list that fits, the record behind some fits what these leave
@@ -182,7 +183,8 @@ mutual
       → (n : ℕ) (p : Payload) (more : Fields) (new : List ℕ)
       → Reads old (Spells (field n p more)) new → Fits (payload_charge p) l → ⊥
   record_beside_fault l ending old e
-      (RecordFault.no_tag fault) n p more new h fits = record_beside_tag_fault ending old e fault n p more new h
+      (RecordFault.no_tag fault) n p more new h fits =
+          record_beside_tag_fault ending old e fault n p more new h
   record_beside_fault l ending old e
       (RecordFault.bad_payload m w behind tag is fault) n p more new h fits =
       let head = head_of n p more old new h in

@@ -48,7 +48,8 @@ IsNoMore-less None a = tt
 IsNoMore-less (Some left) a = omega arith
 
 IsNoMore-again : (a b c : Option ℕ) → IsNoMore b a → IsNoMore c b → IsNoMore c a
-IsNoMore-again None b c h k = tt
+IsNoMore-again None None c h k = k
+IsNoMore-again None (Some b) c h k = absurd h
 IsNoMore-again (Some a) None c h k = absurd h
 IsNoMore-again (Some a) (Some b) None h k = k
 IsNoMore-again (Some a) (Some b) (Some c) h k = omega arith

@@ -10,7 +10,7 @@ pub data Ending : Type 0 where
   by_limit : ℕ → Ending
   by_tag : ℕ → Ending
 
--- with the input: where no byte is left
+-- at the end of the input, where no byte is left
 abbrev pub by_input : Ending
 by_input = by_limit 0
 

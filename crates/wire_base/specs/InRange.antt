@@ -1,4 +1,4 @@
--- Records that have a text: each number fits where it is written, inside groups too.
+-- Records whose numbers fit where they are written, inside groups too.
 use Rattle.std.specs.Prelude.{ℕ, ◌^◌, ◌<◌, length}
 use Rattle.wire_base.specs.Field.{Payload, varint, fixed64, fixed32, bytes, group, Fields, none, field}
 use Rattle.wire_base.specs.FieldNumber.{IsFieldNumber}

@@ -9,6 +9,7 @@ pub mod FieldsCode
 pub mod FieldsEq
 pub mod FieldsEqLaws
 pub mod Filtered
+pub mod Fixed
 pub mod InRange
 pub mod Limits
 pub mod LimitsLaws

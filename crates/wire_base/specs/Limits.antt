@@ -1,8 +1,6 @@
 -- What may still be taken, and what is taken: levels of nesting, and counts. Levels are a greatest
--- value and
--- are given back; counts are sums and are not. All that is known of budgets stands here, so that
--- one more
--- is an edit of this module and of its laws.
+-- value and are given back; counts are sums and are not. What is said of budgets stands here: one
+-- more is an edit of this module and of its laws, and of what takes from it.
 use Rattle.std.specs.Prelude.{ℕ, ◌+◌, ◌-◌, ◌≤◌, max, Option, Some, None}
 
 -- ---- counts
@@ -27,9 +25,10 @@ abbrev pub less : Option ℕ → ℕ → Option ℕ
 less None taken = None
 less (Some left) taken = Some (left - taken)
 
--- a budget is not greater than another; no limit is greater than each
+-- a budget is not greater than it was, and none stays none
 abbrev pub IsNoMore : Option ℕ → Option ℕ → Type 0
-IsNoMore new None = Unit {0}
+IsNoMore None None = Unit {0}
+IsNoMore (Some new) None = ⊥
 IsNoMore None (Some old) = ⊥
 IsNoMore (Some new) (Some old) = new ≤ old
 

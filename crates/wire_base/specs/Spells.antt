@@ -1,10 +1,11 @@
 -- The grammar: which texts spell a payload, and which spell records one after another.
-use Rattle.std.specs.Prelude.{◌≡◌, ℕ, List, [], length}
-use Rattle.std.specs.Int.{w32, w64, from_le_bytes}
+use Rattle.std.specs.Prelude.{◌≡◌, ℕ, List, []}
+use Rattle.std.specs.Int.{w32, w64}
 use Rattle.wire_base.specs.declared.tag.WireType.{WireType}
 use Rattle.wire_base.specs.declared.tag.WireType.TheVariants.{EndGroup}
 use Rattle.wire_base.specs.Delimited.{IsDelimited}
 use Rattle.wire_base.specs.Field.{Payload, varint, fixed64, fixed32, bytes, group, Fields, none, field, type_of}
+use Rattle.wire_base.specs.Fixed.{IsFixed}
 use Rattle.wire_base.specs.Read.{Reads}
 use Rattle.wire_base.specs.Tag.{IsTagSpelling}
 use Rattle.wire_base.specs.Varint.{IsSpelling}
@@ -13,8 +14,8 @@ abbrev mutual
   -- the text is a payload of a record with field number n
   pub SpellsPayload : ℕ → Payload → List ℕ → Type 0
   SpellsPayload n (varint v) text = IsSpelling v text
-  SpellsPayload n (fixed64 v) text = (length text ≡ 8) × (from_le_bytes w64 text ≡ v)
-  SpellsPayload n (fixed32 v) text = (length text ≡ 4) × (from_le_bytes w32 text ≡ v)
+  SpellsPayload n (fixed64 v) text = IsFixed w64 v text
+  SpellsPayload n (fixed32 v) text = IsFixed w32 v text
   SpellsPayload n (bytes b) text = IsDelimited b text
   -- records, and the end tag of the same field number
   SpellsPayload n (group fs) text =

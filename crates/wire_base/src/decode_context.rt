@@ -12,8 +12,8 @@ pub const RECURSION_LIMIT: u32 = 100;
 /// How many unknown fields are kept, where a caller names no limit.
 pub const DEFAULT_UNKNOWN_FIELD_LIMIT: usize = 1_000_000;
 
-/// The limits that are left while bytes are decoded. It is handed on by `&mut`, so that what is taken
-/// inside a message is gone for what follows it. A contract sees the limits.
+/// The limits that are left while bytes are decoded. It is handed on by `&mut`, so that counts that
+/// are taken inside a message are gone for what follows it. A contract sees the limits.
 #[derive(Debug, Drop)]
 pub struct DecodeContext {
     depth: u32,

@@ -51,7 +51,8 @@ pub fn one_delimited()
     ensures { OneDelimited }
 {}
 
-/// Where the grammar names a fault, the bytes begin with no length-delimited payload that is short enough.
+/// Where the grammar names a fault, the bytes begin with no length-delimited payload that is short
+/// enough.
 pub fn no_delimited_beside_fault()
     ensures { NoDelimitedBesideFault }
 {}
@@ -170,8 +171,8 @@ pub fn no_text_is_shorter()
     ensures { NoTextIsShorter }
 {}
 
-/// The shortest text of records whose numbers fit spells these records and no others: what is decoded
-/// from it is what was written.
+/// The shortest text of records whose numbers fit spells these records and no others: what is
+/// decoded from it is what was written.
 pub fn text_spells_one_list()
     ensures { TextSpellsOneList }
 {}

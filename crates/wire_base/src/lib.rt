@@ -1,5 +1,5 @@
-//! The Protocol Buffers wire format: varints, tags, records and unknown fields, over any `bytes::Buf`
-//! and any growing sink.
+//! The Protocol Buffers wire format: varints, tags, records and unknown fields, over any
+//! `bytes::Buf` and any growing sink.
 #![tactic(auto)]
 
 mod decode_context;

@@ -18,7 +18,8 @@ pub use buf::RopeBuf;
 pub const DEFAULT_MIN_SEGMENT: usize = 4096;
 
 /// A sink that copies no long shared run: it has finished segments, none of them empty, and behind
-/// them a tail that the short puts go to. Its bytes are these joined in order, at most `usize::MAX`.
+/// them a tail that the short puts go to. Its bytes are these joined in order, at most
+/// `usize::MAX`.
 #[derive(Drop)]
 pub struct Rope {
     finished: Vec<Bytes>,
@@ -87,8 +88,8 @@ impl Rope {
         self.finished.len() + usize::from(!self.tail.is_empty())
     }
 
-    /// The segments in order, a tail of some bytes the last. None is copied. Where memory is refused
-    /// the rope comes back as it was.
+    /// The segments in order, a tail of some bytes the last. None is copied. Where memory is
+    /// refused the rope comes back as it was.
     pub fn into_segments(mut self) -> Result<Vec<Bytes>, Rope>
         ensures ok { IfOk result (λ segments. segments.items ≡ all_segments self) }
         ensures filled { IfOk result (λ segments. AllFilled segments.items) }
@@ -123,7 +124,8 @@ impl Rope {
 
 // Makes a tail of some bytes the last of the finished segments. A refusal changes nothing.
 fn close_tail(finished: &mut Vec<Bytes>, tail: &mut BytesMut) -> Result<(), AllocError>
-    ensures ok { OnOk result ((finished.new.items ≡ finished.old.items ++ tail_segments tail.old.items)
+    ensures ok { OnOk result
+        ((finished.new.items ≡ finished.old.items ++ tail_segments tail.old.items)
         × (tail.new.items ≡ [])) }
     ensures err { OnErr result ((finished.new.items ≡ finished.old.items)
         × (tail.new.items ≡ tail.old.items)) }

@@ -130,8 +130,8 @@ impl Tag {
         })
     }
 
-    /// Reads the tag of the next record in the body of a group of this number: none where its end tag
-    /// stands, which is taken.
+    /// Reads the tag of the next record in the body of a group of this number: none where its end
+    /// tag stands, which is taken.
     pub fn decode_in_group<B: Buf>(buf: &mut B, number: u32) -> Result<Option<Tag>, DecodeError>
         ensures record { IfOk result (λ next. IfSome next (λ tag. Reads (B.unread buf.old)
             (IsTagSpelling (tag_number tag) (tag_type tag)) (B.unread buf.new))) }

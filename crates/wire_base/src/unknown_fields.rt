@@ -1,4 +1,4 @@
-//! Records whose field numbers a message type does not know, kept as they came.
+//! Records whose field numbers a message type does not know, kept in their order.
 ghost use Rattle.std.specs.Prelude.{◌≡◌, ◌↔◌, IsTrue, OnOk, OnErr, IfErr};
 ghost use Rattle.std.specs.Slice.Iter.{iter_rest};
 ghost use Rattle.wire_base.specs.Field.{none, push, count_top};
@@ -97,13 +97,14 @@ impl UnknownFields {
         self.fields.len()
     }
 
-    /// Adds a record at the end. Where there is no memory the record comes back, and nothing changes.
+    /// Adds a record at the end. Where there is no memory the record comes back, and nothing
+    /// changes.
     pub fn push(&mut self, field: UnknownField) -> Result<(), UnknownField>
         ensures ok { OnOk result (self.new ≡ push self.old field.number (payload_of field.value)) }
         ensures err { OnErr result (self.new ≡ self.old) }
         ensures returned { IfErr result (λ given. given ≡ field) }
     {
-        field.value.numbers_fit();
+        field.value.widths_fit();
         match self.fields.push(field) {
             Ok(()) => Ok(()),
             Err(refused) => Err(refused.value),
@@ -117,9 +118,9 @@ impl UnknownFields {
         self.fields.iter()
     }
 
-    /// The numbers and lengths of payloads fit their widths, since the types of Rust hold no others: a
-    /// theorem, which does nothing.
-    pub fn numbers_fit(&self)
+    /// The numbers and lengths of payloads fit their widths, since the types of Rust hold no
+    /// others: a theorem, which does nothing.
+    pub fn widths_fit(&self)
         ensures { AreFitting self.now }
     {
         let _fields = &self.fields;
@@ -146,8 +147,8 @@ impl UnknownFieldData {
     ghost use Rattle.wire_base.specs.InRange.{IsPayloadFitting};
     ghost use Rattle.wire_base.specs.UnknownFields.{payload_of};
 
-    // As `numbers_fit` of `UnknownFields`, for one payload.
-    fn numbers_fit(&self)
+    // As `widths_fit` of `UnknownFields`, for one payload.
+    fn widths_fit(&self)
         ensures { IsPayloadFitting (payload_of self.now) }
     {
         match self {
@@ -160,7 +161,7 @@ impl UnknownFieldData {
             UnknownFieldData::LengthDelimited(bytes) => {
                 let _len = bytes.len();
             }
-            UnknownFieldData::Group(fields) => fields.numbers_fit(),
+            UnknownFieldData::Group(fields) => fields.widths_fit(),
         }
     }
 }

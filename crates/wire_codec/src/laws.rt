@@ -1,9 +1,13 @@
-//! Laws of the definitions that the contracts cite: each function is a theorem, and does nothing.
+//! Laws of the definitions that the contracts cite: each function is a theorem, and does nothing. Those
+//! of the crates below stand in modules of their own.
 ghost use Rattle.wire_codec.specs.Laws.{NoSizeIsAboveTheWhole, SmallSizesAreUncut, MeasuredAreNext};
 ghost use Rattle.wire_codec.specs.Laws.{JoinedAddsUp, FieldsArePlain};
 ghost use Rattle.wire_codec.specs.Laws.{FlatKeepsTheTape, PieceByPiece};
 
+pub use wire_base::laws as format;
 pub use wire_base::laws::{put_is_a_write, two_parts};
+pub use wire_scalar::laws as scalar;
+pub use wire_text::laws as text;
 
 /// No embedded message is longer than the records that it stands in. So no size is cut where the
 /// whole is below `2^32`, and what was measured with an empty cache can be written with it.

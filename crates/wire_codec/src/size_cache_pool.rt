@@ -68,6 +68,8 @@ impl SizeCachePool {
     pub fn acquire(&mut self) -> SizeCache
         ensures cache { result ≡ blank }
         ensures limits { KeepsLimits self.old self.new }
+        ensures taken { (self.new ≡ self.old) ⊎ ((capacity : ℕ)
+            × (self.old.capacities ≡ self.new.capacities ++ capacity ∷ [])) }
     {
         match self.buffers.pop() {
             Some(buffer) => SizeCache::with_spill_buffer(buffer),

@@ -1,14 +1,14 @@
 -- What a run takes, what it refuses, and what it writes.
 use Rattle.std.specs.Prelude.{◌≡◌, ℕ, List, [], ◌++◌, Option}
 use Rattle.std.specs.Io.KnownBytes.{Appends}
-use Rattle.wire_base.specs.declared.error.DecodeError.{DecodeError}
-use Rattle.wire_base.specs.Charge.{charge}
-use Rattle.wire_base.specs.Ending.{by_input}
-use Rattle.wire_base.specs.Fault.{ListFault}
-use Rattle.wire_base.specs.Field.{Fields}
-use Rattle.wire_base.specs.Limits.{Limits, counted}
-use Rattle.wire_base.specs.Taken.{TakesFields}
-use Rattle.wire_base.specs.Text.{text_of}
+use Rattle.wire_codec.specs.DecodeError.{DecodeError}
+use Rattle.wire_codec.specs.Charge.{charge}
+use Rattle.wire_codec.specs.Ending.{by_input}
+use Rattle.wire_codec.specs.Fault.{ListFault}
+use Rattle.wire_codec.specs.Field.{Fields}
+use Rattle.wire_codec.specs.Limits.{Limits, counted}
+use Rattle.wire_codec.specs.Taken.{TakesFields}
+use Rattle.wire_codec.specs.Text.{text_of}
 
 -- what a run takes at most
 abbrev pub run_limits : Limits

@@ -6,7 +6,8 @@ ghost use Rattle.std.specs.Io.KnownBytes.{Keeps, ReadConsumes, WriteAppends};
 use std::io;
 use std::io::{Read, Write};
 
-/// A reader or a writer, and how many of its calls failed. The count stays at `u64::MAX` once there.
+/// A reader or a writer, and how many of its calls failed. The count stays at `u64::MAX` once
+/// there.
 #[derive(Drop)]
 pub struct Counted<D> {
     device: D,
@@ -48,7 +49,8 @@ impl<R: Read> Counted<R> {
     /// One read of the device.
     pub fn read(&mut self, buf: &mut [u8]) -> io::Result<usize>
         ensures bound { ReadsAtMost result buf.new }
-        ensures bytes { ReadConsumes (R.remaining (device_of self.old)) (R.remaining (device_of self.new)) result buf.new }
+        ensures bytes { ReadConsumes (R.remaining (device_of self.old))
+            (R.remaining (device_of self.new)) result buf.new }
         ensures failures { failures_of self.new ≡ after_call result (failures_of self.old) }
     {
         let result = self.device.read(buf);
@@ -65,7 +67,8 @@ impl<W: Write> Counted<W> {
     /// One write to the device.
     pub fn write(&mut self, buf: &[u8]) -> io::Result<usize>
         ensures bound { WritesAtMost result buf.now }
-        ensures bytes { WriteAppends (W.contents (device_of self.old)) (W.contents (device_of self.new)) result buf.now }
+        ensures bytes { WriteAppends (W.contents (device_of self.old))
+            (W.contents (device_of self.new)) result buf.now }
         ensures failures { failures_of self.new ≡ after_write result (failures_of self.old) }
     {
         let result = self.device.write(buf);

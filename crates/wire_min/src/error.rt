@@ -3,7 +3,7 @@ ghost use Rattle.std.specs.Prelude.{◌≡◌, ◌≢◌, ◌⊎◌};
 
 use std::alloc::AllocError;
 use thiserror::Error;
-use wire_base::DecodeError;
+use wire_codec::DecodeError;
 
 /// Why a run fails. `{}` shows the line for standard error.
 #[derive(Debug, PartialEq, Drop, Error)]
@@ -51,7 +51,7 @@ impl From<AllocError> for RunError {
 
 /// Want of memory is no fault of the input.
 impl From<DecodeError> for RunError {
-    ghost use Rattle.wire_base.specs.declared.error.DecodeError.TheVariants as decode;
+    ghost use Rattle.wire_codec.specs.DecodeError.TheVariants as decode;
     ghost use Rattle.wire_min.specs.declared.error.RunError.TheVariants.{Refused, OutOfMemory};
 
     ghost from_gives = { λ error e. ((error ≡ decode.OutOfMemory) × (e ≡ OutOfMemory))

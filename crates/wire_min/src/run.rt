@@ -1,7 +1,7 @@
 //! One run, from all of the input to the text.
 ghost use Rattle.std.specs.Prelude.{◌≡◌, ◌≢◌, ◌+◌, ◌<◌, ◌⊎◌, Ok, Err, IfOk, IfErr, OnOk, OnErr, IfSome};
 ghost use Rattle.std.specs.Io.KnownBytes.{Appends, Keeps};
-ghost use Rattle.wire_base.specs.declared.error.DecodeError.{DecodeError};
+ghost use Rattle.wire_codec.specs.DecodeError.{DecodeError};
 ghost use Rattle.wire_min.specs.Counted.{device_of, failures_of};
 ghost use Rattle.wire_min.specs.Outcome.{failed_reads, failed_writes};
 ghost use Rattle.wire_min.specs.Run.{AppendsFront, IsRefused, IsShortest, WritesFront, WritesShortest};
@@ -10,7 +10,7 @@ use crate::counted::Counted;
 use crate::error::RunError;
 use std::alloc::Global;
 use std::io::{Read, Write};
-use wire_base::UnknownFields;
+use wire_codec::UnknownFields;
 
 const CHUNK: usize = 8 * 1024;
 
@@ -26,18 +26,23 @@ pub fn run<R: Read, W: Write>(
     requires writer_countable { failures_of writer.old < u64.MAX }
 
     ensures ok { OnOk result (IfSome (R.remaining (device_of reader.old)) (λ input.
-        WritesShortest input (W.contents (device_of writer.old)) (W.contents (device_of writer.new)))) }
+        WritesShortest input (W.contents (device_of writer.old))
+            (W.contents (device_of writer.new)))) }
     ensures refused { (e : DecodeError) → result ≡ Err (RunError.Refused e)
         → IfSome (R.remaining (device_of reader.old)) (λ input. IsRefused input e) }
-    ensures front { result ≡ Err RunError.WriteFailed → IfSome (R.remaining (device_of reader.old)) (λ input.
-        WritesFront input (W.contents (device_of writer.old)) (W.contents (device_of writer.new))) }
+    ensures front { result ≡ Err RunError.WriteFailed
+        → IfSome (R.remaining (device_of reader.old)) (λ input.
+            WritesFront input (W.contents (device_of writer.old))
+                (W.contents (device_of writer.new))) }
     ensures unwritten { OnErr result (result ≢ Err RunError.WriteFailed
         → Keeps (W.contents (device_of writer.old)) (W.contents (device_of writer.new))) }
 
     // `ReadFailed` comes with one failed read, and `WriteFailed` with one failed write or flush.
     // Otherwise no call failed.
-    ensures reader_failures { failures_of reader.new ≡ failures_of reader.old + failed_reads result }
-    ensures writer_failures { failures_of writer.new ≡ failures_of writer.old + failed_writes result }
+    ensures reader_failures { failures_of reader.new
+        ≡ failures_of reader.old + failed_reads result }
+    ensures writer_failures { failures_of writer.new
+        ≡ failures_of writer.old + failed_writes result }
 {
     let input = read_to_end(alloc, reader)?;
     let output = shortest_text(alloc, &input)?;
@@ -47,7 +52,8 @@ pub fn run<R: Read, W: Write>(
 // All that the reader has left.
 fn read_to_end<R: Read>(alloc: Global, reader: &mut Counted<R>) -> Result<Vec<u8>, RunError>
     requires { failures_of reader.old < u64.MAX }
-    ensures ok { IfOk result (λ bytes. IfSome (R.remaining (device_of reader.old)) (λ input. bytes.items ≡ input)) }
+    ensures ok { IfOk result (λ bytes. IfSome (R.remaining (device_of reader.old))
+        (λ input. bytes.items ≡ input)) }
     ensures cause { IfErr result (λ e. (e ≡ RunError.OutOfMemory) ⊎ (e ≡ RunError.ReadFailed)) }
     ensures failures { failures_of reader.new ≡ failures_of reader.old + failed_reads result }
 {
@@ -67,7 +73,8 @@ fn read_to_end<R: Read>(alloc: Global, reader: &mut Counted<R>) -> Result<Vec<u8
 // The shortest text of what the input spells.
 fn shortest_text(alloc: Global, input: &[u8]) -> Result<Vec<u8>, RunError>
     ensures ok { IfOk result (λ output. IsShortest input.now output.items) }
-    ensures refused { (e : DecodeError) → result ≡ Err (RunError.Refused e) → IsRefused input.now e }
+    ensures refused { (e : DecodeError) → result ≡ Err (RunError.Refused e)
+        → IsRefused input.now e }
     ensures failures { (failed_reads result ≡ 0) × (failed_writes result ≡ 0) }
 {
     let fields = UnknownFields::decode_from_slice(alloc, input)?;
@@ -80,8 +87,10 @@ fn shortest_text(alloc: Global, input: &[u8]) -> Result<Vec<u8>, RunError>
 // Writes all of the bytes, and flushes.
 fn send<W: Write>(writer: &mut Counted<W>, bytes: &[u8]) -> Result<(), RunError>
     requires { failures_of writer.old < u64.MAX }
-    ensures ok { OnOk result (Appends (W.contents (device_of writer.old)) (W.contents (device_of writer.new)) bytes.now) }
-    ensures err { OnErr result (AppendsFront (W.contents (device_of writer.old)) (W.contents (device_of writer.new)) bytes.now) }
+    ensures ok { OnOk result (Appends (W.contents (device_of writer.old))
+        (W.contents (device_of writer.new)) bytes.now) }
+    ensures err { OnErr result (AppendsFront (W.contents (device_of writer.old))
+        (W.contents (device_of writer.new)) bytes.now) }
     ensures cause { IfErr result (λ e. e ≡ RunError.WriteFailed) }
     ensures failures { failures_of writer.new ≡ failures_of writer.old + failed_writes result }
 {
@@ -92,8 +101,10 @@ fn send<W: Write>(writer: &mut Counted<W>, bytes: &[u8]) -> Result<(), RunError>
 // Writes all of the bytes, in as many writes as it takes.
 fn write_all<W: Write>(writer: &mut Counted<W>, bytes: &[u8]) -> Result<(), RunError>
     requires { failures_of writer.old < u64.MAX }
-    ensures ok { OnOk result (Appends (W.contents (device_of writer.old)) (W.contents (device_of writer.new)) bytes.now) }
-    ensures err { OnErr result (AppendsFront (W.contents (device_of writer.old)) (W.contents (device_of writer.new)) bytes.now) }
+    ensures ok { OnOk result (Appends (W.contents (device_of writer.old))
+        (W.contents (device_of writer.new)) bytes.now) }
+    ensures err { OnErr result (AppendsFront (W.contents (device_of writer.old))
+        (W.contents (device_of writer.new)) bytes.now) }
     ensures cause { IfErr result (λ e. e ≡ RunError.WriteFailed) }
     ensures failures { failures_of writer.new ≡ failures_of writer.old + failed_writes result }
 {

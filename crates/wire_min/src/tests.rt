@@ -11,7 +11,7 @@ use std::fmt::Display;
 use std::io;
 use std::io::ErrorKind;
 use std::process::ExitCode;
-use wire_base::DecodeError;
+use wire_codec::DecodeError;
 
 // What a row's check finds: the row's own answer, want of memory, or anything else.
 #[derive(Clone, Copy, Debug, PartialEq)]

@@ -4,7 +4,10 @@ use Rattle.std.proofs.Common.{length, get_or, drop, refl, sym, ap, ◌∙◌, ap
 use Rattle.std.proofs.Common.{arith, drop-cons, length-append}
 use Rattle.std.specs.Prelude.{ℤ, pos, negsuc, false, ◌==◌}
 use Rattle.std.proofs.lemmas.List.{append-nil, drop_all}
-use Rattle.wire_codec.specs.Grammar.{LengthDelimited, tag_text, shortest_varint, int32}
+use Rattle.wire_codec.specs.Tag.{tag_text}
+use Rattle.wire_codec.specs.ValueMap.{int32}
+use Rattle.wire_codec.specs.Varint.{shortest_varint}
+use Rattle.wire_codec.specs.WireType.TheVariants.{LengthDelimited}
 use Rattle.wire_codec.specs.Records.{text, size}
 use Rattle.wire_codec.specs.Sizes.{sizes}
 use Rattle.wire_samples.specs.FieldRecords.{int32_field, bytes_field, packed_int32}

@@ -2,7 +2,8 @@
 use Rattle.std.proofs.Common.{◌≡◌, ℕ, ◌^◌, ◌<◌, ◌≤◌, List, [], ◌++◌, length, refl, ap, ◌∙◌, arith}
 use Rattle.std.proofs.Common.{length-append}
 use Rattle.std.specs.Prelude.{ℤ}
-use Rattle.wire_codec.specs.Grammar.{Fields, text_of}
+use Rattle.wire_codec.specs.Field.{Fields}
+use Rattle.wire_codec.specs.Text.{text_of}
 use Rattle.wire_codec.specs.Laws.{JoinedAddsUp, FieldsArePlain}
 use Rattle.wire_codec.specs.Records.{Records, text, size, joined, of_fields}
 use Rattle.wire_codec.specs.Sizes.{sizes}

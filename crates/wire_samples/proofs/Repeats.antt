@@ -3,8 +3,11 @@ use Rattle.std.proofs.Common.{◌≡◌, ℕ, zero, suc, ◌+◌, ◌*◌, ◌-�
 use Rattle.std.proofs.Common.{Bool, true, false, List, [], ◌∷◌, ◌++◌, length, refl, sym, ap, ◌∙◌}
 use Rattle.std.proofs.Common.{append_assoc, arith}
 use Rattle.std.proofs.lemmas.List.{append-nil}
-use Rattle.wire_codec.specs.Grammar.{Payload, tag_text, shortest_varint, record_text}
-use Rattle.wire_codec.specs.Grammar.{Varint}
+use Rattle.wire_codec.specs.Field.{Payload}
+use Rattle.wire_codec.specs.Tag.{tag_text}
+use Rattle.wire_codec.specs.Text.{record_text}
+use Rattle.wire_codec.specs.Varint.{shortest_varint}
+use Rattle.wire_codec.specs.WireType.TheVariants.{Varint}
 use Rattle.wire_codec.specs.Records.{Records, field, varint, joined, text, size}
 use Rattle.wire_codec.specs.Sizes.{sizes, cut}
 use Rattle.wire_samples.specs.Repeat.{repeated, extra_record}

@@ -1,7 +1,10 @@
 -- The records of fields that are left out where they have their default value.
 use Rattle.std.specs.Prelude.{ℕ, ◌+◌, ◌-◌, ◌^◌, min, ℤ, pos, negsuc, zero, suc, List, [], ◌∷◌, ◌++◌}
 use Rattle.std.specs.Prelude.{length}
-use Rattle.wire_codec.specs.Grammar.{LengthDelimited, int32, tag_text, shortest_varint}
+use Rattle.wire_codec.specs.Tag.{tag_text}
+use Rattle.wire_codec.specs.ValueMap.{int32}
+use Rattle.wire_codec.specs.Varint.{shortest_varint}
+use Rattle.wire_codec.specs.WireType.TheVariants.{LengthDelimited}
 use Rattle.wire_codec.specs.Records.{Records, none, field, varint, bytes}
 
 -- a number, where it is not 0

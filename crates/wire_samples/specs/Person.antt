@@ -1,6 +1,6 @@
 -- A `Person` as contracts see it, and its records.
 use Rattle.std.specs.Prelude.{ℤ, pos, ℕ, List, [], string_bytes}
-use Rattle.wire_codec.specs.Grammar.{Fields}
+use Rattle.wire_codec.specs.Field.{Fields}
 use Rattle.wire_codec.specs.Records.{Records, joined, of_fields}
 use Rattle.wire_samples.specs.declared.person.Person.{Person}
 use Rattle.wire_samples.specs.FieldRecords.{int32_field, bytes_field, packed_int32_field}

@@ -1,6 +1,6 @@
 //! Fields that are left out where they have their default value.
 ghost use Rattle.std.specs.Prelude.{◌≡◌, ◌^◌, ◌<◌, length};
-ghost use Rattle.wire_codec.specs.Grammar.{IsFieldNumber};
+ghost use Rattle.wire_codec.specs.FieldNumber.{IsFieldNumber};
 ghost use Rattle.wire_codec.specs.Records.{text, size};
 ghost use Rattle.wire_codec.specs.Writes.{Writes};
 ghost use Rattle.wire_samples.specs.FieldRecords.{int32_field, bytes_field, packed_int32};

@@ -1,6 +1,6 @@
 //! A message with a field of each common kind.
 ghost use Rattle.std.specs.Prelude.{◌≡◌, length};
-ghost use Rattle.wire_codec.specs.Grammar.{text_of};
+ghost use Rattle.wire_codec.specs.Text.{text_of};
 ghost use Rattle.wire_samples.specs.FieldRecords.{in_64_bits};
 ghost use Rattle.wire_samples.specs.Person.{value_of};
 

@@ -8,7 +8,7 @@ use Rattle.std.specs.Int.{Width, byte_len}
 use Rattle.std.specs.Prelude.{count_by}
 use Rattle.wire_base.specs.Varint.{IsSpelling, IsEnded}
 use Rattle.wire_scalar.specs.Packed.{SpellsEach}
-use Rattle.wire_scalar.specs.Reading.{IsFixed}
+use Rattle.wire_base.specs.Fixed.{IsFixed}
 
 abbrev ends : List ℕ → ℕ
 ends bytes = count_by (λ byte. nat_lt byte 128) bytes

@@ -3,7 +3,8 @@ use Rattle.std.proofs.Common.{◌≡◌, ℕ, ◌^◌, ◌<◌, List, ◌++◌, 
 use Rattle.std.proofs.lemmas.Nat.{from_le_bytes-to_le_bytes_4, from_le_bytes-to_le_bytes_8}
 use Rattle.std.specs.Int.{w32, w64, to_le_bytes}
 use Rattle.std.specs.Prelude.{ℤ, pos, negsuc, FitsSigned}
-use Rattle.wire_scalar.specs.Reading.{IsFixed, ReadsValue}
+use Rattle.wire_base.specs.Fixed.{IsFixed}
+use Rattle.wire_scalar.specs.Reading.{ReadsValue}
 use Rattle.wire_scalar.specs.ValueMap.{ValueMap, wrapped}
 
 pub wrapped-below_32 : (v : ℤ) → FitsSigned w32 v → wrapped 32 v < 2 ^ 32

@@ -7,7 +7,8 @@ use Rattle.std.specs.Prelude.{map}
 use Rattle.wire_base.specs.declared.error.DecodeError.{DecodeError}
 use Rattle.wire_base.specs.Varint.{IsSpelling, VarintFault}
 use Rattle.wire_scalar.specs.Packed.{SpellsEach, Appends, AppendsFront, StopsAtFault}
-use Rattle.wire_scalar.specs.Reading.{IsFixed, ReadsValue}
+use Rattle.wire_base.specs.Fixed.{IsFixed}
+use Rattle.wire_scalar.specs.Reading.{ReadsValue}
 use Rattle.wire_scalar.specs.ValueMap.{ValueMap}
 
 -- a text of one number more at the end

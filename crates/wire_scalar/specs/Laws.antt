@@ -5,7 +5,8 @@ use Rattle.std.specs.Int.{Width, byte_len}
 use Rattle.wire_base.specs.declared.error.DecodeError.{DecodeError}
 use Rattle.wire_base.specs.Varint.{IsSpelling}
 use Rattle.wire_scalar.specs.Packed.{SpellsEach, BreaksOff}
-use Rattle.wire_scalar.specs.Reading.{IsFixed, ReadsValue}
+use Rattle.wire_base.specs.Fixed.{IsFixed}
+use Rattle.wire_scalar.specs.Reading.{ReadsValue}
 use Rattle.wire_scalar.specs.ValueMap.{ValueMap}
 
 -- what is read from the number that is written for a value is that value

@@ -1,12 +1,7 @@
 -- What stands on the wire for one value.
-use Rattle.std.specs.Prelude.{◌≡◌, ℕ, List, length}
-use Rattle.std.specs.Int.{Width, byte_len, from_le_bytes}
+use Rattle.std.specs.Prelude.{◌≡◌, ℕ, List}
 use Rattle.wire_base.specs.Read.{Reads}
 use Rattle.wire_scalar.specs.ValueMap.{ValueMap}
-
--- the text is x in so many bytes, the lowest first
-abbrev pub IsFixed : Width → ℕ → List ℕ → Type 0
-IsFixed width x text = (length text ≡ byte_len width) × (from_le_bytes width text ≡ x)
 
 -- a text of a number stands at the front of old, the value is what the map reads from it, and new
 -- is what follows

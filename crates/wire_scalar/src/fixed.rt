@@ -3,7 +3,8 @@ ghost use Rattle.std.specs.Prelude.{◌≡◌, ℕ, ◌++◌, ◌<◌, length, r
 ghost use Rattle.std.specs.Int.{Width, byte_len, w32, w64, to_le_bytes};
 ghost use Rattle.wire_base.specs.declared.error.DecodeError.TheVariants.{UnexpectedEof};
 ghost use Rattle.wire_base.specs.Sink.{Puts};
-ghost use Rattle.wire_scalar.specs.Reading.{IsFixed, ReadsValue};
+ghost use Rattle.wire_base.specs.Fixed.{IsFixed};
+ghost use Rattle.wire_scalar.specs.Reading.{ReadsValue};
 ghost use Rattle.wire_scalar.specs.ValueMap.{ValueMap, fixed32, fixed64, sfixed32, sfixed64};
 
 use bytes::Buf;

@@ -7,8 +7,9 @@ ghost use Rattle.wire_scalar.specs.Borrow.{BorrowsBody};
 
 use wire_base::{DecodeError, Tag, laws, skip_field_depth};
 
-/// The body of a group whose start tag was read, up to the end tag of the same number. The slice then
-/// begins behind that tag. Groups in the body nest at most so deep; the group itself is not counted.
+/// The body of a group whose start tag was read, up to the end tag of the same number. The slice
+/// then begins behind that tag. Groups in the body nest at most so deep; the group itself is not
+/// counted.
 pub fn borrow_group<'a>(
     buf: &mut &'a [u8],
     number: u32,

@@ -3,7 +3,7 @@ ghost use Rattle.std.specs.Prelude.{◌<◌, ◌^◌, FitsSigned};
 ghost use Rattle.std.specs.Int.{w32, w64, to_le_bytes};
 ghost use Rattle.wire_base.specs.Varint.{IsSpelling, shortest_varint};
 ghost use Rattle.wire_scalar.specs.Laws.{ReadsBack, TextReadsBack, VarintsAreCounted, FixedAreMultiples, OnePackedList, NoPackedListBesideFault, OnePackedFault, PackedListOrFaultStands};
-ghost use Rattle.wire_scalar.specs.Reading.{IsFixed};
+ghost use Rattle.wire_base.specs.Fixed.{IsFixed};
 ghost use Rattle.wire_scalar.specs.ValueMap.{int32, int64, uint32, uint64, sint32, sint64, bool, fixed32, fixed64, sfixed32, sfixed64};
 
 /// What is read from the number that is written for a value is that value, for every value of each
@@ -22,8 +22,8 @@ pub fn values_read_back()
     ensures sfixed64 { ReadsBack sfixed64 (FitsSigned w64) }
 {}
 
-/// A value stands at the front of the text that is written for it, whatever follows, for every value
-/// of each type.
+/// A value stands at the front of the text that is written for it, whatever follows, for every
+/// value of each type.
 pub fn texts_read_back()
     ensures int32 { TextReadsBack IsSpelling shortest_varint int32 (FitsSigned w32) }
     ensures int64 { TextReadsBack IsSpelling shortest_varint int64 (FitsSigned w64) }

@@ -4,7 +4,7 @@ ghost use Rattle.std.specs.Int.{byte_len, w32, w64};
 ghost use Rattle.wire_base.specs.declared.error.DecodeError.TheVariants.{OutOfMemory};
 ghost use Rattle.wire_base.specs.Varint.{IsSpelling};
 ghost use Rattle.wire_scalar.specs.Packed.{Appends, AppendsFront, FixedRefusal, StopsAtFault};
-ghost use Rattle.wire_scalar.specs.Reading.{IsFixed};
+ghost use Rattle.wire_base.specs.Fixed.{IsFixed};
 ghost use Rattle.wire_scalar.specs.ValueMap.{int32, int64, uint32, uint64, sint32, sint64, bool, fixed32, fixed64, sfixed32, sfixed64};
 
 use crate::fixed::{Fixed32, Fixed64, FixedScalar, Sfixed32, Sfixed64};

@@ -21,8 +21,8 @@ pub fn borrow_bytes<'a>(buf: &mut &'a [u8]) -> Result<&'a [u8], DecodeError>
     Ok(payload)
 }
 
-/// The text of a length-delimited payload. The slice then begins behind it, also where the payload is
-/// not UTF-8.
+/// The text of a length-delimited payload. The slice then begins behind it, also where the payload
+/// is not UTF-8.
 pub fn borrow_str<'a>(buf: &mut &'a [u8]) -> Result<&'a str, DecodeError>
     ensures ok { IfOk result (λ text. Reads buf.old.now (IsString text.now) buf.new.now) }
     ensures fault { IfErr result (StringFault buf.old.now) }

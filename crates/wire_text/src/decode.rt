@@ -11,8 +11,8 @@ use bytes::{Buf, Bytes};
 use std::alloc::Global;
 use wire_base::{DecodeError, copy_bytes, decode_length, take_bytes};
 
-/// The bytes of a length-delimited payload, in a vector of just their size. Nothing is reserved before
-/// the bytes are known to be there.
+/// The bytes of a length-delimited payload, in a vector of just their size. Nothing is reserved
+/// before the bytes are known to be there.
 pub fn decode_bytes<B: Buf>(alloc: Global, buf: &mut B) -> Result<Vec<u8>, DecodeError>
     ensures ok { IfOk result (λ payload. Reads (B.unread buf.old)
         (IsDelimited payload.items) (B.unread buf.new)) }
@@ -47,8 +47,8 @@ pub fn decode_string<B: Buf>(alloc: Global, buf: &mut B) -> Result<String, Decod
     into_text(payload)
 }
 
-/// Puts the bytes of a length-delimited payload in the place of those that the vector has, and keeps
-/// its room where they fit. A refusal leaves it as it was.
+/// Puts the bytes of a length-delimited payload in the place of those that the vector has, and
+/// keeps its room where they fit. A refusal leaves it as it was.
 pub fn merge_bytes<B: Buf>(
     alloc: Global,
     value: &mut Vec<u8>,
@@ -66,9 +66,9 @@ pub fn merge_bytes<B: Buf>(
     Ok(())
 }
 
-/// Puts the text of a length-delimited payload in the place of the one that the string has, and keeps
-/// its room where it fits. A payload that is not UTF-8 is taken whole, and leaves the empty text; every
-/// other refusal leaves the string as it was.
+/// Puts the text of a length-delimited payload in the place of the one that the string has, and
+/// keeps its room where it fits. A payload that is not UTF-8 is taken whole, and leaves the empty
+/// text; every other refusal leaves the string as it was.
 pub fn merge_string<B: Buf>(
     alloc: Global,
     value: &mut String,

@@ -9,9 +9,9 @@ use std::fmt;
 use std::fmt::Debug;
 use std::hash::Hash;
 
-/// An enum whose values stand in message fields. A value has a number on the wire, and a name in the enum's
-/// definition. For an enum that lists its values, `specs/EnumNumbers.antt` has `of_number` and the proof of
-/// the law.
+/// An enum whose values stand in message fields. A value has a number on the wire, and a name in
+/// the enum's definition. For an enum that lists its values, `specs/EnumNumbers.antt` has
+/// `of_number` and the proof of the law.
 pub trait Enumeration: Clone + Copy + PartialEq + Eq + Hash + Debug {
     /// The number of a value on the wire.
     ghost number: { Self → ℤ };

@@ -1,5 +1,5 @@
-//! Laws of the definitions that the contracts cite: each function is a theorem, and does nothing. Those of
-//! length-delimited payloads stand in `wire_base::laws`.
+//! Laws of the definitions that the contracts cite: each function is a theorem, and does nothing.
+//! Those of length-delimited payloads stand in `wire_base::laws`.
 ghost use Rattle.wire_text.specs.Laws.{OneString, NoStringBesideFault, OneStringFault, StringOrFaultStands};
 
 pub use crate::enumeration::laws::{

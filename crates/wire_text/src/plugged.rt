@@ -48,8 +48,8 @@ impl<P: ProtoBytes> FromWire for PluggedBytes<P> {
     }
 }
 
-/// What a type makes of a length-delimited payload. One that lies in one chunk is lent to it, and taken
-/// from the buffer only where the type takes it; any other is copied and handed over.
+/// What a type makes of a length-delimited payload. One that lies in one chunk is lent to it, and
+/// taken from the buffer only where the type takes it; any other is copied and handed over.
 pub(crate) fn decode_plugged<T: FromWire, B: Buf>(
     alloc: Global,
     buf: &mut B,

@@ -21,8 +21,10 @@ pub trait ProtoBytes: Clone + PartialEq + Debug + Drop {
 
     /// The bytes that the type makes of a payload, or the error with which it refuses it.
     fn from_wire(alloc: Global, payload: WirePayload<'_>) -> Result<Self, DecodeError>
-        ensures ok { IfOk result (λ value. answers (payload_bytes payload.entry) (Ok (bytes value))) }
-        ensures err { IfErr result (λ e. (e ≡ OutOfMemory) ⊎ answers (payload_bytes payload.entry) (Err e)) };
+        ensures ok { IfOk result (λ value. answers (payload_bytes payload.entry)
+            (Ok (bytes value))) }
+        ensures err { IfErr result (λ e. (e ≡ OutOfMemory) ⊎ answers (payload_bytes payload.entry)
+            (Err e)) };
 
     /// The vector is given up where it is refused.
     fn from_vec(alloc: Global, value: Vec<u8>) -> Result<Self, DecodeError>
@@ -93,8 +95,8 @@ impl ProtoBytes for Bytes {
     }
 }
 
-/// What the type makes of a bytes field's payload. A payload that lies in one chunk is lent to it, and
-/// taken from the buffer only where the type takes it; any other is copied and handed over.
+/// What the type makes of a bytes field's payload. A payload that lies in one chunk is lent to it,
+/// and taken from the buffer only where the type takes it; any other is copied and handed over.
 pub fn decode_bytes_to<P: ProtoBytes, B: Buf>(alloc: Global, buf: &mut B) -> Result<P, DecodeError>
     ensures ok { IfOk result (λ value. TakesValue P.answers (P.bytes value)
         (B.unread buf.old) (B.unread buf.new)) }

@@ -23,8 +23,10 @@ pub trait ProtoString: Clone + PartialEq + Debug + Drop {
 
     /// The text of a payload, or the error with which the type refuses it.
     fn from_wire(alloc: Global, payload: WirePayload<'_>) -> Result<Self, DecodeError>
-        ensures ok { IfOk result (λ value. answers (payload_bytes payload.entry) (Ok (text value))) }
-        ensures err { IfErr result (λ e. (e ≡ OutOfMemory) ⊎ answers (payload_bytes payload.entry) (Err e)) };
+        ensures ok { IfOk result (λ value. answers (payload_bytes payload.entry)
+            (Ok (text value))) }
+        ensures err { IfErr result (λ e. (e ≡ OutOfMemory) ⊎ answers (payload_bytes payload.entry)
+            (Err e)) };
 
     fn from_text(alloc: Global, value: &str) -> Result<Self, DecodeError>
         ensures ok { IfOk result (λ made. text made ≡ value.now) };
@@ -68,8 +70,8 @@ impl ProtoString for String {
     }
 }
 
-/// What the type makes of a string field's payload. A payload that lies in one chunk is lent to it, and
-/// taken from the buffer only where the type takes it; any other is copied and handed over.
+/// What the type makes of a string field's payload. A payload that lies in one chunk is lent to it,
+/// and taken from the buffer only where the type takes it; any other is copied and handed over.
 pub fn decode_string_to<P: ProtoString, B: Buf>(
     alloc: Global,
     buf: &mut B,

@@ -3,9 +3,9 @@ use Rattle.std.proofs.Common.{sym, ◌∙◌}
 use Rattle.std.specs.Prelude.{◌≡◌, ℕ, Bool, true, false, List, [], ◌∷◌, Err, MatchBool, nat_eq}
 use Rattle.std.specs.Borrow.{Bor}
 use Rattle.std.specs.List.{starts_with}
-use Rattle.wire_base.specs.declared.error.DecodeError.TheVariants.{Custom}
-use Rattle.wire_text.specs.FromWire.{Answer, AreSameAnswers, IsByBytes, answers_text}
-use Rattle.wire_text.specs.FromWireLaws.{answers_text_by_bytes}
+use Rattle.wire_codec.specs.DecodeError.TheVariants.{Custom}
+use Rattle.wire_codec.specs.FromWire.{Answer, AreSameAnswers, IsByBytes, answers_text}
+use Rattle.wire_codec.specs.FromWireLaws.{answers_text_by_bytes}
 
 -- the refusal with the text x
 abbrev pub IsCustomX : Answer → Type 0

@@ -1,25 +1,24 @@
 //! Short callers of the crates below, proved. The README shows them.
 ghost use Rattle.std.specs.Prelude.{◌≡◌, [], ◌++◌, string_bytes, OnOk, IfOk, IfErr};
-ghost use Rattle.wire_base.specs.Ending.{by_tag};
-ghost use Rattle.wire_base.specs.Fault.{ListFault};
-ghost use Rattle.wire_base.specs.Field.{varint};
-ghost use Rattle.wire_base.specs.FieldNumber.{IsFieldNumber};
-ghost use Rattle.wire_base.specs.Limits.{uncounted};
-ghost use Rattle.wire_base.specs.Read.{Reads};
-ghost use Rattle.wire_base.specs.Tag.{TagFault};
-ghost use Rattle.wire_base.specs.Text.{record_text};
-ghost use Rattle.wire_base.specs.Varint.{IsSpelling, shortest_varint};
-ghost use Rattle.wire_scalar.specs.Packed.{Appends};
-ghost use Rattle.wire_scalar.specs.ValueMap.{int32, sint64};
-ghost use Rattle.wire_text.specs.StringPayload.{IsString, StringRefusal};
+ghost use Rattle.wire_codec.specs.Ending.{by_tag};
+ghost use Rattle.wire_codec.specs.Fault.{ListFault};
+ghost use Rattle.wire_codec.specs.Field.{varint};
+ghost use Rattle.wire_codec.specs.FieldNumber.{IsFieldNumber};
+ghost use Rattle.wire_codec.specs.Limits.{uncounted};
+ghost use Rattle.wire_codec.specs.Read.{Reads};
+ghost use Rattle.wire_codec.specs.Tag.{TagFault};
+ghost use Rattle.wire_codec.specs.Text.{record_text};
+ghost use Rattle.wire_codec.specs.Varint.{IsSpelling, shortest_varint};
+ghost use Rattle.wire_codec.specs.Packed.{Appends};
+ghost use Rattle.wire_codec.specs.ValueMap.{int32, sint64};
+ghost use Rattle.wire_codec.specs.StringPayload.{IsString, StringRefusal};
 
 use bytes::Buf;
 use std::alloc::Global;
-use wire_base::{
-    DecodeError, EncodeError, EncodeSink, Tag, UnknownFields, count_varints, encode_varint, laws,
+use wire_codec::{
+    DecodeError, EncodeError, EncodeSink, Tag, UnknownFields, borrow_group, count_varints,
+    decode_string, encode_varint, extend_packed_int32, laws, put_sint64_field,
 };
-use wire_scalar::{borrow_group, extend_packed_int32, put_sint64_field};
-use wire_text::decode_string;
 
 /// The field number of the first record.
 pub fn first_number(bytes: &[u8]) -> Result<u32, DecodeError>
@@ -84,8 +83,8 @@ pub fn without(
 {
     let mut fields = UnknownFields::decode_from_slice(alloc, bytes)?;
     fields.retain(|field| field.number != number);
-    fields.numbers_fit();
-    laws::text_spells_one_list();
+    fields.widths_fit();
+    laws::format::text_spells_one_list();
     let mut text = Vec::new(alloc);
     fields
         .write_to(&mut text)

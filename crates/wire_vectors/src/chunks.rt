@@ -2,7 +2,7 @@
 use crate::found::{Found, Stop, found_in};
 use bytes::{Buf, Bytes};
 use std::alloc::Global;
-use wire_base::{
+use wire_codec::{
     DecodeContext, DecodeError, EncodeSink, Rope, RopeBuf, Tag, UnknownField, UnknownFields,
     decode_unknown_field, decode_varint,
 };

@@ -1,13 +1,13 @@
 //! Enum fields: numbers that an enum knows, and others that are kept.
 ghost use Rattle.std.specs.Prelude.{◌≡◌, pos, [], ◌∷◌, codes};
-ghost use Rattle.wire_text.specs.declared.enumeration.EnumValue.TheVariants.{Known, Unknown};
+ghost use Rattle.wire_codec.specs.declared.enumeration.EnumValue.TheVariants.{Known, Unknown};
 ghost use Rattle.wire_vectors.specs.declared.enums.Color.TheVariants.{Green};
-ghost use Rattle.wire_text.specs.EnumNumbers.{first_numbered, first_numbered_keeps};
+ghost use Rattle.wire_codec.specs.EnumNumbers.{first_numbered, first_numbered_keeps};
 
 use crate::found::{Found, Stop, found_in};
 use std::alloc::Global;
 use std::hash::{DefaultHasher, Hash, Hasher};
-use wire_text::{EnumValue, Enumeration};
+use wire_codec::{EnumValue, Enumeration};
 
 #[derive(Clone, Copy, Debug, PartialEq, Eq, Hash)]
 enum Color {

@@ -1,6 +1,6 @@
 //! What a row's check finds.
 use std::alloc::{AllocError, AllocFailed};
-use wire_base::{DecodeError, EncodeError};
+use wire_codec::{DecodeError, EncodeError};
 
 /// The row's own answer, want of memory, or anything else.
 #[derive(Clone, Copy, Debug, PartialEq)]

@@ -1,5 +1,5 @@
-//! Worked rows over several crates, as tests, and short proved callers. Each row is a check that can be
-//! run while memory is refused, too.
+//! Worked rows over several crates, as tests, and short proved callers. Each row is a check that
+//! can be run while memory is refused, too.
 #![tactic(auto)]
 
 pub mod callers;

@@ -3,10 +3,10 @@ use crate::chunks::cut;
 use crate::found::{Found, Stop, found_in};
 use bytes::{Buf, Bytes};
 use std::alloc::Global;
-use wire_base::{DecodeContext, DecodeError, Tag, WireType, decode_length, decode_unknown_field};
-use wire_text::{
-    WirePayload, borrow_bytes, bytes_encoded_len, decode_bytes, decode_bytes_to,
-    decode_bytes_to_bytes, encode_bytes, merge_bytes, put_bytes_field,
+use wire_codec::{
+    DecodeContext, DecodeError, Tag, WirePayload, WireType, borrow_bytes, bytes_encoded_len,
+    decode_bytes, decode_bytes_to, decode_bytes_to_bytes, decode_length, decode_unknown_field,
+    encode_bytes, merge_bytes, put_bytes_field,
 };
 
 #[test]

@@ -6,9 +6,8 @@ use crate::chunks::cut;
 use crate::found::{Found, Stop, found_in};
 use bytes::{Buf, Bytes};
 use std::alloc::Global;
-use wire_base::DecodeError;
-use wire_text::{
-    ProtoBytes, ProtoList, ProtoString, WirePayload, decode_bytes_to, decode_string_to,
+use wire_codec::{
+    DecodeError, ProtoBytes, ProtoList, ProtoString, WirePayload, decode_bytes_to, decode_string_to,
 };
 
 // A text that does not begin with an x.

@@ -2,7 +2,7 @@
 use crate::found::{Found, Stop, found_in};
 use bytes::{Buf, Bytes, BytesMut};
 use std::alloc::Global;
-use wire_base::{DEFAULT_MIN_SEGMENT, EncodeError, EncodeSink, Rope, RopeBuf};
+use wire_codec::{DEFAULT_MIN_SEGMENT, EncodeError, EncodeSink, Rope, RopeBuf};
 
 // A rope that is handed back is want of memory, where it has what it had, and else no row's answer.
 fn handed_back(rope: &Rope, len: usize, segments: usize) -> Stop {

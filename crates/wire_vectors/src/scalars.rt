@@ -1,10 +1,9 @@
 //! Scalars: what is written for them, what is read, and packed lists of them.
 use crate::found::{Found, Stop, found_in};
 use std::alloc::Global;
-use wire_base::{
-    DecodeError, EncodeError, EncodeSink, Tag, WireType, check_wire_type, count_varints,
+use wire_codec::{
+    DecodeError, EncodeError, EncodeSink, Tag, WireType, check_wire_type, count_varints, *,
 };
-use wire_scalar::*;
 
 const MINUS_ONE: &[u8] = b"\xff\xff\xff\xff\xff\xff\xff\xff\xff\x01";
 

@@ -4,10 +4,9 @@ use crate::found::{Found, Stop, found_in};
 use crate::payloads::LENGTHS;
 use bytes::Buf;
 use std::alloc::Global;
-use wire_base::DecodeError;
-use wire_text::{
-    borrow_str, decode_string, decode_string_to, encode_string, merge_string, put_string_field,
-    string_encoded_len,
+use wire_codec::{
+    DecodeError, borrow_str, decode_string, decode_string_to, encode_string, merge_string,
+    put_string_field, string_encoded_len,
 };
 
 #[test]

@@ -31,7 +31,8 @@ impl Model for RopeBuf {
 }
 
 impl RopeBuf {
-    /// Reads the rope's segments where they are. Where memory is refused the rope comes back as it was.
+    /// Reads the rope's segments where they are. Where memory is refused the rope comes back as it
+    /// was.
     pub fn from_rope(rope: Rope) -> Result<RopeBuf, Rope>
         ensures segments { IfOk result (λ buf. buf ≡ all_segments rope) }
         ensures bytes { IfOk result (λ buf. concat buf ≡ rope_bytes rope) }

@@ -11,7 +11,8 @@ use crate::error::DecodeError;
 pub fn check_wire_type(tag: Tag, expected: WireType) -> Result<(), DecodeError>
     ensures ok { OnOk result (tag_type tag ≡ expected) }
     ensures err { IfErr result (λ e. (tag_type tag ≢ expected)
-        × (e ≡ WireTypeMismatch (tag_number tag) (wire_number expected) (wire_number (tag_type tag)))) }
+        × (e ≡ WireTypeMismatch (tag_number tag) (wire_number expected)
+            (wire_number (tag_type tag)))) }
 {
     if tag.wire_type() == expected {
         return Ok(());
@@ -22,7 +23,8 @@ pub fn check_wire_type(tag: Tag, expected: WireType) -> Result<(), DecodeError>
 /// The error of a tag whose wire type is not the expected one.
 #[cold]
 pub fn wire_type_mismatch(tag: Tag, expected: WireType) -> DecodeError
-    ensures { result ≡ WireTypeMismatch (tag_number tag) (wire_number expected) (wire_number (tag_type tag)) }
+    ensures { result ≡ WireTypeMismatch (tag_number tag) (wire_number expected)
+        (wire_number (tag_type tag)) }
 {
     DecodeError::WireTypeMismatch {
         field_number: tag.field_number(),

@@ -1,6 +1,8 @@
 use super::{Found, Stop, found_in};
 use crate::error::DecodeError;
-use crate::tag::{MAX_FIELD_NUMBER, Tag, WireType};
+use crate::tag::{
+    FIRST_RESERVED_FIELD_NUMBER, LAST_RESERVED_FIELD_NUMBER, MAX_FIELD_NUMBER, Tag, WireType,
+};
 use std::alloc::Global;
 
 // Bytes, and the number and the wire type that are read from them.
@@ -84,4 +86,11 @@ fn tags_are_written_shortest_or_lack_memory(rt: HostRuntime) {
 #[test]
 fn ample_memory_writes_tags(rt: HostRuntime) {
     assert!(rt; rows(rt.alloc()).iter().all(|found| *found == Found::Own));
+}
+
+#[test]
+fn field_numbers_of_the_format_itself(rt: HostRuntime) {
+    assert_eq!(rt; FIRST_RESERVED_FIELD_NUMBER, 19_000);
+    assert_eq!(rt; LAST_RESERVED_FIELD_NUMBER, 19_999);
+    assert_eq!(rt; MAX_FIELD_NUMBER, 536_870_911);
 }

@@ -22,8 +22,8 @@ use bytes::Buf;
 use std::alloc::Global;
 
 impl UnknownFields {
-    /// Reads all of the bytes as records, in which groups nest at most 100 deep and which are at most
-    /// 1,000,000, those in groups counted.
+    /// Reads all of the bytes as records, in which groups nest at most 100 deep and which are at
+    /// most 1,000,000, those in groups counted.
     pub fn decode_from_slice(alloc: Global, bytes: &[u8]) -> Result<UnknownFields, DecodeError>
         ensures spelled { IfOk result (λ fs. Spells fs bytes.now) }
         ensures within { IfOk result (λ fs. Fits (charge fs) (counted 100 1000000)) }
@@ -38,8 +38,8 @@ impl UnknownFields {
         UnknownFields::decode_from_slice_within(alloc, bytes, &mut context)
     }
 
-    /// Reads all of the bytes as records, under the limits of the context. A refused attempt may have
-    /// used up slots of it.
+    /// Reads all of the bytes as records, under the limits of the context. A refused attempt may
+    /// have used up slots of it, and leaves its depth open.
     pub fn decode_from_slice_within(
         alloc: Global,
         bytes: &[u8],
@@ -61,14 +61,14 @@ impl UnknownFields {
                 return Err(DecodeError::OutOfMemory);
             }
         }
-        fields.numbers_fit();
+        fields.widths_fit();
         Ok(fields)
     }
 }
 
-/// Reads the payload of a tag that was read, and keeps it as a field. It takes one unknown field for
-/// itself and one for each field in its groups, and a level for each group in another. Memory is wanted
-/// only for a payload that is there.
+/// Reads the payload of a tag that was read, and keeps it as a field. It takes one unknown field
+/// for itself and one for each field in its groups, and a level for each group and for each group
+/// in it.
 #[cycle(decode)]
 pub fn decode_unknown_field<B: Buf>(
     alloc: Global,
@@ -90,7 +90,7 @@ pub fn decode_unknown_field<B: Buf>(
     ensures kept { B.kept buf.new ≡ B.kept buf.old }
 {
     let value = decode_value(alloc, tag, buf, context)?;
-    value.numbers_fit();
+    value.widths_fit();
     Ok(UnknownField {
         number: tag.field_number(),
         value,

@@ -11,8 +11,8 @@ pub fn enum_value_keeps_its_number<E: Enumeration>()
     ensures { (n : ℤ) (e : E) → E.of_number n ≡ Some e → E.number e ≡ n }
 {}
 
-/// Values of enum fields are equal where both are known and the enum holds them equal, or both are the
-/// same unknown number. A known value equals no unknown one.
+/// Values of enum fields are equal where both are known and the enum holds them equal, or both are
+/// the same unknown number. A known value equals no unknown one.
 pub fn enum_values_equal_by_variant<E: Enumeration>()
     ensures { (x y : EnumValue E) → ⟦<EnumValue<E> as PartialEq>⟧.eq x y ≡ same_value E.eq x y }
 {}

@@ -1,5 +1,5 @@
 use Rattle.std.proofs.Common.{sym, ap, ◌∙◌, ◌++◌, append-nil}
-use Rattle.wire_base.specs.Text.{text_of}
+use Rattle.wire_codec.specs.Text.{text_of}
 use Rattle.wire_min.proofs.Results.{ok_before}
 use Rattle.wire_min.proofs.run.shortest_text.Goals as goal
 

@@ -1,7 +1,9 @@
 use Rattle.std.proofs.Common.{◌∙◌, sym, get_or, rules, SFits, to_z-of_z, w32, arith}
 use Rattle.std.specs.Prelude.{pos}
 use Rattle.std.proofs.lemmas.Result.{err_from_is_err_and}
-use Rattle.wire_codec.specs.Grammar.{LengthDelimited, tag_text, shortest_varint}
+use Rattle.wire_codec.specs.Tag.{tag_text}
+use Rattle.wire_codec.specs.Varint.{shortest_varint}
+use Rattle.wire_codec.specs.WireType.TheVariants.{LengthDelimited}
 use Rattle.wire_samples.proofs.FieldTexts.{packed_parts, next_number, no_number, regrouped}
 use Rattle.wire_samples.proofs.fields.put_packed_int32.Goals as goal
 

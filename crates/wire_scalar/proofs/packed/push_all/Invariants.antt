@@ -1,7 +1,7 @@
 use Rattle.std.proofs.Common.{◌≡◌, ◌%◌, length}
 use Rattle.std.specs.Int.{byte_len}
 use Rattle.wire_scalar.proofs.Packing.{Appended}
-use Rattle.wire_scalar.specs.Reading.{IsFixed}
+use Rattle.wire_base.specs.Fixed.{IsFixed}
 use Rattle.wire_scalar.proofs.packed.push_all.Given as goal
 
 abbrev pub invariant-loop-rest : goal.invariant-loop-rest

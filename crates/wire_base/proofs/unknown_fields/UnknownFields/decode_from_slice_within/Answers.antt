@@ -33,7 +33,8 @@ returns-in_err-field-clause-fault c =
 
 pub returns-then-is_err-clause-fault : goal.returns-then-is_err-clause-fault
 returns-then-is_err-clause-fault c =
-    refused_push _ by_input _ _ _ c.loop-buf.invariant.so_far _ _ _ _ _ _ c.in_ok-tag.ensures.ok c.in_ok-field.ensures.ok
+    refused_push _ by_input _ _ _ c.loop-buf.invariant.so_far _ _ _ _ _ _
+    c.in_ok-tag.ensures.ok c.loop-buf.invariant.context c.in_ok-field.ensures.ok
 
 pub loop-buf-preserved : goal.loop-buf-preserved
 loop-buf-preserved c =
@@ -52,4 +53,4 @@ loop-buf-preserved c =
 
 pub returns-clause-in_range : goal.returns-clause-in_range
 returns-clause-in_range c =
-    (c.numbers_fit.ensures, spelled_are_numbered_lemma c.loop-buf.fields _ c.loop-buf.invariant.so_far.read.spelled)
+    (c.widths_fit.ensures, spelled_are_numbered_lemma c.loop-buf.fields _ c.loop-buf.invariant.so_far.read.spelled)

@@ -77,13 +77,14 @@ pub decode_value-returns-in_err-take_bytes-in-LengthDelimited-clause-fault : goa
 decode_value-returns-in_err-take_bytes-in-LengthDelimited-clause-fault g t c =
     let r = c.from_residual-in_err-take_bytes-in-LengthDelimited in
     let p = err_from_is_err_and r.result r.ensures.1 in
+    let slot = c.in_ok-register_unknown_field.ensures.taken in
     let len = (c.in_ok-len-in-LengthDelimited).ensures in
     rw (
       p.1,
       p.2,
       sym c.wire_type.ensures
           ∙ c.in-LengthDelimited.is,
-    ) (no_memory_for_bytes _ _ _ _ _ len.ok len.there)
+    ) (no_memory_for_bytes _ _ _ _ _ slot len.ok len.there)
 
 pub decode_value-returns-in_ok-take_bytes-in-LengthDelimited-clause-ok : goal.decode_value-returns-in_ok-take_bytes-in-LengthDelimited-clause-ok
 decode_value-returns-in_ok-take_bytes-in-LengthDelimited-clause-ok g t c =
@@ -144,7 +145,7 @@ decode_value-returns-in-EndGroup-clause-fault g t c =
 
 pub decode_unknown_field-returns-clause-in_range : goal.decode_unknown_field-returns-clause-in_range
 decode_unknown_field-returns-clause-in_range g t c =
-    (c.numbers_fit.ensures, payload_numbered _ _ _ c.in_ok-value.ensures.ok.read.spelled.spelled)
+    (c.widths_fit.ensures, payload_numbered _ _ _ c.in_ok-value.ensures.ok.read.spelled.spelled)
 
 -- ---- the body of a group
 
@@ -168,7 +169,8 @@ decode_group-returns-in_err-field-clause-fault g t c =
 pub decode_group-returns-then-is_err-clause-fault : goal.decode_group-returns-then-is_err-clause-fault
 decode_group-returns-then-is_err-clause-fault g t c =
     refused_push _ (by_tag c.args.number) _ _ _ c.loop-fields.invariant.so_far _ _ _ _ _ _
-    (rw c.in-Some.is at c.in_ok-tag.ensures.record) c.in_ok-field.ensures.ok
+    (rw c.in-Some.is at c.in_ok-tag.ensures.record) c.loop-fields.invariant.context
+    c.in_ok-field.ensures.ok
 
 pub decode_group-returns-clause-ok : goal.decode_group-returns-clause-ok
 decode_group-returns-clause-ok g t c =
