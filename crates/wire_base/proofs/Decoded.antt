@@ -1,5 +1,5 @@
 -- What decoding of unknown fields tells, step by step.
-use Rattle.std.proofs.Common.{◌≡◌, ◌<◌, ◌≤◌, ◌⊎◌, inl, inr, ℕ, List, [], length, take, drop, Result, Ok, Err, refl, sym, ap, subst, ◌∙◌, ⊎_elim}
+use Rattle.std.proofs.Common.{◌≡◌, ◌<◌, ◌≤◌, inl, inr, ℕ, List, [], length, take, drop, Result, Ok, Err, refl, sym, subst, ⊎_elim}
 use Rattle.std.specs.Prelude.{IfOk, IfErr, MatchResult}
 use Rattle.wire_base.specs.declared.error.DecodeError.{DecodeError}
 use Rattle.wire_base.specs.declared.error.DecodeError.TheVariants.{OutOfMemory}
@@ -7,8 +7,8 @@ use Rattle.wire_base.specs.declared.tag.WireType.{WireType}
 use Rattle.wire_base.specs.declared.tag.WireType.TheVariants as types
 use Rattle.wire_base.specs.Charge.{charge, payload_charge}
 use Rattle.wire_base.specs.Ending.{Ending, by_input, by_tag, GoesOn, IsRecordTag}
-use Rattle.wire_base.specs.Fault.{NextTagFault, PayloadFault, ListFault, no_tag, bad_payload, past, in_group}
-use Rattle.wire_base.specs.Field.{Payload, Fields, none, field, group, joined, push}
+use Rattle.wire_base.specs.Fault.{NextTagFault, no_tag, bad_payload, past, in_group}
+use Rattle.wire_base.specs.Field.{Payload, Fields, none, field, push}
 use Rattle.wire_base.specs.Limits.{Limits, Fits, left_after, one_field, inner}
 use Rattle.wire_base.specs.Read.{Reads}
 use Rattle.wire_base.specs.Refusal.{PayloadWantsMemory, FieldsWantMemory, for_bytes, for_field, for_payload, in_group as memory_in_group, PayloadRefusal, ListRefusal}

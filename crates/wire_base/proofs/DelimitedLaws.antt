@@ -6,7 +6,7 @@ use Rattle.wire_base.specs.declared.error.DecodeError.TheVariants.{UnexpectedEof
 use Rattle.wire_base.specs.Delimited.{IsDelimited, DelimitedFault, no_length, too_large, cut_short}
 use Rattle.wire_base.specs.Limits.{HasRoom}
 use Rattle.wire_base.specs.Read.{Reads}
-use Rattle.wire_base.specs.Varint.{IsSpelling, shortest_varint, VarintFault}
+use Rattle.wire_base.specs.Varint.{IsSpelling, shortest_varint}
 use Rattle.wire_base.specs.VarintLaws.{DelimitedReadsBack, OneDelimited, NoDelimitedBesideFault, OneDelimitedFault, DelimitedOrFault, DelimitedOrFaultStands, VarintOrFault}
 use Rattle.wire_base.proofs.LimitsLaws.{room_or_not}
 use Rattle.wire_base.proofs.ListLaws.{one_beginning}

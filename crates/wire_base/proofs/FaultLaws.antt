@@ -1,23 +1,23 @@
 -- Laws of faults of records: none beside a reading within the limits, and one at most.
-use Rattle.std.proofs.Common.{◌≡◌, ◌≢◌, ℕ, ◌<◌, ◌≤◌, ◌⊎◌, inl, inr, List, [], ◌++◌, length, None, refl, sym, ap, ◌∙◌, subst, arith, ⊎_elim, length-append, append_assoc}
+use Rattle.std.proofs.Common.{◌≡◌, ℕ, ◌<◌, List, ◌++◌, length, None, refl, sym, ap, ◌∙◌, subst, arith, ⊎_elim, length-append}
 use Rattle.wire_base.specs.declared.error.DecodeError.{DecodeError}
 use Rattle.wire_base.specs.declared.error.DecodeError.TheVariants.{UnexpectedEof, InvalidWireType, RecursionLimitExceeded, InvalidEndGroup, UnknownFieldLimitExceeded}
 use Rattle.wire_base.specs.declared.tag.WireType.{WireType}
 use Rattle.wire_base.specs.declared.tag.WireType.TheVariants as types
 use Rattle.wire_base.specs.Charge.{payload_charge, charge}
-use Rattle.wire_base.specs.Delimited.{IsDelimited, DelimitedFault}
+use Rattle.wire_base.specs.Delimited.{DelimitedFault}
 use Rattle.wire_base.specs.Ending.{Ending, by_limit, by_tag, GoesOn, Ends, IsRecordTag}
 use Rattle.wire_base.specs.Fault.{NextTagFault, bad_tag, other_end, PayloadFault, RecordFault, ListFault}
 use Rattle.wire_base.specs.FaultLaws.{NoPayloadBesideFault, NoListBesideFault, OnePayloadFault, OneListFault}
 use Rattle.wire_base.specs.Field.{Payload, varint, fixed64, fixed32, bytes, group, Fields, none, field, type_of, joined}
-use Rattle.wire_base.specs.Limits.{Limits, Fits, one_field, left_after, inner, both}
+use Rattle.wire_base.specs.Limits.{Limits, Fits, one_field, left_after, inner}
 use Rattle.wire_base.specs.Read.{Reads}
 use Rattle.wire_base.specs.Spells.{SpellsPayload, Spells, IsPayload}
 use Rattle.wire_base.specs.Tag.{IsTagSpelling, TagFault}
-use Rattle.wire_base.specs.Taken.{TakesFields, TakesPayload, TakesUntil}
-use Rattle.wire_base.specs.Varint.{IsSpelling, VarintFault}
+use Rattle.wire_base.specs.Taken.{TakesFields}
+use Rattle.wire_base.specs.Varint.{VarintFault}
 use Rattle.wire_base.proofs.DelimitedLaws.{beside_fault, one_fault}
-use Rattle.wire_base.proofs.FieldLaws.{Front, either_front, not_end_group, record_not_end, head_of, none_takes_nothing, body_of, joined-none}
+use Rattle.wire_base.proofs.FieldLaws.{either_front, not_end_group, record_not_end, head_of, none_takes_nothing, body_of, joined-none}
 use Rattle.wire_base.proofs.LimitsLaws.{Fits-first, Fits-second, Fits-one_field, level_of_group, Fits-inside, charge-joined}
 use Rattle.wire_base.proofs.ReadLaws.{Reads-as, Reads-shorter}
 use Rattle.wire_base.proofs.TagLaws.{same_tag, no_tag_beside_fault_lemma, one_tag_fault_lemma}
@@ -184,7 +184,7 @@ mutual
       → Reads old (Spells (field n p more)) new → Fits (payload_charge p) l → ⊥
   record_beside_fault l ending old e
       (RecordFault.no_tag fault) n p more new h fits =
-          record_beside_tag_fault ending old e fault n p more new h
+      record_beside_tag_fault ending old e fault n p more new h
   record_beside_fault l ending old e
       (RecordFault.bad_payload m w behind tag is fault) n p more new h fits =
       let head = head_of n p more old new h in

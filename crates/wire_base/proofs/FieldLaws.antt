@@ -1,5 +1,5 @@
 -- Laws of records: one reading.
-use Rattle.std.proofs.Common.{◌≡◌, ℕ, ◌<◌, ◌⊎◌, inl, inr, List, [], ◌∷◌, ◌++◌, length, refl, sym, ap, ◌∙◌, subst, append-nil, append_assoc, arith, ⊎_elim, length-append}
+use Rattle.std.proofs.Common.{◌≡◌, ℕ, ◌<◌, ◌⊎◌, inl, inr, List, [], ◌∷◌, ◌++◌, length, refl, sym, ap, ◌∙◌, subst, append-nil, arith, ⊎_elim, length-append}
 use Rattle.std.specs.Int.{w32, w64, from_le_bytes}
 use Rattle.wire_base.specs.declared.tag.WireType.{WireType}
 use Rattle.wire_base.specs.declared.tag.WireType.TheVariants.{EndGroup}
@@ -13,7 +13,7 @@ use Rattle.wire_base.specs.Tag.{IsTagSpelling}
 use Rattle.wire_base.specs.Varint.{IsSpelling, IsEnded}
 use Rattle.wire_base.proofs.DelimitedLaws.{same_delimited}
 use Rattle.wire_base.proofs.ListLaws.{one_beginning}
-use Rattle.wire_base.proofs.ReadLaws.{Reads-inside, Reads-as, Reads-shorter}
+use Rattle.wire_base.proofs.ReadLaws.{Reads-inside, Reads-as}
 use Rattle.wire_base.proofs.TagLaws.{same_tag}
 use Rattle.wire_base.proofs.VarintLaws.{same_varint}
 

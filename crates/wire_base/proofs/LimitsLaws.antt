@@ -1,6 +1,6 @@
 -- The algebra of limits and charges. One budget more is a line in each lemma on all counts
 -- together.
-use Rattle.std.proofs.Common.{◌≡◌, ℕ, ◌+◌, ◌≤◌, ◌<◌, ◌⊎◌, inl, inr, Option, Some, None, refl, sym, ap, ◌∙◌, subst, arith, ⊎_elim}
+use Rattle.std.proofs.Common.{◌≡◌, ℕ, ◌+◌, ◌<◌, ◌⊎◌, inl, inr, Option, Some, None, refl, sym, ap, ◌∙◌, arith, ⊎_elim}
 use Rattle.std.proofs.lemmas.Bool.{cases_lt}
 use Rattle.wire_base.specs.Charge.{total, payload_charge, charge}
 use Rattle.wire_base.specs.Field.{Payload, Fields, none, field, group, joined, varint, fixed64, fixed32, bytes}

@@ -1,5 +1,5 @@
 -- The payload behind a tag, by its wire type.
-use Rattle.std.proofs.Common.{◌≡◌, ℕ, ◌<◌, ◌≤◌, List, ◌++◌, length, take, drop, inl, refl, sym, ap, subst, ◌∙◌, arith, length-take-le}
+use Rattle.std.proofs.Common.{◌≡◌, ℕ, ◌<◌, ◌≤◌, List, ◌++◌, length, take, drop, refl, length-take-le}
 use Rattle.std.specs.Int.{w32, w64, from_le_bytes}
 use Rattle.wire_base.specs.declared.error.DecodeError.{DecodeError}
 use Rattle.wire_base.specs.declared.tag.WireType.TheVariants as types
@@ -10,7 +10,7 @@ use Rattle.wire_base.specs.Fault.{PayloadFault, ListFault, in_group}
 use Rattle.wire_base.specs.Field.{varint, fixed64, fixed32, bytes, group, Fields}
 use Rattle.wire_base.specs.Limits.{Limits, Fits, one_field, inner, left_after}
 use Rattle.wire_base.specs.Read.{Reads}
-use Rattle.wire_base.specs.Spells.{SpellsPayload, Spells, IsPayload}
+use Rattle.wire_base.specs.Spells.{SpellsPayload, Spells}
 use Rattle.wire_base.specs.Tag.{IsTagSpelling}
 use Rattle.wire_base.specs.Taken.{TakesPayload, TakesFields, TakesUntil}
 use Rattle.wire_base.specs.Varint.{IsSpelling}

@@ -1,30 +1,27 @@
 -- A reading within the limits or a fault always stands: a reader over lists finds the one or the
 -- other.
-use Rattle.std.proofs.Common.{◌≡◌, ◌≢◌, ℕ, zero, suc, ◌<◌, ◌≤◌, ◌⊎◌, inl, inr, List, [], ◌++◌, length, take, drop, None, refl, sym, ap, ◌∙◌, subst, arith, ⊎_elim, length-take-le}
+use Rattle.std.proofs.Common.{◌≡◌, ◌≢◌, ℕ, zero, suc, ◌<◌, ◌≤◌, ◌⊎◌, inl, inr, List, length, drop, None, refl, sym, ap, subst, arith, ⊎_elim}
 use Rattle.std.proofs.lemmas.Bool.{cases_lt, cases_eq}
-use Rattle.std.specs.Int.{w32, w64, from_le_bytes}
 use Rattle.wire_base.specs.declared.error.DecodeError.{DecodeError}
 use Rattle.wire_base.specs.declared.error.DecodeError.TheVariants.{UnexpectedEof, InvalidWireType, RecursionLimitExceeded, InvalidEndGroup, UnknownFieldLimitExceeded}
 use Rattle.wire_base.specs.declared.tag.WireType.{WireType}
 use Rattle.wire_base.specs.declared.tag.WireType.TheVariants as types
 use Rattle.wire_base.specs.Charge.{payload_charge, charge}
-use Rattle.wire_base.specs.Delimited.{IsDelimited}
 use Rattle.wire_base.specs.Ending.{Ending, by_limit, by_tag, GoesOn, Ends, IsRecordTag}
 use Rattle.wire_base.specs.Fault.{bad_tag, other_end, PayloadFault, RecordFault, ListFault}
 use Rattle.wire_base.specs.FaultLaws.{PayloadOrFault, PayloadOrFaultStands, ListOrFault, ListOrFaultStands}
-use Rattle.wire_base.specs.Field.{Payload, varint, fixed64, fixed32, bytes, group, Fields, none, field, push, joined, type_of}
-use Rattle.wire_base.specs.Limits.{Limits, Fits, one_field, left_after, inner, no_charge}
+use Rattle.wire_base.specs.Field.{Payload, varint, bytes, group, Fields, none, field}
+use Rattle.wire_base.specs.Limits.{Limits, Fits, one_field, left_after, inner}
 use Rattle.wire_base.specs.Read.{Reads}
-use Rattle.wire_base.specs.Spells.{SpellsPayload, Spells, IsPayload}
+use Rattle.wire_base.specs.Spells.{Spells, IsPayload}
 use Rattle.wire_base.specs.Tag.{IsTagSpelling}
 use Rattle.wire_base.specs.TagLaws.{TagOrFault}
-use Rattle.wire_base.specs.Taken.{TakesPayload, TakesFields, LastGoesOn, TakesUntil}
-use Rattle.wire_base.specs.Varint.{IsSpelling}
+use Rattle.wire_base.specs.Taken.{TakesPayload, LastGoesOn}
 use Rattle.wire_base.specs.VarintLaws.{VarintOrFault, DelimitedOrFault}
 use Rattle.wire_base.proofs.DelimitedLaws.{delimited_or_fault_lemma}
 use Rattle.wire_base.proofs.FieldLaws.{rest_below}
 use Rattle.wire_base.proofs.JoinedLaws.{Reads-none, Reads-one, Reads-joined}
-use Rattle.wire_base.proofs.LimitsLaws.{Fits-nothing, Fits-both, Fits-first, left_after-nothing, left_after-both, fits_or_not}
+use Rattle.wire_base.proofs.LimitsLaws.{Fits-both, left_after-nothing, left_after-both, fits_or_not}
 use Rattle.wire_base.proofs.Payloads.{takes_varint, takes_fixed64, takes_fixed32, takes_delimited, takes_group}
 use Rattle.wire_base.proofs.ReadLaws.{Reads-shorter}
 use Rattle.wire_base.proofs.Takes.{takes_none}

@@ -1,17 +1,17 @@
 -- Records taken one after another within limits, up to the end of their list.
-use Rattle.std.proofs.Common.{◌≡◌, ℕ, ◌<◌, ◌≤◌, ◌⊎◌, inl, inr, List, [], ◌∷◌, length, refl, sym, ap, ◌∙◌, subst, arith, ⊎_elim}
+use Rattle.std.proofs.Common.{◌≡◌, ℕ, ◌<◌, ◌≤◌, inl, inr, List, [], ◌∷◌, length, refl, sym, ap, ◌∙◌, subst, arith, ⊎_elim}
 use Rattle.wire_base.specs.declared.tag.WireType.{WireType}
 use Rattle.wire_base.specs.declared.tag.WireType.TheVariants as types
 use Rattle.wire_base.specs.Charge.{charge, payload_charge}
 use Rattle.wire_base.specs.Ending.{Ending, by_limit, by_tag, by_input, GoesOn, Ends}
-use Rattle.wire_base.specs.Field.{Payload, Fields, none, field, group, type_of, joined, push, count_top}
-use Rattle.wire_base.specs.Limits.{Limits, Charge, Fits, left_after, both, no_charge}
+use Rattle.wire_base.specs.Field.{Payload, Fields, none, field, type_of, joined, push, count_top}
+use Rattle.wire_base.specs.Limits.{Limits, Charge, left_after, both, no_charge}
 use Rattle.wire_base.specs.Read.{Reads}
 use Rattle.wire_base.specs.RecordLaws.{OneList, WholeInput, RecordsOneByOne}
-use Rattle.wire_base.specs.Spells.{SpellsPayload, Spells, IsPayload}
+use Rattle.wire_base.specs.Spells.{SpellsPayload, Spells}
 use Rattle.wire_base.specs.Tag.{IsTagSpelling}
-use Rattle.wire_base.specs.Taken.{TakesPayload, TakesFields, LastGoesOn, TakesUntil}
-use Rattle.wire_base.proofs.FieldLaws.{Front, either_front, head_of, none_takes_nothing, record_not_end, joined-none, rest_below, Reads-all, Spells-all}
+use Rattle.wire_base.specs.Taken.{TakesPayload, TakesFields, LastGoesOn}
+use Rattle.wire_base.proofs.FieldLaws.{either_front, head_of, none_takes_nothing, record_not_end, joined-none, rest_below, Reads-all, Spells-all}
 use Rattle.wire_base.proofs.JoinedLaws.{Reads-none, Reads-push, split_joined, count_top-joined, count_top-push}
 use Rattle.wire_base.proofs.LimitsLaws.{Fits-nothing, Fits-both, left_after-both, charge-push}
 use Rattle.wire_base.proofs.ReadLaws.{Reads-shorter}

@@ -1,5 +1,5 @@
 -- Records whose numbers fit where they are written, inside groups too.
-use Rattle.std.specs.Prelude.{ℕ, ◌^◌, ◌<◌, length}
+use Rattle.std.specs.Prelude.{◌^◌, ◌<◌, length}
 use Rattle.wire_base.specs.Field.{Payload, varint, fixed64, fixed32, bytes, group, Fields, none, field}
 use Rattle.wire_base.specs.FieldNumber.{IsFieldNumber}
 

@@ -1,5 +1,5 @@
 -- The body of a group, taken record by record.
-use Rattle.std.proofs.Common.{◌≡◌, ℕ, ◌+◌, List, [], ◌++◌, length, take, Option, Some, None, refl, sym, ap, ◌∙◌, subst, arith}
+use Rattle.std.proofs.Common.{◌≡◌, ℕ, ◌+◌, List, ◌++◌, length, take, Option, Some, None, refl, sym, ap, ◌∙◌, subst, arith}
 use Rattle.std.specs.Prelude.{IfNone}
 use Rattle.std.proofs.Math.Seq.{take-append_seam}
 use Rattle.std.proofs.lemmas.List.{append-nil, length-append}
@@ -11,7 +11,6 @@ use Rattle.wire_base.specs.Limits.{Limits, Charge, both, uncounted}
 use Rattle.wire_base.specs.LimitsLaws.{ChargesAddUp}
 use Rattle.wire_base.specs.Read.{Reads}
 use Rattle.wire_base.specs.RecordLaws.{RecordsOneByOne}
-use Rattle.wire_base.specs.Spells.{Spells}
 use Rattle.wire_base.specs.Tag.{IsTagSpelling}
 use Rattle.wire_base.specs.Taken.{TakesFields, TakesPayload}
 use Rattle.wire_scalar.specs.Borrow.{BorrowsBody}

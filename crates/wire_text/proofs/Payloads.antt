@@ -1,9 +1,9 @@
 -- A payload that was read, and what its bytes are.
-use Rattle.std.proofs.Common.{◌≡◌, ◌≢◌, ◌⊎◌, inl, inr, ⊎_elim, ℕ, List, None, Result, Ok, Err}
+use Rattle.std.proofs.Common.{◌≡◌, ◌≢◌, inl, inr, ℕ, List, None, Result, Ok, Err}
 use Rattle.std.specs.Prelude.{IsUtf8, OnErr, IfErr, MatchResult}
 use Rattle.std.specs.Result.{result_or}
 use Rattle.wire_base.specs.declared.error.DecodeError.{DecodeError}
-use Rattle.wire_base.specs.declared.error.DecodeError.TheVariants.{InvalidUtf8, OutOfMemory}
+use Rattle.wire_base.specs.declared.error.DecodeError.TheVariants.{InvalidUtf8}
 use Rattle.wire_base.specs.Delimited.{IsDelimited, DelimitedFault, no_length, too_large, cut_short}
 use Rattle.wire_base.specs.Read.{Reads}
 use Rattle.wire_base.specs.Varint as v

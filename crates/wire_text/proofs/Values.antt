@@ -1,5 +1,5 @@
 -- What a type that a user plugged in makes of a payload that was read.
-use Rattle.std.proofs.Common.{◌≡◌, ◌≤◌, ◌⊎◌, inl, inr, ℕ, List, ◌++◌, length, take, drop, Result, Ok, Err, refl, sym, ap, ◌∙◌, take-append-drop}
+use Rattle.std.proofs.Common.{◌≡◌, ◌≤◌, ◌⊎◌, inl, inr, ℕ, List, ◌++◌, length, take, drop, Result, Ok, Err, sym, ap, ◌∙◌, take-append-drop}
 use Rattle.std.proofs.lemmas.List.{take-append-le}
 use Rattle.bytes.specs.Unread.{IsChunkOf}
 use Rattle.std.specs.Prelude.{IfOk, IfErr}
@@ -7,7 +7,7 @@ use Rattle.wire_base.specs.declared.error.DecodeError.{DecodeError}
 use Rattle.wire_base.specs.declared.error.DecodeError.TheVariants.{OutOfMemory}
 use Rattle.wire_base.specs.Delimited.{IsDelimited}
 use Rattle.wire_base.specs.Read.{Reads}
-use Rattle.wire_text.specs.FromWire.{Answer, TakesValue, ValueFault, ValueRefusal, AfterRefusal, refused}
+use Rattle.wire_text.specs.FromWire.{Answer, TakesValue, ValueRefusal, AfterRefusal, refused}
 
 module _ (answers : List ℕ → Answer
     → Type 0) (old payload rest : List ℕ) (h : Reads old (IsDelimited payload) rest) where

@@ -12,7 +12,7 @@ pub fn check_wire_type(tag: Tag, expected: WireType) -> Result<(), DecodeError>
     ensures ok { OnOk result (tag_type tag ≡ expected) }
     ensures err { IfErr result (λ e. (tag_type tag ≢ expected)
         × (e ≡ WireTypeMismatch (tag_number tag) (wire_number expected)
-            (wire_number (tag_type tag)))) }
+        (wire_number (tag_type tag)))) }
 {
     if tag.wire_type() == expected {
         return Ok(());

@@ -1,6 +1,5 @@
 use Rattle.std.proofs.Common.{ap, ◌∙◌, length, arith, length-append}
 use Rattle.std.proofs.lemmas.Result.{err_from_is_err_and}
-use Rattle.wire_base.specs.Ending.{by_tag}
 use Rattle.wire_base.specs.Fault.{past, no_tag, bad_payload}
 use Rattle.wire_base.specs.Field.{none, push}
 use Rattle.wire_scalar.proofs.Borrowing.{one_more, borrows, at_none}

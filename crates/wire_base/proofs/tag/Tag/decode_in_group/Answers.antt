@@ -1,4 +1,3 @@
-use Rattle.std.proofs.Common.{sym}
 use Rattle.std.proofs.lemmas.Result.{err_from_is_err_and}
 use Rattle.wire_base.specs.Fault.{bad_tag, other_end}
 use Rattle.wire_base.proofs.tag.Tag.decode_in_group.Goals as goal

@@ -1,6 +1,6 @@
 use Rattle.std.proofs.Common.{sym, ap, ◌∙◌, inl}
 use Rattle.std.proofs.lemmas.Result.{err_from_is_err_and}
-use Rattle.wire_base.specs.Charge.{charge, payload_charge}
+use Rattle.wire_base.specs.Charge.{payload_charge}
 use Rattle.wire_base.specs.Ending.{by_tag}
 use Rattle.wire_base.specs.Fault.{no_slot, no_varint, short_fixed64, short_fixed32, no_bytes, no_level, end_outside}
 use Rattle.wire_base.specs.Limits.{Limits, inner, left_after}
@@ -8,7 +8,6 @@ use Rattle.wire_base.specs.UnknownFields.{payload_of}
 use Rattle.wire_base.proofs.Decoded.{no_memory_for_bytes, refused_in_group, refused_tag, refused_payload, refused_push}
 use Rattle.wire_base.proofs.DelimitedLaws.{delimited_at}
 use Rattle.wire_base.proofs.FieldLaws.{payload_numbered}
-use Rattle.wire_base.proofs.LimitsLaws.{NoCountGrew-after}
 use Rattle.wire_base.proofs.Payloads.{takes_delimited, takes_group, takes_until}
 use Rattle.wire_base.proofs.Results.{at_ok, at_none}
 use Rattle.wire_base.proofs.Takes.{takes_field, left_after-push}
