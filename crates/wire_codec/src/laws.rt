@@ -4,7 +4,7 @@ ghost use Rattle.wire_codec.specs.Laws.{NoSizeIsAboveTheWhole, SmallSizesAreUncu
 ghost use Rattle.wire_codec.specs.Laws.{JoinedAddsUp, FieldsArePlain};
 ghost use Rattle.wire_codec.specs.Laws.{FlatKeepsTheTape, PieceByPiece};
 
-pub use wire_base::laws as format;
+pub use wire_base::laws as grammar;
 pub use wire_base::laws::{put_is_a_write, two_parts};
 pub use wire_scalar::laws as scalar;
 pub use wire_text::laws as text;

@@ -84,7 +84,7 @@ pub fn without(
     let mut fields = UnknownFields::decode_from_slice(alloc, bytes)?;
     fields.retain(|field| field.number != number);
     fields.widths_fit();
-    laws::format::text_spells_one_list();
+    laws::grammar::text_spells_one_list();
     let mut text = Vec::new(alloc);
     fields
         .write_to(&mut text)
