@@ -27,13 +27,13 @@ pub fn run<R: Read, W: Write>(
 
     ensures ok { OnOk result (IfSome (R.remaining (device_of reader.old)) (λ input.
         WritesShortest input (W.contents (device_of writer.old))
-            (W.contents (device_of writer.new)))) }
+        (W.contents (device_of writer.new)))) }
     ensures refused { (e : DecodeError) → result ≡ Err (RunError.Refused e)
         → IfSome (R.remaining (device_of reader.old)) (λ input. IsRefused input e) }
     ensures front { result ≡ Err RunError.WriteFailed
         → IfSome (R.remaining (device_of reader.old)) (λ input.
-            WritesFront input (W.contents (device_of writer.old))
-                (W.contents (device_of writer.new))) }
+        WritesFront input (W.contents (device_of writer.old))
+        (W.contents (device_of writer.new))) }
     ensures unwritten { OnErr result (result ≢ Err RunError.WriteFailed
         → Keeps (W.contents (device_of writer.old)) (W.contents (device_of writer.new))) }
 
