@@ -150,8 +150,8 @@ fn lines() -> [(RunError, &'static str, u8); 5] {
     ]
 }
 
-fn found_line(alloc: Global, error: &RunError, line: &str) -> Found {
-    match error.to_string(alloc) {
+fn found_line<D: Display>(alloc: Global, shown: &D, line: &str) -> Found {
+    match shown.to_string(alloc) {
         Ok(text) if text.as_str() == line => Found::Own,
         Ok(_) => Found::Other,
         Err(_) => Found::OutOfMemory,
@@ -244,11 +244,7 @@ impl Eprint for Listener {
 
     fn eprintln<D: Display + Drop>(&self, value: D) -> io::Result<()> {
         self.lines.set(self.lines.get().saturating_add(1));
-        self.heard.set(match value.to_string(self.alloc) {
-            Ok(line) if line.as_str() == self.due => Found::Own,
-            Ok(_) => Found::Other,
-            Err(_) => Found::OutOfMemory,
-        });
+        self.heard.set(found_line(self.alloc, &value, self.due));
         Ok(())
     }
 }
