@@ -1,6 +1,6 @@
 //! Enum fields: numbers that an enum knows, and others that are kept.
 ghost use Rattle.std.specs.Prelude.{◌≡◌, pos, [], ◌∷◌, codes};
-ghost use Rattle.wire_codec.specs.declared.enumeration.EnumValue.TheVariants.{Known, Unknown};
+ghost use Rattle.wire_text.specs.declared.enumeration.EnumValue.TheVariants.{Known, Unknown};
 ghost use Rattle.wire_vectors.specs.declared.enums.Color.TheVariants.{Green};
 ghost use Rattle.wire_codec.specs.EnumNumbers.{first_numbered, first_numbered_keeps};
 
