@@ -2,6 +2,7 @@ pub mod Decoded
 pub mod DelimitedLaws
 pub mod FaultLaws
 pub mod FieldLaws
+pub mod FromFront
 pub mod JoinedLaws
 pub mod LimitsLaws
 pub mod ListLaws

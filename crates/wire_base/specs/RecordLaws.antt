@@ -3,7 +3,7 @@
 use Rattle.std.specs.Prelude.{◌≡◌, ℕ, ◌+◌, ◌≤◌, ◌↔◌, List, [], ◌++◌, length}
 use Rattle.wire_base.specs.declared.tag.WireType.{WireType}
 use Rattle.wire_base.specs.Charge.{charge}
-use Rattle.wire_base.specs.Ending.{Ending, by_input}
+use Rattle.wire_base.specs.Ending.{Ending, by_input, GoesOn, Ends}
 use Rattle.wire_base.specs.Field.{Payload, Fields, none, field, type_of, joined, count_top, push}
 use Rattle.wire_base.specs.InRange.{AreFitting, AreNumbered}
 use Rattle.wire_base.specs.Limits.{Limits, Charge, Fits, both, no_charge, left_after}
@@ -65,6 +65,26 @@ pub record RecordsOneByOne : Type 0 where
       → TakesFields c l fs old mid → Reads mid (IsTagSpelling n w) behind
       → TakesPayload d (left_after l c) n w p behind new
       → TakesFields (both c d) l (push fs n p) old new
+
+-- A list up to its end, from the front: it has no record, or the first one stands where the list goes
+-- on, and the others take what it leaves.
+pub record RecordsFromTheFront : Type 0 where
+  pub ended : (l : Limits) (ending : Ending) (old new : List ℕ) → Ends ending old new
+      → TakesUntil no_charge l ending Fields.none old new
+  pub more : (c d : Charge) (l : Limits) (ending : Ending) (n : ℕ) (w : WireType) (p : Payload)
+      (others : Fields) (old behind next new : List ℕ)
+      → GoesOn ending old → Reads old (IsTagSpelling n w) behind
+      → TakesPayload d l n w p behind next → TakesUntil c (left_after l d) ending others next new
+      → TakesUntil (both d c) l ending (field n p others) old new
+  pub none : (c : Charge) (l : Limits) (ending : Ending) (old new : List ℕ)
+      → TakesUntil c l ending Fields.none old new → Ends ending old new
+  pub first : (c d : Charge) (l : Limits) (ending : Ending) (n : ℕ) (p : Payload)
+      (others : Fields) (old new : List ℕ)
+      → TakesUntil (both d c) l ending (field n p others) old new
+      → (behind : List ℕ) × (next : List ℕ) × GoesOn ending old
+      × Reads old (IsTagSpelling n (type_of p)) behind
+      × TakesPayload d l n (type_of p) p behind next
+      × TakesUntil c (left_after l d) ending others next new
 
 -- ---- the shortest text
 

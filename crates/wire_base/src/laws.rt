@@ -2,7 +2,7 @@
 ghost use Rattle.wire_base.specs.VarintLaws.{ShortestReadsBack, NoSpellingBeginsAnother, OneVarint, NoVarintBesideFault, OneVarintFault, VarintOrFaultStands, NoSpellingIsShorter, DelimitedReadsBack, OneDelimited, NoDelimitedBesideFault, OneDelimitedFault, DelimitedOrFaultStands};
 ghost use Rattle.wire_base.specs.TagLaws.{TagTextReadsBack, OneTag, NoTagBesideFault, OneTagFault, TagOrFaultStands, NoTagTextIsShorter};
 ghost use Rattle.wire_base.specs.LimitsLaws.{ChargesAddUp, LimitsAddUp, LevelsAddUp, CountsFall};
-ghost use Rattle.wire_base.specs.RecordLaws.{PayloadIsField, OnePayload, OneSpelled, OneList, WholeInput, JoinedTextsSpell, JoinedAddsUp, RecordsOneByOne, ShortestTextSpells, NoTextIsShorter, TextSpellsOneList, SpelledAreNumbered, NumberedTogether};
+ghost use Rattle.wire_base.specs.RecordLaws.{PayloadIsField, OnePayload, OneSpelled, OneList, WholeInput, JoinedTextsSpell, JoinedAddsUp, RecordsOneByOne, RecordsFromTheFront, ShortestTextSpells, NoTextIsShorter, TextSpellsOneList, SpelledAreNumbered, NumberedTogether};
 ghost use Rattle.wire_base.specs.FaultLaws.{NoPayloadBesideFault, NoListBesideFault, OnePayloadFault, OneListFault, PayloadOrFaultStands, ListOrFaultStands};
 ghost use Rattle.wire_base.specs.WriteLaws.{TwoParts, PutIsWrite};
 
@@ -159,6 +159,11 @@ pub fn joined_adds_up()
 /// Records are taken one by one: none takes nothing, and one more takes from what the others leave.
 pub fn records_one_by_one()
     ensures { RecordsOneByOne }
+{}
+
+/// A list up to its end is taken record by record from the front, and in no other way.
+pub fn records_from_the_front()
+    ensures { RecordsFromTheFront }
 {}
 
 /// The shortest text of records whose numbers fit is a text of them.

@@ -1,4 +1,5 @@
 pub mod Delimiting
+pub mod Lists
 pub mod Measured
 pub mod Pieces
 pub mod RecordsLaws

@@ -33,9 +33,13 @@ pub use Rattle.wire_base.specs.declared.error.DecodeError
 pub use Rattle.wire_base.specs.declared.error.EncodeError
 pub use Rattle.wire_base.specs.declared.tag.WireType
 pub mod Encoding
+pub mod Folds
 pub mod Laws
+pub mod Options
 pub mod Pool
 pub mod Records
 pub mod Sizes
+pub mod Taking
+pub mod TakingLaws
 pub mod Tape
 pub mod Writes

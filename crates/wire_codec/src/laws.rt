@@ -3,6 +3,12 @@
 ghost use Rattle.wire_codec.specs.Laws.{NoSizeIsAboveTheWhole, SmallSizesAreUncut, MeasuredAreNext};
 ghost use Rattle.wire_codec.specs.Laws.{JoinedAddsUp, FieldsArePlain};
 ghost use Rattle.wire_codec.specs.Laws.{FlatKeepsTheTape, PieceByPiece};
+ghost use Rattle.wire_codec.specs.TakingLaws.{RecordsInOrder};
+
+use wire_base::laws::{
+    charges_add_up, counts_fall, limits_add_up, no_tag_beside_fault, one_payload, one_tag,
+    records_from_the_front,
+};
 
 pub use wire_base::laws as grammar;
 pub use wire_base::laws::{put_is_a_write, two_parts};
@@ -37,4 +43,18 @@ pub fn piece_by_piece()
     ensures { PieceByPiece }
 {
     two_parts();
+}
+
+/// What readers of records go by: a list is taken record by record from the front, in one way, and
+/// charges add up.
+pub fn records_in_order()
+    ensures { RecordsInOrder }
+{
+    one_tag();
+    no_tag_beside_fault();
+    one_payload();
+    records_from_the_front();
+    limits_add_up();
+    charges_add_up();
+    counts_fall();
 }

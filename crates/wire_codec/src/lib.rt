@@ -1,6 +1,7 @@
 //! Messages of the Protocol Buffers wire format, with all names of the crates below.
 #![tactic(auto)]
 
+mod decode_options;
 pub mod laws;
 mod message;
 mod message_name;
@@ -10,6 +11,7 @@ mod size_cache_pool;
 #[cfg(test)]
 mod tests;
 
+pub use decode_options::{DEFAULT_ELEMENT_MEMORY_LIMIT, DecodeOptions};
 pub use message::Message;
 pub use message_name::MessageName;
 pub use size::{MAX_MESSAGE_BYTES, checked_encode_size, saturate_size};

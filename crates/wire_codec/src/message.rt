@@ -1,6 +1,13 @@
-//! Message types, and the calls that encode a value of any of them.
-ghost use Rattle.std.specs.Prelude.{◌≡◌, ◌≤◌, ◌<◌, length, Option, OnOk, IfOk, IfErr};
+//! Message types, and the calls that encode and decode a value of any of them.
+ghost use Rattle.std.specs.Prelude.{◌≡◌, ◌≢◌, ◌≤◌, ◌<◌, [], length, Option, OnOk, OnErr, IfOk, IfErr};
+ghost use Rattle.wire_base.specs.declared.error.DecodeError.TheVariants.{OutOfMemory as NoMemory};
 ghost use Rattle.wire_base.specs.declared.error.EncodeError.TheVariants.{OutOfMemory};
+ghost use Rattle.wire_base.specs.Ending.{by_limit, by_input};
+ghost use Rattle.wire_base.specs.Limits.{Charge, NoCountGrew, counted, with_elements};
+ghost use Rattle.wire_base.specs.TagView.{tag_number, tag_type};
+ghost use Rattle.wire_codec.specs.Folds.{Step, IsSingle};
+ghost use Rattle.wire_codec.specs.Taking.{TakesRecord, TakesList, TakesAll, Decodes};
+ghost use Rattle.wire_codec.specs.Taking.{IsCharged, NotTaken};
 ghost use Rattle.wire_codec.specs.Encoding.{TriesToAnswer, TriesToWrite, WritesWithin, read_tape};
 ghost use Rattle.wire_codec.specs.Records.{Records, text, size};
 ghost use Rattle.wire_codec.specs.Sizes.{cut, cut_sizes, sizes};
@@ -8,11 +15,15 @@ ghost use Rattle.wire_codec.specs.Tape.{NextAre, recorded, advanced};
 ghost use Rattle.wire_codec.specs.Writes.{Writes};
 ghost use Rattle.wire_base.specs.Delimited.{delimited_text};
 
+use crate::decode_options::default_context;
+use crate::laws::records_in_order;
 use crate::size::checked_encode_size;
 use crate::size_cache::SizeCache;
-use bytes::Bytes;
+use bytes::{Buf, Bytes};
 use std::alloc::Global;
-use wire_base::{EncodeError, EncodeSink, encode_varint, laws};
+use wire_base::{
+    DecodeContext, DecodeError, EncodeError, EncodeSink, Tag, encode_varint, laws,
+};
 
 /// A type whose values are encoded as records.
 ///
@@ -28,6 +39,9 @@ pub trait Message: Clone + PartialEq + Drop {
     ghost records: { Value → Records };
 
     ghost default: { Value };
+
+    /// What a value makes of a record: the value then, and what is charged for it.
+    ghost takes: { Step Value };
 
     fn default_value(alloc: Global) -> Self
         ensures { view result ≡ default };
@@ -52,6 +66,24 @@ pub trait Message: Clone + PartialEq + Drop {
             (S.bytes_of sink.old) (S.bytes_of sink.new) result }
         ensures read { OnOk result (cache.new
             ≡ advanced cache.old (length (sizes (records (view self.now))))) };
+
+    /// Reads the payload of a tag that was read, and takes the record into the value. A refusal
+    /// leaves what the value holds, the place of the buffer and the depth of the context open.
+    fn merge_field<B: Buf>(
+        &mut self,
+        alloc: Global,
+        tag: Tag,
+        buf: &mut B,
+        context: &mut DecodeContext,
+    ) -> Result<(), DecodeError>
+        ensures ok { OnOk result (IsCharged context.old context.new (λ c.
+            TakesRecord takes context.old (tag_number tag) (tag_type tag) (view self.old)
+            (B.unread buf.old) c (view self.new) (B.unread buf.new))) }
+        ensures err { IfErr result (λ e. e ≢ NoMemory → NotTaken
+            (TakesRecord takes context.old (tag_number tag) (tag_type tag) (view self.old)
+            (B.unread buf.old))) }
+        ensures counts { OnErr result (NoCountGrew context.old context.new) }
+        ensures kept { B.kept buf.new ≡ B.kept buf.old };
 
     fn clear(&mut self)
         ensures { view self.new ≡ default };
@@ -224,4 +256,89 @@ pub trait Message: Clone + PartialEq + Drop {
         self.write_to(cache, sink)?;
         Ok(len)
     }
+
+    /// Takes the records of the whole buffer into the value, under the limits of the context.
+    fn merge<B: Buf>(
+        &mut self,
+        alloc: Global,
+        buf: &mut B,
+        context: &mut DecodeContext,
+    ) -> Result<(), DecodeError>
+        ensures ok { OnOk result (IsCharged context.old context.new (λ c. TakesAll takes
+            context.old (view self.old) (B.unread buf.old) c (view self.new))) }
+        ensures rest { OnOk result (B.unread buf.new ≡ []) }
+        ensures err { IfErr result (λ e. e ≢ NoMemory → NotTaken
+            (TakesList takes context.old by_input (view self.old) (B.unread buf.old))) }
+        ensures counts { OnErr result (NoCountGrew context.old context.new) }
+        ensures kept { B.kept buf.new ≡ B.kept buf.old }
+    {
+        self.merge_to_limit(alloc, buf, context, 0)
+    }
+
+    /// Takes whole records into the value while more than so many bytes remain. The last of them
+    /// may run past that place.
+    fn merge_to_limit<B: Buf>(
+        &mut self,
+        alloc: Global,
+        buf: &mut B,
+        context: &mut DecodeContext,
+        limit: usize,
+    ) -> Result<(), DecodeError>
+        ensures ok { OnOk result (IsCharged context.old context.new (λ c.
+            TakesList takes context.old (by_limit limit) (view self.old) (B.unread buf.old)
+            c (view self.new) (B.unread buf.new))) }
+        ensures err { IfErr result (λ e. e ≢ NoMemory → NotTaken
+            (TakesList takes context.old (by_limit limit) (view self.old) (B.unread buf.old))) }
+        ensures counts { OnErr result (NoCountGrew context.old context.new) }
+        ensures kept { B.kept buf.new ≡ B.kept buf.old }
+    {
+        records_in_order();
+        while buf.remaining() > limit {
+            let tag = Tag::decode(buf)?;
+            self.merge_field(alloc, tag, buf, context)?;
+        }
+        Ok(())
+    }
+
+    /// The value of the records of the whole buffer, within 100 levels, 1,000,000 unknown fields
+    /// and 33,554,432 bytes for elements.
+    fn decode<B: Buf>(alloc: Global, buf: &mut B) -> Result<Self, DecodeError>
+        ensures ok { IfOk result (λ message. Decodes takes
+            (with_elements (counted 100 1000000) 33554432) default
+            (B.unread buf.old) (view message)) }
+        ensures rest { OnOk result (B.unread buf.new ≡ []) }
+        ensures err { IfErr result (λ e. e ≢ NoMemory → NotTaken
+            (TakesList takes (with_elements (counted 100 1000000) 33554432) by_input
+            default (B.unread buf.old))) }
+        ensures kept { B.kept buf.new ≡ B.kept buf.old }
+    {
+        let mut message = Self::default_value(alloc);
+        message.merge(alloc, buf, &mut default_context())?;
+        Ok(message)
+    }
+
+    fn decode_from_slice(alloc: Global, bytes: &[u8]) -> Result<Self, DecodeError>
+        ensures ok { IfOk result (λ message. Decodes takes
+            (with_elements (counted 100 1000000) 33554432) default bytes.now (view message)) }
+        ensures err { IfErr result (λ e. e ≢ NoMemory → NotTaken
+            (TakesList takes (with_elements (counted 100 1000000) 33554432) by_input
+            default bytes.now)) }
+    {
+        let mut buf = bytes;
+        Self::decode(alloc, &mut buf)
+    }
+
+    /// Takes the records of all the bytes into the value, within the limits of `decode`.
+    fn merge_from_slice(&mut self, alloc: Global, bytes: &[u8]) -> Result<(), DecodeError>
+        ensures ok { OnOk result (Decodes takes (with_elements (counted 100 1000000) 33554432)
+            (view self.old) bytes.now (view self.new)) }
+        ensures err { IfErr result (λ e. e ≢ NoMemory → NotTaken
+            (TakesList takes (with_elements (counted 100 1000000) 33554432) by_input
+            (view self.old) bytes.now)) }
+    {
+        let mut buf = bytes;
+        self.merge(alloc, &mut buf, &mut default_context())
+    }
+
+    ghost single: { IsSingle takes };
 }

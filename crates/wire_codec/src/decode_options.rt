@@ -1,0 +1,232 @@
+//! Decoding under limits that the caller names.
+ghost use Rattle.std.specs.Prelude.{◌≡◌, ◌≢◌, ◌<◌, ◌≤◌, [], length, OnOk, IfOk, IfErr, IsErrAnd};
+ghost use Rattle.wire_base.specs.declared.error.DecodeError.TheVariants.{MessageTooLarge, OutOfMemory};
+ghost use Rattle.wire_base.specs.Ending.{by_input};
+ghost use Rattle.wire_base.specs.Limits.{counted, with_elements};
+ghost use Rattle.wire_codec.specs.Options.{default_options, limits_of};
+ghost use Rattle.wire_codec.specs.Options.{with_recursion, with_message_size};
+ghost use Rattle.wire_codec.specs.Options.{with_unknown_fields, with_element_memory};
+ghost use Rattle.wire_codec.specs.Taking.{TakesList, Decodes, NotTaken};
+
+use crate::message::Message;
+use crate::size::MAX_MESSAGE_BYTES;
+use bytes::Buf;
+use std::alloc::Global;
+use std::marker::Model;
+use wire_base::{DEFAULT_UNKNOWN_FIELD_LIMIT, DecodeContext, DecodeError, RECURSION_LIMIT};
+
+/// How many bytes the elements that message types charge may take, where a caller names no limit.
+pub const DEFAULT_ELEMENT_MEMORY_LIMIT: usize = 33_554_432;
+
+/// Limits for decoding: levels of nesting, bytes of an input, unknown fields, and bytes for the
+/// elements that message types charge.
+#[derive(Clone, Debug, Drop)]
+pub struct DecodeOptions {
+    recursion_limit: u32,
+    max_message_size: usize,
+    unknown_field_limit: usize,
+    element_memory_limit: usize,
+}
+
+impl Model for DecodeOptions {
+    ghost use Rattle.wire_codec.specs.Options.{Options};
+
+    ghost Value = { Options };
+
+    ghost view = { λ options. record {
+      recursion_limit = options.recursion_limit;
+      max_message_size = options.max_message_size;
+      unknown_field_limit = options.unknown_field_limit;
+      element_memory_limit = options.element_memory_limit;
+    } };
+}
+
+impl DecodeOptions {
+    /// 100 levels, 2,147,483,647 bytes, 1,000,000 unknown fields, and 33,554,432 bytes for elements.
+    pub fn new() -> DecodeOptions
+        ensures { result ≡ default_options }
+    {
+        DecodeOptions {
+            recursion_limit: RECURSION_LIMIT,
+            max_message_size: MAX_MESSAGE_BYTES as usize,
+            unknown_field_limit: DEFAULT_UNKNOWN_FIELD_LIMIT,
+            element_memory_limit: DEFAULT_ELEMENT_MEMORY_LIMIT,
+        }
+    }
+
+    /// How many groups and messages may stand in one another.
+    pub fn with_recursion_limit(self, limit: u32) -> DecodeOptions
+        ensures { result ≡ with_recursion self limit }
+    {
+        DecodeOptions {
+            recursion_limit: limit,
+            ..self
+        }
+    }
+
+    /// How many bytes an input may have. More than 2,147,483,647 are no more than these.
+    pub fn with_max_message_size(self, limit: usize) -> DecodeOptions
+        ensures { result ≡ with_message_size self limit }
+    {
+        DecodeOptions {
+            max_message_size: limit.min(MAX_MESSAGE_BYTES as usize),
+            ..self
+        }
+    }
+
+    /// How many unknown fields may be kept.
+    pub fn with_unknown_field_limit(self, limit: usize) -> DecodeOptions
+        ensures { result ≡ with_unknown_fields self limit }
+    {
+        DecodeOptions {
+            unknown_field_limit: limit,
+            ..self
+        }
+    }
+
+    /// How many bytes may be charged for elements.
+    pub fn with_element_memory_limit(self, limit: usize) -> DecodeOptions
+        ensures { result ≡ with_element_memory self limit }
+    {
+        DecodeOptions {
+            element_memory_limit: limit,
+            ..self
+        }
+    }
+
+    pub fn recursion_limit(&self) -> u32
+        ensures { result ≡ self.now.recursion_limit }
+    {
+        self.recursion_limit
+    }
+
+    pub fn max_message_size(&self) -> usize
+        ensures { result ≡ self.now.max_message_size }
+    {
+        self.max_message_size
+    }
+
+    pub fn unknown_field_limit(&self) -> usize
+        ensures { result ≡ self.now.unknown_field_limit }
+    {
+        self.unknown_field_limit
+    }
+
+    pub fn element_memory_limit(&self) -> usize
+        ensures { result ≡ self.now.element_memory_limit }
+    {
+        self.element_memory_limit
+    }
+
+    /// The value of the records of the whole buffer.
+    pub fn decode<M: Message, B: Buf>(&self, alloc: Global, buf: &mut B) -> Result<M, DecodeError>
+        ensures within { OnOk result (length (B.unread buf.old) ≤ self.now.max_message_size) }
+        ensures ok { IfOk result (λ message. Decodes M.takes (limits_of self.now) M.default
+            (B.unread buf.old) (M.view message)) }
+        ensures rest { OnOk result (B.unread buf.new ≡ []) }
+        ensures too_large { self.now.max_message_size < length (B.unread buf.old)
+            → IsErrAnd result (λ e. e ≡ MessageTooLarge) }
+        ensures unchanged { self.now.max_message_size < length (B.unread buf.old)
+            → B.unread buf.new ≡ B.unread buf.old }
+        ensures err { length (B.unread buf.old) ≤ self.now.max_message_size
+            → IfErr result (λ e. e ≢ OutOfMemory → NotTaken
+            (TakesList M.takes (limits_of self.now) by_input M.default (B.unread buf.old))) }
+        ensures kept { B.kept buf.new ≡ B.kept buf.old }
+    {
+        let mut message = M::default_value(alloc);
+        self.merge(alloc, &mut message, buf)?;
+        Ok(message)
+    }
+
+    pub fn decode_from_slice<M: Message>(
+        &self,
+        alloc: Global,
+        bytes: &[u8],
+    ) -> Result<M, DecodeError>
+        ensures within { OnOk result (length bytes.now ≤ self.now.max_message_size) }
+        ensures ok { IfOk result (λ message. Decodes M.takes (limits_of self.now) M.default
+            bytes.now (M.view message)) }
+        ensures too_large { self.now.max_message_size < length bytes.now
+            → IsErrAnd result (λ e. e ≡ MessageTooLarge) }
+        ensures err { length bytes.now ≤ self.now.max_message_size
+            → IfErr result (λ e. e ≢ OutOfMemory → NotTaken
+            (TakesList M.takes (limits_of self.now) by_input M.default bytes.now)) }
+    {
+        let mut buf = bytes;
+        self.decode(alloc, &mut buf)
+    }
+
+    /// Takes the records of the whole buffer into the value. An input that is too long leaves the
+    /// value and the buffer as they were.
+    pub fn merge<M: Message, B: Buf>(
+        &self,
+        alloc: Global,
+        message: &mut M,
+        buf: &mut B,
+    ) -> Result<(), DecodeError>
+        ensures within { OnOk result (length (B.unread buf.old) ≤ self.now.max_message_size) }
+        ensures ok { OnOk result (Decodes M.takes (limits_of self.now) (M.view message.old)
+            (B.unread buf.old) (M.view message.new)) }
+        ensures rest { OnOk result (B.unread buf.new ≡ []) }
+        ensures too_large { self.now.max_message_size < length (B.unread buf.old)
+            → IsErrAnd result (λ e. e ≡ MessageTooLarge) }
+        ensures unchanged { self.now.max_message_size < length (B.unread buf.old)
+            → (message.new ≡ message.old) × (B.unread buf.new ≡ B.unread buf.old) }
+        ensures err { length (B.unread buf.old) ≤ self.now.max_message_size
+            → IfErr result (λ e. e ≢ OutOfMemory → NotTaken (TakesList M.takes
+            (limits_of self.now) by_input (M.view message.old) (B.unread buf.old))) }
+        ensures kept { B.kept buf.new ≡ B.kept buf.old }
+    {
+        if buf.remaining() > self.max_message_size {
+            return Err(DecodeError::MessageTooLarge);
+        }
+        message.merge(alloc, buf, &mut self.context())
+    }
+
+    pub fn merge_from_slice<M: Message>(
+        &self,
+        alloc: Global,
+        message: &mut M,
+        bytes: &[u8],
+    ) -> Result<(), DecodeError>
+        ensures within { OnOk result (length bytes.now ≤ self.now.max_message_size) }
+        ensures ok { OnOk result (Decodes M.takes (limits_of self.now) (M.view message.old)
+            bytes.now (M.view message.new)) }
+        ensures too_large { self.now.max_message_size < length bytes.now
+            → IsErrAnd result (λ e. e ≡ MessageTooLarge) }
+        ensures unchanged { self.now.max_message_size < length bytes.now
+            → message.new ≡ message.old }
+        ensures err { length bytes.now ≤ self.now.max_message_size
+            → IfErr result (λ e. e ≢ OutOfMemory → NotTaken (TakesList M.takes
+            (limits_of self.now) by_input (M.view message.old) bytes.now)) }
+    {
+        let mut buf = bytes;
+        self.merge(alloc, message, &mut buf)
+    }
+
+    // A context with all that the options allow.
+    fn context(&self) -> DecodeContext
+        ensures { result ≡ limits_of self.now }
+    {
+        DecodeContext::new(self.recursion_limit, self.unknown_field_limit)
+            .with_element_memory(self.element_memory_limit)
+    }
+}
+
+impl Default for DecodeOptions {
+    ghost is_default = { λ options. options ≡ default_options };
+
+    fn default() -> DecodeOptions
+        ensures { result ≡ default_options }
+    {
+        DecodeOptions::new()
+    }
+}
+
+// A context with all that a caller is allowed who names no limit.
+pub(crate) fn default_context() -> DecodeContext
+    ensures { result ≡ with_elements (counted 100 1000000) 33554432 }
+{
+    DecodeContext::new(RECURSION_LIMIT, DEFAULT_UNKNOWN_FIELD_LIMIT)
+        .with_element_memory(DEFAULT_ELEMENT_MEMORY_LIMIT)
+}
