@@ -51,7 +51,7 @@ module _ (order : RecordsInOrder) where
       → NotEnded ending now
   not_ended (by_limit most) n w now behind goes tag is new ended = omega (arith, ended.0)
   not_ended (by_tag k) n w now behind goes tag is new ended =
-      is (order.tag now behind new n k w types.EndGroup tag ended).1
+      is (order.reading.tag now behind new n k w types.EndGroup tag ended).1
 
 module _ (order : RecordsInOrder) {V : Type 0} (takes : Step V) where
   -- one record more in front
@@ -155,7 +155,7 @@ module _ (order : RecordsInOrder) {V : Type 0} (takes : Step V) where
       → HeadBehind takes l ending n w m behind z new
   head_behind l ending n w m z now behind new c tag some h =
       let first = head order takes l ending m z now new c some h in
-      let same = order.tag now behind first.behind n first.n w (type_of first.payload) tag first.tag in
+      let same = order.reading.tag now behind first.behind n first.n w (type_of first.payload) tag first.tag in
       record {
         next = first.next;
         mid = first.mid;
@@ -186,7 +186,7 @@ module _ (order : RecordsInOrder) {V : Type 0} (takes : Step V) where
         → HeadBehind takes l ending n w m behind z new
         → Rest takes (left_after l d) ending u next z new
     rest_of l ending n w m u z behind next new d h k =
-        let same = order.payload n w h.payload k.taken.payload behind next k.next h.read.read
+        let same = order.reading.payload n w h.payload k.taken.payload behind next k.next h.read.read
             k.taken.read.read in
         let one = single m m u k.mid n h.payload d k.first h.step
             (subst (λ p. takes m n p k.first k.mid) (sym same.0) k.taken.step) in

@@ -1,12 +1,11 @@
 //! Decoding under limits that the caller names.
 ghost use Rattle.std.specs.Prelude.{◌≡◌, ◌≢◌, ◌<◌, ◌≤◌, [], length, OnOk, IfOk, IfErr, IsErrAnd};
 ghost use Rattle.wire_base.specs.declared.error.DecodeError.TheVariants.{MessageTooLarge, OutOfMemory};
-ghost use Rattle.wire_base.specs.Ending.{by_input};
 ghost use Rattle.wire_base.specs.Limits.{counted, with_elements};
 ghost use Rattle.wire_codec.specs.Options.{default_options, limits_of};
 ghost use Rattle.wire_codec.specs.Options.{with_recursion, with_message_size};
 ghost use Rattle.wire_codec.specs.Options.{with_unknown_fields, with_element_memory};
-ghost use Rattle.wire_codec.specs.Taking.{TakesList, Decodes, NotTaken};
+ghost use Rattle.wire_codec.specs.Taking.{Decodes, NotDecoded};
 
 use crate::message::Message;
 use crate::size::MAX_MESSAGE_BYTES;
@@ -129,8 +128,8 @@ impl DecodeOptions {
         ensures unchanged { self.now.max_message_size < length (B.unread buf.old)
             → B.unread buf.new ≡ B.unread buf.old }
         ensures err { length (B.unread buf.old) ≤ self.now.max_message_size
-            → IfErr result (λ e. e ≢ OutOfMemory → NotTaken
-            (TakesList M.takes (limits_of self.now) by_input M.default (B.unread buf.old))) }
+            → IfErr result (λ e. e ≢ OutOfMemory
+            → NotDecoded M.takes (limits_of self.now) M.default (B.unread buf.old)) }
         ensures kept { B.kept buf.new ≡ B.kept buf.old }
     {
         let mut message = M::default_value(alloc);
@@ -149,8 +148,8 @@ impl DecodeOptions {
         ensures too_large { self.now.max_message_size < length bytes.now
             → IsErrAnd result (λ e. e ≡ MessageTooLarge) }
         ensures err { length bytes.now ≤ self.now.max_message_size
-            → IfErr result (λ e. e ≢ OutOfMemory → NotTaken
-            (TakesList M.takes (limits_of self.now) by_input M.default bytes.now)) }
+            → IfErr result (λ e. e ≢ OutOfMemory
+            → NotDecoded M.takes (limits_of self.now) M.default bytes.now) }
     {
         let mut buf = bytes;
         self.decode(alloc, &mut buf)
@@ -173,8 +172,8 @@ impl DecodeOptions {
         ensures unchanged { self.now.max_message_size < length (B.unread buf.old)
             → (message.new ≡ message.old) × (B.unread buf.new ≡ B.unread buf.old) }
         ensures err { length (B.unread buf.old) ≤ self.now.max_message_size
-            → IfErr result (λ e. e ≢ OutOfMemory → NotTaken (TakesList M.takes
-            (limits_of self.now) by_input (M.view message.old) (B.unread buf.old))) }
+            → IfErr result (λ e. e ≢ OutOfMemory → NotDecoded M.takes
+            (limits_of self.now) (M.view message.old) (B.unread buf.old)) }
         ensures kept { B.kept buf.new ≡ B.kept buf.old }
     {
         if buf.remaining() > self.max_message_size {
@@ -197,8 +196,8 @@ impl DecodeOptions {
         ensures unchanged { self.now.max_message_size < length bytes.now
             → message.new ≡ message.old }
         ensures err { length bytes.now ≤ self.now.max_message_size
-            → IfErr result (λ e. e ≢ OutOfMemory → NotTaken (TakesList M.takes
-            (limits_of self.now) by_input (M.view message.old) bytes.now)) }
+            → IfErr result (λ e. e ≢ OutOfMemory → NotDecoded M.takes
+            (limits_of self.now) (M.view message.old) bytes.now) }
     {
         let mut buf = bytes;
         self.merge(alloc, message, &mut buf)

@@ -3,12 +3,13 @@
 ghost use Rattle.wire_codec.specs.Laws.{NoSizeIsAboveTheWhole, SmallSizesAreUncut, MeasuredAreNext};
 ghost use Rattle.wire_codec.specs.Laws.{JoinedAddsUp, FieldsArePlain};
 ghost use Rattle.wire_codec.specs.Laws.{FlatKeepsTheTape, PieceByPiece};
-ghost use Rattle.wire_codec.specs.TakingLaws.{RecordsInOrder};
+ghost use Rattle.wire_codec.specs.TakingLaws.{OneReading, RecordsInOrder};
 
 use wire_base::laws::{
-    charges_add_up, counts_fall, limits_add_up, no_tag_beside_fault, one_payload, one_tag,
-    records_from_the_front,
+    charges_add_up, counts_fall, limits_add_up, no_tag_beside_fault, one_delimited, one_payload,
+    one_spelled, one_tag, one_varint, records_from_the_front,
 };
+use wire_scalar::laws::one_packed_list;
 
 pub use wire_base::laws as grammar;
 pub use wire_base::laws::{put_is_a_write, two_parts};
@@ -45,14 +46,25 @@ pub fn piece_by_piece()
     two_parts();
 }
 
+/// The same bytes are read in one way.
+pub fn one_reading()
+    ensures { OneReading }
+{
+    one_varint();
+    one_delimited();
+    one_packed_list();
+    one_tag();
+    one_payload();
+    one_spelled();
+}
+
 /// What readers of records go by: a list is taken record by record from the front, in one way, and
 /// charges add up.
 pub fn records_in_order()
     ensures { RecordsInOrder }
 {
-    one_tag();
+    one_reading();
     no_tag_beside_fault();
-    one_payload();
     records_from_the_front();
     limits_add_up();
     charges_add_up();

@@ -1,16 +1,17 @@
 //! Message types, and the calls that encode and decode a value of any of them.
 ghost use Rattle.std.specs.Prelude.{◌≡◌, ◌≢◌, ◌≤◌, ◌<◌, [], length, Option, OnOk, OnErr, IfOk, IfErr};
-ghost use Rattle.wire_base.specs.declared.error.DecodeError.TheVariants.{OutOfMemory as NoMemory};
+ghost use Rattle.wire_base.specs.declared.error.DecodeError.TheVariants as errors;
 ghost use Rattle.wire_base.specs.declared.error.EncodeError.TheVariants.{OutOfMemory};
-ghost use Rattle.wire_base.specs.Ending.{by_limit, by_input};
-ghost use Rattle.wire_base.specs.Limits.{Charge, NoCountGrew, counted, with_elements};
+ghost use Rattle.wire_base.specs.Ending.{by_limit};
+ghost use Rattle.wire_base.specs.Limits.{NoCountGrew, counted, with_elements};
 ghost use Rattle.wire_base.specs.TagView.{tag_number, tag_type};
 ghost use Rattle.wire_codec.specs.Folds.{Step, IsSingle};
 ghost use Rattle.wire_codec.specs.Taking.{TakesRecord, TakesList, TakesAll, Decodes};
-ghost use Rattle.wire_codec.specs.Taking.{IsCharged, NotTaken};
+ghost use Rattle.wire_codec.specs.Taking.{IsCharged, NotTaken, NotDecoded};
 ghost use Rattle.wire_codec.specs.Encoding.{TriesToAnswer, TriesToWrite, WritesWithin, read_tape};
 ghost use Rattle.wire_codec.specs.Records.{Records, text, size};
 ghost use Rattle.wire_codec.specs.Sizes.{cut, cut_sizes, sizes};
+ghost use Rattle.wire_codec.specs.TakingLaws.{OneReading};
 ghost use Rattle.wire_codec.specs.Tape.{NextAre, recorded, advanced};
 ghost use Rattle.wire_codec.specs.Writes.{Writes};
 ghost use Rattle.wire_base.specs.Delimited.{delimited_text};
@@ -40,7 +41,7 @@ pub trait Message: Clone + PartialEq + Drop {
 
     ghost default: { Value };
 
-    /// What a value makes of a record: the value then, and what is charged for it.
+    /// What a value makes of a record: what is charged for it, and the value that it becomes.
     ghost takes: { Step Value };
 
     fn default_value(alloc: Global) -> Self
@@ -67,8 +68,9 @@ pub trait Message: Clone + PartialEq + Drop {
         ensures read { OnOk result (cache.new
             ≡ advanced cache.old (length (sizes (records (view self.now))))) };
 
-    /// Reads the payload of a tag that was read, and takes the record into the value. A refusal
-    /// leaves what the value holds, the place of the buffer and the depth of the context open.
+    /// Reads the payload behind this tag and takes the record into the value. An end tag has no
+    /// payload, and is refused. A refusal leaves open what the value holds, the place of the buffer
+    /// and the depth of the context.
     fn merge_field<B: Buf>(
         &mut self,
         alloc: Global,
@@ -79,7 +81,7 @@ pub trait Message: Clone + PartialEq + Drop {
         ensures ok { OnOk result (IsCharged context.old context.new (λ c.
             TakesRecord takes context.old (tag_number tag) (tag_type tag) (view self.old)
             (B.unread buf.old) c (view self.new) (B.unread buf.new))) }
-        ensures err { IfErr result (λ e. e ≢ NoMemory → NotTaken
+        ensures err { IfErr result (λ e. e ≢ errors.OutOfMemory → NotTaken
             (TakesRecord takes context.old (tag_number tag) (tag_type tag) (view self.old)
             (B.unread buf.old))) }
         ensures counts { OnErr result (NoCountGrew context.old context.new) }
@@ -257,7 +259,7 @@ pub trait Message: Clone + PartialEq + Drop {
         Ok(len)
     }
 
-    /// Takes the records of the whole buffer into the value, under the limits of the context.
+    /// Takes the records of the whole buffer into the value, within the limits of the context.
     fn merge<B: Buf>(
         &mut self,
         alloc: Global,
@@ -267,15 +269,15 @@ pub trait Message: Clone + PartialEq + Drop {
         ensures ok { OnOk result (IsCharged context.old context.new (λ c. TakesAll takes
             context.old (view self.old) (B.unread buf.old) c (view self.new))) }
         ensures rest { OnOk result (B.unread buf.new ≡ []) }
-        ensures err { IfErr result (λ e. e ≢ NoMemory → NotTaken
-            (TakesList takes context.old by_input (view self.old) (B.unread buf.old))) }
+        ensures err { IfErr result (λ e. e ≢ errors.OutOfMemory
+            → NotDecoded takes context.old (view self.old) (B.unread buf.old)) }
         ensures counts { OnErr result (NoCountGrew context.old context.new) }
         ensures kept { B.kept buf.new ≡ B.kept buf.old }
     {
         self.merge_to_limit(alloc, buf, context, 0)
     }
 
-    /// Takes whole records into the value while more than so many bytes remain. The last of them
+    /// Takes whole records into the value while more than `limit` bytes remain. The last of them
     /// may run past that place.
     fn merge_to_limit<B: Buf>(
         &mut self,
@@ -287,7 +289,7 @@ pub trait Message: Clone + PartialEq + Drop {
         ensures ok { OnOk result (IsCharged context.old context.new (λ c.
             TakesList takes context.old (by_limit limit) (view self.old) (B.unread buf.old)
             c (view self.new) (B.unread buf.new))) }
-        ensures err { IfErr result (λ e. e ≢ NoMemory → NotTaken
+        ensures err { IfErr result (λ e. e ≢ errors.OutOfMemory → NotTaken
             (TakesList takes context.old (by_limit limit) (view self.old) (B.unread buf.old))) }
         ensures counts { OnErr result (NoCountGrew context.old context.new) }
         ensures kept { B.kept buf.new ≡ B.kept buf.old }
@@ -307,9 +309,8 @@ pub trait Message: Clone + PartialEq + Drop {
             (with_elements (counted 100 1000000) 33554432) default
             (B.unread buf.old) (view message)) }
         ensures rest { OnOk result (B.unread buf.new ≡ []) }
-        ensures err { IfErr result (λ e. e ≢ NoMemory → NotTaken
-            (TakesList takes (with_elements (counted 100 1000000) 33554432) by_input
-            default (B.unread buf.old))) }
+        ensures err { IfErr result (λ e. e ≢ errors.OutOfMemory → NotDecoded takes
+            (with_elements (counted 100 1000000) 33554432) default (B.unread buf.old)) }
         ensures kept { B.kept buf.new ≡ B.kept buf.old }
     {
         let mut message = Self::default_value(alloc);
@@ -320,9 +321,8 @@ pub trait Message: Clone + PartialEq + Drop {
     fn decode_from_slice(alloc: Global, bytes: &[u8]) -> Result<Self, DecodeError>
         ensures ok { IfOk result (λ message. Decodes takes
             (with_elements (counted 100 1000000) 33554432) default bytes.now (view message)) }
-        ensures err { IfErr result (λ e. e ≢ NoMemory → NotTaken
-            (TakesList takes (with_elements (counted 100 1000000) 33554432) by_input
-            default bytes.now)) }
+        ensures err { IfErr result (λ e. e ≢ errors.OutOfMemory → NotDecoded takes
+            (with_elements (counted 100 1000000) 33554432) default bytes.now) }
     {
         let mut buf = bytes;
         Self::decode(alloc, &mut buf)
@@ -332,13 +332,13 @@ pub trait Message: Clone + PartialEq + Drop {
     fn merge_from_slice(&mut self, alloc: Global, bytes: &[u8]) -> Result<(), DecodeError>
         ensures ok { OnOk result (Decodes takes (with_elements (counted 100 1000000) 33554432)
             (view self.old) bytes.now (view self.new)) }
-        ensures err { IfErr result (λ e. e ≢ NoMemory → NotTaken
-            (TakesList takes (with_elements (counted 100 1000000) 33554432) by_input
-            (view self.old) bytes.now)) }
+        ensures err { IfErr result (λ e. e ≢ errors.OutOfMemory → NotDecoded takes
+            (with_elements (counted 100 1000000) 33554432) (view self.old) bytes.now) }
     {
         let mut buf = bytes;
         self.merge(alloc, &mut buf, &mut default_context())
     }
 
-    ghost single: { IsSingle takes };
+    /// A record has one charge, and one outcome for each value, since bytes are read in one way.
+    ghost single: { OneReading → IsSingle takes };
 }

@@ -2,6 +2,7 @@
 #![tactic(auto)]
 
 mod fields;
+mod merge;
 mod person;
 mod repeat;
 #[cfg(test)]

@@ -7,9 +7,12 @@ ghost use Rattle.wire_samples.specs.Person.{value_of};
 use crate::fields::{
     bytes_len, int32_len, packed_int32_len, put_bytes, put_int32, put_packed_int32,
 };
+use crate::merge::{keep_unknown, merge_int32, merge_repeated_int32, merge_text};
+use bytes::Buf;
 use std::alloc::Global;
 use wire_codec::{
-    EncodeError, EncodeSink, Message, MessageName, SizeCache, UnknownFields, laws, saturate_size,
+    DecodeContext, DecodeError, EncodeError, EncodeSink, Message, MessageName, SizeCache, Tag,
+    UnknownFields, laws, saturate_size,
 };
 
 /// A person, by number and name, with scores. Fields that a schema of later date has are kept.
@@ -42,7 +45,8 @@ impl MessageName for Person {
 
 impl Message for Person {
     ghost use Rattle.wire_samples.specs.Person.{PersonValue, value_of};
-    ghost use Rattle.wire_samples.specs.Person.{person_records, default_person};
+    ghost use Rattle.wire_samples.specs.Person.{person_records, default_person, PersonTakes};
+    ghost use Rattle.wire_samples.specs.PersonSingle.{person_single};
 
     ghost Value = { PersonValue };
 
@@ -51,6 +55,10 @@ impl Message for Person {
     ghost records = { person_records };
 
     ghost default = { default_person };
+
+    ghost takes = { PersonTakes };
+
+    ghost single = { person_single };
 
     fn default_value(alloc: Global) -> Person {
         Person {
@@ -85,6 +93,22 @@ impl Message for Person {
         put_bytes(2, self.name.as_bytes(), sink)?;
         put_packed_int32(3, &self.scores, sink)?;
         self.unknown.write_to(sink)
+    }
+
+    fn merge_field<B: Buf>(
+        &mut self,
+        alloc: Global,
+        tag: Tag,
+        buf: &mut B,
+        context: &mut DecodeContext,
+    ) -> Result<(), DecodeError> {
+        laws::records_in_order();
+        match tag.field_number() {
+            1 => merge_int32(tag, &mut self.id, buf),
+            2 => merge_text(alloc, tag, &mut self.name, buf),
+            3 => merge_repeated_int32(alloc, tag, &mut self.scores, buf),
+            _ => keep_unknown(alloc, tag, &mut self.unknown, buf, context),
+        }
     }
 
     fn clear(&mut self) {

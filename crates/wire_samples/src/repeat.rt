@@ -1,8 +1,12 @@
 //! A message of many short records.
+use bytes::Buf;
 use std::alloc::Global;
 use wire_codec::{
-    EncodeError, EncodeSink, Message, SizeCache, laws, put_uint64_field, saturate_size,
+    DecodeContext, DecodeError, EncodeError, EncodeSink, Message, SizeCache, Tag, WireType,
+    decode_varint, laws, put_uint64_field, saturate_size,
 };
+
+const NO_RECORD: &str = "no record of a Repeat";
 
 /// A count that is spelled out, a record for each, and a mark behind it.
 #[derive(Clone, Debug, Drop, PartialEq)]
@@ -14,7 +18,8 @@ pub struct Repeat {
 impl Message for Repeat {
     ghost use Rattle.std.specs.Prelude.{false};
     ghost use Rattle.wire_samples.specs.declared.repeat.Repeat.{Repeat};
-    ghost use Rattle.wire_samples.specs.Repeat.{repeat_records};
+    ghost use Rattle.wire_samples.specs.Repeat.{repeat_records, RepeatTakes};
+    ghost use Rattle.wire_samples.specs.RepeatSingle.{repeat_single};
 
     ghost Value = { Repeat };
 
@@ -23,6 +28,10 @@ impl Message for Repeat {
     ghost records = { repeat_records };
 
     ghost default = { record { times = 0; extra = false } };
+
+    ghost takes = { RepeatTakes };
+
+    ghost single = { repeat_single };
 
     fn default_value(_alloc: Global) -> Repeat {
         Repeat {
@@ -49,6 +58,26 @@ impl Message for Repeat {
         }
         if self.extra {
             return put_uint64_field(2, 128, sink);
+        }
+        Ok(())
+    }
+
+    fn merge_field<B: Buf>(
+        &mut self,
+        _alloc: Global,
+        tag: Tag,
+        buf: &mut B,
+        _context: &mut DecodeContext,
+    ) -> Result<(), DecodeError> {
+        laws::records_in_order();
+        laws::grammar::no_varint_beside_fault();
+        if tag.wire_type() != WireType::Varint {
+            return Err(DecodeError::Custom(NO_RECORD));
+        }
+        match (tag.field_number(), decode_varint(buf)?) {
+            (1, 0) if self.times < u64::MAX => self.times += 1,
+            (2, 128) => self.extra = true,
+            _ => return Err(DecodeError::Custom(NO_RECORD)),
         }
         Ok(())
     }

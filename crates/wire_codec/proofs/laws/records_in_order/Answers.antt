@@ -2,9 +2,8 @@ use Rattle.wire_codec.proofs.laws.records_in_order.Goals as goal
 
 pub returns : goal.returns
 returns c = record {
-  tag = c.one_tag.ensures;
+  reading = c.one_reading.ensures;
   tag_fault = c.no_tag_beside_fault.ensures;
-  payload = c.one_payload.ensures;
   front = c.records_from_the_front.ensures;
   limits = c.limits_add_up.ensures;
   charges = c.charges_add_up.ensures;

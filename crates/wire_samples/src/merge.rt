@@ -1,0 +1,164 @@
+//! Known fields from the payloads of their records.
+ghost use Rattle.std.specs.Prelude.{◌≡◌, ◌≢◌, ◌≤◌, length, take, drop, string_bytes, OnOk, OnErr, IfErr};
+ghost use Rattle.wire_codec.specs.Charge.{payload_charge};
+ghost use Rattle.wire_codec.specs.DecodeError.TheVariants.{OutOfMemory};
+ghost use Rattle.wire_codec.specs.Field.{push};
+ghost use Rattle.wire_codec.specs.Limits.{NoCountGrew, left_after};
+ghost use Rattle.wire_codec.specs.Packed.{Appends};
+ghost use Rattle.wire_codec.specs.TagView.{tag_number, tag_type};
+ghost use Rattle.wire_codec.specs.ValueMap.{int32};
+ghost use Rattle.wire_codec.specs.Varint.{IsSpelling};
+ghost use Rattle.wire_samples.specs.FieldSteps.{SetsInt32, SetsText, AppendsInt32};
+ghost use Rattle.wire_samples.specs.FieldSteps.{KeepsField, NotKept, ReadsField, NoField};
+
+use bytes::Buf;
+use std::alloc::Global;
+use wire_codec::{
+    DecodeContext, DecodeError, Tag, UnknownFields, WireType, check_wire_type, count_varints,
+    decode_int32, decode_length, decode_unknown_field, extend_packed_int32, laws, merge_string,
+    wire_type_mismatch,
+};
+
+/// Sets a field of type `int32`.
+pub(crate) fn merge_int32<B: Buf>(
+    tag: Tag,
+    value: &mut i32,
+    buf: &mut B,
+) -> Result<(), DecodeError>
+    ensures ok { OnOk result (ReadsField (tag_number tag) (tag_type tag)
+        (λ p. SetsInt32 p value.new) (B.unread buf.old) (B.unread buf.new)) }
+    ensures err { IfErr result (λ e. e ≢ OutOfMemory
+        → NoField (tag_number tag) (tag_type tag) SetsInt32 (B.unread buf.old)) }
+    ensures kept { B.kept buf.new ≡ B.kept buf.old }
+{
+    laws::grammar::no_varint_beside_fault();
+    check_wire_type(tag, WireType::Varint)?;
+    *value = decode_int32(buf)?;
+    Ok(())
+}
+
+/// Sets a field of type `string`.
+pub(crate) fn merge_text<B: Buf>(
+    alloc: Global,
+    tag: Tag,
+    value: &mut String,
+    buf: &mut B,
+) -> Result<(), DecodeError>
+    ensures ok { OnOk result (ReadsField (tag_number tag) (tag_type tag)
+        (λ p. SetsText p (string_bytes value.new)) (B.unread buf.old) (B.unread buf.new)) }
+    ensures err { IfErr result (λ e. e ≢ OutOfMemory
+        → NoField (tag_number tag) (tag_type tag) SetsText (B.unread buf.old)) }
+    ensures kept { B.kept buf.new ≡ B.kept buf.old }
+{
+    laws::grammar::one_delimited();
+    laws::grammar::no_delimited_beside_fault();
+    check_wire_type(tag, WireType::LengthDelimited)?;
+    merge_string(alloc, value, buf)
+}
+
+/// Appends to a repeated field of type `int32`, packed or not.
+pub(crate) fn merge_repeated_int32<B: Buf>(
+    alloc: Global,
+    tag: Tag,
+    values: &mut Vec<i32>,
+    buf: &mut B,
+) -> Result<(), DecodeError>
+    ensures ok { OnOk result (ReadsField (tag_number tag) (tag_type tag)
+        (λ p. AppendsInt32 values.old.items p values.new.items)
+        (B.unread buf.old) (B.unread buf.new)) }
+    ensures err { IfErr result (λ e. e ≢ OutOfMemory
+        → NoField (tag_number tag) (tag_type tag) (AppendsInt32 values.old.items)
+        (B.unread buf.old)) }
+    ensures kept { B.kept buf.new ≡ B.kept buf.old }
+{
+    laws::grammar::no_varint_beside_fault();
+    laws::grammar::one_delimited();
+    laws::grammar::no_delimited_beside_fault();
+    match tag.wire_type() {
+        WireType::LengthDelimited => {
+            let len = decode_length(buf, None)?;
+            merge_packed_int32(alloc, len, values, buf)
+        }
+        WireType::Varint => {
+            let value = decode_int32(buf)?;
+            values.push(value).map_err(|_| DecodeError::OutOfMemory)
+        }
+        _ => Err(wire_type_mismatch(tag, WireType::LengthDelimited)),
+    }
+}
+
+// Appends the varints of the next bytes, so many of which are there. They are read in place, and
+// one by one where they do not lie in one chunk.
+fn merge_packed_int32<B: Buf>(
+    alloc: Global,
+    len: usize,
+    values: &mut Vec<i32>,
+    buf: &mut B,
+) -> Result<(), DecodeError>
+    requires { len ≤ length (B.unread buf.old) }
+    ensures ok { OnOk result (Appends IsSpelling int32 (take len (B.unread buf.old))
+        values.old.items values.new.items) }
+    ensures rest { OnOk result (B.unread buf.new ≡ drop len (B.unread buf.old)) }
+    ensures err { IfErr result (λ e. e ≢ OutOfMemory → (after : List ℤ)
+        → Appends IsSpelling int32 (take len (B.unread buf.old)) values.old.items after → ⊥) }
+    ensures kept { B.kept buf.new ≡ B.kept buf.old }
+{
+    laws::scalar::no_packed_list_beside_fault();
+    let chunk = buf.chunk();
+    if chunk.len() < len {
+        return merge_varints(len, values, buf);
+    }
+    let payload = &chunk[..len];
+    extend_packed_int32(alloc, payload, values, count_varints(payload))?;
+    buf.advance(len);
+    Ok(())
+}
+
+// Appends the varints of the next bytes, so many of which are there, one by one.
+fn merge_varints<B: Buf>(
+    len: usize,
+    values: &mut Vec<i32>,
+    buf: &mut B,
+) -> Result<(), DecodeError>
+    requires { len ≤ length (B.unread buf.old) }
+    ensures ok { OnOk result (Appends IsSpelling int32 (take len (B.unread buf.old))
+        values.old.items values.new.items) }
+    ensures rest { OnOk result (B.unread buf.new ≡ drop len (B.unread buf.old)) }
+    ensures err { IfErr result (λ e. e ≢ OutOfMemory → (after : List ℤ)
+        → Appends IsSpelling int32 (take len (B.unread buf.old)) values.old.items after → ⊥) }
+    ensures kept { B.kept buf.new ≡ B.kept buf.old }
+{
+    laws::grammar::one_varint();
+    laws::grammar::no_varint_beside_fault();
+    let rest = buf.remaining() - len;
+    while buf.remaining() > rest {
+        let value = decode_int32(buf)?;
+        if buf.remaining() < rest {
+            return Err(DecodeError::UnexpectedEof);
+        }
+        if values.push(value).is_err() {
+            return Err(DecodeError::OutOfMemory);
+        }
+    }
+    Ok(())
+}
+
+/// Keeps the record as an unknown field.
+pub(crate) fn keep_unknown<B: Buf>(
+    alloc: Global,
+    tag: Tag,
+    unknown: &mut UnknownFields,
+    buf: &mut B,
+    context: &mut DecodeContext,
+) -> Result<(), DecodeError>
+    ensures ok { OnOk result (KeepsField context.old context.new (tag_number tag) (tag_type tag)
+        unknown.old (B.unread buf.old) unknown.new (B.unread buf.new)) }
+    ensures err { IfErr result (λ e. e ≢ OutOfMemory
+        → NotKept context.old (tag_number tag) (tag_type tag) (B.unread buf.old)) }
+    ensures counts { OnErr result (NoCountGrew context.old context.new) }
+    ensures kept { B.kept buf.new ≡ B.kept buf.old }
+{
+    laws::grammar::no_payload_beside_fault();
+    let field = decode_unknown_field(alloc, tag, buf, context)?;
+    unknown.push(field).map_err(|_| DecodeError::OutOfMemory)
+}
