@@ -4,6 +4,7 @@ pub use Rattle.wire_base.specs.Charge
 pub use Rattle.wire_base.specs.Delimited
 pub use Rattle.wire_base.specs.Ending
 pub use Rattle.wire_base.specs.Fault
+pub use Rattle.wire_base.specs.FaultLaws
 pub use Rattle.wire_base.specs.Field
 pub use Rattle.wire_base.specs.FieldNumber
 pub use Rattle.wire_base.specs.Fixed
@@ -19,7 +20,9 @@ pub use Rattle.wire_base.specs.Taken
 pub use Rattle.wire_base.specs.Text
 pub use Rattle.wire_base.specs.UnknownFields
 pub use Rattle.wire_base.specs.Varint
+pub use Rattle.wire_base.specs.VarintLaws
 pub use Rattle.wire_scalar.specs.Borrow
+pub use Rattle.wire_scalar.specs.Laws as PackedLaws
 pub use Rattle.wire_scalar.specs.Packed
 pub use Rattle.wire_scalar.specs.Reading
 pub use Rattle.wire_scalar.specs.ValueMap

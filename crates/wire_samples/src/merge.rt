@@ -1,5 +1,5 @@
 //! Known fields from the payloads of their records.
-ghost use Rattle.std.specs.Prelude.{◌≡◌, ◌≢◌, ◌≤◌, length, take, drop, string_bytes, OnOk, OnErr, IfErr};
+ghost use Rattle.std.specs.Prelude.{◌≡◌, ◌≢◌, ◌≤◌, ℤ, List, [], ◌∷◌, ◌++◌, length, take, drop, string_bytes, OnOk, OnErr, IfErr};
 ghost use Rattle.wire_codec.specs.Charge.{payload_charge};
 ghost use Rattle.wire_codec.specs.DecodeError.TheVariants.{OutOfMemory};
 ghost use Rattle.wire_codec.specs.Field.{push};
@@ -81,7 +81,7 @@ pub(crate) fn merge_repeated_int32<B: Buf>(
         }
         WireType::Varint => {
             let value = decode_int32(buf)?;
-            values.push(value).map_err(|_| DecodeError::OutOfMemory)
+            push(values, value)
         }
         _ => Err(wire_type_mismatch(tag, WireType::LengthDelimited)),
     }
@@ -136,11 +136,17 @@ fn merge_varints<B: Buf>(
         if buf.remaining() < rest {
             return Err(DecodeError::UnexpectedEof);
         }
-        if values.push(value).is_err() {
-            return Err(DecodeError::OutOfMemory);
-        }
+        push(values, value)?;
     }
     Ok(())
+}
+
+// Appends a number.
+fn push(values: &mut Vec<i32>, value: i32) -> Result<(), DecodeError>
+    ensures ok { OnOk result (values.new.items ≡ values.old.items ++ value ∷ []) }
+    ensures err { IfErr result (λ e. e ≡ OutOfMemory) }
+{
+    values.push(value).map_err(|_| DecodeError::OutOfMemory)
 }
 
 /// Keeps the record as an unknown field.
