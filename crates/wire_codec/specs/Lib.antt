@@ -10,6 +10,7 @@ pub use Rattle.wire_base.specs.FieldNumber
 pub use Rattle.wire_base.specs.Fixed
 pub use Rattle.wire_base.specs.InRange
 pub use Rattle.wire_base.specs.Limits
+pub use Rattle.wire_base.specs.LimitsLaws
 pub use Rattle.wire_base.specs.Read
 pub use Rattle.wire_base.specs.Refusal
 pub use Rattle.wire_base.specs.Sink

@@ -46,12 +46,21 @@ on_ok_two (Err e) f p q = tt
 
 -- ---- numbers
 
+pub varint_read : (n : ℕ) (w : WireType) (v : ℕ) (old new : List ℕ) → w ≡ types.Varint
+    → Reads old (IsSpelling v) new → Reads old (IsPayload n w (varint v)) new
+varint_read n w v old new is h =
+    read_as (IsSpelling v) n w (varint v) old new (sym is) (λ text s. s) h
+
+pub varint_back : (n : ℕ) (w : WireType) (v : ℕ) (old new : List ℕ)
+    → Reads old (IsPayload n w (varint v)) new → Reads old (IsSpelling v) new
+varint_back n w v old new h = read_back (IsSpelling v) n w (varint v) old new (λ text s. s) h
+
 pub int32_read : (n : ℕ) (w : WireType) (u v : ℤ) (old new : List ℕ) → u ≡ v
     → w ≡ types.Varint → ReadsValue IsSpelling int32 old v new
     → ReadsField n w (λ p. SetsInt32 p u) old new
 int32_read n w u v old new same is h = record {
   payload = varint h.number;
-  read = read_as (IsSpelling h.number) n w (varint h.number) old new (sym is) (λ text s. s) h.read;
+  read = varint_read n w h.number old new is h.read;
   made = same ∙ h.is;
 }
 
@@ -60,7 +69,7 @@ pub int32_appended : (n : ℕ) (w : WireType) (u v : ℤ) (before after : List �
     → ReadsField n w (λ p. AppendsInt32 before p after) old new
 int32_appended n w u v before after old new same is h pushed = record {
   payload = varint h.number;
-  read = read_as (IsSpelling h.number) n w (varint h.number) old new (sym is) (λ text s. s) h.read;
+  read = varint_read n w h.number old new is h.read;
   made = pushed ∙ ap (λ (x : ℤ). before ++ x ∷ []) (same ∙ h.is);
 }
 
@@ -68,7 +77,7 @@ int32_appended n w u v before after old new same is h pushed = record {
 no_varint : NoVarintBesideFault → (n : ℕ) (w : WireType) (p : Payload) (e : DecodeError)
     (old new : List ℕ) → VarintFault old e → w ≡ types.Varint → Reads old (IsPayload n w p) new → ⊥
 no_varint beside n w (varint x) e old new fault is h =
-    beside old new x e (read_back (IsSpelling x) n w (varint x) old new (λ text s. s) h) fault
+    beside old new x e (varint_back n w x old new h) fault
 no_varint beside n w (fixed64 x) e old new fault is h = absurd (cc)
 no_varint beside n w (fixed32 x) e old new fault is h = absurd (cc)
 no_varint beside n w (bytes b) e old new fault is h = absurd (cc)
