@@ -4,3 +4,4 @@ pub mod Measured
 pub mod Pieces
 pub mod RecordsLaws
 pub mod SizesLaws
+pub mod TakenAll

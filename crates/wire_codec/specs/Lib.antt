@@ -23,7 +23,7 @@ pub use Rattle.wire_base.specs.UnknownFields
 pub use Rattle.wire_base.specs.Varint
 pub use Rattle.wire_base.specs.VarintLaws
 pub use Rattle.wire_scalar.specs.Borrow
-pub use Rattle.wire_scalar.specs.Laws as PackedLaws
+pub use Rattle.wire_scalar.specs.Laws as ScalarLaws
 pub use Rattle.wire_scalar.specs.Packed
 pub use Rattle.wire_scalar.specs.Reading
 pub use Rattle.wire_scalar.specs.ValueMap

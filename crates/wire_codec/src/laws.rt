@@ -3,11 +3,15 @@
 ghost use Rattle.wire_codec.specs.Laws.{NoSizeIsAboveTheWhole, SmallSizesAreUncut, MeasuredAreNext};
 ghost use Rattle.wire_codec.specs.Laws.{JoinedAddsUp, FieldsArePlain};
 ghost use Rattle.wire_codec.specs.Laws.{FlatKeepsTheTape, PieceByPiece};
-ghost use Rattle.wire_codec.specs.TakingLaws.{OneReading, RecordsInOrder};
+ghost use Rattle.wire_codec.specs.TakingLaws.{OneReading, RecordsInOrder, AllIsSpelled};
+ghost use Rattle.wire_codec.specs.TakingLaws.{TakenInOneWay, JoinedInputsAreTaken};
+ghost use Rattle.wire_codec.specs.TakingLaws.{OneRecordMore, TextDecodes};
 
+use crate::message::Message;
 use wire_base::laws::{
-    charges_add_up, counts_fall, limits_add_up, no_tag_beside_fault, one_delimited, one_payload,
-    one_spelled, one_tag, one_varint, records_from_the_front,
+    charges_add_up, counts_fall, joined_texts_spell, limits_add_up, no_tag_beside_fault,
+    one_delimited, one_list, one_payload, one_spelled, one_tag, one_varint, records_from_the_front,
+    shortest_text_spells, whole_input,
 };
 use wire_scalar::laws::one_packed_list;
 
@@ -69,4 +73,47 @@ pub fn records_in_order()
     limits_add_up();
     charges_add_up();
     counts_fall();
+}
+
+/// All of some bytes is taken exactly where they spell records that the value takes one after
+/// another, for a charge within the limits.
+pub fn all_is_spelled<M: Message>()
+    ensures { AllIsSpelled M.takes }
+{
+    whole_input();
+}
+
+/// What is taken is taken in one way: the charge, the value and what is left are determined.
+pub fn taken_in_one_way<M: Message>()
+    ensures { TakenInOneWay M.takes }
+{
+    one_list();
+    one_reading();
+}
+
+/// Inputs that are taken one after the other are taken joined, where both charges together fit.
+pub fn joined_inputs_are_taken<M: Message>()
+    ensures { JoinedInputsAreTaken M.takes }
+{
+    all_is_spelled::<M>();
+    joined_texts_spell();
+    charges_add_up();
+}
+
+/// One record more at the end is one record more that is taken.
+pub fn one_record_more<M: Message>()
+    ensures { OneRecordMore M.takes }
+{
+    all_is_spelled::<M>();
+    joined_texts_spell();
+    charges_add_up();
+}
+
+/// A value whose records have numbers and lengths in range, fold back to it, and fit, is what its
+/// text decodes to.
+pub fn text_decodes<M: Message>()
+    ensures { TextDecodes M.takes M.records M.default }
+{
+    all_is_spelled::<M>();
+    shortest_text_spells();
 }

@@ -92,3 +92,15 @@ packed-within_field n (v ∷ vs) =
       length-append
           (tag_text n LengthDelimited ++ shortest_varint (length payload)) payload,
     )
+
+pub bytes-within_field : (n : ℕ) (value : List ℕ) → length value ≤ size (bytes_field n value)
+bytes-within_field n [] = omega arith
+bytes-within_field n (b ∷ more) =
+    let tag = tag_text n LengthDelimited in
+    let len = shortest_varint (length (b ∷ more)) in
+    omega (
+      arith,
+      length-append tag ((len ++ b ∷ more) ++ []),
+      length-append (len ++ b ∷ more) [],
+      length-append len (b ∷ more),
+    )

@@ -1,7 +1,9 @@
 pub mod FieldReads
 pub mod FieldTexts
 pub mod PackedReads
+pub mod PersonFolds
 pub mod PersonSteps
 pub mod Persons
+pub mod RepeatFolds
 pub mod RepeatSteps
 pub mod Repeats

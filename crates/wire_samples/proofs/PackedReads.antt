@@ -5,7 +5,7 @@ use Rattle.std.specs.Prelude.{ℤ, map}
 use Rattle.wire_codec.specs.DecodeError.{DecodeError}
 use Rattle.wire_codec.specs.DecodeError.TheVariants.{OutOfMemory}
 use Rattle.wire_codec.specs.Packed.{SpellsEach, Appends, StopsAtFault}
-use Rattle.wire_codec.specs.PackedLaws.{NoPackedListBesideFault}
+use Rattle.wire_codec.specs.ScalarLaws.{NoPackedListBesideFault}
 use Rattle.wire_codec.specs.Read.{Reads}
 use Rattle.wire_codec.specs.Reading.{ReadsValue}
 use Rattle.wire_codec.specs.ValueMap.{int32}

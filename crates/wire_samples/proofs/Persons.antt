@@ -1,5 +1,5 @@
 -- The text of a `Person`, field by field.
-use Rattle.std.proofs.Common.{◌≡◌, ℕ, ◌^◌, ◌<◌, ◌≤◌, List, [], ◌++◌, length, refl, ap, ◌∙◌, arith}
+use Rattle.std.proofs.Common.{◌≡◌, ℕ, ◌+◌, ◌^◌, ◌<◌, ◌≤◌, List, [], ◌++◌, length, refl, ap, ◌∙◌, arith}
 use Rattle.std.proofs.Common.{length-append}
 use Rattle.std.specs.Prelude.{ℤ}
 use Rattle.wire_codec.specs.Field.{Fields}
@@ -12,6 +12,7 @@ use Rattle.wire_samples.specs.FieldRecords.{packed_int32_field}
 use Rattle.wire_samples.specs.Person.{PersonValue, person_records}
 use Rattle.wire_samples.proofs.FieldTexts.{sizes-int32_field, sizes-bytes_field}
 use Rattle.wire_samples.proofs.FieldTexts.{sizes-packed_int32_field, packed-within_field}
+use Rattle.wire_samples.proofs.FieldTexts.{bytes-within_field}
 
 -- four lists of records, the last of the grammar
 four_texts : JoinedAddsUp → FieldsArePlain → (a b c : Records) (fs : Fields)
@@ -48,22 +49,29 @@ person_sizes joins same p =
     (joined (bytes_field 2 p.name) (joined (packed_int32_field 3 p.scores)
     (of_fields p.unknown))) (sizes-int32_field 1 p.id) name
 
--- the packed scores are no longer than the whole
-pub scores_fit : JoinedAddsUp → FieldsArePlain → (p : PersonValue)
-    → size (person_records p) ≤ 2147483647 → length (packed_int32 p.scores) < 2 ^ 64
-scores_fit joins same p small =
+-- the packed scores and the name are no longer than the whole
+pub parts_fit : JoinedAddsUp → FieldsArePlain → (p : PersonValue)
+    → length (text (bytes_field 2 p.name)) + length (text (packed_int32_field 3 p.scores))
+    ≤ size (person_records p)
+parts_fit joins same p =
     let id = text (int32_field 1 p.id) in
     let name = text (bytes_field 2 p.name) in
     let scores = text (packed_int32_field 3 p.scores) in
     let unknown = text_of p.unknown in
     omega (
       arith,
-      packed-within_field 3 p.scores,
-      ap length
-          (person_parts joins same p p.id p.name p.scores refl refl refl),
-      length-append id
-          (name ++ (scores ++ unknown)),
+      ap length (person_parts joins same p p.id p.name p.scores refl refl refl),
+      length-append id (name ++ (scores ++ unknown)),
       length-append name (scores ++ unknown),
-      length-append scores
-          unknown,
+      length-append scores unknown,
     )
+
+pub scores_fit : JoinedAddsUp → FieldsArePlain → (p : PersonValue)
+    → size (person_records p) ≤ 2147483647 → length (packed_int32 p.scores) < 2 ^ 64
+scores_fit joins same p small =
+    omega (arith, packed-within_field 3 p.scores, parts_fit joins same p)
+
+pub name_fits : JoinedAddsUp → FieldsArePlain → (p : PersonValue)
+    → size (person_records p) ≤ 2147483647 → length p.name < 2 ^ 64
+name_fits joins same p small =
+    omega (arith, bytes-within_field 2 p.name, parts_fit joins same p)

@@ -1,7 +1,10 @@
 -- A `Person` as contracts see it, its records, and what it makes of a record.
 use Rattle.std.specs.Prelude.{◌≡◌, ◌≢◌, ℤ, pos, ℕ, List, [], string_bytes}
+use Rattle.std.specs.Prelude.{All, FitsSigned, IsUtf8}
+use Rattle.std.specs.Int.{w32}
 use Rattle.wire_codec.specs.Charge.{payload_charge}
 use Rattle.wire_codec.specs.Field.{Payload, Fields, push}
+use Rattle.wire_codec.specs.InRange.{AreFitting, AreNumbered}
 use Rattle.wire_codec.specs.Limits.{Charge, no_charge}
 use Rattle.wire_codec.specs.Records.{Records, joined, of_fields}
 use Rattle.wire_samples.specs.declared.person.Person.{Person}
@@ -56,3 +59,21 @@ pub data PersonTakes (m : PersonValue) (n : ℕ) (p : Payload) (c : Charge) (z :
       → z ≡ with_scores m after → PersonTakes m n p c z
   unknown : n ≢ 1 → n ≢ 2 → n ≢ 3 → c ≡ payload_charge p
       → z ≡ with_unknown m (push m.unknown n p) → PersonTakes m n p c z
+
+-- the number is none that the type knows
+abbrev pub IsOther : ℕ → Type 0
+IsOther n = (n ≢ 1) × (n ≢ 2) × (n ≢ 3)
+
+-- the numbers of the records are none that the type knows; those inside groups may be any
+abbrev pub AreOthers : Fields → Type 0
+AreOthers Fields.none = Unit {0}
+AreOthers (Fields.field n p rest) = IsOther n × AreOthers rest
+
+-- the values that a `Person` of Rust has, with unknown fields as decoding leaves them
+pub record IsPerson (m : PersonValue) : Type 0 where
+  pub id : FitsSigned w32 m.id
+  pub name : IsUtf8 m.name
+  pub scores : All (FitsSigned w32) m.scores
+  pub fitting : AreFitting m.unknown
+  pub numbered : AreNumbered m.unknown
+  pub others : AreOthers m.unknown

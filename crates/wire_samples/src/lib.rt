@@ -2,6 +2,7 @@
 #![tactic(auto)]
 
 mod fields;
+pub mod laws;
 mod merge;
 mod person;
 mod repeat;

@@ -1,0 +1,37 @@
+-- What holds of the message types. Each statement is proved as the contract of a law of
+-- src/laws.rt.
+use Rattle.std.specs.Prelude.{◌≡◌, ◌↔◌, ℕ, ◌<◌, ◌^◌, ◌≤◌}
+use Rattle.wire_codec.specs.Charge.{charge}
+use Rattle.wire_codec.specs.Field.{Payload}
+use Rattle.wire_codec.specs.Folds.{Step, Folds}
+use Rattle.wire_codec.specs.InRange.{AreFitting, AreNumbered}
+use Rattle.wire_codec.specs.Limits.{Charge, no_charge}
+use Rattle.wire_codec.specs.Records.{Records, plain, size}
+use Rattle.wire_samples.specs.declared.repeat.Repeat.{Repeat}
+use Rattle.wire_samples.specs.Person.{PersonValue, IsPerson}
+
+-- what a type makes of a record, and the records of a value, are those of a table
+pub record IsTable {V : Type 0} (takes : Step V) (records : V → Records) (table_takes : Step V)
+    (table_records : V → Records) : Type 0 where
+  pub step : (m : V) (n : ℕ) (p : Payload) (c : Charge) (z : V)
+      → takes m n p c z ↔ table_takes m n p c z
+  pub written : (m : V) → records m ≡ table_records m
+
+-- The records of a value have numbers and lengths in range, and fold back to it from the default
+-- for this charge.
+pub record FoldsBack {V : Type 0} (takes : Step V) (records : V → Records) (default m : V)
+    (c : Charge) : Type 0 where
+  pub fitting : AreFitting (plain (records m))
+  pub numbered : AreNumbered (plain (records m))
+  pub folded : Folds takes default (plain (records m)) c m
+
+-- a person of a size that a message may have, charged for its unknown fields
+abbrev pub PersonsFoldBack : Step PersonValue → (PersonValue → Records) → PersonValue → Type 0
+PersonsFoldBack takes records default =
+    (m : PersonValue) → IsPerson m → size (records m) ≤ 2147483647
+    → FoldsBack takes records default m (charge m.unknown)
+
+-- all numbers of 64 bits
+abbrev pub RepeatsFoldBack : Step Repeat → (Repeat → Records) → Repeat → Type 0
+RepeatsFoldBack takes records default =
+    (m : Repeat) → m.times < 2 ^ 64 → FoldsBack takes records default m no_charge
