@@ -216,3 +216,17 @@ pub ReadSoFar-too_long : (old now rest : List ℕ) (v b : ℕ) → ReadSoFar old
 ReadSoFar-too_long old now rest v b so_far e high =
     too_long so_far.front b rest (so_far.parts
     ∙ ap (λ (t : List ℕ). so_far.front ++ t) e) so_far.continue so_far.len high
+
+-- a byte that is not continued is a varint of its own
+pub one_byte : (old rest : List ℕ) (b : ℕ) → old ≡ b ∷ rest → b < 128
+    → Reads old (IsSpelling b) rest
+one_byte old rest b parts last = record {
+  text = b ∷ [];
+  parts = parts;
+  spelled = record {
+    ended = last;
+    at_most_ten = omega arith;
+    value = omega (arith, last);
+    fits = omega (arith, last);
+  };
+}

@@ -31,8 +31,26 @@ pub fn encode_varint<S: EncodeSink>(value: u64, sink: &mut S) -> Result<(), Enco
     sink.put_u8(rest as u8)
 }
 
-/// Reads a varint, padded with zeros or not, from the front of the buffer.
+/// Reads a varint, padded with zeros or not, from the front of the buffer. One of a single byte is
+/// read in place.
+#[inline(always)]
 pub fn decode_varint<B: Buf>(buf: &mut B) -> Result<u64, DecodeError>
+    ensures ok { IfOk result (λ v. Reads (B.unread buf.old) (IsSpelling v) (B.unread buf.new)) }
+    ensures fault { IfErr result (VarintFault (B.unread buf.old)) }
+    ensures kept { B.kept buf.new ≡ B.kept buf.old }
+{
+    if let Some(&byte) = buf.chunk().first() {
+        if byte < 0x80 {
+            buf.advance(1);
+            return Ok(u64::from(byte));
+        }
+    }
+    decode_varint_slow(buf)
+}
+
+// Reads a varint byte by byte.
+#[inline(never)]
+fn decode_varint_slow<B: Buf>(buf: &mut B) -> Result<u64, DecodeError>
     ensures ok { IfOk result (λ v. Reads (B.unread buf.old) (IsSpelling v) (B.unread buf.new)) }
     ensures fault { IfErr result (VarintFault (B.unread buf.old)) }
     ensures kept { B.kept buf.new ≡ B.kept buf.old }

@@ -1,6 +1,6 @@
 use Rattle.std.proofs.Common.{◌≡◌}
 use Rattle.wire_base.proofs.Varints.{ReadSoFar}
-use Rattle.wire_base.proofs.varint.decode_varint.Given as goal
+use Rattle.wire_base.proofs.varint.decode_varint_slow.Given as goal
 
 abbrev pub invariant-loop-index : goal.invariant-loop-index
 invariant-loop-index g l = record {
