@@ -1,12 +1,15 @@
 //! Worked rows. Each is a check that can be run while memory is refused, too.
 mod calls;
+mod decode;
+mod options;
 mod person;
 mod pool;
 mod repeat;
 
 use crate::person::Person;
+use bytes::Bytes;
 use std::alloc::{AllocError, AllocFailed, Global};
-use wire_codec::{EncodeError, Message};
+use wire_codec::{DecodeError, EncodeError, EncodeSink, Message, Rope, RopeBuf};
 
 /// What a row's check finds: the row's own answer, want of memory, or anything else.
 #[derive(Clone, Copy, Debug, PartialEq)]
@@ -19,8 +22,15 @@ pub(crate) enum Found {
 /// Why a row's check stops early.
 #[derive(Debug, Drop)]
 pub(crate) enum Stop {
+    Decode(DecodeError),
     Encode(EncodeError),
     Memory,
+}
+
+impl From<DecodeError> for Stop {
+    fn from(error: DecodeError) -> Stop {
+        Stop::Decode(error)
+    }
 }
 
 impl From<EncodeError> for Stop {
@@ -45,21 +55,41 @@ impl<T: Drop> From<AllocFailed<T>> for Stop {
 pub(crate) fn found_in(answer: Result<bool, Stop>) -> Found {
     match answer {
         Ok(true) => Found::Own,
-        Err(Stop::Memory) | Err(Stop::Encode(EncodeError::OutOfMemory)) => Found::OutOfMemory,
+        Err(Stop::Memory)
+        | Err(Stop::Decode(DecodeError::OutOfMemory))
+        | Err(Stop::Encode(EncodeError::OutOfMemory)) => Found::OutOfMemory,
         _ => Found::Other,
     }
 }
 
-/// A refusal as the row's answer, where it is not want of memory.
-pub(crate) fn refused<T: Drop>(
-    answer: Result<T, EncodeError>,
-    error: EncodeError,
+/// Whether the answer is this refusal. Another refusal stops the row's check.
+pub(crate) fn refused<T: Drop, E: PartialEq + Into<Stop> + Drop>(
+    answer: Result<T, E>,
+    error: &E,
 ) -> Result<bool, Stop> {
-    match answer {
-        Ok(_) => Ok(false),
-        Err(EncodeError::OutOfMemory) => Err(Stop::Memory),
-        Err(found) => Ok(found == error),
+    let Err(found) = answer else {
+        return Ok(false);
+    };
+    if found == *error {
+        return Ok(true);
     }
+    Err(found.into())
+}
+
+/// A buffer whose chunks are two pieces of the bytes, or one where the other has no byte.
+pub(crate) fn cut(alloc: Global, bytes: &[u8], place: usize) -> Result<RopeBuf, Stop> {
+    let place = place.min(bytes.len());
+    let mut rope = Rope::with_min_segment(alloc, 1);
+    rope.put_shared(Bytes::copy_from_slice(alloc, &bytes[..place])?)?;
+    rope.put_shared(Bytes::copy_from_slice(alloc, &bytes[place..])?)?;
+    RopeBuf::from_rope(rope).or(Err(Stop::Memory))
+}
+
+/// A person with a number alone.
+pub(crate) fn with_id(alloc: Global, id: i32) -> Person {
+    let mut person = Person::default_value(alloc);
+    person.id = id;
+    person
 }
 
 /// The person of number 150, name hi, and scores 3 and 270.

@@ -1,8 +1,8 @@
-//! Each call that encodes, once with success, for each type.
+//! Each call that encodes or decodes, once with success, for each type.
 use super::{Found, HI, Stop, found_in, hi};
 use crate::repeat::Repeat;
 use std::alloc::Global;
-use wire_codec::{Message, SizeCache, laws};
+use wire_codec::{DecodeContext, DecodeOptions, Message, SizeCache, Tag, laws};
 
 // The calls that test the size.
 fn trying_calls<M: Message>(alloc: Global, message: &M, text: &[u8]) -> Result<bool, Stop> {
@@ -59,11 +59,63 @@ fn two_passes<M: Message>(alloc: Global, message: &M, text: &[u8]) -> Result<boo
     Ok(size as usize == text.len() && sink.as_slice() == text)
 }
 
+// The calls that decode, each over the whole text.
+fn decoding_calls<M: Message>(alloc: Global, message: &M, text: &[u8]) -> Result<bool, Stop> {
+    let (mut decoded, mut merged) = (text, text);
+    let first = M::decode(alloc, &mut decoded)?;
+    let mut second = M::default_value(alloc);
+    second.merge(alloc, &mut merged, &mut DecodeContext::new(0, 0))?;
+    let mut third = M::default_value(alloc);
+    third.merge_from_slice(alloc, text)?;
+    Ok(
+        first == *message
+            && second == *message
+            && third == *message
+            && M::decode_from_slice(alloc, text)? == *message
+            && decoded.is_empty()
+            && merged.is_empty(),
+    )
+}
+
+// The same under limits that the caller names.
+fn limited_calls<M: Message>(alloc: Global, message: &M, text: &[u8]) -> Result<bool, Stop> {
+    let options = DecodeOptions::new();
+    let (mut decoded, mut merged) = (text, text);
+    let first: M = options.decode(alloc, &mut decoded)?;
+    let second: M = options.decode_from_slice(alloc, text)?;
+    let mut third = M::default_value(alloc);
+    options.merge(alloc, &mut third, &mut merged)?;
+    let mut fourth = M::default_value(alloc);
+    options.merge_from_slice(alloc, &mut fourth, text)?;
+    Ok(
+        first == *message
+            && second == *message
+            && third == *message
+            && fourth == *message
+            && decoded.is_empty()
+            && merged.is_empty(),
+    )
+}
+
+// The first record by hand, and the others up to a place.
+fn record_calls<M: Message>(alloc: Global, message: &M, text: &[u8]) -> Result<bool, Stop> {
+    let mut buf = text;
+    let mut context = DecodeContext::new(0, 0);
+    let mut found = M::default_value(alloc);
+    let tag = Tag::decode(&mut buf)?;
+    found.merge_field(alloc, tag, &mut buf, &mut context)?;
+    found.merge_to_limit(alloc, &mut buf, &mut context, 0)?;
+    Ok(found == *message && buf.is_empty())
+}
+
 fn all_calls<M: Message>(alloc: Global, message: &M, text: &[u8]) -> Result<bool, Stop> {
     Ok(
         trying_calls(alloc, message, text)?
             && asking_calls(alloc, message, text)?
-            && two_passes(alloc, message, text)?,
+            && two_passes(alloc, message, text)?
+            && decoding_calls(alloc, message, text)?
+            && limited_calls(alloc, message, text)?
+            && record_calls(alloc, message, text)?,
     )
 }
 

@@ -1,13 +1,7 @@
-use super::{Found, HI, Stop, found_in, hi, refused};
+use super::{Found, HI, Stop, found_in, hi, refused, with_id};
 use crate::person::Person;
 use std::alloc::Global;
 use wire_codec::{EncodeError, Message, MessageName};
-
-fn with_id(alloc: Global, id: i32) -> Person {
-    let mut person = Person::default_value(alloc);
-    person.id = id;
-    person
-}
 
 fn writes(alloc: Global, person: &Person, text: &[u8]) -> Result<bool, Stop> {
     Ok(person.try_encode_to_vec(alloc)?.as_slice() == text)
@@ -48,7 +42,7 @@ fn over_budget(alloc: Global) -> Result<bool, Stop> {
         len: 2,
         max_bytes: 1,
     };
-    Ok(refused(answer, error)? && sink.as_slice() == b"\x07".as_slice())
+    Ok(refused(answer, &error)? && sink.as_slice() == b"\x07".as_slice())
 }
 
 fn within_budget(alloc: Global) -> Result<bool, Stop> {

@@ -20,7 +20,7 @@ fn same_bytes(mut pool: SizeCachePool, alloc: Global) -> Result<bool, Stop> {
         max_bytes: 11,
     };
     let bounded = pool.try_encode_bounded(&person, 11, &mut sink);
-    Ok(same && refused(bounded, error)? && sink.as_slice() == HI)
+    Ok(same && refused(bounded, &error)? && sink.as_slice() == HI)
 }
 
 // The calls that ask for the size condition, once it was tested.

@@ -1,16 +1,20 @@
-use super::{Found, Stop, found_in, refused};
+use super::{Found, Stop, cut, found_in, refused};
 use crate::repeat::Repeat;
 use std::alloc::Global;
-use wire_codec::{EncodeError, Message};
+use wire_codec::{DecodeError, EncodeError, Message};
+
+// The text of two records and a mark.
+const TWICE: &[u8] = b"\x08\x00\x08\x00\x10\x80\x01";
 
 fn measures(alloc: Global, times: u64, extra: bool, size: u32) -> Result<bool, Stop> {
     Ok(Repeat { times, extra }.try_encoded_len(alloc)? == size)
 }
 
 fn is_too_large(alloc: Global, times: u64, extra: bool) -> Result<bool, Stop> {
-    let answer = Repeat { times, extra }.try_encoded_len(alloc);
-    let error = EncodeError::MessageTooLarge;
-    refused(answer, error)
+    refused(
+        Repeat { times, extra }.try_encoded_len(alloc),
+        &EncodeError::MessageTooLarge,
+    )
 }
 
 // A value that is too large leaves the sink as it was.
@@ -21,11 +25,9 @@ fn writes_nothing(alloc: Global) -> Result<bool, Stop> {
     };
     let mut sink = vec![in alloc; 7]?;
     let error = EncodeError::MessageTooLarge;
-    let plain = refused(many.try_encode(alloc, &mut sink), error)?;
-    let error = EncodeError::MessageTooLarge;
-    let bounded = refused(many.try_encode_bounded(alloc, u32::MAX, &mut sink), error)?;
-    let error = EncodeError::MessageTooLarge;
-    let delimited = refused(many.try_encode_length_delimited(alloc, &mut sink), error)?;
+    let plain = refused(many.try_encode(alloc, &mut sink), &error)?;
+    let bounded = refused(many.try_encode_bounded(alloc, u32::MAX, &mut sink), &error)?;
+    let delimited = refused(many.try_encode_length_delimited(alloc, &mut sink), &error)?;
     Ok(plain && bounded && delimited && sink.as_slice() == b"\x07".as_slice())
 }
 
@@ -34,7 +36,7 @@ fn twice(alloc: Global) -> Result<bool, Stop> {
         times: 2,
         extra: true,
     };
-    Ok(message.try_encode_to_vec(alloc)?.as_slice() == b"\x08\x00\x08\x00\x10\x80\x01".as_slice())
+    Ok(message.try_encode_to_vec(alloc)?.as_slice() == TWICE)
 }
 
 fn rows(alloc: Global) -> [Found; 7] {
@@ -58,4 +60,64 @@ fn repeats_are_measured_or_lack_memory(rt: HostRuntime) {
 #[test]
 fn ample_memory_measures_repeats(rt: HostRuntime) {
     assert!(rt; rows(rt.alloc()).iter().all(|found| *found == Found::Own));
+}
+
+const NO_RECORD: DecodeError = DecodeError::Custom("no record of a Repeat");
+
+// The message is read from the bytes, as a whole and cut at a place.
+fn reads(alloc: Global, bytes: &[u8], times: u64, extra: bool, place: usize) -> Result<bool, Stop> {
+    let message = Repeat { times, extra };
+    let mut pieces = cut(alloc, bytes, place)?;
+    Ok(
+        Repeat::decode_from_slice(alloc, bytes)? == message
+            && Repeat::decode(alloc, &mut pieces)? == message,
+    )
+}
+
+fn refuses(alloc: Global, bytes: &[u8], place: usize) -> Result<bool, Stop> {
+    let mut pieces = cut(alloc, bytes, place)?;
+    Ok(
+        refused(Repeat::decode_from_slice(alloc, bytes), &NO_RECORD)?
+            && refused(Repeat::decode(alloc, &mut pieces), &NO_RECORD)?,
+    )
+}
+
+// The greatest count takes no further record.
+fn is_full(alloc: Global) -> Result<bool, Stop> {
+    let mut message = Repeat {
+        times: u64::MAX,
+        extra: false,
+    };
+    refused(message.merge_from_slice(alloc, b"\x08\x00"), &NO_RECORD)
+}
+
+fn read_rows(alloc: Global, place: usize) -> [Found; 5] {
+    [
+        found_in(reads(alloc, TWICE, 2, true, place)),
+        found_in(refuses(alloc, b"\x08\x01", place)),
+        found_in(refuses(alloc, b"\x18\x00", place)),
+        found_in(refuses(alloc, b"\x0d\x00\x00\x00\x00", place)),
+        found_in(is_full(alloc)),
+    ]
+}
+
+// With a refused allocation a row may find no memory, and never anything else.
+#[test]
+fn repeats_are_read_or_lack_memory(rt: HostRuntime) {
+    assert!(rt;
+        read_rows(rt.alloc(), 1)
+            .iter()
+            .all(|found| *found != Found::Other)
+    );
+}
+
+#[test]
+fn ample_memory_reads_repeats(rt: HostRuntime) {
+    for place in 0..=TWICE.len() {
+        assert!(rt;
+            read_rows(rt.alloc(), place)
+                .iter()
+                .all(|found| *found == Found::Own)
+        );
+    }
 }
