@@ -1,8 +1,8 @@
 -- Lists of records up to their end, record by record from the front.
-use Rattle.std.proofs.Common.{◌≡◌, ℕ, inl, inr, List, [], length, refl, sym, ap, ◌∙◌, subst}
+use Rattle.std.proofs.Common.{◌≡◌, ℕ, inl, inr, List, refl, sym, ap, subst}
 use Rattle.wire_base.specs.declared.tag.WireType.{WireType}
 use Rattle.wire_base.specs.Ending.{Ending, GoesOn, Ends}
-use Rattle.wire_base.specs.Field.{Payload, Fields, none, field, type_of, push}
+use Rattle.wire_base.specs.Field.{Payload, Fields, none, field, type_of}
 use Rattle.wire_base.specs.Limits.{Limits, Charge, left_after, both, no_charge}
 use Rattle.wire_base.specs.Read.{Reads}
 use Rattle.wire_base.specs.RecordLaws.{RecordsFromTheFront}
@@ -94,8 +94,7 @@ first_lemma : (c d : Charge) (l : Limits) (ending : Ending) (n : ℕ) (p : Paylo
     × TakesUntil c (left_after l d) ending others next new
 first_lemma c d l ending n p others old new h =
     let head = head_of n p others old h.end h.fields.read in
-    let payload = payload_as n p head.behind head.rest head.payload in
-    (
+    let payload = payload_as n p head.behind head.rest head.payload in (
       head.behind,
       head.rest,
       goes_on_at ending (field n p others) none others n p old old h.last refl (Reads-none old),

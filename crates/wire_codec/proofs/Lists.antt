@@ -1,5 +1,5 @@
 -- Records that a message type takes from the front of bytes, one by one.
-use Rattle.std.proofs.Common.{◌≡◌, ℕ, ◌<◌, List, refl, sym, ap, ◌∙◌, subst, arith}
+use Rattle.std.proofs.Common.{◌≡◌, ℕ, List, refl, sym, ap, ◌∙◌, subst, arith}
 use Rattle.wire_base.specs.declared.error.DecodeError.{DecodeError}
 use Rattle.wire_base.specs.declared.tag.WireType.{WireType}
 use Rattle.wire_base.specs.declared.tag.WireType.TheVariants as types
@@ -79,8 +79,8 @@ module _ (order : RecordsInOrder) {V : Type 0} (takes : Step V) where
       head_of none read folded = absurd (some new (order.front.none c l ending old new read))
       head_of (field n p others) read (mid, first, behind_charge, step, folded, sum) =
           let (behind, next, goes, tag, payload, rest) =
-              order.front.first behind_charge first l ending n p others old new
-              (subst (λ x. TakesUntil x l ending (field n p others) old new) sum read) in
+          order.front.first behind_charge first l ending n p others old new
+          (subst (λ x. TakesUntil x l ending (field n p others) old new) sum read) in
           record {
             n = n;
             payload = p;
@@ -187,9 +187,9 @@ module _ (order : RecordsInOrder) {V : Type 0} (takes : Step V) where
         → Rest takes (left_after l d) ending u next z new
     rest_of l ending n w m u z behind next new d h k =
         let same = order.reading.payload n w h.payload k.taken.payload behind next k.next h.read.read
-            k.taken.read.read in
+        k.taken.read.read in
         let one = single m m u k.mid n h.payload d k.first h.step
-            (subst (λ p. takes m n p k.first k.mid) (sym same.0) k.taken.step) in
+        (subst (λ p. takes m n p k.first k.mid) (sym same.0) k.taken.step) in
         record {
           charge = k.others;
           taken = rw (one.0, one.1 refl, same.1) k.rest;
@@ -213,7 +213,8 @@ module _ (order : RecordsInOrder) {V : Type 0} (takes : Step V) where
           let here = h.back c z new whole in
           let some = not_ended order ending n w now behind goes tag is in
           let first = head_behind k ending n w v z now behind new here.0 tag some here.1 in
-          let rest = rest_of k ending n w v u z behind next new d taken first in
-          (rest.charge,
-          subst (λ x. TakesList takes x ending u next rest.charge z new) (sym left_is) rest.taken);
+          let rest = rest_of k ending n w v u z behind next new d taken first in (
+            rest.charge,
+            subst (λ x. TakesList takes x ending u next rest.charge z new) (sym left_is) rest.taken,
+          );
     }

@@ -1,14 +1,11 @@
 -- Whole inputs that a message type takes.
-use Rattle.std.proofs.Common.{◌≡◌, ℕ, List, ◌++◌, refl, sym, ap, ◌∙◌, subst}
-use Rattle.wire_base.specs.Ending.{by_input}
-use Rattle.wire_base.specs.Field.{Payload, Fields, none, field, joined}
-use Rattle.wire_base.specs.Limits.{Limits, Charge, Fits, both, no_charge}
+use Rattle.std.proofs.Common.{◌≡◌, ◌++◌, refl, sym, ap, ◌∙◌, subst}
+use Rattle.wire_base.specs.Field.{Fields, none, field, joined}
+use Rattle.wire_base.specs.Limits.{Charge, both, no_charge}
 use Rattle.wire_base.specs.LimitsLaws.{ChargesAddUp}
 use Rattle.wire_base.specs.RecordLaws.{OneList, WholeInput, JoinedTextsSpell, ShortestTextSpells}
-use Rattle.wire_base.specs.Taken.{TakesUntil}
 use Rattle.wire_codec.specs.Folds.{Step, IsSingle, Folds}
 use Rattle.wire_codec.specs.Records.{Records, plain, text}
-use Rattle.wire_codec.specs.Taking.{TakesList, TakesAll}
 use Rattle.wire_codec.specs.TakingLaws.{AllIsSpelled, TakenInOneWay, JoinedInputsAreTaken}
 use Rattle.wire_codec.specs.TakingLaws.{OneRecordMore, TextDecodes}
 
@@ -31,9 +28,11 @@ module _ {V : Type 0} (takes : Step V) where
       (mid, first, rest, step, folded, sum) (other, again, behind, step_again, others, total) =
       let one = single m m mid other n p first again step step_again in
       let here = subst (λ v. Folds takes v fs behind z) (sym (one.1 refl)) others in
-      let more = folds_once single fs mid y z rest behind folded here in
-      (sum ∙ ap (λ (x : Charge). both x rest) one.0 ∙ ap (λ (x : Charge). both again x) more.0
-      ∙ sym total, more.1)
+      let more = folds_once single fs mid y z rest behind folded here in (
+        sum ∙ ap (λ (x : Charge). both x rest) one.0 ∙ ap (λ (x : Charge). both again x) more.0
+            ∙ sym total,
+        more.1,
+      )
 
   pub taken_in_one_way_lemma : OneList → IsSingle takes → TakenInOneWay takes
   taken_in_one_way_lemma one single l k ending m y z old r s c d h j =
@@ -72,7 +71,7 @@ module _ {V : Type 0} (takes : Step V) where
     one_record_more_lemma l k m mid z n p old record_text c d h one step fits =
         let (fs, spelled, folded, fits_first) = (all k m mid old c).0 h in
         let last : Folds takes mid (field n p none) d z
-            = (z, d, no_charge, step, (refl, refl), sym (charges.nothing_last d)) in
+        = (z, d, no_charge, step, (refl, refl), sym (charges.nothing_last d)) in
         (all l m z (old ++ record_text) (both c d)).1 (
           joined fs (field n p none),
           spell fs (field n p none) old record_text spelled one,

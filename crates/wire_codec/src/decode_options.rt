@@ -207,8 +207,9 @@ impl DecodeOptions {
     fn context(&self) -> DecodeContext
         ensures { result ≡ limits_of self.now }
     {
-        DecodeContext::new(self.recursion_limit, self.unknown_field_limit)
-            .with_element_memory(self.element_memory_limit)
+        DecodeContext::new(self.recursion_limit, self.unknown_field_limit).with_element_memory(
+            self.element_memory_limit,
+        )
     }
 }
 
@@ -226,6 +227,7 @@ impl Default for DecodeOptions {
 pub(crate) fn default_context() -> DecodeContext
     ensures { result ≡ with_elements (counted 100 1000000) 33554432 }
 {
-    DecodeContext::new(RECURSION_LIMIT, DEFAULT_UNKNOWN_FIELD_LIMIT)
-        .with_element_memory(DEFAULT_ELEMENT_MEMORY_LIMIT)
+    DecodeContext::new(RECURSION_LIMIT, DEFAULT_UNKNOWN_FIELD_LIMIT).with_element_memory(
+        DEFAULT_ELEMENT_MEMORY_LIMIT,
+    )
 }

@@ -8,16 +8,15 @@ ghost use Rattle.wire_codec.specs.TakingLaws.{TakenInOneWay, JoinedInputsAreTake
 ghost use Rattle.wire_codec.specs.TakingLaws.{OneRecordMore, TextDecodes};
 
 use crate::message::Message;
+pub use wire_base::laws as grammar;
 use wire_base::laws::{
     charges_add_up, counts_fall, joined_texts_spell, limits_add_up, no_tag_beside_fault,
     one_delimited, one_list, one_payload, one_spelled, one_tag, one_varint, records_from_the_front,
     shortest_text_spells, whole_input,
 };
-use wire_scalar::laws::one_packed_list;
-
-pub use wire_base::laws as grammar;
 pub use wire_base::laws::{put_is_a_write, two_parts};
 pub use wire_scalar::laws as scalar;
+use wire_scalar::laws::one_packed_list;
 pub use wire_text::laws as text;
 
 /// No embedded message is longer than the records that it stands in. So no size is cut where the

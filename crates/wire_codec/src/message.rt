@@ -22,9 +22,7 @@ use crate::size::checked_encode_size;
 use crate::size_cache::SizeCache;
 use bytes::{Buf, Bytes};
 use std::alloc::Global;
-use wire_base::{
-    DecodeContext, DecodeError, EncodeError, EncodeSink, Tag, encode_varint, laws,
-};
+use wire_base::{DecodeContext, DecodeError, EncodeError, EncodeSink, Tag, encode_varint, laws};
 
 /// A type whose values are encoded as records.
 ///

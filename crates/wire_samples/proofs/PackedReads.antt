@@ -85,13 +85,14 @@ module _ (payload rest : List ℕ) (before : List ℤ) where
     pub packed_end : length unread ≤ length rest
         → Numbers payload before now × (unread ≡ rest)
     packed_end short =
-        let none = none_left h.left unread h.parts short in
-        (h.on now (record {
-          numbers = [];
-          spelled = none;
-          appended = sym (append-nil now);
-        }),
-        h.parts ∙ ap (λ (t : List ℕ). t ++ rest) none)
+        let none = none_left h.left unread h.parts short in (
+          h.on now (record {
+            numbers = [];
+            spelled = none;
+            appended = sym (append-nil now);
+          }),
+          h.parts ∙ ap (λ (t : List ℕ). t ++ rest) none,
+        )
 
     module _ (long : length rest < length unread) where
       first : (after : List ℤ) → Numbers payload before after → First h.left rest now after
@@ -130,7 +131,7 @@ module _ (payload rest : List ℕ) (before : List ℤ) where
         packed_more u then same_value fits appended =
             let pushed = appended ∙ ap (λ (x : ℤ). now ++ x ∷ []) same_value in
             let (left, front, back) = split r.read.text next h.left rest (sym r.read.parts ∙ h.parts)
-                fits in
+            fits in
             record {
               left = left;
               parts = back;

@@ -36,8 +36,7 @@ times_fold charges before zero extra fits =
     subst (λ t. Folds RepeatTakes (repeat_of before false) (plain (extra_record extra)) no_charge
     (repeat_of t extra)) none (extra_folds charges before extra)
 times_fold charges before (suc times) extra fits =
-    let one_more : (before + 1) + times ≡ before + suc times = omega arith in
-    (
+    let one_more : (before + 1) + times ≡ before + suc times = omega arith in (
       repeat_of (before + 1) false,
       no_charge,
       no_charge,

@@ -20,11 +20,7 @@ use wire_codec::{
 };
 
 /// Sets a field of type `int32`.
-pub(crate) fn merge_int32<B: Buf>(
-    tag: Tag,
-    value: &mut i32,
-    buf: &mut B,
-) -> Result<(), DecodeError>
+pub(crate) fn merge_int32<B: Buf>(tag: Tag, value: &mut i32, buf: &mut B) -> Result<(), DecodeError>
     ensures ok { OnOk result (ReadsField (tag_number tag) (tag_type tag)
         (λ p. SetsInt32 p value.new) (B.unread buf.old) (B.unread buf.new)) }
     ensures err { IfErr result (λ e. e ≢ OutOfMemory
@@ -115,11 +111,7 @@ fn merge_packed_int32<B: Buf>(
 }
 
 // Appends the varints of the next bytes, so many of which are there, one by one.
-fn merge_varints<B: Buf>(
-    len: usize,
-    values: &mut Vec<i32>,
-    buf: &mut B,
-) -> Result<(), DecodeError>
+fn merge_varints<B: Buf>(len: usize, values: &mut Vec<i32>, buf: &mut B) -> Result<(), DecodeError>
     requires { len ≤ length (B.unread buf.old) }
     ensures ok { OnOk result (Appends IsSpelling int32 (take len (B.unread buf.old))
         values.old.items values.new.items) }

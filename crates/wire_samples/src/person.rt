@@ -1,7 +1,5 @@
 //! A message with a field of each common kind.
-ghost use Rattle.std.specs.Prelude.{◌≡◌, length, All, FitsSigned, IsUtf8};
-ghost use Rattle.std.specs.Int.{w32};
-ghost use Rattle.wire_codec.specs.InRange.{AreFitting};
+ghost use Rattle.std.specs.Prelude.{◌≡◌, length};
 ghost use Rattle.wire_codec.specs.Text.{text_of};
 ghost use Rattle.wire_samples.specs.FieldRecords.{in_64_bits};
 ghost use Rattle.wire_samples.specs.Person.{value_of};
@@ -32,17 +30,6 @@ impl Person {
         ensures { result.now ≡ (value_of self.now).unknown }
     {
         &self.unknown
-    }
-
-    /// A theorem: the numbers of a person fit their types, its name is UTF-8, and the fields that
-    /// are kept fit their widths.
-    pub fn fields_fit(&self)
-        ensures id { FitsSigned w32 (value_of self.now).id }
-        ensures name { IsUtf8 (value_of self.now).name }
-        ensures scores { All (FitsSigned w32) (value_of self.now).scores }
-        ensures unknown { AreFitting (value_of self.now).unknown }
-    {
-        self.unknown.widths_fit();
     }
 }
 

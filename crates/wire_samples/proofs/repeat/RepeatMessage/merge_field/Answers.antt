@@ -1,4 +1,4 @@
-use Rattle.std.proofs.Common.{rules, ◌∙◌, sym}
+use Rattle.std.proofs.Common.{rules}
 use Rattle.std.proofs.lemmas.Result.{err_from_is_err_and}
 use Rattle.wire_samples.proofs.RepeatSteps.{no_number, other_number, count_taken, mark_taken}
 use Rattle.wire_samples.proofs.repeat.RepeatMessage.merge_field.Goals as goal
@@ -17,14 +17,14 @@ returns-in_default-clause-err g c = λ other.
     c.in_ok-decode_varint.ensures.ok
     (λ one zero room. let number = c.field_number.ensures.number in
     elim c.in_default.branch [
-      in_default-via-in-1-eq0+else-self-lt18446744073709551615 w ↦ search rules
+      | in_default-via-in-1-eq0+else-self-lt18446744073709551615 w ↦ search rules
       | in_default-via-in-1+in_default w ↦ search rules
       | in_default-via-in-2+in_default w ↦ search rules
       | in_default-via-in_default w ↦ search rules
     ])
     (λ two mark. let number = c.field_number.ensures.number in
     elim c.in_default.branch [
-      in_default-via-in-1-eq0+else-self-lt18446744073709551615 w ↦ search rules
+      | in_default-via-in-1-eq0+else-self-lt18446744073709551615 w ↦ search rules
       | in_default-via-in-1+in_default w ↦ search rules
       | in_default-via-in-2+in_default w ↦ search rules
       | in_default-via-in_default w ↦ search rules
@@ -33,7 +33,7 @@ returns-in_default-clause-err g c = λ other.
 pub returns-clause-ok : goal.returns-clause-ok
 returns-clause-ok g c =
     elim c.match-this.branch [
-      in-1-eq0 w ↦ rw (w.self-is) (count_taken _ _ _ _ _ c.records_in_order.ensures.limits
+      | in-1-eq0 w ↦ rw (w.self-is) (count_taken _ _ _ _ _ c.records_in_order.ensures.limits
           (search rules) _ _ c.in_ok-decode_varint.ensures.ok (search rules) (search rules)
           (search rules))
       | in-2-eq128 w ↦ rw (w.self-is) (mark_taken _ _ _ _ _ c.records_in_order.ensures.limits
