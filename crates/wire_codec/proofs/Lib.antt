@@ -1,3 +1,4 @@
+pub mod DelimitedLists
 pub mod Delimiting
 pub mod Lists
 pub mod Measured

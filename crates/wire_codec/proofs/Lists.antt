@@ -1,16 +1,21 @@
 -- Records that a message type takes from the front of bytes, one by one.
-use Rattle.std.proofs.Common.{◌≡◌, ℕ, List, refl, sym, ap, ◌∙◌, subst, arith}
+use Rattle.std.proofs.Common.{◌≡◌, ℕ, ◌<◌, List, refl, sym, ap, ◌∙◌, subst, arith}
+use Rattle.std.specs.Prelude.{Option, Some, None, IfNone}
 use Rattle.wire_base.specs.declared.error.DecodeError.{DecodeError}
 use Rattle.wire_base.specs.declared.tag.WireType.{WireType}
 use Rattle.wire_base.specs.declared.tag.WireType.TheVariants as types
 use Rattle.wire_base.specs.Ending.{Ending, by_limit, by_tag, GoesOn, Ends, IsRecordTag}
-use Rattle.wire_base.specs.Field.{Payload, Fields, none, field, type_of}
-use Rattle.wire_base.specs.Limits.{Limits, Charge, Fits, left_after, both, no_charge}
+use Rattle.wire_base.specs.Fault.{NextTagFault, bad_tag, other_end}
+use Rattle.wire_base.specs.Field.{Payload, varint, fixed64, fixed32, bytes, group}
+use Rattle.wire_base.specs.Field.{Fields, none, field, type_of}
+use Rattle.wire_base.specs.Limits.{Limits, Charge, Fits, left_after, both, no_charge, inner, outer}
+use Rattle.wire_base.specs.LimitsLaws.{LevelsAddUp}
 use Rattle.wire_base.specs.Read.{Reads}
 use Rattle.wire_base.specs.Spells.{IsPayload}
 use Rattle.wire_base.specs.Tag.{IsTagSpelling, TagFault}
 use Rattle.wire_base.specs.Taken.{TakesUntil}
 use Rattle.wire_codec.specs.Folds.{Step, IsSingle, Folds}
+use Rattle.wire_codec.specs.Nested.{TakesGroup}
 use Rattle.wire_codec.specs.Taking.{TakesRecord, TakesList, IsCharged, NotTaken}
 use Rattle.wire_codec.specs.TakingLaws.{RecordsInOrder}
 
@@ -218,3 +223,47 @@ module _ (order : RecordsInOrder) {V : Type 0} (takes : Step V) where
             subst (λ x. TakesList takes x ending u next rest.charge z new) (sym left_is) rest.taken,
           );
     }
+
+-- ---- groups
+
+-- no record has the wire type of an end
+not_end_type : (p : Payload) → types.EndGroup ≡ type_of p → ⊥
+not_end_type (varint v) e = cc
+not_end_type (fixed64 v) e = cc
+not_end_type (fixed32 v) e = cc
+not_end_type (bytes b) e = cc
+not_end_type (group fs) e = cc
+
+-- an option that has nothing
+pub at_none : {T : Type 0} (o : Option T) (P : Type 0) → ((x : T) → o ≡ Some x → ⊥) → IfNone o P → P
+at_none None P full h = h
+at_none (Some x) P full h = absurd (full x refl)
+
+module _ (order : RecordsInOrder) {V : Type 0} (takes : Step V) where
+  -- neither a record's tag nor the group's end tag stands here
+  pub no_next_tag : (number : ℕ) (l k : Limits) (m v : V) (old now : List ℕ) (e : DecodeError)
+      → Follows takes (by_tag number) l m old k v now → NextTagFault (by_tag number) now e
+      → NotTaken (TakesList takes l (by_tag number) m old)
+  no_next_tag number l k m v old now e h (bad_tag fault) c z new taken =
+      no_tag order takes (by_tag number) l k m v old now e h
+      (λ r ended. order.tag_fault now r number types.EndGroup e ended fault) fault c z new taken
+  no_next_tag number l k m v old now e h (other_end j behind tag other) c z new taken =
+      let here = h.back c z new taken in
+      let some : NotEnded (by_tag number) now = λ r ended.
+      other (order.reading.tag now behind r j number types.EndGroup types.EndGroup tag ended).0 in
+      let first = head order takes k (by_tag number) v z now new here.0 some here.1 in
+      not_end_type first.payload (order.reading.tag now behind first.behind j first.n types.EndGroup
+      (type_of first.payload) tag first.tag).1
+
+  -- a level, the body of a group, and the level again
+  pub group_end : (levels : LevelsAddUp) (number : ℕ) (l k : Limits) (m v : V)
+      (old now new : List ℕ) → 0 < l.depth
+      → Follows takes (by_tag number) (inner l) m old k v now → Ends (by_tag number) now new
+      → IsCharged l (outer k) (λ c. TakesGroup takes l number m old c v new)
+  group_end levels number l k m v old now new level h ended =
+      let whole = at_end order takes (by_tag number) (inner l) k m v old now new h ended in
+      record {
+        charge = whole.charge;
+        taken = record { level = level; taken = whole.taken };
+        left = ap outer whole.left ∙ levels.left_after_nested l whole.charge level;
+      }

@@ -39,6 +39,7 @@ pub use Rattle.wire_base.specs.declared.tag.WireType
 pub mod Encoding
 pub mod Folds
 pub mod Laws
+pub mod Nested
 pub mod Options
 pub mod Pool
 pub mod Records

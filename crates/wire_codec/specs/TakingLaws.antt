@@ -5,11 +5,11 @@ use Rattle.wire_base.specs.Ending.{Ending}
 use Rattle.wire_base.specs.Field.{Payload, Fields, none, field}
 use Rattle.wire_base.specs.InRange.{AreFitting, AreNumbered}
 use Rattle.wire_base.specs.Limits.{Limits, Charge, Fits, both}
-use Rattle.wire_base.specs.LimitsLaws.{ChargesAddUp, LimitsAddUp, CountsFall}
-use Rattle.wire_base.specs.RecordLaws.{OnePayload, OneSpelled, RecordsFromTheFront}
+use Rattle.wire_base.specs.LimitsLaws.{ChargesAddUp, LimitsAddUp, LevelsAddUp, CountsFall}
+use Rattle.wire_base.specs.RecordLaws.{OneList, OnePayload, OneSpelled, RecordsFromTheFront, WholeInput}
 use Rattle.wire_base.specs.Spells.{Spells}
 use Rattle.wire_base.specs.TagLaws.{OneTag, NoTagBesideFault}
-use Rattle.wire_base.specs.VarintLaws.{OneVarint, OneDelimited}
+use Rattle.wire_base.specs.VarintLaws.{OneVarint, OneDelimited, NoDelimitedBesideFault, OneDelimitedFault}
 use Rattle.wire_scalar.specs.Laws.{OnePackedList}
 use Rattle.wire_codec.specs.Folds.{Step, Folds}
 use Rattle.wire_codec.specs.Records.{Records, plain, text}
@@ -32,6 +32,20 @@ pub record RecordsInOrder : Type 0 where
   pub front : RecordsFromTheFront
   pub limits : LimitsAddUp
   pub charges : ChargesAddUp
+  pub counts : CountsFall
+
+-- what readers of length-delimited payloads stand on: payloads and lists are read in one way, and a
+-- fault stands beside none
+pub record DelimitedIsRead : Type 0 where
+  pub delimited : OneDelimited
+  pub beside : NoDelimitedBesideFault
+  pub fault : OneDelimitedFault
+  pub list : OneList
+  pub whole : WholeInput
+
+-- levels and counts add up, and counts fall
+pub record LevelsAndCounts : Type 0 where
+  pub levels : LevelsAddUp
   pub counts : CountsFall
 
 -- All of some bytes is taken exactly where they spell records that the value takes one after

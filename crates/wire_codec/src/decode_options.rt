@@ -1,11 +1,13 @@
 //! Decoding under limits that the caller names.
-ghost use Rattle.std.specs.Prelude.{◌≡◌, ◌≢◌, ◌<◌, ◌≤◌, [], length, OnOk, IfOk, IfErr, IsErrAnd};
+ghost use Rattle.std.specs.Prelude.{◌≡◌, ◌≢◌, ◌<◌, ◌≤◌, [], length, Some, OnOk, IfOk, IfErr, IsErrAnd};
 ghost use Rattle.wire_base.specs.declared.error.DecodeError.TheVariants.{MessageTooLarge, OutOfMemory};
-ghost use Rattle.wire_base.specs.Limits.{counted, with_elements};
+ghost use Rattle.wire_base.specs.Delimited.{DelimitedFault};
+ghost use Rattle.wire_base.specs.Limits.{Charge, counted, with_elements};
+ghost use Rattle.wire_codec.specs.Nested.{TakesDelimited};
 ghost use Rattle.wire_codec.specs.Options.{default_options, limits_of};
 ghost use Rattle.wire_codec.specs.Options.{with_recursion, with_message_size};
 ghost use Rattle.wire_codec.specs.Options.{with_unknown_fields, with_element_memory};
-ghost use Rattle.wire_codec.specs.Taking.{Decodes, NotDecoded};
+ghost use Rattle.wire_codec.specs.Taking.{Decodes, NotTaken, NotDecoded};
 
 use crate::message::Message;
 use crate::size::MAX_MESSAGE_BYTES;
@@ -153,6 +155,27 @@ impl DecodeOptions {
     {
         let mut buf = bytes;
         self.decode(alloc, &mut buf)
+    }
+
+    /// The value of a length-delimited payload of no more bytes than an input may have.
+    pub fn decode_length_delimited<M: Message, B: Buf>(
+        &self,
+        alloc: Global,
+        buf: &mut B,
+    ) -> Result<M, DecodeError>
+        ensures ok { IfOk result (λ message. (c : Charge) × TakesDelimited M.takes
+            (limits_of self.now) self.now.max_message_size M.default (B.unread buf.old)
+            c (M.view message) (B.unread buf.new)) }
+        ensures fault { (e : DecodeError)
+            → DelimitedFault (Some self.now.max_message_size) (B.unread buf.old) e
+            → IsErrAnd result (λ f. f ≡ e) }
+        ensures err { IfErr result (λ e. e ≢ OutOfMemory → NotTaken (TakesDelimited M.takes
+            (limits_of self.now) self.now.max_message_size M.default (B.unread buf.old))) }
+        ensures kept { B.kept buf.new ≡ B.kept buf.old }
+    {
+        let mut message = M::default_value(alloc);
+        message.merge_delimited(alloc, buf, &mut self.context(), self.max_message_size())?;
+        Ok(message)
     }
 
     /// Takes the records of the whole buffer into the value. An input that is too long leaves the

@@ -4,15 +4,17 @@ ghost use Rattle.wire_codec.specs.Laws.{NoSizeIsAboveTheWhole, SmallSizesAreUncu
 ghost use Rattle.wire_codec.specs.Laws.{JoinedAddsUp, FieldsArePlain};
 ghost use Rattle.wire_codec.specs.Laws.{FlatKeepsTheTape, PieceByPiece};
 ghost use Rattle.wire_codec.specs.TakingLaws.{OneReading, RecordsInOrder, AllIsSpelled};
+ghost use Rattle.wire_codec.specs.TakingLaws.{DelimitedIsRead, LevelsAndCounts};
 ghost use Rattle.wire_codec.specs.TakingLaws.{TakenInOneWay, JoinedInputsAreTaken};
 ghost use Rattle.wire_codec.specs.TakingLaws.{OneRecordMore, TextDecodes};
 
 use crate::message::Message;
 pub use wire_base::laws as grammar;
 use wire_base::laws::{
-    charges_add_up, counts_fall, joined_texts_spell, limits_add_up, no_tag_beside_fault,
-    one_delimited, one_list, one_payload, one_spelled, one_tag, one_varint, records_from_the_front,
-    shortest_text_spells, whole_input,
+    charges_add_up, counts_fall, joined_texts_spell, levels_add_up, limits_add_up,
+    no_delimited_beside_fault, no_tag_beside_fault, one_delimited, one_delimited_fault, one_list,
+    one_payload, one_spelled, one_tag, one_varint, records_from_the_front, shortest_text_spells,
+    whole_input,
 };
 pub use wire_base::laws::{put_is_a_write, two_parts};
 pub use wire_scalar::laws as scalar;
@@ -71,6 +73,25 @@ pub fn records_in_order()
     records_from_the_front();
     limits_add_up();
     charges_add_up();
+    counts_fall();
+}
+
+/// What readers of length-delimited payloads stand on.
+pub fn delimited_is_read()
+    ensures { DelimitedIsRead }
+{
+    one_delimited();
+    no_delimited_beside_fault();
+    one_delimited_fault();
+    one_list();
+    whole_input();
+}
+
+/// Levels and counts add up, and counts fall.
+pub fn levels_and_counts()
+    ensures { LevelsAndCounts }
+{
+    levels_add_up();
     counts_fall();
 }
 

@@ -1,14 +1,16 @@
 //! Message types, and the calls that encode and decode a value of any of them.
-ghost use Rattle.std.specs.Prelude.{◌≡◌, ◌≢◌, ◌≤◌, ◌<◌, [], length, Option, OnOk, OnErr, IfOk, IfErr};
+ghost use Rattle.std.specs.Prelude.{◌≡◌, ◌≢◌, ◌≤◌, ◌<◌, [], length, Option, Some, OnOk, OnErr, IfOk, IfErr, IsErrAnd};
 ghost use Rattle.wire_base.specs.declared.error.DecodeError.TheVariants as errors;
 ghost use Rattle.wire_base.specs.declared.error.EncodeError.TheVariants.{OutOfMemory};
+ghost use Rattle.wire_base.specs.Delimited.{DelimitedFault};
 ghost use Rattle.wire_base.specs.Ending.{by_limit};
-ghost use Rattle.wire_base.specs.Limits.{NoCountGrew, counted, with_elements};
+ghost use Rattle.wire_base.specs.Limits.{Charge, NoCountGrew, counted, with_elements};
 ghost use Rattle.wire_base.specs.TagView.{tag_number, tag_type};
 ghost use Rattle.wire_codec.specs.Folds.{Step, IsSingle};
 ghost use Rattle.wire_codec.specs.Taking.{TakesRecord, TakesList, TakesAll, Decodes};
 ghost use Rattle.wire_codec.specs.Taking.{IsCharged, NotTaken, NotDecoded};
 ghost use Rattle.wire_codec.specs.Encoding.{TriesToAnswer, TriesToWrite, WritesWithin, read_tape};
+ghost use Rattle.wire_codec.specs.Nested.{TakesDelimited, TakesEmbedded, TakesGroup};
 ghost use Rattle.wire_codec.specs.Records.{Records, text, size};
 ghost use Rattle.wire_codec.specs.Sizes.{cut, cut_sizes, sizes};
 ghost use Rattle.wire_codec.specs.TakingLaws.{OneReading};
@@ -17,12 +19,14 @@ ghost use Rattle.wire_codec.specs.Writes.{Writes};
 ghost use Rattle.wire_base.specs.Delimited.{delimited_text};
 
 use crate::decode_options::default_context;
-use crate::laws::records_in_order;
-use crate::size::checked_encode_size;
+use crate::laws::{delimited_is_read, levels_and_counts, records_in_order};
+use crate::size::{MAX_MESSAGE_BYTES, checked_encode_size};
 use crate::size_cache::SizeCache;
 use bytes::{Buf, Bytes};
 use std::alloc::Global;
-use wire_base::{DecodeContext, DecodeError, EncodeError, EncodeSink, Tag, encode_varint, laws};
+use wire_base::{
+    DecodeContext, DecodeError, EncodeError, EncodeSink, Tag, decode_length, encode_varint, laws,
+};
 
 /// A type whose values are encoded as records.
 ///
@@ -298,6 +302,112 @@ pub trait Message: Clone + PartialEq + Drop {
             self.merge_field(alloc, tag, buf, context)?;
         }
         Ok(())
+    }
+
+    /// Takes the records of a length-delimited payload of at most `max` bytes into the value, at the
+    /// context's own level. A record that runs past the payload is refused.
+    fn merge_delimited<B: Buf>(
+        &mut self,
+        alloc: Global,
+        buf: &mut B,
+        context: &mut DecodeContext,
+        max: usize,
+    ) -> Result<(), DecodeError>
+        ensures ok { OnOk result (IsCharged context.old context.new (λ c.
+            TakesDelimited takes context.old max (view self.old) (B.unread buf.old)
+            c (view self.new) (B.unread buf.new))) }
+        ensures fault { (e : DecodeError) → DelimitedFault (Some max) (B.unread buf.old) e
+            → IsErrAnd result (λ f. f ≡ e) }
+        ensures err { IfErr result (λ e. e ≢ errors.OutOfMemory → NotTaken
+            (TakesDelimited takes context.old max (view self.old) (B.unread buf.old))) }
+        ensures counts { OnErr result (NoCountGrew context.old context.new) }
+        ensures kept { B.kept buf.new ≡ B.kept buf.old }
+    {
+        records_in_order();
+        delimited_is_read();
+        let len = decode_length(buf, Some(max))?;
+        let rest = buf.remaining() - len;
+        self.merge_to_limit(alloc, buf, context, rest)?;
+        if buf.remaining() < rest {
+            return Err(DecodeError::UnexpectedEof);
+        }
+        Ok(())
+    }
+
+    /// Takes the records of an embedded message, a length and a payload, into the value, one level
+    /// down.
+    fn merge_length_delimited<B: Buf>(
+        &mut self,
+        alloc: Global,
+        buf: &mut B,
+        context: &mut DecodeContext,
+    ) -> Result<(), DecodeError>
+        ensures ok { OnOk result (IsCharged context.old context.new (λ c.
+            TakesEmbedded takes context.old (view self.old) (B.unread buf.old)
+            c (view self.new) (B.unread buf.new))) }
+        ensures no_level { context.old.depth ≡ 0
+            → IsErrAnd result (λ e. e ≡ errors.RecursionLimitExceeded) }
+        ensures fault { 0 < context.old.depth → (e : DecodeError)
+            → DelimitedFault (Some 2147483647) (B.unread buf.old) e
+            → IsErrAnd result (λ f. f ≡ e) }
+        ensures err { IfErr result (λ e. e ≢ errors.OutOfMemory → NotTaken
+            (TakesEmbedded takes context.old (view self.old) (B.unread buf.old))) }
+        ensures counts { OnErr result (NoCountGrew context.old context.new) }
+        ensures kept { B.kept buf.new ≡ B.kept buf.old }
+    {
+        levels_and_counts();
+        context.descend()?;
+        self.merge_delimited(alloc, buf, context, MAX_MESSAGE_BYTES as usize)?;
+        context.ascend();
+        Ok(())
+    }
+
+    /// Takes the records of a group of this number into the value, up to its end tag, one level
+    /// down.
+    fn merge_group<B: Buf>(
+        &mut self,
+        alloc: Global,
+        buf: &mut B,
+        context: &mut DecodeContext,
+        number: u32,
+    ) -> Result<(), DecodeError>
+        ensures ok { OnOk result (IsCharged context.old context.new (λ c.
+            TakesGroup takes context.old number (view self.old) (B.unread buf.old)
+            c (view self.new) (B.unread buf.new))) }
+        ensures no_level { context.old.depth ≡ 0
+            → IsErrAnd result (λ e. e ≡ errors.RecursionLimitExceeded) }
+        ensures err { IfErr result (λ e. e ≢ errors.OutOfMemory → NotTaken
+            (TakesGroup takes context.old number (view self.old) (B.unread buf.old))) }
+        ensures counts { OnErr result (NoCountGrew context.old context.new) }
+        ensures kept { B.kept buf.new ≡ B.kept buf.old }
+    {
+        records_in_order();
+        levels_and_counts();
+        context.descend()?;
+        while let Some(tag) = Tag::decode_in_group(buf, number)? {
+            self.merge_field(alloc, tag, buf, context)?;
+        }
+        context.ascend();
+        Ok(())
+    }
+
+    /// The value of a length-delimited payload, within the limits of `decode`.
+    fn decode_length_delimited<B: Buf>(alloc: Global, buf: &mut B) -> Result<Self, DecodeError>
+        ensures ok { IfOk result (λ message. (c : Charge) × TakesDelimited takes
+            (with_elements (counted 100 1000000) 33554432) 2147483647 default
+            (B.unread buf.old) c (view message) (B.unread buf.new)) }
+        ensures fault { (e : DecodeError)
+            → DelimitedFault (Some 2147483647) (B.unread buf.old) e
+            → IsErrAnd result (λ f. f ≡ e) }
+        ensures err { IfErr result (λ e. e ≢ errors.OutOfMemory → NotTaken
+            (TakesDelimited takes (with_elements (counted 100 1000000) 33554432) 2147483647
+            default (B.unread buf.old))) }
+        ensures kept { B.kept buf.new ≡ B.kept buf.old }
+    {
+        let mut message = Self::default_value(alloc);
+        let max = MAX_MESSAGE_BYTES as usize;
+        message.merge_delimited(alloc, buf, &mut default_context(), max)?;
+        Ok(message)
     }
 
     /// The value of the records of the whole buffer, within 100 levels, 1,000,000 unknown fields

@@ -1,0 +1,10 @@
+use Rattle.std.proofs.lemmas.Result.{err_from_is_err_and}
+use Rattle.wire_codec.proofs.message.Message.merge_length_delimited.Goals as goal
+
+pub returns-in_err-merge_delimited-clause-err : goal.returns-in_err-merge_delimited-clause-err
+returns-in_err-merge_delimited-clause-err g c =
+    let p = err_from_is_err_and c.from_residual-in_err-merge_delimited.result
+    c.from_residual-in_err-merge_delimited.ensures.1 in
+    rw (p.1, p.2) (λ other. λ charge z new h.
+    (rw (c.in_ok-descend.ensures.ok) at c.in_err-merge_delimited.ensures.err other) charge z new
+    h.taken)
