@@ -1,6 +1,7 @@
 //! Worked rows. Each is a check that can be run while memory is refused, too.
 mod calls;
 mod decode;
+mod nested;
 mod options;
 mod person;
 mod pool;
