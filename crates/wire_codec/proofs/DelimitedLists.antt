@@ -1,5 +1,5 @@
 -- A list of records in a length-delimited payload, read up to what follows it.
-use Rattle.std.proofs.Common.{◌≡◌, ℕ, ◌+◌, ◌<◌, ◌≤◌, inl, inr, List, [], ◌∷◌, ◌++◌, length, take, refl, sym, ap, ◌∙◌, subst, append_assoc, length-append, arith}
+use Rattle.std.proofs.Common.{◌≡◌, ℕ, min, ◌+◌, ◌<◌, ◌≤◌, inl, inr, List, [], ◌∷◌, ◌++◌, length, take, refl, sym, ap, ◌∙◌, subst, append_assoc, length-append, arith}
 use Rattle.std.proofs.lemmas.List.{length-take}
 use Rattle.std.specs.Prelude.{Some}
 use Rattle.wire_base.specs.declared.error.DecodeError.{DecodeError}
@@ -13,7 +13,7 @@ use Rattle.wire_base.specs.Taken.{TakesUntil, LastGoesOn}
 use Rattle.wire_codec.specs.Folds.{Step}
 use Rattle.wire_codec.specs.Nested.{TakesDelimited}
 use Rattle.wire_codec.specs.Taking.{TakesList, TakesAll, NotTaken}
-use Rattle.wire_codec.specs.TakingLaws.{DelimitedIsRead}
+use Rattle.wire_codec.specs.TakingLaws.{DelimitedIsRead, LimitIsTheLesser}
 
 -- two ends of one list that are as long are one
 same_end : (a b r s : List ℕ) → a ++ r ≡ b ++ s → length r ≡ length s → (a ≡ b) × (r ≡ s)
@@ -129,3 +129,47 @@ module _ (d : DelimitedIsRead) {V : Type 0} (takes : Step V) where
       → DelimitedFault (Some most) old e → NotTaken (TakesDelimited takes l most m old)
   no_delimited l most m old e fault c z new h =
       d.beside (Some most) h.payload old new e h.read h.short fault
+
+-- ---- the limit, and what remains
+
+no_longer : (fs : Fields) (old new : List ℕ) → Reads old (Spells fs) new → length new ≤ length old
+no_longer fs old new h = omega (arith, ap length h.parts, length-append h.text new)
+
+-- the last record begins before one limit where it begins before another
+last_at : (fs : Fields) (old : List ℕ) (limit other : ℕ)
+    → ((rest : List ℕ) → length rest ≤ length old → limit < length rest → other < length rest)
+    → LastGoesOn (by_limit limit) fs old → LastGoesOn (by_limit other) fs old
+last_at fs old limit other on (inl none_is) = inl none_is
+last_at fs old limit other on (inr (before, n, p, rest, last, h, goes)) =
+    inr (before, n, p, rest, last, h, on rest (no_longer before old rest h) goes)
+
+module _ {V : Type 0} (takes : Step V) where
+  other_limit : (l : Limits) (m z : V) (limit other : ℕ) (old new : List ℕ) (c : Charge)
+      → ((rest : List ℕ) → length rest ≤ length old → length rest ≤ limit → length rest ≤ other)
+      → ((rest : List ℕ) → length rest ≤ length old → limit < length rest → other < length rest)
+      → TakesList takes l (by_limit limit) m old c z new
+      → TakesList takes l (by_limit other) m old c z new
+  other_limit l m z limit other old new c ends on h = record {
+    fields = h.fields;
+    read = record {
+      end = h.read.end;
+      fields = h.read.fields;
+      ended = (
+        ends h.read.end (no_longer h.fields old h.read.end h.read.fields.read)
+            h.read.ended.0,
+        h.read.ended.1,
+      );
+      last = last_at h.fields old limit other on h.read.last;
+    };
+    folded = h.folded;
+  }
+
+  pub limit_is_the_lesser_lemma : LimitIsTheLesser takes
+  limit_is_the_lesser_lemma l m z limit old new c = (
+    other_limit l m z limit (min limit (length old)) old new c
+        (λ rest short ends. omega (arith, short, ends))
+        (λ rest short goes. omega (arith, short, goes)),
+    other_limit l m z (min limit (length old)) limit old new c
+        (λ rest short ends. omega (arith, short, ends))
+        (λ rest short goes. omega (arith, short, goes)),
+  )

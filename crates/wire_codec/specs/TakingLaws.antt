@@ -1,7 +1,7 @@
 -- What readers of lists of records stand on, and what holds of lists that a message type takes. Each
 -- statement is proved as the contract of a law of src/laws.rt.
-use Rattle.std.specs.Prelude.{◌≡◌, ◌↔◌, ℕ, List, ◌++◌}
-use Rattle.wire_base.specs.Ending.{Ending}
+use Rattle.std.specs.Prelude.{◌≡◌, ◌↔◌, ℕ, min, List, ◌++◌, length}
+use Rattle.wire_base.specs.Ending.{Ending, by_limit}
 use Rattle.wire_base.specs.Field.{Payload, Fields, none, field}
 use Rattle.wire_base.specs.InRange.{AreFitting, AreNumbered}
 use Rattle.wire_base.specs.Limits.{Limits, Charge, Fits, both}
@@ -77,6 +77,13 @@ OneRecordMore {V} takes =
     (l k : Limits) (m mid z : V) (n : ℕ) (p : Payload) (old record_text : List ℕ) (c d : Charge)
     → TakesAll takes k m old c mid → Spells (field n p none) record_text → takes mid n p d z
     → Fits (both c d) l → TakesAll takes l m (old ++ record_text) (both c d) z
+
+-- where fewer bytes remain than the limit, none more is read, as if the limit were just that many
+abbrev pub LimitIsTheLesser : {V : Type 0} → Step V → Type 0
+LimitIsTheLesser {V} takes =
+    (l : Limits) (m z : V) (limit : ℕ) (old new : List ℕ) (c : Charge)
+    → TakesList takes l (by_limit limit) m old c z new
+    ↔ TakesList takes l (by_limit (min limit (length old))) m old c z new
 
 -- A value whose records have numbers and lengths in range, fold back to it, and fit, is what its
 -- text decodes to.

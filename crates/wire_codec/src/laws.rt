@@ -6,7 +6,7 @@ ghost use Rattle.wire_codec.specs.Laws.{FlatKeepsTheTape, PieceByPiece};
 ghost use Rattle.wire_codec.specs.TakingLaws.{OneReading, RecordsInOrder, AllIsSpelled};
 ghost use Rattle.wire_codec.specs.TakingLaws.{DelimitedIsRead, LevelsAndCounts};
 ghost use Rattle.wire_codec.specs.TakingLaws.{TakenInOneWay, JoinedInputsAreTaken};
-ghost use Rattle.wire_codec.specs.TakingLaws.{OneRecordMore, TextDecodes};
+ghost use Rattle.wire_codec.specs.TakingLaws.{OneRecordMore, LimitIsTheLesser, TextDecodes};
 
 use crate::message::Message;
 pub use wire_base::laws as grammar;
@@ -128,6 +128,11 @@ pub fn one_record_more<M: Message>()
     joined_texts_spell();
     charges_add_up();
 }
+
+/// Where fewer bytes remain than the limit, none more is read, as if the limit were just that many.
+pub fn limit_is_the_lesser<M: Message>()
+    ensures { LimitIsTheLesser M.takes }
+{}
 
 /// A value whose records have numbers and lengths in range, fold back to it, and fit, is what its
 /// text decodes to.

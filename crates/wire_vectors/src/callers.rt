@@ -1,10 +1,10 @@
 //! Short callers of the crates below, proved. The README shows them.
-ghost use Rattle.std.specs.Prelude.{◌≡◌, [], ◌++◌, string_bytes, OnOk, IfOk, IfErr};
+ghost use Rattle.std.specs.Prelude.{◌≡◌, ◌≤◌, [], ◌++◌, length, string_bytes, OnOk, IfOk, IfErr};
 ghost use Rattle.wire_codec.specs.Ending.{by_tag};
 ghost use Rattle.wire_codec.specs.Fault.{ListFault};
 ghost use Rattle.wire_codec.specs.Field.{varint};
 ghost use Rattle.wire_codec.specs.FieldNumber.{IsFieldNumber};
-ghost use Rattle.wire_codec.specs.Limits.{uncounted};
+ghost use Rattle.wire_codec.specs.Limits.{counted, uncounted, with_elements};
 ghost use Rattle.wire_codec.specs.Read.{Reads};
 ghost use Rattle.wire_codec.specs.Tag.{TagFault};
 ghost use Rattle.wire_codec.specs.Text.{record_text};
@@ -12,13 +12,16 @@ ghost use Rattle.wire_codec.specs.Varint.{IsSpelling, shortest_varint};
 ghost use Rattle.wire_codec.specs.Packed.{Appends};
 ghost use Rattle.wire_codec.specs.ValueMap.{int32, sint64};
 ghost use Rattle.wire_codec.specs.StringPayload.{IsString, StringRefusal};
+ghost use Rattle.wire_codec.specs.Taking.{Decodes};
+ghost use Rattle.wire_samples.specs.Person.{PersonTakes, default_person, value_of};
 
 use bytes::Buf;
 use std::alloc::Global;
 use wire_codec::{
-    DecodeError, EncodeError, EncodeSink, Tag, UnknownFields, borrow_group, count_varints,
-    decode_string, encode_varint, extend_packed_int32, laws, put_sint64_field,
+    DecodeError, DecodeOptions, EncodeError, EncodeSink, Tag, UnknownFields, borrow_group,
+    count_varints, decode_string, encode_varint, extend_packed_int32, laws, put_sint64_field,
 };
+use wire_samples::Person;
 
 /// The field number of the first record.
 pub fn first_number(bytes: &[u8]) -> Result<u32, DecodeError>
@@ -71,6 +74,19 @@ pub fn name_of<B: Buf>(alloc: Global, buf: &mut B) -> Result<String, DecodeError
     ensures fault { IfErr result (StringRefusal (B.unread buf.old)) }
 {
     decode_string(alloc, buf)
+}
+
+/// A person from an input that is not trusted: at most 4,096 bytes, and 10 fields that the type does
+/// not know.
+pub fn person_of(alloc: Global, bytes: &[u8]) -> Result<Person, DecodeError>
+    ensures short { OnOk result (length bytes.now ≤ 4096) }
+    ensures ok { IfOk result (λ person. Decodes PersonTakes
+        (with_elements (counted 100 10) 33554432) default_person bytes.now (value_of person)) }
+{
+    DecodeOptions::new()
+        .with_max_message_size(4096)
+        .with_unknown_field_limit(10)
+        .decode_from_slice(alloc, bytes)
 }
 
 /// Records but for those of one number, and what is read from their text: the same records.
