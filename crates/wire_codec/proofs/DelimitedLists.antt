@@ -1,5 +1,5 @@
 -- A list of records in a length-delimited payload, read up to what follows it.
-use Rattle.std.proofs.Common.{◌≡◌, ℕ, min, ◌+◌, ◌<◌, ◌≤◌, inl, inr, List, [], ◌∷◌, ◌++◌, length, take, refl, sym, ap, ◌∙◌, subst, append_assoc, length-append, arith}
+use Rattle.std.proofs.Common.{◌≡◌, ℕ, min, ◌<◌, ◌≤◌, inl, inr, List, [], ◌∷◌, ◌++◌, length, take, refl, sym, ap, ◌∙◌, subst, append_assoc, length-append, arith}
 use Rattle.std.proofs.lemmas.List.{length-take}
 use Rattle.std.specs.Prelude.{Some}
 use Rattle.wire_base.specs.declared.error.DecodeError.{DecodeError}
@@ -9,7 +9,7 @@ use Rattle.wire_base.specs.Field.{Fields}
 use Rattle.wire_base.specs.Limits.{Limits, Charge}
 use Rattle.wire_base.specs.Read.{Reads}
 use Rattle.wire_base.specs.Spells.{Spells}
-use Rattle.wire_base.specs.Taken.{TakesUntil, LastGoesOn}
+use Rattle.wire_base.specs.Taken.{LastGoesOn}
 use Rattle.wire_codec.specs.Folds.{Step}
 use Rattle.wire_codec.specs.Nested.{TakesDelimited}
 use Rattle.wire_codec.specs.Taking.{TakesList, TakesAll, NotTaken}

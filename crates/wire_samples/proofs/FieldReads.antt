@@ -1,11 +1,10 @@
 -- What known fields read, and why they read nothing.
-use Rattle.std.proofs.Common.{◌≡◌, ◌≢◌, inl, inr, ℕ, ◌≤◌, List, [], ◌∷◌, ◌++◌, length, take, drop, refl, sym, ap, ◌∙◌, subst}
+use Rattle.std.proofs.Common.{◌≡◌, ◌≢◌, inl, inr, ℕ, List, [], ◌∷◌, ◌++◌, take, drop, refl, sym, ap, ◌∙◌, subst}
 use Rattle.std.specs.Prelude.{ℤ, None, IsUtf8, Result, Ok, Err, OnOk}
 use Rattle.wire_codec.specs.DecodeError.{DecodeError}
-use Rattle.wire_codec.specs.DecodeError.TheVariants.{OutOfMemory, InvalidUtf8}
+use Rattle.wire_codec.specs.DecodeError.TheVariants.{OutOfMemory}
 use Rattle.wire_codec.specs.Delimited.{IsDelimited, DelimitedFault}
 use Rattle.wire_codec.specs.Field.{Payload, varint, fixed64, fixed32, bytes, group, type_of}
-use Rattle.wire_codec.specs.Packed.{Appends}
 use Rattle.wire_codec.specs.FaultLaws.{NoPayloadBesideFault}
 use Rattle.wire_codec.specs.Limits.{Limits}
 use Rattle.wire_codec.specs.Read.{Reads}

@@ -1,16 +1,15 @@
 -- The records of a `Person` fold back to it.
-use Rattle.std.proofs.Common.{◌≡◌, ◌≢◌, ℕ, zero, suc, ◌^◌, ◌<◌, ◌≤◌, List, [], ◌∷◌, ◌++◌, length, refl, sym, ap, ◌∙◌, subst, arith}
-use Rattle.std.proofs.Common.{append_assoc}
+use Rattle.std.proofs.Common.{◌≡◌, ℕ, zero, suc, ◌^◌, ◌<◌, ◌≤◌, List, [], ◌∷◌, ◌++◌, length, refl, sym, ap, ◌∙◌, subst, arith}
 use Rattle.std.proofs.lemmas.List.{append-nil}
 use Rattle.std.proofs.lemmas.List.Elements.{All-head, All-tail}
 use Rattle.std.specs.Prelude.{ℤ, pos, negsuc, map, All, FitsSigned, IsUtf8}
 use Rattle.std.specs.Int.{w32}
 use Rattle.wire_codec.specs.Charge.{payload_charge, charge}
 use Rattle.wire_codec.specs.Field as grammar
-use Rattle.wire_codec.specs.Folds.{Step, Folds}
+use Rattle.wire_codec.specs.Folds.{Folds}
 use Rattle.wire_codec.specs.InRange.{AreFitting, AreNumbered}
 use Rattle.wire_codec.specs.Laws.{JoinedAddsUp, FieldsArePlain}
-use Rattle.wire_codec.specs.Limits.{Charge, both, no_charge}
+use Rattle.wire_codec.specs.Limits.{Charge, no_charge}
 use Rattle.wire_codec.specs.LimitsLaws.{ChargesAddUp}
 use Rattle.wire_codec.specs.Packed.{SpellsEach}
 use Rattle.wire_codec.specs.Records.{Records, plain, size, joined, of_fields}

@@ -1,10 +1,9 @@
 -- What a `Person` takes, field by field.
 use Rattle.std.proofs.Common.{◌≡◌, ◌≢◌, ℕ, List, refl, sym, subst, arith}
 use Rattle.std.specs.Prelude.{ℤ}
-use Rattle.wire_codec.specs.Charge.{payload_charge}
 use Rattle.wire_codec.specs.Field.{Payload}
 use Rattle.wire_codec.specs.Folds.{Step}
-use Rattle.wire_codec.specs.Limits.{Limits, Charge, no_charge}
+use Rattle.wire_codec.specs.Limits.{Limits, no_charge}
 use Rattle.wire_codec.specs.LimitsLaws.{LimitsAddUp}
 use Rattle.wire_codec.specs.Read.{Reads}
 use Rattle.wire_codec.specs.Spells.{IsPayload}

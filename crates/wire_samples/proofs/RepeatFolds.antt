@@ -1,12 +1,11 @@
 -- The records of a `Repeat` fold back to it.
-use Rattle.std.proofs.Common.{◌≡◌, ℕ, zero, suc, ◌+◌, ◌^◌, ◌<◌, refl, sym, ap, subst, arith}
+use Rattle.std.proofs.Common.{◌≡◌, ℕ, zero, suc, ◌+◌, ◌^◌, ◌<◌, refl, sym, subst, arith}
 use Rattle.std.specs.Prelude.{Bool, true, false}
-use Rattle.wire_codec.specs.Field as grammar
 use Rattle.wire_codec.specs.Folds.{Folds}
 use Rattle.wire_codec.specs.InRange.{AreFitting, AreNumbered}
 use Rattle.wire_codec.specs.Limits.{no_charge}
 use Rattle.wire_codec.specs.LimitsLaws.{ChargesAddUp}
-use Rattle.wire_codec.specs.Records.{Records, plain, joined}
+use Rattle.wire_codec.specs.Records.{plain, joined}
 use Rattle.wire_samples.specs.declared.repeat.Repeat.{Repeat}
 use Rattle.wire_samples.specs.Repeat.{RepeatTakes, counted, marked, repeated, extra_record}
 

@@ -2,8 +2,8 @@
 use Rattle.std.proofs.Common.{◌≡◌, ◌⊎◌, inl, inr, ⊎_elim, ℕ, ◌+◌, ◌<◌, List, refl, ap, ◌∙◌, subst}
 use Rattle.std.specs.Prelude.{true}
 use Rattle.wire_codec.specs.DecodeError.{DecodeError}
-use Rattle.wire_codec.specs.Field.{Payload, varint}
-use Rattle.wire_codec.specs.Limits.{Limits, Charge, no_charge}
+use Rattle.wire_codec.specs.Field.{varint}
+use Rattle.wire_codec.specs.Limits.{Limits, Charge}
 use Rattle.wire_codec.specs.LimitsLaws.{LimitsAddUp}
 use Rattle.wire_codec.specs.Read.{Reads}
 use Rattle.wire_codec.specs.Spells.{IsPayload}

@@ -1,5 +1,5 @@
 -- What a known field makes of a payload is one value.
-use Rattle.std.proofs.Common.{◌≡◌, ℕ, List, ◌++◌, refl, sym, ap, ◌∙◌}
+use Rattle.std.proofs.Common.{◌≡◌, ℕ, List, ◌++◌, sym, ap, ◌∙◌}
 use Rattle.std.specs.Prelude.{ℤ, map}
 use Rattle.wire_codec.specs.Field.{Payload, varint, fixed64, fixed32, bytes, group}
 use Rattle.wire_codec.specs.TakingLaws.{OneReading}

@@ -1,9 +1,7 @@
 -- What a `Person` makes of a record is single.
-use Rattle.std.proofs.Common.{◌≡◌, ℕ, List, refl, sym, ap, ◌∙◌, arith}
-use Rattle.std.specs.Prelude.{ℤ}
-use Rattle.wire_codec.specs.Field.{Payload, Fields, push}
+use Rattle.std.proofs.Common.{sym, ap, ◌∙◌, arith}
+use Rattle.wire_codec.specs.Field.{push}
 use Rattle.wire_codec.specs.Folds.{IsSingle}
-use Rattle.wire_codec.specs.Limits.{Charge}
 use Rattle.wire_codec.specs.TakingLaws.{OneReading}
 use Rattle.wire_samples.specs.FieldStepsLaws.{one_int32, one_text, one_append}
 use Rattle.wire_samples.specs.Person.{PersonValue, PersonTakes, id, name, scores, unknown}

@@ -1,7 +1,6 @@
-use Rattle.std.proofs.Common.{◌≡◌, ◌-◌, ◌∙◌, sym, ap, arith, length, take, drop, take-append-drop, length-drop}
+use Rattle.std.proofs.Common.{◌-◌, ◌∙◌, sym, ap, arith, take, take-append-drop, length-drop}
 use Rattle.std.specs.Prelude.{Some}
 use Rattle.std.proofs.lemmas.Result.{err_from_is_err_and}
-use Rattle.wire_base.specs.Read.{Reads}
 use Rattle.wire_codec.proofs.DelimitedLists.{limit_is_whole, no_payload, ran_past, no_delimited}
 use Rattle.wire_codec.proofs.DelimitedLists.{take_short}
 use Rattle.wire_codec.proofs.message.Message.merge_delimited.Goals as goal
