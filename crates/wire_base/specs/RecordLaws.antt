@@ -66,8 +66,8 @@ pub record RecordsOneByOne : Type 0 where
       → TakesPayload d (left_after l c) n w p behind new
       → TakesFields (both c d) l (push fs n p) old new
 
--- A list up to its end, from the front: it has no record, or the first one stands where the list goes
--- on, and the others take what it leaves.
+-- A list up to its end, from the front: it has no record, or the first one stands where the list
+-- goes on, and the others take what it leaves.
 pub record RecordsFromTheFront : Type 0 where
   pub ended : (l : Limits) (ending : Ending) (old new : List ℕ) → Ends ending old new
       → TakesUntil no_charge l ending Fields.none old new

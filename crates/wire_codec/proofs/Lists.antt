@@ -160,7 +160,8 @@ module _ (order : RecordsInOrder) {V : Type 0} (takes : Step V) where
       → HeadBehind takes l ending n w m behind z new
   head_behind l ending n w m z now behind new c tag some h =
       let first = head order takes l ending m z now new c some h in
-      let same = order.reading.tag now behind first.behind n first.n w (type_of first.payload) tag first.tag in
+      let same = order.reading.tag now behind first.behind n first.n w (type_of first.payload)
+      tag first.tag in
       record {
         next = first.next;
         mid = first.mid;

@@ -3,8 +3,8 @@ use Rattle.std.specs.Prelude.{◌≡◌, ℕ}
 use Rattle.wire_base.specs.Field.{Payload, Fields, none, field}
 use Rattle.wire_base.specs.Limits.{Charge, both, no_charge}
 
--- `takes m n p c z`: the value m takes the record of field number n with payload p, is charged c for
--- it, and becomes z. A record that has no such charge and value is refused.
+-- `takes m n p c z`: the value m takes the record of field number n with payload p, is charged c
+-- for it, and becomes z. A record that has no such charge and value is refused.
 abbrev pub Step : Type 0 → Type 1
 Step V = V → ℕ → Payload → Charge → V → Type 0
 

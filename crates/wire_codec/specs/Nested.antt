@@ -22,10 +22,13 @@ pub record OneLevelDown (l : Limits) (Taken : Limits → Type 0) : Type 0 where
   pub taken : Taken (inner l)
 
 -- an embedded message: a length and a payload, one level down
-abbrev pub TakesEmbedded : {V : Type 0} → Step V → Limits → V → List ℕ → Charge → V → List ℕ → Type 0
+abbrev pub TakesEmbedded : {V : Type 0} → Step V → Limits → V → List ℕ → Charge → V → List ℕ
+    → Type 0
 TakesEmbedded takes l m old c z new =
     OneLevelDown l (λ k. TakesDelimited takes k 2147483647 m old c z new)
 
 -- the body of a group of this number, and its end tag, one level down
-abbrev pub TakesGroup : {V : Type 0} → Step V → Limits → ℕ → V → List ℕ → Charge → V → List ℕ → Type 0
-TakesGroup takes l n m old c z new = OneLevelDown l (λ k. TakesList takes k (by_tag n) m old c z new)
+abbrev pub TakesGroup : {V : Type 0} → Step V → Limits → ℕ → V → List ℕ → Charge → V → List ℕ
+    → Type 0
+TakesGroup takes l n m old c z new =
+    OneLevelDown l (λ k. TakesList takes k (by_tag n) m old c z new)

@@ -7,8 +7,8 @@ use Rattle.wire_base.specs.Limits.{Limits, Charge, left_after}
 use Rattle.wire_base.specs.Taken.{TakesPayload, TakesUntil}
 use Rattle.wire_codec.specs.Folds.{Step, Folds}
 
--- Behind a tag (n, w) a payload stands at the front of old. The value m takes its record, is charged
--- c for it, which is within the limits, and becomes z; new is what follows the payload.
+-- Behind a tag (n, w) a payload stands at the front of old. The value m takes its record, is
+-- charged c for it, which is within the limits, and becomes z; new is what follows the payload.
 pub record TakesRecord {V : Type 0} (takes : Step V) (l : Limits) (n : ℕ) (w : WireType) (m : V)
     (old : List ℕ) (c : Charge) (z : V) (new : List ℕ) : Type 0 where
   pub payload : Payload

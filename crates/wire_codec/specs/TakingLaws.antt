@@ -1,5 +1,5 @@
--- What readers of lists of records stand on, and what holds of lists that a message type takes. Each
--- statement is proved as the contract of a law of src/laws.rt.
+-- What readers of lists of records stand on, and what holds of lists that a message type takes.
+-- Each statement is proved as the contract of a law of src/laws.rt.
 use Rattle.std.specs.Prelude.{◌≡◌, ◌↔◌, ℕ, min, List, ◌++◌, length}
 use Rattle.wire_base.specs.Ending.{Ending, by_limit}
 use Rattle.wire_base.specs.Field.{Payload, Fields, none, field}

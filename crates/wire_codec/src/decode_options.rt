@@ -43,7 +43,8 @@ impl Model for DecodeOptions {
 }
 
 impl DecodeOptions {
-    /// 100 levels, 2,147,483,647 bytes, 1,000,000 unknown fields, and 33,554,432 bytes for elements.
+    /// 100 levels, 2,147,483,647 bytes, 1,000,000 unknown fields, and 33,554,432 bytes for
+    /// elements.
     pub fn new() -> DecodeOptions
         ensures { result ≡ default_options }
     {

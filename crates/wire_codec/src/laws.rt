@@ -1,5 +1,5 @@
-//! Laws of the definitions that the contracts cite: each function is a theorem, and does nothing. Those
-//! of the crates below stand in modules of their own.
+//! Laws of the definitions that the contracts cite: each function is a theorem, and does nothing.
+//! Those of the crates below stand in modules of their own.
 ghost use Rattle.wire_codec.specs.Laws.{NoSizeIsAboveTheWhole, SmallSizesAreUncut, MeasuredAreNext};
 ghost use Rattle.wire_codec.specs.Laws.{JoinedAddsUp, FieldsArePlain};
 ghost use Rattle.wire_codec.specs.Laws.{FlatKeepsTheTape, PieceByPiece};

@@ -304,8 +304,8 @@ pub trait Message: Clone + PartialEq + Drop {
         Ok(())
     }
 
-    /// Takes the records of a length-delimited payload of at most `max` bytes into the value, at the
-    /// context's own level. A record that runs past the payload is refused.
+    /// Takes the records of a length-delimited payload of at most `max` bytes into the value, at
+    /// the context's own level. A record that runs past the payload is refused.
     fn merge_delimited<B: Buf>(
         &mut self,
         alloc: Global,

@@ -55,7 +55,8 @@ first_of left rest now after some h = at_first h.numbers h.spelled h.appended
       };
     }
 
--- what is appended from here on is what is appended from the start; rest is what follows the payload
+-- what is appended from here on is what is appended from the start; rest is what follows the
+-- payload
 pub record FollowsPacked (payload rest : List ℕ) (before : List ℤ) (unread : List ℕ)
     (now : List ℤ) : Type 0 where
   pub left : List ℕ

@@ -76,8 +76,8 @@ pub fn name_of<B: Buf>(alloc: Global, buf: &mut B) -> Result<String, DecodeError
     decode_string(alloc, buf)
 }
 
-/// A person from an input that is not trusted: at most 4,096 bytes, and 10 fields that the type does
-/// not know.
+/// A person from an input that is not trusted: at most 4,096 bytes, and 10 fields that the type
+/// does not know.
 pub fn person_of(alloc: Global, bytes: &[u8]) -> Result<Person, DecodeError>
     ensures short { OnOk result (length bytes.now ≤ 4096) }
     ensures ok { IfOk result (λ person. Decodes PersonTakes
