@@ -34,8 +34,8 @@ pub record RecordsInOrder : Type 0 where
   pub charges : ChargesAddUp
   pub counts : CountsFall
 
--- what readers of length-delimited payloads stand on: payloads and lists are read in one way, and a
--- fault stands beside none
+-- what readers of length-delimited payloads stand on: payloads, faults and lists are single, no
+-- fault stands beside a payload, and a list that ends with the input is all of it
 pub record DelimitedIsRead : Type 0 where
   pub delimited : OneDelimited
   pub beside : NoDelimitedBesideFault
@@ -78,7 +78,7 @@ OneRecordMore {V} takes =
     → TakesAll takes k m old c mid → Spells (field n p none) record_text → takes mid n p d z
     → Fits (both c d) l → TakesAll takes l m (old ++ record_text) (both c d) z
 
--- where fewer bytes remain than the limit, none more is read, as if the limit were just that many
+-- a limit above the number of bytes that are left acts as that number
 abbrev pub LimitIsTheLesser : {V : Type 0} → Step V → Type 0
 LimitIsTheLesser {V} takes =
     (l : Limits) (m z : V) (limit : ℕ) (old new : List ℕ) (c : Charge)

@@ -129,7 +129,7 @@ pub fn one_record_more<M: Message>()
     charges_add_up();
 }
 
-/// Where fewer bytes remain than the limit, none more is read, as if the limit were just that many.
+/// A limit above the number of bytes that are left acts as that number.
 pub fn limit_is_the_lesser<M: Message>()
     ensures { LimitIsTheLesser M.takes }
 {}

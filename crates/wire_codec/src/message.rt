@@ -391,7 +391,8 @@ pub trait Message: Clone + PartialEq + Drop {
         Ok(())
     }
 
-    /// The value of a length-delimited payload, within the limits of `decode`.
+    /// The value of a length-delimited payload of at most 2,147,483,647 bytes, within the limits of
+    /// `decode`.
     fn decode_length_delimited<B: Buf>(alloc: Global, buf: &mut B) -> Result<Self, DecodeError>
         ensures ok { IfOk result (λ message. (c : Charge) × TakesDelimited takes
             (with_elements (counted 100 1000000) 33554432) 2147483647 default

@@ -105,7 +105,7 @@ fn groups_none(alloc: Global, bytes: &[u8], error: &DecodeError) -> Result<bool,
     Ok(true)
 }
 
-// Without a level nothing is read, not even a length that is no varint.
+// Without a level an embedded person and a group are refused, whatever stands there.
 fn needs_a_level(alloc: Global) -> Result<bool, Stop> {
     let mut person = Person::default_value(alloc);
     let mut context = DecodeContext::new(0, 0);
