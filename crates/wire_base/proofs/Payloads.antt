@@ -8,16 +8,51 @@ use Rattle.wire_base.specs.Delimited.{IsDelimited}
 use Rattle.wire_base.specs.Ending.{by_tag}
 use Rattle.wire_base.specs.Fault.{PayloadFault, ListFault, in_group}
 use Rattle.wire_base.specs.Field.{varint, fixed64, fixed32, bytes, group, Fields}
-use Rattle.wire_base.specs.Limits.{Limits, Fits, one_field, inner, left_after}
+use Rattle.wire_base.specs.Limits.{Limits, Charge, Fits, one_field, inner, left_after}
 use Rattle.wire_base.specs.Read.{Reads}
-use Rattle.wire_base.specs.Spells.{SpellsPayload, Spells}
+use Rattle.wire_base.specs.RecordLaws.{GroupIsList}
+use Rattle.wire_base.specs.Spells.{SpellsPayload, Spells, IsPayload}
 use Rattle.wire_base.specs.Tag.{IsTagSpelling}
 use Rattle.wire_base.specs.Taken.{TakesPayload, TakesFields, TakesUntil}
 use Rattle.wire_base.specs.Varint.{IsSpelling}
 use Rattle.wire_base.proofs.JoinedLaws.{payload_as}
 use Rattle.wire_base.proofs.LimitsLaws.{Fits-group}
-use Rattle.wire_base.proofs.ReadLaws.{Reads-take, joined_parts}
+use Rattle.wire_base.proofs.ReadLaws.{Reads-take, Reads-inside, joined_parts}
 use Rattle.wire_base.proofs.Takes.{last_before}
+
+-- ---- the body of a group, and its end tag
+
+group_read : (c : Charge) (l : Limits) (n : ℕ) (fs : Fields) (old new : List ℕ)
+    → TakesUntil c l (by_tag n) fs old new
+    → Reads old (IsPayload n types.StartGroup (group fs)) new
+group_read c l n fs old new h = payload_as n (group fs) old new (record {
+  text = h.fields.read.text ++ h.ended.text;
+  parts = joined_parts (Spells fs)
+      (IsTagSpelling n types.EndGroup) old h.end new h.fields.read h.ended;
+  spelled =
+      (h.ended.text, record { text = h.fields.read.text; parts = refl; spelled = h.fields.read.spelled }, h.ended.spelled);
+})
+
+group_list : (c : Charge) (l : Limits) (n : ℕ) (fs : Fields) (old new : List ℕ) → Fits c l
+    → Reads old (IsPayload n types.StartGroup (group fs)) new
+    → TakesUntil c l (by_tag n) fs old new
+group_list c l n fs old new fits h =
+    let (end, fields, tag) = h.spelled.spelled in
+    let read = Reads-inside (Spells fs) old h.text end new h.parts fields in
+    record {
+      end = end ++ new;
+      fields = record { read = read; fits = fits };
+      ended = record { text = end; parts = refl; spelled = tag };
+      last = last_before (by_tag n) fs old (end ++ new) read (λ rest longer. tt);
+    }
+
+pub group_is_list_lemma : GroupIsList
+group_is_list_lemma c l n fs old new = (
+  λ h. (group_read c l n fs old new h, h.fields.fits),
+  λ h. group_list c l n fs old new h.1 h.0,
+)
+
+-- ---- each wire type
 
 module _ (l : Limits) (n : ℕ) (slot : Fits one_field l) where
   pub takes_varint : (v : ℕ) (old new : List ℕ) → Reads old (IsSpelling v) new
@@ -54,13 +89,7 @@ module _ (l : Limits) (n : ℕ) (slot : Fits one_field l) where
       → TakesUntil (charge fs) (inner (left_after l one_field)) (by_tag n) fs old new
       → TakesPayload (payload_charge (group fs)) l n types.StartGroup (group fs) old new
   takes_group fs old new level h = record {
-    read = payload_as n (group fs) old new (record {
-      text = h.fields.read.text ++ h.ended.text;
-      parts = joined_parts (Spells fs)
-          (IsTagSpelling n types.EndGroup) old h.end new h.fields.read h.ended;
-      spelled =
-          (h.ended.text, record { text = h.fields.read.text; parts = refl; spelled = h.fields.read.spelled }, h.ended.spelled);
-    });
+    read = group_read (charge fs) (inner (left_after l one_field)) n fs old new h;
     fits = Fits-group l fs slot level h.fields.fits;
   }
 

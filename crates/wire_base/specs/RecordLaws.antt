@@ -2,9 +2,10 @@
 -- src/laws.rt.
 use Rattle.std.specs.Prelude.{◌≡◌, ℕ, ◌+◌, ◌≤◌, ◌↔◌, List, [], ◌++◌, length}
 use Rattle.wire_base.specs.declared.tag.WireType.{WireType}
+use Rattle.wire_base.specs.declared.tag.WireType.TheVariants.{StartGroup}
 use Rattle.wire_base.specs.Charge.{charge}
-use Rattle.wire_base.specs.Ending.{Ending, by_input, GoesOn, Ends}
-use Rattle.wire_base.specs.Field.{Payload, Fields, none, field, type_of, joined, count_top, push}
+use Rattle.wire_base.specs.Ending.{Ending, by_input, by_tag, GoesOn, Ends}
+use Rattle.wire_base.specs.Field.{Payload, group, Fields, none, field, type_of, joined, count_top, push}
 use Rattle.wire_base.specs.InRange.{AreFitting, AreNumbered}
 use Rattle.wire_base.specs.Limits.{Limits, Charge, Fits, both, no_charge, left_after}
 use Rattle.wire_base.specs.Read.{Reads}
@@ -43,6 +44,13 @@ abbrev pub WholeInput : Type 0
 WholeInput =
     (c : Charge) (l : Limits) (fs : Fields) (bytes new : List ℕ)
     → TakesUntil c l by_input fs bytes new ↔ (Spells fs bytes × Fits c l × (new ≡ []))
+
+-- a list up to the end tag of a group is the payload of that group
+abbrev pub GroupIsList : Type 0
+GroupIsList =
+    (c : Charge) (l : Limits) (n : ℕ) (fs : Fields) (bytes new : List ℕ)
+    → TakesUntil c l (by_tag n) fs bytes new
+    ↔ (Reads bytes (IsPayload n StartGroup (group fs)) new × Fits c l)
 
 -- ---- lists
 

@@ -12,6 +12,7 @@ pub use Rattle.wire_base.specs.InRange
 pub use Rattle.wire_base.specs.Limits
 pub use Rattle.wire_base.specs.LimitsLaws
 pub use Rattle.wire_base.specs.Read
+pub use Rattle.wire_base.specs.RecordLaws
 pub use Rattle.wire_base.specs.Refusal
 pub use Rattle.wire_base.specs.Sink
 pub use Rattle.wire_base.specs.Spells

@@ -12,13 +12,13 @@ use Rattle.wire_codec.specs.Reading.{ReadsValue}
 use Rattle.wire_codec.specs.Refusal.{PayloadRefusal}
 use Rattle.wire_codec.specs.Spells.{SpellsPayload, IsPayload}
 use Rattle.wire_codec.specs.StringPayload.{IsString, StringFault, no_payload, not_utf8, StringRefusal}
-use Rattle.wire_codec.specs.ValueMap.{int32}
+use Rattle.wire_codec.specs.ValueMap.{ValueMap, int32}
 use Rattle.wire_codec.specs.Varint.{IsSpelling, VarintFault}
 use Rattle.wire_codec.specs.WireType.{WireType}
 use Rattle.wire_codec.specs.WireType.TheVariants as types
 use Rattle.wire_codec.specs.VarintLaws.{OneDelimited, NoVarintBesideFault, NoDelimitedBesideFault}
 use Rattle.wire_samples.proofs.PackedReads.{Numbers}
-use Rattle.wire_samples.specs.FieldSteps.{SetsInt32, SetsText, AppendsInt32, ReadsField, NoField, NotKept}
+use Rattle.wire_samples.specs.FieldSteps.{SetsNumber, SetsText, AppendsInt32, ReadsField, NoField, NotKept}
 
 -- a payload of this kind, as it is read
 read_as : (IsText : List ℕ → Type 0) (n : ℕ) (w : WireType) (p : Payload) (old new : List ℕ)
@@ -54,10 +54,10 @@ pub varint_back : (n : ℕ) (w : WireType) (v : ℕ) (old new : List ℕ)
     → Reads old (IsPayload n w (varint v)) new → Reads old (IsSpelling v) new
 varint_back n w v old new h = read_back (IsSpelling v) n w (varint v) old new (λ text s. s) h
 
-pub int32_read : (n : ℕ) (w : WireType) (u v : ℤ) (old new : List ℕ) → u ≡ v
-    → w ≡ types.Varint → ReadsValue IsSpelling int32 old v new
-    → ReadsField n w (λ p. SetsInt32 p u) old new
-int32_read n w u v old new same is h = record {
+pub number_read : (map : ValueMap ℤ) (n : ℕ) (w : WireType) (u v : ℤ) (old new : List ℕ) → u ≡ v
+    → w ≡ types.Varint → ReadsValue IsSpelling map old v new
+    → ReadsField n w (λ p. SetsNumber map p u) old new
+number_read map n w u v old new same is h = record {
   payload = varint h.number;
   read = varint_read n w h.number old new is h.read;
   made = same ∙ h.is;

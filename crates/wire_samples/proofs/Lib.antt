@@ -1,5 +1,8 @@
 pub mod FieldReads
 pub mod FieldTexts
+pub mod NodeLists
+pub mod NodeTaken
+pub mod NodeValues
 pub mod PackedReads
 pub mod PersonFolds
 pub mod PersonSteps

@@ -2,16 +2,22 @@
 use Rattle.std.specs.Prelude.{ℕ, ◌+◌, ◌-◌, ◌^◌, min, ℤ, pos, negsuc, zero, suc, List, [], ◌∷◌, ◌++◌}
 use Rattle.std.specs.Prelude.{length}
 use Rattle.wire_codec.specs.Tag.{tag_text}
-use Rattle.wire_codec.specs.ValueMap.{int32}
+use Rattle.wire_codec.specs.ValueMap.{ValueMap, int32, sint64}
 use Rattle.wire_codec.specs.Varint.{shortest_varint}
 use Rattle.wire_codec.specs.WireType.TheVariants.{LengthDelimited}
 use Rattle.wire_codec.specs.Records.{Records, none, field, varint, bytes}
 
 -- a number, where it is not 0
+abbrev pub number_field : ValueMap ℤ → ℕ → ℤ → Records
+number_field map n (pos zero) = none
+number_field map n (pos (suc k)) = field n (varint (map.enc (pos (suc k)))) none
+number_field map n (negsuc k) = field n (varint (map.enc (negsuc k))) none
+
 abbrev pub int32_field : ℕ → ℤ → Records
-int32_field n (pos zero) = none
-int32_field n (pos (suc k)) = field n (varint (int32.enc (pos (suc k)))) none
-int32_field n (negsuc k) = field n (varint (int32.enc (negsuc k))) none
+int32_field = number_field int32
+
+abbrev pub sint64_field : ℕ → ℤ → Records
+sint64_field = number_field sint64
 
 -- bytes, where there are any
 abbrev pub bytes_field : ℕ → List ℕ → Records

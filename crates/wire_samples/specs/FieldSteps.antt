@@ -7,17 +7,23 @@ use Rattle.wire_codec.specs.Packed.{Appends}
 use Rattle.wire_codec.specs.Read.{Reads}
 use Rattle.wire_codec.specs.Spells.{IsPayload}
 use Rattle.wire_codec.specs.Taken.{TakesPayload}
-use Rattle.wire_codec.specs.ValueMap.{int32}
+use Rattle.wire_codec.specs.ValueMap.{ValueMap, int32, sint64}
 use Rattle.wire_codec.specs.Varint.{IsSpelling}
 use Rattle.wire_codec.specs.WireType.{WireType}
 
 -- a number is set
+abbrev pub SetsNumber : ValueMap ℤ → Payload → ℤ → Type 0
+SetsNumber map (varint x) value = value ≡ map.dec x
+SetsNumber map (fixed64 x) value = ⊥
+SetsNumber map (fixed32 x) value = ⊥
+SetsNumber map (bytes b) value = ⊥
+SetsNumber map (group fs) value = ⊥
+
 abbrev pub SetsInt32 : Payload → ℤ → Type 0
-SetsInt32 (varint x) value = value ≡ int32.dec x
-SetsInt32 (fixed64 x) value = ⊥
-SetsInt32 (fixed32 x) value = ⊥
-SetsInt32 (bytes b) value = ⊥
-SetsInt32 (group fs) value = ⊥
+SetsInt32 = SetsNumber int32
+
+abbrev pub SetsSint64 : Payload → ℤ → Type 0
+SetsSint64 = SetsNumber sint64
 
 -- a text is set, which has to be UTF-8
 abbrev pub SetsText : Payload → List ℕ → Type 0

@@ -3,15 +3,16 @@ use Rattle.std.proofs.Common.{◌≡◌, ℕ, List, ◌++◌, sym, ap, ◌∙◌
 use Rattle.std.specs.Prelude.{ℤ, map}
 use Rattle.wire_codec.specs.Field.{Payload, varint, fixed64, fixed32, bytes, group}
 use Rattle.wire_codec.specs.TakingLaws.{OneReading}
-use Rattle.wire_codec.specs.ValueMap.{int32}
-use Rattle.wire_samples.specs.FieldSteps.{SetsInt32, SetsText, AppendsInt32}
+use Rattle.wire_codec.specs.ValueMap.{ValueMap, int32}
+use Rattle.wire_samples.specs.FieldSteps.{SetsNumber, SetsText, AppendsInt32}
 
-pub one_int32 : (p : Payload) (v w : ℤ) → SetsInt32 p v → SetsInt32 p w → v ≡ w
-one_int32 (varint x) v w h k = h ∙ sym k
-one_int32 (fixed64 x) v w h k = absurd h
-one_int32 (fixed32 x) v w h k = absurd h
-one_int32 (bytes b) v w h k = absurd h
-one_int32 (group fs) v w h k = absurd h
+pub one_number : (map : ValueMap ℤ) (p : Payload) (v w : ℤ) → SetsNumber map p v
+    → SetsNumber map p w → v ≡ w
+one_number map (varint x) v w h k = h ∙ sym k
+one_number map (fixed64 x) v w h k = absurd h
+one_number map (fixed32 x) v w h k = absurd h
+one_number map (bytes b) v w h k = absurd h
+one_number map (group fs) v w h k = absurd h
 
 pub one_text : (p : Payload) (t u : List ℕ) → SetsText p t → SetsText p u → t ≡ u
 one_text (varint x) t u h k = absurd h

@@ -3,7 +3,8 @@ use Rattle.std.proofs.Common.{sym, ap, ◌∙◌, arith}
 use Rattle.wire_codec.specs.Field.{push}
 use Rattle.wire_codec.specs.Folds.{IsSingle}
 use Rattle.wire_codec.specs.TakingLaws.{OneReading}
-use Rattle.wire_samples.specs.FieldStepsLaws.{one_int32, one_text, one_append}
+use Rattle.wire_codec.specs.ValueMap.{int32}
+use Rattle.wire_samples.specs.FieldStepsLaws.{one_number, one_text, one_append}
 use Rattle.wire_samples.specs.Person.{PersonValue, PersonTakes, id, name, scores, unknown}
 use Rattle.wire_samples.specs.Person.{with_id, with_name, with_scores, with_unknown}
 
@@ -12,7 +13,7 @@ person_single reading m u z w n p c d (id v1 n1 p1 c1 z1) (id v2 n2 p2 c2 z2) = 
   c1 ∙ sym c2,
   λ same.
       z1
-      ∙ ap (with_id m) (one_int32 p v1 v2 p1 p2)
+      ∙ ap (with_id m) (one_number int32 p v1 v2 p1 p2)
       ∙ ap (λ (x : PersonValue). with_id x v2) same
       ∙ sym z2,
 )

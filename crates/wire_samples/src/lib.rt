@@ -4,10 +4,12 @@
 mod fields;
 pub mod laws;
 mod merge;
+mod node;
 mod person;
 mod repeat;
 #[cfg(test)]
 mod tests;
 
+pub use node::Node;
 pub use person::Person;
 pub use repeat::Repeat;

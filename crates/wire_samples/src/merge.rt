@@ -8,14 +8,14 @@ ghost use Rattle.wire_codec.specs.Packed.{Appends};
 ghost use Rattle.wire_codec.specs.TagView.{tag_number, tag_type};
 ghost use Rattle.wire_codec.specs.ValueMap.{int32};
 ghost use Rattle.wire_codec.specs.Varint.{IsSpelling};
-ghost use Rattle.wire_samples.specs.FieldSteps.{SetsInt32, SetsText, AppendsInt32};
+ghost use Rattle.wire_samples.specs.FieldSteps.{SetsInt32, SetsSint64, SetsText, AppendsInt32};
 ghost use Rattle.wire_samples.specs.FieldSteps.{KeepsField, NotKept, ReadsField, NoField};
 
 use bytes::Buf;
 use std::alloc::Global;
 use wire_codec::{
     DecodeContext, DecodeError, Tag, UnknownFields, WireType, check_wire_type, count_varints,
-    decode_int32, decode_length, decode_unknown_field, extend_packed_int32, laws, merge_string,
+    decode_int32, decode_length, decode_sint64, decode_unknown_field, extend_packed_int32, laws, merge_string,
     wire_type_mismatch,
 };
 
@@ -30,6 +30,24 @@ pub(crate) fn merge_int32<B: Buf>(tag: Tag, value: &mut i32, buf: &mut B) -> Res
     laws::grammar::no_varint_beside_fault();
     check_wire_type(tag, WireType::Varint)?;
     *value = decode_int32(buf)?;
+    Ok(())
+}
+
+/// Sets a field of type `sint64`.
+pub(crate) fn merge_sint64<B: Buf>(
+    tag: Tag,
+    value: &mut i64,
+    buf: &mut B,
+) -> Result<(), DecodeError>
+    ensures ok { OnOk result (ReadsField (tag_number tag) (tag_type tag)
+        (λ p. SetsSint64 p value.new) (B.unread buf.old) (B.unread buf.new)) }
+    ensures err { IfErr result (λ e. e ≢ OutOfMemory
+        → NoField (tag_number tag) (tag_type tag) SetsSint64 (B.unread buf.old)) }
+    ensures kept { B.kept buf.new ≡ B.kept buf.old }
+{
+    laws::grammar::no_varint_beside_fault();
+    check_wire_type(tag, WireType::Varint)?;
+    *value = decode_sint64(buf)?;
     Ok(())
 }
 

@@ -1,0 +1,250 @@
+-- What a `Node` takes, field by field.
+use Rattle.std.proofs.Common.{◌≡◌, ◌≢◌, ◌⊎◌, inl, inr, ℕ, ◌<◌, List, [], length, refl, sym, ap, ◌∙◌, subst, arith}
+use Rattle.std.specs.Prelude.{ℤ}
+use Rattle.wire_codec.specs.Charge.{payload_charge}
+use Rattle.wire_codec.specs.Delimited.{IsDelimited}
+use Rattle.wire_codec.specs.Ending.{by_tag}
+use Rattle.wire_codec.specs.Field.{Payload, varint, fixed64, fixed32, bytes, group, Fields, push, type_of}
+use Rattle.wire_codec.specs.Limits.{Limits, Charge, Fits, left_after, both, nested, element_of, inner}
+use Rattle.wire_codec.specs.LimitsLaws.{LimitsAddUp, LevelsAddUp}
+use Rattle.wire_codec.specs.Nested.{TakesEmbedded, TakesGroup}
+use Rattle.wire_codec.specs.Read.{Reads}
+use Rattle.wire_codec.specs.RecordLaws.{WholeInput, GroupIsList}
+use Rattle.wire_codec.specs.Spells.{IsPayload}
+use Rattle.wire_codec.specs.Taken.{TakesPayload}
+use Rattle.wire_codec.specs.Taking.{TakesRecord, IsCharged, NotTaken}
+use Rattle.wire_codec.specs.WireType.{WireType}
+use Rattle.wire_codec.specs.WireType.TheVariants as types
+use Rattle.wire_samples.specs.FieldSteps.{SetsSint64, ReadsField, NoField, KeepsField, NotKept}
+use Rattle.wire_samples.specs.Node.{NodeValue, default_node, or_default, child_of, group_of}
+use Rattle.wire_samples.specs.Node.{unknown_of, with_value, with_child, with_another, with_group}
+use Rattle.wire_samples.specs.Node.{with_unknown, IsOther}
+use Rattle.wire_samples.specs.NodeSteps.{NodeTakes, value, child, another, grouped, unknown}
+use Rattle.wire_samples.specs.NodeSteps.{NodeMerges, merged, NodeFolds}
+use Rattle.wire_samples.specs.NodeSingle.{at_value, at_child, at_another, at_group, at_other}
+use Rattle.wire_samples.specs.NodeSingle.{TakesMessage, child_charge}
+use Rattle.wire_samples.proofs.NodeValues.{value_set}
+use Rattle.wire_samples.proofs.NodeLists.{to_folds, from_folds}
+use Rattle.wire_samples.proofs.PersonSteps.{uncharged}
+
+-- ---- embedded messages
+
+-- a payload that is taken one level down
+pub record Inside (l : Limits) (from : NodeValue) (old : List ℕ) (c : Charge) (z : NodeValue)
+    (new : List ℕ) : Type 0 where
+  b : List ℕ
+  level : 0 < l.depth
+  read : Reads old (IsDelimited b) new
+  merged : NodeMerges from b c z
+  fits : Fits c (inner l)
+
+module _ (whole : WholeInput) (l : Limits) (from z : NodeValue) (old new : List ℕ) (c : Charge) where
+  inside : TakesEmbedded NodeTakes l from old c z new → Inside l from old c z new
+  inside h =
+      let all = (whole c (inner l) h.taken.taken.fields h.taken.payload []).0 h.taken.taken.read in
+      record {
+        b = h.taken.payload;
+        level = h.level;
+        read = h.taken.read;
+        merged = merged h.taken.taken.fields h.taken.short all.0
+            (from_folds h.taken.taken.fields h.taken.taken.folded);
+        fits = all.1;
+      }
+
+  pub embedded : Inside l from old c z new → TakesEmbedded NodeTakes l from old c z new
+  embedded h = of_merged h.merged h.read
+    where
+      of_merged : {b : List ℕ} → NodeMerges from b c z → Reads old (IsDelimited b) new
+          → TakesEmbedded NodeTakes l from old c z new
+      of_merged {b} (merged fs short spelled folded) read = record {
+        level = h.level;
+        taken = record {
+          payload = b;
+          read = read;
+          short = short;
+          taken = record {
+            fields = fs;
+            read = (whole c (inner l) fs b []).1 (spelled, h.fits, refl);
+            folded = to_folds folded;
+          };
+        };
+      }
+
+-- the record of an embedded message
+bytes_read : (n : ℕ) (w : WireType) (b old new : List ℕ) → w ≡ types.LengthDelimited
+    → Reads old (IsDelimited b) new → Reads old (IsPayload n w (bytes b)) new
+bytes_read n w b old new is h = record {
+  text = h.text;
+  parts = h.parts;
+  spelled = record { kind = sym is; spelled = h.spelled };
+}
+
+bytes_back : (n : ℕ) (w : WireType) (b old new : List ℕ) → Reads old (IsPayload n w (bytes b)) new
+    → Reads old (IsDelimited b) new
+bytes_back n w b old new h =
+    record { text = h.text; parts = h.parts; spelled = h.spelled.spelled }
+
+-- ---- what is taken
+
+-- a record that stands there, for its charge
+record_taken : (l k : Limits) (n : ℕ) (w : WireType) (m z : NodeValue) (p : Payload)
+    (old new : List ℕ) (c d : Charge) → Reads old (IsPayload n w p) new → Fits d l
+    → NodeTakes m n p d z → k ≡ left_after l d
+    → IsCharged l k (λ c. TakesRecord NodeTakes l n w m old c z new)
+record_taken l k n w m z p old new c d read fits step left = record {
+  charge = d;
+  taken = record { payload = p; read = record { read = read; fits = fits }; step = step };
+  left = left;
+}
+
+module _ (l k : Limits) (n : ℕ) (w : WireType) (m z : NodeValue) (old new : List ℕ) where
+  pub value_taken : LimitsAddUp → (v : ℤ) → n ≡ 1 → l ≡ k → z ≡ with_value m v
+      → ReadsField n w (λ p. SetsSint64 p v) old new
+      → IsCharged l k (λ c. TakesRecord NodeTakes l n w m old c z new)
+  value_taken limits v is same z_is h =
+      subst (λ x. IsCharged l x (λ c. TakesRecord NodeTakes l n w m old c z new)) same
+      (uncharged NodeTakes limits l n w m z h.payload old new h.read
+      (value v is h.made refl z_is))
+
+  pub unknown_taken : IsOther n → (after : Fields) → z ≡ with_unknown m after
+      → KeepsField l k n w (unknown_of m) old after new
+      → IsCharged l k (λ c. TakesRecord NodeTakes l n w m old c z new)
+  unknown_taken other after z_is h = record {
+    charge = payload_charge h.payload;
+    taken = record {
+      payload = h.payload;
+      read = h.taken;
+      step = unknown other refl (z_is ∙ ap (with_unknown m) h.pushed);
+    };
+    left = h.left;
+  }
+
+  pub child_taken : WholeInput → LevelsAddUp → (from after : NodeValue) → n ≡ 2
+      → w ≡ types.LengthDelimited → from ≡ or_default (child_of m) → z ≡ with_child m after
+      → IsCharged l k (λ c. TakesEmbedded NodeTakes l from old c after new)
+      → IsCharged l k (λ c. TakesRecord NodeTakes l n w m old c z new)
+  child_taken whole levels from after is type from_is z_is h =
+      let i = inside whole l from after old new h.charge h.taken in
+      record {
+        charge = nested h.charge;
+        taken = record {
+          payload = bytes i.b;
+          read = record {
+            read = bytes_read n w i.b old new type i.read;
+            fits = (levels.nested_fits l h.charge).1 (i.level, i.fits);
+          };
+          step = child i.b h.charge after is refl
+              (subst (λ x. NodeMerges x i.b h.charge after) from_is i.merged) refl z_is;
+        };
+        left = h.left;
+      }
+
+  pub another_taken : WholeInput → LimitsAddUp → LevelsAddUp → (j : Limits) (after : NodeValue)
+      → n ≡ 3 → w ≡ types.LengthDelimited → Fits (element_of 64) l
+      → j ≡ left_after l (element_of 64) → z ≡ with_another m after
+      → IsCharged j k (λ c. TakesEmbedded NodeTakes j default_node old c after new)
+      → IsCharged l k (λ c. TakesRecord NodeTakes l n w m old c z new)
+  another_taken whole limits levels j after is type room j_is z_is h =
+      let i = inside whole j default_node after old new h.charge h.taken in
+      let fits = (levels.nested_fits j h.charge).1 (i.level, i.fits) in
+      record {
+        charge = child_charge h.charge;
+        taken = record {
+          payload = bytes i.b;
+          read = record {
+            read = bytes_read n w i.b old new type i.read;
+            fits = (limits.both_fit l (element_of 64) (nested h.charge)).1
+                (room, subst (Fits (nested h.charge)) j_is fits);
+          };
+          step = another i.b h.charge after is refl i.merged refl z_is;
+        };
+        left = h.left ∙ ap (λ (x : Limits). left_after x (nested h.charge)) j_is
+            ∙ limits.left_after_both l (element_of 64) (nested h.charge);
+      }
+
+  pub group_taken : GroupIsList → LevelsAddUp → (from after : NodeValue) → n ≡ 4
+      → w ≡ types.StartGroup → from ≡ or_default (group_of m) → z ≡ with_group m after
+      → IsCharged l k (λ c. TakesGroup NodeTakes l n from old c after new)
+      → IsCharged l k (λ c. TakesRecord NodeTakes l n w m old c z new)
+  group_taken list levels from after is type from_is z_is h =
+      let fs = h.taken.taken.fields in
+      let read = (list h.charge (inner l) n fs old new).0 h.taken.taken.read in
+      record {
+        charge = nested h.charge;
+        taken = record {
+          payload = group fs;
+          read = record {
+            read = subst (λ x. Reads old (IsPayload n x (group fs)) new) (sym type) read.0;
+            fits = (levels.nested_fits l h.charge).1 (h.taken.level, read.1);
+          };
+          step = grouped fs h.charge after is refl
+              (subst (λ x. NodeFolds x fs h.charge after) from_is
+              (from_folds fs h.taken.taken.folded)) refl z_is;
+        };
+        left = h.left;
+      }
+
+-- ---- and what is not
+
+module _ (l : Limits) (n : ℕ) (w : WireType) (m : NodeValue) (old : List ℕ) where
+  pub no_value : n ≡ 1 → NoField n w SetsSint64 old → NotTaken (TakesRecord NodeTakes l n w m old)
+  no_value is none c z new h =
+      let k = at_value is h.step in
+      none k.v new (record { payload = h.payload; read = h.read.read; made = k.made })
+
+  pub no_unknown : IsOther n → NotKept l n w old → NotTaken (TakesRecord NodeTakes l n w m old)
+  no_unknown other none c z new h =
+      let k = at_other other h.step in
+      none h.payload new (subst (λ x. TakesPayload x l n w h.payload old new) k.0 h.read)
+
+  pub no_child : WholeInput → LevelsAddUp → (from : NodeValue) → n ≡ 2
+      → from ≡ or_default (child_of m) → NotTaken (TakesEmbedded NodeTakes l from old)
+      → NotTaken (TakesRecord NodeTakes l n w m old)
+  no_child whole levels from is from_is none c z new h =
+      let k = at_child is h.step in
+      let fits = (levels.nested_fits l k.inside).0 (subst (λ x. Fits x l) k.charged h.read.fits) in
+      none k.inside k.after new (embedded whole l from k.after old new k.inside (record {
+        b = k.b;
+        level = fits.0;
+        read = bytes_back n w k.b old new
+            (subst (λ p. Reads old (IsPayload n w p) new) k.payload h.read.read);
+        merged = subst (λ x. NodeMerges x k.b k.inside k.after) (sym from_is) k.merged;
+        fits = fits.1;
+      }))
+
+  pub no_another : WholeInput → LimitsAddUp → LevelsAddUp → (j : Limits) → n ≡ 3
+      → j ≡ left_after l (element_of 64) → NotTaken (TakesEmbedded NodeTakes j default_node old)
+      → NotTaken (TakesRecord NodeTakes l n w m old)
+  no_another whole limits levels j is j_is none c z new h =
+      let k = at_another is h.step in
+      let fit = (limits.both_fit l (element_of 64) (nested k.inside)).0
+      (subst (λ x. Fits x l) k.charged h.read.fits) in
+      let fits = (levels.nested_fits j k.inside).0
+      (subst (Fits (nested k.inside)) (sym j_is) fit.1) in
+      none k.inside k.after new (embedded whole j default_node k.after old new k.inside (record {
+        b = k.b;
+        level = fits.0;
+        read = bytes_back n w k.b old new
+            (subst (λ p. Reads old (IsPayload n w p) new) k.payload h.read.read);
+        merged = k.merged;
+        fits = fits.1;
+      }))
+
+  pub no_group : GroupIsList → LevelsAddUp → (from : NodeValue) → n ≡ 4
+      → from ≡ or_default (group_of m) → NotTaken (TakesGroup NodeTakes l n from old)
+      → NotTaken (TakesRecord NodeTakes l n w m old)
+  no_group list levels from is from_is none c z new h =
+      let k = at_group is h.step in
+      let fits = (levels.nested_fits l k.inside).0 (subst (λ x. Fits x l) k.charged h.read.fits) in
+      let read = subst (λ p. Reads old (IsPayload n w p) new) k.payload h.read.read in
+      let type = sym read.spelled.kind in
+      none k.inside k.after new (record {
+        level = fits.0;
+        taken = record {
+          fields = k.fs;
+          read = (list k.inside (inner l) n k.fs old new).1
+              (subst (λ x. Reads old (IsPayload n x (group k.fs)) new) type read, fits.1);
+          folded = to_folds
+              (subst (λ x. NodeFolds x k.fs k.inside k.after) (sym from_is) k.folded);
+        };
+      })

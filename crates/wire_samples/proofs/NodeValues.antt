@@ -1,0 +1,138 @@
+-- The value of a `Node`, part by part.
+use Rattle.std.proofs.Common.{◌≡◌, List, [], ◌∷◌, ◌++◌, refl, sym, ap, ◌∙◌}
+use Rattle.std.specs.Prelude.{ℤ, Option, Some, None, Box, box_value, map}
+use Rattle.std.specs.declared.alloc.Global.{Global}
+use Rattle.std.specs.declared.vec.Vec.{Vec}
+use Rattle.wire_codec.specs.Field.{Fields}
+use Rattle.wire_samples.specs.declared.node.Node.{Node}
+use Rattle.wire_samples.specs.declared.node.Node.TheOpen.{Node-F}
+use Rattle.wire_samples.specs.declared.node.Node.TheViews.{out-Node, roll-Node}
+use Rattle.wire_samples.specs.declared.node.Node.TheFolds.{fold_out-Node, fold-roll-Node, map-Node}
+use Rattle.wire_samples.specs.Node.{NodeValue, value_of, level, held, listed, appended, or_default}
+use Rattle.wire_samples.specs.Node.{default_node, child_of, group_of, unknown_of}
+use Rattle.wire_samples.specs.Node.{with_value, with_child, with_another, with_group, with_unknown, NodeList, Holds, node, ahead}
+
+-- ---- what a node holds
+
+held_value : Option (Box Node Global) → NodeValue
+held_value None = default_node
+held_value (Some boxed) = value_of (box_value boxed)
+
+pub unknown_is : (n : Node) → unknown_of (value_of n) ≡ (out-Node n).unknown
+unknown_is n = ap unknown_of (fold_out-Node NodeValue level n)
+
+pub child_held : (n : Node) (boxed : Box Node Global) → (out-Node n).child ≡ Some boxed
+    → value_of (box_value boxed) ≡ or_default (child_of (value_of n))
+child_held n boxed is =
+    sym (ap (λ (m : NodeValue). or_default (child_of m)) (fold_out-Node NodeValue level n)
+    ∙ rw is refl)
+
+pub no_child_held : (n : Node) → (out-Node n).child ≡ None
+    → default_node ≡ or_default (child_of (value_of n))
+no_child_held n is =
+    sym (ap (λ (m : NodeValue). or_default (child_of m)) (fold_out-Node NodeValue level n)
+    ∙ rw is refl)
+
+pub group_held : (n : Node) (boxed : Box Node Global) → (out-Node n).group ≡ Some boxed
+    → value_of (box_value boxed) ≡ or_default (group_of (value_of n))
+group_held n boxed is =
+    sym (ap (λ (m : NodeValue). or_default (group_of m)) (fold_out-Node NodeValue level n)
+    ∙ rw is refl)
+
+pub no_group_held : (n : Node) → (out-Node n).group ≡ None
+    → default_node ≡ or_default (group_of (value_of n))
+no_group_held n is =
+    sym (ap (λ (m : NodeValue). or_default (group_of m)) (fold_out-Node NodeValue level n)
+    ∙ rw is refl)
+
+-- ---- a node with another part
+
+abbrev with_children : NodeValue → NodeList → NodeValue
+with_children (node v child children group unknown) ms = node v child ms group unknown
+
+listed_append : (ns : List Node) (added : Node)
+    → listed (map value_of (ns ++ added ∷ [])) ≡ appended (listed (map value_of ns)) (value_of added)
+listed_append [] added = refl
+listed_append (n ∷ ns) added = ap (ahead (value_of n)) (listed_append ns added)
+
+module _ (n : Node) where
+  -- the parts of a node, rolled again
+  pub same_node : value_of (roll-Node (record {
+        value = (out-Node n).value;
+        child = (out-Node n).child;
+        children = (out-Node n).children;
+        group = (out-Node n).group;
+        unknown = (out-Node n).unknown;
+      })) ≡ value_of n
+  same_node = fold-roll-Node NodeValue level _ ∙ sym (fold_out-Node NodeValue level n)
+
+  pub value_set : (v : ℤ) → value_of (roll-Node (record {
+        value = v;
+        child = (out-Node n).child;
+        children = (out-Node n).children;
+        group = (out-Node n).group;
+        unknown = (out-Node n).unknown;
+      })) ≡ with_value (value_of n) v
+  value_set v =
+      fold-roll-Node NodeValue level _
+      ∙ sym (ap (λ (m : NodeValue). with_value m v) (fold_out-Node NodeValue level n))
+
+  pub child_set : (field : Option (Box Node Global)) (held_there : Node) → Holds field held_there
+      → value_of (roll-Node (record {
+        value = (out-Node n).value;
+        child = field;
+        children = (out-Node n).children;
+        group = (out-Node n).group;
+        unknown = (out-Node n).unknown;
+      })) ≡ with_child (value_of n) (value_of held_there)
+  child_set None held_there is = absurd is
+  child_set (Some boxed) held_there is =
+      fold-roll-Node NodeValue level _
+      ∙ ap (λ (m : Node). with_child (level (map-Node Node NodeValue value_of (out-Node n)))
+      (value_of m)) is
+      ∙ sym (ap (λ (m : NodeValue). with_child m (value_of held_there))
+      (fold_out-Node NodeValue level n))
+
+  pub another_set : (nodes : Vec Node Global) (added : Node)
+      → nodes.items ≡ (out-Node n).children.items ++ added ∷ []
+      → value_of (roll-Node (record {
+        value = (out-Node n).value;
+        child = (out-Node n).child;
+        children = nodes;
+        group = (out-Node n).group;
+        unknown = (out-Node n).unknown;
+      })) ≡ with_another (value_of n) (value_of added)
+  another_set nodes added is =
+      fold-roll-Node NodeValue level _
+      ∙ ap (with_children (level (map-Node Node NodeValue value_of (out-Node n))))
+      (ap (λ (ns : List Node). listed (map value_of ns)) is
+      ∙ listed_append (out-Node n).children.items added)
+      ∙ sym (ap (λ (m : NodeValue). with_another m (value_of added))
+      (fold_out-Node NodeValue level n))
+
+  pub group_set : (field : Option (Box Node Global)) (held_there : Node) → Holds field held_there
+      → value_of (roll-Node (record {
+        value = (out-Node n).value;
+        child = (out-Node n).child;
+        children = (out-Node n).children;
+        group = field;
+        unknown = (out-Node n).unknown;
+      })) ≡ with_group (value_of n) (value_of held_there)
+  group_set None held_there is = absurd is
+  group_set (Some boxed) held_there is =
+      fold-roll-Node NodeValue level _
+      ∙ ap (λ (m : Node). with_group (level (map-Node Node NodeValue value_of (out-Node n)))
+      (value_of m)) is
+      ∙ sym (ap (λ (m : NodeValue). with_group m (value_of held_there))
+      (fold_out-Node NodeValue level n))
+
+  pub unknown_set : (fs : Fields) → value_of (roll-Node (record {
+        value = (out-Node n).value;
+        child = (out-Node n).child;
+        children = (out-Node n).children;
+        group = (out-Node n).group;
+        unknown = fs;
+      })) ≡ with_unknown (value_of n) fs
+  unknown_set fs =
+      fold-roll-Node NodeValue level _
+      ∙ sym (ap (λ (m : NodeValue). with_unknown m fs) (fold_out-Node NodeValue level n))
