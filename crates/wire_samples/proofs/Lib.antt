@@ -1,5 +1,6 @@
 pub mod FieldReads
 pub mod FieldTexts
+pub mod NodeFolds
 pub mod NodeLists
 pub mod NodeTaken
 pub mod NodeValues

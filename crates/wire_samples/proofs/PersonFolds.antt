@@ -28,12 +28,12 @@ enc_fits : (v : ℤ) → FitsSigned w32 v → int32.enc v < 2 ^ 64
 enc_fits (pos n) h = omega (arith, h)
 enc_fits (negsuc n) h = omega arith
 
-joined-none : (fs : grammar.Fields) → grammar.joined fs grammar.none ≡ fs
+pub joined-none : (fs : grammar.Fields) → grammar.joined fs grammar.none ≡ fs
 joined-none grammar.none = refl
 joined-none (grammar.field n p fs) = ap (grammar.field n p) (joined-none fs)
 
 -- a record more at the end of the first list is one more at the front of the second
-push_joined : (fs : grammar.Fields) (n : ℕ) (p : grammar.Payload) (gs : grammar.Fields)
+pub push_joined : (fs : grammar.Fields) (n : ℕ) (p : grammar.Payload) (gs : grammar.Fields)
     → grammar.joined (grammar.push fs n p) gs ≡ grammar.joined fs (grammar.field n p gs)
 push_joined grammar.none n p gs = refl
 push_joined (grammar.field k q fs) n p gs = ap (grammar.field k q) (push_joined fs n p gs)

@@ -8,6 +8,8 @@ use Rattle.wire_codec.specs.InRange.{AreFitting, AreNumbered}
 use Rattle.wire_codec.specs.Limits.{Charge, no_charge}
 use Rattle.wire_codec.specs.Records.{Records, plain, size}
 use Rattle.wire_samples.specs.declared.repeat.Repeat.{Repeat}
+use Rattle.wire_samples.specs.Node.{NodeValue, IsNode}
+use Rattle.wire_samples.specs.NodeCharge.{node_charge}
 use Rattle.wire_samples.specs.Person.{PersonValue, IsPerson}
 
 -- what a type makes of a record, and the records of a value, are those of a table
@@ -30,6 +32,12 @@ abbrev pub PersonsFoldBack : Step PersonValue → (PersonValue → Records) → 
 PersonsFoldBack takes records default =
     (m : PersonValue) → IsPerson m → size (records m) ≤ 2147483647
     → FoldsBack takes records default m (charge m.unknown)
+
+-- a node of a size that a message may have, charged for what it holds and for its unknown fields
+abbrev pub NodesFoldBack : Step NodeValue → (NodeValue → Records) → NodeValue → Type 0
+NodesFoldBack takes records default =
+    (m : NodeValue) → IsNode m → size (records m) ≤ 2147483647
+    → FoldsBack takes records default m (node_charge m)
 
 -- all numbers of 64 bits
 abbrev pub RepeatsFoldBack : Step Repeat → (Repeat → Records) → Repeat → Type 0
