@@ -2,6 +2,7 @@
 mod calls;
 mod decode;
 mod nested;
+mod node;
 mod options;
 mod person;
 mod pool;

@@ -1,0 +1,453 @@
+//! Nodes, which hold nodes, in bytes that are whole or lie in two pieces.
+use super::{Found, Stop, cut, found_in, refused};
+use crate::node::Node;
+use bytes::Buf;
+use std::alloc::Global;
+use wire_codec::{DecodeContext, DecodeError, DecodeOptions, Message, SizeCache, SizeCachePool};
+
+// A node with a value alone.
+fn with_value(alloc: Global, value: i64) -> Node {
+    let mut node = Node::default_value(alloc);
+    node.value = value;
+    node
+}
+
+// A node with this child alone.
+fn parent(alloc: Global, child: Node) -> Result<Node, Stop> {
+    let mut node = Node::default_value(alloc);
+    node.child = Some(Box::new(alloc, child)?);
+    Ok(node)
+}
+
+// The value -3, two levels down.
+fn grandparent(alloc: Global) -> Result<Node, Stop> {
+    parent(alloc, parent(alloc, with_value(alloc, -3))?)
+}
+
+// A child of value -3, which has a default node in its children.
+fn joined(alloc: Global) -> Result<Node, Stop> {
+    let mut child = with_value(alloc, -3);
+    child.children.push(Node::default_value(alloc))?;
+    parent(alloc, child)
+}
+
+// A group of value -3.
+fn grouped(alloc: Global) -> Result<Node, Stop> {
+    let mut node = Node::default_value(alloc);
+    node.group = Some(Box::new(alloc, with_value(alloc, -3))?);
+    Ok(node)
+}
+
+// A child of value -3, children of values 0 and 1, and a group of value 0.
+fn family(alloc: Global) -> Result<Node, Stop> {
+    let mut node = parent(alloc, with_value(alloc, -3))?;
+    node.children.push(with_value(alloc, 0))?;
+    node.children.push(with_value(alloc, 1))?;
+    node.group = Some(Box::new(alloc, with_value(alloc, 0))?);
+    Ok(node)
+}
+
+// The text of that node.
+const FAMILY: &[u8] = b"\x12\x02\x08\x05\x1a\x00\x1a\x02\x08\x02\x23\x24";
+
+// So many nodes, each the child of the one around it, and a default one inside.
+fn nodes(alloc: Global, levels: usize) -> Result<Node, Stop> {
+    let mut node = Node::default_value(alloc);
+    for _ in 0..levels {
+        node = parent(alloc, node)?;
+    }
+    Ok(node)
+}
+
+// The text of so many nodes, each the child of the one around it, and these bytes inside.
+fn levels_of(alloc: Global, levels: usize, inside: &[u8]) -> Result<Vec<u8>, Stop> {
+    let mut text = Vec::new(alloc);
+    text.extend_from_slice(inside)?;
+    for _ in 0..levels {
+        let mut outer = Vec::new(alloc);
+        outer.push(0x12)?;
+        if text.len() < 128 {
+            outer.push(text.len() as u8)?;
+        } else {
+            outer.push((text.len() % 128) as u8 | 0x80)?;
+            outer.push((text.len() / 128 % 128) as u8)?;
+        }
+        outer.extend_from_slice(text.as_slice())?;
+        text = outer;
+    }
+    Ok(text)
+}
+
+// ---- reading
+
+// The node is read from the bytes, as a whole and cut at a place.
+fn reads_at(alloc: Global, bytes: &[u8], node: &Node, place: usize) -> Result<bool, Stop> {
+    let mut pieces = cut(alloc, bytes, place)?;
+    Ok(
+        Node::decode(alloc, &mut pieces)? == *node
+            && pieces.remaining() == 0
+            && Node::decode_from_slice(alloc, bytes)? == *node,
+    )
+}
+
+// The node is read from the bytes, also where they are cut at any place.
+fn reads(alloc: Global, bytes: &[u8], node: Result<Node, Stop>) -> Result<bool, Stop> {
+    let node = node?;
+    for place in 0..=bytes.len() {
+        if !reads_at(alloc, bytes, &node, place)? {
+            return Ok(false);
+        }
+    }
+    Ok(true)
+}
+
+// A field that the type does not know.
+const UNKNOWN: &[u8] = b"\x28\x07";
+
+fn keeps(alloc: Global) -> Result<bool, Stop> {
+    let node = Node::decode_from_slice(alloc, UNKNOWN)?;
+    let is_kept = node.unknown().len() == 1 && node != Node::default_value(alloc);
+    Ok(is_kept && reads(alloc, UNKNOWN, Ok(node))?)
+}
+
+// A cleared node is a default one.
+fn clears(alloc: Global) -> Result<bool, Stop> {
+    let default = Node::default_value(alloc);
+    let mut node = Node::decode_from_slice(alloc, b"\x08\x05")?;
+    let was_set = node == with_value(alloc, -3);
+    node.clear();
+    let mut all = family(alloc)?;
+    all.merge_from_slice(alloc, UNKNOWN)?;
+    let had_unknown = all.unknown().len() == 1;
+    all.clear();
+    Ok(was_set && had_unknown && node == default && all == default && all.unknown().is_empty())
+}
+
+// A node behind a length, and a byte that is left.
+fn delimited(alloc: Global) -> Result<bool, Stop> {
+    let bytes = b"\x02\x08\x05\x0f".as_slice();
+    for place in 0..=bytes.len() {
+        let mut pieces = cut(alloc, bytes, place)?;
+        let mut node = Node::default_value(alloc);
+        let mut context = DecodeContext::new(1, 0);
+        node.merge_length_delimited(alloc, &mut pieces, &mut context)?;
+        if node != with_value(alloc, -3) || pieces.remaining() != 1 || context.depth() != 1 {
+            return Ok(false);
+        }
+    }
+    let mut rest = bytes;
+    let mut node = Node::default_value(alloc);
+    node.merge_length_delimited(alloc, &mut rest, &mut DecodeContext::new(1, 0))?;
+    Ok(node == with_value(alloc, -3) && rest == b"\x0f".as_slice())
+}
+
+fn read_rows(alloc: Global) -> [Found; 9] {
+    [
+        found_in(reads(
+            alloc,
+            b"\x12\x02\x08\x05",
+            parent(alloc, with_value(alloc, -3)),
+        )),
+        found_in(reads(alloc, FAMILY, family(alloc))),
+        found_in(reads(alloc, b"\x12\x04\x12\x02\x08\x05", grandparent(alloc))),
+        // The second record is merged into the child of the first.
+        found_in(reads(alloc, b"\x12\x02\x08\x05\x12\x02\x1a\x00", joined(alloc))),
+        found_in(reads(alloc, b"\x23\x08\x05\x24", grouped(alloc))),
+        // Varints with a zero more.
+        found_in(reads(
+            alloc,
+            b"\x92\x00\x84\x00\x88\x00\x85\x00",
+            parent(alloc, with_value(alloc, -3)),
+        )),
+        found_in(keeps(alloc)),
+        found_in(clears(alloc)),
+        found_in(delimited(alloc)),
+    ]
+}
+
+// With a refused allocation a row may find no memory, and never anything else.
+#[test]
+fn nodes_are_read_or_lack_memory(rt: HostRuntime) {
+    assert!(rt;
+        read_rows(rt.alloc())
+            .iter()
+            .all(|found| *found != Found::Other)
+    );
+}
+
+#[test]
+fn ample_memory_reads_nodes(rt: HostRuntime) {
+    assert!(rt;
+        read_rows(rt.alloc())
+            .iter()
+            .all(|found| *found == Found::Own)
+    );
+}
+
+// ---- refusing
+
+// Bytes of which no node is read, and why.
+fn faults() -> [(&'static [u8], DecodeError); 6] {
+    [
+        // Records that run past their payload, although their bytes are there: a number, a field
+        // that the type does not know, an embedded message, and a group.
+        (b"\x12\x01\x08\x05", DecodeError::UnexpectedEof),
+        (b"\x12\x01\x2a\x01\x41", DecodeError::UnexpectedEof),
+        (
+            b"\x12\x02\x1a\x04\x08\x01\x08\x01",
+            DecodeError::UnexpectedEof,
+        ),
+        (b"\x12\x01\x23\x24", DecodeError::UnexpectedEof),
+        (b"\x23\x08\x05\x1c", DecodeError::InvalidEndGroup(3)),
+        (
+            b"\x0d\x00\x00\x00\x00",
+            DecodeError::WireTypeMismatch {
+                field_number: 1,
+                expected: 0,
+                actual: 5,
+            },
+        ),
+    ]
+}
+
+// The bytes are refused, as a whole and cut at a place.
+fn refuses_at(
+    alloc: Global,
+    bytes: &[u8],
+    error: &DecodeError,
+    place: usize,
+) -> Result<bool, Stop> {
+    let mut pieces = cut(alloc, bytes, place)?;
+    Ok(
+        refused(Node::decode(alloc, &mut pieces), error)?
+            && refused(Node::decode_from_slice(alloc, bytes), error)?,
+    )
+}
+
+// The bytes are refused, also where they are cut at any place.
+fn refuses(alloc: Global, bytes: &[u8], error: &DecodeError) -> Result<bool, Stop> {
+    for place in 0..=bytes.len() {
+        if !refuses_at(alloc, bytes, error, place)? {
+            return Ok(false);
+        }
+    }
+    Ok(true)
+}
+
+// The bytes are read where the limits are these.
+fn taken(alloc: Global, options: DecodeOptions, bytes: &[u8]) -> Result<bool, Stop> {
+    let node = Node::decode_from_slice(alloc, bytes)?;
+    for place in 0..=bytes.len() {
+        let pieces: Node = options.decode(alloc, &mut cut(alloc, bytes, place)?)?;
+        if pieces != node {
+            return Ok(false);
+        }
+    }
+    Ok(options.decode_from_slice::<Node>(alloc, bytes)? == node)
+}
+
+// The bytes are refused where the limits are these.
+fn limited(
+    alloc: Global,
+    options: DecodeOptions,
+    bytes: &[u8],
+    error: DecodeError,
+) -> Result<bool, Stop> {
+    for place in 0..=bytes.len() {
+        let mut pieces = cut(alloc, bytes, place)?;
+        if !refused(options.decode::<Node, _>(alloc, &mut pieces), &error)? {
+            return Ok(false);
+        }
+    }
+    refused(options.decode_from_slice::<Node>(alloc, bytes), &error)
+}
+
+// An unknown field in each of two embedded messages.
+const UNKNOWN_INSIDE: &[u8] = b"\x12\x02\x30\x00\x12\x02\x30\x00";
+
+fn limit_rows(alloc: Global) -> [Found; 6] {
+    let elements = |limit: usize| DecodeOptions::new().with_element_memory_limit(limit);
+    let levels = |limit: u32| DecodeOptions::new().with_recursion_limit(limit);
+    let slots = |limit: usize| DecodeOptions::new().with_unknown_field_limit(limit);
+    let large = DecodeError::ElementMemoryLimitExceeded;
+    let deep = DecodeError::RecursionLimitExceeded;
+    let full = DecodeError::UnknownFieldLimitExceeded;
+    [
+        found_in(taken(alloc, elements(128), FAMILY)),
+        found_in(limited(alloc, elements(127), FAMILY, large)),
+        found_in(taken(alloc, levels(1), FAMILY)),
+        found_in(limited(alloc, levels(0), FAMILY, deep)),
+        found_in(taken(alloc, slots(2), UNKNOWN_INSIDE)),
+        found_in(limited(alloc, slots(1), UNKNOWN_INSIDE, full)),
+    ]
+}
+
+// With a refused allocation a row may find no memory, and never anything else.
+#[test]
+fn no_node_is_read_or_memory_lacks(rt: HostRuntime) {
+    for (bytes, error) in faults() {
+        let found = found_in(refuses(rt.alloc(), bytes, &error));
+        assert_ne!(rt; found, Found::Other, "{bytes:?}");
+    }
+    assert!(rt;
+        limit_rows(rt.alloc())
+            .iter()
+            .all(|found| *found != Found::Other)
+    );
+}
+
+#[test]
+fn ample_memory_refuses_nodes(rt: HostRuntime) {
+    for (bytes, error) in faults() {
+        let found = found_in(refuses(rt.alloc(), bytes, &error));
+        assert_eq!(rt; found, Found::Own, "{bytes:?}");
+    }
+    assert!(rt;
+        limit_rows(rt.alloc())
+            .iter()
+            .all(|found| *found == Found::Own)
+    );
+}
+
+// ---- many levels
+
+// As many levels as there may be.
+fn just_deep(alloc: Global, place: usize) -> Result<bool, Stop> {
+    let text = levels_of(alloc, 100, b"")?;
+    reads_at(alloc, text.as_slice(), &nodes(alloc, 100)?, place)
+}
+
+fn too_deep(alloc: Global, place: usize) -> Result<bool, Stop> {
+    let text = levels_of(alloc, 101, b"")?;
+    refuses_at(
+        alloc,
+        text.as_slice(),
+        &DecodeError::RecursionLimitExceeded,
+        place,
+    )
+}
+
+// The innermost length, of the last level that there may be, is more than what stands behind it.
+fn breaks_off(alloc: Global, place: usize) -> Result<bool, Stop> {
+    let text = levels_of(alloc, 99, b"\x12\x05")?;
+    refuses_at(alloc, text.as_slice(), &DecodeError::UnexpectedEof, place)
+}
+
+// Each of more levels than there may be has the greatest length of a message. The first is refused.
+fn lies(alloc: Global, place: usize) -> Result<bool, Stop> {
+    let mut text = Vec::new(alloc);
+    for _ in 0..101 {
+        text.extend_from_slice(b"\x12\xff\xff\xff\xff\x07")?;
+    }
+    refuses_at(alloc, text.as_slice(), &DecodeError::UnexpectedEof, place)
+}
+
+fn deep_rows(alloc: Global, place: usize) -> [Found; 4] {
+    [
+        found_in(just_deep(alloc, place)),
+        found_in(too_deep(alloc, place)),
+        found_in(breaks_off(alloc, place)),
+        found_in(lies(alloc, place)),
+    ]
+}
+
+// With a refused allocation a row may find no memory, and never anything else.
+#[test]
+fn levels_are_counted_or_memory_lacks(rt: HostRuntime) {
+    assert!(rt;
+        deep_rows(rt.alloc(), 1)
+            .iter()
+            .all(|found| *found != Found::Other)
+    );
+}
+
+#[test]
+fn ample_memory_counts_levels(rt: HostRuntime) {
+    for place in 0..=606 {
+        assert!(rt;
+            deep_rows(rt.alloc(), place)
+                .iter()
+                .all(|found| *found == Found::Own)
+        );
+    }
+}
+
+// ---- writing
+
+fn writes(alloc: Global, node: Result<Node, Stop>, text: &[u8]) -> Result<bool, Stop> {
+    Ok(node?.try_encode_to_vec(alloc)?.as_slice() == text)
+}
+
+// The text of the node that is read from the bytes.
+fn rewrites(alloc: Global, bytes: &[u8], text: &[u8]) -> Result<bool, Stop> {
+    writes(alloc, Ok(Node::decode_from_slice(alloc, bytes)?), text)
+}
+
+// The sizes of the messages that the node holds, an outer one before its inner ones.
+fn measures(alloc: Global, node: Result<Node, Stop>, sizes: &[u32]) -> Result<bool, Stop> {
+    let mut cache = SizeCache::new(alloc);
+    node?.compute_size(&mut cache)?;
+    let mut found = Vec::new(alloc);
+    for _ in 0..cache.slot_count() {
+        if cache.unread() > 0 {
+            found.push(cache.consume_next())?;
+        }
+    }
+    Ok(found.as_slice() == sizes)
+}
+
+// The same bytes each time.
+fn pooled(mut pool: SizeCachePool, alloc: Global) -> Result<bool, Stop> {
+    let node = family(alloc)?;
+    let mut sink = Vec::new(alloc);
+    let mut same = true;
+    for _ in 0..2 {
+        sink.clear();
+        pool.try_encode(&node, &mut sink)?;
+        same = same && sink.as_slice() == FAMILY;
+    }
+    Ok(same)
+}
+
+fn write_rows(alloc: Global) -> [Found; 11] {
+    [
+        found_in(writes(alloc, family(alloc), FAMILY)),
+        found_in(writes(alloc, grandparent(alloc), b"\x12\x04\x12\x02\x08\x05")),
+        found_in(writes(alloc, grouped(alloc), b"\x23\x08\x05\x24")),
+        found_in(rewrites(
+            alloc,
+            b"\x12\x02\x08\x05\x12\x02\x1a\x00",
+            b"\x12\x04\x08\x05\x1a\x00",
+        )),
+        found_in(rewrites(
+            alloc,
+            b"\x92\x00\x84\x00\x88\x00\x85\x00",
+            b"\x12\x02\x08\x05",
+        )),
+        found_in(rewrites(alloc, UNKNOWN, UNKNOWN)),
+        found_in(measures(alloc, family(alloc), &[2, 0, 2])),
+        found_in(measures(alloc, grandparent(alloc), &[4, 2])),
+        found_in(pooled(SizeCachePool::new(alloc, 0, 64), alloc)),
+        found_in(pooled(SizeCachePool::sequential(alloc, 0), alloc)),
+        found_in(pooled(SizeCachePool::sequential(alloc, 64), alloc)),
+    ]
+}
+
+// With a refused allocation a row may find no memory, and never anything else.
+#[test]
+fn nodes_are_written_or_lack_memory(rt: HostRuntime) {
+    assert!(rt;
+        write_rows(rt.alloc())
+            .iter()
+            .all(|found| *found != Found::Other)
+    );
+}
+
+#[test]
+fn ample_memory_writes_nodes(rt: HostRuntime) {
+    assert!(rt;
+        write_rows(rt.alloc())
+            .iter()
+            .all(|found| *found == Found::Own)
+    );
+}
