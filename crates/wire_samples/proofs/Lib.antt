@@ -1,13 +1,16 @@
 pub mod FieldReads
 pub mod FieldTexts
+pub mod Measuring
 pub mod NodeFolds
 pub mod NodeLists
 pub mod NodeTaken
 pub mod NodeValues
+pub mod Nodes
 pub mod PackedReads
 pub mod PersonFolds
 pub mod PersonSteps
 pub mod Persons
+pub mod Putting
 pub mod RepeatFolds
 pub mod RepeatSteps
 pub mod Repeats

@@ -2,13 +2,15 @@
 ghost use Rattle.std.specs.Prelude.{◌≡◌, ◌^◌, ◌<◌, length};
 ghost use Rattle.wire_codec.specs.FieldNumber.{IsFieldNumber};
 ghost use Rattle.wire_codec.specs.Records.{text, size};
+ghost use Rattle.wire_codec.specs.Text.{text_of};
 ghost use Rattle.wire_codec.specs.Writes.{Writes};
-ghost use Rattle.wire_samples.specs.FieldRecords.{int32_field, bytes_field, packed_int32};
+ghost use Rattle.wire_samples.specs.FieldRecords.{int32_field, sint64_field, bytes_field};
+ghost use Rattle.wire_samples.specs.FieldRecords.{packed_int32};
 ghost use Rattle.wire_samples.specs.FieldRecords.{packed_int32_field, in_64_bits, delimited_size};
 
 use wire_codec::{
-    EncodeError, EncodeSink, encode_int32, int32_encoded_len, laws, put_bytes_field,
-    put_int32_field, put_len_delimited_header, varint_len,
+    EncodeError, EncodeSink, UnknownFields, encode_int32, int32_encoded_len, laws, put_bytes_field,
+    put_int32_field, put_len_delimited_header, put_sint64_field, sint64_encoded_len, varint_len,
 };
 
 /// How many bytes a field of type `int32` takes.
@@ -20,6 +22,17 @@ pub(crate) fn int32_len(number: u32, value: i32) -> u64
         return 0;
     }
     (varint_len(u64::from(number) * 8) as u64).saturating_add(int32_encoded_len(value) as u64)
+}
+
+/// How many bytes a field of type `sint64` takes.
+pub(crate) fn sint64_len(number: u32, value: i64) -> u64
+    requires { IsFieldNumber number }
+    ensures { result ≡ in_64_bits (size (sint64_field number value)) }
+{
+    if value == 0 {
+        return 0;
+    }
+    (varint_len(u64::from(number) * 8) as u64).saturating_add(sint64_encoded_len(value) as u64)
 }
 
 /// How many bytes a field of type `bytes` or `string` takes.
@@ -44,6 +57,26 @@ pub(crate) fn packed_int32_len(number: u32, values: &[i32]) -> u64
     delimited_len(number, payload_len(values))
 }
 
+/// How many bytes a field takes whose payload has so many.
+pub(crate) fn delimited_len(number: u32, len: u64) -> u64
+    requires { IsFieldNumber number }
+    ensures { result ≡ in_64_bits (delimited_size number len) }
+{
+    (varint_len(u64::from(number) * 8 + 2) as u64)
+        .saturating_add(varint_len(len) as u64)
+        .saturating_add(len)
+}
+
+/// How many bytes the unknown fields take.
+pub(crate) fn unknown_len(unknown: &UnknownFields) -> u64
+    ensures { result ≡ in_64_bits (length (text_of unknown.now)) }
+{
+    match unknown.encoded_len() {
+        Ok(len) => len as u64,
+        Err(_) => u64::MAX,
+    }
+}
+
 /// Writes a field of type `int32`.
 pub(crate) fn put_int32<S: EncodeSink>(
     number: u32,
@@ -58,6 +91,22 @@ pub(crate) fn put_int32<S: EncodeSink>(
         return Ok(());
     }
     put_int32_field(number, value, sink)
+}
+
+/// Writes a field of type `sint64`.
+pub(crate) fn put_sint64<S: EncodeSink>(
+    number: u32,
+    value: i64,
+    sink: &mut S,
+) -> Result<(), EncodeError>
+    requires { IsFieldNumber number }
+    ensures { Writes S.most (text (sint64_field number value)) (S.bytes_of sink.old)
+        (S.bytes_of sink.new) result }
+{
+    if value == 0 {
+        return Ok(());
+    }
+    put_sint64_field(number, value, sink)
 }
 
 /// Writes a field of type `bytes` or `string`.
@@ -107,14 +156,4 @@ fn payload_len(values: &[i32]) -> u64
         len = len.saturating_add(int32_encoded_len(*value) as u64);
     }
     len
-}
-
-// How many bytes a field takes whose payload has so many.
-fn delimited_len(number: u32, len: u64) -> u64
-    requires { IsFieldNumber number }
-    ensures { result ≡ in_64_bits (delimited_size number len) }
-{
-    (varint_len(u64::from(number) * 8 + 2) as u64)
-        .saturating_add(varint_len(len) as u64)
-        .saturating_add(len)
 }

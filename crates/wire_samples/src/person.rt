@@ -1,11 +1,9 @@
 //! A message with a field of each common kind.
-ghost use Rattle.std.specs.Prelude.{◌≡◌, length};
-ghost use Rattle.wire_codec.specs.Text.{text_of};
-ghost use Rattle.wire_samples.specs.FieldRecords.{in_64_bits};
+ghost use Rattle.std.specs.Prelude.{◌≡◌};
 ghost use Rattle.wire_samples.specs.Person.{value_of};
 
 use crate::fields::{
-    bytes_len, int32_len, packed_int32_len, put_bytes, put_int32, put_packed_int32,
+    bytes_len, int32_len, packed_int32_len, put_bytes, put_int32, put_packed_int32, unknown_len,
 };
 use crate::merge::{keep_unknown, merge_int32, merge_repeated_int32, merge_text};
 use bytes::Buf;
@@ -116,15 +114,5 @@ impl Message for Person {
         self.name.clear();
         self.scores.clear();
         self.unknown.clear();
-    }
-}
-
-// How many bytes the unknown fields take.
-fn unknown_len(unknown: &UnknownFields) -> u64
-    ensures { result ≡ in_64_bits (length (text_of unknown.now)) }
-{
-    match unknown.encoded_len() {
-        Ok(len) => len as u64,
-        Err(_) => u64::MAX,
     }
 }
