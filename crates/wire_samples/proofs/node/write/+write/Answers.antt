@@ -9,7 +9,7 @@ use Rattle.wire_samples.specs.Node.{value_of, node_records}
 use Rattle.wire_samples.proofs.FieldTexts.{regrouped}
 use Rattle.wire_samples.proofs.Nodes.{value_put, child_put, children_put, group_put}
 use Rattle.wire_samples.proofs.Nodes.{group_text, child_parts, children_parts, group_parts}
-use Rattle.wire_samples.proofs.Nodes.{next_child, unknown_text}
+use Rattle.wire_samples.proofs.Nodes.{records_of, next_child, unknown_text}
 use Rattle.wire_samples.proofs.Putting as put
 use Rattle.wire_samples.proofs.Putting.{embedded_parts, read_size, inner_next, inner_small}
 use Rattle.wire_samples.proofs.node.write.+write.Goals as goal
@@ -117,6 +117,35 @@ write_group-returns-in_ok-write_node-in-Some-clause-written g t c =
       err = end.err;
       cause = end.cause;
     })
+
+pub write_node-returns-in_err-put_sint64-clause-written :
+    goal.write_node-returns-in_err-put_sint64-clause-written
+write_node-returns-in_err-put_sint64-clause-written g t c =
+    let p = err_from_is_err_and c.from_residual.result c.from_residual.ensures.1 in
+    let pieces = c.piece_by_piece.ensures in
+    let n = c.args.node.now in
+    let fits : SFits w64 (out-Node n).value = search rules in
+    rw (p.1, p.2) (put.refused c.joined_records_add_up.ensures _ _ _ _ _ _ _ _ _
+    (put.start pieces _ (node_records (value_of n)) _ _ c.requires.sizes c.requires.size)
+    (records_of n _ (to_z-of_z fits)) pieces _ _ c.in_err-put_sint64.ensures)
+
+pub write_node-write_child-requires : goal.write_node-write_child-requires
+write_node-write_child-requires g t c κs within =
+    let joins = c.joined_records_add_up.ensures in
+    let pieces = c.piece_by_piece.ensures in
+    let n = c.args.node.now in
+    let fits : SFits w64 (out-Node n).value = search rules in
+    let value = value_put joins pieces _ n _ _ _ _ (to_z-of_z fits) c.requires.sizes
+    c.requires.size c.in_ok-put_sint64.ensures in (
+      omega arith,
+      (
+        search rules,
+        (
+          put.part_next joins _ _ _ _ _ _ _ _ _ value (child_parts n),
+          put.part_small joins _ _ _ _ _ _ _ _ _ value (child_parts n),
+        ),
+      ),
+    )
 
 pub write_node-returns-in_err-write_child-clause-written :
     goal.write_node-returns-in_err-write_child-clause-written
