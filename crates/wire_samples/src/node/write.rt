@@ -7,9 +7,8 @@ ghost use Rattle.wire_codec.specs.Sizes.{cut, cut_sizes, sizes};
 ghost use Rattle.wire_codec.specs.Tape.{NextAre, recorded, advanced};
 ghost use Rattle.wire_codec.specs.Writes.{Writes};
 ghost use Rattle.wire_samples.specs.Measuring.{Measures};
-ghost use Rattle.wire_samples.specs.Node.{listed, value_of, child_of, group_of};
-ghost use Rattle.wire_samples.specs.Node.{node_records, child_record, children_records};
-ghost use Rattle.wire_samples.specs.Node.{group_record};
+ghost use Rattle.wire_samples.specs.Node.{listed, value_of, child_of, group_of, node_records};
+ghost use Rattle.wire_samples.specs.Node.{child_record, children_records, group_record};
 
 use super::Node;
 use crate::fields::{delimited_len, put_sint64, sint64_len, unknown_len};
@@ -136,7 +135,6 @@ fn write_child<S: EncodeSink>(
     ensures read { OnOk result (cache.new
         ≡ advanced cache.old (length (sizes (child_record (child_of (value_of node.now)))))) }
 {
-    laws::piece_by_piece();
     match &node.child {
         Some(child) => write_embedded(2, child, cache, sink),
         None => Ok(()),
