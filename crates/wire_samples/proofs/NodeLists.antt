@@ -1,8 +1,8 @@
 -- What a `Node` takes one record after another, as any message type does.
-use Rattle.std.proofs.Common.{◌≡◌, refl, sym, subst}
+use Rattle.std.proofs.Common.{◌≡◌, refl}
 use Rattle.wire_codec.specs.Field.{Fields, none, field}
 use Rattle.wire_codec.specs.Folds.{Folds}
-use Rattle.wire_codec.specs.Limits.{Charge, both}
+use Rattle.wire_codec.specs.Limits.{Charge}
 use Rattle.wire_samples.specs.Node.{NodeValue}
 use Rattle.wire_samples.specs.NodeSteps.{NodeTakes, NodeFolds, no_more, one_more}
 

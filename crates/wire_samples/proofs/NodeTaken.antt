@@ -1,11 +1,10 @@
 -- What a `Node` takes, field by field.
-use Rattle.std.proofs.Common.{◌≡◌, ◌≢◌, ◌⊎◌, inl, inr, ℕ, ◌<◌, List, [], length, refl, sym, ap, ◌∙◌, subst, arith}
+use Rattle.std.proofs.Common.{◌≡◌, ℕ, ◌<◌, List, [], refl, sym, ap, ◌∙◌, subst}
 use Rattle.std.specs.Prelude.{ℤ}
 use Rattle.wire_codec.specs.Charge.{payload_charge}
 use Rattle.wire_codec.specs.Delimited.{IsDelimited}
-use Rattle.wire_codec.specs.Ending.{by_tag}
-use Rattle.wire_codec.specs.Field.{Payload, varint, fixed64, fixed32, bytes, group, Fields, push, type_of}
-use Rattle.wire_codec.specs.Limits.{Limits, Charge, Fits, left_after, both, nested, element_of, inner}
+use Rattle.wire_codec.specs.Field.{Payload, bytes, group, Fields}
+use Rattle.wire_codec.specs.Limits.{Limits, Charge, Fits, left_after, nested, element_of, inner}
 use Rattle.wire_codec.specs.LimitsLaws.{LimitsAddUp, LevelsAddUp}
 use Rattle.wire_codec.specs.Nested.{TakesEmbedded, TakesGroup}
 use Rattle.wire_codec.specs.Read.{Reads}
@@ -22,8 +21,7 @@ use Rattle.wire_samples.specs.Node.{with_unknown, IsOther}
 use Rattle.wire_samples.specs.NodeSteps.{NodeTakes, value, child, another, grouped, unknown}
 use Rattle.wire_samples.specs.NodeSteps.{NodeMerges, merged, NodeFolds}
 use Rattle.wire_samples.specs.NodeSingle.{at_value, at_child, at_another, at_group, at_other}
-use Rattle.wire_samples.specs.NodeSingle.{TakesMessage, child_charge}
-use Rattle.wire_samples.proofs.NodeValues.{value_set}
+use Rattle.wire_samples.specs.NodeSingle.{child_charge}
 use Rattle.wire_samples.proofs.NodeLists.{to_folds, from_folds}
 use Rattle.wire_samples.proofs.PersonSteps.{uncharged}
 

@@ -5,10 +5,9 @@ use Rattle.std.specs.declared.alloc.Global.{Global}
 use Rattle.std.specs.declared.vec.Vec.{Vec}
 use Rattle.wire_codec.specs.Field.{Fields}
 use Rattle.wire_samples.specs.declared.node.Node.{Node}
-use Rattle.wire_samples.specs.declared.node.Node.TheOpen.{Node-F}
 use Rattle.wire_samples.specs.declared.node.Node.TheViews.{out-Node, roll-Node}
 use Rattle.wire_samples.specs.declared.node.Node.TheFolds.{fold_out-Node, fold-roll-Node, map-Node}
-use Rattle.wire_samples.specs.Node.{NodeValue, value_of, level, held, listed, appended, or_default}
+use Rattle.wire_samples.specs.Node.{NodeValue, value_of, level, listed, appended, or_default}
 use Rattle.wire_samples.specs.Node.{default_node, child_of, group_of, unknown_of}
 use Rattle.wire_samples.specs.Node.{with_value, with_child, with_another, with_group, with_unknown, NodeList, Holds, node, ahead}
 
@@ -58,21 +57,21 @@ listed_append (n ∷ ns) added = ap (ahead (value_of n)) (listed_append ns added
 module _ (n : Node) where
   -- the parts of a node, rolled again
   pub same_node : value_of (roll-Node (record {
-        value = (out-Node n).value;
-        child = (out-Node n).child;
-        children = (out-Node n).children;
-        group = (out-Node n).group;
-        unknown = (out-Node n).unknown;
-      })) ≡ value_of n
+    value = (out-Node n).value;
+    child = (out-Node n).child;
+    children = (out-Node n).children;
+    group = (out-Node n).group;
+    unknown = (out-Node n).unknown;
+  })) ≡ value_of n
   same_node = fold-roll-Node NodeValue level _ ∙ sym (fold_out-Node NodeValue level n)
 
   pub value_set : (v : ℤ) → value_of (roll-Node (record {
-        value = v;
-        child = (out-Node n).child;
-        children = (out-Node n).children;
-        group = (out-Node n).group;
-        unknown = (out-Node n).unknown;
-      })) ≡ with_value (value_of n) v
+    value = v;
+    child = (out-Node n).child;
+    children = (out-Node n).children;
+    group = (out-Node n).group;
+    unknown = (out-Node n).unknown;
+  })) ≡ with_value (value_of n) v
   value_set v =
       fold-roll-Node NodeValue level _
       ∙ sym (ap (λ (m : NodeValue). with_value m v) (fold_out-Node NodeValue level n))
@@ -127,12 +126,12 @@ module _ (n : Node) where
       (fold_out-Node NodeValue level n))
 
   pub unknown_set : (fs : Fields) → value_of (roll-Node (record {
-        value = (out-Node n).value;
-        child = (out-Node n).child;
-        children = (out-Node n).children;
-        group = (out-Node n).group;
-        unknown = fs;
-      })) ≡ with_unknown (value_of n) fs
+    value = (out-Node n).value;
+    child = (out-Node n).child;
+    children = (out-Node n).children;
+    group = (out-Node n).group;
+    unknown = fs;
+  })) ≡ with_unknown (value_of n) fs
   unknown_set fs =
       fold-roll-Node NodeValue level _
       ∙ sym (ap (λ (m : NodeValue). with_unknown m fs) (fold_out-Node NodeValue level n))

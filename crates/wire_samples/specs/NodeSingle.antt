@@ -1,8 +1,8 @@
 -- What a `Node` makes of a record, by the record's number, and that it is single.
-use Rattle.std.proofs.Common.{◌≡◌, ℕ, ◌≤◌, List, length, refl, sym, ap, ◌∙◌, subst, arith}
+use Rattle.std.proofs.Common.{◌≡◌, ℕ, List, refl, sym, ap, ◌∙◌, subst, arith}
 use Rattle.std.specs.Prelude.{ℤ}
 use Rattle.wire_codec.specs.Charge.{payload_charge}
-use Rattle.wire_codec.specs.Field.{Payload, varint, fixed64, fixed32, bytes, group, Fields, none, field, push}
+use Rattle.wire_codec.specs.Field.{Payload, bytes, group, Fields, field, push}
 use Rattle.wire_codec.specs.Folds.{IsSingle}
 use Rattle.wire_codec.specs.Limits.{Charge, no_charge, both, nested, element_of}
 use Rattle.wire_codec.specs.Spells.{Spells}

@@ -15,8 +15,8 @@ use bytes::Buf;
 use std::alloc::Global;
 use wire_codec::{
     DecodeContext, DecodeError, Tag, UnknownFields, WireType, check_wire_type, count_varints,
-    decode_int32, decode_length, decode_sint64, decode_unknown_field, extend_packed_int32, laws, merge_string,
-    wire_type_mismatch,
+    decode_int32, decode_length, decode_sint64, decode_unknown_field, extend_packed_int32, laws,
+    merge_string, wire_type_mismatch,
 };
 
 /// Sets a field of type `int32`.

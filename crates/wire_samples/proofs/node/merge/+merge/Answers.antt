@@ -230,6 +230,7 @@ merge_child-returns-in-Some-clause-ok g t c =
     (value_of c.merge_length_delimited.new.node) c.requires c.in_ok-check_wire_type.ensures.ok
     (ap value_of c.deref_mut.ensures.value ∙ child_held c.args.node.now _ c.in-Some.is)
     (child_set c.args.node.now _ c.merge_length_delimited.new.node refl)) c.merge_length_delimited.ensures.ok
+
 pub merge_child-returns-in-Some-clause-err : goal.merge_child-returns-in-Some-clause-err
 merge_child-returns-in-Some-clause-err g t c =
     IfErr-weaker c.merge_length_delimited.result _ _ (λ e none other. no_child _ _ _ _ _
