@@ -1,23 +1,27 @@
 -- What a `Node` takes, field by field.
-use Rattle.std.proofs.Common.{◌≡◌, ℕ, ◌<◌, List, [], refl, sym, ap, ◌∙◌, subst}
+use Rattle.std.proofs.Common.{◌≡◌, ℕ, ◌<◌, ◌≤◌, List, [], length, refl, sym, ap, ◌∙◌, subst, arith}
 use Rattle.std.specs.Prelude.{ℤ}
 use Rattle.wire_codec.specs.Charge.{payload_charge}
 use Rattle.wire_codec.specs.Delimited.{IsDelimited}
+use Rattle.wire_codec.specs.Ending.{by_limit}
 use Rattle.wire_codec.specs.Field.{Payload, bytes, group, Fields}
-use Rattle.wire_codec.specs.Limits.{Limits, Charge, Fits, left_after, nested, element_of, inner}
+use Rattle.wire_codec.specs.Limits.{Limits, Charge, Fits, left_after, nested, element_of, inner, outer}
 use Rattle.wire_codec.specs.LimitsLaws.{LimitsAddUp, LevelsAddUp}
 use Rattle.wire_codec.specs.Nested.{TakesEmbedded, TakesGroup}
 use Rattle.wire_codec.specs.Read.{Reads}
-use Rattle.wire_codec.specs.RecordLaws.{WholeInput, GroupIsList}
+use Rattle.wire_codec.specs.RecordLaws.{OneList, WholeInput, GroupIsList}
 use Rattle.wire_codec.specs.Spells.{IsPayload}
 use Rattle.wire_codec.specs.Taken.{TakesPayload}
-use Rattle.wire_codec.specs.Taking.{TakesRecord, IsCharged, NotTaken}
+use Rattle.wire_codec.specs.Taking.{TakesRecord, TakesList, TakesAll, IsCharged, NotTaken}
+use Rattle.wire_codec.specs.TakingLaws.{DelimitedIsRead}
 use Rattle.wire_codec.specs.WireType.{WireType}
 use Rattle.wire_codec.specs.WireType.TheVariants as types
 use Rattle.wire_samples.specs.FieldSteps.{SetsSint64, ReadsField, NoField, KeepsField, NotKept}
 use Rattle.wire_samples.specs.Node.{NodeValue, default_node, or_default, child_of, group_of}
 use Rattle.wire_samples.specs.Node.{unknown_of, with_value, with_child, with_another, with_group}
 use Rattle.wire_samples.specs.Node.{with_unknown, IsOther}
+use Rattle.wire_codec.proofs.DelimitedLists.{limit_is_whole, whole_in_limit}
+use Rattle.wire_samples.specs.NodePayloads.{Enters, TakesWithin}
 use Rattle.wire_samples.specs.NodeSteps.{NodeTakes, value, child, another, grouped, unknown}
 use Rattle.wire_samples.specs.NodeSteps.{NodeMerges, merged, NodeFolds}
 use Rattle.wire_samples.specs.NodeSingle.{at_value, at_child, at_another, at_group, at_other}
@@ -68,7 +72,77 @@ module _ (whole : WholeInput) (l : Limits) (from z : NodeValue) (old new : List 
         };
       }
 
--- the record of an embedded message
+-- ---- a payload between its length and its end
+
+module _ (d : DelimitedIsRead) (l k : Limits) (from : NodeValue) (old now new : List ℕ) (rest : ℕ)
+    (h : Enters l k old now rest) where
+  -- what is taken up to the end of the payload is the embedded message
+  embedded_of : (c : Charge) (z : NodeValue) → TakesWithin NodeTakes k rest from now c z new
+      → TakesEmbedded NodeTakes l from old c z new
+  embedded_of c z taken =
+      let long : length h.behind ≤ length new = omega (arith, h.rest_is, taken.within) in
+      let whole = limit_is_whole d NodeTakes k from z now h.payload h.behind new c rest h.parts
+      h.rest_is long taken.list in
+      record {
+        level = h.level;
+        taken = record {
+          payload = h.payload;
+          read = subst (Reads old (IsDelimited h.payload)) (sym whole.0) h.read;
+          short = h.short;
+          taken = subst (λ x. TakesAll NodeTakes x from h.payload c z) h.inside whole.1;
+        };
+      }
+
+  -- and the other way round
+  within_of : (c : Charge) (z : NodeValue) → TakesEmbedded NodeTakes l from old c z new
+      → TakesWithin NodeTakes k rest from now c z new
+  within_of c z taken =
+      let t = taken.taken in
+      let same = d.delimited h.payload t.payload old h.behind new h.read t.read in
+      let all : TakesAll NodeTakes k from h.payload c z =
+      subst (λ p. TakesAll NodeTakes k from p c z) (sym same.0)
+      (subst (λ x. TakesAll NodeTakes x from t.payload c z) (sym h.inside) t.taken) in
+      let listed = whole_in_limit d NodeTakes k from z h.payload h.behind c rest h.rest_is all in
+      record {
+        list = subst (λ r. TakesList NodeTakes k (by_limit rest) from now c z r) same.1
+            (subst (λ t. TakesList NodeTakes k (by_limit rest) from t c z h.behind) (sym h.parts)
+            listed);
+        within = omega (arith, h.rest_is, ap length same.1);
+      }
+
+pub not_within : DelimitedIsRead → (l k : Limits) (from : NodeValue) (old now : List ℕ) (rest : ℕ)
+    → Enters l k old now rest → NotTaken (TakesWithin NodeTakes k rest from now)
+    → NotTaken (TakesEmbedded NodeTakes l from old)
+not_within d l k from old now rest h none c z new taken =
+    none c z new (within_of d l k from old now new rest h c z taken)
+
+pub charged_within : DelimitedIsRead → LevelsAddUp → (l k j : Limits) (from z : NodeValue)
+    (old now new : List ℕ) (rest : ℕ) → Enters l k old now rest
+    → (c : Charge) × TakesWithin NodeTakes k rest from now c z new × (j ≡ outer (left_after k c))
+    → IsCharged l j (λ c. TakesEmbedded NodeTakes l from old c z new)
+charged_within d levels l k j from z old now new rest h (c, taken, left) = record {
+  charge = c;
+  taken = embedded_of d l k from old now new rest h c z taken;
+  left = left ∙ ap (λ (x : Limits). outer (left_after x c)) h.inside
+      ∙ levels.left_after_nested l c h.level;
+}
+
+-- a record ran past the payload
+pub ran_past : OneList → (l : Limits) (from : NodeValue) (now after : List ℕ) (rest : ℕ)
+    (e : Charge) (v : NodeValue) → length after < rest
+    → TakesList NodeTakes l (by_limit rest) from now e v after
+    → NotTaken (TakesWithin NodeTakes l rest from now)
+ran_past one l from now after rest e v past taken c z new h =
+    omega (
+      arith,
+      past,
+      h.within,
+      ap length (one (by_limit rest) taken.fields h.list.fields e c l l now after new taken.read
+          h.list.read).1,
+    )
+
+-- ---- the record of an embedded message
+
 bytes_read : (n : ℕ) (w : WireType) (b old new : List ℕ) → w ≡ types.LengthDelimited
     → Reads old (IsDelimited b) new → Reads old (IsPayload n w (bytes b)) new
 bytes_read n w b old new is h = record {

@@ -1,11 +1,14 @@
 -- The value of a `Node`, part by part.
-use Rattle.std.proofs.Common.{◌≡◌, List, [], ◌∷◌, ◌++◌, refl, sym, ap, ◌∙◌}
-use Rattle.std.specs.Prelude.{ℤ, Option, Some, None, Box, box_value, map}
+use Rattle.std.proofs.Common.{◌≡◌, ℕ, get_or, length, List, [], ◌∷◌, ◌++◌, refl, sym, ap, ◌∙◌}
+use Rattle.std.proofs.Math.Seq.{set-append_seam, get_or-append_seam}
+use Rattle.std.specs.Vec.{with_item}
+use Rattle.std.specs.Prelude.{slice_set, ℤ, Option, Some, None, Box, box_value, map}
 use Rattle.std.specs.declared.alloc.Global.{Global}
 use Rattle.std.specs.declared.vec.Vec.{Vec}
 use Rattle.wire_codec.specs.Field.{Fields}
 use Rattle.wire_samples.specs.declared.node.Node.{Node}
-use Rattle.wire_samples.specs.declared.node.Node.TheViews.{out-Node, roll-Node}
+use Rattle.wire_samples.specs.declared.node.Node.TheViews.{out-Node, roll-Node, out-roll-Node}
+use Rattle.wire_samples.specs.declared.node.Node.TheOpen.{Node-F}
 use Rattle.wire_samples.specs.declared.node.Node.TheFolds.{fold_out-Node, fold-roll-Node, map-Node}
 use Rattle.wire_samples.specs.Node.{NodeValue, value_of, level, listed, appended, or_default}
 use Rattle.wire_samples.specs.Node.{default_node, child_of, group_of, unknown_of}
@@ -92,6 +95,19 @@ module _ (n : Node) where
       ∙ sym (ap (λ (m : NodeValue). with_child m (value_of held_there))
       (fold_out-Node NodeValue level n))
 
+  -- the same node with other children
+  abbrev pub layer : Vec Node Global → Node-F Node
+  layer nodes = record {
+    value = (out-Node n).value;
+    child = (out-Node n).child;
+    children = nodes;
+    group = (out-Node n).group;
+    unknown = (out-Node n).unknown;
+  }
+
+  abbrev pub with_nodes : Vec Node Global → Node
+  with_nodes nodes = roll-Node (layer nodes)
+
   pub another_set : (nodes : Vec Node Global) (added : Node)
       → nodes.items ≡ (out-Node n).children.items ++ added ∷ []
       → value_of (roll-Node (record {
@@ -108,6 +124,31 @@ module _ (n : Node) where
       ∙ listed_append (out-Node n).children.items added)
       ∙ sym (ap (λ (m : NodeValue). with_another m (value_of added))
       (fold_out-Node NodeValue level n))
+
+  -- the last of the children is the one that was put there
+  pub last_is : (nodes : Vec Node Global) (fresh other : Node) (index : ℕ)
+      → index ≡ length (out-Node n).children.items
+      → nodes.items ≡ (out-Node n).children.items ++ fresh ∷ []
+      → get_or (out-Node (with_nodes nodes)).children.items index other ≡ fresh
+  last_is nodes fresh other index at is =
+      rw (out-roll-Node (layer nodes), is, at) (get_or-append_seam (out-Node n).children.items fresh [] other)
+
+  -- and is merged into, where it stands
+  pub last_set : (nodes : Vec Node Global) (fresh after : Node) (index : ℕ)
+      → index ≡ length (out-Node n).children.items
+      → nodes.items ≡ (out-Node n).children.items ++ fresh ∷ []
+      → value_of (roll-Node (record {
+        value = (out-Node (with_nodes nodes)).value;
+        child = (out-Node (with_nodes nodes)).child;
+        children = with_item (out-Node (with_nodes nodes)).children index after;
+        group = (out-Node (with_nodes nodes)).group;
+        unknown = (out-Node (with_nodes nodes)).unknown;
+      })) ≡ with_another (value_of n) (value_of after)
+  last_set nodes fresh after index at is =
+      rw (out-roll-Node (layer nodes)) (another_set (with_item nodes index after) after
+      (ap (λ (ns : List Node). slice_set ns index after) is
+      ∙ ap (λ (i : ℕ). slice_set ((out-Node n).children.items ++ fresh ∷ []) i after) at
+      ∙ set-append_seam (out-Node n).children.items fresh [] after))
 
   pub group_set : (field : Option (Box Node Global)) (held_there : Node) → Holds field held_there
       → value_of (roll-Node (record {

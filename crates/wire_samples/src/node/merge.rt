@@ -1,12 +1,12 @@
 //! A node from bytes: records, embedded messages and groups.
-ghost use Rattle.std.specs.Prelude.{◌≡◌, ◌≢◌, [], ◌∷◌, ◌++◌, OnOk, OnErr, IfErr};
+ghost use Rattle.std.specs.Prelude.{◌≡◌, ◌≢◌, ◌-◌, ◌^◌, ◌<◌, [], ◌∷◌, ◌++◌, OnOk, OnErr, IfOk, IfErr};
 ghost use Rattle.wire_codec.specs.DecodeError.TheVariants.{OutOfMemory};
-ghost use Rattle.wire_codec.specs.Ending.{by_limit};
-ghost use Rattle.wire_codec.specs.Limits.{NoCountGrew};
+ghost use Rattle.wire_codec.specs.Limits.{Charge, NoCountGrew, left_after, outer};
 ghost use Rattle.wire_codec.specs.Nested.{TakesEmbedded, TakesGroup};
 ghost use Rattle.wire_codec.specs.TagView.{tag_number, tag_type};
-ghost use Rattle.wire_codec.specs.Taking.{TakesRecord, TakesList, IsCharged, NotTaken};
-ghost use Rattle.wire_samples.specs.Node.{value_of, Holds};
+ghost use Rattle.wire_codec.specs.Taking.{TakesRecord, IsCharged, NotTaken};
+ghost use Rattle.wire_samples.specs.Node.{NodeValue, value_of, Holds};
+ghost use Rattle.wire_samples.specs.NodePayloads.{Enters, TakesWithin};
 ghost use Rattle.wire_samples.specs.NodeSteps.{NodeTakes};
 
 use super::Node;
@@ -66,14 +66,15 @@ fn merge_child<B: Buf>(
     ensures counts { OnErr result (NoCountGrew context.old context.new) }
     ensures kept { B.kept buf.new ≡ B.kept buf.old }
 {
-    laws::grammar::whole_input();
+    laws::delimited_is_read();
     laws::levels_and_counts();
     check_wire_type(tag, WireType::LengthDelimited)?;
+    let rest = enter_payload(buf, context)?;
     match &mut node.child {
-        Some(child) => merge_length_delimited(child, alloc, buf, context),
+        Some(child) => merge_payload(child, alloc, buf, context, rest),
         None => {
             let mut child = Node::empty(alloc);
-            merge_length_delimited(&mut child, alloc, buf, context)?;
+            merge_payload(&mut child, alloc, buf, context, rest)?;
             hold(&mut node.child, alloc, child)
         }
     }
@@ -88,15 +89,7 @@ fn hold(field: &mut Option<Box<Node>>, alloc: Global, node: Node) -> Result<(), 
     Ok(())
 }
 
-// Puts a node behind others.
-fn push(nodes: &mut Vec<Node>, node: Node) -> Result<(), DecodeError>
-    ensures ok { OnOk result (nodes.new.items ≡ nodes.old.items ++ node ∷ []) }
-    ensures err { IfErr result (λ e. e ≡ OutOfMemory) }
-{
-    nodes.push(node).map_err(|_| DecodeError::OutOfMemory)
-}
-
-// Takes an embedded message into a default node, which joins the children.
+// Takes an embedded message into a default node at the end of the children, where it stays.
 #[cycle(merge)]
 fn merge_another<B: Buf>(
     node: &mut Node,
@@ -114,14 +107,23 @@ fn merge_another<B: Buf>(
     ensures counts { OnErr result (NoCountGrew context.old context.new) }
     ensures kept { B.kept buf.new ≡ B.kept buf.old }
 {
-    laws::grammar::whole_input();
+    laws::delimited_is_read();
     laws::grammar::limits_add_up();
     laws::levels_and_counts();
     check_wire_type(tag, WireType::LengthDelimited)?;
     context.register_element_memory(CHILD_BYTES)?;
-    let mut child = Node::empty(alloc);
-    merge_length_delimited(&mut child, alloc, buf, context)?;
-    push(&mut node.children, child)
+    let rest = enter_payload(buf, context)?;
+    let index = node.children.len();
+    push(&mut node.children, Node::empty(alloc))?;
+    merge_payload(&mut node.children[index], alloc, buf, context, rest)
+}
+
+// Puts a node behind others.
+fn push(nodes: &mut Vec<Node>, node: Node) -> Result<(), DecodeError>
+    ensures ok { OnOk result (nodes.new.items ≡ nodes.old.items ++ node ∷ []) }
+    ensures err { IfErr result (λ e. e ≡ OutOfMemory) }
+{
+    nodes.push(node).map_err(|_| DecodeError::OutOfMemory)
 }
 
 // Takes the body of a group into the group, or into a default one.
@@ -155,19 +157,14 @@ fn merge_grouped<B: Buf>(
     }
 }
 
-// Takes the records of an embedded message, a length and a payload, one level down.
-#[cycle(merge)]
-fn merge_length_delimited<B: Buf>(
-    node: &mut Node,
-    alloc: Global,
-    buf: &mut B,
-    context: &mut DecodeContext,
-) -> Result<(), DecodeError>
-    ensures ok { OnOk result (IsCharged context.old context.new (λ c. TakesEmbedded NodeTakes
-        context.old (value_of node.old) (B.unread buf.old) c (value_of node.new)
-        (B.unread buf.new))) }
-    ensures err { IfErr result (λ e. e ≢ OutOfMemory → NotTaken (TakesEmbedded NodeTakes
-        context.old (value_of node.old) (B.unread buf.old))) }
+// Takes a level, and reads the length of an embedded message: answers how many bytes stand behind
+// its payload.
+fn enter_payload<B: Buf>(buf: &mut B, context: &mut DecodeContext) -> Result<usize, DecodeError>
+    ensures ok { IfOk result (Enters context.old context.new (B.unread buf.old)
+        (B.unread buf.new)) }
+    ensures room { OnOk result (context.new.depth < 2 ^ 32 - 1) }
+    ensures err { OnErr result ((m : NodeValue)
+        → NotTaken (TakesEmbedded NodeTakes context.old m (B.unread buf.old))) }
     ensures counts { OnErr result (NoCountGrew context.old context.new) }
     ensures kept { B.kept buf.new ≡ B.kept buf.old }
 {
@@ -175,38 +172,38 @@ fn merge_length_delimited<B: Buf>(
     laws::levels_and_counts();
     context.descend()?;
     let len = decode_length(buf, Some(MAX_MESSAGE_BYTES as usize))?;
-    let rest = buf.remaining() - len;
-    merge_to_limit(node, alloc, buf, context, rest)?;
-    if buf.remaining() < rest {
-        return Err(DecodeError::UnexpectedEof);
-    }
-    context.ascend();
-    Ok(())
+    Ok(buf.remaining() - len)
 }
 
-// Takes whole records while more than `limit` bytes remain. The last of them may run past that
-// place.
+// Takes the records of a payload with `rest` bytes behind it, and gives its level back. A record
+// that runs past the payload is refused.
 #[cycle(merge)]
-fn merge_to_limit<B: Buf>(
+fn merge_payload<B: Buf>(
     node: &mut Node,
     alloc: Global,
     buf: &mut B,
     context: &mut DecodeContext,
-    limit: usize,
+    rest: usize,
 ) -> Result<(), DecodeError>
-    ensures ok { OnOk result (IsCharged context.old context.new (λ c. TakesList NodeTakes
-        context.old (by_limit limit) (value_of node.old) (B.unread buf.old) c (value_of node.new)
-        (B.unread buf.new))) }
-    ensures err { IfErr result (λ e. e ≢ OutOfMemory → NotTaken (TakesList NodeTakes
-        context.old (by_limit limit) (value_of node.old) (B.unread buf.old))) }
+    requires { context.old.depth < 2 ^ 32 - 1 }
+    ensures ok { OnOk result ((c : Charge) × TakesWithin NodeTakes context.old rest
+        (value_of node.old) (B.unread buf.old) c (value_of node.new) (B.unread buf.new)
+        × (context.new ≡ outer (left_after context.old c))) }
+    ensures err { IfErr result (λ e. e ≢ OutOfMemory → NotTaken (TakesWithin NodeTakes
+        context.old rest (value_of node.old) (B.unread buf.old))) }
     ensures counts { OnErr result (NoCountGrew context.old context.new) }
     ensures kept { B.kept buf.new ≡ B.kept buf.old }
 {
     laws::records_in_order();
-    while buf.remaining() > limit {
+    laws::grammar::one_list();
+    while buf.remaining() > rest {
         let tag = Tag::decode(buf)?;
         merge_record(node, alloc, tag, buf, context)?;
     }
+    if buf.remaining() < rest {
+        return Err(DecodeError::UnexpectedEof);
+    }
+    context.ascend();
     Ok(())
 }
 

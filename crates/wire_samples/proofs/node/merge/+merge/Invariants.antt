@@ -8,9 +8,6 @@ use Rattle.wire_samples.proofs.node.merge.+merge.Given as goal
 
 -- ---- levels: a level down is less, whatever is called there
 
-abbrev pub decreases-merge_length_delimited : goal.decreases-merge_length_delimited
-decreases-merge_length_delimited g l = 4 * l.context.now.depth
-
 abbrev pub decreases-merge_group : goal.decreases-merge_group
 decreases-merge_group g l = 4 * l.context.now.depth
 
@@ -26,20 +23,20 @@ decreases-merge_grouped g l = 4 * l.context.now.depth + 1
 abbrev pub decreases-merge_record : goal.decreases-merge_record
 decreases-merge_record g l = 4 * l.context.now.depth + 2
 
-abbrev pub decreases-merge_to_limit : goal.decreases-merge_to_limit
-decreases-merge_to_limit g l = 4 * l.context.now.depth + 3
+abbrev pub decreases-merge_payload : goal.decreases-merge_payload
+decreases-merge_payload g l = 4 * l.context.now.depth + 3
 
 -- ---- what is taken from here on is what is taken from the start
 
-abbrev pub invariant-merge_to_limit-loop-buf : goal.invariant-merge_to_limit-loop-buf
-invariant-merge_to_limit-loop-buf g l = record {
-  follows : Follows NodeTakes (by_limit l.fn.limit) l.fn.context (value_of l.fn.node)
+abbrev pub invariant-merge_payload-loop-alloc : goal.invariant-merge_payload-loop-alloc
+invariant-merge_payload-loop-alloc g l = record {
+  follows : Follows NodeTakes (by_limit l.fn.rest) l.fn.context (value_of l.fn.node)
       (g.B.Buf.unread l.fn.buf) l.context (value_of l.node) (g.B.Buf.unread l.buf);
   kept : g.B.Buf.kept l.buf ≡ g.B.Buf.kept l.fn.buf;
 }
 
-abbrev pub decreases-merge_to_limit-loop-buf : goal.decreases-merge_to_limit-loop-buf
-decreases-merge_to_limit-loop-buf g l = length (g.B.Buf.unread l.buf)
+abbrev pub decreases-merge_payload-loop-alloc : goal.decreases-merge_payload-loop-alloc
+decreases-merge_payload-loop-alloc g l = length (g.B.Buf.unread l.buf)
 
 abbrev pub invariant-merge_group-loop-tag : goal.invariant-merge_group-loop-tag
 invariant-merge_group-loop-tag g l = record {
