@@ -22,6 +22,7 @@ pub fn check_wire_type(tag: Tag, expected: WireType) -> Result<(), DecodeError>
 
 /// The error of a tag whose wire type is not the expected one.
 #[cold]
+#[inline(never)]
 pub fn wire_type_mismatch(tag: Tag, expected: WireType) -> DecodeError
     ensures { result ≡ WireTypeMismatch (tag_number tag) (wire_number expected)
         (wire_number (tag_type tag)) }

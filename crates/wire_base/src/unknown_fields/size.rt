@@ -13,7 +13,22 @@ impl UnknownFields {
     /// How many bytes `write_to` writes. `LengthOverflow` comes exactly where these are more than
     /// `usize::MAX`.
     #[cycle(encoded_len)]
+    #[inline(always)]
     pub fn encoded_len(&self) -> Result<usize, EncodeError>
+        ensures ok { IfOk result (λ len. len ≡ size self.now) }
+        ensures err { IfErr result (λ e. e ≡ LengthOverflow) }
+        ensures over { OnErr result (2 ^ 64 ≤ size self.now) }
+    {
+        if self.is_empty() {
+            return Ok(0);
+        }
+        self.fields_len()
+    }
+
+    // How many bytes the records take. Most messages have none, so this stands out of line.
+    #[cycle(encoded_len)]
+    #[inline(never)]
+    fn fields_len(&self) -> Result<usize, EncodeError>
         ensures ok { IfOk result (λ len. len ≡ size self.now) }
         ensures err { IfErr result (λ e. e ≡ LengthOverflow) }
         ensures over { OnErr result (2 ^ 64 ≤ size self.now) }

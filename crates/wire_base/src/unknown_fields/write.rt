@@ -14,7 +14,23 @@ use crate::varint::encode_varint;
 impl UnknownFields {
     /// Writes the shortest text of the records. Padding that they came with is gone.
     #[cycle(write)]
+    #[inline(always)]
     pub fn write_to<S: EncodeSink>(&self, sink: &mut S) -> Result<(), EncodeError>
+        ensures ok { OnOk result (S.bytes_of sink.new ≡ S.bytes_of sink.old ++ text_of self.now) }
+        ensures err { OnErr result (KeepsFront (S.bytes_of sink.old)
+            (text_of self.now) (S.bytes_of sink.new)) }
+        ensures cause { WriteAnswers S.most (S.bytes_of sink.old) (text_of self.now) result }
+    {
+        if self.is_empty() {
+            return Ok(());
+        }
+        self.write_fields(sink)
+    }
+
+    // Writes the records. Most messages have none, so this stands out of line.
+    #[cycle(write)]
+    #[inline(never)]
+    fn write_fields<S: EncodeSink>(&self, sink: &mut S) -> Result<(), EncodeError>
         ensures ok { OnOk result (S.bytes_of sink.new ≡ S.bytes_of sink.old ++ text_of self.now) }
         ensures err { OnErr result (KeepsFront (S.bytes_of sink.old)
             (text_of self.now) (S.bytes_of sink.new)) }

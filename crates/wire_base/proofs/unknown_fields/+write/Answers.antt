@@ -35,8 +35,8 @@ UnknownFieldData::write_to-returns-in_err-write_to-in-Group-clause-err g t c =
     (KeepsFront-longer _ _ _ _ (tag_text c.args.number EndGroup) refl
     (c.in_err-write_to-in-Group).ensures.err)
 
-pub UnknownFields::write_to-returns-in_err-write_to-clause-err : goal.UnknownFields::write_to-returns-in_err-write_to-clause-err
-UnknownFields::write_to-returns-in_err-write_to-clause-err g t c =
+pub UnknownFields::write_fields-returns-in_err-write_to-clause-err : goal.UnknownFields::write_fields-returns-in_err-write_to-clause-err
+UnknownFields::write_fields-returns-in_err-write_to-clause-err g t c =
     let p = err_from_is_err_and c.from_residual.result c.from_residual.ensures.1 in
     rw p.1 (Written-breaks g.S.EncodeSink.most _ _ _ _ _ _ _ c.loop-field.invariant
     (text_of-at _ _ _ c.loop-field-test.true c.field-item.is) c.in_err-write_to.ensures.err)
