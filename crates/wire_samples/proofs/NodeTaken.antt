@@ -25,7 +25,7 @@ use Rattle.wire_samples.specs.NodePayloads.{Enters, TakesWithin}
 use Rattle.wire_samples.specs.NodeSteps.{NodeTakes, value, child, another, grouped, unknown}
 use Rattle.wire_samples.specs.NodeSteps.{NodeMerges, merged, NodeFolds}
 use Rattle.wire_samples.specs.NodeSingle.{at_value, at_child, at_another, at_group, at_other}
-use Rattle.wire_samples.specs.NodeSingle.{child_charge}
+use Rattle.wire_samples.specs.NodeSteps.{another_charge}
 use Rattle.wire_samples.proofs.NodeLists.{to_folds, from_folds}
 use Rattle.wire_samples.proofs.PersonSteps.{uncharged}
 
@@ -77,7 +77,7 @@ module _ (whole : WholeInput) (l : Limits) (from z : NodeValue) (old new : List 
 module _ (d : DelimitedIsRead) (l k : Limits) (from : NodeValue) (old now new : List ℕ) (rest : ℕ)
     (h : Enters l k old now rest) where
   -- what is taken up to the end of the payload is the embedded message
-  embedded_of : (c : Charge) (z : NodeValue) → TakesWithin NodeTakes k rest from now c z new
+  pub embedded_of : (c : Charge) (z : NodeValue) → TakesWithin NodeTakes k rest from now c z new
       → TakesEmbedded NodeTakes l from old c z new
   embedded_of c z taken =
       let long : length h.behind ≤ length new = omega (arith, h.rest_is, taken.within) in
@@ -94,7 +94,7 @@ module _ (d : DelimitedIsRead) (l k : Limits) (from : NodeValue) (old now new : 
       }
 
   -- and the other way round
-  within_of : (c : Charge) (z : NodeValue) → TakesEmbedded NodeTakes l from old c z new
+  pub within_of : (c : Charge) (z : NodeValue) → TakesEmbedded NodeTakes l from old c z new
       → TakesWithin NodeTakes k rest from now c z new
   within_of c z taken =
       let t = taken.taken in
@@ -220,7 +220,7 @@ module _ (l k : Limits) (n : ℕ) (w : WireType) (m z : NodeValue) (old new : Li
       let i = inside whole j default_node after old new h.charge h.taken in
       let fits = (levels.nested_fits j h.charge).1 (i.level, i.fits) in
       record {
-        charge = child_charge h.charge;
+        charge = another_charge h.charge;
         taken = record {
           payload = bytes i.b;
           read = record {

@@ -12,9 +12,12 @@ use Rattle.wire_samples.specs.Node.{NodeValue, IsNode}
 use Rattle.wire_samples.specs.NodeCharge.{node_charge}
 use Rattle.wire_samples.specs.Person.{PersonValue, IsPerson}
 
--- what a type makes of a record, and the records of a value, are those of a table
-pub record IsTable {V : Type 0} (takes : Step V) (records : V → Records) (table_takes : Step V)
-    (table_records : V → Records) : Type 0 where
+-- what contracts see of a value, the default, what a type makes of a record, and the records of a
+-- value are those of a table
+pub record IsTable {T V : Type 0} (view table_view : T → V) (default table_default : V)
+    (takes table_takes : Step V) (records table_records : V → Records) : Type 0 where
+  pub seen : (m : T) → view m ≡ table_view m
+  pub start : default ≡ table_default
   pub step : (m : V) (n : ℕ) (p : Payload) (c : Charge) (z : V)
       → takes m n p c z ↔ table_takes m n p c z
   pub written : (m : V) → records m ≡ table_records m

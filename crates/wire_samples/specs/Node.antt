@@ -40,7 +40,7 @@ level n = node n.value (held n.child) (listed n.children.items) (held n.group) n
 abbrev pub value_of : Node → NodeValue
 value_of = fold-Node NodeValue level
 
--- a field that has just this node
+-- the field holds this node
 abbrev pub Holds : Option (Box Node Global) → Node → Type 0
 Holds None n = ⊥
 Holds (Some boxed) n = box_value boxed ≡ n

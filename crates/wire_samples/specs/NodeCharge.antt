@@ -1,8 +1,9 @@
 -- What a `Node` is charged for the records of a value.
 use Rattle.wire_codec.specs.Charge.{charge}
-use Rattle.wire_codec.specs.Limits.{Charge, no_charge, both, nested, element_of}
+use Rattle.wire_codec.specs.Limits.{Charge, no_charge, both, nested}
 use Rattle.wire_samples.specs.Node.{NodeValue, node, MaybeNode, absent, present, NodeList, empty}
 use Rattle.wire_samples.specs.Node.{ahead}
+use Rattle.wire_samples.specs.NodeSteps.{another_charge}
 
 abbrev mutual
   -- in the order of its records, one after another
@@ -16,8 +17,8 @@ abbrev mutual
   held_charge absent = no_charge
   held_charge (present m) = nested (node_charge m)
 
-  -- 64 bytes for each, and what it holds one level down
+  -- each by itself, in order
   pub children_charge : NodeList → Charge
   children_charge empty = no_charge
   children_charge (ahead m ms) =
-      both (both (element_of 64) (nested (node_charge m))) (children_charge ms)
+      both (another_charge (node_charge m)) (children_charge ms)

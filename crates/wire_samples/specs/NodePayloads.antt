@@ -1,9 +1,10 @@
 -- The payload of an embedded message, from its length to its end.
-use Rattle.std.specs.Prelude.{◌≡◌, ℕ, ◌<◌, ◌≤◌, List, ◌++◌, length}
+use Rattle.std.specs.Prelude.{◌≡◌, ◌↔◌, ℕ, ◌<◌, ◌≤◌, List, ◌++◌, length}
 use Rattle.wire_codec.specs.Delimited.{IsDelimited}
 use Rattle.wire_codec.specs.Ending.{by_limit}
 use Rattle.wire_codec.specs.Folds.{Step}
 use Rattle.wire_codec.specs.Limits.{Limits, Charge, inner}
+use Rattle.wire_codec.specs.Nested.{TakesEmbedded}
 use Rattle.wire_codec.specs.Read.{Reads}
 use Rattle.wire_codec.specs.Taking.{TakesList}
 
@@ -24,3 +25,10 @@ pub record TakesWithin {V : Type 0} (takes : Step V) (l : Limits) (rest : ℕ) (
     (now : List ℕ) (c : Charge) (z : V) (new : List ℕ) : Type 0 where
   pub list : TakesList takes l (by_limit rest) m now c z new
   pub within : rest ≤ length new
+
+-- behind a length, what is taken up to the end of the payload is the embedded message
+abbrev pub PayloadsAreEmbedded : {V : Type 0} → Step V → Type 0
+PayloadsAreEmbedded {V} takes =
+    (l k : Limits) (m z : V) (old now new : List ℕ) (rest : ℕ) (c : Charge)
+    → Enters l k old now rest
+    → TakesWithin takes k rest m now c z new ↔ TakesEmbedded takes l m old c z new

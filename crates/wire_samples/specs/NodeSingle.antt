@@ -4,7 +4,7 @@ use Rattle.std.specs.Prelude.{ℤ}
 use Rattle.wire_codec.specs.Charge.{payload_charge}
 use Rattle.wire_codec.specs.Field.{Payload, bytes, group, Fields, field, push}
 use Rattle.wire_codec.specs.Folds.{IsSingle}
-use Rattle.wire_codec.specs.Limits.{Charge, no_charge, both, nested, element_of}
+use Rattle.wire_codec.specs.Limits.{Charge, no_charge, both, nested}
 use Rattle.wire_codec.specs.Spells.{Spells}
 use Rattle.wire_codec.specs.TakingLaws.{OneReading}
 use Rattle.wire_codec.specs.ValueMap.{sint64}
@@ -14,6 +14,7 @@ use Rattle.wire_samples.specs.Node.{NodeValue, default_node, or_default, child_o
 use Rattle.wire_samples.specs.Node.{unknown_of, with_value, with_child, with_another, with_group}
 use Rattle.wire_samples.specs.Node.{with_unknown, IsOther}
 use Rattle.wire_samples.specs.NodeSteps.{NodeTakes, value, child, another, grouped, unknown}
+use Rattle.wire_samples.specs.NodeSteps.{another_charge}
 use Rattle.wire_samples.specs.NodeSteps.{NodeMerges, merged, NodeFolds, no_more, one_more}
 
 -- ---- by the number
@@ -44,14 +45,11 @@ pub record TakesGrouped (m : NodeValue) (p : Payload) (c : Charge) (z : NodeValu
   pub charged : c ≡ nested inside
   pub is : z ≡ with_group m after
 
-abbrev pub child_charge : Charge → Charge
-child_charge inside = both (element_of 64) (nested inside)
-
 abbrev pub TakesChild : NodeValue → Payload → Charge → NodeValue → Type 0
 TakesChild m = TakesMessage (or_default (child_of m)) nested (with_child m)
 
 abbrev pub TakesAnother : NodeValue → Payload → Charge → NodeValue → Type 0
-TakesAnother m = TakesMessage default_node child_charge (with_another m)
+TakesAnother m = TakesMessage default_node another_charge (with_another m)
 
 pub at_value : {m z : NodeValue} {n : ℕ} {p : Payload} {c : Charge} → n ≡ 1
     → NodeTakes m n p c z → TakesValue m p c z
@@ -177,7 +175,7 @@ module _ (reading : OneReading) where
         (λ e. ap (λ (x : NodeValue). or_default (child_of x)) e) charged h.charged z_is h.is
     takes_agree (another b inside after n_is p_is k charged z_is) j =
         let h = at_another n_is j in
-        outside child_charge with_another _ h.after
+        outside another_charge with_another _ h.after
         (merges_agree k h.merged (one_bytes (sym p_is ∙ h.payload))) (λ e. refl) charged h.charged
         z_is h.is
     takes_agree (grouped fs inside after n_is p_is k charged z_is) j =

@@ -1,7 +1,8 @@
 -- What a `Node` makes of a record.
-use Rattle.std.specs.Prelude.{◌≡◌, ◌≤◌, ℤ, ℕ, List, length}
+use Rattle.std.specs.Prelude.{◌≡◌, ◌↔◌, ◌≤◌, ℤ, ℕ, List, length}
 use Rattle.wire_codec.specs.Charge.{payload_charge}
 use Rattle.wire_codec.specs.Field.{Payload, bytes, group, Fields, none, field, push}
+use Rattle.wire_codec.specs.Folds.{Folds}
 use Rattle.wire_codec.specs.Limits.{Charge, no_charge, both, nested, element_of}
 use Rattle.wire_codec.specs.Spells.{Spells}
 use Rattle.wire_samples.specs.FieldSteps.{SetsSint64}
@@ -9,10 +10,13 @@ use Rattle.wire_samples.specs.Node.{NodeValue, default_node, or_default, child_o
 use Rattle.wire_samples.specs.Node.{unknown_of, with_value, with_child, with_another, with_group}
 use Rattle.wire_samples.specs.Node.{with_unknown, IsOther}
 
+-- the charge of one of the children: 64 bytes of element memory, and what it takes, one level down
+abbrev pub another_charge : Charge → Charge
+another_charge inside = both (element_of 64) (nested inside)
+
 mutual
-  -- A record of a number that the type knows is for that field, and another is kept and charged. A
-  -- node that is embedded, or stands in a group, is charged for what it takes, one level down; and
-  -- each of the children takes 64 bytes.
+  -- A record of a number that the type knows is for that field, and any other is kept and charged.
+  -- A node that is embedded, or stands in a group, is charged for what it takes, one level down.
   pub data NodeTakes : NodeValue → ℕ → Payload → Charge → NodeValue → Type 0 where
     value : {m : NodeValue} {n : ℕ} {p : Payload} {c : Charge} {z : NodeValue}
         (v : ℤ) → n ≡ 1 → SetsSint64 p v → c ≡ no_charge → z ≡ with_value m v
@@ -25,7 +29,7 @@ mutual
     another : {m : NodeValue} {n : ℕ} {p : Payload} {c : Charge} {z : NodeValue}
         (b : List ℕ) (inside : Charge) (after : NodeValue) → n ≡ 3 → p ≡ bytes b
         → NodeMerges default_node b inside after
-        → c ≡ both (element_of 64) (nested inside) → z ≡ with_another m after
+        → c ≡ another_charge inside → z ≡ with_another m after
         → NodeTakes m n p c z
     grouped : {m : NodeValue} {n : ℕ} {p : Payload} {c : Charge} {z : NodeValue}
         (fs : Fields) (inside : Charge) (after : NodeValue) → n ≡ 4 → p ≡ group fs
@@ -50,3 +54,9 @@ mutual
         (n : ℕ) (p : Payload) (others : Fields) (mid : NodeValue) (first rest : Charge)
         → fs ≡ field n p others → NodeTakes m n p first mid → NodeFolds mid others rest z
         → c ≡ both first rest → NodeFolds m fs c z
+
+-- what a node takes one after another is the fold of its step
+abbrev pub NodesFoldByTheirStep : Type 0
+NodesFoldByTheirStep =
+    (m : NodeValue) (fs : Fields) (c : Charge) (z : NodeValue)
+    → NodeFolds m fs c z ↔ Folds NodeTakes m fs c z

@@ -1,4 +1,5 @@
-//! Message types as a compiler of schemas would write them, proved to encode what they say.
+//! Message types as a compiler of schemas would write them, proved to encode and to decode what
+//! they say.
 #![tactic(auto)]
 
 mod fields;

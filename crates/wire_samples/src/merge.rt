@@ -23,8 +23,8 @@ use wire_codec::{
 pub(crate) fn merge_int32<B: Buf>(tag: Tag, value: &mut i32, buf: &mut B) -> Result<(), DecodeError>
     ensures ok { OnOk result (ReadsField (tag_number tag) (tag_type tag)
         (λ p. SetsInt32 p value.new) (B.unread buf.old) (B.unread buf.new)) }
-    ensures err { IfErr result (λ e. e ≢ OutOfMemory
-        → NoField (tag_number tag) (tag_type tag) SetsInt32 (B.unread buf.old)) }
+    ensures err { OnErr result
+        (NoField (tag_number tag) (tag_type tag) SetsInt32 (B.unread buf.old)) }
     ensures kept { B.kept buf.new ≡ B.kept buf.old }
 {
     laws::grammar::no_varint_beside_fault();
@@ -41,8 +41,8 @@ pub(crate) fn merge_sint64<B: Buf>(
 ) -> Result<(), DecodeError>
     ensures ok { OnOk result (ReadsField (tag_number tag) (tag_type tag)
         (λ p. SetsSint64 p value.new) (B.unread buf.old) (B.unread buf.new)) }
-    ensures err { IfErr result (λ e. e ≢ OutOfMemory
-        → NoField (tag_number tag) (tag_type tag) SetsSint64 (B.unread buf.old)) }
+    ensures err { OnErr result
+        (NoField (tag_number tag) (tag_type tag) SetsSint64 (B.unread buf.old)) }
     ensures kept { B.kept buf.new ≡ B.kept buf.old }
 {
     laws::grammar::no_varint_beside_fault();

@@ -1,4 +1,5 @@
-//! A node from bytes: records, embedded messages and groups.
+//! A node from bytes: records, embedded messages and groups. Its loops stand beside the trait's
+//! calls, since a cycle of calls through a type's own impl has no proof.
 ghost use Rattle.std.specs.Prelude.{◌≡◌, ◌≢◌, ◌-◌, ◌^◌, ◌<◌, [], ◌∷◌, ◌++◌, OnOk, OnErr, IfOk, IfErr};
 ghost use Rattle.wire_codec.specs.DecodeError.TheVariants.{OutOfMemory};
 ghost use Rattle.wire_codec.specs.Limits.{Charge, NoCountGrew, left_after, outer};

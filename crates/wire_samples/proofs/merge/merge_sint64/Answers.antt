@@ -9,7 +9,7 @@ pub returns-in_err-value-clause-err : goal.returns-in_err-value-clause-err
 returns-in_err-value-clause-err g c =
     let p = err_from_is_err_and c.from_residual-in_err-value.result
     c.from_residual-in_err-value.ensures.1 in
-    rw (p.1, p.2) (λ other. no_varint_field c.no_varint_beside_fault.ensures _ _ SetsSint64 _ _
+    rw (p.1) (no_varint_field c.no_varint_beside_fault.ensures _ _ SetsSint64 _ _
     c.in_ok-check_wire_type.ensures.ok c.in_err-value.ensures.fault)
 
 pub returns-clause-ok : goal.returns-clause-ok

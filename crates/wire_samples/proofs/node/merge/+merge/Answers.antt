@@ -142,7 +142,7 @@ merge_record-returns-in-1-clause-ok g t c =
 pub merge_record-returns-in-1-clause-err : goal.merge_record-returns-in-1-clause-err
 merge_record-returns-in-1-clause-err g t c =
     IfErr-weaker c.merge_sint64.result _ _ (λ e none other. no_value _ _ _ _ _
-    (sym c.field_number.ensures.number ∙ c.in-1.is) (none other)) c.merge_sint64.ensures.err
+    (sym c.field_number.ensures.number ∙ c.in-1.is) none) c.merge_sint64.ensures.err
 
 pub merge_record-returns-in_default-clause-ok : goal.merge_record-returns-in_default-clause-ok
 merge_record-returns-in_default-clause-ok g t c =

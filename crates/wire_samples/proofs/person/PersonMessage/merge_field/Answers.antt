@@ -14,7 +14,7 @@ returns-in-1-clause-ok g c =
 pub returns-in-1-clause-err : goal.returns-in-1-clause-err
 returns-in-1-clause-err g c =
     IfErr-weaker c.merge_int32.result _ _ (λ e none other. no_id _ _ _ (value_of c.args.self.now) _
-    (sym c.field_number.ensures.number ∙ c.in-1.is) (none other)) c.merge_int32.ensures.err
+    (sym c.field_number.ensures.number ∙ c.in-1.is) none) c.merge_int32.ensures.err
 
 pub returns-in-2-clause-ok : goal.returns-in-2-clause-ok
 returns-in-2-clause-ok g c =
