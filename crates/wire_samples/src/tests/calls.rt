@@ -1,4 +1,5 @@
 //! Each call that encodes or decodes, once with success, for each type.
+use super::node::{FAMILY, family};
 use super::{Found, HI, Stop, found_in, hi};
 use crate::repeat::Repeat;
 use std::alloc::Global;
@@ -60,11 +61,16 @@ fn two_passes<M: Message>(alloc: Global, message: &M, text: &[u8]) -> Result<boo
 }
 
 // The calls that decode, each over the whole text.
-fn decoding_calls<M: Message>(alloc: Global, message: &M, text: &[u8]) -> Result<bool, Stop> {
+fn decoding_calls<M: Message>(
+    alloc: Global,
+    message: &M,
+    text: &[u8],
+    levels: u32,
+) -> Result<bool, Stop> {
     let (mut decoded, mut merged) = (text, text);
     let first = M::decode(alloc, &mut decoded)?;
     let mut second = M::default_value(alloc);
-    second.merge(alloc, &mut merged, &mut DecodeContext::new(0, 0))?;
+    second.merge(alloc, &mut merged, &mut DecodeContext::new(levels, 0))?;
     let mut third = M::default_value(alloc);
     third.merge_from_slice(alloc, text)?;
     Ok(
@@ -97,10 +103,65 @@ fn limited_calls<M: Message>(alloc: Global, message: &M, text: &[u8]) -> Result<
     )
 }
 
+// The calls over a message behind its length, each of which leaves the byte that follows.
+fn delimited_calls<M: Message>(
+    alloc: Global,
+    message: &M,
+    text: &[u8],
+    levels: u32,
+) -> Result<bool, Stop> {
+    let mut bytes = Vec::new(alloc);
+    message.try_encode_length_delimited(alloc, &mut bytes)?;
+    bytes.push(0xff)?;
+    let bytes = bytes.as_slice();
+    let (mut decoded, mut limited, mut embedded, mut merged) = (bytes, bytes, bytes, bytes);
+    let first = M::decode_length_delimited(alloc, &mut decoded)?;
+    let second: M = DecodeOptions::new().decode_length_delimited(alloc, &mut limited)?;
+    let mut third = M::default_value(alloc);
+    let mut outer = DecodeContext::new(levels.saturating_add(1), 0);
+    third.merge_length_delimited(alloc, &mut embedded, &mut outer)?;
+    let mut fourth = M::default_value(alloc);
+    let mut inner = DecodeContext::new(levels, 0);
+    fourth.merge_delimited(alloc, &mut merged, &mut inner, text.len())?;
+    Ok(
+        first == *message
+            && second == *message
+            && third == *message
+            && fourth == *message
+            && outer.depth() == levels.saturating_add(1)
+            && inner.depth() == levels
+            && [decoded, limited, embedded, merged]
+                .iter()
+                .all(|rest| *rest == b"\xff".as_slice()),
+    )
+}
+
+// The body of a group, its end tag, and a byte that is left.
+fn group_calls<M: Message>(
+    alloc: Global,
+    message: &M,
+    text: &[u8],
+    levels: u32,
+) -> Result<bool, Stop> {
+    let mut bytes = Vec::new(alloc);
+    bytes.extend_from_slice(text)?;
+    bytes.extend_from_slice(b"\x24\xff")?;
+    let mut rest = bytes.as_slice();
+    let mut found = M::default_value(alloc);
+    let mut outer = DecodeContext::new(levels.saturating_add(1), 0);
+    found.merge_group(alloc, &mut rest, &mut outer, 4)?;
+    Ok(found == *message && outer.depth() == levels.saturating_add(1) && rest == b"\xff".as_slice())
+}
+
 // The first record by hand, and the others up to a place.
-fn record_calls<M: Message>(alloc: Global, message: &M, text: &[u8]) -> Result<bool, Stop> {
+fn record_calls<M: Message>(
+    alloc: Global,
+    message: &M,
+    text: &[u8],
+    levels: u32,
+) -> Result<bool, Stop> {
     let mut buf = text;
-    let mut context = DecodeContext::new(0, 0);
+    let mut context = DecodeContext::new(levels, 0);
     let mut found = M::default_value(alloc);
     let tag = Tag::decode(&mut buf)?;
     found.merge_field(alloc, tag, &mut buf, &mut context)?;
@@ -108,19 +169,35 @@ fn record_calls<M: Message>(alloc: Global, message: &M, text: &[u8]) -> Result<b
     Ok(found == *message && buf.is_empty())
 }
 
-fn all_calls<M: Message>(alloc: Global, message: &M, text: &[u8]) -> Result<bool, Stop> {
+// A cleared value is a default one.
+fn clears<M: Message>(alloc: Global, text: &[u8]) -> Result<bool, Stop> {
+    let mut found = M::decode_from_slice(alloc, text)?;
+    found.clear();
+    Ok(found == M::default_value(alloc))
+}
+
+// A message, its text, and how many levels it takes.
+fn all_calls<M: Message>(
+    alloc: Global,
+    message: &M,
+    text: &[u8],
+    levels: u32,
+) -> Result<bool, Stop> {
     Ok(
         trying_calls(alloc, message, text)?
             && asking_calls(alloc, message, text)?
             && two_passes(alloc, message, text)?
-            && decoding_calls(alloc, message, text)?
+            && decoding_calls(alloc, message, text, levels)?
             && limited_calls(alloc, message, text)?
-            && record_calls(alloc, message, text)?,
+            && delimited_calls(alloc, message, text, levels)?
+            && group_calls(alloc, message, text, levels)?
+            && record_calls(alloc, message, text, levels)?
+            && clears::<M>(alloc, text)?,
     )
 }
 
 fn of_person(alloc: Global) -> Result<bool, Stop> {
-    all_calls(alloc, &hi(alloc)?, HI)
+    all_calls(alloc, &hi(alloc)?, HI, 0)
 }
 
 fn of_repeat(alloc: Global) -> Result<bool, Stop> {
@@ -128,11 +205,19 @@ fn of_repeat(alloc: Global) -> Result<bool, Stop> {
         times: 1,
         extra: true,
     };
-    all_calls(alloc, &message, b"\x08\x00\x10\x80\x01")
+    all_calls(alloc, &message, b"\x08\x00\x10\x80\x01", 0)
 }
 
-fn rows(alloc: Global) -> [Found; 2] {
-    [found_in(of_person(alloc)), found_in(of_repeat(alloc))]
+fn of_node(alloc: Global) -> Result<bool, Stop> {
+    all_calls(alloc, &family(alloc)?, FAMILY, 1)
+}
+
+fn rows(alloc: Global) -> [Found; 3] {
+    [
+        found_in(of_person(alloc)),
+        found_in(of_repeat(alloc)),
+        found_in(of_node(alloc)),
+    ]
 }
 
 // With a refused allocation a row may find no memory, and never anything else.

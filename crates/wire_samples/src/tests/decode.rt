@@ -60,7 +60,7 @@ fn faults() -> [(&'static [u8], DecodeError); 10] {
     ]
 }
 
-fn mismatch(field_number: u32, expected: u8, actual: u8) -> DecodeError {
+pub(super) fn mismatch(field_number: u32, expected: u8, actual: u8) -> DecodeError {
     DecodeError::WireTypeMismatch {
         field_number,
         expected,

@@ -118,6 +118,22 @@ fn needs_a_level(alloc: Global) -> Result<bool, Stop> {
     )
 }
 
+// A length-delimited person is read, and the byte behind it is left.
+fn leaves_what_follows(alloc: Global) -> Result<bool, Stop> {
+    let bytes = b"\x02\x08\x01\xff".as_slice();
+    for place in 0..=bytes.len() {
+        let mut pieces = cut(alloc, bytes, place)?;
+        let person = Person::decode_length_delimited(alloc, &mut pieces)?;
+        let is_left = pieces.remaining() == 1 && pieces.chunk() == b"\xff".as_slice();
+        if person != with_id(alloc, 1) || !is_left {
+            return Ok(false);
+        }
+    }
+    let mut rest = bytes;
+    let person = Person::decode_length_delimited(alloc, &mut rest)?;
+    Ok(person == with_id(alloc, 1) && rest == b"\xff".as_slice())
+}
+
 // A length-delimited person is read at the level of the options, and is no longer than they allow.
 fn keeps_to_the_options(alloc: Global) -> Result<bool, Stop> {
     let options = DecodeOptions::new().with_recursion_limit(0);
@@ -133,9 +149,10 @@ fn keeps_to_the_options(alloc: Global) -> Result<bool, Stop> {
     )
 }
 
-fn calls(alloc: Global) -> [Found; 2] {
+fn calls(alloc: Global) -> [Found; 3] {
     [
         found_in(needs_a_level(alloc)),
+        found_in(leaves_what_follows(alloc)),
         found_in(keeps_to_the_options(alloc)),
     ]
 }

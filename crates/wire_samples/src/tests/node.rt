@@ -1,9 +1,12 @@
 //! Nodes, which hold nodes, in bytes that are whole or lie in two pieces.
+use super::decode::mismatch;
 use super::{Found, Stop, cut, found_in, refused};
 use crate::node::Node;
 use bytes::Buf;
 use std::alloc::Global;
-use wire_codec::{DecodeContext, DecodeError, DecodeOptions, Message, SizeCache, SizeCachePool};
+use wire_codec::{
+    DecodeContext, DecodeError, DecodeOptions, Message, MessageName, SizeCache, SizeCachePool,
+};
 
 // A node with a value alone.
 fn with_value(alloc: Global, value: i64) -> Node {
@@ -39,7 +42,7 @@ fn grouped(alloc: Global) -> Result<Node, Stop> {
 }
 
 // A child of value -3, children of values 0 and 1, and a group of value 0.
-fn family(alloc: Global) -> Result<Node, Stop> {
+pub(super) fn family(alloc: Global) -> Result<Node, Stop> {
     let mut node = parent(alloc, with_value(alloc, -3))?;
     node.children.push(with_value(alloc, 0))?;
     node.children.push(with_value(alloc, 1))?;
@@ -48,7 +51,7 @@ fn family(alloc: Global) -> Result<Node, Stop> {
 }
 
 // The text of that node.
-const FAMILY: &[u8] = b"\x12\x02\x08\x05\x1a\x00\x1a\x02\x08\x02\x23\x24";
+pub(super) const FAMILY: &[u8] = b"\x12\x02\x08\x05\x1a\x00\x1a\x02\x08\x02\x23\x24";
 
 // So many nodes, each the child of the one around it, and a default one inside.
 fn nodes(alloc: Global, levels: usize) -> Result<Node, Stop> {
@@ -187,7 +190,7 @@ fn ample_memory_reads_nodes(rt: HostRuntime) {
 // ---- refusing
 
 // Bytes of which no node is read, and why.
-fn faults() -> [(&'static [u8], DecodeError); 6] {
+fn faults() -> [(&'static [u8], DecodeError); 9] {
     [
         // Records that run past their payload, although their bytes are there: a number, a field
         // that the type does not know, an embedded message, and a group.
@@ -199,14 +202,10 @@ fn faults() -> [(&'static [u8], DecodeError); 6] {
         ),
         (b"\x12\x01\x23\x24", DecodeError::UnexpectedEof),
         (b"\x23\x08\x05\x1c", DecodeError::InvalidEndGroup(3)),
-        (
-            b"\x0d\x00\x00\x00\x00",
-            DecodeError::WireTypeMismatch {
-                field_number: 1,
-                expected: 0,
-                actual: 5,
-            },
-        ),
+        (b"\x0d\x00\x00\x00\x00", mismatch(1, 0, 5)),
+        (b"\x10\x00", mismatch(2, 2, 0)),
+        (b"\x18\x00", mismatch(3, 2, 0)),
+        (b"\x22\x00", mismatch(4, 3, 2)),
     ]
 }
 
@@ -284,7 +283,7 @@ fn limit_rows(alloc: Global) -> [Found; 6] {
 
 // With a refused allocation a row may find no memory, and never anything else.
 #[test]
-fn no_node_is_read_or_memory_lacks(rt: HostRuntime) {
+fn nodes_are_refused_or_lack_memory(rt: HostRuntime) {
     for (bytes, error) in faults() {
         let found = found_in(refuses(rt.alloc(), bytes, &error));
         assert_ne!(rt; found, Found::Other, "{bytes:?}");
@@ -353,7 +352,7 @@ fn deep_rows(alloc: Global, place: usize) -> [Found; 4] {
 
 // With a refused allocation a row may find no memory, and never anything else.
 #[test]
-fn levels_are_counted_or_memory_lacks(rt: HostRuntime) {
+fn levels_are_counted_or_lack_memory(rt: HostRuntime) {
     assert!(rt;
         deep_rows(rt.alloc(), 1)
             .iter()
@@ -450,4 +449,12 @@ fn ample_memory_writes_nodes(rt: HostRuntime) {
             .iter()
             .all(|found| *found == Found::Own)
     );
+}
+
+#[test]
+fn the_type_has_its_names(rt: HostRuntime) {
+    assert_eq!(rt; Node::PACKAGE, "wire.samples");
+    assert_eq!(rt; Node::NAME, "Node");
+    assert_eq!(rt; Node::FULL_NAME, "wire.samples.Node");
+    assert_eq!(rt; Node::TYPE_URL, "type.googleapis.com/wire.samples.Node");
 }
