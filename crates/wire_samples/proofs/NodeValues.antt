@@ -131,7 +131,8 @@ module _ (n : Node) where
       → nodes.items ≡ (out-Node n).children.items ++ fresh ∷ []
       → get_or (out-Node (with_nodes nodes)).children.items index other ≡ fresh
   last_is nodes fresh other index at is =
-      rw (out-roll-Node (layer nodes), is, at) (get_or-append_seam (out-Node n).children.items fresh [] other)
+      rw (out-roll-Node (layer nodes), is, at)
+      (get_or-append_seam (out-Node n).children.items fresh [] other)
 
   -- and is merged into, where it stands
   pub last_set : (nodes : Vec Node Global) (fresh after : Node) (index : ℕ)

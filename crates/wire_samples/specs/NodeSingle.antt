@@ -171,7 +171,8 @@ module _ (reading : OneReading) where
         )
     takes_agree (child b inside after n_is p_is k charged z_is) j =
         let h = at_child n_is j in
-        outside nested with_child _ h.after (merges_agree k h.merged (one_bytes (sym p_is ∙ h.payload)))
+        outside nested with_child _ h.after
+        (merges_agree k h.merged (one_bytes (sym p_is ∙ h.payload)))
         (λ e. ap (λ (x : NodeValue). or_default (child_of x)) e) charged h.charged z_is h.is
     takes_agree (another b inside after n_is p_is k charged z_is) j =
         let h = at_another n_is j in
@@ -180,7 +181,8 @@ module _ (reading : OneReading) where
         z_is h.is
     takes_agree (grouped fs inside after n_is p_is k charged z_is) j =
         let h = at_group n_is j in
-        outside nested with_group _ h.after (folds_agree k h.folded (one_group (sym p_is ∙ h.payload)))
+        outside nested with_group _ h.after
+        (folds_agree k h.folded (one_group (sym p_is ∙ h.payload)))
         (λ e. ap (λ (x : NodeValue). or_default (group_of x)) e) charged h.charged z_is h.is
     takes_agree (unknown other charged z_is) j =
         let h = at_other other j in (charged ∙ sym h.0, λ e. same_kept _ _ _ _ e z_is h.1)
@@ -188,7 +190,8 @@ module _ (reading : OneReading) where
     merges_agree : {m other z w : NodeValue} {a b : List ℕ} {c d : Charge}
         → NodeMerges m a c z → NodeMerges other b d w → a ≡ b → Agree c d m other z w
     merges_agree (merged fs short spelled k) (merged gs others_short other_spelled j) same =
-        folds_agree k j (reading.records fs gs _ spelled (subst (Spells gs) (sym same) other_spelled))
+        folds_agree k j
+        (reading.records fs gs _ spelled (subst (Spells gs) (sym same) other_spelled))
 
     folds_agree : {m other z w : NodeValue} {fs gs : Fields} {c d : Charge}
         → NodeFolds m fs c z → NodeFolds other gs d w → fs ≡ gs → Agree c d m other z w
@@ -201,8 +204,8 @@ module _ (reading : OneReading) where
         (no_more none_is charged is) same =
         absurd (cc)
     folds_agree (one_more n p others mid first rest some step more sum)
-        (one_more k q gs other_mid other_first other_rest other_some other_step other_more other_sum)
-        same =
+        (one_more k q gs other_mid other_first other_rest other_some other_step other_more
+        other_sum) same =
         let head = same_head (sym some ∙ same ∙ other_some) in
         let here = takes_agree step (as_taken (sym head.0) (sym head.1) other_step) in
         let there = folds_agree more other_more head.2 in (

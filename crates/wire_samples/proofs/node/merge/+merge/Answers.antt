@@ -249,7 +249,8 @@ merge_another-returns-clause-ok g t c =
     let merge = c.merge_payload in
     let fresh : default_node ≡ value_of c.index_mut.result.now =
     sym (ap value_of (c.index_mut.ensures.value ∙ last_is c.args.node.now _ _ _ _
-    (c.len-index.ensures ∙ (out-Node c.args.node.now).children.ok.0) c.in_ok-push.ensures.ok) ∙ c.empty.ensures) in
+    (c.len-index.ensures ∙ (out-Node c.args.node.now).children.ok.0) c.in_ok-push.ensures.ok)
+    ∙ c.empty.ensures) in
     on_ok_weaker merge.result (λ taken.
     let inside : IsCharged c.register_element_memory.new.self merge.new.context (λ c'.
     TakesEmbedded NodeTakes c.register_element_memory.new.self default_node
@@ -268,7 +269,8 @@ pub merge_another-returns-clause-err : goal.merge_another-returns-clause-err
 merge_another-returns-clause-err g t c =
     let fresh : default_node ≡ value_of c.index_mut.result.now =
     sym (ap value_of (c.index_mut.ensures.value ∙ last_is c.args.node.now _ _ _ _
-    (c.len-index.ensures ∙ (out-Node c.args.node.now).children.ok.0) c.in_ok-push.ensures.ok) ∙ c.empty.ensures) in
+    (c.len-index.ensures ∙ (out-Node c.args.node.now).children.ok.0) c.in_ok-push.ensures.ok)
+    ∙ c.empty.ensures) in
     IfErr-weaker c.merge_payload.result _ _ (λ e none other. no_another _ _ _ _ _
     c.delimited_is_read.ensures.whole c.limits_add_up.ensures c.levels_and_counts.ensures.levels
     _ c.requires c.in_ok-register_element_memory.ensures.ok
