@@ -3,6 +3,7 @@ pub mod DelimitedLaws
 pub mod FaultLaws
 pub mod FieldLaws
 pub mod FromFront
+pub mod InPlace
 pub mod JoinedLaws
 pub mod LimitsLaws
 pub mod ListLaws

@@ -170,7 +170,7 @@ ReadSoFar-ends old now rest v count b so_far e low few fits = record {
 }
 
 -- a digit above what is below p
-digit_below : (v d p : ℕ) → v < p → d < 128 → v + d * p < 128 * p
+pub digit_below : (v d p : ℕ) → v < p → d < 128 → v + d * p < 128 * p
 digit_below v d p low high =
     let most : d * p ≤ 127 * p = mul-le-mul_right p (omega arith) in omega arith
 

@@ -10,6 +10,7 @@ pub mod FieldsEq
 pub mod FieldsEqLaws
 pub mod Filtered
 pub mod Fixed
+pub mod InPlace
 pub mod InRange
 pub mod Limits
 pub mod LimitsLaws

@@ -60,6 +60,7 @@ pub(crate) fn skip_bytes<B: Buf>(buf: &mut B, len: u64) -> Result<(), DecodeErro
 }
 
 /// Copies so many bytes, which are there, into a vector of just their size.
+#[inline(always)]
 pub fn take_bytes<B: Buf>(alloc: Global, buf: &mut B, len: usize) -> Result<Vec<u8>, AllocError>
     requires there { len ≤ length (B.unread buf.old) }
     ensures ok { IfOk result (λ bytes. bytes.items ≡ take len (B.unread buf.old)) }

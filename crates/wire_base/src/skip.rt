@@ -16,6 +16,7 @@ use crate::varint::decode_varint;
 use bytes::Buf;
 
 /// Passes over the payload of a tag that was read, in which groups nest at most 100 deep.
+#[inline(always)]
 pub fn skip_field<B: Buf>(tag: Tag, buf: &mut B) -> Result<(), DecodeError>
     ensures ok { OnOk result ((p : Payload) × TakesPayload (payload_charge p) (uncounted 100)
         (tag_number tag) (tag_type tag) p (B.unread buf.old) (B.unread buf.new)) }
@@ -28,6 +29,7 @@ pub fn skip_field<B: Buf>(tag: Tag, buf: &mut B) -> Result<(), DecodeError>
 
 /// Passes over the payload of a tag that was read, in which groups nest at most so deep.
 #[cycle(skip)]
+#[inline(always)]
 pub fn skip_field_depth<B: Buf>(tag: Tag, buf: &mut B, depth: u32) -> Result<(), DecodeError>
     ensures ok { OnOk result ((p : Payload) × TakesPayload (payload_charge p) (uncounted depth)
         (tag_number tag) (tag_type tag) p (B.unread buf.old) (B.unread buf.new)) }
@@ -59,6 +61,7 @@ pub fn skip_field_depth<B: Buf>(tag: Tag, buf: &mut B, depth: u32) -> Result<(),
 
 // Passes over the body of a group of this number, its end tag too.
 #[cycle(skip)]
+#[inline(never)]
 fn skip_group<B: Buf>(number: u32, buf: &mut B, depth: u32) -> Result<(), DecodeError>
     ensures ok { OnOk result ((fs : Fields) × TakesUntil (charge fs) (uncounted depth)
         (by_tag number) fs (B.unread buf.old) (B.unread buf.new)) }

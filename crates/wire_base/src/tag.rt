@@ -97,6 +97,7 @@ impl Tag {
     }
 
     /// Writes the shortest text of the tag.
+    #[inline(always)]
     pub fn encode<S: EncodeSink>(&self, sink: &mut S) -> Result<(), EncodeError>
         ensures ok { OnOk result (S.bytes_of sink.new
             ≡ S.bytes_of sink.old ++ tag_text (tag_number self.now) (tag_type self.now)) }

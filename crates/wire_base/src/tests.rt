@@ -1,4 +1,5 @@
 //! Worked rows. Each is a check that can be run while memory is refused, too.
+mod chunks;
 mod errors;
 mod tags;
 mod unknown;

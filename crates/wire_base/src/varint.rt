@@ -5,6 +5,9 @@ ghost use Rattle.wire_base.specs.Read.{Reads};
 ghost use Rattle.wire_base.specs.Sink.{KeepsFront, WriteAnswers};
 ghost use Rattle.wire_base.specs.Varint.{IsSpelling, VarintFault, shortest_varint};
 
+mod in_place;
+
+use self::in_place::{holds_varint, varint_at_front};
 use crate::encode_sink::EncodeSink;
 use crate::error::{DecodeError, EncodeError};
 use bytes::Buf;
@@ -31,21 +34,43 @@ pub fn encode_varint<S: EncodeSink>(value: u64, sink: &mut S) -> Result<(), Enco
     sink.put_u8(rest as u8)
 }
 
-/// Reads a varint, padded with zeros or not, from the front of the buffer. One of a single byte is
-/// read in place.
+/// Reads a varint, padded with zeros or not, from the front of the buffer. One of one byte or two is
+/// read at once.
 #[inline(always)]
 pub fn decode_varint<B: Buf>(buf: &mut B) -> Result<u64, DecodeError>
     ensures ok { IfOk result (λ v. Reads (B.unread buf.old) (IsSpelling v) (B.unread buf.new)) }
     ensures fault { IfErr result (VarintFault (B.unread buf.old)) }
     ensures kept { B.kept buf.new ≡ B.kept buf.old }
 {
-    if let Some(&byte) = buf.chunk().first() {
+    let chunk = buf.chunk();
+    if let Some(&byte) = chunk.first() {
         if byte < 0x80 {
             buf.advance(1);
             return Ok(u64::from(byte));
         }
+        if chunk.len() > 1 && chunk[1] < 0x80 {
+            let value = u64::from(byte % 0x80) + u64::from(chunk[1]) * 0x80;
+            buf.advance(2);
+            return Ok(value);
+        }
     }
-    decode_varint_slow(buf)
+    decode_long_varint(buf)
+}
+
+// Reads a varint at once where the first chunk has all of it, as its length or its last byte tells.
+#[inline(never)]
+fn decode_long_varint<B: Buf>(buf: &mut B) -> Result<u64, DecodeError>
+    ensures ok { IfOk result (λ v. Reads (B.unread buf.old) (IsSpelling v) (B.unread buf.new)) }
+    ensures fault { IfErr result (VarintFault (B.unread buf.old)) }
+    ensures kept { B.kept buf.new ≡ B.kept buf.old }
+{
+    let chunk = buf.chunk();
+    if !holds_varint(chunk) {
+        return decode_varint_slow(buf);
+    }
+    let (value, len) = varint_at_front(chunk)?;
+    buf.advance(len);
+    Ok(value)
 }
 
 // Reads a varint byte by byte.
@@ -74,7 +99,11 @@ fn decode_varint_slow<B: Buf>(buf: &mut B) -> Result<u64, DecodeError>
 pub fn count_varints(payload: &[u8]) -> usize
     ensures { result ≡ count_by (λ byte. nat_lt byte 128) payload.now }
 {
-    payload.iter().filter(|byte| **byte < 0x80).count()
+    let mut count = 0;
+    for byte in payload {
+        count += usize::from(*byte < 0x80);
+    }
+    count
 }
 
 // Takes the byte at the front, if there is one.

@@ -14,6 +14,7 @@ use crate::scalar::{Bool, Int32, Int64, Sint32, Sint64, Uint32, Uint64, VarintSc
 use wire_base::{EncodeError, EncodeSink, Tag, WireType, encode_varint, laws};
 
 /// Writes a field of type `int32`.
+#[inline(always)]
 pub fn put_int32_field<S: EncodeSink>(
     number: u32,
     value: i32,
@@ -31,6 +32,7 @@ pub fn put_int32_field<S: EncodeSink>(
 }
 
 /// Writes a field of type `int64`.
+#[inline(always)]
 pub fn put_int64_field<S: EncodeSink>(
     number: u32,
     value: i64,
@@ -48,6 +50,7 @@ pub fn put_int64_field<S: EncodeSink>(
 }
 
 /// Writes a field of type `uint32`.
+#[inline(always)]
 pub fn put_uint32_field<S: EncodeSink>(
     number: u32,
     value: u32,
@@ -65,6 +68,7 @@ pub fn put_uint32_field<S: EncodeSink>(
 }
 
 /// Writes a field of type `uint64`.
+#[inline(always)]
 pub fn put_uint64_field<S: EncodeSink>(
     number: u32,
     value: u64,
@@ -82,6 +86,7 @@ pub fn put_uint64_field<S: EncodeSink>(
 }
 
 /// Writes a field of type `sint32`.
+#[inline(always)]
 pub fn put_sint32_field<S: EncodeSink>(
     number: u32,
     value: i32,
@@ -99,6 +104,7 @@ pub fn put_sint32_field<S: EncodeSink>(
 }
 
 /// Writes a field of type `sint64`.
+#[inline(always)]
 pub fn put_sint64_field<S: EncodeSink>(
     number: u32,
     value: i64,
@@ -116,6 +122,7 @@ pub fn put_sint64_field<S: EncodeSink>(
 }
 
 /// Writes a field of type `bool`.
+#[inline(always)]
 pub fn put_bool_field<S: EncodeSink>(
     number: u32,
     value: bool,
@@ -133,6 +140,7 @@ pub fn put_bool_field<S: EncodeSink>(
 }
 
 /// Writes a field of type `fixed32`.
+#[inline(always)]
 pub fn put_fixed32_field<S: EncodeSink>(
     number: u32,
     value: u32,
@@ -153,6 +161,7 @@ pub fn put_fixed32_field<S: EncodeSink>(
 }
 
 /// Writes a field of type `fixed64`.
+#[inline(always)]
 pub fn put_fixed64_field<S: EncodeSink>(
     number: u32,
     value: u64,
@@ -173,6 +182,7 @@ pub fn put_fixed64_field<S: EncodeSink>(
 }
 
 /// Writes a field of type `sfixed32`.
+#[inline(always)]
 pub fn put_sfixed32_field<S: EncodeSink>(
     number: u32,
     value: i32,
@@ -190,6 +200,7 @@ pub fn put_sfixed32_field<S: EncodeSink>(
 }
 
 /// Writes a field of type `sfixed64`.
+#[inline(always)]
 pub fn put_sfixed64_field<S: EncodeSink>(
     number: u32,
     value: i64,
@@ -207,6 +218,7 @@ pub fn put_sfixed64_field<S: EncodeSink>(
 }
 
 /// Writes what stands before a length-delimited payload: its tag and its length.
+#[inline(always)]
 pub fn put_len_delimited_header<S: EncodeSink>(
     number: u32,
     len: u64,
@@ -224,6 +236,7 @@ pub fn put_len_delimited_header<S: EncodeSink>(
 }
 
 /// Writes the tag that begins a group.
+#[inline(always)]
 pub fn put_group_start<S: EncodeSink>(number: u32, sink: &mut S) -> Result<(), EncodeError>
     requires { IsFieldNumber number }
     ensures ok { OnOk result (S.bytes_of sink.new
@@ -236,6 +249,7 @@ pub fn put_group_start<S: EncodeSink>(number: u32, sink: &mut S) -> Result<(), E
 }
 
 /// Writes the tag that ends a group.
+#[inline(always)]
 pub fn put_group_end<S: EncodeSink>(number: u32, sink: &mut S) -> Result<(), EncodeError>
     requires { IsFieldNumber number }
     ensures ok { OnOk result (S.bytes_of sink.new
@@ -248,6 +262,7 @@ pub fn put_group_end<S: EncodeSink>(number: u32, sink: &mut S) -> Result<(), Enc
 }
 
 // Writes a tag, and a number behind it.
+#[inline(always)]
 fn put_varint<S: EncodeSink>(
     number: u32,
     wire_type: WireType,

@@ -9,6 +9,7 @@ ghost use Rattle.wire_text.specs.StringPayload.{IsString, StringFault};
 use wire_base::{DecodeError, decode_length};
 
 /// The bytes of a length-delimited payload. The slice then begins behind them.
+#[inline(always)]
 pub fn borrow_bytes<'a>(buf: &mut &'a [u8]) -> Result<&'a [u8], DecodeError>
     ensures ok { IfOk result (λ payload. Reads buf.old.now (IsDelimited payload.now) buf.new.now) }
     ensures fault { IfErr result (DelimitedFault None buf.old.now) }
@@ -23,6 +24,7 @@ pub fn borrow_bytes<'a>(buf: &mut &'a [u8]) -> Result<&'a [u8], DecodeError>
 
 /// The text of a length-delimited payload. The slice then begins behind it, also where the payload
 /// is not UTF-8.
+#[inline(always)]
 pub fn borrow_str<'a>(buf: &mut &'a [u8]) -> Result<&'a str, DecodeError>
     ensures ok { IfOk result (λ text. Reads buf.old.now (IsString text.now) buf.new.now) }
     ensures fault { IfErr result (StringFault buf.old.now) }

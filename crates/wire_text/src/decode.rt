@@ -13,6 +13,7 @@ use wire_base::{DecodeError, copy_bytes, decode_length, take_bytes};
 
 /// The bytes of a length-delimited payload, in a vector of just their size. Nothing is reserved
 /// before the bytes are known to be there.
+#[inline(always)]
 pub fn decode_bytes<B: Buf>(alloc: Global, buf: &mut B) -> Result<Vec<u8>, DecodeError>
     ensures ok { IfOk result (λ payload. Reads (B.unread buf.old)
         (IsDelimited payload.items) (B.unread buf.new)) }

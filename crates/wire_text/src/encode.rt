@@ -32,6 +32,7 @@ pub fn bytes_encoded_len(value: &[u8]) -> Result<usize, EncodeError>
 }
 
 /// Writes the length of a string and its UTF-8 bytes.
+#[inline(always)]
 pub fn encode_string<S: EncodeSink>(value: &str, sink: &mut S) -> Result<(), EncodeError>
     ensures ok { OnOk result (S.bytes_of sink.new
         ≡ S.bytes_of sink.old ++ delimited_text value.now) }
@@ -43,6 +44,7 @@ pub fn encode_string<S: EncodeSink>(value: &str, sink: &mut S) -> Result<(), Enc
 }
 
 /// Writes the length of the bytes, and the bytes.
+#[inline(always)]
 pub fn encode_bytes<S: EncodeSink>(value: &[u8], sink: &mut S) -> Result<(), EncodeError>
     ensures ok { OnOk result (S.bytes_of sink.new
         ≡ S.bytes_of sink.old ++ delimited_text value.now) }
@@ -57,6 +59,7 @@ pub fn encode_bytes<S: EncodeSink>(value: &[u8], sink: &mut S) -> Result<(), Enc
 }
 
 /// Writes a record with a string: its tag, its length and its UTF-8 bytes.
+#[inline(always)]
 pub fn put_string_field<S: EncodeSink>(
     number: u32,
     value: &str,
@@ -74,6 +77,7 @@ pub fn put_string_field<S: EncodeSink>(
 }
 
 /// Writes a record with bytes: its tag, their length and the bytes.
+#[inline(always)]
 pub fn put_bytes_field<S: EncodeSink>(
     number: u32,
     value: &[u8],

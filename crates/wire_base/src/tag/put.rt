@@ -8,6 +8,7 @@ use crate::error::EncodeError;
 use crate::varint::{encode_varint, varint_len};
 
 /// Writes the shortest text of a tag, also of a number that no field may have.
+#[inline(always)]
 pub(crate) fn put_tag<S: EncodeSink>(
     number: u32,
     wire_type: WireType,

@@ -70,6 +70,7 @@ impl UnknownFields {
 /// for itself and one for each field in its groups, and a level for each group and for each group
 /// in it.
 #[cycle(decode)]
+#[inline(always)]
 pub fn decode_unknown_field<B: Buf>(
     alloc: Global,
     tag: Tag,
@@ -99,6 +100,7 @@ pub fn decode_unknown_field<B: Buf>(
 
 // Reads a payload: its slot first, then what its wire type says.
 #[cycle(decode)]
+#[inline(always)]
 fn decode_value<B: Buf>(
     alloc: Global,
     tag: Tag,
@@ -136,6 +138,7 @@ fn decode_value<B: Buf>(
 
 // Reads the body of a group of this number, its end tag too.
 #[cycle(decode)]
+#[inline(never)]
 fn decode_group<B: Buf>(
     alloc: Global,
     number: u32,

@@ -1,0 +1,108 @@
+//! Varints of more than two bytes: in one chunk or two, and taken from one chunk in one step.
+use super::{Found, Stop, found_in};
+use crate::encode_sink::EncodeSink;
+use crate::error::DecodeError;
+use crate::rope::{Rope, RopeBuf};
+use crate::varint::decode_varint;
+use bytes::{Buf, Bytes};
+use std::alloc::Global;
+
+// Bytes, and what is read from all of them.
+fn readings() -> [(&'static [u8], Result<u64, DecodeError>); 8] {
+    let long = DecodeError::VarintTooLong;
+    [
+        (b"\xff\xff\xff\x7f", Ok((1 << 28) - 1)),
+        (b"\x80\x80\x80\x80\x01", Ok(1 << 28)),
+        (b"\xff\xff\xff\xff\xff\xff\xff\x7f", Ok((1 << 56) - 1)),
+        (b"\x80\x80\x80\x80\x80\x80\x80\x80\x01", Ok(1 << 56)),
+        (b"\x80\x80\x80\x80\x80\x80\x80\x80\x80\x01", Ok(1 << 63)),
+        (b"\x81\x80\x80\x80\x80\x80\x80\x80\x80\x00", Ok(1)),
+        (b"\x80\x80\x80\x80\x80\x80\x80\x80\x80\x80\x80", Err(long)),
+        (
+            b"\x80\x80\x80\x80\x80\x80\x80\x80\x80\x80\x01",
+            Err(DecodeError::VarintTooLong),
+        ),
+    ]
+}
+
+// A slice that counts the calls which take bytes from it.
+#[derive(Drop)]
+struct Counted<'a> {
+    bytes: &'a [u8],
+    advances: usize,
+}
+
+impl Buf for Counted<'_> {
+    ghost unread = { λ c. c.bytes.now };
+
+    fn remaining(&self) -> usize {
+        self.bytes.len()
+    }
+
+    fn chunk(&self) -> &[u8] {
+        self.bytes
+    }
+
+    fn advance(&mut self, cnt: usize) {
+        self.bytes = &self.bytes[cnt..];
+        self.advances = self.advances.saturating_add(1);
+    }
+}
+
+// A buffer whose chunks are two pieces of the bytes, or one where the other has no byte.
+fn cut(alloc: Global, bytes: &[u8], place: usize) -> Result<RopeBuf, Stop> {
+    let place = place.min(bytes.len());
+    let mut rope = Rope::with_min_segment(alloc, 1);
+    rope.put_shared(Bytes::copy_from_slice(alloc, &bytes[..place])?)?;
+    rope.put_shared(Bytes::copy_from_slice(alloc, &bytes[place..])?)?;
+    RopeBuf::from_rope(rope).or(Err(Stop::Memory))
+}
+
+fn reads(
+    alloc: Global,
+    bytes: &[u8],
+    place: usize,
+    answer: &Result<u64, DecodeError>,
+) -> Result<bool, Stop> {
+    let mut pieces = cut(alloc, bytes, place)?;
+    Ok(decode_varint(&mut pieces) == *answer && (answer.is_err() || pieces.remaining() == 0))
+}
+
+fn each_place(alloc: Global, bytes: &[u8], answer: &Result<u64, DecodeError>) -> Found {
+    for place in 0..=bytes.len() {
+        let found = found_in(reads(alloc, bytes, place, answer));
+        if found != Found::Own {
+            return found;
+        }
+    }
+    Found::Own
+}
+
+// With a refused allocation a row may find no memory, and never anything else.
+#[test]
+fn chunks_read_as_the_whole_or_lack_memory(rt: HostRuntime) {
+    for (bytes, answer) in readings() {
+        let found = each_place(rt.alloc(), bytes, &answer);
+        assert_ne!(rt; found, Found::Other, "{bytes:?}");
+    }
+}
+
+#[test]
+fn ample_memory_reads_chunks_as_the_whole(rt: HostRuntime) {
+    for (bytes, answer) in readings() {
+        let found = each_place(rt.alloc(), bytes, &answer);
+        assert_eq!(rt; found, Found::Own, "{bytes:?}");
+    }
+}
+
+#[test]
+fn a_varint_in_one_chunk_is_taken_in_one_step(rt: HostRuntime) {
+    for (bytes, answer) in readings() {
+        let mut buf = Counted { bytes, advances: 0 };
+        assert_eq!(rt; decode_varint(&mut buf), answer, "{bytes:?}");
+        if answer.is_ok() {
+            assert_eq!(rt; buf.remaining(), 0, "{bytes:?}");
+            assert_eq!(rt; buf.advances, 1, "{bytes:?}");
+        }
+    }
+}
