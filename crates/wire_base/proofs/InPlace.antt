@@ -1,9 +1,8 @@
 -- Varints that stand in a slice.
 use Rattle.std.proofs.Common.{◌≡◌, ℕ, zero, suc, ◌+◌, ◌*◌, ◌-◌, ◌%◌, ◌^◌, ◌<◌, ◌≤◌, inl, inr, List, [], ◌∷◌, ◌++◌, length, drop, get_or, sym, ap, ◌∙◌, subst, arith, append_assoc}
-use Rattle.std.specs.Int.Bits.{bit_or}
 use Rattle.std.proofs.lemmas.List.{append-nil, length-append, drop-append-le}
-use Rattle.std.proofs.lemmas.Nat.{shl_whole, pow-add}
-use Rattle.std.proofs.Math.Nat.{mod-lt, mul_assoc}
+use Rattle.std.proofs.lemmas.Nat.{pow-add}
+use Rattle.std.proofs.Math.Nat.{mod-lt, mul_assoc, add-mul, mul-le-mul_right}
 use Rattle.std.proofs.Math.Pow.{pow_mono}
 use Rattle.std.proofs.Common.{add-one, drop-cons, take, take-append-drop}
 use Rattle.wire_base.proofs.ReadLaws.{Reads-inside}
@@ -13,7 +12,7 @@ use Rattle.wire_base.specs.declared.error.DecodeError.TheVariants.{VarintTooLong
 use Rattle.wire_base.specs.Varint.{AllContinue, IsSpelling, VarintFault, too_long}
 use Rattle.wire_base.specs.Read.{Reads}
 use Rattle.wire_base.proofs.Varints.{ReadSoFar, ReadSoFar-more, ReadSoFar-ends, ReadSoFar-fits}
-use Rattle.wire_base.proofs.Varints.{or_shl, digit_below, value_of-below, ReadSoFar-tenth}
+use Rattle.wire_base.proofs.Varints.{digit_below, value_of-below, ReadSoFar-tenth}
 
 all_above : (bytes : List ℕ) (i : ℕ) → AllContinue bytes → i < length bytes → 128 ≤ get_or bytes i 0
 all_above [] i all there = absurd (omega (arith, there))
@@ -39,18 +38,37 @@ one_more_there bytes (b ∷ now) v count holds so_far few =
 
 -- ---- digits in numbers of 32 bits
 
--- a digit above count others, as the code joins it
-joined_digit : (v count b : ℕ) → v < 2 ^ (7 * count) → count ≤ 3
-    → bit_or v (b % 128 * 2 ^ (7 * count) % 2 ^ 32) ≡ v + b % 128 * 2 ^ (7 * count)
-joined_digit v count b below few =
-    let low : b % 128 < 2 ^ 7 = mod-lt b (omega arith) in
-    rw (shl_whole (b % 128) 7 (7 * count) 32 low (omega arith))
-    (or_shl (7 * count) v (b % 128) below)
+-- a byte as a digit among four fits
+pub digit_fits : (b place : ℕ) → b < 256 → place ≤ 3 → b * 2 ^ (7 * place) < 2 ^ 29
+digit_fits b place byte few =
+    let most : b * 2 ^ (7 * place) ≤ 255 * 2 ^ (7 * place) =
+    mul-le-mul_right (2 ^ (7 * place)) (omega (arith, byte)) in
+    let power : 2 ^ (7 * place) ≤ 2 ^ 21 = pow_mono {i = 7 * place} {j = 21} (omega (arith, few)) in
+    omega (arith, most, power)
+
+-- a byte that continues, with its digit added and the continuation bit taken off
+module _ (v b p : ℕ) (high : 128 ≤ b) where
+  pub continuation_there : 128 * p ≤ v + b * p
+  continuation_there =
+      let most : 128 * p ≤ b * p = mul-le-mul_right p high in
+      omega (arith, most)
+
+  pub continuation_off : b < 256 → v + b * p - 128 * p ≡ v + b % 128 * p
+  continuation_off byte =
+      let is : b ≡ b % 128 + 128 = omega (arith, high, byte) in
+      let product : b * p ≡ b % 128 * p + 128 * p = ap (λ c. c * p) is ∙ add-mul (b % 128) 128 p in
+      omega (arith, product)
+
+-- and the last byte has none
+pub last_digit : (v b p : ℕ) → b < 128 → v + b * p ≡ v + b % 128 * p
+last_digit v b p last =
+    let same : b ≡ b % 128 = omega (arith, last) in
+    ap (λ d. v + d * p) same
 
 -- with it there is one digit more
-digit_fits : (v count b new : ℕ) → v < 2 ^ (7 * count)
+digit_more : (v count b new : ℕ) → v < 2 ^ (7 * count)
     → new ≡ v + b % 128 * 2 ^ (7 * count) → new < 2 ^ (7 * (count + 1))
-digit_fits v count b new below is =
+digit_more v count b new below is =
     let all = digit_below v (b % 128) (2 ^ (7 * count)) below (mod-lt b (omega arith)) in
     let power : 2 ^ (7 * (count + 1)) ≡ 128 * 2 ^ (7 * count) =
     ap (λ k. 2 ^ k) (omega arith) ∙ pow-add 2 7 (7 * count) in
@@ -67,70 +85,50 @@ next_byte bytes i b there is = rw (is, add-one) (drop-cons bytes i 0 there)
 
 module _ (bytes : List ℕ) (b : ℕ) where
   -- the first four
-  low_joined : (low i new : ℕ) → ReadSoFar bytes (drop i bytes) low i → i ≤ 3
-      → new ≡ bit_or low (b % 128 * 2 ^ (7 * i) % 2 ^ 32) → new ≡ low + b % 128 * 2 ^ (7 * i)
-  low_joined low i new h few is = is ∙ joined_digit low i b (so_far_below bytes _ low i h) few
-
-  pub low_more : (low i new : ℕ) → ReadSoFar bytes (drop i bytes) low i → i ≤ 3
+  pub low_more : (low i new : ℕ) → ReadSoFar bytes (drop i bytes) low i
       → i < length bytes → b ≡ get_or bytes i 0 → 128 ≤ b
-      → new ≡ bit_or low (b % 128 * 2 ^ (7 * i) % 2 ^ 32)
+      → new ≡ low + b % 128 * 2 ^ (7 * i)
       → ReadSoFar bytes (drop (i + 1) bytes) new (i + 1)
-  low_more low i new h few there at high is =
-      rw (low_joined low i new h few is)
-      (ReadSoFar-more bytes _ _ low i b h (next_byte bytes i b there at) high)
+  low_more low i new h there at high is =
+      rw is (ReadSoFar-more bytes _ _ low i b h (next_byte bytes i b there at) high)
 
   pub low_ends : (low i new : ℕ) → ReadSoFar bytes (drop i bytes) low i → i ≤ 3
       → i < length bytes → b ≡ get_or bytes i 0 → b < 128
-      → new ≡ bit_or low (b % 128 * 2 ^ (7 * i) % 2 ^ 32)
+      → new ≡ low + b % 128 * 2 ^ (7 * i)
       → Reads bytes (IsSpelling new) (drop (i + 1) bytes)
   low_ends low i new h few there at last is =
-      rw (low_joined low i new h few is)
-      (ReadSoFar-ends bytes _ _ low i b h (next_byte bytes i b there at) last (omega (arith, few))
-      (ReadSoFar-fits bytes _ low i b h (omega (arith, few))))
+      rw is (ReadSoFar-ends bytes _ _ low i b h (next_byte bytes i b there at) last
+      (omega (arith, few)) (ReadSoFar-fits bytes _ low i b h (omega (arith, few))))
 
   -- the next four, above these
-  middle_joined : (middle i new : ℕ) → 4 ≤ i → i ≤ 7 → middle < 2 ^ (7 * (i - 4))
-      → new ≡ bit_or middle (b % 128 * 2 ^ (7 * (i - 4)) % 2 ^ 32)
-      → new ≡ middle + b % 128 * 2 ^ (7 * (i - 4))
-  middle_joined middle i new from few below is =
-      is ∙ joined_digit middle (i - 4) b below (omega (arith, few))
+  module _ (low middle i new : ℕ) (from : 4 ≤ i) (few : i ≤ 7)
+      (is : new ≡ middle + b % 128 * 2 ^ (7 * (i - 4))) where
+    middle_whole : low + new * 2 ^ 28 ≡ (low + middle * 2 ^ 28) + b % 128 * 2 ^ (7 * i)
+    middle_whole =
+        let p = 2 ^ (7 * (i - 4)) in
+        let power : 2 ^ (7 * i) ≡ p * 2 ^ 28 =
+        ap (λ k. 2 ^ k) (omega (arith, from)) ∙ pow-add 2 (7 * (i - 4)) 28 in
+        let whole : b % 128 * 2 ^ (7 * i) ≡ b % 128 * p * 2 ^ 28 =
+        ap (λ q. b % 128 * q) power ∙ sym (mul_assoc (b % 128) p (2 ^ 28)) in
+        omega (arith, is, whole)
 
-  middle_whole : (low middle i new : ℕ) → 4 ≤ i → i ≤ 7
-      → new ≡ middle + b % 128 * 2 ^ (7 * (i - 4))
-      → low + new * 2 ^ 28 ≡ (low + middle * 2 ^ 28) + b % 128 * 2 ^ (7 * i)
-  middle_whole low middle i new from few is =
-      let p = 2 ^ (7 * (i - 4)) in
-      let power : 2 ^ (7 * i) ≡ p * 2 ^ 28 =
-      ap (λ k. 2 ^ k) (omega (arith, from)) ∙ pow-add 2 (7 * (i - 4)) 28 in
-      let whole : b % 128 * 2 ^ (7 * i) ≡ b % 128 * p * 2 ^ 28 =
-      ap (λ q. b % 128 * q) power ∙ sym (mul_assoc (b % 128) p (2 ^ 28)) in
-      omega (arith, is, whole)
+    pub middle_fits : middle < 2 ^ (7 * (i - 4)) → new < 2 ^ (7 * (i + 1 - 4))
+    middle_fits below =
+        let same : i + 1 - 4 ≡ (i - 4) + 1 = omega (arith, from) in
+        rw same (digit_more middle (i - 4) b new below is)
 
-  pub middle_fits : (middle i new : ℕ) → 4 ≤ i → i ≤ 7 → middle < 2 ^ (7 * (i - 4))
-      → new ≡ bit_or middle (b % 128 * 2 ^ (7 * (i - 4)) % 2 ^ 32)
-      → new < 2 ^ (7 * (i + 1 - 4))
-  middle_fits middle i new from few below is =
-      let same : i + 1 - 4 ≡ (i - 4) + 1 = omega (arith, from) in
-      rw same (digit_fits middle (i - 4) b new below (middle_joined middle i new from few below is))
+    module _ (h : ReadSoFar bytes (drop i bytes) (low + middle * 2 ^ 28) i)
+        (there : i < length bytes) (at : b ≡ get_or bytes i 0) where
+      pub middle_more : 128 ≤ b → ReadSoFar bytes (drop (i + 1) bytes) (low + new * 2 ^ 28) (i + 1)
+      middle_more high =
+          rw middle_whole (ReadSoFar-more bytes _ _ (low + middle * 2 ^ 28) i b h
+          (next_byte bytes i b there at) high)
 
-  pub middle_more : (low middle i new : ℕ) → 4 ≤ i → i ≤ 7 → middle < 2 ^ (7 * (i - 4))
-      → ReadSoFar bytes (drop i bytes) (low + middle * 2 ^ 28) i
-      → i < length bytes → b ≡ get_or bytes i 0 → 128 ≤ b
-      → new ≡ bit_or middle (b % 128 * 2 ^ (7 * (i - 4)) % 2 ^ 32)
-      → ReadSoFar bytes (drop (i + 1) bytes) (low + new * 2 ^ 28) (i + 1)
-  middle_more low middle i new from few below h there at high is =
-      rw (middle_whole low middle i new from few (middle_joined middle i new from few below is))
-      (ReadSoFar-more bytes _ _ (low + middle * 2 ^ 28) i b h (next_byte bytes i b there at) high)
-
-  pub middle_ends : (low middle i new : ℕ) → 4 ≤ i → i ≤ 7 → middle < 2 ^ (7 * (i - 4))
-      → ReadSoFar bytes (drop i bytes) (low + middle * 2 ^ 28) i
-      → i < length bytes → b ≡ get_or bytes i 0 → b < 128
-      → new ≡ bit_or middle (b % 128 * 2 ^ (7 * (i - 4)) % 2 ^ 32)
-      → Reads bytes (IsSpelling (low + new * 2 ^ 28)) (drop (i + 1) bytes)
-  middle_ends low middle i new from few below h there at last is =
-      rw (middle_whole low middle i new from few (middle_joined middle i new from few below is))
-      (ReadSoFar-ends bytes _ _ (low + middle * 2 ^ 28) i b h (next_byte bytes i b there at) last
-      (omega (arith, few)) (ReadSoFar-fits bytes _ (low + middle * 2 ^ 28) i b h (omega (arith, few))))
+      pub middle_ends : b < 128 → Reads bytes (IsSpelling (low + new * 2 ^ 28)) (drop (i + 1) bytes)
+      middle_ends last =
+          rw middle_whole (ReadSoFar-ends bytes _ _ (low + middle * 2 ^ 28) i b h
+          (next_byte bytes i b there at) last (omega (arith, few))
+          (ReadSoFar-fits bytes _ (low + middle * 2 ^ 28) i b h (omega (arith, few))))
 
 -- at most four digits are below 2 ^ 28
 pub four_digits : (v i : ℕ) → v < 2 ^ (7 * (i - 4)) → i ≤ 8 → v < 2 ^ 28

@@ -1,5 +1,5 @@
 -- What is left of segments, once some bytes are read.
-use Rattle.std.proofs.Common.{◌≡◌, ℕ, ◌+◌, ◌-◌, ◌<◌, ◌≤◌, List, [], ◌∷◌, ◌++◌, length, drop, ap, sym, refl, ◌∙◌, ⊎_elim, arith, length-append, length-drop}
+use Rattle.std.proofs.Common.{◌≡◌, ℕ, ◌+◌, ◌-◌, ◌<◌, ◌≤◌, List, [], ◌∷◌, ◌++◌, length, drop, get_or, set, ap, sym, refl, ◌∙◌, ⊎_elim, arith, length-append, length-drop}
 use Rattle.std.proofs.lemmas.Bool.{cases_lt, lt-ltb, le-ltb}
 use Rattle.std.proofs.lemmas.List.{drop-append-le}
 use Rattle.std.proofs.lemmas.List.Elements.{All-head, All-tail, All-cons, All-same}
@@ -57,6 +57,12 @@ pub left_segments-none : (segments : List (List ℕ)) → AllFilled segments
 left_segments-none [] filled = refl
 left_segments-none (s ∷ segments) filled =
     left_segments-within 0 s segments (All-head (λ t. 0 < length t) s segments filled)
+
+-- a list whose first element was looked at, and is as it was, and the others
+pub first_looked_at : {T : Type 0} (xs : List T) (x : T) → 0 < length xs → x ≡ get_or xs 0 x
+    → xs ≡ x ∷ drop 1 (set xs 0 x)
+first_looked_at [] x some is = absurd (omega (arith, some))
+first_looked_at (y ∷ xs) x some is = ap (λ z. z ∷ xs) (sym is)
 
 -- what holds between the steps that read `all` bytes of old: so many are left to read, of the
 -- segments now

@@ -120,6 +120,18 @@ KeepsFront-longer old text new piece after is k =
       held = k.held;
     }
 
+-- what a refused write behind a first piece leaves is what one of the whole text leaves
+pub KeepsFront-behind : (old text now new piece after : List ℕ) → text ≡ piece ++ after
+    → now ≡ old ++ piece → KeepsFront now after new → KeepsFront old text new
+KeepsFront-behind old text now new piece after is at k =
+    record {
+      front = piece ++ k.front;
+      rest = k.rest;
+      parts = is ∙ ap (λ (t : List ℕ). piece ++ t) k.parts
+          ∙ sym (append_assoc piece k.front k.rest);
+      held = k.held ∙ ap (λ (t : List ℕ). t ++ k.front) at ∙ append_assoc old piece k.front;
+    }
+
 -- why a put within a longer write is refused
 pub refused_put : (bound : Option ℕ) (total : ℕ) (old text : List ℕ) (e : EncodeError)
     → total ≤ length old + length text → PutAnswers bound total (Err e)

@@ -1,10 +1,11 @@
 -- Elements of a packed payload, appended one after another.
-use Rattle.std.proofs.Common.{◌≡◌, ◌≢◌, ℕ, ◌+◌, ◌*◌, ◌%◌, List, [], ◌∷◌, ◌++◌, length, refl, sym, ap, ◌∙◌, append_assoc, arith}
+use Rattle.std.proofs.Common.{◌≡◌, ◌≢◌, ℕ, ◌+◌, ◌*◌, ◌%◌, ◌<◌, ◌≤◌, List, [], ◌∷◌, ◌++◌, length, refl, sym, ap, ◌∙◌, append_assoc, arith}
 use Rattle.std.proofs.Math.Nat.{mul-add-mod_self_left}
 use Rattle.std.proofs.lemmas.List.{append-nil, length-append}
 use Rattle.std.specs.Int.{Width, byte_len}
 use Rattle.std.specs.Prelude.{map}
 use Rattle.wire_base.specs.declared.error.DecodeError.{DecodeError}
+use Rattle.wire_base.specs.Read.{Reads}
 use Rattle.wire_base.specs.Varint.{IsSpelling, VarintFault}
 use Rattle.wire_scalar.specs.Packed.{SpellsEach, Appends, AppendsFront, StopsAtFault}
 use Rattle.wire_base.specs.Fixed.{IsFixed}
@@ -29,6 +30,34 @@ map-push : {T : Type 0} (f : ℕ → T) (xs : List ℕ) (x : ℕ)
     → map f (xs ++ x ∷ []) ≡ map f xs ++ f x ∷ []
 map-push f [] x = refl
 map-push f (y ∷ ys) x = ap (λ (t : List _). f y ∷ t) (map-push f ys x)
+
+-- ---- varints of one byte and of two
+
+pub one_byte : (bytes rest : List ℕ) (b : ℕ) → bytes ≡ b ∷ rest → b < 128
+    → Reads bytes (IsSpelling b) rest
+one_byte bytes rest b parts last = record {
+  text = b ∷ [];
+  parts = parts;
+  spelled = record {
+    ended = last;
+    at_most_ten = omega arith;
+    value = omega (arith, last);
+    fits = omega (arith, last);
+  };
+}
+
+pub two_bytes : (bytes rest : List ℕ) (a b : ℕ) → bytes ≡ a ∷ b ∷ rest → 128 ≤ a → b < 128
+    → Reads bytes (IsSpelling (a % 128 + b * 128)) rest
+two_bytes bytes rest a b parts high low = record {
+  text = a ∷ b ∷ [];
+  parts = parts;
+  spelled = record {
+    ended = (high, low);
+    at_most_ten = omega arith;
+    value = omega (arith, low);
+    fits = omega (arith, low);
+  };
+}
 
 -- the elements of the payload up to what is left stand in now behind before
 pub record Appended {T : Type 0} (IsText : ℕ → List ℕ

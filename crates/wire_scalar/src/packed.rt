@@ -1,17 +1,17 @@
 //! Lists of scalars in one payload.
-ghost use Rattle.std.specs.Prelude.{◌≡◌, ◌%◌, ◌++◌, ◌⊎◌, List, length, OnOk, OnErr, IfErr};
+ghost use Rattle.std.specs.Prelude.{◌≡◌, ◌%◌, ◌++◌, ◌⊎◌, List, length, OnOk, OnErr, IfOk, IfErr};
 ghost use Rattle.std.specs.Int.{byte_len, w32, w64};
 ghost use Rattle.wire_base.specs.declared.error.DecodeError.TheVariants.{OutOfMemory};
-ghost use Rattle.wire_base.specs.Varint.{IsSpelling};
+ghost use Rattle.wire_base.specs.Read.{Reads};
+ghost use Rattle.wire_base.specs.Varint.{IsSpelling, VarintFault};
 ghost use Rattle.wire_scalar.specs.Packed.{Appends, AppendsFront, FixedRefusal, StopsAtFault};
 ghost use Rattle.wire_base.specs.Fixed.{IsFixed};
 ghost use Rattle.wire_scalar.specs.ValueMap.{int32, int64, uint32, uint64, sint32, sint64, bool, fixed32, fixed64, sfixed32, sfixed64};
 
 use crate::fixed::{Fixed32, Fixed64, FixedScalar, Sfixed32, Sfixed64};
 use crate::scalar::{Bool, Int32, Int64, Sint32, Sint64, Uint32, Uint64, VarintScalar};
-use crate::varints::decode_as;
 use std::alloc::Global;
-use wire_base::DecodeError;
+use wire_base::{DecodeError, decode_varint};
 
 /// Appends the elements of a packed list of `int32`, up to the first that is no varint, with room
 /// for so many reserved first.
@@ -195,9 +195,33 @@ fn extend_as<T: VarintScalar>(
     out.reserve(reserve)?;
     let mut rest = payload;
     while !rest.is_empty() {
-        out.push(decode_as::<T, &[u8]>(&mut rest)?)?;
+        let (number, behind) = split_varint(rest)?;
+        out.push(T::value_of(number))?;
+        rest = behind;
     }
     Ok(())
+}
+
+// The number of the varint at the front, and the bytes behind it. One of one byte or two is read at
+// once.
+#[inline(always)]
+fn split_varint(bytes: &[u8]) -> Result<(u64, &[u8]), DecodeError>
+    ensures ok { IfOk result (λ read. Reads bytes.now (IsSpelling read.0) read.1.now) }
+    ensures fault { IfErr result (VarintFault bytes.now) }
+{
+    if let Some((&first, others)) = bytes.split_first() {
+        if first < 0x80 {
+            return Ok((u64::from(first), others));
+        }
+        if let Some((&second, behind)) = others.split_first() {
+            if second < 0x80 {
+                return Ok((u64::from(first % 0x80) + u64::from(second) * 0x80, behind));
+            }
+        }
+    }
+    let mut rest = bytes;
+    let number = decode_varint(&mut rest)?;
+    Ok((number, rest))
 }
 
 // Appends the elements, all or none.

@@ -86,14 +86,15 @@ fn drop_front(segments: &mut VecDeque<Bytes>, cnt: usize)
 {
     let mut left = cnt;
     while left > 0 {
-        let Some(mut first) = segments.pop_front() else {
+        let Some(first) = segments.front_mut() else {
             unreachable!()
         };
-        if left < first.len() {
+        let len = first.len();
+        if left < len {
             first.advance(left);
-            segments.push_front_reserved(first);
             return;
         }
-        left -= first.len();
+        segments.pop_front();
+        left -= len;
     }
 }

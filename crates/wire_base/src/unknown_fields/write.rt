@@ -2,7 +2,7 @@
 ghost use Rattle.std.specs.Prelude.{◌≡◌, ◌++◌, OnOk, OnErr};
 ghost use Rattle.wire_base.specs.Sink.{KeepsFront, WriteAnswers};
 ghost use Rattle.wire_base.specs.Field.{type_of};
-ghost use Rattle.wire_base.specs.Text.{text_of, payload_text, record_text};
+ghost use Rattle.wire_base.specs.Text.{text_of, record_text};
 ghost use Rattle.wire_base.specs.UnknownFields.{payload_of};
 
 use super::{UnknownField, UnknownFieldData, UnknownFields};
@@ -54,8 +54,31 @@ impl UnknownField {
         ensures cause { WriteAnswers S.most (S.bytes_of sink.old)
             (record_text self.now.number (payload_of self.now.value)) result }
     {
-        put_tag(self.number, self.value.wire_type(), sink)?;
-        self.value.write_to(self.number, sink)
+        let number = self.number;
+        match &self.value {
+            UnknownFieldData::Varint(value) => {
+                put_tag(number, WireType::Varint, sink)?;
+                encode_varint(*value, sink)
+            }
+            UnknownFieldData::Fixed64(value) => {
+                put_tag(number, WireType::Fixed64, sink)?;
+                sink.put_u64_le(*value)
+            }
+            UnknownFieldData::Fixed32(value) => {
+                put_tag(number, WireType::Fixed32, sink)?;
+                sink.put_u32_le(*value)
+            }
+            UnknownFieldData::LengthDelimited(bytes) => {
+                put_tag(number, WireType::LengthDelimited, sink)?;
+                encode_varint(bytes.len() as u64, sink)?;
+                sink.put_slice(bytes)
+            }
+            UnknownFieldData::Group(fields) => {
+                put_tag(number, WireType::StartGroup, sink)?;
+                fields.write_to(sink)?;
+                put_tag(number, WireType::EndGroup, sink)
+            }
+        }
     }
 }
 
@@ -70,31 +93,6 @@ impl UnknownFieldData {
             UnknownFieldData::Fixed32(_) => WireType::Fixed32,
             UnknownFieldData::LengthDelimited(_) => WireType::LengthDelimited,
             UnknownFieldData::Group(_) => WireType::StartGroup,
-        }
-    }
-
-    // Writes the shortest text of the payload of a record with this number.
-    #[cycle(write)]
-    fn write_to<S: EncodeSink>(&self, number: u32, sink: &mut S) -> Result<(), EncodeError>
-        ensures ok { OnOk result (S.bytes_of sink.new
-            ≡ S.bytes_of sink.old ++ payload_text number (payload_of self.now)) }
-        ensures err { OnErr result (KeepsFront (S.bytes_of sink.old)
-            (payload_text number (payload_of self.now)) (S.bytes_of sink.new)) }
-        ensures cause { WriteAnswers S.most (S.bytes_of sink.old)
-            (payload_text number (payload_of self.now)) result }
-    {
-        match self {
-            UnknownFieldData::Varint(value) => encode_varint(*value, sink),
-            UnknownFieldData::Fixed64(value) => sink.put_u64_le(*value),
-            UnknownFieldData::Fixed32(value) => sink.put_u32_le(*value),
-            UnknownFieldData::LengthDelimited(bytes) => {
-                encode_varint(bytes.len() as u64, sink)?;
-                sink.put_slice(bytes)
-            }
-            UnknownFieldData::Group(fields) => {
-                fields.write_to(sink)?;
-                put_tag(number, WireType::EndGroup, sink)
-            }
         }
     }
 }

@@ -30,18 +30,20 @@ pub(crate) fn varint_at_front(bytes: &[u8]) -> Result<(u64, usize), DecodeError>
     let mut low = 0u32;
     for index in 0..4usize {
         let byte = bytes[index];
-        low |= u32::from(byte % 0x80) << (7 * index);
+        low += digit(byte, index);
         if byte < 0x80 {
             return Ok((u64::from(low), index + 1));
         }
+        low -= digit(0x80, index);
     }
     let mut middle = 0u32;
     for index in 4..8usize {
         let byte = bytes[index];
-        middle |= u32::from(byte % 0x80) << (7 * (index - 4));
+        middle += digit(byte, index - 4);
         if byte < 0x80 {
             return Ok((joined(low, middle, 0), index + 1));
         }
+        middle -= digit(0x80, index - 4);
     }
     let ninth = bytes[8];
     if ninth < 0x80 {
@@ -53,6 +55,16 @@ pub(crate) fn varint_at_front(bytes: &[u8]) -> Result<(u64, usize), DecodeError>
     }
     let high = u32::from(ninth % 0x80) + u32::from(tenth) * 0x80;
     Ok((joined(low, middle, high), 10))
+}
+
+// A byte as a digit to the base 128 at a place among four.
+#[inline(always)]
+fn digit(byte: u8, place: usize) -> u32
+    requires { place ≤ 3 }
+    ensures value { result ≡ byte * 2 ^ (7 * place) }
+    ensures bound { result < 2 ^ 29 }
+{
+    u32::from(byte) << (7 * place)
 }
 
 // Four digits, four digits above them, and the digits above these.

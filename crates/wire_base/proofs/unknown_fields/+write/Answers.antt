@@ -1,39 +1,81 @@
 use Rattle.std.proofs.Common.{◌≡◌, ℕ, ◌++◌, length, refl, sym, ◌∙◌, ap}
-use Rattle.std.proofs.lemmas.Result.{err_from_is_err_and}
+use Rattle.std.proofs.lemmas.Result.{err_from_is_err_and, on_err_weaker}
 use Rattle.wire_base.specs.declared.tag.WireType.{WireType}
-use Rattle.wire_base.specs.declared.tag.WireType.TheVariants.{EndGroup}
+use Rattle.wire_base.specs.declared.tag.WireType.TheVariants.{Varint, LengthDelimited, StartGroup, EndGroup}
 use Rattle.wire_base.specs.Tag.{tag_text}
 use Rattle.wire_base.specs.Text.{payload_text}
 use Rattle.wire_base.specs.UnknownFields.{payload_of}
 use Rattle.wire_base.specs.Varint.{shortest_varint}
-use Rattle.wire_base.proofs.Sinks.{KeepsFront-longer, Written-breaks}
+use Rattle.wire_base.proofs.Sinks.{KeepsFront-longer, KeepsFront-behind, Written-breaks}
 use Rattle.wire_base.proofs.UnknownFieldsLemmas.{text_of-at}
 use Rattle.wire_base.proofs.unknown_fields.+write.Goals as goal
 
-pub UnknownField::write_to-returns-in_err-put_tag-clause-err : goal.UnknownField::write_to-returns-in_err-put_tag-clause-err
-UnknownField::write_to-returns-in_err-put_tag-clause-err g t c =
+pub UnknownField::write_to-returns-in_err-put_tag-in-Varint-clause-err : goal.UnknownField::write_to-returns-in_err-put_tag-in-Varint-clause-err
+UnknownField::write_to-returns-in_err-put_tag-in-Varint-clause-err g t c =
     let p = err_from_is_err_and c.from_residual.result c.from_residual.ensures.1 in
-    let n = c.args.self.now.number in
-    let payload = payload_text n (payload_of c.args.self.now.value) in
-    rw p.1 (KeepsFront-longer _ _ _ _ payload
-    (ap (λ (w : WireType). tag_text n w ++ payload)
-    (sym c.wire_type.ensures)) c.in_err-put_tag.ensures.err)
+    rw (p.1, c.in-Varint.is)
+    (KeepsFront-longer _ _ _ _ _ refl (c.in_err-put_tag-in-Varint).ensures.err)
 
-pub UnknownFieldData::write_to-returns-in_err-encode_varint-in-LengthDelimited-clause-err : goal.UnknownFieldData::write_to-returns-in_err-encode_varint-in-LengthDelimited-clause-err
-UnknownFieldData::write_to-returns-in_err-encode_varint-in-LengthDelimited-clause-err g t c =
-    let p = err_from_is_err_and c.from_residual.result c.from_residual.ensures.1 in
+pub UnknownField::write_to-returns-in_err-put_tag-in-Fixed64-clause-err : goal.UnknownField::write_to-returns-in_err-put_tag-in-Fixed64-clause-err
+UnknownField::write_to-returns-in_err-put_tag-in-Fixed64-clause-err g t c =
+    let p = err_from_is_err_and c.from_residual-in_err-put_tag-in-Fixed64.result c.from_residual-in_err-put_tag-in-Fixed64.ensures.1 in
+    rw (p.1, c.in-Fixed64.is)
+    (KeepsFront-longer _ _ _ _ _ refl (c.in_err-put_tag-in-Fixed64).ensures.err)
+
+pub UnknownField::write_to-returns-in_err-put_tag-in-Fixed32-clause-err : goal.UnknownField::write_to-returns-in_err-put_tag-in-Fixed32-clause-err
+UnknownField::write_to-returns-in_err-put_tag-in-Fixed32-clause-err g t c =
+    let p = err_from_is_err_and c.from_residual-in_err-put_tag-in-Fixed32.result c.from_residual-in_err-put_tag-in-Fixed32.ensures.1 in
+    rw (p.1, c.in-Fixed32.is)
+    (KeepsFront-longer _ _ _ _ _ refl (c.in_err-put_tag-in-Fixed32).ensures.err)
+
+pub UnknownField::write_to-returns-in_err-put_tag-in-LengthDelimited-clause-err : goal.UnknownField::write_to-returns-in_err-put_tag-in-LengthDelimited-clause-err
+UnknownField::write_to-returns-in_err-put_tag-in-LengthDelimited-clause-err g t c =
+    let p = err_from_is_err_and c.from_residual-in_err-put_tag-in-LengthDelimited.result c.from_residual-in_err-put_tag-in-LengthDelimited.ensures.1 in
+    rw (p.1, c.in-LengthDelimited.is)
+    (KeepsFront-longer _ _ _ _ _ refl (c.in_err-put_tag-in-LengthDelimited).ensures.err)
+
+pub UnknownField::write_to-returns-in_err-put_tag-in-Group-clause-err : goal.UnknownField::write_to-returns-in_err-put_tag-in-Group-clause-err
+UnknownField::write_to-returns-in_err-put_tag-in-Group-clause-err g t c =
+    let p = err_from_is_err_and c.from_residual-in_err-put_tag-in-Group.result c.from_residual-in_err-put_tag-in-Group.ensures.1 in
+    rw (p.1, c.in-Group.is)
+    (KeepsFront-longer _ _ _ _ _ refl (c.in_err-put_tag-in-Group).ensures.err)
+
+pub UnknownField::write_to-returns-in_err-encode_varint-in-LengthDelimited-clause-err : goal.UnknownField::write_to-returns-in_err-encode_varint-in-LengthDelimited-clause-err
+UnknownField::write_to-returns-in_err-encode_varint-in-LengthDelimited-clause-err g t c =
+    let r = c.from_residual-in_err-encode_varint-in-LengthDelimited in
+    let p = err_from_is_err_and r.result r.ensures.1 in
     let b = c.in-LengthDelimited.bytes in
     let len : length b.items ≡ c.len.result = sym (c.len.ensures ∙ b.ok.0) in
     rw (p.1, c.in-LengthDelimited.is)
+    (KeepsFront-behind _ _ _ _ (tag_text c.args.self.now.number LengthDelimited) _ refl
+    (c.in_ok-put_tag-in-LengthDelimited).ensures.ok
     (KeepsFront-longer _ _ _ _ b.items (ap (λ (n : ℕ). shortest_varint n ++ b.items) len)
-    (c.in_err-encode_varint-in-LengthDelimited).ensures.err)
+    (c.in_err-encode_varint-in-LengthDelimited).ensures.err))
 
-pub UnknownFieldData::write_to-returns-in_err-write_to-in-Group-clause-err : goal.UnknownFieldData::write_to-returns-in_err-write_to-in-Group-clause-err
-UnknownFieldData::write_to-returns-in_err-write_to-in-Group-clause-err g t c =
-    let p = err_from_is_err_and c.from_residual-in_err-write_to-in-Group.result c.from_residual-in_err-write_to-in-Group.ensures.1 in
+pub UnknownField::write_to-returns-in_err-write_to-in-Group-clause-err : goal.UnknownField::write_to-returns-in_err-write_to-in-Group-clause-err
+UnknownField::write_to-returns-in_err-write_to-in-Group-clause-err g t c =
+    let r = c.from_residual-in_err-write_to-in-Group in
+    let p = err_from_is_err_and r.result r.ensures.1 in
     rw (p.1, c.in-Group.is)
-    (KeepsFront-longer _ _ _ _ (tag_text c.args.number EndGroup) refl
-    (c.in_err-write_to-in-Group).ensures.err)
+    (KeepsFront-behind _ _ _ _ (tag_text c.args.self.now.number StartGroup) _ refl
+    (c.in_ok-put_tag-in-Group).ensures.ok
+    (KeepsFront-longer _ _ _ _ (tag_text c.args.self.now.number EndGroup) refl
+    (c.in_err-write_to-in-Group).ensures.err))
+
+pub UnknownField::write_to-returns-in_ok-put_tag-in-Varint-clause-err : goal.UnknownField::write_to-returns-in_ok-put_tag-in-Varint-clause-err
+UnknownField::write_to-returns-in_ok-put_tag-in-Varint-clause-err g t c =
+    rw c.in-Varint.is (on_err_weaker c.encode_varint.result
+    (KeepsFront-behind _ _ _ _ (tag_text c.args.self.now.number Varint) _ refl
+    (c.in_ok-put_tag-in-Varint).ensures.ok) c.encode_varint.ensures.err)
+
+pub UnknownField::write_to-returns-in_ok-write_to-in-Group-clause-err : goal.UnknownField::write_to-returns-in_ok-write_to-in-Group-clause-err
+UnknownField::write_to-returns-in_ok-write_to-in-Group-clause-err g t c =
+    let n = c.args.self.now.number in
+    rw c.in-Group.is (on_err_weaker c.put_tag-in-Group-2.result
+    (λ k. KeepsFront-behind _ _ _ _ (tag_text n StartGroup) _ refl
+    (c.in_ok-put_tag-in-Group).ensures.ok
+    (KeepsFront-behind _ _ _ _ _ (tag_text n EndGroup) refl
+    (c.in_ok-write_to-in-Group).ensures.ok k)) c.put_tag-in-Group-2.ensures.err)
 
 pub UnknownFields::write_fields-returns-in_err-write_to-clause-err : goal.UnknownFields::write_fields-returns-in_err-write_to-clause-err
 UnknownFields::write_fields-returns-in_err-write_to-clause-err g t c =

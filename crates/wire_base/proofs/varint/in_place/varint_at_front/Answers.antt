@@ -1,28 +1,32 @@
-use Rattle.std.proofs.Common.{◌≡◌, add-zero, ◌+◌, ◌-◌, ◌*◌, ◌%◌, ◌^◌, refl, ap, ◌∙◌, arith}
-use Rattle.std.specs.Int.Bits.{bit_or}
-use Rattle.wire_base.proofs.InPlace.{one_more_there, low_more, low_ends, four_digits}
+use Rattle.std.proofs.Common.{◌≡◌, ◌≤◌, add-zero, ◌+◌, ◌-◌, ◌*◌, ◌^◌, refl, ap, ◌∙◌, arith}
+use Rattle.wire_base.proofs.InPlace.{one_more_there, low_more, low_ends, low_fits}
+use Rattle.wire_base.proofs.InPlace.{continuation_off, last_digit}
 use Rattle.wire_base.proofs.InPlace.{middle_more, middle_fits, middle_ends}
 use Rattle.wire_base.proofs.InPlace.{ninth_ends, tenth_ends, too_many}
 use Rattle.wire_base.proofs.varint.in_place.varint_at_front.Goals as goal
 
 pub loop-index-preserved : goal.loop-index-preserved
 loop-index-preserved c =
-    let there = one_more_there _ _ _ _ c.requires c.loop-index.invariant.read (omega arith) in
-    record {
-      read = low_more c.args.bytes.now _ c.loop-index.low c.loop-index.index _
-          c.loop-index.invariant.read (omega arith) there refl c.if-byte-lt128.false
-          (ap (λ d. bit_or c.loop-index.low (d * 2 ^ (7 * c.loop-index.index) % 2 ^ 32))
-          c.from.ensures);
-    }
+    let h = c.loop-index.invariant.read in
+    let i = c.loop-index.index in
+    let there = one_more_there _ _ _ _ c.requires h (omega arith) in
+    let few : i + 1 ≤ 4 = omega arith in
+    let digit : c.loop-index.low + c.digit-low.result - c.digit-low-in-loop-index.result ≡ _ =
+    rw (c.digit-low.ensures.value, c.digit-low-in-loop-index.ensures.value)
+    (continuation_off c.loop-index.low _ (2 ^ (7 * i)) c.if-byte-lt128.false (omega arith)) in
+    let read = low_more c.args.bytes.now _ c.loop-index.low i _ h there refl c.if-byte-lt128.false
+    digit in
+    record { low = low_fits _ _ _ _ read few; read = read }
 
 pub returns-then-byte-lt128-clause-ok : goal.returns-then-byte-lt128-clause-ok
 returns-then-byte-lt128-clause-ok c =
-    let there = one_more_there _ _ _ _ c.requires c.loop-index.invariant.read (omega arith) in
-    low_ends c.args.bytes.now _ c.loop-index.low c.loop-index.index _
-    c.loop-index.invariant.read (omega arith) there refl c.if-byte-lt128.true
-    (c.from-then-byte-lt128.ensures
-    ∙ ap (λ d. bit_or c.loop-index.low (d * 2 ^ (7 * c.loop-index.index) % 2 ^ 32))
-    c.from.ensures)
+    let h = c.loop-index.invariant.read in
+    let i = c.loop-index.index in
+    let there = one_more_there _ _ _ _ c.requires h (omega arith) in
+    low_ends c.args.bytes.now _ c.loop-index.low i _ h (omega arith) there refl
+    c.if-byte-lt128.true
+    (c.from.ensures ∙ ap (λ d. c.loop-index.low + d) c.digit-low.ensures.value
+    ∙ last_digit c.loop-index.low _ (2 ^ (7 * i)) c.if-byte-lt128.true)
 
 -- ---- the next four
 
@@ -30,37 +34,32 @@ pub loop-index-2-preserved : goal.loop-index-2-preserved
 loop-index-2-preserved c =
     let i = c.loop-index-2.index in
     let h = c.loop-index-2.invariant in
-    let from = c.loop-index-2.auto.index in
     let there = one_more_there _ _ _ _ c.requires h.read (omega arith) in
-    let joins = ap (λ d. bit_or c.loop-index-2.middle (d * 2 ^ (7 * (i - 4)) % 2 ^ 32))
-    c.from-in-loop-index-2.ensures in
+    let from : 4 ≤ i = omega arith in
+    let few : i ≤ 7 = omega arith in
+    let digit : c.loop-index-2.middle + c.digit-middle.result
+    - c.digit-middle-in-loop-index-2.result ≡ _ =
+    rw (c.digit-middle.ensures.value, c.digit-middle-in-loop-index-2.ensures.value)
+    (continuation_off c.loop-index-2.middle _ (2 ^ (7 * (i - 4))) c.if-byte-lt128-2.false
+    (omega arith)) in
     record {
       low = h.low;
-      middle = middle_fits c.args.bytes.now _ c.loop-index-2.middle i _ (omega arith) (omega arith)
-          h.middle joins;
-      read = middle_more c.args.bytes.now _ c.loop-index.low c.loop-index-2.middle i _ (omega arith)
-          (omega arith) h.middle h.read there refl c.if-byte-lt128-2.false joins;
+      middle = middle_fits c.args.bytes.now _ c.loop-index.low c.loop-index-2.middle i _ from few
+          digit h.middle;
+      read = middle_more c.args.bytes.now _ c.loop-index.low c.loop-index-2.middle i _ from few
+          digit h.read there refl c.if-byte-lt128-2.false;
     }
-
-pub joined-requires-clause-middle : goal.joined-requires-clause-middle
-joined-requires-clause-middle c =
-    let i = c.loop-index-2.index in
-    let h = c.loop-index-2.invariant in
-    let joins = ap (λ d. bit_or c.loop-index-2.middle (d * 2 ^ (7 * (i - 4)) % 2 ^ 32))
-    c.from-in-loop-index-2.ensures in
-    four_digits _ (i + 1) (middle_fits c.args.bytes.now _ c.loop-index-2.middle i _ (omega arith)
-    (omega arith) h.middle joins) (omega arith)
 
 pub returns-then-byte-lt128-2-clause-ok : goal.returns-then-byte-lt128-2-clause-ok
 returns-then-byte-lt128-2-clause-ok c =
     let i = c.loop-index-2.index in
     let h = c.loop-index-2.invariant in
     let there = one_more_there _ _ _ _ c.requires h.read (omega arith) in
-    let joins = ap (λ d. bit_or c.loop-index-2.middle (d * 2 ^ (7 * (i - 4)) % 2 ^ 32))
-    c.from-in-loop-index-2.ensures in
+    let digit = ap (λ d. c.loop-index-2.middle + d) c.digit-middle.ensures.value
+    ∙ last_digit c.loop-index-2.middle _ (2 ^ (7 * (i - 4))) c.if-byte-lt128-2.true in
     rw (c.joined.ensures ∙ add-zero _) (middle_ends c.args.bytes.now _ c.loop-index.low
-    c.loop-index-2.middle i _ (omega arith) (omega arith) h.middle h.read there refl
-    c.if-byte-lt128-2.true joins)
+    c.loop-index-2.middle i _ (omega arith) (omega arith) digit h.read there refl
+    c.if-byte-lt128-2.true)
 
 pub returns-then-byte-lt128-2-clause-there : goal.returns-then-byte-lt128-2-clause-there
 returns-then-byte-lt128-2-clause-there c =

@@ -4,6 +4,7 @@ use Rattle.wire_base.proofs.varint.in_place.varint_at_front.Given as goal
 
 abbrev pub invariant-loop-index : goal.invariant-loop-index
 invariant-loop-index l = record {
+  low : l.low < 2 ^ 28;
   read : ReadSoFar l.bytes (drop l.index l.bytes) l.low l.index;
 }
 
