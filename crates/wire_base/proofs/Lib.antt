@@ -4,6 +4,7 @@ pub mod FaultLaws
 pub mod FieldLaws
 pub mod FromFront
 pub mod InPlace
+pub mod Items
 pub mod JoinedLaws
 pub mod LimitsLaws
 pub mod ListLaws

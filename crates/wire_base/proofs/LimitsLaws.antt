@@ -64,7 +64,7 @@ same_budgets : (a b : Budgets) → a.unknown_fields ≡ b.unknown_fields
     → a.element_memory ≡ b.element_memory → a ≡ b
 same_budgets a b p q = λ i. record { unknown_fields = p i; element_memory = q i }
 
-HaveRoom-none : (left : Budgets) → HaveRoom left no_counts
+pub HaveRoom-none : (left : Budgets) → HaveRoom left no_counts
 HaveRoom-none left = record {
   unknown_fields = HasRoom-none left.unknown_fields;
   element_memory = HasRoom-none left.element_memory;
@@ -83,7 +83,7 @@ HaveRoom-second left a b h = record {
   element_memory = HasRoom-second left.element_memory a.element_memory b.element_memory h.element_memory;
 }
 
-HaveRoom-sums : (left : Budgets) (a b : Counts) → HaveRoom left a → HaveRoom (each_less left a) b
+pub HaveRoom-sums : (left : Budgets) (a b : Counts) → HaveRoom left a → HaveRoom (each_less left a) b
     → HaveRoom left (sums a b)
 HaveRoom-sums left a b h k = record {
   unknown_fields = HasRoom-sum left.unknown_fields a.unknown_fields b.unknown_fields h.unknown_fields k.unknown_fields;

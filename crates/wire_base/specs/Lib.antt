@@ -12,6 +12,7 @@ pub mod Filtered
 pub mod Fixed
 pub mod InPlace
 pub mod InRange
+pub mod Items
 pub mod Limits
 pub mod LimitsLaws
 pub mod Read

@@ -5,6 +5,7 @@
 mod decode_context;
 mod encode_sink;
 mod error;
+mod flat_walk;
 pub mod laws;
 mod payload;
 mod rope;
@@ -18,6 +19,7 @@ mod varint;
 pub use decode_context::{DEFAULT_UNKNOWN_FIELD_LIMIT, DecodeContext, RECURSION_LIMIT};
 pub use encode_sink::EncodeSink;
 pub use error::{DecodeError, EncodeError};
+pub use flat_walk::{UnknownSpanCharge, register_unknown_record};
 pub use payload::{copy_bytes, decode_length, take_bytes};
 pub use rope::{DEFAULT_MIN_SEGMENT, Rope, RopeBuf};
 pub use skip::{skip_field, skip_field_depth};

@@ -1,0 +1,56 @@
+//! Records that are counted and not kept.
+ghost use Rattle.std.specs.Prelude.{◌≡◌, List, [], OnErr, IfOk, IfErr};
+ghost use Rattle.wire_base.specs.Items.{Item, TakesItems, SpanFault, flat_charge, greatest_level, slots};
+ghost use Rattle.wire_base.specs.Limits.{NoCountGrew, left_after};
+
+use crate::decode_context::DecodeContext;
+use crate::error::DecodeError;
+use crate::skip::skip_field_depth;
+use crate::tag::{Tag, WireType};
+
+/// What `register_unknown_record` found in a span.
+#[derive(Clone, Copy, Debug, PartialEq, Eq)]
+pub struct UnknownSpanCharge {
+    /// The unknown fields that were taken, those in groups counted too.
+    pub fields: usize,
+    /// How many groups stand in one another.
+    pub depth: u32,
+}
+
+/// Takes the slots of the records in a span from the context, as decoding them would, and keeps
+/// nothing. It walks from tag to tag: an end tag is not compared with the start tag of its group,
+/// groups may be left open, and no level is taken.
+pub fn register_unknown_record(
+    span: &[u8],
+    context: &mut DecodeContext,
+) -> Result<UnknownSpanCharge, DecodeError>
+    ensures ok { IfOk result (λ charge. (items : List Item)
+        × TakesItems items context.old span.now []
+        × (charge.fields ≡ slots items) × (charge.depth ≡ greatest_level 0 items)
+        × (context.new ≡ left_after context.old (flat_charge items))) }
+    ensures fault { IfErr result (SpanFault context.old span.now) }
+    ensures counts { OnErr result (NoCountGrew context.old context.new) }
+    ensures depth { context.new.depth ≡ context.old.depth }
+{
+    let before = context.remaining_unknown_fields();
+    let mut rest = span;
+    let mut level = 0u32;
+    let mut depth = 0u32;
+    while !rest.is_empty() {
+        let tag = Tag::decode(&mut rest)?;
+        match tag.wire_type() {
+            WireType::EndGroup => level = level.saturating_sub(1),
+            WireType::StartGroup => {
+                context.register_unknown_field()?;
+                level = level.saturating_add(1);
+                depth = depth.max(level);
+            }
+            _ => {
+                context.register_unknown_field()?;
+                skip_field_depth(tag, &mut rest, 0)?;
+            }
+        }
+    }
+    let fields = before - context.remaining_unknown_fields();
+    Ok(UnknownSpanCharge { fields, depth })
+}
