@@ -1,3 +1,5 @@
+pub mod Agreement
+pub mod Cuts
 pub mod Decoded
 pub mod DelimitedLaws
 pub mod FaultLaws

@@ -4,6 +4,7 @@ ghost use Rattle.wire_base.specs.TagLaws.{TagTextReadsBack, OneTag, NoTagBesideF
 ghost use Rattle.wire_base.specs.LimitsLaws.{ChargesAddUp, LimitsAddUp, LevelsAddUp, CountsFall};
 ghost use Rattle.wire_base.specs.RecordLaws.{PayloadIsField, OnePayload, OneSpelled, OneList, WholeInput, GroupIsList, JoinedTextsSpell, JoinedAddsUp, RecordsOneByOne, RecordsFromTheFront, ShortestTextSpells, NoTextIsShorter, TextSpellsOneList, SpelledAreNumbered, NumberedTogether};
 ghost use Rattle.wire_base.specs.FaultLaws.{NoPayloadBesideFault, NoListBesideFault, OnePayloadFault, OneListFault, PayloadOrFaultStands, ListOrFaultStands};
+ghost use Rattle.wire_base.specs.AgreementLaws.{SkippedWhereDecoded, RefusedAlike, SlotsSuffice, FaultsStay, CutIsShort};
 ghost use Rattle.wire_base.specs.WriteLaws.{TwoParts, PutIsWrite};
 
 /// The shortest varint of a number reads back as that number, whatever follows it.
@@ -225,6 +226,31 @@ pub fn payload_or_fault()
 /// All bytes begin with a list of records within the limits that ends so, or have a fault.
 pub fn list_or_fault()
     ensures { ListOrFaultStands }
+{}
+
+/// What is decoded within the limits is skipped with as many levels, to the same rest.
+pub fn skipped_where_decoded()
+    ensures { SkippedWhereDecoded }
+{}
+
+/// What decoding refuses for another cause than slots, skipping refuses with the same error.
+pub fn refused_alike()
+    ensures { RefusedAlike }
+{}
+
+/// With more slots than bytes decoding never wants for a slot, and takes what skipping takes.
+pub fn slots_suffice()
+    ensures { SlotsSuffice }
+{}
+
+/// A fault that is not short input stays the same, whatever bytes follow.
+pub fn faults_stay()
+    ensures { FaultsStay }
+{}
+
+/// A payload that is cut off anywhere before its end is short input.
+pub fn cut_is_short()
+    ensures { CutIsShort }
 {}
 
 /// A write of two texts, one behind the other, is a write of the joined text.

@@ -1,0 +1,54 @@
+-- What decoding and skipping say of the same bytes, and what a fault tells of bytes to come. Each
+-- statement is proved as the contract of a law of src/laws.rt.
+use Rattle.std.specs.Prelude.{◌≡◌, ◌≢◌, ℕ, ◌+◌, ◌⊎◌, List, [], ◌++◌, length}
+use Rattle.wire_base.specs.declared.error.DecodeError.{DecodeError}
+use Rattle.wire_base.specs.declared.error.DecodeError.TheVariants.{UnexpectedEof, UnknownFieldLimitExceeded}
+use Rattle.wire_base.specs.declared.tag.WireType.{WireType}
+use Rattle.wire_base.specs.Charge.{payload_charge}
+use Rattle.wire_base.specs.Ending.{Ending}
+use Rattle.wire_base.specs.Fault.{PayloadFault, ListFault}
+use Rattle.wire_base.specs.Field.{Payload}
+use Rattle.wire_base.specs.Limits.{Limits, HasRoom, uncounted}
+use Rattle.wire_base.specs.Taken.{TakesPayload}
+
+-- what is decoded is skipped with as many levels
+abbrev pub SkippedWhereDecoded : Type 0
+SkippedWhereDecoded =
+    (l : Limits) (n : ℕ) (w : WireType) (p : Payload) (old new : List ℕ)
+    → TakesPayload (payload_charge p) l n w p old new
+    → TakesPayload (payload_charge p) (uncounted l.depth) n w p old new
+
+-- a fault that is no want of slots is the fault of skipping
+abbrev pub RefusedAlike : Type 0
+RefusedAlike =
+    (l : Limits) (n : ℕ) (w : WireType) (bytes : List ℕ) (e : DecodeError)
+    → PayloadFault l n w bytes e → e ≢ UnknownFieldLimitExceeded
+    → PayloadFault (uncounted l.depth) n w bytes e
+
+-- there are more slots than bytes
+abbrev pub HasSlotsFor : Limits → List ℕ → Type 0
+HasSlotsFor l bytes = HasRoom l.counts.unknown_fields (length bytes + 1)
+
+-- then decoding agrees with skipping: it never wants for a slot, and takes what skipping takes
+pub record SlotsSuffice : Type 0 where
+  pub none_wanted : (l : Limits) (n : ℕ) (w : WireType) (bytes : List ℕ) → HasSlotsFor l bytes
+      → PayloadFault l n w bytes UnknownFieldLimitExceeded → ⊥
+  pub taken : (l : Limits) (n : ℕ) (w : WireType) (p : Payload) (old new : List ℕ)
+      → HasSlotsFor l old → TakesPayload (payload_charge p) (uncounted l.depth) n w p old new
+      → TakesPayload (payload_charge p) l n w p old new
+
+-- a fault says that bytes are missing, or stays the same whatever bytes follow
+pub record FaultsStay : Type 0 where
+  pub payload : (l : Limits) (n : ℕ) (w : WireType) (bytes more : List ℕ) (e : DecodeError)
+      → PayloadFault l n w bytes e
+      → (e ≡ UnexpectedEof) ⊎ PayloadFault l n w (bytes ++ more) e
+  pub list : (l : Limits) (ending : Ending) (bytes more : List ℕ) (e : DecodeError)
+      → ListFault l ending bytes e
+      → (e ≡ UnexpectedEof) ⊎ ListFault l ending (bytes ++ more) e
+
+-- where a payload is cut off before its end, bytes are missing
+abbrev pub CutIsShort : Type 0
+CutIsShort =
+    (l : Limits) (n : ℕ) (w : WireType) (p : Payload) (front more : List ℕ) → more ≢ []
+    → TakesPayload (payload_charge p) l n w p (front ++ more) []
+    → PayloadFault l n w front UnexpectedEof
