@@ -1,6 +1,6 @@
 -- What holds of records and of their texts. Each statement is proved as the contract of a law of
 -- src/laws.rt.
-use Rattle.std.specs.Prelude.{◌≡◌, ℕ, ◌+◌, ◌≤◌, ◌↔◌, List, [], ◌++◌, length}
+use Rattle.std.specs.Prelude.{◌≡◌, ℕ, ◌+◌, ◌<◌, ◌≤◌, ◌↔◌, List, [], ◌++◌, length, All}
 use Rattle.wire_base.specs.declared.tag.WireType.{WireType}
 use Rattle.wire_base.specs.declared.tag.WireType.TheVariants.{StartGroup}
 use Rattle.wire_base.specs.Charge.{charge}
@@ -101,6 +101,13 @@ ShortestTextSpells = (fs : Fields) → AreFitting fs → AreNumbered fs → Spel
 
 abbrev pub NoTextIsShorter : Type 0
 NoTextIsShorter = (fs : Fields) (text : List ℕ) → Spells fs text → length (text_of fs) ≤ length text
+
+-- Nor is another as short, among texts of bytes: of a number above 255, which stands for no byte, a
+-- spelling tells only what it is modulo 128.
+abbrev pub NoOtherTextIsAsShort : Type 0
+NoOtherTextIsAsShort =
+    (fs : Fields) (text : List ℕ) → All (λ b. b < 256) text → Spells fs text
+    → length text ≡ length (text_of fs) → text ≡ text_of fs
 
 abbrev pub TextSpellsOneList : Type 0
 TextSpellsOneList =

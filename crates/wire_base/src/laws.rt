@@ -2,7 +2,7 @@
 ghost use Rattle.wire_base.specs.VarintLaws.{ShortestReadsBack, NoSpellingBeginsAnother, OneVarint, NoVarintBesideFault, OneVarintFault, VarintOrFaultStands, NoSpellingIsShorter, DelimitedReadsBack, OneDelimited, NoDelimitedBesideFault, OneDelimitedFault, DelimitedOrFaultStands};
 ghost use Rattle.wire_base.specs.TagLaws.{TagTextReadsBack, OneTag, NoTagBesideFault, OneTagFault, TagOrFaultStands, NoTagTextIsShorter};
 ghost use Rattle.wire_base.specs.LimitsLaws.{ChargesAddUp, LimitsAddUp, LevelsAddUp, CountsFall};
-ghost use Rattle.wire_base.specs.RecordLaws.{PayloadIsField, OnePayload, OneSpelled, OneList, WholeInput, GroupIsList, JoinedTextsSpell, JoinedAddsUp, RecordsOneByOne, RecordsFromTheFront, ShortestTextSpells, NoTextIsShorter, TextSpellsOneList, SpelledAreNumbered, NumberedTogether};
+ghost use Rattle.wire_base.specs.RecordLaws.{PayloadIsField, OnePayload, OneSpelled, OneList, WholeInput, GroupIsList, JoinedTextsSpell, JoinedAddsUp, RecordsOneByOne, RecordsFromTheFront, ShortestTextSpells, NoTextIsShorter, NoOtherTextIsAsShort, TextSpellsOneList, SpelledAreNumbered, NumberedTogether};
 ghost use Rattle.wire_base.specs.FaultLaws.{NoPayloadBesideFault, NoListBesideFault, OnePayloadFault, OneListFault, PayloadOrFaultStands, ListOrFaultStands};
 ghost use Rattle.wire_base.specs.AgreementLaws.{SkippedWhereDecoded, RefusedAlike, SlotsSuffice, FaultsStay, CutIsShort};
 ghost use Rattle.wire_base.specs.WriteLaws.{TwoParts, PutIsWrite};
@@ -180,6 +180,11 @@ pub fn shortest_text_spells()
 /// No text of records is shorter than their shortest one.
 pub fn no_text_is_shorter()
     ensures { NoTextIsShorter }
+{}
+
+/// Nor is any other text of them as short.
+pub fn no_other_text_is_as_short()
+    ensures { NoOtherTextIsAsShort }
 {}
 
 /// The shortest text of records whose numbers fit spells these records and no others: what is
