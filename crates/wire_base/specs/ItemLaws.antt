@@ -1,0 +1,27 @@
+-- What holds of items. Each statement is proved as the contract of a law of src/laws.rt.
+use Rattle.std.specs.Prelude.{◌≡◌, ℕ, ◌^◌, ◌<◌, List, []}
+use Rattle.wire_base.specs.declared.error.DecodeError.{DecodeError}
+use Rattle.wire_base.specs.Charge.{charge}
+use Rattle.wire_base.specs.Field.{Fields}
+use Rattle.wire_base.specs.Items.{Item, SpellsItems, TakesItems, SpanFault, flat_charge}
+use Rattle.wire_base.specs.Limits.{Limits}
+use Rattle.wire_base.specs.Spells.{Spells}
+
+-- a text of records is one of items, and a flat walk takes for these what the records are charged,
+-- where no level is past the greatest that it counts
+abbrev pub RecordsAreItems : Type 0
+RecordsAreItems =
+    (fs : Fields) (text : List ℕ) → Spells fs text → (charge fs).depth < 2 ^ 32
+    → (items : List Item) × SpellsItems items text × (flat_charge items ≡ charge fs)
+
+-- a text spells one list of items
+abbrev pub OneWalk : Type 0
+OneWalk =
+    (items others : List Item) (text : List ℕ) → SpellsItems items text → SpellsItems others text
+    → items ≡ others
+
+-- where the grammar names a fault, the span is no list of items for which there are slots
+abbrev pub NoWalkBesideFault : Type 0
+NoWalkBesideFault =
+    (items : List Item) (l : Limits) (span : List ℕ) (e : DecodeError) → SpanFault l span e
+    → TakesItems items l span [] → ⊥
