@@ -1,0 +1,273 @@
+//! The inputs, made from fixed seeds: the same bytes in each run.
+
+const VARINT: u64 = 0;
+const FIXED64: u64 = 1;
+const DELIMITED: u64 = 2;
+const GROUP_START: u64 = 3;
+const GROUP_END: u64 = 4;
+const FIXED32: u64 = 5;
+
+/// Bytes, and how many units of work they hold.
+pub struct Input {
+    pub bytes: Vec<u8>,
+    pub units: u64,
+}
+
+/// Numbers that look random, by splitmix64.
+struct Random(u64);
+
+impl Random {
+    fn number(&mut self) -> u64 {
+        self.0 = self.0.wrapping_add(0x9E37_79B9_7F4A_7C15);
+        let mut mixed = self.0;
+        mixed = (mixed ^ (mixed >> 30)).wrapping_mul(0xBF58_476D_1CE4_E5B9);
+        mixed = (mixed ^ (mixed >> 27)).wrapping_mul(0x94D0_49BB_1331_11EB);
+        mixed ^ (mixed >> 31)
+    }
+
+    fn between(&mut self, least: u64, most: u64) -> u64 {
+        least + self.number() % (most - least + 1)
+    }
+
+    fn of_bits(&mut self, bits: u64) -> u64 {
+        (self.number() | 1 << 63) >> (64 - bits)
+    }
+
+    // A number whose shortest varint has so many bytes.
+    fn of_width(&mut self, width: u64) -> u64 {
+        let bits = self.between(7 * width - 6, (7 * width).min(64));
+        self.of_bits(bits)
+    }
+
+    // A number of one to 64 bits, a short one more often than a long one.
+    fn mixed(&mut self) -> u64 {
+        let most = self.between(1, 64);
+        let bits = self.between(1, most);
+        self.of_bits(bits)
+    }
+
+    fn ascii(&mut self, least: u64, most: u64) -> String {
+        let len = self.between(least, most);
+        (0..len)
+            .map(|_| self.between(0x20, 0x7E) as u8 as char)
+            .collect()
+    }
+
+    // Characters of one to four bytes.
+    fn text(&mut self, least: u64, most: u64) -> String {
+        let len = self.between(least, most);
+        (0..len).map(|_| self.character()).collect()
+    }
+
+    fn character(&mut self) -> char {
+        let code = match self.between(0, 9) {
+            0..=3 => self.between(0x20, 0x7E),
+            4..=6 => self.between(0x3B1, 0x44F),
+            7..=8 => self.between(0x4E00, 0x9FFF),
+            _ => self.between(0x1F600, 0x1F64F),
+        };
+        char::from_u32(code as u32).unwrap()
+    }
+}
+
+fn put_varint(value: u64, text: &mut Vec<u8>) {
+    let mut rest = value;
+    while rest >= 0x80 {
+        text.push(rest as u8 | 0x80);
+        rest >>= 7;
+    }
+    text.push(rest as u8);
+}
+
+fn put_tag(number: u64, wire_type: u64, text: &mut Vec<u8>) {
+    put_varint(number << 3 | wire_type, text);
+}
+
+fn put_delimited(payload: &[u8], text: &mut Vec<u8>) {
+    put_varint(payload.len() as u64, text);
+    text.extend(payload);
+}
+
+fn put_payload(number: u64, payload: &[u8], text: &mut Vec<u8>) {
+    put_tag(number, DELIMITED, text);
+    put_delimited(payload, text);
+}
+
+/// The inputs of the rows, by name.
+pub fn named(name: &str) -> Input {
+    match name {
+        "varint1" => varints(1, |random| random.of_width(1)),
+        "varint2" => varints(2, |random| random.of_width(2)),
+        "varint5" => varints(3, |random| random.of_width(5)),
+        "varint10" => varints(4, |random| random.of_width(10)),
+        "varints" => varints(5, Random::mixed),
+        "small" => varints(6, |random| random.between(0, 299)),
+        "short" => strings(7, 16384, |random| random.ascii(0, 24)),
+        "long" => strings(8, 32, |random| random.ascii(8000, 32000)),
+        "unicode" => strings(9, 1024, |random| random.text(0, 200)),
+        "records" => records(10, 400_000),
+        "persons" => persons(11, false),
+        "newer" => persons(12, true),
+        "tree" => tree(13),
+        _ => unreachable!("no input {name}"),
+    }
+}
+
+fn varints(seed: u64, number: impl Fn(&mut Random) -> u64) -> Input {
+    let mut random = Random(seed);
+    let mut bytes = Vec::new();
+    let units = 32768;
+    for _ in 0..units {
+        put_varint(number(&mut random), &mut bytes);
+    }
+    Input { bytes, units }
+}
+
+fn strings(seed: u64, units: u64, string: impl Fn(&mut Random) -> String) -> Input {
+    let mut random = Random(seed);
+    let mut bytes = Vec::new();
+    for _ in 0..units {
+        put_delimited(string(&mut random).as_bytes(), &mut bytes);
+    }
+    Input { bytes, units }
+}
+
+/// Records of all wire types, in groups up to three deep, until they have so many bytes. The units
+/// are all records.
+pub fn records(seed: u64, least: usize) -> Input {
+    let mut random = Random(seed);
+    let mut bytes = Vec::new();
+    let mut units = 0;
+    while bytes.len() < least {
+        units += put_record(&mut random, 3, &mut bytes);
+    }
+    Input { bytes, units }
+}
+
+// Answers how many records there are, itself and those in its groups.
+fn put_record(random: &mut Random, levels: u64, text: &mut Vec<u8>) -> u64 {
+    let width = [4, 4, 11, 18][random.between(0, 3) as usize];
+    let number = random.between(1, (1 << width) - 1);
+    match random.between(0, 9) {
+        0..=3 => {
+            put_tag(number, VARINT, text);
+            put_varint(random.mixed(), text);
+        }
+        4 => {
+            put_tag(number, FIXED64, text);
+            text.extend(random.number().to_le_bytes());
+        }
+        5 => {
+            put_tag(number, FIXED32, text);
+            text.extend((random.number() as u32).to_le_bytes());
+        }
+        6..=8 => put_payload(number, random.ascii(0, 60).as_bytes(), text),
+        _ if levels == 0 => put_payload(number, &[], text),
+        _ => {
+            put_tag(number, GROUP_START, text);
+            let inner = random.between(0, 6);
+            let count: u64 = (0..inner)
+                .map(|_| put_record(random, levels - 1, text))
+                .sum();
+            put_tag(number, GROUP_END, text);
+            return count + 1;
+        }
+    }
+    1
+}
+
+// A log of persons, each behind its length, and each with unknown fields where they are newer.
+fn persons(seed: u64, are_newer: bool) -> Input {
+    let mut random = Random(seed);
+    let mut bytes = Vec::new();
+    let units = 5000;
+    for _ in 0..units {
+        let mut person = person(&mut random);
+        if are_newer {
+            put_newer_fields(&mut random, &mut person);
+        }
+        put_delimited(&person, &mut bytes);
+    }
+    Input { bytes, units }
+}
+
+fn person(random: &mut Random) -> Vec<u8> {
+    let mut text = Vec::new();
+    put_tag(1, VARINT, &mut text);
+    put_varint(random.between(1, 99_999), &mut text);
+    put_payload(2, random.text(4, 20).as_bytes(), &mut text);
+    let mut scores = Vec::new();
+    for _ in 0..random.between(1, 8) {
+        let score = random.between(0, 4000) as i64 - 100;
+        put_varint(score as u64, &mut scores);
+    }
+    put_payload(3, &scores, &mut text);
+    text
+}
+
+fn put_newer_fields(random: &mut Random, text: &mut Vec<u8>) {
+    put_tag(4, VARINT, text);
+    put_varint(random.mixed(), text);
+    put_payload(5, random.ascii(4, 30).as_bytes(), text);
+    if random.between(0, 1) == 1 {
+        put_tag(20, FIXED64, text);
+        text.extend(random.number().to_le_bytes());
+    }
+}
+
+// A node with many children. The units are all nodes.
+fn tree(seed: u64) -> Input {
+    let mut random = Random(seed);
+    let mut bytes = Vec::new();
+    let mut units = 1;
+    for _ in 0..40 {
+        let mut child = Vec::new();
+        units += put_node(&mut random, 7, true, &mut child);
+        put_payload(3, &child, &mut bytes);
+    }
+    Input { bytes, units }
+}
+
+// Answers how many nodes there are, itself and those in it.
+fn put_node(random: &mut Random, levels: u64, has_group: bool, text: &mut Vec<u8>) -> u64 {
+    put_tag(1, VARINT, text);
+    put_varint(random.mixed() | 1, text);
+    if levels == 0 {
+        return 1;
+    }
+    let mut units = 1;
+    let mut embedded = vec![3; random.between(0, 2) as usize];
+    if random.between(0, 1) == 1 {
+        embedded.insert(0, 2);
+    }
+    for number in embedded {
+        let mut node = Vec::new();
+        units += put_node(random, levels - 1, true, &mut node);
+        put_payload(number, &node, text);
+    }
+    if has_group && random.between(0, 3) == 0 {
+        put_tag(4, GROUP_START, text);
+        units += put_node(random, levels - 1, false, text);
+        put_tag(4, GROUP_END, text);
+    }
+    units
+}
+
+/// A node that holds a node, and so on, so many levels deep.
+pub fn nested(levels: u64) -> Input {
+    let mut random = Random(14);
+    let mut bytes = Vec::new();
+    for level in 0..=levels {
+        let mut node = Vec::new();
+        put_tag(1, VARINT, &mut node);
+        put_varint(random.of_width(5), &mut node);
+        if level > 0 {
+            put_payload(3, &bytes, &mut node);
+        }
+        bytes = node;
+    }
+    Input {
+        bytes,
+        units: levels + 1,
+    }
+}

@@ -1,0 +1,130 @@
+//! The rows of the table: each a piece of work, its input, and who can do it.
+use crate::prost_peer as prost;
+
+/// Does the work on the bytes so many times, and answers what the last round gave: 0 where it was
+/// refused.
+pub type Work = fn(&[u8], u32) -> u64;
+
+/// Those who work, in the order of the table.
+pub const WORKERS: [&str; 3] = ["here", "prost", "cpp"];
+
+type Works = [Option<Work>; 3];
+
+pub struct Row {
+    pub label: &'static str,
+    pub input: &'static str,
+    pub unit: &'static str,
+    works: Works,
+}
+
+impl Row {
+    pub fn labelled(label: &str) -> Option<&'static Row> {
+        ROWS.iter().find(|row| row.label == label)
+    }
+
+    /// Those who have this work.
+    pub fn works(&self) -> impl Iterator<Item = (&'static str, Work)> + '_ {
+        let pairs = WORKERS.iter().zip(&self.works);
+        pairs.filter_map(|(worker, work)| Some((*worker, (*work)?)))
+    }
+
+    pub fn work_of(&self, worker: &str) -> Option<Work> {
+        self.works()
+            .find(|(name, _)| *name == worker)
+            .map(|(_, work)| work)
+    }
+}
+
+// A function of a native library.
+macro_rules! native {
+    ($name:ident) => {{
+        extern "C" {
+            fn $name(at: *const u8, len: usize, rounds: u32) -> u64;
+        }
+        fn call(bytes: &[u8], rounds: u32) -> u64 {
+            // SAFETY: the function reads the slice, and keeps nothing of it.
+            unsafe { $name(bytes.as_ptr(), bytes.len(), rounds) }
+        }
+        Some(call as Work)
+    }};
+}
+
+macro_rules! works {
+    ($here:ident, -, $cpp:ident) => {
+        [native!($here), None, native!($cpp)]
+    };
+    ($here:ident, $prost:path, $cpp:ident) => {
+        [native!($here), Some($prost), native!($cpp)]
+    };
+}
+
+const VARINTS: Works = works! { wb_varints, prost::varints, cpp_varints };
+const PACKED: Works = works! { wb_packed, prost::packed, cpp_packed };
+const SKIP: Works = works! { wb_skip, prost::skip, cpp_skip };
+const UNKNOWN_DECODE: Works = works! { wb_unknown_decode, -, cpp_unknown_decode };
+const UNKNOWN_WRITE: Works = works! { wb_unknown_write, -, cpp_unknown_write };
+const UNKNOWN_LEN: Works = works! { wb_encoded_len, -, cpp_unknown_len };
+const DECODE_STRING: Works = works! { wb_decode_string, prost::decode_string, cpp_decode_string };
+const DECODE_BYTES: Works = works! { wb_decode_bytes, prost::decode_bytes, cpp_decode_bytes };
+const MERGE_STRING: Works = works! { wb_merge_string, prost::merge_string, cpp_merge_string };
+const BORROW_STR: Works = works! { wb_borrow_str, -, cpp_borrow_str };
+const PUT_VARINT: Works = works! { wb_encode_varint, prost::encode_varint, cpp_encode_varint };
+const PUT_UINT64: Works = works! { wb_put_uint64, prost::put_uint64, cpp_put_uint64 };
+const PUT_SINT64: Works = works! { wb_put_sint64, prost::put_sint64, cpp_put_sint64 };
+const PUT_BOOL: Works = works! { wb_put_bool, prost::put_bool, cpp_put_bool };
+const PUT_FIXED64: Works = works! { wb_put_fixed64, prost::put_fixed64, cpp_put_fixed64 };
+const PUT_FIVE: Works = works! { wb_put_five, prost::put_five, cpp_put_five };
+const PUT_STRING: Works = works! { wb_put_string, prost::put_string, cpp_put_string };
+const ROPE_VARINTS: Works = works! { wb_rope_varints, -, cpp_rope_varints };
+const PERSON_DECODE: Works = works! { wb_person_decode, prost::person_decode, cpp_person_decode };
+const PERSON_ENCODE: Works = works! { wb_person_encode, prost::person_encode, cpp_person_encode };
+const NEWER_DECODE: Works = works! { wb_person_decode, -, cpp_person_decode };
+const NEWER_ENCODE: Works = works! { wb_person_encode, -, cpp_person_encode };
+const NODE_DECODE: Works = works! { wb_node_decode, prost::node_decode, cpp_node_decode };
+const NODE_ENCODE: Works = works! { wb_node_encode, prost::node_encode, cpp_node_encode };
+
+const fn row(label: &'static str, input: &'static str, unit: &'static str, works: Works) -> Row {
+    Row {
+        label,
+        input,
+        unit,
+        works,
+    }
+}
+
+pub const ROWS: &[Row] = &[
+    row("decode varint, 1 byte", "varint1", "varint", VARINTS),
+    row("decode varint, 2 bytes", "varint2", "varint", VARINTS),
+    row("decode varint, 5 bytes", "varint5", "varint", VARINTS),
+    row("decode varint, 10 bytes", "varint10", "varint", VARINTS),
+    row("decode varint, mixed", "varints", "varint", VARINTS),
+    row("decode varint, rope", "varints", "varint", ROPE_VARINTS),
+    row("decode packed, small", "small", "element", PACKED),
+    row("decode packed, mixed", "varints", "element", PACKED),
+    row("skip records", "records", "record", SKIP),
+    row("decode unknown fields", "records", "record", UNKNOWN_DECODE),
+    row("write unknown fields", "records", "record", UNKNOWN_WRITE),
+    row("measure unknown fields", "records", "record", UNKNOWN_LEN),
+    row("decode string, short", "short", "string", DECODE_STRING),
+    row("decode string, long", "long", "string", DECODE_STRING),
+    row("decode string, utf-8", "unicode", "string", DECODE_STRING),
+    row("decode bytes, short", "short", "string", DECODE_BYTES),
+    row("merge string, short", "short", "string", MERGE_STRING),
+    row("borrow string, short", "short", "string", BORROW_STR),
+    row("borrow string, utf-8", "unicode", "string", BORROW_STR),
+    row("encode varint, 1 byte", "varint1", "varint", PUT_VARINT),
+    row("encode varint, 10 bytes", "varint10", "varint", PUT_VARINT),
+    row("encode varint, mixed", "varints", "varint", PUT_VARINT),
+    row("put uint64", "varints", "field", PUT_UINT64),
+    row("put sint64", "varints", "field", PUT_SINT64),
+    row("put bool", "varints", "field", PUT_BOOL),
+    row("put fixed64", "varints", "field", PUT_FIXED64),
+    row("put five fields", "varints", "value", PUT_FIVE),
+    row("put string", "short", "field", PUT_STRING),
+    row("decode person", "persons", "person", PERSON_DECODE),
+    row("encode person", "persons", "person", PERSON_ENCODE),
+    row("decode newer person", "newer", "person", NEWER_DECODE),
+    row("encode newer person", "newer", "person", NEWER_ENCODE),
+    row("decode node", "tree", "node", NODE_DECODE),
+    row("encode node", "tree", "node", NODE_ENCODE),
+];
