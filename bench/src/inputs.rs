@@ -132,9 +132,9 @@ fn strings(seed: u64, units: u64, string: impl Fn(&mut Random) -> String) -> Inp
     Input { bytes, units }
 }
 
-/// Records of all wire types, in groups up to three deep, until they have so many bytes. The units
-/// are all records.
-pub fn records(seed: u64, least: usize) -> Input {
+// Records of all wire types, in groups up to three deep, until they have so many bytes. The units
+// are all records.
+fn records(seed: u64, least: usize) -> Input {
     let mut random = Random(seed);
     let mut bytes = Vec::new();
     let mut units = 0;
@@ -174,6 +174,27 @@ fn put_record(random: &mut Random, levels: u64, text: &mut Vec<u8>) -> u64 {
         }
     }
     1
+}
+
+/// So many thousand times the same eight records of all wire types, which have a thousand bytes.
+pub fn thousands(times: usize) -> Vec<u8> {
+    let mut random = Random(14);
+    let mut text = Vec::new();
+    put_tag(1, VARINT, &mut text);
+    put_varint(random.of_width(5), &mut text);
+    put_tag(2, FIXED64, &mut text);
+    text.extend(random.number().to_le_bytes());
+    put_tag(3, FIXED32, &mut text);
+    text.extend((random.number() as u32).to_le_bytes());
+    put_tag(4, GROUP_START, &mut text);
+    put_tag(1, VARINT, &mut text);
+    put_varint(random.of_width(2), &mut text);
+    put_payload(2, random.ascii(90, 90).as_bytes(), &mut text);
+    put_tag(4, GROUP_END, &mut text);
+    put_payload(5, random.ascii(250, 250).as_bytes(), &mut text);
+    let rest = 997 - text.len() as u64;
+    put_payload(6, random.ascii(rest, rest).as_bytes(), &mut text);
+    text.repeat(times)
 }
 
 // A log of persons, each behind its length, and each with unknown fields where they are newer.
@@ -254,8 +275,8 @@ fn put_node(random: &mut Random, levels: u64, has_group: bool, text: &mut Vec<u8
 }
 
 /// A node that holds a node, and so on, so many levels deep.
-pub fn nested(levels: u64) -> Input {
-    let mut random = Random(14);
+pub fn nested(levels: u64) -> Vec<u8> {
+    let mut random = Random(15);
     let mut bytes = Vec::new();
     for level in 0..=levels {
         let mut node = Vec::new();
@@ -266,8 +287,5 @@ pub fn nested(levels: u64) -> Input {
         }
         bytes = node;
     }
-    Input {
-        bytes,
-        units: levels + 1,
-    }
+    bytes
 }

@@ -1,6 +1,6 @@
 //! Makes the inputs, compares the answers, and does one piece of work for a counter.
 //!
-//!   driver inputs FOLDER LARGEST          writes the inputs, the largest of so many bytes
+//!   driver inputs FOLDER LARGEST          writes the inputs, the largest of so many thousand bytes
 //!   driver check FOLDER                   stops where answers differ, and else writes for each row
 //!                                         its label, input, unit, units and workers
 //!   driver work WORKER LABEL FILE ROUNDS  does the work of a row on the file
@@ -42,14 +42,16 @@ fn write_inputs(folder: &Path, largest: usize) -> Result<(), Box<dyn Error>> {
         fs::write(folder.join(row.input), inputs::named(row.input).bytes)?;
     }
     for levels in LEVELS {
-        let name = format!("nested{levels}");
-        fs::write(folder.join(name), inputs::nested(levels).bytes)?;
+        fs::write(
+            folder.join(format!("nested{levels}")),
+            inputs::nested(levels),
+        )?;
     }
-    let mut size = 1000;
-    while size <= largest {
-        let name = format!("records{size}");
-        fs::write(folder.join(name), inputs::records(10, size).bytes)?;
-        size *= 10;
+    let mut thousands = 1;
+    while thousands <= largest {
+        let name = format!("thousands{thousands}");
+        fs::write(folder.join(name), inputs::thousands(thousands))?;
+        thousands *= 10;
     }
     Ok(())
 }
