@@ -64,6 +64,7 @@ uint64_t RepeatPutting(const uint8_t* bytes, size_t len, uint32_t rounds, Put pu
   });
 }
 
+// The room is taken at once, so that its growth is not the most that a run holds.
 std::vector<std::string_view> Payloads(const uint8_t* bytes, size_t len) {
   CodedInputStream in(bytes, static_cast<int>(len));
   std::vector<std::string_view> payloads;
