@@ -74,7 +74,7 @@ refused_alike_lemma = payload_alike
 
 -- ---- more slots than bytes
 
-room_for_less : (left : Option ℕ) (a b : ℕ) → b ≤ a → HasRoom left a → HasRoom left b
+pub room_for_less : (left : Option ℕ) (a b : ℕ) → b ≤ a → HasRoom left a → HasRoom left b
 room_for_less None a b few h = tt
 room_for_less (Some left) a b few h = omega (arith, few, h)
 
@@ -105,7 +105,7 @@ mutual
       omega (arith, inside, ap length body.parts ∙ length-append body.text end)
 
   -- records count as at most their bytes
-  count_of_list : (fs : Fields) (text : List ℕ) → Spells fs text → count fs ≤ length text
+  pub count_of_list : (fs : Fields) (text : List ℕ) → Spells fs text → count fs ≤ length text
   count_of_list none text h = omega arith
   count_of_list (field n p others) text (behind, rest, tag, payload, more) =
       let one = count_of_payload p n payload.text payload.spelled in
@@ -128,7 +128,7 @@ mutual
   payload_no_elements (group fs) = omega (arith, no_elements fs)
 
   -- what is kept as unknown takes no memory for elements
-  no_elements : (fs : Fields) → (charge fs).counts.element_memory ≡ 0
+  pub no_elements : (fs : Fields) → (charge fs).counts.element_memory ≡ 0
   no_elements none = refl
   no_elements (field n p fs) = omega (arith, payload_no_elements p, no_elements fs)
 

@@ -25,4 +25,6 @@ pub mod TextLaws
 pub mod UnknownFieldsLemmas
 pub mod VarintLaws
 pub mod Varints
+pub mod WalkLaws
+pub mod Walks
 pub mod Writes

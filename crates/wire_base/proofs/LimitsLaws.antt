@@ -76,7 +76,7 @@ HaveRoom-first left a b h = record {
   element_memory = HasRoom-first left.element_memory a.element_memory b.element_memory h.element_memory;
 }
 
-HaveRoom-second : (left : Budgets) (a b : Counts) → HaveRoom left (sums a b)
+pub HaveRoom-second : (left : Budgets) (a b : Counts) → HaveRoom left (sums a b)
     → HaveRoom (each_less left a) b
 HaveRoom-second left a b h = record {
   unknown_fields = HasRoom-second left.unknown_fields a.unknown_fields b.unknown_fields h.unknown_fields;

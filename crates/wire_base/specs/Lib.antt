@@ -13,6 +13,7 @@ pub mod Filtered
 pub mod Fixed
 pub mod InPlace
 pub mod InRange
+pub mod ItemLaws
 pub mod Items
 pub mod Limits
 pub mod LimitsLaws

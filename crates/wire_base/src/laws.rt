@@ -5,6 +5,7 @@ ghost use Rattle.wire_base.specs.LimitsLaws.{ChargesAddUp, LimitsAddUp, LevelsAd
 ghost use Rattle.wire_base.specs.RecordLaws.{PayloadIsField, OnePayload, OneSpelled, OneList, WholeInput, GroupIsList, JoinedTextsSpell, JoinedAddsUp, RecordsOneByOne, RecordsFromTheFront, ShortestTextSpells, NoTextIsShorter, NoOtherTextIsAsShort, TextSpellsOneList, SpelledAreNumbered, NumberedTogether};
 ghost use Rattle.wire_base.specs.FaultLaws.{NoPayloadBesideFault, NoListBesideFault, OnePayloadFault, OneListFault, PayloadOrFaultStands, ListOrFaultStands};
 ghost use Rattle.wire_base.specs.AgreementLaws.{SkippedWhereDecoded, RefusedAlike, SlotsSuffice, FaultsStay, CutIsShort};
+ghost use Rattle.wire_base.specs.ItemLaws.{RecordsAreItems, OneWalk, NoWalkBesideFault};
 ghost use Rattle.wire_base.specs.WriteLaws.{TwoParts, PutIsWrite};
 
 /// The shortest varint of a number reads back as that number, whatever follows it.
@@ -256,6 +257,21 @@ pub fn faults_stay()
 /// A payload that is cut off anywhere before its end is short input.
 pub fn cut_is_short()
     ensures { CutIsShort }
+{}
+
+/// A text of records is one of items, and a flat walk takes for them what the records are charged.
+pub fn records_are_items()
+    ensures { RecordsAreItems }
+{}
+
+/// A text spells one list of items at most.
+pub fn one_walk()
+    ensures { OneWalk }
+{}
+
+/// Where the grammar names a fault, the span is no list of items for which there are slots.
+pub fn no_walk_beside_fault()
+    ensures { NoWalkBesideFault }
 {}
 
 /// A write of two texts, one behind the other, is a write of the joined text.
