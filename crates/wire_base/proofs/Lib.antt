@@ -1,3 +1,4 @@
+pub mod Agreeing
 pub mod Agreement
 pub mod Cuts
 pub mod Decoded

@@ -1,3 +1,4 @@
+pub mod Agreement
 pub mod AgreementLaws
 pub mod Charge
 pub mod Delimited

@@ -1,5 +1,6 @@
 //! Passing over records that nobody asked for.
 ghost use Rattle.std.specs.Prelude.{◌≡◌, OnOk, IfErr};
+ghost use Rattle.wire_base.specs.Agreement.{FollowsDecoding, RefusesAsDecoding, IsShortWhereCut};
 ghost use Rattle.wire_base.specs.Charge.{payload_charge, charge};
 ghost use Rattle.wire_base.specs.Ending.{by_tag};
 ghost use Rattle.wire_base.specs.Fault.{PayloadFault, ListFault};
@@ -22,15 +23,40 @@ pub fn skip_field<B: Buf>(tag: Tag, buf: &mut B) -> Result<(), DecodeError>
         (tag_number tag) (tag_type tag) p (B.unread buf.old) (B.unread buf.new)) }
     ensures fault { IfErr result
         (PayloadFault (uncounted 100) (tag_number tag) (tag_type tag) (B.unread buf.old)) }
+    ensures decoded { FollowsDecoding 100 (tag_number tag) (tag_type tag)
+        (B.unread buf.old) (B.unread buf.new) result }
+    ensures refused { RefusesAsDecoding 100 (tag_number tag) (tag_type tag)
+        (B.unread buf.old) result }
+    ensures cut { IsShortWhereCut (uncounted 100) (tag_number tag) (tag_type tag)
+        (B.unread buf.old) result }
     ensures kept { B.kept buf.new ≡ B.kept buf.old }
 {
     skip_field_depth(tag, buf, RECURSION_LIMIT)
 }
 
-/// Passes over the payload of a tag that was read, in which groups nest at most so deep.
-#[cycle(skip)]
+/// Passes over the payload of a tag that was read, in which groups nest at most so deep. It agrees
+/// with `decode_unknown_field` under as many levels.
 #[inline(always)]
 pub fn skip_field_depth<B: Buf>(tag: Tag, buf: &mut B, depth: u32) -> Result<(), DecodeError>
+    ensures ok { OnOk result ((p : Payload) × TakesPayload (payload_charge p) (uncounted depth)
+        (tag_number tag) (tag_type tag) p (B.unread buf.old) (B.unread buf.new)) }
+    ensures fault { IfErr result
+        (PayloadFault (uncounted depth) (tag_number tag) (tag_type tag) (B.unread buf.old)) }
+    ensures decoded { FollowsDecoding depth (tag_number tag) (tag_type tag)
+        (B.unread buf.old) (B.unread buf.new) result }
+    ensures refused { RefusesAsDecoding depth (tag_number tag) (tag_type tag)
+        (B.unread buf.old) result }
+    ensures cut { IsShortWhereCut (uncounted depth) (tag_number tag) (tag_type tag)
+        (B.unread buf.old) result }
+    ensures kept { B.kept buf.new ≡ B.kept buf.old }
+{
+    skip_payload(tag, buf, depth)
+}
+
+// Passes over a payload.
+#[cycle(skip)]
+#[inline(always)]
+fn skip_payload<B: Buf>(tag: Tag, buf: &mut B, depth: u32) -> Result<(), DecodeError>
     ensures ok { OnOk result ((p : Payload) × TakesPayload (payload_charge p) (uncounted depth)
         (tag_number tag) (tag_type tag) p (B.unread buf.old) (B.unread buf.new)) }
     ensures fault { IfErr result
@@ -69,7 +95,7 @@ fn skip_group<B: Buf>(number: u32, buf: &mut B, depth: u32) -> Result<(), Decode
     ensures kept { B.kept buf.new ≡ B.kept buf.old }
 {
     while let Some(tag) = Tag::decode_in_group(buf, number)? {
-        skip_field_depth(tag, buf, depth)?;
+        skip_payload(tag, buf, depth)?;
     }
     Ok(())
 }

@@ -1,6 +1,7 @@
 //! Unknown fields from bytes.
 ghost use Rattle.std.specs.Prelude.{◌≡◌, OnErr, IfOk, IfErr, MatchResult};
 ghost use Rattle.wire_base.specs.declared.error.DecodeError.TheVariants.{OutOfMemory};
+ghost use Rattle.wire_base.specs.Agreement.{NeverWantsSlots, KeepsWhatIsSkipped, RefusesAsSkipping, IsShortWhereCut};
 ghost use Rattle.wire_base.specs.Charge.{charge, payload_charge};
 ghost use Rattle.wire_base.specs.Ending.{by_input, by_tag};
 ghost use Rattle.wire_base.specs.Field.{Fields};
@@ -56,7 +57,7 @@ impl UnknownFields {
         let mut fields = UnknownFields::new(alloc);
         while !buf.is_empty() {
             let tag = Tag::decode(&mut buf)?;
-            let field = decode_unknown_field(alloc, tag, &mut buf, context)?;
+            let field = decode_field(alloc, tag, &mut buf, context)?;
             if fields.push(field).is_err() {
                 return Err(DecodeError::OutOfMemory);
             }
@@ -68,10 +69,41 @@ impl UnknownFields {
 
 /// Reads the payload of a tag that was read, and keeps it as a field. It takes one unknown field
 /// for itself and one for each field in its groups, and a level for each group and for each group
-/// in it.
-#[cycle(decode)]
+/// in it. With more of the former than bytes remain it agrees with `skip_field_depth`.
 #[inline(always)]
 pub fn decode_unknown_field<B: Buf>(
+    alloc: Global,
+    tag: Tag,
+    buf: &mut B,
+    context: &mut DecodeContext,
+) -> Result<UnknownField, DecodeError>
+    ensures number { IfOk result (λ field. field.number ≡ tag_number tag) }
+    ensures in_range { IfOk result (λ field.
+        IsPayloadFitting (payload_of field.value) × IsPayloadNumbered (payload_of field.value)) }
+    ensures ok { IfOk result (λ field. TakesPayload (payload_charge (payload_of field.value))
+        context.old (tag_number tag) (tag_type tag) (payload_of field.value)
+        (B.unread buf.old) (B.unread buf.new)) }
+    ensures charged { IfOk result (λ field. context.new
+        ≡ left_after context.old (payload_charge (payload_of field.value))) }
+    ensures fault { IfErr result
+        (PayloadRefusal context.old (tag_number tag) (tag_type tag) (B.unread buf.old)) }
+    ensures counts { OnErr result (NoCountGrew context.old context.new) }
+    ensures enough { NeverWantsSlots context.old (B.unread buf.old) result }
+    ensures skipped { KeepsWhatIsSkipped (λ field. payload_of field.value) context.old
+        (tag_number tag) (tag_type tag) (B.unread buf.old) (B.unread buf.new) result }
+    ensures refused { RefusesAsSkipping context.old (tag_number tag) (tag_type tag)
+        (B.unread buf.old) result }
+    ensures cut { IsShortWhereCut context.old (tag_number tag) (tag_type tag)
+        (B.unread buf.old) result }
+    ensures kept { B.kept buf.new ≡ B.kept buf.old }
+{
+    decode_field(alloc, tag, buf, context)
+}
+
+// Reads a payload, and keeps it as a field.
+#[cycle(decode)]
+#[inline(always)]
+fn decode_field<B: Buf>(
     alloc: Global,
     tag: Tag,
     buf: &mut B,
@@ -154,7 +186,7 @@ fn decode_group<B: Buf>(
 {
     let mut fields = UnknownFields::new(alloc);
     while let Some(tag) = Tag::decode_in_group(buf, number)? {
-        let field = decode_unknown_field(alloc, tag, buf, context)?;
+        let field = decode_field(alloc, tag, buf, context)?;
         if fields.push(field).is_err() {
             return Err(DecodeError::OutOfMemory);
         }

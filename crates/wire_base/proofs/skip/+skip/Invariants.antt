@@ -5,8 +5,8 @@ use Rattle.wire_base.specs.Limits.{uncounted}
 use Rattle.wire_base.specs.Taken.{TakesFields}
 use Rattle.wire_base.proofs.skip.+skip.Given as goal
 
-abbrev pub decreases-skip_field_depth : goal.decreases-skip_field_depth
-decreases-skip_field_depth g l = 2 * l.depth
+abbrev pub decreases-skip_payload : goal.decreases-skip_payload
+decreases-skip_payload g l = 2 * l.depth
 
 abbrev pub decreases-skip_group : goal.decreases-skip_group
 decreases-skip_group g l = 2 * l.depth + 1

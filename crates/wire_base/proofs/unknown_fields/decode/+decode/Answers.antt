@@ -142,8 +142,8 @@ decode_value-returns-in-EndGroup-clause-fault g t c =
     rw (sym c.wire_type.ensures
     ∙ c.in-EndGroup.is) (inl (end_outside c.in_ok-register_unknown_field.ensures.taken))
 
-pub decode_unknown_field-returns-clause-in_range : goal.decode_unknown_field-returns-clause-in_range
-decode_unknown_field-returns-clause-in_range g t c =
+pub decode_field-returns-clause-in_range : goal.decode_field-returns-clause-in_range
+decode_field-returns-clause-in_range g t c =
     (c.widths_fit.ensures, payload_numbered _ _ _ c.in_ok-value.ensures.ok.read.spelled.spelled)
 
 -- ---- the body of a group

@@ -4,8 +4,8 @@ use Rattle.wire_base.specs.Limits.{left_after}
 use Rattle.wire_base.specs.Taken.{TakesFields}
 use Rattle.wire_base.proofs.unknown_fields.decode.+decode.Given as goal
 
-abbrev pub decreases-decode_unknown_field : goal.decreases-decode_unknown_field
-decreases-decode_unknown_field g l = 3 * l.context.now.depth + 1
+abbrev pub decreases-decode_field : goal.decreases-decode_field
+decreases-decode_field g l = 3 * l.context.now.depth + 1
 
 abbrev pub decreases-decode_value : goal.decreases-decode_value
 decreases-decode_value g l = 3 * l.context.now.depth

@@ -1,0 +1,58 @@
+-- Calls that pass over or keep the same payload agree, and one that is cut off is short input.
+use Rattle.std.specs.Prelude.{◌≡◌, ◌≢◌, ◌⊎◌, ℕ, ◌^◌, ◌<◌, ◌+◌, ◌≤◌, List, [], ◌++◌, length, All, Result, Err, IsOk, OnOk, IfErr, MatchResult}
+use Rattle.wire_base.specs.declared.error.DecodeError.{DecodeError}
+use Rattle.wire_base.specs.declared.error.DecodeError.TheVariants.{OutOfMemory, UnexpectedEof, UnknownFieldLimitExceeded}
+use Rattle.wire_base.specs.declared.tag.WireType.{WireType}
+use Rattle.wire_base.specs.AgreementLaws.{HasSlotsFor}
+use Rattle.wire_base.specs.Charge.{payload_charge}
+use Rattle.wire_base.specs.Fault.{PayloadFault}
+use Rattle.wire_base.specs.Field.{Payload}
+use Rattle.wire_base.specs.Limits.{Limits, uncounted}
+use Rattle.wire_base.specs.Taken.{TakesPayload}
+
+-- ---- passing over a payload, from the bytes old to the bytes new
+
+-- where decoding with as many levels takes a payload, the call succeeds and leaves the same rest
+abbrev pub FollowsDecoding : ℕ → ℕ → WireType → List ℕ → List ℕ → Result (Unit {0}) DecodeError
+    → Type 0
+FollowsDecoding levels n w old new result =
+    (l : Limits) (p : Payload) (rest : List ℕ) → l.depth ≡ levels
+    → TakesPayload (payload_charge p) l n w p old rest → IsOk result × (new ≡ rest)
+
+-- where decoding refuses for another cause than slots, the call refuses with the same error
+abbrev pub RefusesAsDecoding : ℕ → ℕ → WireType → List ℕ → Result (Unit {0}) DecodeError → Type 0
+RefusesAsDecoding levels n w old result =
+    (l : Limits) (e : DecodeError) → l.depth ≡ levels → PayloadFault l n w old e
+    → e ≢ UnknownFieldLimitExceeded → result ≡ Err e
+
+-- ---- keeping a payload
+
+-- with more slots than bytes the call never wants for a slot
+abbrev pub NeverWantsSlots : {T : Type 0} → Limits → List ℕ → Result T DecodeError → Type 0
+NeverWantsSlots l old result =
+    HasSlotsFor l old → IfErr result (λ e. e ≢ UnknownFieldLimitExceeded)
+
+-- then it keeps the payload that skipping takes, where memory is not refused
+abbrev pub KeepsWhatIsSkipped : {T : Type 0} → (T → Payload) → Limits → ℕ → WireType → List ℕ
+    → List ℕ → Result T DecodeError → Type 0
+KeepsWhatIsSkipped payload_in l n w old new result =
+    HasSlotsFor l old → (p : Payload) (rest : List ℕ)
+    → TakesPayload (payload_charge p) (uncounted l.depth) n w p old rest
+    → MatchResult result (λ kept. (payload_in kept ≡ p) × (new ≡ rest)) (λ e. e ≡ OutOfMemory)
+
+-- and refuses as skipping does
+abbrev pub RefusesAsSkipping : {T : Type 0} → Limits → ℕ → WireType → List ℕ
+    → Result T DecodeError → Type 0
+RefusesAsSkipping l n w old result =
+    HasSlotsFor l old → (e : DecodeError) → PayloadFault (uncounted l.depth) n w old e
+    → MatchResult result (λ kept. ⊥) (λ f. (f ≡ e) ⊎ (f ≡ OutOfMemory))
+
+-- ---- a payload that is cut off
+
+-- where the bytes are a payload within the limits but for some bytes at its end, these are missing
+abbrev pub IsShortWhereCut : {T : Type 0} → Limits → ℕ → WireType → List ℕ
+    → Result T DecodeError → Type 0
+IsShortWhereCut l n w old result =
+    (p : Payload) (missing : List ℕ) → missing ≢ []
+    → TakesPayload (payload_charge p) l n w p (old ++ missing) []
+    → MatchResult result (λ kept. ⊥) (λ e. (e ≡ UnexpectedEof) ⊎ (e ≡ OutOfMemory))
