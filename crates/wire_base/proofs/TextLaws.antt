@@ -1,15 +1,17 @@
 -- Laws of the shortest text of records: it spells them, and no text of them is shorter.
-use Rattle.std.proofs.Common.{◌≡◌, ℕ, ◌<◌, ◌≤◌, List, [], ◌∷◌, ◌++◌, length, get_or, refl, sym, ap, ◌∙◌, subst, ⊎_elim, arith, length-append}
-use Rattle.std.specs.Prelude.{All}
+use Rattle.std.proofs.Common.{◌≡◌, ℕ, ◌+◌, ◌<◌, ◌≤◌, List, [], ◌∷◌, ◌++◌, length, get_or, Result, Ok, Err, refl, sym, ap, ◌∙◌, subst, ⊎_elim, arith, length-append}
+use Rattle.std.specs.Prelude.{All, OnOk}
 use Rattle.std.proofs.lemmas.Bool.{cases_lt}
 use Rattle.std.proofs.lemmas.List.{get_or_past}
 use Rattle.std.proofs.lemmas.List.Elements.{All-nil, All-head, All-tail, All-cons, All-get_or}
 use Rattle.std.proofs.lemmas.Nat.{from_le_bytes-to_le_bytes_4, from_le_bytes-to_le_bytes_8, le_bytes_4, le_bytes_8}
+use Rattle.wire_base.specs.declared.error.EncodeError.{EncodeError}
 use Rattle.wire_base.specs.declared.tag.WireType.TheVariants.{EndGroup}
 use Rattle.wire_base.specs.Field.{Payload, varint, fixed64, fixed32, bytes, group, Fields, none, field, type_of}
 use Rattle.wire_base.specs.FieldNumber.{IsFieldNumber}
 use Rattle.wire_base.specs.InRange.{IsPayloadFitting, AreFitting, IsPayloadNumbered, AreNumbered}
 use Rattle.wire_base.specs.RecordLaws.{ShortestTextSpells, NoTextIsShorter, NoOtherTextIsAsShort, TextSpellsOneList}
+use Rattle.wire_base.specs.Shortest.{WritesShortest}
 use Rattle.wire_base.specs.Spells.{SpellsPayload, Spells}
 use Rattle.wire_base.specs.Tag.{IsTagSpelling, tag_text, tag_value}
 use Rattle.wire_base.specs.Text.{payload_text, text_of}
@@ -165,3 +167,18 @@ text_spells_one_list_lemma fs fit numbered = (
   λ gs h. one_spelled_lemma gs fs (text_of fs) h
       (Spells-text_of fs fit numbered),
 )
+
+-- ---- what was written
+
+pub writes_shortest : (fs : Fields) (text old new : List ℕ) (r : Result (Unit {0}) EncodeError)
+    → text ≡ text_of fs → OnOk r (new ≡ old ++ text) → OnOk r (WritesShortest fs old new)
+writes_shortest fs text old new (Ok u) is h =
+    let all : length new ≡ length old + length (text_of fs) =
+    ap length h ∙ length-append old text ∙ ap (λ t. length old + length t) is in
+    record {
+      no_longer = λ other spelled. omega (arith, all, text_at_most fs other spelled);
+      no_other = λ other all_bytes spelled long.
+          h ∙ ap (λ t. old ++ t)
+          (is ∙ sym (text_as_short fs other all_bytes spelled (omega (arith, all, long))));
+    }
+writes_shortest fs text old new (Err e) is h = tt

@@ -1,14 +1,16 @@
 -- One walk over the same bytes, and none beside a fault.
-use Rattle.std.proofs.Common.{◌≡◌, ◌≢◌, ℕ, suc, ◌+◌, ◌<◌, ◌≤◌, List, [], ◌∷◌, ◌++◌, length, refl, sym, ap, ap₂, ◌∙◌, subst, ⊎_elim, arith, append-nil, length-append}
+use Rattle.std.proofs.Common.{◌≡◌, ◌≢◌, ℕ, suc, ◌+◌, ◌^◌, ◌<◌, ◌≤◌, List, [], ◌∷◌, ◌++◌, length, Result, Ok, Err, refl, sym, ap, ap₂, ◌∙◌, subst, ⊎_elim, arith, append-nil, length-append}
+use Rattle.std.specs.Prelude.{IfOk, IfErr, MatchResult}
 use Rattle.wire_base.specs.declared.error.DecodeError.{DecodeError}
 use Rattle.wire_base.specs.declared.tag.WireType.{WireType}
 use Rattle.wire_base.specs.declared.tag.WireType.TheVariants.{StartGroup, EndGroup}
-use Rattle.wire_base.specs.Charge.{payload_charge}
+use Rattle.wire_base.specs.declared.flat_walk.UnknownSpanCharge.{UnknownSpanCharge}
+use Rattle.wire_base.specs.Charge.{payload_charge, charge, count}
 use Rattle.wire_base.specs.Field.{Payload, varint, fixed64, fixed32, bytes, group, Fields, none, field, type_of}
 use Rattle.wire_base.specs.Fault.{PayloadFault}
 use Rattle.wire_base.specs.ItemLaws.{OneWalk, NoWalkBesideFault}
-use Rattle.wire_base.specs.Items.{Item, start, end, whole, IsItem, SpellsItems, TakesItems, slots, flat_charge, ItemFault, SpanFault}
-use Rattle.wire_base.specs.Limits.{Limits, HaveRoom, Fits, one_field, each_less, left_after}
+use Rattle.wire_base.specs.Items.{Item, start, end, whole, IsItem, SpellsItems, TakesItems, slots, greatest_level, flat_charge, ItemFault, SpanFault}
+use Rattle.wire_base.specs.Limits.{Limits, Charge, HaveRoom, Fits, one_field, each_less, left_after}
 use Rattle.wire_base.specs.Read.{Reads}
 use Rattle.wire_base.specs.Spells.{Spells}
 use Rattle.wire_base.specs.Tag.{IsTagSpelling}
@@ -19,7 +21,7 @@ use Rattle.wire_base.proofs.JoinedLaws.{payload_as}
 use Rattle.wire_base.proofs.LimitsLaws.{HaveRoom-none, HaveRoom-second}
 use Rattle.wire_base.proofs.ReadLaws.{Reads-as, Reads-inside}
 use Rattle.wire_base.proofs.TagLaws.{same_tag, no_tag_beside_fault_lemma}
-use Rattle.wire_base.proofs.Walks.{slots-joined}
+use Rattle.wire_base.proofs.Walks.{slots-joined, records_are_items_lemma}
 
 -- ---- the tag that an item begins with
 
@@ -228,3 +230,30 @@ no_walk_beside_fault_lemma items l span e (SpanFault.past front rest taken fault
     let behind = goes_behind front items span rest taken.read (walk_all items span h.read) in
     walk_beside_fault l front behind.more rest e fault behind.others
     (subst (λ is. HaveRoom l.counts (flat_charge is).counts) behind.parts h.room)
+
+-- ---- what a walk over records takes
+
+-- where a span spells records whose slots are there, a walk over it takes what they are charged
+pub charges_records : (l new : Limits) (span : List ℕ) (r : Result UnknownSpanCharge DecodeError)
+    → IfOk r (λ taken. (items : List Item) × TakesItems items l span []
+    × (taken.fields ≡ slots items) × (taken.depth ≡ greatest_level 0 items)
+    × (new ≡ left_after l (flat_charge items)))
+    → IfErr r (SpanFault l span)
+    → (fs : Fields) → Spells fs span → (charge fs).depth < 2 ^ 32
+    → HaveRoom l.counts (charge fs).counts
+    → MatchResult r (λ taken. (taken.fields ≡ count fs) × (taken.depth ≡ (charge fs).depth)) (λ e. ⊥)
+charges_records l new span (Ok taken) (items, h, fields, depth, left) fault fs spelled few room =
+    let (others, walk, same) = records_are_items_lemma fs span spelled few in
+    let one : items ≡ others =
+    one_walk_lemma items others span (walk_all items span h.read) walk in
+    let charged : flat_charge items ≡ charge fs = ap flat_charge one ∙ same in (
+      fields ∙ ap (λ (c : Charge). c.counts.unknown_fields) charged,
+      depth ∙ ap (λ (c : Charge). c.depth) charged,
+    )
+charges_records l new span (Err e) ok fault fs spelled few room =
+    let (items, walk, same) = records_are_items_lemma fs span spelled few in
+    no_walk_beside_fault_lemma items l span e fault
+    (record {
+      read = record { text = span; parts = sym (append-nil span); spelled = walk };
+      room = subst (λ (c : Charge). HaveRoom l.counts c.counts) (sym same) room;
+    })

@@ -73,10 +73,16 @@ one_item : (n : ℕ) (p : Payload) (tag text : List ℕ) → type_of p ≢ Start
     → SpellsItems (whole n p ∷ []) (tag ++ text)
 one_item n p tag text flat h k = (
   [],
-  Reads-whole (IsItem (whole n p)) (tag ++ text)
-      (flat,
-      (text, [], record { text = tag; parts = refl; spelled = h },
-      Reads-whole (SpellsPayload n p) text k, refl)),
+  Reads-whole (IsItem (whole n p)) (tag ++ text) (
+    flat,
+    (
+      text,
+      [],
+      record { text = tag; parts = refl; spelled = h },
+      Reads-whole (SpellsPayload n p) text k,
+      refl,
+    ),
+  ),
   refl,
 )
 

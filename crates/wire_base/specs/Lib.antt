@@ -22,6 +22,7 @@ pub mod Read
 pub mod RecordLaws
 pub mod Refusal
 pub mod Rope
+pub mod Shortest
 pub mod Sink
 pub mod Spells
 pub mod Tag

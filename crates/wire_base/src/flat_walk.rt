@@ -1,7 +1,10 @@
 //! Records that are counted and not kept.
-ghost use Rattle.std.specs.Prelude.{◌≡◌, List, [], OnErr, IfOk, IfErr};
+ghost use Rattle.std.specs.Prelude.{◌≡◌, ◌^◌, ◌<◌, List, [], OnErr, IfOk, IfErr, MatchResult};
+ghost use Rattle.wire_base.specs.Charge.{charge, count};
+ghost use Rattle.wire_base.specs.Field.{Fields};
 ghost use Rattle.wire_base.specs.Items.{Item, TakesItems, SpanFault, flat_charge, greatest_level, slots};
-ghost use Rattle.wire_base.specs.Limits.{NoCountGrew, left_after};
+ghost use Rattle.wire_base.specs.Limits.{HaveRoom, NoCountGrew, left_after};
+ghost use Rattle.wire_base.specs.Spells.{Spells};
 
 use crate::decode_context::DecodeContext;
 use crate::error::DecodeError;
@@ -24,6 +27,23 @@ pub fn register_unknown_record(
     span: &[u8],
     context: &mut DecodeContext,
 ) -> Result<UnknownSpanCharge, DecodeError>
+    ensures ok { IfOk result (λ charge. (items : List Item)
+        × TakesItems items context.old span.now []
+        × (charge.fields ≡ slots items) × (charge.depth ≡ greatest_level 0 items)
+        × (context.new ≡ left_after context.old (flat_charge items))) }
+    ensures fault { IfErr result (SpanFault context.old span.now) }
+    ensures counts { OnErr result (NoCountGrew context.old context.new) }
+    ensures depth { context.new.depth ≡ context.old.depth }
+    ensures records { (fs : Fields) → Spells fs span.now → (charge fs).depth < 2 ^ 32
+        → HaveRoom context.old.counts (charge fs).counts
+        → MatchResult result
+        (λ taken. (taken.fields ≡ count fs) × (taken.depth ≡ (charge fs).depth)) (λ e. ⊥) }
+{
+    walk(span, context)
+}
+
+// Goes over the span.
+fn walk(span: &[u8], context: &mut DecodeContext) -> Result<UnknownSpanCharge, DecodeError>
     ensures ok { IfOk result (λ charge. (items : List Item)
         × TakesItems items context.old span.now []
         × (charge.fields ≡ slots items) × (charge.depth ≡ greatest_level 0 items)

@@ -1,8 +1,14 @@
 //! Groups that are not copied.
-ghost use Rattle.std.specs.Prelude.{◌≡◌, OnErr, IfOk, IfErr};
+ghost use Rattle.std.specs.Prelude.{◌≡◌, ◌≢◌, ℕ, ◌+◌, List, [], ◌++◌, OnErr, IfOk, IfErr, MatchResult};
+ghost use Rattle.wire_base.specs.declared.error.DecodeError.TheVariants.{UnexpectedEof};
+ghost use Rattle.wire_base.specs.declared.tag.WireType.TheVariants.{StartGroup};
+ghost use Rattle.wire_base.specs.Charge.{payload_charge};
 ghost use Rattle.wire_base.specs.Ending.{by_tag};
 ghost use Rattle.wire_base.specs.Fault.{ListFault};
-ghost use Rattle.wire_base.specs.Limits.{uncounted};
+ghost use Rattle.wire_base.specs.Field.{Fields, group};
+ghost use Rattle.wire_base.specs.Limits.{Limits, uncounted};
+ghost use Rattle.wire_base.specs.Spells.{Spells};
+ghost use Rattle.wire_base.specs.Taken.{TakesPayload};
 ghost use Rattle.wire_scalar.specs.Borrow.{BorrowsBody};
 
 use wire_base::{DecodeError, Tag, laws, skip_field_depth};
@@ -19,7 +25,21 @@ pub fn borrow_group<'a>(
         body.now buf.old.now buf.new.now) }
     ensures fault { IfErr result (ListFault (uncounted depth) (by_tag number) buf.old.now) }
     ensures unchanged { OnErr result (buf.new.now ≡ buf.old.now) }
+
+    // Where decoding with one level more takes a group, its body is borrowed.
+    ensures decoded { (l : Limits) (fs : Fields) (rest : List ℕ) → l.depth ≡ depth + 1
+        → TakesPayload (payload_charge (group fs)) l number StartGroup (group fs) buf.old.now rest
+        → MatchResult result (λ body. Spells fs body.now × (buf.new.now ≡ rest)) (λ e. ⊥) }
+    ensures cut { (fs : Fields) (missing : List ℕ) → missing ≢ []
+        → TakesPayload (payload_charge (group fs)) (uncounted (depth + 1)) number StartGroup
+        (group fs) (buf.old.now ++ missing) []
+        → MatchResult result (λ body. ⊥) (λ e. e ≡ UnexpectedEof) }
 {
+    laws::one_payload();
+    laws::one_payload_fault();
+    laws::no_payload_beside_fault();
+    laws::skipped_where_decoded();
+    laws::cut_is_short();
     let (body, rest) = split_group(*buf, number, depth)?;
     *buf = rest;
     Ok(body)

@@ -1,7 +1,8 @@
 //! Unknown fields as bytes.
 ghost use Rattle.std.specs.Prelude.{◌≡◌, ◌++◌, OnOk, OnErr};
 ghost use Rattle.wire_base.specs.Sink.{KeepsFront, WriteAnswers};
-ghost use Rattle.wire_base.specs.Field.{type_of};
+ghost use Rattle.wire_base.specs.Field.{none, field, type_of};
+ghost use Rattle.wire_base.specs.Shortest.{WritesShortest};
 ghost use Rattle.wire_base.specs.Text.{text_of, record_text};
 ghost use Rattle.wire_base.specs.UnknownFields.{payload_of};
 
@@ -13,13 +14,14 @@ use crate::varint::encode_varint;
 
 impl UnknownFields {
     /// Writes the shortest text of the records. Padding that they came with is gone.
-    #[cycle(write)]
     #[inline(always)]
     pub fn write_to<S: EncodeSink>(&self, sink: &mut S) -> Result<(), EncodeError>
         ensures ok { OnOk result (S.bytes_of sink.new ≡ S.bytes_of sink.old ++ text_of self.now) }
         ensures err { OnErr result (KeepsFront (S.bytes_of sink.old)
             (text_of self.now) (S.bytes_of sink.new)) }
         ensures cause { WriteAnswers S.most (S.bytes_of sink.old) (text_of self.now) result }
+        ensures shortest { OnOk result
+            (WritesShortest self.now (S.bytes_of sink.old) (S.bytes_of sink.new)) }
     {
         if self.is_empty() {
             return Ok(());
@@ -37,7 +39,7 @@ impl UnknownFields {
         ensures cause { WriteAnswers S.most (S.bytes_of sink.old) (text_of self.now) result }
     {
         for field in &self.fields {
-            field.write_to(sink)?;
+            field.write_record(sink)?;
         }
         Ok(())
     }
@@ -45,8 +47,23 @@ impl UnknownFields {
 
 impl UnknownField {
     /// Writes the shortest text of the record. Its number may be one that decoding refuses.
-    #[cycle(write)]
     pub fn write_to<S: EncodeSink>(&self, sink: &mut S) -> Result<(), EncodeError>
+        ensures ok { OnOk result (S.bytes_of sink.new
+            ≡ S.bytes_of sink.old ++ record_text self.now.number (payload_of self.now.value)) }
+        ensures err { OnErr result (KeepsFront (S.bytes_of sink.old)
+            (record_text self.now.number (payload_of self.now.value)) (S.bytes_of sink.new)) }
+        ensures cause { WriteAnswers S.most (S.bytes_of sink.old)
+            (record_text self.now.number (payload_of self.now.value)) result }
+        ensures shortest { OnOk result
+            (WritesShortest (field self.now.number (payload_of self.now.value) none)
+            (S.bytes_of sink.old) (S.bytes_of sink.new)) }
+    {
+        self.write_record(sink)
+    }
+
+    // Writes the record.
+    #[cycle(write)]
+    fn write_record<S: EncodeSink>(&self, sink: &mut S) -> Result<(), EncodeError>
         ensures ok { OnOk result (S.bytes_of sink.new
             ≡ S.bytes_of sink.old ++ record_text self.now.number (payload_of self.now.value)) }
         ensures err { OnErr result (KeepsFront (S.bytes_of sink.old)
@@ -75,7 +92,7 @@ impl UnknownField {
             }
             UnknownFieldData::Group(fields) => {
                 put_tag(number, WireType::StartGroup, sink)?;
-                fields.write_to(sink)?;
+                fields.write_fields(sink)?;
                 put_tag(number, WireType::EndGroup, sink)
             }
         }

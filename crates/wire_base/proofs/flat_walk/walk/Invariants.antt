@@ -1,6 +1,6 @@
 use Rattle.std.proofs.Common.{length}
 use Rattle.wire_base.proofs.Items.{Walked}
-use Rattle.wire_base.proofs.flat_walk.register_unknown_record.Given as goal
+use Rattle.wire_base.proofs.flat_walk.walk.Given as goal
 
 abbrev pub invariant-loop-rest : goal.invariant-loop-rest
 invariant-loop-rest l = Walked l.fn.context l.span l.rest l.level l.depth l.context
