@@ -1,11 +1,10 @@
 -- What a call does where it meets the definitions of skipping or of decoding.
-use Rattle.std.proofs.Common.{◌≡◌, ◌≢◌, ◌⊎◌, ℕ, List, [], ◌++◌, Result, Ok, Err, inl, inr, refl, sym, ap, ◌∙◌, subst, ⊎_elim}
+use Rattle.std.proofs.Common.{◌≡◌, ℕ, List, Result, Ok, Err, inl, inr, refl, sym, ap, ◌∙◌, subst, ⊎_elim}
 use Rattle.std.specs.Prelude.{IfOk, IfErr, OnOk}
 use Rattle.wire_base.specs.declared.error.DecodeError.{DecodeError}
 use Rattle.wire_base.specs.declared.error.DecodeError.TheVariants.{OutOfMemory, UnexpectedEof, UnknownFieldLimitExceeded}
 use Rattle.wire_base.specs.declared.tag.WireType.{WireType}
 use Rattle.wire_base.specs.Agreement.{FollowsDecoding, RefusesAsDecoding, NeverWantsSlots, KeepsWhatIsSkipped, RefusesAsSkipping, IsShortWhereCut}
-use Rattle.wire_base.specs.AgreementLaws.{HasSlotsFor}
 use Rattle.wire_base.specs.Charge.{payload_charge}
 use Rattle.wire_base.specs.Fault.{PayloadFault}
 use Rattle.wire_base.specs.Field.{Payload}

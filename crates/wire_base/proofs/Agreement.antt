@@ -1,5 +1,5 @@
 -- Decoding and skipping of the same bytes.
-use Rattle.std.proofs.Common.{◌≡◌, ◌≢◌, ℕ, ◌+◌, ◌%◌, ◌<◌, ◌≤◌, ◌^◌, List, [], ◌++◌, length, Option, Some, None, refl, sym, ap, ◌∙◌, subst, ⊎_elim, arith, length-append}
+use Rattle.std.proofs.Common.{◌≡◌, ◌≢◌, ℕ, ◌+◌, ◌%◌, ◌≤◌, ◌^◌, List, length, Option, Some, None, refl, sym, ap, ◌∙◌, subst, ⊎_elim, arith, length-append}
 use Rattle.wire_base.specs.declared.error.DecodeError.{DecodeError}
 use Rattle.wire_base.specs.declared.error.DecodeError.TheVariants.{InvalidFieldNumber, InvalidWireType, UnknownFieldLimitExceeded}
 use Rattle.wire_base.specs.declared.tag.WireType.{WireType}
@@ -9,11 +9,9 @@ use Rattle.wire_base.specs.Delimited.{DelimitedFault}
 use Rattle.wire_base.specs.Ending.{Ending, by_tag}
 use Rattle.wire_base.specs.Fault.{NextTagFault, bad_tag, other_end, PayloadFault, RecordFault, ListFault}
 use Rattle.wire_base.specs.Field.{Payload, varint, fixed64, fixed32, bytes, group, Fields, none, field, type_of}
-use Rattle.wire_base.specs.Limits.{Limits, Charge, HasRoom, HaveRoom, Fits, one_field, left_after, inner, less, uncounted}
-use Rattle.wire_base.specs.Read.{Reads}
-use Rattle.wire_base.specs.Spells.{SpellsPayload, Spells, IsPayload}
+use Rattle.wire_base.specs.Limits.{Limits, Charge, HasRoom, Fits, one_field, left_after, inner, less, uncounted}
+use Rattle.wire_base.specs.Spells.{SpellsPayload, Spells}
 use Rattle.wire_base.specs.Tag.{TagFault, tag_error}
-use Rattle.wire_base.specs.Taken.{TakesPayload, TakesFields}
 use Rattle.wire_base.specs.Varint.{VarintFault}
 use Rattle.std.proofs.lemmas.Bool.{cases_lt}
 use Rattle.wire_base.proofs.FieldLaws.{rest_below}

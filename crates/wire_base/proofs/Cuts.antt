@@ -1,5 +1,5 @@
 -- Faults, and bytes that follow them.
-use Rattle.std.proofs.Common.{◌≡◌, ◌≢◌, ◌⊎◌, ℕ, ◌<◌, List, [], ◌∷◌, ◌++◌, length, Option, None, inl, inr, refl, sym, ap, ◌∙◌, subst, ⊎_elim, append_assoc, append-nil, arith, length-append}
+use Rattle.std.proofs.Common.{◌≡◌, ◌⊎◌, ℕ, List, [], ◌∷◌, ◌++◌, None, inl, inr, refl, ap, ◌∙◌, subst, ⊎_elim, append_assoc, arith, length-append}
 use Rattle.wire_base.specs.declared.error.DecodeError.{DecodeError}
 use Rattle.wire_base.specs.declared.error.DecodeError.TheVariants.{UnexpectedEof}
 use Rattle.wire_base.specs.declared.tag.WireType.{WireType}
@@ -7,14 +7,14 @@ use Rattle.wire_base.specs.declared.tag.WireType.TheVariants as types
 use Rattle.wire_base.specs.AgreementLaws.{FaultsStay, CutIsShort}
 use Rattle.wire_base.specs.Charge.{payload_charge, charge}
 use Rattle.wire_base.specs.Delimited.{DelimitedFault}
-use Rattle.wire_base.specs.Ending.{Ending, by_limit, by_tag, GoesOn}
+use Rattle.wire_base.specs.Ending.{Ending, by_tag}
 use Rattle.wire_base.specs.Fault.{NextTagFault, bad_tag, other_end, PayloadFault, RecordFault, ListFault}
-use Rattle.wire_base.specs.Field.{Payload, Fields}
-use Rattle.wire_base.specs.Limits.{Limits, HasRoom, one_field, left_after, inner}
+use Rattle.wire_base.specs.Field.{Payload}
+use Rattle.wire_base.specs.Limits.{Limits, one_field, left_after, inner}
 use Rattle.wire_base.specs.Read.{Reads}
 use Rattle.wire_base.specs.Spells.{Spells, IsPayload}
 use Rattle.wire_base.specs.Tag.{IsTagSpelling, TagFault}
-use Rattle.wire_base.specs.Taken.{TakesPayload, TakesFields}
+use Rattle.wire_base.specs.Taken.{TakesPayload}
 use Rattle.wire_base.specs.Varint.{IsSpelling, VarintFault}
 use Rattle.wire_base.proofs.FaultLaws.{no_payload_beside_fault_lemma}
 use Rattle.wire_base.proofs.FieldLaws.{one_payload_lemma}

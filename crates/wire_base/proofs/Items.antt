@@ -1,10 +1,10 @@
 -- Items of a flat walk, one after another.
-use Rattle.std.proofs.Common.{◌≡◌, ◌≢◌, ℕ, suc, ◌+◌, ◌-◌, ◌^◌, ◌≤◌, max, min, List, [], ◌∷◌, ◌++◌, refl, sym, ap, ◌∙◌, append_assoc, append-nil, subst, arith}
+use Rattle.std.proofs.Common.{◌≡◌, ◌≢◌, ℕ, ◌+◌, ◌-◌, ◌^◌, ◌≤◌, max, min, List, [], ◌∷◌, ◌++◌, refl, sym, ap, ◌∙◌, append-nil, subst, arith}
 use Rattle.wire_base.specs.declared.error.DecodeError.{DecodeError}
 use Rattle.wire_base.specs.declared.tag.WireType.{WireType}
 use Rattle.wire_base.specs.declared.tag.WireType.TheVariants.{StartGroup, EndGroup}
 use Rattle.wire_base.specs.Fault.{PayloadFault}
-use Rattle.wire_base.specs.Field.{Payload, none, field, type_of}
+use Rattle.wire_base.specs.Field.{Payload}
 use Rattle.wire_base.specs.Items.{Item, start, end, whole, IsItem, SpellsItems, TakesItems, slots, level_after, greatest_level, flat_charge, ItemFault, SpanFault, past}
 use Rattle.wire_base.specs.Limits.{Limits, HaveRoom, Fits, one_field, each_less, left_after, uncounted}
 use Rattle.wire_base.specs.Read.{Reads}

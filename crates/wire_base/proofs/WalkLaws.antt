@@ -1,5 +1,5 @@
 -- One walk over the same bytes, and none beside a fault.
-use Rattle.std.proofs.Common.{◌≡◌, ◌≢◌, ℕ, suc, ◌+◌, ◌^◌, ◌<◌, ◌≤◌, List, [], ◌∷◌, ◌++◌, length, Result, Ok, Err, refl, sym, ap, ap₂, ◌∙◌, subst, ⊎_elim, arith, append-nil, length-append}
+use Rattle.std.proofs.Common.{◌≡◌, ◌≢◌, ℕ, ◌^◌, ◌<◌, ◌≤◌, List, [], ◌∷◌, ◌++◌, length, Result, Ok, Err, refl, sym, ap, ap₂, ◌∙◌, subst, ⊎_elim, arith, append-nil}
 use Rattle.std.specs.Prelude.{IfOk, IfErr, MatchResult}
 use Rattle.wire_base.specs.declared.error.DecodeError.{DecodeError}
 use Rattle.wire_base.specs.declared.tag.WireType.{WireType}
@@ -10,7 +10,7 @@ use Rattle.wire_base.specs.Field.{Payload, varint, fixed64, fixed32, bytes, grou
 use Rattle.wire_base.specs.Fault.{PayloadFault}
 use Rattle.wire_base.specs.ItemLaws.{OneWalk, NoWalkBesideFault}
 use Rattle.wire_base.specs.Items.{Item, start, end, whole, IsItem, SpellsItems, TakesItems, slots, greatest_level, flat_charge, ItemFault, SpanFault}
-use Rattle.wire_base.specs.Limits.{Limits, Charge, HaveRoom, Fits, one_field, each_less, left_after}
+use Rattle.wire_base.specs.Limits.{Limits, Charge, HaveRoom, Fits, one_field, left_after}
 use Rattle.wire_base.specs.Read.{Reads}
 use Rattle.wire_base.specs.Spells.{Spells}
 use Rattle.wire_base.specs.Tag.{IsTagSpelling}
@@ -18,7 +18,7 @@ use Rattle.wire_base.proofs.Agreement.{room_for_less}
 use Rattle.wire_base.proofs.FaultLaws.{no_payload_beside_fault_lemma}
 use Rattle.wire_base.proofs.FieldLaws.{either_front, head_of, none_takes_nothing, not_end_group, rest_below, Reads-here}
 use Rattle.wire_base.proofs.JoinedLaws.{payload_as}
-use Rattle.wire_base.proofs.LimitsLaws.{HaveRoom-none, HaveRoom-second}
+use Rattle.wire_base.proofs.LimitsLaws.{HaveRoom-second}
 use Rattle.wire_base.proofs.ReadLaws.{Reads-as, Reads-inside}
 use Rattle.wire_base.proofs.TagLaws.{same_tag, no_tag_beside_fault_lemma}
 use Rattle.wire_base.proofs.Walks.{slots-joined, records_are_items_lemma}

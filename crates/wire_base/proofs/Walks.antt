@@ -1,6 +1,5 @@
 -- Records as items, and what a flat walk takes for them.
-use Rattle.std.proofs.Common.{◌≡◌, ◌≢◌, ℕ, ◌+◌, ◌-◌, ◌^◌, ◌<◌, ◌≤◌, max, min, List, [], ◌∷◌, ◌++◌, length, refl, sym, ap, ◌∙◌, subst, arith, append_assoc, append-nil}
-use Rattle.wire_base.specs.declared.tag.WireType.{WireType}
+use Rattle.std.proofs.Common.{◌≡◌, ◌≢◌, ℕ, ◌+◌, ◌-◌, ◌^◌, ◌<◌, ◌≤◌, max, List, [], ◌∷◌, ◌++◌, refl, sym, ap, ◌∙◌, subst, arith, append_assoc, append-nil}
 use Rattle.wire_base.specs.declared.tag.WireType.TheVariants.{StartGroup, EndGroup}
 use Rattle.wire_base.specs.Charge.{payload_charge, payload_count, charge, count}
 use Rattle.wire_base.specs.Field.{Payload, varint, fixed64, fixed32, bytes, group, Fields, none, field, type_of}
@@ -8,7 +7,7 @@ use Rattle.wire_base.specs.ItemLaws.{RecordsAreItems}
 use Rattle.wire_base.specs.Items.{Item, start, end, whole, IsItem, SpellsItems, slots, level_after, greatest_level, flat_charge}
 use Rattle.wire_base.specs.Limits.{Charge}
 use Rattle.wire_base.specs.Read.{Reads}
-use Rattle.wire_base.specs.Spells.{SpellsPayload, Spells, IsPayload}
+use Rattle.wire_base.specs.Spells.{SpellsPayload, Spells}
 use Rattle.wire_base.specs.Tag.{IsTagSpelling}
 use Rattle.wire_base.proofs.Agreement.{no_elements}
 use Rattle.wire_base.proofs.Items.{level_behind}

@@ -1,5 +1,5 @@
 -- Calls that pass over or keep the same payload agree, and one that is cut off is short input.
-use Rattle.std.specs.Prelude.{◌≡◌, ◌≢◌, ◌⊎◌, ℕ, ◌^◌, ◌<◌, ◌+◌, ◌≤◌, List, [], ◌++◌, length, All, Result, Err, IsOk, OnOk, IfErr, MatchResult}
+use Rattle.std.specs.Prelude.{◌≡◌, ◌≢◌, ◌⊎◌, ℕ, List, [], ◌++◌, Result, Err, IsOk, IfErr, MatchResult}
 use Rattle.wire_base.specs.declared.error.DecodeError.{DecodeError}
 use Rattle.wire_base.specs.declared.error.DecodeError.TheVariants.{OutOfMemory, UnexpectedEof, UnknownFieldLimitExceeded}
 use Rattle.wire_base.specs.declared.tag.WireType.{WireType}

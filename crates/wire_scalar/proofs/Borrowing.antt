@@ -126,8 +126,7 @@ module _ (depth n : ℕ) (old : List ℕ) (fs : Fields) where
   body_decoded one_payload body new rest l b h =
       let one = one_payload n StartGroup (group b.fields) (group fs) old new rest
       (payload_borrowed (uncounted depth) n body old new b) h.read in
-      let records : b.fields ≡ fs = let groups = one.0 in cc in
-      (
+      let records : b.fields ≡ fs = let groups = one.0 in cc in (
         subst (λ gs. Spells gs body) records (body_spelled (uncounted depth) n body old new b),
         one.1,
       )

@@ -1,4 +1,4 @@
-use Rattle.std.proofs.Common.{rules, arith, ap, sym, refl, ◌∙◌, ◌∷◌}
+use Rattle.std.proofs.Common.{arith, ap, sym, refl, ◌∙◌, ◌∷◌}
 use Rattle.wire_base.proofs.RopeReads.{LeftToDrop-past, LeftToDrop-none, first_looked_at}
 use Rattle.wire_base.proofs.rope.buf.drop_front.Goals as goal
 
