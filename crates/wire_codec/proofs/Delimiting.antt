@@ -1,14 +1,33 @@
 -- A text with its length written before it.
 use Rattle.std.proofs.Common.{◌≡◌, ℕ, ◌≤◌, List, ◌++◌, length, Option, Result, Ok, Err, subst, ap}
-use Rattle.std.proofs.Common.{◌∙◌, append_assoc, arith}
+use Rattle.std.proofs.Common.{◌∙◌, [], append_assoc, append-nil, arith, inr, refl, sym}
 use Rattle.std.proofs.lemmas.Result.{on_ok_weaker}
 use Rattle.wire_base.specs.declared.error.EncodeError.{EncodeError}
+use Rattle.wire_base.specs.declared.error.EncodeError.TheVariants.{OutOfMemory}
 use Rattle.wire_base.specs.WriteLaws.{TwoParts}
 use Rattle.wire_base.specs.Sink.{KeepsFront, WriteAnswers}
 use Rattle.wire_base.specs.Varint.{shortest_varint}
 use Rattle.wire_base.specs.Delimited.{delimited_text}
 use Rattle.wire_codec.specs.Encoding.{TriesToWrite}
 use Rattle.wire_codec.specs.Writes.{Writes}
+
+-- memory was refused before anything was written
+pub unwritten : (most : Option ℕ) (text old : List ℕ)
+    → Writes most text old old (Err OutOfMemory)
+unwritten most text old = record {
+  ok = tt;
+  err = record { front = []; rest = text; parts = refl; held = sym (append-nil old) };
+  cause = tt;
+}
+
+-- the same, whether the message may have so many bytes or not
+pub tries_unwritten : (len : ℕ) (most : Option ℕ) (text old : List ℕ)
+    → TriesToWrite len most text old old (Err OutOfMemory)
+tries_unwritten len most text old = record {
+  within = tt;
+  fits = λ fits. unwritten most text old;
+  too_large = λ large. (inr refl, refl);
+}
 
 -- a write that is not refused for size
 pub tries_small : (len : ℕ) (most : Option ℕ) (old text new : List ℕ)

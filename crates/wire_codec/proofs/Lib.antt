@@ -5,4 +5,5 @@ pub mod Measured
 pub mod Pieces
 pub mod RecordsLaws
 pub mod SizesLaws
+pub mod Slots
 pub mod TakenAll

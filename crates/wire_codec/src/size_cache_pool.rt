@@ -211,9 +211,19 @@ mod tests {
         )
     }
 
+    // A cache that never had a seventeenth slot leaves nothing to keep.
+    fn keeps_nothing(alloc: Global) -> bool {
+        let mut pool = SizeCachePool::new(alloc, 4, 8);
+        let mut cache = pool.acquire();
+        let taken = (0..16).all(|_| cache.reserve().is_ok());
+        pool.release(cache);
+        taken && pool.buffers.is_empty()
+    }
+
     #[test]
     fn buffers_are_kept_or_given_up(rt: HostRuntime) {
         assert_ne!(rt; keeps_small_ones(rt.alloc()), Ok(false));
+        assert!(rt; keeps_nothing(rt.alloc()));
     }
 
     #[test]

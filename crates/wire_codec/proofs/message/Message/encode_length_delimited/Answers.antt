@@ -1,6 +1,6 @@
 use Rattle.std.proofs.Common.{◌∙◌}
 use Rattle.std.proofs.lemmas.Result.{err_from_is_err_and}
-use Rattle.wire_codec.proofs.Delimiting.{length_refused, behind_length}
+use Rattle.wire_codec.proofs.Delimiting.{unwritten, length_refused, behind_length}
 use Rattle.wire_codec.proofs.Measured.{next_are_sizes}
 use Rattle.wire_codec.proofs.SizesLaws.{whole_size}
 use Rattle.wire_codec.proofs.message.Message.encode_length_delimited.Goals as goal
@@ -8,6 +8,11 @@ use Rattle.wire_codec.proofs.message.Message.encode_length_delimited.Goals as go
 pub write_to-requires-clause-sizes : goal.write_to-requires-clause-sizes
 write_to-requires-clause-sizes g c =
     next_are_sizes _ _ (rw c.new-cache.ensures at c.in_ok-len.ensures.sizes) c.requires
+
+pub returns-in_err-len : goal.returns-in_err-len
+returns-in_err-len g c =
+    let p = err_from_is_err_and c.from_residual.result c.from_residual.ensures.1 in
+    rw (p.1, p.2, c.in_err-len.ensures.err) (unwritten _ _ _)
 
 pub returns-in_err-encode_varint : goal.returns-in_err-encode_varint
 returns-in_err-encode_varint g c =
