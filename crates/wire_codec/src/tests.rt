@@ -1,4 +1,6 @@
 //! Worked rows, with ample memory and with memory refused.
+mod refusals;
+
 use crate::size::{MAX_MESSAGE_BYTES, checked_encode_size, saturate_size};
 use crate::size_cache::SizeCache;
 use std::alloc::Global;

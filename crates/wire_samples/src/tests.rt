@@ -6,6 +6,7 @@ mod node;
 mod options;
 mod person;
 mod pool;
+mod refusals;
 mod repeat;
 
 use crate::person::Person;
