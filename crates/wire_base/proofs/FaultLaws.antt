@@ -210,7 +210,7 @@ mutual
 -- ---- one fault of a payload
 
 -- with no slot left there is this fault alone
-no_slot_only : (l : Limits) (n : ℕ) (w : WireType) (old : List ℕ) (f : DecodeError)
+pub no_slot_only : (l : Limits) (n : ℕ) (w : WireType) (old : List ℕ) (f : DecodeError)
     → ¬ Fits one_field l → PayloadFault l n w old f → UnknownFieldLimitExceeded ≡ f
 no_slot_only l n w old f full (PayloadFault.no_slot also) = refl
 no_slot_only l n w old f full (PayloadFault.no_varint slot fault) = absurd (full slot)

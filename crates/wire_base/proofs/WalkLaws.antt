@@ -1,5 +1,5 @@
 -- One walk over the same bytes, and none beside a fault.
-use Rattle.std.proofs.Common.{◌≡◌, ◌≢◌, ℕ, ◌^◌, ◌<◌, ◌≤◌, List, [], ◌∷◌, ◌++◌, length, Result, Ok, Err, refl, sym, ap, ap₂, ◌∙◌, subst, ⊎_elim, arith, append-nil}
+use Rattle.std.proofs.Common.{◌≡◌, ◌≢◌, ◌⊎◌, ℕ, ◌^◌, ◌<◌, ◌≤◌, List, [], ◌∷◌, ◌++◌, length, Result, Ok, Err, inl, inr, refl, sym, ap, ap₂, ◌∙◌, subst, ⊎_elim, arith, append-nil}
 use Rattle.std.specs.Prelude.{IfOk, IfErr, MatchResult}
 use Rattle.wire_base.specs.declared.error.DecodeError.{DecodeError}
 use Rattle.wire_base.specs.declared.tag.WireType.{WireType}
@@ -8,19 +8,19 @@ use Rattle.wire_base.specs.declared.flat_walk.UnknownSpanCharge.{UnknownSpanChar
 use Rattle.wire_base.specs.Charge.{payload_charge, charge, count}
 use Rattle.wire_base.specs.Field.{Payload, varint, fixed64, fixed32, bytes, group, Fields, none, field, type_of}
 use Rattle.wire_base.specs.Fault.{PayloadFault}
-use Rattle.wire_base.specs.ItemLaws.{OneWalk, NoWalkBesideFault}
+use Rattle.wire_base.specs.ItemLaws.{OneWalk, NoWalkBesideFault, OneSpanFault}
 use Rattle.wire_base.specs.Items.{Item, start, end, whole, IsItem, SpellsItems, TakesItems, slots, greatest_level, flat_charge, ItemFault, SpanFault}
 use Rattle.wire_base.specs.Limits.{Limits, Charge, HaveRoom, Fits, one_field, left_after}
 use Rattle.wire_base.specs.Read.{Reads}
 use Rattle.wire_base.specs.Spells.{Spells}
 use Rattle.wire_base.specs.Tag.{IsTagSpelling}
 use Rattle.wire_base.proofs.Agreement.{room_for_less}
-use Rattle.wire_base.proofs.FaultLaws.{no_payload_beside_fault_lemma}
+use Rattle.wire_base.proofs.FaultLaws.{no_payload_beside_fault_lemma, one_payload_fault_lemma, no_slot_only}
 use Rattle.wire_base.proofs.FieldLaws.{either_front, head_of, none_takes_nothing, not_end_group, rest_below, Reads-here}
 use Rattle.wire_base.proofs.JoinedLaws.{payload_as}
 use Rattle.wire_base.proofs.LimitsLaws.{HaveRoom-second}
 use Rattle.wire_base.proofs.ReadLaws.{Reads-as, Reads-inside}
-use Rattle.wire_base.proofs.TagLaws.{same_tag, no_tag_beside_fault_lemma}
+use Rattle.wire_base.proofs.TagLaws.{same_tag, no_tag_beside_fault_lemma, one_tag_fault_lemma}
 use Rattle.wire_base.proofs.Walks.{slots-joined, records_are_items_lemma}
 
 -- ---- the tag that an item begins with
@@ -196,29 +196,40 @@ item_beside_fault l (whole k p) n w old behind new e h tag inside flat fault slo
       fits = flat_fits l p h.spelled.0 slot;
     })
 
+-- an item that has its slot, and a fault in its place
+no_item_beside_fault : (l : Limits) (front more : List Item) (i : Item) (rest new : List ℕ)
+    (e : DecodeError) → ItemFault (left_after l (flat_charge front)) rest e
+    → Reads rest (IsItem i) new → HaveRoom l.counts (flat_charge (front ++ i ∷ more)).counts → ⊥
+no_item_beside_fault l front more i rest new e (ItemFault.no_tag some fault) h room =
+    let b = begins i rest new h in
+    no_tag_beside_fault_lemma rest b.behind (number_of i) (kind_of i) e b.tag fault
+no_item_beside_fault l front more i rest new e
+    (ItemFault.no_slot n w behind tag inside full) h room =
+    let b = begins i rest new h in
+    let kind = (same_tag rest b.behind behind (number_of i) n (kind_of i) w b.tag tag).kind in
+    full (slot_for l front more i room (takes_slot i more (λ is. inside (sym kind ∙ is))))
+no_item_beside_fault l front more i rest new e
+    (ItemFault.bad_payload n w behind tag inside flat fault) h room =
+    let b = begins i rest new h in
+    let kind = (same_tag rest b.behind behind (number_of i) n (kind_of i) w b.tag tag).kind in
+    item_beside_fault (left_after l (flat_charge front)) i n w rest behind new e h tag inside flat
+    fault (slot_for l front more i room (takes_slot i more (λ is. inside (sym kind ∙ is))))
+
+-- some bytes are left where a fault stands
+fault_there : (l : Limits) (rest : List ℕ) (e : DecodeError) → ItemFault l rest e → rest ≡ [] → ⊥
+fault_there l rest e (ItemFault.no_tag some fault) empty = some empty
+fault_there l rest e (ItemFault.no_slot n w behind tag inside full) empty =
+    omega (arith, rest_below n w rest behind tag, ap length empty)
+fault_there l rest e (ItemFault.bad_payload n w behind tag inside flat fault) empty =
+    omega (arith, rest_below n w rest behind tag, ap length empty)
+
 walk_beside_fault : (l : Limits) (front more : List Item) (rest : List ℕ) (e : DecodeError)
     → ItemFault (left_after l (flat_charge front)) rest e → SpellsItems more rest
     → HaveRoom l.counts (flat_charge (front ++ more)).counts → ⊥
-walk_beside_fault l front [] rest e (ItemFault.no_tag some fault) h room = some h
-walk_beside_fault l front [] rest e (ItemFault.no_slot n w behind tag inside full) h room =
-    omega (arith, rest_below n w rest behind tag, ap length h)
-walk_beside_fault l front [] rest e
-    (ItemFault.bad_payload n w behind tag inside flat fault) h room =
-    omega (arith, rest_below n w rest behind tag, ap length h)
-walk_beside_fault l front (i ∷ more) rest e (ItemFault.no_tag some fault) (r, h, others) room =
-    let b = begins i rest r h in
-    no_tag_beside_fault_lemma rest b.behind (number_of i) (kind_of i) e b.tag fault
-walk_beside_fault l front (i ∷ more) rest e
-    (ItemFault.no_slot n w behind tag inside full) (r, h, others) room =
-    let b = begins i rest r h in
-    let kind = (same_tag rest b.behind behind (number_of i) n (kind_of i) w b.tag tag).kind in
-    full (slot_for l front more i room (takes_slot i more (λ is. inside (sym kind ∙ is))))
-walk_beside_fault l front (i ∷ more) rest e
-    (ItemFault.bad_payload n w behind tag inside flat fault) (r, h, others) room =
-    let b = begins i rest r h in
-    let kind = (same_tag rest b.behind behind (number_of i) n (kind_of i) w b.tag tag).kind in
-    item_beside_fault (left_after l (flat_charge front)) i n w rest behind r e h tag inside flat
-    fault (slot_for l front more i room (takes_slot i more (λ is. inside (sym kind ∙ is))))
+walk_beside_fault l front [] rest e fault h room =
+    fault_there (left_after l (flat_charge front)) rest e fault h
+walk_beside_fault l front (i ∷ more) rest e fault (r, h, others) room =
+    no_item_beside_fault l front more i rest r e fault h room
 
 -- all of the bytes are the items behind which nothing is left
 walk_all : (items : List Item) (old : List ℕ) → Reads old (SpellsItems items) []
@@ -230,6 +241,116 @@ no_walk_beside_fault_lemma items l span e (SpanFault.past front rest taken fault
     let behind = goes_behind front items span rest taken.read (walk_all items span h.read) in
     walk_beside_fault l front behind.more rest e fault behind.others
     (subst (λ is. HaveRoom l.counts (flat_charge is).counts) behind.parts h.room)
+
+-- ---- one fault
+
+one_item_fault : (l : Limits) (old : List ℕ) (e f : DecodeError) → ItemFault l old e
+    → ItemFault l old f → e ≡ f
+one_item_fault l old e f (ItemFault.no_tag some fault) (ItemFault.no_tag also other) =
+    one_tag_fault_lemma old e f fault other
+one_item_fault l old e f (ItemFault.no_tag some fault) (ItemFault.no_slot n w behind tag inside full) =
+    absurd (no_tag_beside_fault_lemma old behind n w e tag fault)
+one_item_fault l old e f (ItemFault.no_tag some fault)
+    (ItemFault.bad_payload n w behind tag inside flat other) =
+    absurd (no_tag_beside_fault_lemma old behind n w e tag fault)
+one_item_fault l old e f (ItemFault.no_slot n w behind tag inside full) (ItemFault.no_tag some fault) =
+    absurd (no_tag_beside_fault_lemma old behind n w f tag fault)
+one_item_fault l old e f (ItemFault.no_slot n w behind tag inside full)
+    (ItemFault.no_slot m x after other within also) = refl
+one_item_fault l old e f (ItemFault.no_slot n w behind tag inside full)
+    (ItemFault.bad_payload m x after other within flat fault) =
+    no_slot_only l m x after f full fault
+one_item_fault l old e f (ItemFault.bad_payload n w behind tag inside flat fault)
+    (ItemFault.no_tag some other) =
+    absurd (no_tag_beside_fault_lemma old behind n w f tag other)
+one_item_fault l old e f (ItemFault.bad_payload n w behind tag inside flat fault)
+    (ItemFault.no_slot m x after other within full) =
+    sym (no_slot_only l n w behind e full fault)
+one_item_fault l old e f (ItemFault.bad_payload n w behind tag inside flat fault)
+    (ItemFault.bad_payload m x after other within level again) =
+    let same = same_tag old behind after n m w x tag other in
+    one_payload_fault_lemma l n w behind e f fault
+    (subst (λ t. PayloadFault l n w t f) (sym same.rest)
+    (subst (λ k. PayloadFault l n k after f) (sym same.kind)
+    (subst (λ k. PayloadFault l k x after f) (sym same.number) again)))
+
+-- of two walks from the same place the second goes on where the first ends
+record WalksOn (front items : List Item) (mid new : List ℕ) : Type 0 where
+  pub more : List Item
+  pub parts : items ≡ front ++ more
+  pub others : Reads mid (SpellsItems more) new
+
+-- the first item of a walk, and the others
+first_of : (i : Item) (items : List Item) (old new : List ℕ) → Reads old (SpellsItems (i ∷ items)) new
+    → (mid : List ℕ) × Reads old (IsItem i) mid × Reads mid (SpellsItems items) new
+first_of i items old new h =
+    let (rest, first, others) = h.spelled in (
+      rest ++ new,
+      Reads-inside (IsItem i) old h.text rest new h.parts first,
+      Reads-here (SpellsItems items) rest new others,
+    )
+
+-- no items take nothing
+no_items : (old new : List ℕ) → Reads old (SpellsItems []) new → old ≡ new
+no_items old new h = h.parts ∙ ap (λ t. t ++ new) h.spelled
+
+walks_on : (front items : List Item) (old r s : List ℕ) → Reads old (SpellsItems front) r
+    → Reads old (SpellsItems items) s → WalksOn front items r s ⊎ WalksOn items front s r
+walks_on [] items old r s h k =
+    inl (record {
+      more = items;
+      parts = refl;
+      others = subst (λ t. Reads t (SpellsItems items) s) (no_items old r h) k;
+    })
+walks_on (g ∷ front) [] old r s h k =
+    inr (record {
+      more = g ∷ front;
+      parts = refl;
+      others = subst (λ t. Reads t (SpellsItems (g ∷ front)) r) (no_items old s k) h;
+    })
+walks_on (g ∷ front) (i ∷ items) old r s h k =
+    let (mid, first, others) = first_of g front old r h in
+    let (after, also, more) = first_of i items old s k in
+    let one = one_item_only g i old mid after first also in
+    ⊎_elim
+    (λ on. inl (record {
+      more = on.more;
+      parts = ap₂ (λ x xs. x ∷ xs) (sym one.0) on.parts;
+      others = on.others;
+    }))
+    (λ on. inr (record {
+      more = on.more;
+      parts = ap₂ (λ x xs. x ∷ xs) one.0 on.parts;
+      others = on.others;
+    }))
+    (walks_on front items mid r s others
+    (subst (λ t. Reads t (SpellsItems items) s) (sym one.1) more))
+
+-- a fault behind items, and another behind these and more
+fault_behind : (l : Limits) (front more : List Item) (rest after : List ℕ) (e f : DecodeError)
+    → ItemFault (left_after l (flat_charge front)) rest e → Reads rest (SpellsItems more) after
+    → HaveRoom l.counts (flat_charge (front ++ more)).counts
+    → ItemFault (left_after l (flat_charge (front ++ more))) after f → e ≡ f
+fault_behind l front [] rest after e f fault h room other =
+    one_item_fault (left_after l (flat_charge front)) rest e f fault
+    (subst (λ is. ItemFault (left_after l (flat_charge is)) rest f) (append-nil front)
+    (subst (λ t. ItemFault (left_after l (flat_charge (front ++ []))) t f)
+    (sym (no_items rest after h)) other))
+fault_behind l front (i ∷ more) rest after e f fault h room other =
+    let (mid, first, others) = first_of i more rest after h in
+    absurd (no_item_beside_fault l front more i rest mid e fault first room)
+
+pub one_span_fault_lemma : OneSpanFault
+one_span_fault_lemma l span e f
+    (SpanFault.past gs rest taken fault) (SpanFault.past hs after also other) =
+    ⊎_elim
+    (λ on. fault_behind l gs on.more rest after e f fault on.others
+    (subst (λ is. HaveRoom l.counts (flat_charge is).counts) on.parts also.room)
+    (subst (λ is. ItemFault (left_after l (flat_charge is)) after f) on.parts other))
+    (λ on. sym (fault_behind l hs on.more after rest f e other on.others
+    (subst (λ is. HaveRoom l.counts (flat_charge is).counts) on.parts taken.room)
+    (subst (λ is. ItemFault (left_after l (flat_charge is)) rest e) on.parts fault)))
+    (walks_on gs hs span rest after taken.read also.read)
 
 -- ---- what a walk over records takes
 

@@ -20,6 +20,12 @@ OneWalk =
     (items others : List Item) (text : List ℕ) → SpellsItems items text → SpellsItems others text
     → items ≡ others
 
+-- a span has one fault
+abbrev pub OneSpanFault : Type 0
+OneSpanFault =
+    (l : Limits) (span : List ℕ) (e f : DecodeError) → SpanFault l span e → SpanFault l span f
+    → e ≡ f
+
 -- where the grammar names a fault, the span is no list of items for which there are slots
 abbrev pub NoWalkBesideFault : Type 0
 NoWalkBesideFault =

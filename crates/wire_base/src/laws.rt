@@ -5,7 +5,7 @@ ghost use Rattle.wire_base.specs.LimitsLaws.{ChargesAddUp, LimitsAddUp, LevelsAd
 ghost use Rattle.wire_base.specs.RecordLaws.{PayloadIsField, OnePayload, OneSpelled, OneList, WholeInput, GroupIsList, JoinedTextsSpell, JoinedAddsUp, RecordsOneByOne, RecordsFromTheFront, ShortestTextSpells, NoTextIsShorter, NoOtherTextIsAsShort, TextSpellsOneList, SpelledAreNumbered, NumberedTogether};
 ghost use Rattle.wire_base.specs.FaultLaws.{NoPayloadBesideFault, NoListBesideFault, OnePayloadFault, OneListFault, PayloadOrFaultStands, ListOrFaultStands};
 ghost use Rattle.wire_base.specs.AgreementLaws.{SkippedWhereDecoded, RefusedAlike, SlotsSuffice, FaultsStay, CutIsShort};
-ghost use Rattle.wire_base.specs.ItemLaws.{RecordsAreItems, OneWalk, NoWalkBesideFault};
+ghost use Rattle.wire_base.specs.ItemLaws.{RecordsAreItems, OneWalk, NoWalkBesideFault, OneSpanFault};
 ghost use Rattle.wire_base.specs.WriteLaws.{TwoParts, PutIsWrite};
 
 /// The shortest varint of a number reads back as that number, whatever follows it.
@@ -272,6 +272,11 @@ pub fn one_walk()
 /// Where the grammar names a fault, the span is no list of items for which there are slots.
 pub fn no_walk_beside_fault()
     ensures { NoWalkBesideFault }
+{}
+
+/// A span has one fault at most.
+pub fn one_span_fault()
+    ensures { OneSpanFault }
 {}
 
 /// A write of two texts, one behind the other, is a write of the joined text.
