@@ -63,6 +63,7 @@ impl UnknownField {
 
     // Writes the record.
     #[cycle(write)]
+    #[inline(always)]
     fn write_record<S: EncodeSink>(&self, sink: &mut S) -> Result<(), EncodeError>
         ensures ok { OnOk result (S.bytes_of sink.new
             ≡ S.bytes_of sink.old ++ record_text self.now.number (payload_of self.now.value)) }
