@@ -4,7 +4,7 @@ use Rattle.std.specs.Prelude.{IfOk, IfErr, OnOk}
 use Rattle.wire_base.specs.declared.error.DecodeError.{DecodeError}
 use Rattle.wire_base.specs.declared.error.DecodeError.TheVariants.{OutOfMemory, UnexpectedEof, UnknownFieldLimitExceeded}
 use Rattle.wire_base.specs.declared.tag.WireType.{WireType}
-use Rattle.wire_base.specs.Agreement.{FollowsDecoding, RefusesAsDecoding, NeverWantsSlots, KeepsWhatIsSkipped, RefusesAsSkipping, IsShortWhereCut}
+use Rattle.wire_base.specs.Agreement.{FollowsDecoding, RefusesAsDecoding, NeverWantsSlots, KeepsWhatIsSkipped, RefusesAsSkipping, IsShortWhereCut, IsShortOrWantsMemory, StaysRefused, FaultOrMemory}
 use Rattle.wire_base.specs.Charge.{payload_charge}
 use Rattle.wire_base.specs.Fault.{PayloadFault}
 use Rattle.wire_base.specs.Field.{Payload}
@@ -12,7 +12,7 @@ use Rattle.wire_base.specs.Limits.{Limits, uncounted}
 use Rattle.wire_base.specs.Refusal.{PayloadRefusal}
 use Rattle.wire_base.specs.Taken.{TakesPayload}
 use Rattle.wire_base.proofs.Agreement.{skipped_where_decoded_lemma, refused_alike_lemma, slots_suffice_lemma}
-use Rattle.wire_base.proofs.Cuts.{cut_is_short_lemma}
+use Rattle.wire_base.proofs.Cuts.{cut_is_short_lemma, faults_stay_lemma}
 use Rattle.wire_base.proofs.FaultLaws.{no_payload_beside_fault_lemma, one_payload_fault_lemma}
 use Rattle.wire_base.proofs.FieldLaws.{one_payload_lemma}
 use Rattle.wire_base.proofs.Skips.{SkipsPayload}
@@ -47,11 +47,19 @@ module _ (levels n : ℕ) (w : WireType) (old new : List ℕ) where
       → IfErr r (PayloadFault (uncounted levels) n w old)
       → IsShortWhereCut (uncounted levels) n w old r
   skip_is_short (Ok u) ok fault p missing some h =
-      no_payload_beside_fault_lemma (uncounted levels) n w old new UnexpectedEof ok.0
-      (cut_is_short_lemma (uncounted levels) n w p old missing some h) ok.1
+      absurd (no_payload_beside_fault_lemma (uncounted levels) n w old new UnexpectedEof ok.0
+      (cut_is_short_lemma (uncounted levels) n w p old missing some h) ok.1)
   skip_is_short (Err e) ok fault p missing some h =
-      inl (one_payload_fault_lemma (uncounted levels) n w old e UnexpectedEof fault
+      ap Err (one_payload_fault_lemma (uncounted levels) n w old e UnexpectedEof fault
       (cut_is_short_lemma (uncounted levels) n w p old missing some h))
+
+  pub skip_stays : (r : Result (Unit {0}) DecodeError)
+      → IfErr r (PayloadFault (uncounted levels) n w old)
+      → StaysRefused (PayloadFault (uncounted levels) n w) old r
+  skip_stays (Ok u) fault = tt
+  skip_stays (Err e) fault =
+      λ other more. ⊎_elim (λ short. absurd (other short)) (λ stays. stays)
+      (faults_stay_lemma.payload (uncounted levels) n w old more e fault)
 
 -- ---- a call that keeps
 
@@ -97,7 +105,7 @@ module _ {T : Type 0} (payload_in : T → Payload) (l : Limits) (n : ℕ) (w : W
   pub keep_is_short : (r : Result T DecodeError)
       → IfOk r (λ kept. TakesPayload (payload_charge (payload_in kept)) l n w (payload_in kept) old
       new)
-      → IfErr r (PayloadRefusal l n w old) → IsShortWhereCut l n w old r
+      → IfErr r (PayloadRefusal l n w old) → IsShortOrWantsMemory l n w old r
   keep_is_short (Ok kept) ok refused p missing some h =
       no_payload_beside_fault_lemma l n w old new UnexpectedEof (payload_in kept)
       (cut_is_short_lemma l n w p old missing some h) ok
@@ -105,4 +113,13 @@ module _ {T : Type 0} (payload_in : T → Payload) (l : Limits) (n : ℕ) (w : W
       ⊎_elim
       (λ fault. inl (one_payload_fault_lemma l n w old e UnexpectedEof fault
       (cut_is_short_lemma l n w p old missing some h)))
+      (λ memory. inr memory.0) refused
+
+  pub keep_stays : (r : Result T DecodeError) → IfErr r (PayloadRefusal l n w old)
+      → StaysRefused (FaultOrMemory l n w) old r
+  keep_stays (Ok kept) refused = tt
+  keep_stays (Err e) refused =
+      λ other more. ⊎_elim
+      (λ fault. ⊎_elim (λ short. absurd (other short)) (λ stays. inl stays)
+      (faults_stay_lemma.payload l n w old more e fault))
       (λ memory. inr memory.0) refused

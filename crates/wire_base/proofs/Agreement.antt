@@ -1,20 +1,25 @@
 -- Decoding and skipping of the same bytes.
-use Rattle.std.proofs.Common.{◌≡◌, ◌≢◌, ℕ, ◌+◌, ◌%◌, ◌≤◌, ◌^◌, List, length, Option, Some, None, refl, sym, ap, ◌∙◌, subst, ⊎_elim, arith, length-append}
+use Rattle.std.proofs.Common.{◌≡◌, ◌≢◌, ℕ, ◌+◌, ◌-◌, ◌%◌, ◌≤◌, ◌^◌, List, length, Option, Some, None, refl, sym, ap, ◌∙◌, subst, ⊎_elim, arith, length-append}
 use Rattle.wire_base.specs.declared.error.DecodeError.{DecodeError}
 use Rattle.wire_base.specs.declared.error.DecodeError.TheVariants.{InvalidFieldNumber, InvalidWireType, UnknownFieldLimitExceeded}
 use Rattle.wire_base.specs.declared.tag.WireType.{WireType}
-use Rattle.wire_base.specs.AgreementLaws.{SkippedWhereDecoded, RefusedAlike, HasSlotsFor, SlotsSuffice}
+use Rattle.wire_base.specs.declared.tag.WireType.TheVariants.{StartGroup}
+use Rattle.wire_base.specs.AgreementLaws.{SkippedWhereDecoded, RefusedAlike, HasSlotsFor, SlotsSuffice, BodyWhereDecoded}
 use Rattle.wire_base.specs.Charge.{payload_charge, payload_count, charge, count}
 use Rattle.wire_base.specs.Delimited.{DelimitedFault}
 use Rattle.wire_base.specs.Ending.{Ending, by_tag}
 use Rattle.wire_base.specs.Fault.{NextTagFault, bad_tag, other_end, PayloadFault, RecordFault, ListFault}
 use Rattle.wire_base.specs.Field.{Payload, varint, fixed64, fixed32, bytes, group, Fields, none, field, type_of}
 use Rattle.wire_base.specs.Limits.{Limits, Charge, HasRoom, Fits, one_field, left_after, inner, less, uncounted}
-use Rattle.wire_base.specs.Spells.{SpellsPayload, Spells}
+use Rattle.wire_base.specs.Spells.{SpellsPayload, Spells, IsPayload}
 use Rattle.wire_base.specs.Tag.{TagFault, tag_error}
 use Rattle.wire_base.specs.Varint.{VarintFault}
 use Rattle.std.proofs.lemmas.Bool.{cases_lt}
-use Rattle.wire_base.proofs.FieldLaws.{rest_below}
+use Rattle.wire_base.proofs.FieldLaws.{body_of, rest_below}
+use Rattle.wire_base.proofs.FaultLaws.{no_payload_beside_fault_lemma, one_payload_fault_lemma}
+use Rattle.wire_base.proofs.PlainReader.{payload_or_fault_lemma}
+use Rattle.wire_base.proofs.ReadLaws.{Reads-as}
+use Rattle.wire_base.proofs.Takes.{last_before}
 use Rattle.wire_base.proofs.LimitsLaws.{HaveRoom-none, uncounted_slot}
 use Rattle.wire_base.proofs.TagLaws.{tag_error-large, tag_error-type, tag_error-small, tag_error-none}
 
@@ -204,6 +209,36 @@ mutual
       (room_behind l.counts.unknown_fields (count fs) (length rest) (length old)
       (omega (arith, few, ap length read.parts ∙ length-append read.text rest)) many)
 
+-- what skipping refuses, decoding refuses
+refused_with_slots : (l : Limits) (n : ℕ) (w : WireType) (old : List ℕ) (e : DecodeError)
+    → HasSlotsFor l old → PayloadFault (uncounted l.depth) n w old e → PayloadFault l n w old e
+refused_with_slots l n w old e many h =
+    ⊎_elim
+    (λ there. absurd (no_payload_beside_fault_lemma (uncounted l.depth) n w old there.1 e there.0 h
+    (skipped_where_decoded_lemma l n w there.0 old there.1 there.2)))
+    (λ fault. subst (PayloadFault l n w old)
+    (one_payload_fault_lemma (uncounted l.depth) n w old fault.0 e
+    (payload_alike l n w old fault.0 fault.1
+    (payload_suffices l n w old fault.0 fault.1 many)) h) fault.1)
+    (payload_or_fault_lemma l n w old)
+
+-- ---- the body of a group
+
+pub body_where_decoded_lemma : BodyWhereDecoded
+body_where_decoded_lemma l n fs old new h =
+    let payload = Reads-as (IsPayload n StartGroup (group fs)) (SpellsPayload n (group fs)) old new
+    h.read h.read.spelled.spelled in
+    let body = body_of n fs old new payload in
+    record {
+      end = body.end;
+      fields = record {
+        read = body.fields;
+        fits = fits_uncounted (charge fs) (l.depth - 1) (omega (arith, h.fits.depth));
+      };
+      ended = body.tag;
+      last = last_before (by_tag n) fs old body.end body.fields (λ rest longer. tt);
+    }
+
 pub slots_suffice_lemma : SlotsSuffice
 slots_suffice_lemma = record {
   none_wanted =
@@ -224,4 +259,5 @@ slots_suffice_lemma = record {
           };
         };
       };
+  refused = refused_with_slots;
 }

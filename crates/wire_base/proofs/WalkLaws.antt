@@ -362,7 +362,9 @@ pub charges_records : (l new : Limits) (span : List ℕ) (r : Result UnknownSpan
     → IfErr r (SpanFault l span)
     → (fs : Fields) → Spells fs span → (charge fs).depth < 2 ^ 32
     → HaveRoom l.counts (charge fs).counts
-    → MatchResult r (λ taken. (taken.fields ≡ count fs) × (taken.depth ≡ (charge fs).depth)) (λ e. ⊥)
+    → MatchResult r
+    (λ taken. (taken.fields ≡ count fs) × (taken.depth ≡ (charge fs).depth)
+    × (new ≡ left_after l (charge fs))) (λ e. ⊥)
 charges_records l new span (Ok taken) (items, h, fields, depth, left) fault fs spelled few room =
     let (others, walk, same) = records_are_items_lemma fs span spelled few in
     let one : items ≡ others =
@@ -370,6 +372,7 @@ charges_records l new span (Ok taken) (items, h, fields, depth, left) fault fs s
     let charged : flat_charge items ≡ charge fs = ap flat_charge one ∙ same in (
       fields ∙ ap (λ (c : Charge). c.counts.unknown_fields) charged,
       depth ∙ ap (λ (c : Charge). c.depth) charged,
+      left ∙ ap (left_after l) charged,
     )
 charges_records l new span (Err e) ok fault fs spelled few room =
     let (items, walk, same) = records_are_items_lemma fs span spelled few in

@@ -1,4 +1,5 @@
--- Calls that pass over or keep the same payload agree, and one that is cut off is short input.
+-- Calls that pass over or keep the same payload agree, and a payload that is cut off is short
+-- input.
 use Rattle.std.specs.Prelude.{◌≡◌, ◌≢◌, ◌⊎◌, ℕ, List, [], ◌++◌, Result, Err, IsOk, IfErr, MatchResult}
 use Rattle.wire_base.specs.declared.error.DecodeError.{DecodeError}
 use Rattle.wire_base.specs.declared.error.DecodeError.TheVariants.{OutOfMemory, UnexpectedEof, UnknownFieldLimitExceeded}
@@ -32,7 +33,7 @@ abbrev pub NeverWantsSlots : {T : Type 0} → Limits → List ℕ → Result T D
 NeverWantsSlots l old result =
     HasSlotsFor l old → IfErr result (λ e. e ≢ UnknownFieldLimitExceeded)
 
--- then it keeps the payload that skipping takes, where memory is not refused
+-- with more slots than bytes the call keeps the payload that skipping takes, or memory is refused
 abbrev pub KeepsWhatIsSkipped : {T : Type 0} → (T → Payload) → Limits → ℕ → WireType → List ℕ
     → List ℕ → Result T DecodeError → Type 0
 KeepsWhatIsSkipped payload_in l n w old new result =
@@ -40,19 +41,37 @@ KeepsWhatIsSkipped payload_in l n w old new result =
     → TakesPayload (payload_charge p) (uncounted l.depth) n w p old rest
     → MatchResult result (λ kept. (payload_in kept ≡ p) × (new ≡ rest)) (λ e. e ≡ OutOfMemory)
 
--- and refuses as skipping does
+-- with more slots than bytes the call refuses as skipping does, or memory is refused
 abbrev pub RefusesAsSkipping : {T : Type 0} → Limits → ℕ → WireType → List ℕ
     → Result T DecodeError → Type 0
 RefusesAsSkipping l n w old result =
     HasSlotsFor l old → (e : DecodeError) → PayloadFault (uncounted l.depth) n w old e
     → MatchResult result (λ kept. ⊥) (λ f. (f ≡ e) ⊎ (f ≡ OutOfMemory))
 
--- ---- a payload that is cut off
+-- ---- bytes that are missing, and bytes that follow
 
--- where the bytes are a payload within the limits but for some bytes at its end, these are missing
+-- where the bytes are a payload within the limits but for some bytes at its end, the call answers
+-- `UnexpectedEof`
 abbrev pub IsShortWhereCut : {T : Type 0} → Limits → ℕ → WireType → List ℕ
     → Result T DecodeError → Type 0
 IsShortWhereCut l n w old result =
     (p : Payload) (missing : List ℕ) → missing ≢ []
+    → TakesPayload (payload_charge p) l n w p (old ++ missing) [] → result ≡ Err UnexpectedEof
+
+-- the same of a call that keeps, where memory is not refused
+abbrev pub IsShortOrWantsMemory : {T : Type 0} → Limits → ℕ → WireType → List ℕ
+    → Result T DecodeError → Type 0
+IsShortOrWantsMemory l n w old result =
+    (p : Payload) (missing : List ℕ) → missing ≢ []
     → TakesPayload (payload_charge p) l n w p (old ++ missing) []
     → MatchResult result (λ kept. ⊥) (λ e. (e ≡ UnexpectedEof) ⊎ (e ≡ OutOfMemory))
+
+-- a refusal but for short input is the fault of these bytes, whatever bytes follow them
+abbrev pub StaysRefused : {T : Type 0} → (List ℕ → DecodeError → Type 0) → List ℕ
+    → Result T DecodeError → Type 0
+StaysRefused Fault old result =
+    IfErr result (λ e. e ≢ UnexpectedEof → (more : List ℕ) → Fault (old ++ more) e)
+
+-- a fault of a payload, or want of memory
+abbrev pub FaultOrMemory : Limits → ℕ → WireType → List ℕ → DecodeError → Type 0
+FaultOrMemory l n w bytes e = PayloadFault l n w bytes e ⊎ (e ≡ OutOfMemory)

@@ -14,13 +14,13 @@ RecordsAreItems =
     (fs : Fields) (text : List ℕ) → Spells fs text → (charge fs).depth < 2 ^ 32
     → (items : List Item) × SpellsItems items text × (flat_charge items ≡ charge fs)
 
--- a text spells one list of items
+-- a text spells one list of items at most
 abbrev pub OneWalk : Type 0
 OneWalk =
     (items others : List Item) (text : List ℕ) → SpellsItems items text → SpellsItems others text
     → items ≡ others
 
--- a span has one fault
+-- a span has one fault at most
 abbrev pub OneSpanFault : Type 0
 OneSpanFault =
     (l : Limits) (span : List ℕ) (e f : DecodeError) → SpanFault l span e → SpanFault l span f

@@ -16,20 +16,20 @@ use crate::tag::{Tag, WireType};
 pub struct UnknownSpanCharge {
     /// The unknown fields that were taken, those in groups counted too.
     pub fields: usize,
-    /// How many groups stand in one another.
+    /// The greatest level of the walk. Where the span is records, it is how deep their groups nest.
     pub depth: u32,
 }
 
 /// Takes the slots of the records in a span from the context, as decoding them would, and keeps
-/// nothing. It walks from tag to tag: an end tag is not compared with the start tag of its group,
-/// groups may be left open, and no level is taken.
+/// nothing. It walks from tag to tag: an end tag is not compared with the start tag of its group and
+/// changes nothing where no group is open, groups may be left open, and no level is taken.
 pub fn register_unknown_record(
     span: &[u8],
     context: &mut DecodeContext,
 ) -> Result<UnknownSpanCharge, DecodeError>
-    ensures ok { IfOk result (λ charge. (items : List Item)
+    ensures ok { IfOk result (λ taken. (items : List Item)
         × TakesItems items context.old span.now []
-        × (charge.fields ≡ slots items) × (charge.depth ≡ greatest_level 0 items)
+        × (taken.fields ≡ slots items) × (taken.depth ≡ greatest_level 0 items)
         × (context.new ≡ left_after context.old (flat_charge items))) }
     ensures fault { IfErr result (SpanFault context.old span.now) }
     ensures counts { OnErr result (NoCountGrew context.old context.new) }
@@ -37,16 +37,17 @@ pub fn register_unknown_record(
     ensures records { (fs : Fields) → Spells fs span.now → (charge fs).depth < 2 ^ 32
         → HaveRoom context.old.counts (charge fs).counts
         → MatchResult result
-        (λ taken. (taken.fields ≡ count fs) × (taken.depth ≡ (charge fs).depth)) (λ e. ⊥) }
+        (λ taken. (taken.fields ≡ count fs) × (taken.depth ≡ (charge fs).depth)
+        × (context.new ≡ left_after context.old (charge fs))) (λ e. ⊥) }
 {
     walk(span, context)
 }
 
 // Goes over the span.
 fn walk(span: &[u8], context: &mut DecodeContext) -> Result<UnknownSpanCharge, DecodeError>
-    ensures ok { IfOk result (λ charge. (items : List Item)
+    ensures ok { IfOk result (λ taken. (items : List Item)
         × TakesItems items context.old span.now []
-        × (charge.fields ≡ slots items) × (charge.depth ≡ greatest_level 0 items)
+        × (taken.fields ≡ slots items) × (taken.depth ≡ greatest_level 0 items)
         × (context.new ≡ left_after context.old (flat_charge items))) }
     ensures fault { IfErr result (SpanFault context.old span.now) }
     ensures counts { OnErr result (NoCountGrew context.old context.new) }

@@ -4,7 +4,7 @@ ghost use Rattle.wire_base.specs.TagLaws.{TagTextReadsBack, OneTag, NoTagBesideF
 ghost use Rattle.wire_base.specs.LimitsLaws.{ChargesAddUp, LimitsAddUp, LevelsAddUp, CountsFall};
 ghost use Rattle.wire_base.specs.RecordLaws.{PayloadIsField, OnePayload, OneSpelled, OneList, WholeInput, GroupIsList, JoinedTextsSpell, JoinedAddsUp, RecordsOneByOne, RecordsFromTheFront, ShortestTextSpells, NoTextIsShorter, NoOtherTextIsAsShort, TextSpellsOneList, SpelledAreNumbered, NumberedTogether};
 ghost use Rattle.wire_base.specs.FaultLaws.{NoPayloadBesideFault, NoListBesideFault, OnePayloadFault, OneListFault, PayloadOrFaultStands, ListOrFaultStands};
-ghost use Rattle.wire_base.specs.AgreementLaws.{SkippedWhereDecoded, RefusedAlike, SlotsSuffice, FaultsStay, CutIsShort};
+ghost use Rattle.wire_base.specs.AgreementLaws.{SkippedWhereDecoded, RefusedAlike, SlotsSuffice, BodyWhereDecoded, FaultsStay, CutIsShort};
 ghost use Rattle.wire_base.specs.ItemLaws.{RecordsAreItems, OneWalk, NoWalkBesideFault, OneSpanFault};
 ghost use Rattle.wire_base.specs.WriteLaws.{TwoParts, PutIsWrite};
 
@@ -183,7 +183,7 @@ pub fn no_text_is_shorter()
     ensures { NoTextIsShorter }
 {}
 
-/// Nor is any other text of them as short.
+/// A text of bytes that is as short as the shortest text of its records is that text.
 pub fn no_other_text_is_as_short()
     ensures { NoOtherTextIsAsShort }
 {}
@@ -244,9 +244,15 @@ pub fn refused_alike()
     ensures { RefusedAlike }
 {}
 
-/// With more slots than bytes decoding never wants for a slot, and takes what skipping takes.
+/// With more slots than bytes decoding never wants for a slot, takes what skipping takes, and
+/// refuses what skipping refuses.
 pub fn slots_suffice()
     ensures { SlotsSuffice }
+{}
+
+/// Of a group that is decoded, the body and its end tag are a list with one level less.
+pub fn body_where_decoded()
+    ensures { BodyWhereDecoded }
 {}
 
 /// A fault that is not short input stays the same, whatever bytes follow.
@@ -254,12 +260,13 @@ pub fn faults_stay()
     ensures { FaultsStay }
 {}
 
-/// A payload that is cut off anywhere before its end is short input.
+/// A payload within the limits that is cut off anywhere before its end is short input.
 pub fn cut_is_short()
     ensures { CutIsShort }
 {}
 
-/// A text of records is one of items, and a flat walk takes for them what the records are charged.
+/// A text of records that nest less than 2^32 deep is one of items, and a flat walk charges for them
+/// what the records are charged.
 pub fn records_are_items()
     ensures { RecordsAreItems }
 {}

@@ -1,6 +1,6 @@
 //! Passing over records that nobody asked for.
 ghost use Rattle.std.specs.Prelude.{◌≡◌, OnOk, IfErr};
-ghost use Rattle.wire_base.specs.Agreement.{FollowsDecoding, RefusesAsDecoding, IsShortWhereCut};
+ghost use Rattle.wire_base.specs.Agreement.{FollowsDecoding, RefusesAsDecoding, IsShortWhereCut, StaysRefused};
 ghost use Rattle.wire_base.specs.Charge.{payload_charge, charge};
 ghost use Rattle.wire_base.specs.Ending.{by_tag};
 ghost use Rattle.wire_base.specs.Fault.{PayloadFault, ListFault};
@@ -29,6 +29,8 @@ pub fn skip_field<B: Buf>(tag: Tag, buf: &mut B) -> Result<(), DecodeError>
         (B.unread buf.old) result }
     ensures cut { IsShortWhereCut (uncounted 100) (tag_number tag) (tag_type tag)
         (B.unread buf.old) result }
+    ensures stays { StaysRefused (PayloadFault (uncounted 100) (tag_number tag) (tag_type tag))
+        (B.unread buf.old) result }
     ensures kept { B.kept buf.new ≡ B.kept buf.old }
 {
     skip_field_depth(tag, buf, RECURSION_LIMIT)
@@ -47,6 +49,8 @@ pub fn skip_field_depth<B: Buf>(tag: Tag, buf: &mut B, depth: u32) -> Result<(),
     ensures refused { RefusesAsDecoding depth (tag_number tag) (tag_type tag)
         (B.unread buf.old) result }
     ensures cut { IsShortWhereCut (uncounted depth) (tag_number tag) (tag_type tag)
+        (B.unread buf.old) result }
+    ensures stays { StaysRefused (PayloadFault (uncounted depth) (tag_number tag) (tag_type tag))
         (B.unread buf.old) result }
     ensures kept { B.kept buf.new ≡ B.kept buf.old }
 {

@@ -1,5 +1,5 @@
 -- The body of a group, taken record by record.
-use Rattle.std.proofs.Common.{◌≡◌, ◌≢◌, ℕ, ◌+◌, ◌-◌, ◌≤◌, List, [], ◌++◌, length, take, Option, Some, None, refl, sym, ap, ◌∙◌, subst, append_assoc, arith}
+use Rattle.std.proofs.Common.{◌≡◌, ◌≢◌, ℕ, ◌+◌, ◌-◌, ◌≤◌, List, [], ◌++◌, length, take, Option, Some, None, refl, sym, ap, ◌∙◌, subst, ⊎_elim, append_assoc, arith}
 use Rattle.std.specs.Prelude.{IfNone}
 use Rattle.std.proofs.Math.Seq.{take-append_seam}
 use Rattle.std.proofs.lemmas.List.{append-nil, length-append}
@@ -7,7 +7,7 @@ use Rattle.wire_base.specs.declared.error.DecodeError.{DecodeError}
 use Rattle.wire_base.specs.declared.error.DecodeError.TheVariants.{UnexpectedEof}
 use Rattle.wire_base.specs.declared.tag.WireType.{WireType}
 use Rattle.wire_base.specs.declared.tag.WireType.TheVariants.{StartGroup}
-use Rattle.wire_base.specs.AgreementLaws.{SkippedWhereDecoded, CutIsShort}
+use Rattle.wire_base.specs.AgreementLaws.{SkippedWhereDecoded, FaultsStay, CutIsShort}
 use Rattle.wire_base.specs.Charge.{charge, payload_charge, total}
 use Rattle.wire_base.specs.Ending.{by_tag, Ends}
 use Rattle.wire_base.specs.Fault.{PayloadFault, ListFault}
@@ -167,3 +167,11 @@ module _ (depth n : ℕ) (old : List ℕ) (fs : Fields) where
     short_where_cut one_fault e fault =
         one_fault (uncounted (depth + 1)) n StartGroup old e UnexpectedEof
         (fault_outside depth n old e fault) short_outside
+
+-- a refusal but for short input stays
+pub stays_refused : FaultsStay → (depth n : ℕ) (old more : List ℕ) (e : DecodeError)
+    → ListFault (uncounted depth) (by_tag n) old e → e ≢ UnexpectedEof
+    → ListFault (uncounted depth) (by_tag n) (old ++ more) e
+stays_refused law depth n old more e fault other =
+    ⊎_elim (λ short. absurd (other short)) (λ stays. stays)
+    (law.list (uncounted depth) (by_tag n) old more e fault)

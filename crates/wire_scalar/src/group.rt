@@ -2,6 +2,7 @@
 ghost use Rattle.std.specs.Prelude.{◌≡◌, ◌≢◌, ℕ, ◌+◌, List, [], ◌++◌, OnErr, IfOk, IfErr, MatchResult};
 ghost use Rattle.wire_base.specs.declared.error.DecodeError.TheVariants.{UnexpectedEof};
 ghost use Rattle.wire_base.specs.declared.tag.WireType.TheVariants.{StartGroup};
+ghost use Rattle.wire_base.specs.Agreement.{StaysRefused};
 ghost use Rattle.wire_base.specs.Charge.{payload_charge};
 ghost use Rattle.wire_base.specs.Ending.{by_tag};
 ghost use Rattle.wire_base.specs.Fault.{ListFault};
@@ -34,12 +35,14 @@ pub fn borrow_group<'a>(
         → TakesPayload (payload_charge (group fs)) (uncounted (depth + 1)) number StartGroup
         (group fs) (buf.old.now ++ missing) []
         → MatchResult result (λ body. ⊥) (λ e. e ≡ UnexpectedEof) }
+    ensures stays { StaysRefused (ListFault (uncounted depth) (by_tag number)) buf.old.now result }
 {
     laws::one_payload();
     laws::one_payload_fault();
     laws::no_payload_beside_fault();
     laws::skipped_where_decoded();
     laws::cut_is_short();
+    laws::faults_stay();
     let (body, rest) = split_group(*buf, number, depth)?;
     *buf = rest;
     Ok(body)

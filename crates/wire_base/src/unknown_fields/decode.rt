@@ -1,7 +1,7 @@
 //! Unknown fields from bytes.
 ghost use Rattle.std.specs.Prelude.{◌≡◌, OnErr, IfOk, IfErr, MatchResult};
 ghost use Rattle.wire_base.specs.declared.error.DecodeError.TheVariants.{OutOfMemory};
-ghost use Rattle.wire_base.specs.Agreement.{NeverWantsSlots, KeepsWhatIsSkipped, RefusesAsSkipping, IsShortWhereCut};
+ghost use Rattle.wire_base.specs.Agreement.{NeverWantsSlots, KeepsWhatIsSkipped, RefusesAsSkipping, IsShortOrWantsMemory, StaysRefused, FaultOrMemory};
 ghost use Rattle.wire_base.specs.Charge.{charge, payload_charge};
 ghost use Rattle.wire_base.specs.Ending.{by_input, by_tag};
 ghost use Rattle.wire_base.specs.Field.{Fields};
@@ -69,7 +69,7 @@ impl UnknownFields {
 
 /// Reads the payload of a tag that was read, and keeps it as a field. It takes one unknown field
 /// for itself and one for each field in its groups, and a level for each group and for each group
-/// in it. With more of the former than bytes remain it agrees with `skip_field_depth`.
+/// in it. With more slots left than bytes it agrees with `skip_field_depth` at as many levels.
 #[inline(always)]
 pub fn decode_unknown_field<B: Buf>(
     alloc: Global,
@@ -93,7 +93,9 @@ pub fn decode_unknown_field<B: Buf>(
         (tag_number tag) (tag_type tag) (B.unread buf.old) (B.unread buf.new) result }
     ensures refused { RefusesAsSkipping context.old (tag_number tag) (tag_type tag)
         (B.unread buf.old) result }
-    ensures cut { IsShortWhereCut context.old (tag_number tag) (tag_type tag)
+    ensures cut { IsShortOrWantsMemory context.old (tag_number tag) (tag_type tag)
+        (B.unread buf.old) result }
+    ensures stays { StaysRefused (FaultOrMemory context.old (tag_number tag) (tag_type tag))
         (B.unread buf.old) result }
     ensures kept { B.kept buf.new ≡ B.kept buf.old }
 {
