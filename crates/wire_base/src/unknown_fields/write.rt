@@ -1,10 +1,10 @@
 //! Unknown fields as bytes.
 ghost use Rattle.std.specs.Prelude.{◌≡◌, ◌++◌, OnOk, OnErr};
 ghost use Rattle.wire_base.specs.Sink.{KeepsFront, WriteAnswers};
-ghost use Rattle.wire_base.specs.Field.{none, field, type_of};
+ghost use Rattle.wire_base.specs.Field.{type_of};
 ghost use Rattle.wire_base.specs.Shortest.{WritesShortest};
 ghost use Rattle.wire_base.specs.Text.{text_of, record_text};
-ghost use Rattle.wire_base.specs.UnknownFields.{payload_of};
+ghost use Rattle.wire_base.specs.UnknownFields.{one_record, payload_of};
 
 use super::{UnknownField, UnknownFieldData, UnknownFields};
 use crate::encode_sink::EncodeSink;
@@ -55,8 +55,7 @@ impl UnknownField {
         ensures cause { WriteAnswers S.most (S.bytes_of sink.old)
             (record_text self.now.number (payload_of self.now.value)) result }
         ensures shortest { OnOk result
-            (WritesShortest (field self.now.number (payload_of self.now.value) none)
-            (S.bytes_of sink.old) (S.bytes_of sink.new)) }
+            (WritesShortest (one_record self.now) (S.bytes_of sink.old) (S.bytes_of sink.new)) }
     {
         self.write_record(sink)
     }
