@@ -1,5 +1,5 @@
 //! Varints that stand in a slice, read at once: three numbers of 32 bits take their digits.
-ghost use Rattle.std.specs.Prelude.{◌≡◌, ◌≤◌, ◌<◌, ◌+◌, ◌*◌, ◌^◌, ℕ, List, ◌++◌, IsTrue, drop, length, IfOk, IfErr};
+ghost use Rattle.std.specs.Prelude.{◌≡◌, ◌≤◌, ◌<◌, ◌+◌, ◌*◌, ◌^◌, ℕ, List, ◌++◌, ◌↔◌, IsTrue, drop, length, IfOk, IfErr};
 ghost use Rattle.wire_base.specs.Read.{Reads};
 ghost use Rattle.wire_base.specs.Varint.{IsSpelling, VarintFault};
 ghost use Rattle.wire_base.specs.InPlace.{HoldsVarint};
@@ -10,7 +10,7 @@ use crate::error::DecodeError;
 /// last of them ends one.
 #[inline(always)]
 pub(crate) fn holds_varint(bytes: &[u8]) -> bool
-    ensures { IsTrue result → HoldsVarint bytes.now }
+    ensures { IsTrue result ↔ HoldsVarint bytes.now }
 {
     match bytes.last() {
         Some(&last) => bytes.len() > 10 || last < 0x80,
