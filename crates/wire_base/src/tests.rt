@@ -1,12 +1,17 @@
 //! Worked rows. Each is a check that can be run while memory is refused, too.
 mod chunks;
 mod errors;
+mod skips;
+mod spans;
 mod tags;
 mod unknown;
 mod varints;
 
+use crate::encode_sink::EncodeSink;
 use crate::error::{DecodeError, EncodeError};
-use std::alloc::{AllocError, AllocFailed};
+use crate::rope::{Rope, RopeBuf};
+use bytes::Bytes;
+use std::alloc::{AllocError, AllocFailed, Global};
 
 /// What a row's check finds: the row's own answer, want of memory, or anything else.
 #[derive(Clone, Copy, Debug, PartialEq)]
@@ -57,4 +62,13 @@ pub(crate) fn found_in(answer: Result<bool, Stop>) -> Found {
         | Err(Stop::Encode(EncodeError::OutOfMemory)) => Found::OutOfMemory,
         _ => Found::Other,
     }
+}
+
+/// A buffer whose chunks are two pieces of the bytes, or one where the other has no byte.
+pub(crate) fn cut(alloc: Global, bytes: &[u8], place: usize) -> Result<RopeBuf, Stop> {
+    let place = place.min(bytes.len());
+    let mut rope = Rope::with_min_segment(alloc, 1);
+    rope.put_shared(Bytes::copy_from_slice(alloc, &bytes[..place])?)?;
+    rope.put_shared(Bytes::copy_from_slice(alloc, &bytes[place..])?)?;
+    RopeBuf::from_rope(rope).or(Err(Stop::Memory))
 }

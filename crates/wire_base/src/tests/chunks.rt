@@ -1,10 +1,8 @@
 //! Varints of more than two bytes: in one chunk or two, and taken from one chunk in one step.
-use super::{Found, Stop, found_in};
-use crate::encode_sink::EncodeSink;
+use super::{Found, Stop, cut, found_in};
 use crate::error::DecodeError;
-use crate::rope::{Rope, RopeBuf};
 use crate::varint::decode_varint;
-use bytes::{Buf, Bytes};
+use bytes::Buf;
 use std::alloc::Global;
 
 // Bytes, and what is read from all of them.
@@ -47,15 +45,6 @@ impl Buf for Counted<'_> {
         self.bytes = &self.bytes[cnt..];
         self.advances = self.advances.saturating_add(1);
     }
-}
-
-// A buffer whose chunks are two pieces of the bytes, or one where the other has no byte.
-fn cut(alloc: Global, bytes: &[u8], place: usize) -> Result<RopeBuf, Stop> {
-    let place = place.min(bytes.len());
-    let mut rope = Rope::with_min_segment(alloc, 1);
-    rope.put_shared(Bytes::copy_from_slice(alloc, &bytes[..place])?)?;
-    rope.put_shared(Bytes::copy_from_slice(alloc, &bytes[place..])?)?;
-    RopeBuf::from_rope(rope).or(Err(Stop::Memory))
 }
 
 fn reads(

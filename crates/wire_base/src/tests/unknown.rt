@@ -170,7 +170,7 @@ fn iterates(alloc: Global) -> Result<bool, Stop> {
     Ok(borrowed == 1234 && owned == 1234)
 }
 
-fn whole_rows(alloc: Global) -> [(&'static str, Found); 14] {
+fn whole_rows(alloc: Global) -> [(&'static str, Found); 15] {
     let end_two = DecodeError::InvalidEndGroup(2);
     let outside = DecodeError::InvalidWireType(4);
     let short = DecodeError::UnexpectedEof;
@@ -184,6 +184,16 @@ fn whole_rows(alloc: Global) -> [(&'static str, Found); 14] {
         (
             "bytes",
             found_in(rewrites(alloc, b"\x92\x00\x81\x00A", 1, b"\x12\x01A")),
+        ),
+        // A payload is kept as it is.
+        (
+            "padded bytes",
+            found_in(rewrites(
+                alloc,
+                b"\x92\x00\x84\x00\x88\x00\x85\x00",
+                1,
+                b"\x12\x04\x88\x00\x85\x00",
+            )),
         ),
         ("each kind", found_in(rewrites(alloc, MIXED, 4, MIXED))),
         (
