@@ -1,5 +1,6 @@
 -- The definitions that the contracts of this crate cite from below, for crates
 -- that stand on it alone.
+pub use Rattle.wire_base.specs.AgreementLaws
 pub use Rattle.wire_base.specs.Charge
 pub use Rattle.wire_base.specs.Delimited
 pub use Rattle.wire_base.specs.Ending
@@ -9,6 +10,8 @@ pub use Rattle.wire_base.specs.Field
 pub use Rattle.wire_base.specs.FieldNumber
 pub use Rattle.wire_base.specs.Fixed
 pub use Rattle.wire_base.specs.InRange
+pub use Rattle.wire_base.specs.ItemLaws
+pub use Rattle.wire_base.specs.Items
 pub use Rattle.wire_base.specs.Limits
 pub use Rattle.wire_base.specs.LimitsLaws
 pub use Rattle.wire_base.specs.Read
