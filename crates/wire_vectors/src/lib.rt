@@ -2,6 +2,8 @@
 //! can be run while memory is refused, too.
 #![tactic(auto)]
 
+#[cfg(test)]
+mod agreements;
 pub mod callers;
 #[cfg(test)]
 mod chunks;
