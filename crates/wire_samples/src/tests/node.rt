@@ -281,6 +281,30 @@ fn limit_rows(alloc: Global) -> [Found; 6] {
     ]
 }
 
+// A group that the type does not know, in which a field stands.
+const UNKNOWN_GROUP: &[u8] = b"\x2b\x30\x00\x2c";
+
+// The same in an embedded message.
+const UNKNOWN_GROUP_INSIDE: &[u8] = b"\x12\x04\x2b\x30\x00\x2c";
+
+fn group_limit_rows(alloc: Global) -> [Found; 5] {
+    let limits = |levels: u32, slots: usize| {
+        DecodeOptions::new()
+            .with_recursion_limit(levels)
+            .with_unknown_field_limit(slots)
+    };
+    let deep = DecodeError::RecursionLimitExceeded;
+    let full = DecodeError::UnknownFieldLimitExceeded;
+    let too_deep = DecodeError::RecursionLimitExceeded;
+    [
+        found_in(taken(alloc, limits(1, 2), UNKNOWN_GROUP)),
+        found_in(limited(alloc, limits(0, 2), UNKNOWN_GROUP, deep)),
+        found_in(limited(alloc, limits(1, 1), UNKNOWN_GROUP, full)),
+        found_in(taken(alloc, limits(2, 2), UNKNOWN_GROUP_INSIDE)),
+        found_in(limited(alloc, limits(1, 2), UNKNOWN_GROUP_INSIDE, too_deep)),
+    ]
+}
+
 // With a refused allocation a row may find no memory, and never anything else.
 #[test]
 fn nodes_are_refused_or_lack_memory(rt: HostRuntime) {
@@ -290,6 +314,11 @@ fn nodes_are_refused_or_lack_memory(rt: HostRuntime) {
     }
     assert!(rt;
         limit_rows(rt.alloc())
+            .iter()
+            .all(|found| *found != Found::Other)
+    );
+    assert!(rt;
+        group_limit_rows(rt.alloc())
             .iter()
             .all(|found| *found != Found::Other)
     );
@@ -303,6 +332,11 @@ fn ample_memory_refuses_nodes(rt: HostRuntime) {
     }
     assert!(rt;
         limit_rows(rt.alloc())
+            .iter()
+            .all(|found| *found == Found::Own)
+    );
+    assert!(rt;
+        group_limit_rows(rt.alloc())
             .iter()
             .all(|found| *found == Found::Own)
     );
