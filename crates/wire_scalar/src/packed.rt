@@ -194,10 +194,15 @@ fn extend_as<T: VarintScalar>(
 {
     out.reserve(reserve)?;
     let mut rest = payload;
-    while !rest.is_empty() {
-        let (number, behind) = split_varint(rest)?;
-        out.push(T::value_of(number))?;
-        rest = behind;
+    while let Some((&first, others)) = rest.split_first() {
+        if first < 0x80 {
+            out.push(T::value_of(u64::from(first)))?;
+            rest = others;
+        } else {
+            let (number, behind) = split_varint(rest)?;
+            out.push(T::value_of(number))?;
+            rest = behind;
+        }
     }
     Ok(())
 }

@@ -1,4 +1,4 @@
-//! Short callers of the crates below, proved. The README shows them.
+//! Short callers of the crates below, proved. The README and docs/CALLERS.md show them.
 ghost use Rattle.std.specs.Prelude.{◌≡◌, ◌≤◌, [], ◌++◌, length, string_bytes, OnOk, IfOk, IfErr};
 ghost use Rattle.wire_codec.specs.Ending.{by_tag};
 ghost use Rattle.wire_codec.specs.Fault.{ListFault};
