@@ -1,6 +1,8 @@
-//! Worked rows. Each is a check that can be run while memory is refused, too.
+//! Worked rows. Each is a check that can be run while memory is refused, too: the functions whose
+//! names end in `rows` are also run by a program with each request for memory refused in turn.
 mod chunks;
 mod errors;
+mod refusals;
 mod skips;
 mod spans;
 mod tags;
@@ -64,9 +66,24 @@ pub(crate) fn found_in(answer: Result<bool, Stop>) -> Found {
     }
 }
 
+/// The first row that did not find its own answer.
+pub(crate) fn first_astray(rows: &[Found]) -> Option<usize> {
+    rows.iter().position(|found| *found != Found::Own)
+}
+
+/// Where a row cuts its bytes.
+#[derive(Clone, Copy, Debug)]
+pub(crate) enum Place {
+    At(usize),
+    Half,
+}
+
 /// A buffer whose chunks are two pieces of the bytes, or one where the other has no byte.
-pub(crate) fn cut(alloc: Global, bytes: &[u8], place: usize) -> Result<RopeBuf, Stop> {
-    let place = place.min(bytes.len());
+pub(crate) fn cut(alloc: Global, bytes: &[u8], place: Place) -> Result<RopeBuf, Stop> {
+    let place = match place {
+        Place::At(place) => place.min(bytes.len()),
+        Place::Half => bytes.len() / 2,
+    };
     let mut rope = Rope::with_min_segment(alloc, 1);
     rope.put_shared(Bytes::copy_from_slice(alloc, &bytes[..place])?)?;
     rope.put_shared(Bytes::copy_from_slice(alloc, &bytes[place..])?)?;

@@ -1,4 +1,5 @@
-//! Worked rows. Each is a check that can be run while memory is refused, too.
+//! Worked rows. Each is a check that can be run while memory is refused, too: the functions whose
+//! names end in `rows` are also run by a program with each request for memory refused in turn.
 mod calls;
 mod decode;
 mod nested;
@@ -6,8 +7,8 @@ mod node;
 mod options;
 mod person;
 mod pool;
-mod refusals;
 mod repeat;
+mod standing;
 
 use crate::person::Person;
 use bytes::Bytes;
@@ -65,6 +66,11 @@ pub(crate) fn found_in(answer: Result<bool, Stop>) -> Found {
     }
 }
 
+/// The first row that did not find its own answer.
+pub(crate) fn first_astray(rows: &[Found]) -> Option<usize> {
+    rows.iter().position(|found| *found != Found::Own)
+}
+
 /// Whether the answer is this refusal. Another refusal stops the row's check.
 pub(crate) fn refused<T: Drop, E: PartialEq + Into<Stop> + Drop>(
     answer: Result<T, E>,
@@ -79,9 +85,19 @@ pub(crate) fn refused<T: Drop, E: PartialEq + Into<Stop> + Drop>(
     Err(found.into())
 }
 
+/// Where a row cuts its bytes.
+#[derive(Clone, Copy, Debug)]
+pub(crate) enum Place {
+    At(usize),
+    Half,
+}
+
 /// A buffer whose chunks are two pieces of the bytes, or one where the other has no byte.
-pub(crate) fn cut(alloc: Global, bytes: &[u8], place: usize) -> Result<RopeBuf, Stop> {
-    let place = place.min(bytes.len());
+pub(crate) fn cut(alloc: Global, bytes: &[u8], place: Place) -> Result<RopeBuf, Stop> {
+    let place = match place {
+        Place::At(place) => place.min(bytes.len()),
+        Place::Half => bytes.len() / 2,
+    };
     let mut rope = Rope::with_min_segment(alloc, 1);
     rope.put_shared(Bytes::copy_from_slice(alloc, &bytes[..place])?)?;
     rope.put_shared(Bytes::copy_from_slice(alloc, &bytes[place..])?)?;

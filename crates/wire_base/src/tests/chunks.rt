@@ -1,5 +1,5 @@
 //! Varints of more than two bytes: in one chunk or two, and taken from one chunk in one step.
-use super::{Found, Stop, cut, found_in};
+use super::{Found, Place, Stop, cut, first_astray, found_in};
 use crate::error::DecodeError;
 use crate::varint::decode_varint;
 use bytes::Buf;
@@ -50,37 +50,22 @@ impl Buf for Counted<'_> {
 fn reads(
     alloc: Global,
     bytes: &[u8],
-    place: usize,
     answer: &Result<u64, DecodeError>,
+    place: Place,
 ) -> Result<bool, Stop> {
     let mut pieces = cut(alloc, bytes, place)?;
     Ok(decode_varint(&mut pieces) == *answer && (answer.is_err() || pieces.remaining() == 0))
 }
 
-fn each_place(alloc: Global, bytes: &[u8], answer: &Result<u64, DecodeError>) -> Found {
-    for place in 0..=bytes.len() {
-        let found = found_in(reads(alloc, bytes, place, answer));
-        if found != Found::Own {
-            return found;
-        }
-    }
-    Found::Own
-}
-
-// With a refused allocation a row may find no memory, and never anything else.
-#[test]
-fn chunks_read_as_the_whole_or_lack_memory(rt: HostRuntime) {
-    for (bytes, answer) in readings() {
-        let found = each_place(rt.alloc(), bytes, &answer);
-        assert_ne!(rt; found, Found::Other, "{bytes:?}");
-    }
+pub(super) fn rows(alloc: Global, place: Place) -> [Found; 8] {
+    readings().map(|(bytes, answer)| found_in(reads(alloc, bytes, &answer, place)))
 }
 
 #[test]
 fn ample_memory_reads_chunks_as_the_whole(rt: HostRuntime) {
-    for (bytes, answer) in readings() {
-        let found = each_place(rt.alloc(), bytes, &answer);
-        assert_eq!(rt; found, Found::Own, "{bytes:?}");
+    for place in 0..=11 {
+        let found = rows(rt.alloc(), Place::At(place));
+        assert_eq!(rt; first_astray(&found), None, "{place}");
     }
 }
 

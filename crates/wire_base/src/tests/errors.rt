@@ -1,6 +1,7 @@
+use super::{Found, Stop, first_astray, found_in};
 use crate::error::{DecodeError, EncodeError};
+use std::alloc::Global;
 use std::fmt::Display;
-use std::test::Fail;
 
 fn decode_texts() -> [(DecodeError, &'static str); 14] {
     [
@@ -70,15 +71,24 @@ fn encode_texts() -> [(EncodeError, &'static str); 4] {
     ]
 }
 
+fn decode_text_is(alloc: Global, error: &DecodeError, text: &str) -> Result<bool, Stop> {
+    Ok(error.to_string(alloc)?.as_str() == text && error.clone()? == *error)
+}
+
+fn encode_text_is(alloc: Global, error: &EncodeError, text: &str) -> Result<bool, Stop> {
+    Ok(error.to_string(alloc)?.as_str() == text && error.clone()? == *error)
+}
+
+pub(super) fn decode_rows(alloc: Global) -> [Found; 14] {
+    decode_texts().map(|(error, text)| found_in(decode_text_is(alloc, &error, text)))
+}
+
+pub(super) fn encode_rows(alloc: Global) -> [Found; 4] {
+    encode_texts().map(|(error, text)| found_in(encode_text_is(alloc, &error, text)))
+}
+
 #[test]
-fn each_error_has_its_text(rt: HostRuntime) -> Result<(), Fail> {
-    for (error, text) in decode_texts() {
-        assert_eq!(rt; error.to_string(rt.alloc())?.as_str(), text);
-        assert_eq!(rt; error.clone()?, error, "{text}");
-    }
-    for (error, text) in encode_texts() {
-        assert_eq!(rt; error.to_string(rt.alloc())?.as_str(), text);
-        assert_eq!(rt; error.clone()?, error, "{text}");
-    }
-    Ok(())
+fn ample_memory_gives_each_error_its_text(rt: HostRuntime) {
+    assert_eq!(rt; first_astray(&decode_rows(rt.alloc())), None);
+    assert_eq!(rt; first_astray(&encode_rows(rt.alloc())), None);
 }

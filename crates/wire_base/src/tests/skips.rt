@@ -1,5 +1,5 @@
 //! The payload of a group, and each front of it, in one chunk or two.
-use super::{Found, Stop, cut, found_in};
+use super::{Found, Place, Stop, cut, first_astray, found_in};
 use crate::error::DecodeError;
 use crate::skip::skip_field_depth;
 use crate::tag::{Tag, WireType};
@@ -10,7 +10,7 @@ use std::alloc::Global;
 const PAYLOAD: &[u8] = b"\x13\x08\x96\x01\x14\x12\x01A\x0c";
 
 // So many bytes of the payload, which are short where they are not all.
-fn skips(alloc: Global, len: usize, place: usize) -> Result<bool, Stop> {
+fn skips(alloc: Global, len: usize, place: Place) -> Result<bool, Stop> {
     let mut pieces = cut(alloc, &PAYLOAD[..len.min(PAYLOAD.len())], place)?;
     let answer = if len < PAYLOAD.len() {
         Err(DecodeError::UnexpectedEof)
@@ -21,25 +21,14 @@ fn skips(alloc: Global, len: usize, place: usize) -> Result<bool, Stop> {
     Ok(skipped == answer && (answer.is_err() || pieces.remaining() == 0))
 }
 
-fn each_front(alloc: Global) -> Found {
-    for len in 0..=PAYLOAD.len() {
-        for place in 0..=len {
-            let found = found_in(skips(alloc, len, place));
-            if found != Found::Own {
-                return found;
-            }
-        }
-    }
-    Found::Own
-}
-
-// With a refused allocation a row may find no memory, and never anything else.
-#[test]
-fn fronts_are_short_or_lack_memory(rt: HostRuntime) {
-    assert_ne!(rt; each_front(rt.alloc()), Found::Other);
+pub(super) fn rows(alloc: Global, place: Place) -> [Found; 10] {
+    [0, 1, 2, 3, 4, 5, 6, 7, 8, 9].map(|len| found_in(skips(alloc, len, place)))
 }
 
 #[test]
 fn ample_memory_skips_the_whole_alone(rt: HostRuntime) {
-    assert_eq!(rt; each_front(rt.alloc()), Found::Own);
+    for place in 0..=PAYLOAD.len() {
+        let found = rows(rt.alloc(), Place::At(place));
+        assert_eq!(rt; first_astray(&found), None, "{place}");
+    }
 }

@@ -1,4 +1,4 @@
-use super::{Found, Stop, found_in};
+use super::{Found, Stop, first_astray, found_in};
 use crate::error::DecodeError;
 use crate::tag::{
     FIRST_RESERVED_FIELD_NUMBER, LAST_RESERVED_FIELD_NUMBER, MAX_FIELD_NUMBER, Tag, WireType,
@@ -65,7 +65,7 @@ fn writes(alloc: Global, tag: Tag, bytes: &[u8]) -> Result<bool, Stop> {
     Ok(sink.as_slice() == bytes && Tag::decode(&mut sink.as_slice()) == Ok(tag))
 }
 
-fn rows(alloc: Global) -> [Found; 3] {
+pub(super) fn rows(alloc: Global) -> [Found; 3] {
     [
         found_in(writes(alloc, Tag::new(1, WireType::Varint), b"\x08")),
         found_in(writes(alloc, Tag::new(16, WireType::Fixed32), b"\x85\x01")),
@@ -77,15 +77,9 @@ fn rows(alloc: Global) -> [Found; 3] {
     ]
 }
 
-// With a refused allocation a row may find no memory, and never anything else.
-#[test]
-fn tags_are_written_shortest_or_lack_memory(rt: HostRuntime) {
-    assert!(rt; rows(rt.alloc()).iter().all(|found| *found != Found::Other));
-}
-
 #[test]
 fn ample_memory_writes_tags(rt: HostRuntime) {
-    assert!(rt; rows(rt.alloc()).iter().all(|found| *found == Found::Own));
+    assert_eq!(rt; first_astray(&rows(rt.alloc())), None);
 }
 
 #[test]

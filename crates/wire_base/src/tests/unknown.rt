@@ -1,4 +1,4 @@
-use super::{Found, Stop, found_in};
+use super::{Found, Stop, first_astray, found_in};
 use crate::decode_context::DecodeContext;
 use crate::error::{DecodeError, EncodeError};
 use crate::skip::{skip_field, skip_field_depth};
@@ -95,6 +95,19 @@ fn decodes(
     }
 }
 
+// A list takes the slots of the caller, and then another finds none.
+fn within(alloc: Global) -> Result<bool, Stop> {
+    let mut context = DecodeContext::new(0, 2);
+    let bytes = b"\x08\x00\x10\x00".as_slice();
+    let found = UnknownFields::decode_from_slice_within(alloc, bytes, &mut context)?;
+    let full = UnknownFields::decode_from_slice_within(alloc, b"\x0b\x0c", &mut context);
+    Ok(
+        found.len() == 2
+            && context.remaining_unknown_fields() == 0
+            && full == Err(DecodeError::UnknownFieldLimitExceeded),
+    )
+}
+
 fn measures(value: UnknownFieldData, number: u32, len: usize) -> Result<bool, Stop> {
     Ok(field(number, value).encoded_len()? == len)
 }
@@ -170,155 +183,83 @@ fn iterates(alloc: Global) -> Result<bool, Stop> {
     Ok(borrowed == 1234 && owned == 1234)
 }
 
-fn whole_rows(alloc: Global) -> [(&'static str, Found); 15] {
+pub(super) fn whole_rows(alloc: Global) -> [Found; 9] {
+    [
+        found_in(rewrites(alloc, b"", 0, b"")),
+        found_in(rewrites(alloc, b"\x88\x00\x80\x00", 1, b"\x08\x00")),
+        found_in(padded_tree(alloc)),
+        found_in(rewrites(alloc, b"\x92\x00\x81\x00A", 1, b"\x12\x01A")),
+        // A payload is kept as it is.
+        found_in(rewrites(
+            alloc,
+            b"\x92\x00\x84\x00\x88\x00\x85\x00",
+            1,
+            b"\x12\x04\x88\x00\x85\x00",
+        )),
+        found_in(rewrites(alloc, MIXED, 4, MIXED)),
+        found_in(clones(alloc)),
+        found_in(filters(alloc)),
+        found_in(iterates(alloc)),
+    ]
+}
+
+pub(super) fn refused_rows(alloc: Global) -> [Found; 6] {
     let end_two = DecodeError::InvalidEndGroup(2);
     let outside = DecodeError::InvalidWireType(4);
-    let short = DecodeError::UnexpectedEof;
+    let (short, open) = (DecodeError::UnexpectedEof, DecodeError::UnexpectedEof);
     [
-        ("nothing", found_in(rewrites(alloc, b"", 0, b""))),
-        (
-            "padded",
-            found_in(rewrites(alloc, b"\x88\x00\x80\x00", 1, b"\x08\x00")),
-        ),
-        ("a padded tree", found_in(padded_tree(alloc))),
-        (
-            "bytes",
-            found_in(rewrites(alloc, b"\x92\x00\x81\x00A", 1, b"\x12\x01A")),
-        ),
-        // A payload is kept as it is.
-        (
-            "padded bytes",
-            found_in(rewrites(
-                alloc,
-                b"\x92\x00\x84\x00\x88\x00\x85\x00",
-                1,
-                b"\x12\x04\x88\x00\x85\x00",
-            )),
-        ),
-        ("each kind", found_in(rewrites(alloc, MIXED, 4, MIXED))),
-        (
-            "another end",
-            found_in(refuses(alloc, b"\x0b\x08\x01\x14", end_two)),
-        ),
-        ("an end outside", found_in(refuses(alloc, b"\x0c", outside))),
-        ("a tag alone", found_in(refuses(alloc, b"\x08", short))),
-        (
-            "an open group",
-            found_in(refuses(alloc, b"\x0b\x08\x01", DecodeError::UnexpectedEof)),
-        ),
-        ("the deepest", found_in(deepest(alloc))),
-        ("too deep", found_in(too_deep(alloc))),
-        ("a clone", found_in(clones(alloc))),
-        ("a filter", found_in(filters(alloc))),
-        ("iterators", found_in(iterates(alloc))),
+        found_in(refuses(alloc, b"\x0b\x08\x01\x14", end_two)),
+        found_in(refuses(alloc, b"\x0c", outside)),
+        found_in(refuses(alloc, b"\x08", short)),
+        found_in(refuses(alloc, b"\x0b\x08\x01", open)),
+        found_in(deepest(alloc)),
+        found_in(too_deep(alloc)),
     ]
 }
 
-fn limited_rows(alloc: Global) -> [(&'static str, Found); 6] {
-    let full = DecodeError::UnknownFieldLimitExceeded;
-    let deep = DecodeError::RecursionLimitExceeded;
+// Groups, levels and slots, and how many slots are left. A slot is asked for before a level.
+pub(super) fn limited_rows(alloc: Global) -> [Found; 7] {
+    let full = || Err(DecodeError::UnknownFieldLimitExceeded);
+    let deep = || Err(DecodeError::RecursionLimitExceeded);
     [
-        (
-            "two slots",
-            found_in(decodes(alloc, b"\x0b\x08\x00\x0c", 100, 2, Ok(0))),
-        ),
-        (
-            "one slot",
-            found_in(decodes(alloc, b"\x0b\x08\x00\x0c", 100, 1, Err(full))),
-        ),
-        (
-            "one level",
-            found_in(decodes(alloc, b"\x0b\x13\x14\x0c", 1, 10, Err(deep))),
-        ),
-        (
-            "a slot before a level",
-            found_in(decodes(
-                alloc,
-                b"\x0b\x13\x14\x0c",
-                1,
-                1,
-                Err(DecodeError::UnknownFieldLimitExceeded),
-            )),
-        ),
-        (
-            "no level",
-            found_in(decodes(
-                alloc,
-                b"\x0b\x0c",
-                0,
-                1,
-                Err(DecodeError::RecursionLimitExceeded),
-            )),
-        ),
-        (
-            "no slot and no level",
-            found_in(decodes(
-                alloc,
-                b"\x0b\x0c",
-                0,
-                0,
-                Err(DecodeError::UnknownFieldLimitExceeded),
-            )),
-        ),
+        found_in(decodes(alloc, b"\x0b\x08\x00\x0c", 100, 2, Ok(0))),
+        found_in(decodes(alloc, b"\x0b\x08\x00\x0c", 100, 1, full())),
+        found_in(decodes(alloc, b"\x0b\x13\x14\x0c", 1, 10, deep())),
+        found_in(decodes(alloc, b"\x0b\x13\x14\x0c", 1, 1, full())),
+        found_in(decodes(alloc, b"\x0b\x0c", 0, 1, deep())),
+        found_in(decodes(alloc, b"\x0b\x0c", 0, 0, full())),
+        found_in(within(alloc)),
     ]
 }
 
-fn measured_rows(alloc: Global) -> [(&'static str, Found); 7] {
+pub(super) fn measured_rows(alloc: Global) -> [Found; 7] {
     [
-        (
-            "varint 0",
-            found_in(measures(UnknownFieldData::Varint(0), 1, 2)),
-        ),
-        (
-            "varint 128",
-            found_in(measures(UnknownFieldData::Varint(128), 1, 3)),
-        ),
-        (
-            "number 16",
-            found_in(measures(UnknownFieldData::Varint(0), 16, 3)),
-        ),
-        ("long bytes", found_in(long_bytes(alloc))),
-        ("groups", found_in(groups(alloc))),
-        ("number 0", found_in(odd_number(alloc, 0, b"\x00\x00"))),
-        (
-            "the greatest u32",
-            found_in(odd_number(alloc, u32::MAX, b"\xf8\xff\xff\xff\x7f\x00")),
-        ),
+        found_in(measures(UnknownFieldData::Varint(0), 1, 2)),
+        found_in(measures(UnknownFieldData::Varint(128), 1, 3)),
+        found_in(measures(UnknownFieldData::Varint(0), 16, 3)),
+        found_in(long_bytes(alloc)),
+        found_in(groups(alloc)),
+        found_in(odd_number(alloc, 0, b"\x00\x00")),
+        found_in(odd_number(alloc, u32::MAX, b"\xf8\xff\xff\xff\x7f\x00")),
     ]
-}
-
-// With a refused allocation a row may find no memory, and never anything else.
-#[test]
-fn each_row_answers_its_own_or_lacks_memory(rt: HostRuntime) {
-    for (row, found) in whole_rows(rt.alloc()) {
-        assert_ne!(rt; found, Found::Other, "{row}");
-    }
-    for (row, found) in limited_rows(rt.alloc()) {
-        assert_ne!(rt; found, Found::Other, "{row}");
-    }
-    for (row, found) in measured_rows(rt.alloc()) {
-        assert_ne!(rt; found, Found::Other, "{row}");
-    }
 }
 
 #[test]
-fn ample_memory_gives_each_row_its_own(rt: HostRuntime) {
-    for (row, found) in whole_rows(rt.alloc()) {
-        assert_eq!(rt; found, Found::Own, "{row}");
-    }
-    for (row, found) in limited_rows(rt.alloc()) {
-        assert_eq!(rt; found, Found::Own, "{row}");
-    }
-    for (row, found) in measured_rows(rt.alloc()) {
-        assert_eq!(rt; found, Found::Own, "{row}");
-    }
+fn ample_memory_keeps_unknown_fields(rt: HostRuntime) {
+    assert_eq!(rt; first_astray(&whole_rows(rt.alloc())), None);
+    assert_eq!(rt; first_astray(&refused_rows(rt.alloc())), None);
+    assert_eq!(rt; first_astray(&limited_rows(rt.alloc())), None);
+    assert_eq!(rt; first_astray(&measured_rows(rt.alloc())), None);
 }
+
+// Fields of number 1 and value 8.
+const A_THOUSAND: [u8; 2_000] = [8; 2_000];
 
 // A million fields, and then a tail.
 fn many(alloc: Global, tail: &[u8]) -> Result<Vec<u8>, Stop> {
     let mut bytes = Vec::with_capacity(alloc, 2_000_001)?;
-    for _ in 0..1_000_000 {
-        bytes.extend_from_slice(b"\x08\x00")?;
+    for _ in 0..1_000 {
+        bytes.extend_from_slice(&A_THOUSAND)?;
     }
     bytes.extend_from_slice(tail)?;
     Ok(bytes)
@@ -334,21 +275,25 @@ fn a_million_and(alloc: Global, tail: &[u8], error: DecodeError) -> Result<bool,
     refuses(alloc, &bytes, error)
 }
 
+pub(super) fn million_rows(alloc: Global) -> [Found; 1] {
+    [found_in(a_million(alloc))]
+}
+
+pub(super) fn slot_after_a_million_rows(alloc: Global) -> [Found; 1] {
+    let full = DecodeError::UnknownFieldLimitExceeded;
+    [found_in(a_million_and(alloc, b"\x08", full))]
+}
+
+pub(super) fn tag_after_a_million_rows(alloc: Global) -> [Found; 1] {
+    let number = DecodeError::InvalidFieldNumber;
+    [found_in(a_million_and(alloc, b"\x00", number))]
+}
+
 #[test]
-fn a_million_fields_are_the_limit(rt: HostRuntime) {
-    let (full, number) = (
-        DecodeError::UnknownFieldLimitExceeded,
-        DecodeError::InvalidFieldNumber,
-    );
-    assert_eq!(rt; found_in(a_million(rt.alloc())), Found::Own);
-    assert_eq!(rt;
-        found_in(a_million_and(rt.alloc(), b"\x08", full)),
-        Found::Own
-    );
-    assert_eq!(rt;
-        found_in(a_million_and(rt.alloc(), b"\x00", number)),
-        Found::Own
-    );
+fn ample_memory_keeps_a_million_fields(rt: HostRuntime) {
+    assert_eq!(rt; first_astray(&million_rows(rt.alloc())), None);
+    assert_eq!(rt; first_astray(&slot_after_a_million_rows(rt.alloc())), None);
+    assert_eq!(rt; first_astray(&tag_after_a_million_rows(rt.alloc())), None);
 }
 
 #[test]
@@ -386,18 +331,4 @@ fn element_memory_is_taken_where_there_is_a_limit(rt: HostRuntime) {
         (context.depth(), context.remaining_unknown_fields()),
         (1, 1)
     );
-}
-
-#[test]
-fn a_caller_names_the_limits(rt: HostRuntime) {
-    let mut context = DecodeContext::new(0, 2);
-    let found = UnknownFields::decode_from_slice_within(
-        rt.alloc(),
-        b"\x08\x00\x10\x00",
-        &mut context,
-    );
-    assert_eq!(rt; found.map(|fields| fields.len()), Ok(2));
-    assert_eq!(rt; context.remaining_unknown_fields(), 0);
-    let found = UnknownFields::decode_from_slice_within(rt.alloc(), b"\x0b\x0c", &mut context);
-    assert_eq!(rt; found, Err(DecodeError::UnknownFieldLimitExceeded));
 }

@@ -1,5 +1,5 @@
 //! Persons, read from bytes that are whole or lie in two pieces.
-use super::{Found, HI, Stop, cut, found_in, refused, with_id};
+use super::{Found, HI, Place, Stop, cut, first_astray, found_in, refused, with_id};
 use crate::person::Person;
 use bytes::Buf;
 use std::alloc::Global;
@@ -68,66 +68,41 @@ pub(super) fn mismatch(field_number: u32, expected: u8, actual: u8) -> DecodeErr
     }
 }
 
-// The row's person is read from the bytes, also where they are cut at any place.
-fn reads(alloc: Global, row: Row) -> Result<bool, Stop> {
+// The row's person is read from the bytes, as a whole and cut at a place.
+fn reads(alloc: Global, row: Row, place: Place) -> Result<bool, Stop> {
     let (bytes, (id, name, scores, unknown), text) = row;
     let person = Person::decode_from_slice(alloc, bytes)?;
+    let mut pieces = cut(alloc, bytes, place)?;
     Ok(
         person.id == id
             && person.name.as_str() == name
             && person.scores.as_slice() == scores
             && person.unknown().len() == unknown
             && person.try_encode_to_vec(alloc)?.as_slice() == text
-            && reads_when_cut(alloc, bytes, &person)?,
+            && Person::decode(alloc, &mut pieces)? == person
+            && pieces.remaining() == 0,
     )
 }
 
-fn reads_when_cut(alloc: Global, bytes: &[u8], person: &Person) -> Result<bool, Stop> {
-    for place in 0..=bytes.len() {
-        let mut pieces = cut(alloc, bytes, place)?;
-        if Person::decode(alloc, &mut pieces)? != *person || pieces.remaining() > 0 {
-            return Ok(false);
-        }
-    }
-    Ok(true)
+// The bytes are refused, as a whole and cut at a place.
+fn refuses(alloc: Global, bytes: &[u8], error: &DecodeError, place: Place) -> Result<bool, Stop> {
+    let mut pieces = cut(alloc, bytes, place)?;
+    Ok(
+        refused(Person::decode(alloc, &mut pieces), error)?
+            && refused(Person::decode_from_slice(alloc, bytes), error)?,
+    )
 }
 
-// The bytes are refused, also where they are cut at any place.
-fn refuses(alloc: Global, bytes: &[u8], error: &DecodeError) -> Result<bool, Stop> {
-    for place in 0..=bytes.len() {
-        let mut pieces = cut(alloc, bytes, place)?;
-        if !refused(Person::decode(alloc, &mut pieces), error)? {
-            return Ok(false);
-        }
-    }
-    refused(Person::decode_from_slice(alloc, bytes), error)
+pub(super) fn read_rows(alloc: Global, place: Place) -> [Found; 10] {
+    READ.map(|row| found_in(reads(alloc, row, place)))
 }
 
-// With a refused allocation a row may find no memory, and never anything else.
-#[test]
-fn persons_are_read_or_lack_memory(rt: HostRuntime) {
-    for row in READ {
-        assert_ne!(rt; found_in(reads(rt.alloc(), row)), Found::Other, "{row:?}");
-    }
-    for (bytes, error) in faults() {
-        let found = found_in(refuses(rt.alloc(), bytes, &error));
-        assert_ne!(rt; found, Found::Other, "{bytes:?}");
-    }
-}
-
-#[test]
-fn ample_memory_reads_persons(rt: HostRuntime) {
-    for row in READ {
-        assert_eq!(rt; found_in(reads(rt.alloc(), row)), Found::Own, "{row:?}");
-    }
-    for (bytes, error) in faults() {
-        let found = found_in(refuses(rt.alloc(), bytes, &error));
-        assert_eq!(rt; found, Found::Own, "{bytes:?}");
-    }
+pub(super) fn refused_rows(alloc: Global, place: Place) -> [Found; 10] {
+    faults().map(|(bytes, error)| found_in(refuses(alloc, bytes, &error, place)))
 }
 
 // Records that are merged into the person of earlier ones are read as if they stood behind these.
-fn joins(alloc: Global, place: usize) -> Result<bool, Stop> {
+fn joins(alloc: Global, place: Place) -> Result<bool, Stop> {
     let mut merged = Person::decode_from_slice(alloc, b"\x1a\x01\x03")?;
     let mut pieces = cut(alloc, b"\x18\x04", place)?;
     merged.merge(alloc, &mut pieces, &mut DecodeContext::new(0, 0))?;
@@ -135,7 +110,7 @@ fn joins(alloc: Global, place: usize) -> Result<bool, Stop> {
 }
 
 // Two unknown fields take two slots of five and no level.
-fn takes_slots(alloc: Global, place: usize) -> Result<bool, Stop> {
+fn takes_slots(alloc: Global, place: Place) -> Result<bool, Stop> {
     let mut person = Person::default_value(alloc);
     let mut pieces = cut(alloc, b"\x22\x00\x22\x00", place)?;
     let mut context = DecodeContext::new(100, 5);
@@ -150,14 +125,14 @@ fn takes_slots(alloc: Global, place: usize) -> Result<bool, Stop> {
 
 // A person of number 5 takes the numbers 1 and 2 while more bytes than the limit remain: how many
 // bytes are left, and the number then.
-fn stops(alloc: Global, limit: usize, left: usize, id: i32, place: usize) -> Result<bool, Stop> {
+fn stops(alloc: Global, limit: usize, left: usize, id: i32, place: Place) -> Result<bool, Stop> {
     let mut person = with_id(alloc, 5);
     let mut pieces = cut(alloc, b"\x08\x01\x08\x02", place)?;
     person.merge_to_limit(alloc, &mut pieces, &mut DecodeContext::new(0, 0), limit)?;
     Ok(pieces.remaining() == left && person == with_id(alloc, id))
 }
 
-fn rows(alloc: Global, place: usize) -> [Found; 6] {
+pub(super) fn merged_rows(alloc: Global, place: Place) -> [Found; 6] {
     [
         found_in(joins(alloc, place)),
         found_in(takes_slots(alloc, place)),
@@ -169,23 +144,24 @@ fn rows(alloc: Global, place: usize) -> [Found; 6] {
     ]
 }
 
-// With a refused allocation a row may find no memory, and never anything else.
 #[test]
-fn persons_are_merged_or_lack_memory(rt: HostRuntime) {
-    assert!(rt;
-        rows(rt.alloc(), 1)
-            .iter()
-            .all(|found| *found != Found::Other)
-    );
-}
-
-#[test]
-fn ample_memory_merges_persons(rt: HostRuntime) {
-    for place in 0..=4 {
-        assert!(rt;
-            rows(rt.alloc(), place)
-                .iter()
-                .all(|found| *found == Found::Own)
+fn ample_memory_reads_persons(rt: HostRuntime) {
+    for place in 0..=HI.len() {
+        let place = Place::At(place);
+        assert_eq!(rt;
+            first_astray(&read_rows(rt.alloc(), place)),
+            None,
+            "{place:?}"
+        );
+        assert_eq!(rt;
+            first_astray(&refused_rows(rt.alloc(), place)),
+            None,
+            "{place:?}"
+        );
+        assert_eq!(rt;
+            first_astray(&merged_rows(rt.alloc(), place)),
+            None,
+            "{place:?}"
         );
     }
 }

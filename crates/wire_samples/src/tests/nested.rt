@@ -1,6 +1,6 @@
 //! Persons behind a length, in a group, and one level down, in bytes that are whole or lie in two
 //! pieces.
-use super::{Found, Stop, cut, found_in, refused, with_id};
+use super::{Found, Place, Stop, cut, first_astray, found_in, refused, with_id};
 use crate::person::Person;
 use bytes::Buf;
 use std::alloc::Global;
@@ -48,61 +48,52 @@ fn group_faults() -> [(&'static [u8], DecodeError); 4] {
 }
 
 // An embedded person takes one level, and gives it back.
-fn embeds(alloc: Global, row: (&[u8], i32, usize)) -> Result<bool, Stop> {
+fn embeds(alloc: Global, row: (&[u8], i32, usize), place: Place) -> Result<bool, Stop> {
     let (bytes, id, left) = row;
-    for place in 0..=bytes.len() {
-        let mut pieces = cut(alloc, bytes, place)?;
-        let mut person = with_id(alloc, 5);
-        let mut context = DecodeContext::new(1, 0);
-        person.merge_length_delimited(alloc, &mut pieces, &mut context)?;
-        if person != with_id(alloc, id) || pieces.remaining() != left || context.depth() != 1 {
-            return Ok(false);
-        }
-    }
-    Ok(true)
+    let mut pieces = cut(alloc, bytes, place)?;
+    let mut person = with_id(alloc, 5);
+    let mut context = DecodeContext::new(1, 0);
+    person.merge_length_delimited(alloc, &mut pieces, &mut context)?;
+    Ok(person == with_id(alloc, id) && pieces.remaining() == left && context.depth() == 1)
 }
 
-fn groups(alloc: Global, row: (&[u8], i32, usize)) -> Result<bool, Stop> {
+fn groups(alloc: Global, row: (&[u8], i32, usize), place: Place) -> Result<bool, Stop> {
     let (bytes, id, left) = row;
-    for place in 0..=bytes.len() {
-        let mut pieces = cut(alloc, bytes, place)?;
-        let mut person = with_id(alloc, 5);
-        let mut context = DecodeContext::new(1, 0);
-        person.merge_group(alloc, &mut pieces, &mut context, 4)?;
-        if person != with_id(alloc, id) || pieces.remaining() != left || context.depth() != 1 {
-            return Ok(false);
-        }
-    }
-    Ok(true)
+    let mut pieces = cut(alloc, bytes, place)?;
+    let mut person = with_id(alloc, 5);
+    let mut context = DecodeContext::new(1, 0);
+    person.merge_group(alloc, &mut pieces, &mut context, 4)?;
+    Ok(person == with_id(alloc, id) && pieces.remaining() == left && context.depth() == 1)
 }
 
-fn embeds_none(alloc: Global, bytes: &[u8], error: &DecodeError) -> Result<bool, Stop> {
-    for place in 0..=bytes.len() {
-        let mut pieces = cut(alloc, bytes, place)?;
-        let mut person = Person::default_value(alloc);
-        let mut context = DecodeContext::new(1, 0);
-        let answer = person.merge_length_delimited(alloc, &mut pieces, &mut context);
-        if !refused(answer, error)? {
-            return Ok(false);
-        }
-    }
+fn embeds_none(
+    alloc: Global,
+    bytes: &[u8],
+    error: &DecodeError,
+    place: Place,
+) -> Result<bool, Stop> {
+    let mut pieces = cut(alloc, bytes, place)?;
+    let mut person = Person::default_value(alloc);
+    let mut context = DecodeContext::new(1, 0);
+    let answer = person.merge_length_delimited(alloc, &mut pieces, &mut context);
     let mut rest = bytes;
-    refused(Person::decode_length_delimited(alloc, &mut rest), error)
+    Ok(
+        refused(answer, error)?
+            && refused(Person::decode_length_delimited(alloc, &mut rest), error)?,
+    )
 }
 
-fn groups_none(alloc: Global, bytes: &[u8], error: &DecodeError) -> Result<bool, Stop> {
-    for place in 0..=bytes.len() {
-        let mut pieces = cut(alloc, bytes, place)?;
-        let mut person = Person::default_value(alloc);
-        let mut context = DecodeContext::new(1, 0);
-        if !refused(
-            person.merge_group(alloc, &mut pieces, &mut context, 4),
-            error,
-        )? {
-            return Ok(false);
-        }
-    }
-    Ok(true)
+fn groups_none(
+    alloc: Global,
+    bytes: &[u8],
+    error: &DecodeError,
+    place: Place,
+) -> Result<bool, Stop> {
+    let mut pieces = cut(alloc, bytes, place)?;
+    let mut person = Person::default_value(alloc);
+    let mut context = DecodeContext::new(1, 0);
+    let answer = person.merge_group(alloc, &mut pieces, &mut context, 4);
+    refused(answer, error)
 }
 
 // Without a level an embedded person and a group are refused, whatever stands there.
@@ -119,19 +110,16 @@ fn needs_a_level(alloc: Global) -> Result<bool, Stop> {
 }
 
 // A length-delimited person is read, and the byte behind it is left.
-fn leaves_what_follows(alloc: Global) -> Result<bool, Stop> {
-    let bytes = b"\x02\x08\x01\xff".as_slice();
-    for place in 0..=bytes.len() {
-        let mut pieces = cut(alloc, bytes, place)?;
-        let person = Person::decode_length_delimited(alloc, &mut pieces)?;
-        let is_left = pieces.remaining() == 1 && pieces.chunk() == b"\xff".as_slice();
-        if person != with_id(alloc, 1) || !is_left {
-            return Ok(false);
-        }
-    }
-    let mut rest = bytes;
-    let person = Person::decode_length_delimited(alloc, &mut rest)?;
-    Ok(person == with_id(alloc, 1) && rest == b"\xff".as_slice())
+fn leaves_what_follows(alloc: Global, place: Place) -> Result<bool, Stop> {
+    let mut rest = b"\x02\x08\x01\xff".as_slice();
+    let mut pieces = cut(alloc, rest, place)?;
+    Ok(
+        Person::decode_length_delimited(alloc, &mut pieces)? == with_id(alloc, 1)
+            && pieces.remaining() == 1
+            && pieces.chunk() == b"\xff".as_slice()
+            && Person::decode_length_delimited(alloc, &mut rest)? == with_id(alloc, 1)
+            && rest == b"\xff".as_slice(),
+    )
 }
 
 // A length-delimited person is read at the level of the options, and is no longer than they allow.
@@ -149,49 +137,54 @@ fn keeps_to_the_options(alloc: Global) -> Result<bool, Stop> {
     )
 }
 
-fn calls(alloc: Global) -> [Found; 3] {
+pub(super) fn delimited_rows(alloc: Global, place: Place) -> [Found; 4] {
+    DELIMITED.map(|row| found_in(embeds(alloc, row, place)))
+}
+
+pub(super) fn group_rows(alloc: Global, place: Place) -> [Found; 3] {
+    GROUPS.map(|row| found_in(groups(alloc, row, place)))
+}
+
+pub(super) fn fault_rows(alloc: Global, place: Place) -> [Found; 7] {
+    faults().map(|(bytes, error)| found_in(embeds_none(alloc, bytes, &error, place)))
+}
+
+pub(super) fn group_fault_rows(alloc: Global, place: Place) -> [Found; 4] {
+    group_faults().map(|(bytes, error)| found_in(groups_none(alloc, bytes, &error, place)))
+}
+
+pub(super) fn rows(alloc: Global, place: Place) -> [Found; 3] {
     [
         found_in(needs_a_level(alloc)),
-        found_in(leaves_what_follows(alloc)),
+        found_in(leaves_what_follows(alloc, place)),
         found_in(keeps_to_the_options(alloc)),
     ]
 }
 
-// With a refused allocation a row may find no memory, and never anything else.
-#[test]
-fn nested_persons_are_read_or_lack_memory(rt: HostRuntime) {
-    for row in DELIMITED {
-        assert_ne!(rt; found_in(embeds(rt.alloc(), row)), Found::Other, "{row:?}");
-    }
-    for row in GROUPS {
-        assert_ne!(rt; found_in(groups(rt.alloc(), row)), Found::Other, "{row:?}");
-    }
-    for (bytes, error) in faults() {
-        let found = found_in(embeds_none(rt.alloc(), bytes, &error));
-        assert_ne!(rt; found, Found::Other, "{bytes:?}");
-    }
-    for (bytes, error) in group_faults() {
-        let found = found_in(groups_none(rt.alloc(), bytes, &error));
-        assert_ne!(rt; found, Found::Other, "{bytes:?}");
-    }
-    assert!(rt; calls(rt.alloc()).iter().all(|found| *found != Found::Other));
-}
-
 #[test]
 fn ample_memory_reads_nested_persons(rt: HostRuntime) {
-    for row in DELIMITED {
-        assert_eq!(rt; found_in(embeds(rt.alloc(), row)), Found::Own, "{row:?}");
+    for place in 0..=10 {
+        let place = Place::At(place);
+        assert_eq!(rt;
+            first_astray(&delimited_rows(rt.alloc(), place)),
+            None,
+            "{place:?}"
+        );
+        assert_eq!(rt;
+            first_astray(&group_rows(rt.alloc(), place)),
+            None,
+            "{place:?}"
+        );
+        assert_eq!(rt;
+            first_astray(&fault_rows(rt.alloc(), place)),
+            None,
+            "{place:?}"
+        );
+        assert_eq!(rt;
+            first_astray(&group_fault_rows(rt.alloc(), place)),
+            None,
+            "{place:?}"
+        );
+        assert_eq!(rt; first_astray(&rows(rt.alloc(), place)), None, "{place:?}");
     }
-    for row in GROUPS {
-        assert_eq!(rt; found_in(groups(rt.alloc(), row)), Found::Own, "{row:?}");
-    }
-    for (bytes, error) in faults() {
-        let found = found_in(embeds_none(rt.alloc(), bytes, &error));
-        assert_eq!(rt; found, Found::Own, "{bytes:?}");
-    }
-    for (bytes, error) in group_faults() {
-        let found = found_in(groups_none(rt.alloc(), bytes, &error));
-        assert_eq!(rt; found, Found::Own, "{bytes:?}");
-    }
-    assert!(rt; calls(rt.alloc()).iter().all(|found| *found == Found::Own));
 }

@@ -1,6 +1,6 @@
 //! Nodes, which hold nodes, in bytes that are whole or lie in two pieces.
 use super::decode::mismatch;
-use super::{Found, Stop, cut, found_in, refused};
+use super::{Found, Place, Stop, cut, first_astray, found_in, refused};
 use crate::node::Node;
 use bytes::Buf;
 use std::alloc::Global;
@@ -62,55 +62,50 @@ fn nodes(alloc: Global, levels: usize) -> Result<Node, Stop> {
     Ok(node)
 }
 
-// The text of so many nodes, each the child of the one around it, and these bytes inside.
+// The text of so many nodes, each the child of the one around it, and these bytes inside. It is
+// made from its end.
 fn levels_of(alloc: Global, levels: usize, inside: &[u8]) -> Result<Vec<u8>, Stop> {
-    let mut text = Vec::new(alloc);
-    text.extend_from_slice(inside)?;
-    for _ in 0..levels {
-        let mut outer = Vec::new(alloc);
-        outer.push(0x12)?;
-        if text.len() < 128 {
-            outer.push(text.len() as u8)?;
-        } else {
-            outer.push((text.len() % 128) as u8 | 0x80)?;
-            outer.push((text.len() / 128 % 128) as u8)?;
-        }
-        outer.extend_from_slice(text.as_slice())?;
-        text = outer;
+    let mut text = Vec::with_capacity(alloc, 606)?;
+    for byte in inside.iter().rev() {
+        text.push(*byte)?;
     }
+    for _ in 0..levels {
+        let len = text.len();
+        if len >= 128 {
+            text.push((len / 128 % 128) as u8)?;
+        }
+        text.push((len % 128) as u8 | if len >= 128 { 0x80 } else { 0 })?;
+        text.push(0x12)?;
+    }
+    text.reverse();
     Ok(text)
 }
 
 // ---- reading
 
 // The node is read from the bytes, as a whole and cut at a place.
-fn reads_at(alloc: Global, bytes: &[u8], node: &Node, place: usize) -> Result<bool, Stop> {
+fn reads(
+    alloc: Global,
+    bytes: &[u8],
+    node: Result<Node, Stop>,
+    place: Place,
+) -> Result<bool, Stop> {
+    let node = node?;
     let mut pieces = cut(alloc, bytes, place)?;
     Ok(
-        Node::decode(alloc, &mut pieces)? == *node
+        Node::decode(alloc, &mut pieces)? == node
             && pieces.remaining() == 0
-            && Node::decode_from_slice(alloc, bytes)? == *node,
+            && Node::decode_from_slice(alloc, bytes)? == node,
     )
-}
-
-// The node is read from the bytes, also where they are cut at any place.
-fn reads(alloc: Global, bytes: &[u8], node: Result<Node, Stop>) -> Result<bool, Stop> {
-    let node = node?;
-    for place in 0..=bytes.len() {
-        if !reads_at(alloc, bytes, &node, place)? {
-            return Ok(false);
-        }
-    }
-    Ok(true)
 }
 
 // A field that the type does not know.
 const UNKNOWN: &[u8] = b"\x28\x07";
 
-fn keeps(alloc: Global) -> Result<bool, Stop> {
+fn keeps(alloc: Global, place: Place) -> Result<bool, Stop> {
     let node = Node::decode_from_slice(alloc, UNKNOWN)?;
     let is_kept = node.unknown().len() == 1 && node != Node::default_value(alloc);
-    Ok(is_kept && reads(alloc, UNKNOWN, Ok(node))?)
+    Ok(is_kept && reads(alloc, UNKNOWN, Ok(node), place)?)
 }
 
 // A cleared node is a default one.
@@ -127,64 +122,49 @@ fn clears(alloc: Global) -> Result<bool, Stop> {
 }
 
 // A node behind a length, and a byte that is left.
-fn delimited(alloc: Global) -> Result<bool, Stop> {
-    let bytes = b"\x02\x08\x05\x0f".as_slice();
-    for place in 0..=bytes.len() {
-        let mut pieces = cut(alloc, bytes, place)?;
-        let mut node = Node::default_value(alloc);
-        let mut context = DecodeContext::new(1, 0);
-        node.merge_length_delimited(alloc, &mut pieces, &mut context)?;
-        if node != with_value(alloc, -3) || pieces.remaining() != 1 || context.depth() != 1 {
-            return Ok(false);
-        }
-    }
-    let mut rest = bytes;
-    let mut node = Node::default_value(alloc);
-    node.merge_length_delimited(alloc, &mut rest, &mut DecodeContext::new(1, 0))?;
-    Ok(node == with_value(alloc, -3) && rest == b"\x0f".as_slice())
+fn delimited(alloc: Global, place: Place) -> Result<bool, Stop> {
+    let mut rest = b"\x02\x08\x05\x0f".as_slice();
+    let mut pieces = cut(alloc, rest, place)?;
+    let (mut cut_node, mut node) = (Node::default_value(alloc), Node::default_value(alloc));
+    let mut context = DecodeContext::new(1, 0);
+    cut_node.merge_length_delimited(alloc, &mut pieces, &mut context)?;
+    node.merge_length_delimited(alloc, &mut rest, &mut context)?;
+    Ok(
+        cut_node == with_value(alloc, -3)
+            && node == cut_node
+            && pieces.remaining() == 1
+            && context.depth() == 1
+            && rest == b"\x0f".as_slice(),
+    )
 }
 
-fn read_rows(alloc: Global) -> [Found; 9] {
-    [
-        found_in(reads(
-            alloc,
-            b"\x12\x02\x08\x05",
-            parent(alloc, with_value(alloc, -3)),
-        )),
-        found_in(reads(alloc, FAMILY, family(alloc))),
-        found_in(reads(alloc, b"\x12\x04\x12\x02\x08\x05", grandparent(alloc))),
-        // The second record is merged into the child of the first.
-        found_in(reads(alloc, b"\x12\x02\x08\x05\x12\x02\x1a\x00", joined(alloc))),
-        found_in(reads(alloc, b"\x23\x08\x05\x24", grouped(alloc))),
-        // Varints with a zero more.
-        found_in(reads(
-            alloc,
-            b"\x92\x00\x84\x00\x88\x00\x85\x00",
-            parent(alloc, with_value(alloc, -3)),
-        )),
-        found_in(keeps(alloc)),
-        found_in(clears(alloc)),
-        found_in(delimited(alloc)),
-    ]
-}
-
-// With a refused allocation a row may find no memory, and never anything else.
-#[test]
-fn nodes_are_read_or_lack_memory(rt: HostRuntime) {
-    assert!(rt;
-        read_rows(rt.alloc())
-            .iter()
-            .all(|found| *found != Found::Other)
+pub(super) fn read_rows(alloc: Global, place: Place) -> [Found; 9] {
+    let child = || parent(alloc, with_value(alloc, -3));
+    let (two_deep, twice) = (
+        b"\x12\x04\x12\x02\x08\x05",
+        b"\x12\x02\x08\x05\x12\x02\x1a\x00",
     );
+    let padded = b"\x92\x00\x84\x00\x88\x00\x85\x00";
+    [
+        found_in(reads(alloc, b"\x12\x02\x08\x05", child(), place)),
+        found_in(reads(alloc, FAMILY, family(alloc), place)),
+        found_in(reads(alloc, two_deep, grandparent(alloc), place)),
+        // The second record is merged into the child of the first.
+        found_in(reads(alloc, twice, joined(alloc), place)),
+        found_in(reads(alloc, b"\x23\x08\x05\x24", grouped(alloc), place)),
+        found_in(reads(alloc, padded, child(), place)),
+        found_in(keeps(alloc, place)),
+        found_in(clears(alloc)),
+        found_in(delimited(alloc, place)),
+    ]
 }
 
 #[test]
 fn ample_memory_reads_nodes(rt: HostRuntime) {
-    assert!(rt;
-        read_rows(rt.alloc())
-            .iter()
-            .all(|found| *found == Found::Own)
-    );
+    for place in 0..=FAMILY.len() {
+        let found = read_rows(rt.alloc(), Place::At(place));
+        assert_eq!(rt; first_astray(&found), None, "{place}");
+    }
 }
 
 // ---- refusing
@@ -210,12 +190,7 @@ fn faults() -> [(&'static [u8], DecodeError); 9] {
 }
 
 // The bytes are refused, as a whole and cut at a place.
-fn refuses_at(
-    alloc: Global,
-    bytes: &[u8],
-    error: &DecodeError,
-    place: usize,
-) -> Result<bool, Stop> {
+fn refuses(alloc: Global, bytes: &[u8], error: &DecodeError, place: Place) -> Result<bool, Stop> {
     let mut pieces = cut(alloc, bytes, place)?;
     Ok(
         refused(Node::decode(alloc, &mut pieces), error)?
@@ -223,26 +198,14 @@ fn refuses_at(
     )
 }
 
-// The bytes are refused, also where they are cut at any place.
-fn refuses(alloc: Global, bytes: &[u8], error: &DecodeError) -> Result<bool, Stop> {
-    for place in 0..=bytes.len() {
-        if !refuses_at(alloc, bytes, error, place)? {
-            return Ok(false);
-        }
-    }
-    Ok(true)
-}
-
 // The bytes are read where the limits are these.
-fn taken(alloc: Global, options: DecodeOptions, bytes: &[u8]) -> Result<bool, Stop> {
+fn taken(alloc: Global, options: DecodeOptions, bytes: &[u8], place: Place) -> Result<bool, Stop> {
     let node = Node::decode_from_slice(alloc, bytes)?;
-    for place in 0..=bytes.len() {
-        let pieces: Node = options.decode(alloc, &mut cut(alloc, bytes, place)?)?;
-        if pieces != node {
-            return Ok(false);
-        }
-    }
-    Ok(options.decode_from_slice::<Node>(alloc, bytes)? == node)
+    let mut pieces = cut(alloc, bytes, place)?;
+    Ok(
+        options.decode::<Node, _>(alloc, &mut pieces)? == node
+            && options.decode_from_slice::<Node>(alloc, bytes)? == node,
+    )
 }
 
 // The bytes are refused where the limits are these.
@@ -251,20 +214,23 @@ fn limited(
     options: DecodeOptions,
     bytes: &[u8],
     error: DecodeError,
+    place: Place,
 ) -> Result<bool, Stop> {
-    for place in 0..=bytes.len() {
-        let mut pieces = cut(alloc, bytes, place)?;
-        if !refused(options.decode::<Node, _>(alloc, &mut pieces), &error)? {
-            return Ok(false);
-        }
-    }
-    refused(options.decode_from_slice::<Node>(alloc, bytes), &error)
+    let mut pieces = cut(alloc, bytes, place)?;
+    Ok(
+        refused(options.decode::<Node, _>(alloc, &mut pieces), &error)?
+            && refused(options.decode_from_slice::<Node>(alloc, bytes), &error)?,
+    )
+}
+
+pub(super) fn fault_rows(alloc: Global, place: Place) -> [Found; 9] {
+    faults().map(|(bytes, error)| found_in(refuses(alloc, bytes, &error, place)))
 }
 
 // An unknown field in each of two embedded messages.
 const UNKNOWN_INSIDE: &[u8] = b"\x12\x02\x30\x00\x12\x02\x30\x00";
 
-fn limit_rows(alloc: Global) -> [Found; 6] {
+pub(super) fn limit_rows(alloc: Global, place: Place) -> [Found; 6] {
     let elements = |limit: usize| DecodeOptions::new().with_element_memory_limit(limit);
     let levels = |limit: u32| DecodeOptions::new().with_recursion_limit(limit);
     let slots = |limit: usize| DecodeOptions::new().with_unknown_field_limit(limit);
@@ -272,12 +238,12 @@ fn limit_rows(alloc: Global) -> [Found; 6] {
     let deep = DecodeError::RecursionLimitExceeded;
     let full = DecodeError::UnknownFieldLimitExceeded;
     [
-        found_in(taken(alloc, elements(128), FAMILY)),
-        found_in(limited(alloc, elements(127), FAMILY, large)),
-        found_in(taken(alloc, levels(1), FAMILY)),
-        found_in(limited(alloc, levels(0), FAMILY, deep)),
-        found_in(taken(alloc, slots(2), UNKNOWN_INSIDE)),
-        found_in(limited(alloc, slots(1), UNKNOWN_INSIDE, full)),
+        found_in(taken(alloc, elements(128), FAMILY, place)),
+        found_in(limited(alloc, elements(127), FAMILY, large, place)),
+        found_in(taken(alloc, levels(1), FAMILY, place)),
+        found_in(limited(alloc, levels(0), FAMILY, deep, place)),
+        found_in(taken(alloc, slots(2), UNKNOWN_INSIDE, place)),
+        found_in(limited(alloc, slots(1), UNKNOWN_INSIDE, full, place)),
     ]
 }
 
@@ -287,72 +253,57 @@ const UNKNOWN_GROUP: &[u8] = b"\x2b\x30\x00\x2c";
 // The same in an embedded message.
 const UNKNOWN_GROUP_INSIDE: &[u8] = b"\x12\x04\x2b\x30\x00\x2c";
 
-fn group_limit_rows(alloc: Global) -> [Found; 5] {
+pub(super) fn group_limit_rows(alloc: Global, place: Place) -> [Found; 5] {
     let limits = |levels: u32, slots: usize| {
         DecodeOptions::new()
             .with_recursion_limit(levels)
             .with_unknown_field_limit(slots)
     };
-    let deep = DecodeError::RecursionLimitExceeded;
+    let deep = || DecodeError::RecursionLimitExceeded;
     let full = DecodeError::UnknownFieldLimitExceeded;
-    let too_deep = DecodeError::RecursionLimitExceeded;
+    let inside = UNKNOWN_GROUP_INSIDE;
     [
-        found_in(taken(alloc, limits(1, 2), UNKNOWN_GROUP)),
-        found_in(limited(alloc, limits(0, 2), UNKNOWN_GROUP, deep)),
-        found_in(limited(alloc, limits(1, 1), UNKNOWN_GROUP, full)),
-        found_in(taken(alloc, limits(2, 2), UNKNOWN_GROUP_INSIDE)),
-        found_in(limited(alloc, limits(1, 2), UNKNOWN_GROUP_INSIDE, too_deep)),
+        found_in(taken(alloc, limits(1, 2), UNKNOWN_GROUP, place)),
+        found_in(limited(alloc, limits(0, 2), UNKNOWN_GROUP, deep(), place)),
+        found_in(limited(alloc, limits(1, 1), UNKNOWN_GROUP, full, place)),
+        found_in(taken(alloc, limits(2, 2), inside, place)),
+        found_in(limited(alloc, limits(1, 2), inside, deep(), place)),
     ]
-}
-
-// With a refused allocation a row may find no memory, and never anything else.
-#[test]
-fn nodes_are_refused_or_lack_memory(rt: HostRuntime) {
-    for (bytes, error) in faults() {
-        let found = found_in(refuses(rt.alloc(), bytes, &error));
-        assert_ne!(rt; found, Found::Other, "{bytes:?}");
-    }
-    assert!(rt;
-        limit_rows(rt.alloc())
-            .iter()
-            .all(|found| *found != Found::Other)
-    );
-    assert!(rt;
-        group_limit_rows(rt.alloc())
-            .iter()
-            .all(|found| *found != Found::Other)
-    );
 }
 
 #[test]
 fn ample_memory_refuses_nodes(rt: HostRuntime) {
-    for (bytes, error) in faults() {
-        let found = found_in(refuses(rt.alloc(), bytes, &error));
-        assert_eq!(rt; found, Found::Own, "{bytes:?}");
+    for place in 0..=FAMILY.len() {
+        let place = Place::At(place);
+        assert_eq!(rt;
+            first_astray(&fault_rows(rt.alloc(), place)),
+            None,
+            "{place:?}"
+        );
+        assert_eq!(rt;
+            first_astray(&limit_rows(rt.alloc(), place)),
+            None,
+            "{place:?}"
+        );
+        assert_eq!(rt;
+            first_astray(&group_limit_rows(rt.alloc(), place)),
+            None,
+            "{place:?}"
+        );
     }
-    assert!(rt;
-        limit_rows(rt.alloc())
-            .iter()
-            .all(|found| *found == Found::Own)
-    );
-    assert!(rt;
-        group_limit_rows(rt.alloc())
-            .iter()
-            .all(|found| *found == Found::Own)
-    );
 }
 
 // ---- many levels
 
 // As many levels as there may be.
-fn just_deep(alloc: Global, place: usize) -> Result<bool, Stop> {
+fn just_deep(alloc: Global, place: Place) -> Result<bool, Stop> {
     let text = levels_of(alloc, 100, b"")?;
-    reads_at(alloc, text.as_slice(), &nodes(alloc, 100)?, place)
+    reads(alloc, text.as_slice(), nodes(alloc, 100), place)
 }
 
-fn too_deep(alloc: Global, place: usize) -> Result<bool, Stop> {
+fn too_deep(alloc: Global, place: Place) -> Result<bool, Stop> {
     let text = levels_of(alloc, 101, b"")?;
-    refuses_at(
+    refuses(
         alloc,
         text.as_slice(),
         &DecodeError::RecursionLimitExceeded,
@@ -361,46 +312,53 @@ fn too_deep(alloc: Global, place: usize) -> Result<bool, Stop> {
 }
 
 // The innermost length, of the last level that there may be, is more than what stands behind it.
-fn breaks_off(alloc: Global, place: usize) -> Result<bool, Stop> {
+fn breaks_off(alloc: Global, place: Place) -> Result<bool, Stop> {
     let text = levels_of(alloc, 99, b"\x12\x05")?;
-    refuses_at(alloc, text.as_slice(), &DecodeError::UnexpectedEof, place)
+    refuses(alloc, text.as_slice(), &DecodeError::UnexpectedEof, place)
 }
 
 // Each of more levels than there may be has the greatest length of a message. The first is refused.
-fn lies(alloc: Global, place: usize) -> Result<bool, Stop> {
+fn lies(alloc: Global, place: Place) -> Result<bool, Stop> {
     let mut text = Vec::new(alloc);
     for _ in 0..101 {
         text.extend_from_slice(b"\x12\xff\xff\xff\xff\x07")?;
     }
-    refuses_at(alloc, text.as_slice(), &DecodeError::UnexpectedEof, place)
+    refuses(alloc, text.as_slice(), &DecodeError::UnexpectedEof, place)
 }
 
-fn deep_rows(alloc: Global, place: usize) -> [Found; 4] {
+pub(super) fn deep_rows(alloc: Global, place: Place) -> [Found; 1] {
+    [found_in(just_deep(alloc, place))]
+}
+
+pub(super) fn too_deep_rows(alloc: Global, place: Place) -> [Found; 1] {
+    [found_in(too_deep(alloc, place))]
+}
+
+pub(super) fn deep_fault_rows(alloc: Global, place: Place) -> [Found; 2] {
     [
-        found_in(just_deep(alloc, place)),
-        found_in(too_deep(alloc, place)),
         found_in(breaks_off(alloc, place)),
         found_in(lies(alloc, place)),
     ]
 }
 
-// With a refused allocation a row may find no memory, and never anything else.
-#[test]
-fn levels_are_counted_or_lack_memory(rt: HostRuntime) {
-    assert!(rt;
-        deep_rows(rt.alloc(), 1)
-            .iter()
-            .all(|found| *found != Found::Other)
-    );
-}
-
 #[test]
 fn ample_memory_counts_levels(rt: HostRuntime) {
     for place in 0..=606 {
-        assert!(rt;
-            deep_rows(rt.alloc(), place)
-                .iter()
-                .all(|found| *found == Found::Own)
+        let place = Place::At(place);
+        assert_eq!(rt;
+            first_astray(&deep_rows(rt.alloc(), place)),
+            None,
+            "{place:?}"
+        );
+        assert_eq!(rt;
+            first_astray(&too_deep_rows(rt.alloc(), place)),
+            None,
+            "{place:?}"
+        );
+        assert_eq!(rt;
+            first_astray(&deep_fault_rows(rt.alloc(), place)),
+            None,
+            "{place:?}"
         );
     }
 }
@@ -442,7 +400,7 @@ fn pooled(mut pool: SizeCachePool, alloc: Global) -> Result<bool, Stop> {
     Ok(same)
 }
 
-fn write_rows(alloc: Global) -> [Found; 11] {
+pub(super) fn write_rows(alloc: Global) -> [Found; 6] {
     [
         found_in(writes(alloc, family(alloc), FAMILY)),
         found_in(writes(alloc, grandparent(alloc), b"\x12\x04\x12\x02\x08\x05")),
@@ -458,6 +416,11 @@ fn write_rows(alloc: Global) -> [Found; 11] {
             b"\x12\x02\x08\x05",
         )),
         found_in(rewrites(alloc, UNKNOWN, UNKNOWN)),
+    ]
+}
+
+pub(super) fn size_rows(alloc: Global) -> [Found; 5] {
+    [
         found_in(measures(alloc, family(alloc), &[2, 0, 2])),
         found_in(measures(alloc, grandparent(alloc), &[4, 2])),
         found_in(pooled(SizeCachePool::new(alloc, 0, 64), alloc)),
@@ -466,23 +429,10 @@ fn write_rows(alloc: Global) -> [Found; 11] {
     ]
 }
 
-// With a refused allocation a row may find no memory, and never anything else.
-#[test]
-fn nodes_are_written_or_lack_memory(rt: HostRuntime) {
-    assert!(rt;
-        write_rows(rt.alloc())
-            .iter()
-            .all(|found| *found != Found::Other)
-    );
-}
-
 #[test]
 fn ample_memory_writes_nodes(rt: HostRuntime) {
-    assert!(rt;
-        write_rows(rt.alloc())
-            .iter()
-            .all(|found| *found == Found::Own)
-    );
+    assert_eq!(rt; first_astray(&write_rows(rt.alloc())), None);
+    assert_eq!(rt; first_astray(&size_rows(rt.alloc())), None);
 }
 
 #[test]

@@ -1,5 +1,5 @@
 //! Limits that a caller names.
-use super::{Found, HI, Stop, cut, found_in, hi, refused, with_id};
+use super::{Found, HI, Place, Stop, cut, first_astray, found_in, hi, refused, with_id};
 use crate::person::Person;
 use std::alloc::Global;
 use wire_codec::{DEFAULT_ELEMENT_MEMORY_LIMIT, DecodeError, DecodeOptions, Message};
@@ -46,7 +46,7 @@ fn each_limit_is_named_alone(rt: HostRuntime) {
 const ZERO: &[u8] = b"\x08\x00";
 
 // Two bytes are too many where one is allowed: the value and the buffer stay as they were.
-fn too_large(alloc: Global, place: usize) -> Result<bool, Stop> {
+fn too_large(alloc: Global, place: Place) -> Result<bool, Stop> {
     let options = DecodeOptions::new().with_max_message_size(1);
     let error = DecodeError::MessageTooLarge;
     let mut person = with_id(alloc, 5);
@@ -76,7 +76,7 @@ fn keeps(
     options: DecodeOptions,
     bytes: &[u8],
     count: usize,
-    place: usize,
+    place: Place,
 ) -> Result<bool, Stop> {
     let person: Person = options.decode_from_slice(alloc, bytes)?;
     let pieces: Person = options.decode(alloc, &mut cut(alloc, bytes, place)?)?;
@@ -93,7 +93,7 @@ fn refuses(
     options: DecodeOptions,
     bytes: &[u8],
     error: DecodeError,
-    place: usize,
+    place: Place,
 ) -> Result<bool, Stop> {
     let mut pieces = cut(alloc, bytes, place)?;
     Ok(
@@ -103,7 +103,7 @@ fn refuses(
 }
 
 // Each call has the whole limit, so one slot is enough for two calls of a field each.
-fn one_each(alloc: Global, place: usize) -> Result<bool, Stop> {
+fn one_each(alloc: Global, place: Place) -> Result<bool, Stop> {
     let options = DecodeOptions::new().with_unknown_field_limit(1);
     let mut person = Person::default_value(alloc);
     options.merge_from_slice(alloc, &mut person, b"\x22\x00")?;
@@ -113,12 +113,12 @@ fn one_each(alloc: Global, place: usize) -> Result<bool, Stop> {
 }
 
 // Numbers are not charged as elements.
-fn no_elements(alloc: Global, place: usize) -> Result<bool, Stop> {
+fn no_elements(alloc: Global, place: Place) -> Result<bool, Stop> {
     let options = DecodeOptions::new().with_element_memory_limit(0);
     Ok(options.decode::<Person, _>(alloc, &mut cut(alloc, HI, place)?)? == hi(alloc)?)
 }
 
-fn rows(alloc: Global, place: usize) -> [Found; 8] {
+pub(super) fn rows(alloc: Global, place: Place) -> [Found; 8] {
     let slots = |limit: usize| DecodeOptions::new().with_unknown_field_limit(limit);
     let levels = |limit: u32| DecodeOptions::new().with_recursion_limit(limit);
     let full = DecodeError::UnknownFieldLimitExceeded;
@@ -135,23 +135,10 @@ fn rows(alloc: Global, place: usize) -> [Found; 8] {
     ]
 }
 
-// With a refused allocation a row may find no memory, and never anything else.
-#[test]
-fn limits_are_kept_or_lack_memory(rt: HostRuntime) {
-    assert!(rt;
-        rows(rt.alloc(), 1)
-            .iter()
-            .all(|found| *found != Found::Other)
-    );
-}
-
 #[test]
 fn ample_memory_keeps_limits(rt: HostRuntime) {
     for place in 0..=HI.len() {
-        assert!(rt;
-            rows(rt.alloc(), place)
-                .iter()
-                .all(|found| *found == Found::Own)
-        );
+        let found = rows(rt.alloc(), Place::At(place));
+        assert_eq!(rt; first_astray(&found), None, "{place}");
     }
 }

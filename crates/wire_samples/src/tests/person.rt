@@ -1,4 +1,4 @@
-use super::{Found, HI, Stop, found_in, hi, refused, with_id};
+use super::{Found, HI, Stop, first_astray, found_in, hi, refused, with_id};
 use crate::person::Person;
 use std::alloc::Global;
 use wire_codec::{EncodeError, Message, MessageName};
@@ -51,7 +51,7 @@ fn within_budget(alloc: Global) -> Result<bool, Stop> {
     Ok(size == 2 && sink.as_slice() == b"\x07\x08\x01".as_slice())
 }
 
-fn rows(alloc: Global) -> [Found; 9] {
+pub(super) fn rows(alloc: Global) -> [Found; 9] {
     [
         found_in(whole(alloc)),
         found_in(scores_alone(alloc)),
@@ -65,15 +65,9 @@ fn rows(alloc: Global) -> [Found; 9] {
     ]
 }
 
-// With a refused allocation a row may find no memory, and never anything else.
-#[test]
-fn persons_are_written_or_lack_memory(rt: HostRuntime) {
-    assert!(rt; rows(rt.alloc()).iter().all(|found| *found != Found::Other));
-}
-
 #[test]
 fn ample_memory_writes_persons(rt: HostRuntime) {
-    assert!(rt; rows(rt.alloc()).iter().all(|found| *found == Found::Own));
+    assert_eq!(rt; first_astray(&rows(rt.alloc())), None);
 }
 
 #[test]

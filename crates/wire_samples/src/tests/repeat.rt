@@ -1,4 +1,4 @@
-use super::{Found, Stop, cut, found_in, refused};
+use super::{Found, Place, Stop, cut, first_astray, found_in, refused};
 use crate::repeat::Repeat;
 use std::alloc::Global;
 use wire_codec::{DecodeError, EncodeError, Message};
@@ -39,7 +39,7 @@ fn twice(alloc: Global) -> Result<bool, Stop> {
     Ok(message.try_encode_to_vec(alloc)?.as_slice() == TWICE)
 }
 
-fn rows(alloc: Global) -> [Found; 7] {
+pub(super) fn rows(alloc: Global) -> [Found; 7] {
     [
         found_in(measures(alloc, 1_073_741_822, true, 2_147_483_647)),
         found_in(measures(alloc, 1_073_741_823, false, 2_147_483_646)),
@@ -51,21 +51,15 @@ fn rows(alloc: Global) -> [Found; 7] {
     ]
 }
 
-// With a refused allocation a row may find no memory, and never anything else.
-#[test]
-fn repeats_are_measured_or_lack_memory(rt: HostRuntime) {
-    assert!(rt; rows(rt.alloc()).iter().all(|found| *found != Found::Other));
-}
-
 #[test]
 fn ample_memory_measures_repeats(rt: HostRuntime) {
-    assert!(rt; rows(rt.alloc()).iter().all(|found| *found == Found::Own));
+    assert_eq!(rt; first_astray(&rows(rt.alloc())), None);
 }
 
 const NO_RECORD: DecodeError = DecodeError::Custom("no record of a Repeat");
 
 // The message is read from the bytes, as a whole and cut at a place.
-fn reads(alloc: Global, bytes: &[u8], times: u64, extra: bool, place: usize) -> Result<bool, Stop> {
+fn reads(alloc: Global, bytes: &[u8], times: u64, extra: bool, place: Place) -> Result<bool, Stop> {
     let message = Repeat { times, extra };
     let mut pieces = cut(alloc, bytes, place)?;
     Ok(
@@ -74,7 +68,7 @@ fn reads(alloc: Global, bytes: &[u8], times: u64, extra: bool, place: usize) -> 
     )
 }
 
-fn refuses(alloc: Global, bytes: &[u8], place: usize) -> Result<bool, Stop> {
+fn refuses(alloc: Global, bytes: &[u8], place: Place) -> Result<bool, Stop> {
     let mut pieces = cut(alloc, bytes, place)?;
     Ok(
         refused(Repeat::decode_from_slice(alloc, bytes), &NO_RECORD)?
@@ -91,7 +85,7 @@ fn is_full(alloc: Global) -> Result<bool, Stop> {
     refused(message.merge_from_slice(alloc, b"\x08\x00"), &NO_RECORD)
 }
 
-fn read_rows(alloc: Global, place: usize) -> [Found; 5] {
+pub(super) fn read_rows(alloc: Global, place: Place) -> [Found; 5] {
     [
         found_in(reads(alloc, TWICE, 2, true, place)),
         found_in(refuses(alloc, b"\x08\x01", place)),
@@ -101,23 +95,10 @@ fn read_rows(alloc: Global, place: usize) -> [Found; 5] {
     ]
 }
 
-// With a refused allocation a row may find no memory, and never anything else.
-#[test]
-fn repeats_are_read_or_lack_memory(rt: HostRuntime) {
-    assert!(rt;
-        read_rows(rt.alloc(), 1)
-            .iter()
-            .all(|found| *found != Found::Other)
-    );
-}
-
 #[test]
 fn ample_memory_reads_repeats(rt: HostRuntime) {
     for place in 0..=TWICE.len() {
-        assert!(rt;
-            read_rows(rt.alloc(), place)
-                .iter()
-                .all(|found| *found == Found::Own)
-        );
+        let found = read_rows(rt.alloc(), Place::At(place));
+        assert_eq!(rt; first_astray(&found), None, "{place}");
     }
 }
