@@ -1,5 +1,5 @@
 //! Scalars: what is written for them, what is read, and packed lists of them.
-use crate::found::{Found, Stop, found_in};
+use super::{Found, Stop, found_in};
 use std::alloc::Global;
 use wire_codec::{
     DecodeError, EncodeError, EncodeSink, Tag, WireType, check_wire_type, count_varints, *,

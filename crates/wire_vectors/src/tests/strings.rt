@@ -1,7 +1,7 @@
 //! Strings: written, read, merged and borrowed.
-use crate::chunks::cut;
-use crate::found::{Found, Stop, found_in};
-use crate::payloads::LENGTHS;
+use super::chunks::cut;
+use super::payloads::LENGTHS;
+use super::{Found, Stop, found_in};
 use bytes::Buf;
 use std::alloc::Global;
 use wire_codec::{

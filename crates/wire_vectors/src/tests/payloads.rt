@@ -1,6 +1,6 @@
 //! Bytes: written, read, merged and borrowed, and payloads as they are lent.
-use crate::chunks::cut;
-use crate::found::{Found, Stop, found_in};
+use super::chunks::cut;
+use super::{Found, Stop, found_in};
 use bytes::{Buf, Bytes};
 use std::alloc::Global;
 use wire_codec::{

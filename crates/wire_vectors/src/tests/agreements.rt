@@ -5,7 +5,7 @@ mod generator;
 
 use self::case::{Case, Left};
 use self::generator::Generator;
-use crate::found::{Found, Stop, found_in};
+use super::{Found, Stop, found_in};
 use std::alloc::Global;
 use std::test::Fail;
 use wire_codec::{

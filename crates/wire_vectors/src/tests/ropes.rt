@@ -1,5 +1,5 @@
 //! Ropes and the other sinks: what they hold after puts, and how a rope is read.
-use crate::found::{Found, Stop, found_in};
+use super::{Found, Stop, found_in};
 use bytes::{Buf, Bytes, BytesMut};
 use std::alloc::Global;
 use wire_codec::{DEFAULT_MIN_SEGMENT, EncodeError, EncodeSink, Rope, RopeBuf};

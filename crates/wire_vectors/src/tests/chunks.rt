@@ -1,5 +1,5 @@
 //! Input in two pieces, cut at every place, reads as in one.
-use crate::found::{Found, Stop, found_in};
+use super::{Found, Stop, found_in};
 use bytes::{Buf, Bytes};
 use std::alloc::Global;
 use wire_codec::{

@@ -1,5 +1,5 @@
 //! A tag, the bytes behind it, and limits.
-use crate::found::Stop;
+use crate::tests::Stop;
 use std::alloc::Global;
 use wire_codec::{DecodeContext, DecodeError, Tag, decode_unknown_field, skip_field_depth};
 

@@ -2,8 +2,8 @@
 ghost use Rattle.std.specs.Prelude.{string_bytes};
 ghost use Rattle.wire_vectors.specs.NoX.{answers_no_x, answers_no_x_by_bytes};
 
-use crate::chunks::cut;
-use crate::found::{Found, Stop, found_in};
+use super::chunks::cut;
+use super::{Found, Stop, found_in};
 use bytes::{Buf, Bytes};
 use std::alloc::Global;
 use wire_codec::{

@@ -1,4 +1,13 @@
-//! What a row's check finds.
+//! Worked rows. Each is a check that can be run while memory is refused, too.
+mod agreements;
+mod chunks;
+mod enums;
+mod payloads;
+mod plugged;
+mod ropes;
+mod scalars;
+mod strings;
+
 use std::alloc::{AllocError, AllocFailed};
 use wire_codec::{DecodeError, EncodeError};
 

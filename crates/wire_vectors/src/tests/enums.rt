@@ -1,10 +1,10 @@
 //! Enum fields: numbers that an enum knows, and others that are kept.
 ghost use Rattle.std.specs.Prelude.{◌≡◌, pos, [], ◌∷◌, codes};
 ghost use Rattle.wire_text.specs.declared.enumeration.EnumValue.TheVariants.{Known, Unknown};
-ghost use Rattle.wire_vectors.specs.declared.enums.Color.TheVariants.{Green};
+ghost use Rattle.wire_vectors.specs.declared.tests.enums.Color.TheVariants.{Green};
 ghost use Rattle.wire_codec.specs.EnumNumbers.{first_numbered, first_numbered_keeps};
 
-use crate::found::{Found, Stop, found_in};
+use super::{Found, Stop, found_in};
 use std::alloc::Global;
 use std::hash::{DefaultHasher, Hash, Hasher};
 use wire_codec::{EnumValue, Enumeration};
@@ -19,7 +19,7 @@ enum Color {
 static COLORS: [Color; 3] = [Color::Red, Color::Green, Color::Blue];
 
 impl Enumeration for Color {
-    ghost use Rattle.wire_vectors.specs.declared.enums.Color.TheVariants.{Red, Green, Blue};
+    ghost use Rattle.wire_vectors.specs.declared.tests.enums.Color.TheVariants.{Red, Green, Blue};
 
     ghost number = { elim [ Red ↦ pos 0 | Green ↦ pos 1 | Blue ↦ pos 2 ] };
 
@@ -74,7 +74,7 @@ enum Status {
 }
 
 impl Enumeration for Status {
-    ghost use Rattle.wire_vectors.specs.declared.enums.Status.TheVariants.{Active, Inactive};
+    ghost use Rattle.wire_vectors.specs.declared.tests.enums.Status.TheVariants.{Active, Inactive};
 
     ghost number = { elim [ Active ↦ pos 1 | Inactive ↦ pos 2 ] };
 
