@@ -1,13 +1,12 @@
-//! Strings, bytes and lists of types that a user plugs in.
+//! Strings and bytes of types that a user plugs in.
 ghost use Rattle.std.specs.Prelude.{string_bytes};
 ghost use Rattle.wire_vectors.specs.NoX.{answers_no_x, answers_no_x_by_bytes};
 
-use super::chunks::cut;
-use super::{Found, Stop, found_in};
+use super::{Found, Place, Stop, cut, first_astray, found_in, settled};
 use bytes::{Buf, Bytes};
 use std::alloc::Global;
 use wire_codec::{
-    DecodeError, ProtoBytes, ProtoList, ProtoString, WirePayload, decode_bytes_to, decode_string_to,
+    DecodeError, ProtoBytes, ProtoString, WirePayload, decode_bytes_to, decode_string_to,
 };
 
 // A text that does not begin with an x.
@@ -56,78 +55,82 @@ fn a_refused_payload_in_one_piece_is_left(rt: HostRuntime) {
 }
 
 fn refused_when_cut(alloc: Global) -> Result<bool, Stop> {
-    let mut buf = cut(alloc, b"\x02xyA", 2)?;
-    let found = decode_string_to::<NoX, _>(alloc, &mut buf);
-    if found == Err(DecodeError::OutOfMemory) {
-        return Err(Stop::Memory);
-    }
+    let mut buf = cut(alloc, b"\x02xyA", Place::At(2))?;
+    let found = settled(decode_string_to::<NoX, _>(alloc, &mut buf))?;
     Ok(found == Err(DecodeError::Custom("x")) && buf.chunk() == b"A".as_slice())
 }
 
-fn taken<P: ProtoString>(alloc: Global, place: usize) -> Result<bool, Stop> {
-    let mut buf = cut(alloc, b"\x02hi\x05", place)?;
-    let value: P = decode_string_to(alloc, &mut buf)?;
-    let made = P::from_text(alloc, "hi")?;
-    let none = P::empty(alloc);
-    let read = P::from_wire(alloc, WirePayload::borrowed(b"hi"))?;
+// A text, made in each of the ways that a type has.
+fn made<P: ProtoString>(alloc: Global) -> Result<bool, Stop> {
+    let lent = P::from_wire(alloc, WirePayload::borrowed(b"hi"))?;
+    let payload = Bytes::copy_from_slice(alloc, b"hi")?;
+    let shared = P::from_wire(alloc, WirePayload::owned(payload.clone()?))?;
+    let own = P::from_wire(alloc, WirePayload::owned(payload))?;
     Ok(
-        value.as_str() == "hi"
-            && made.as_str() == "hi"
-            && none.as_str() == ""
-            && read.as_str() == "hi"
-            && buf.remaining() == 1,
+        lent.as_str() == "hi"
+            && shared.as_str() == "hi"
+            && own.as_str() == "hi"
+            && P::from_text(alloc, "hi")?.as_str() == "hi"
+            && P::empty(alloc).as_str() == "",
     )
 }
 
-fn taken_bytes<P: ProtoBytes>(alloc: Global, place: usize) -> Result<bool, Stop> {
-    let mut buf = cut(alloc, b"\x02\xc3\x28\x05", place)?;
-    let value: P = decode_bytes_to(alloc, &mut buf)?;
-    let made = P::from_vec(alloc, Vec::from_slice(alloc, b"\xc3")?)?;
-    let none = P::empty(alloc);
-    let own = WirePayload::owned(Bytes::copy_from_slice(alloc, b"\xc3")?);
-    let read = P::from_wire(alloc, own)?;
+// Bytes, made in each of the ways that a type has.
+fn made_bytes<P: ProtoBytes>(alloc: Global) -> Result<bool, Stop> {
+    let lent = P::from_wire(alloc, WirePayload::borrowed(b"\xc3"))?;
+    let payload = Bytes::copy_from_slice(alloc, b"\xc3")?;
+    let shared = P::from_wire(alloc, WirePayload::owned(payload.clone()?))?;
+    let own = P::from_wire(alloc, WirePayload::owned(payload))?;
+    let vector = P::from_vec(alloc, Vec::from_slice(alloc, b"\xc3")?)?;
     Ok(
-        value.as_slice() == b"\xc3\x28".as_slice()
-            && made.as_slice() == b"\xc3".as_slice()
-            && none.as_slice() == b"".as_slice()
-            && read.as_slice() == b"\xc3".as_slice()
-            && buf.remaining() == 1,
+        lent.as_slice() == b"\xc3".as_slice()
+            && shared.as_slice() == b"\xc3".as_slice()
+            && own.as_slice() == b"\xc3".as_slice()
+            && vector.as_slice() == b"\xc3".as_slice()
+            && P::empty(alloc).as_slice().is_empty(),
     )
 }
 
-fn listed<L: ProtoList<u32>>(alloc: Global) -> Result<bool, Stop> {
-    let mut list = L::empty(alloc);
-    list.reserve(2)?;
-    if list.push(7).is_err() || list.push(9).is_err() {
-        return Err(Stop::Memory);
-    }
-    let full = list.as_slice() == [7, 9].as_slice();
-    list.clear();
-    Ok(full && list.as_slice().is_empty())
-}
-
-fn rows(alloc: Global) -> [Found; 10] {
+pub(super) fn rows(alloc: Global) -> [Found; 5] {
     [
         found_in(refused_when_cut(alloc)),
-        found_in(taken::<String>(alloc, 0)),
-        found_in(taken::<String>(alloc, 2)),
-        found_in(taken::<NoX>(alloc, 0)),
-        found_in(taken::<NoX>(alloc, 2)),
-        found_in(taken_bytes::<Vec<u8>>(alloc, 0)),
-        found_in(taken_bytes::<Vec<u8>>(alloc, 2)),
-        found_in(taken_bytes::<Bytes>(alloc, 0)),
-        found_in(taken_bytes::<Bytes>(alloc, 2)),
-        found_in(listed::<Vec<u32>>(alloc)),
+        found_in(made::<String>(alloc)),
+        found_in(made::<NoX>(alloc)),
+        found_in(made_bytes::<Vec<u8>>(alloc)),
+        found_in(made_bytes::<Bytes>(alloc)),
     ]
 }
 
-// With a refused allocation a row may find no memory, and never anything else.
+fn taken<P: ProtoString>(alloc: Global, place: Place) -> Result<bool, Stop> {
+    let mut buf = cut(alloc, b"\x02hi\x05", place)?;
+    let value: P = decode_string_to(alloc, &mut buf)?;
+    Ok(value.as_str() == "hi" && buf.remaining() == 1)
+}
+
+fn taken_bytes<P: ProtoBytes>(alloc: Global, place: Place) -> Result<bool, Stop> {
+    let mut buf = cut(alloc, b"\x02\xc3\x28\x05", place)?;
+    let value: P = decode_bytes_to(alloc, &mut buf)?;
+    Ok(value.as_slice() == b"\xc3\x28".as_slice() && buf.remaining() == 1)
+}
+
+pub(super) fn read_rows(alloc: Global, place: Place) -> [Found; 4] {
+    [
+        found_in(taken::<String>(alloc, place)),
+        found_in(taken::<NoX>(alloc, place)),
+        found_in(taken_bytes::<Vec<u8>>(alloc, place)),
+        found_in(taken_bytes::<Bytes>(alloc, place)),
+    ]
+}
+
 #[test]
-fn plugged_types_answer_or_lack_memory(rt: HostRuntime) {
-    assert!(rt; rows(rt.alloc()).iter().all(|found| *found != Found::Other));
+fn ample_memory_makes_values_of_plugged_types(rt: HostRuntime) {
+    assert_eq!(rt; first_astray(&rows(rt.alloc())), None);
 }
 
 #[test]
 fn ample_memory_reads_plugged_types(rt: HostRuntime) {
-    assert!(rt; rows(rt.alloc()).iter().all(|found| *found == Found::Own));
+    for place in 0..=4 {
+        let rows = read_rows(rt.alloc(), Place::At(place));
+        assert_eq!(rt; first_astray(&rows), None, "{place}");
+    }
 }
