@@ -87,9 +87,10 @@ const RUNS: [&[Put]; 8] = [
     ],
 ];
 
-// A run of puts, again and again. A put that is refused leaves the sink as it was.
+// A run of puts behind a byte, again and again. A put that is refused leaves the sink as it was.
 fn grows<S: Shown>(alloc: Global, mut sink: S, run: &[Put]) -> Result<bool, Stop> {
-    let mut text = Vec::new(alloc);
+    let mut text = vec![in alloc; 7]?;
+    sink.put_u8(7)?;
     for _ in 0..18 {
         for put in run {
             let answer = put.put(&mut sink);
