@@ -133,20 +133,21 @@ fn put_texts<S: EncodeSink>(sink: &mut S) -> Result<(), EncodeError> {
 }
 
 fn write_all<S: EncodeSink>(sink: &mut S) -> Result<(), EncodeError> {
-    sink.put_u8(7)?;
     encode_all(sink)?;
     put_all(sink)?;
     put_texts(sink)
 }
 
-// Values, fields and texts behind a byte. Where one is refused, a front of them stands there.
+// Values, fields and texts behind a byte. Where one is refused, that byte and a front of them
+// stand there.
 fn holds_a_front<S: Shown>(alloc: Global, mut sink: S) -> Result<bool, Stop> {
     let mut text = vec![in alloc; 7]?;
     text.extend_from_slice(&written(alloc)?)?;
     text.extend_from_slice(TEXTS)?;
+    sink.put_u8(7)?;
     let answer = write_all(&mut sink);
     let shown = sink.shown(alloc)?;
-    if answer.is_err() && !text.starts_with(&shown) {
+    if answer.is_err() && (shown.is_empty() || !text.starts_with(&shown)) {
         return Ok(false);
     }
     answer?;
