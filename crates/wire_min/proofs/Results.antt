@@ -1,5 +1,5 @@
 -- What a result with its error replaced tells of the result before.
-use Rattle.std.proofs.Common.{◌≡◌, Result, Ok, Err, refl, sym}
+use Rattle.std.proofs.Common.{◌≡◌, Result, Ok, Err}
 use Rattle.std.specs.Result.{result_or}
 
 pub ok_before : {T E F : Type 0} (r : Result T E) (e : F) (x : T)

@@ -1,7 +1,9 @@
 //! A tag, the bytes behind it, and limits.
-use crate::found::Stop;
+use crate::tests::{Stop, settled};
 use std::alloc::Global;
-use wire_codec::{DecodeContext, DecodeError, Tag, decode_unknown_field, skip_field_depth};
+use wire_codec::{
+    DecodeContext, DecodeError, Tag, WireType, decode_unknown_field, skip_field_depth,
+};
 
 /// A tag, what stands behind it, and the limits under which that is read.
 #[derive(Debug, Drop)]
@@ -29,17 +31,25 @@ fn decoded(
     mut context: DecodeContext,
 ) -> Result<Result<Left, DecodeError>, Stop> {
     let mut rest = behind;
-    match decode_unknown_field(alloc, tag, &mut rest, &mut context) {
-        Ok(_) => Ok(Ok(Left {
-            bytes: rest.len(),
-            slots: context.remaining_unknown_fields(),
-        })),
-        Err(DecodeError::OutOfMemory) => Err(Stop::Memory),
-        Err(error) => Ok(Err(error)),
-    }
+    let found = settled(decode_unknown_field(alloc, tag, &mut rest, &mut context))?;
+    Ok(found.map(|_| Left {
+        bytes: rest.len(),
+        slots: context.remaining_unknown_fields(),
+    }))
 }
 
 impl Case {
+    /// Bytes behind the start tag of a group of number 1.
+    pub fn group(alloc: Global, behind: &[u8], levels: u32, slots: usize) -> Result<Case, Stop> {
+        Ok(Case {
+            tag: Tag::new(1, WireType::StartGroup),
+            head: vec![in alloc; 0x0b]?,
+            behind: Vec::from_slice(alloc, behind)?,
+            levels,
+            slots,
+        })
+    }
+
     /// What decoding answers.
     pub fn decoded(&self, alloc: Global) -> Result<Result<Left, DecodeError>, Stop> {
         self.decoded_within(alloc, self.levels, self.slots)

@@ -1,6 +1,5 @@
 //! Bytes: written, read, merged and borrowed, and payloads as they are lent.
-use crate::chunks::cut;
-use crate::found::{Found, Stop, found_in};
+use super::{Found, Place, Stop, cut, first_astray, found_in, settled, writes};
 use bytes::{Buf, Bytes};
 use std::alloc::Global;
 use wire_codec::{
@@ -51,41 +50,13 @@ fn lengths_that_lie_are_short_input(rt: HostRuntime) {
     }
 }
 
-fn writes(alloc: Global) -> Result<bool, Stop> {
-    let mut sink = Vec::new(alloc);
-    encode_bytes(b"\xff", &mut sink)?;
-    put_bytes_field(1, b"", &mut sink)?;
-    Ok(sink.as_slice() == b"\x01\xff\x0a\x00".as_slice() && bytes_encoded_len(b"\xff")? == 2)
+fn measures(alloc: Global) -> Result<bool, Stop> {
+    let bytes = vec![in alloc; 0xff; 128]?;
+    Ok(bytes_encoded_len(&bytes)? == 130)
 }
 
-fn decodes(alloc: Global, place: usize) -> Result<bool, Stop> {
-    let mut buf = cut(alloc, b"\x02\xc3\x28\x01\x07\x05", place)?;
-    let first = decode_bytes(alloc, &mut buf)?;
-    let second = decode_bytes_to_bytes(alloc, &mut buf)?;
-    Ok(
-        first.as_slice() == b"\xc3\x28".as_slice()
-            && second.as_slice() == b"\x07".as_slice()
-            && buf.remaining() == 1,
-    )
-}
-
-// Bytes that are merged into `old`: the answer, and the bytes then.
-fn merges(
-    alloc: Global,
-    bytes: &[u8],
-    answer: Result<(), DecodeError>,
-    after: &[u8],
-) -> Result<bool, Stop> {
-    let mut value = Vec::from_slice(alloc, b"old")?;
-    let mut buf = cut(alloc, bytes, bytes.len() / 2)?;
-    let found = merge_bytes(alloc, &mut value, &mut buf);
-    if found == Err(DecodeError::OutOfMemory) && value.as_slice() == b"old".as_slice() {
-        return Err(Stop::Memory);
-    }
-    Ok(found == answer && value.as_slice() == after)
-}
-
-fn payloads(alloc: Global) -> Result<bool, Stop> {
+// A payload that is lent, and a copy of it that is owned, shared or alone.
+fn lent_and_owned(alloc: Global) -> Result<bool, Stop> {
     let lent = WirePayload::borrowed(b"hi");
     let own = WirePayload::owned(Bytes::copy_from_slice(alloc, b"\xc3")?);
     let again = own.clone()?;
@@ -103,25 +74,66 @@ fn payloads(alloc: Global) -> Result<bool, Stop> {
     )
 }
 
-fn rows(alloc: Global) -> [Found; 7] {
+pub(super) fn rows(alloc: Global) -> [Found; 4] {
     [
-        found_in(writes(alloc)),
-        found_in(decodes(alloc, 0)),
-        found_in(decodes(alloc, 2)),
-        found_in(merges(alloc, b"\x02hi", Ok(()), b"hi")),
-        found_in(merges(alloc, b"\x06longer", Ok(()), b"longer")),
-        found_in(merges(alloc, b"\x05a", Err(DecodeError::UnexpectedEof), b"old")),
-        found_in(payloads(alloc)),
+        found_in(writes(alloc, b"\x01\xff", |sink| encode_bytes(b"\xff", sink))),
+        found_in(writes(
+            alloc,
+            b"\x0a\x02\xc3\x28",
+            |sink| put_bytes_field(1, b"\xc3\x28", sink),
+        )),
+        found_in(measures(alloc)),
+        found_in(lent_and_owned(alloc)),
     ]
 }
 
-// With a refused allocation a row may find no memory, and never anything else.
-#[test]
-fn bytes_answer_or_lack_memory(rt: HostRuntime) {
-    assert!(rt; rows(rt.alloc()).iter().all(|found| *found != Found::Other));
+fn decodes(alloc: Global, place: Place) -> Result<bool, Stop> {
+    let mut buf = cut(alloc, b"\x02\xc3\x28\x01\x07\x05", place)?;
+    let first = decode_bytes(alloc, &mut buf)?;
+    let second = decode_bytes_to_bytes(alloc, &mut buf)?;
+    Ok(
+        first.as_slice() == b"\xc3\x28".as_slice()
+            && second.as_slice() == b"\x07".as_slice()
+            && buf.remaining() == 1,
+    )
+}
+
+// Bytes that are merged into `old`: the answer, and the bytes then. A refusal leaves `old`.
+fn merges(
+    alloc: Global,
+    bytes: &[u8],
+    place: Place,
+    answer: Result<(), DecodeError>,
+    after: &[u8],
+) -> Result<bool, Stop> {
+    let mut value = Vec::from_slice(alloc, b"old")?;
+    let mut buf = cut(alloc, bytes, place)?;
+    let found = merge_bytes(alloc, &mut value, &mut buf);
+    if found.is_err() && value.as_slice() != b"old".as_slice() {
+        return Ok(false);
+    }
+    Ok(settled(found)? == answer && value.as_slice() == after)
+}
+
+pub(super) fn read_rows(alloc: Global, place: Place) -> [Found; 4] {
+    let short = Err(DecodeError::UnexpectedEof);
+    [
+        found_in(decodes(alloc, place)),
+        found_in(merges(alloc, b"\x02hi", place, Ok(()), b"hi")),
+        found_in(merges(alloc, b"\x06longer", place, Ok(()), b"longer")),
+        found_in(merges(alloc, b"\x05a", place, short, b"old")),
+    ]
 }
 
 #[test]
-fn ample_memory_reads_and_writes_bytes(rt: HostRuntime) {
-    assert!(rt; rows(rt.alloc()).iter().all(|found| *found == Found::Own));
+fn ample_memory_writes_bytes(rt: HostRuntime) {
+    assert_eq!(rt; first_astray(&rows(rt.alloc())), None);
+}
+
+#[test]
+fn ample_memory_reads_bytes(rt: HostRuntime) {
+    for place in 0..=7 {
+        let rows = read_rows(rt.alloc(), Place::At(place));
+        assert_eq!(rt; first_astray(&rows), None, "{place}");
+    }
 }

@@ -1,10 +1,10 @@
 //! Enum fields: numbers that an enum knows, and others that are kept.
 ghost use Rattle.std.specs.Prelude.{◌≡◌, pos, [], ◌∷◌, codes};
 ghost use Rattle.wire_text.specs.declared.enumeration.EnumValue.TheVariants.{Known, Unknown};
-ghost use Rattle.wire_vectors.specs.declared.enums.Color.TheVariants.{Green};
+ghost use Rattle.wire_vectors.specs.declared.tests.enums.Color.TheVariants.{Green};
 ghost use Rattle.wire_codec.specs.EnumNumbers.{first_numbered, first_numbered_keeps};
 
-use crate::found::{Found, Stop, found_in};
+use super::{Found, Stop, first_astray, found_in};
 use std::alloc::Global;
 use std::hash::{DefaultHasher, Hash, Hasher};
 use wire_codec::{EnumValue, Enumeration};
@@ -19,7 +19,7 @@ enum Color {
 static COLORS: [Color; 3] = [Color::Red, Color::Green, Color::Blue];
 
 impl Enumeration for Color {
-    ghost use Rattle.wire_vectors.specs.declared.enums.Color.TheVariants.{Red, Green, Blue};
+    ghost use Rattle.wire_vectors.specs.declared.tests.enums.Color.TheVariants.{Red, Green, Blue};
 
     ghost number = { elim [ Red ↦ pos 0 | Green ↦ pos 1 | Blue ↦ pos 2 ] };
 
@@ -74,7 +74,7 @@ enum Status {
 }
 
 impl Enumeration for Status {
-    ghost use Rattle.wire_vectors.specs.declared.enums.Status.TheVariants.{Active, Inactive};
+    ghost use Rattle.wire_vectors.specs.declared.tests.enums.Status.TheVariants.{Active, Inactive};
 
     ghost number = { elim [ Active ↦ pos 1 | Inactive ↦ pos 2 ] };
 
@@ -171,7 +171,7 @@ fn shows(alloc: Global, number: i32, text: &str, debug: &str) -> Result<bool, St
     Ok(shown.as_str() == text && debugged.as_str() == debug)
 }
 
-fn rows(alloc: Global) -> [Found; 3] {
+pub(super) fn rows(alloc: Global) -> [Found; 3] {
     [
         found_in(shows(alloc, 1, "GREEN", "Green")),
         found_in(shows(alloc, -1, "-1", "Unknown(-1)")),
@@ -179,13 +179,7 @@ fn rows(alloc: Global) -> [Found; 3] {
     ]
 }
 
-// With a refused allocation a row may find no memory, and never anything else.
-#[test]
-fn values_are_shown_or_lack_memory(rt: HostRuntime) {
-    assert!(rt; rows(rt.alloc()).iter().all(|found| *found != Found::Other));
-}
-
 #[test]
 fn ample_memory_shows_values(rt: HostRuntime) {
-    assert!(rt; rows(rt.alloc()).iter().all(|found| *found == Found::Own));
+    assert_eq!(rt; first_astray(&rows(rt.alloc())), None);
 }

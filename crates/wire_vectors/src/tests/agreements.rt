@@ -5,7 +5,7 @@ mod generator;
 
 use self::case::{Case, Left};
 use self::generator::Generator;
-use crate::found::{Found, Stop, found_in};
+use super::{Found, Stop, first_astray, found_in};
 use std::alloc::Global;
 use std::test::Fail;
 use wire_codec::{
@@ -111,43 +111,24 @@ fn faults_stay(alloc: Global, case: &Case) -> Result<bool, Stop> {
     Ok(true)
 }
 
-fn agreements(alloc: Global, case: &Case) -> [(&'static str, Found); 8] {
-    [
-        ("skips alike", found_in(skips_alike(alloc, case))),
-        ("slots suffice", found_in(slots_suffice(alloc, case))),
-        ("borrows alike", found_in(borrows_alike(alloc, case))),
-        ("walks alike", found_in(walks_alike(alloc, case))),
-        ("a walk is exact", found_in(walk_is_exact(alloc, case))),
-        ("writes no more", found_in(writes_no_more(alloc, case))),
-        ("fronts are short", found_in(fronts_are_short(alloc, case))),
-        ("faults stay", found_in(faults_stay(alloc, case))),
-    ]
-}
-
-// With a refused allocation a case may find no memory, and never anything else.
-#[test]
-fn calls_agree_or_lack_memory(rt: HostRuntime) {
-    let mut generator = Generator::new(rt.alloc(), 1);
-    for _ in 0..100 {
-        let Ok(case) = generator.case() else {
-            continue;
-        };
-        for (agreement, found) in agreements(rt.alloc(), &case) {
-            assert_ne!(rt; found, Found::Other, "{agreement}: {case:?}");
-        }
-    }
-}
-
-#[test]
-fn ample_memory_lets_calls_agree(rt: HostRuntime) -> Result<(), Fail> {
-    let mut generator = Generator::new(rt.alloc(), 2);
-    for _ in 0..10_000 {
-        let case = generator.case()?;
-        for (agreement, found) in agreements(rt.alloc(), &case) {
-            assert_eq!(rt; found, Found::Own, "{agreement}: {case:?}");
-        }
-    }
-    Ok(())
+// The first agreement that does not hold.
+fn disagreement(alloc: Global, case: &Case) -> Result<Option<&'static str>, Stop> {
+    let agreements = [
+        ("skips alike", skips_alike(alloc, case)?),
+        ("slots suffice", slots_suffice(alloc, case)?),
+        ("borrows alike", borrows_alike(alloc, case)?),
+        ("walks alike", walks_alike(alloc, case)?),
+        ("a walk is exact", walk_is_exact(alloc, case)?),
+        ("writes no more", writes_no_more(alloc, case)?),
+        ("fronts are short", fronts_are_short(alloc, case)?),
+        ("faults stay", faults_stay(alloc, case)?),
+    ];
+    Ok(
+        agreements
+            .iter()
+            .find(|(_, holds)| !*holds)
+            .map(|(agreement, _)| *agreement),
+    )
 }
 
 // Which of the answers that the cases are to have this one is.
@@ -163,6 +144,42 @@ fn kind(answer: &Result<Left, DecodeError>) -> usize {
         Err(DecodeError::UnknownFieldLimitExceeded) => 7,
         Err(_) => 8,
     }
+}
+
+// Bytes behind the start tag of a group, for a level and three slots, and the kind of the answer.
+const SMALL: [(&[u8], usize); 8] = [
+    (b"\x08\x01\x12\x01a\x0c\x05", 0),
+    (b"\x08\x01\x12\x02a", 1),
+    (b"\x08\xff\xff\xff\xff\xff\xff\xff\xff\xff\x02\x0c", 2),
+    (b"\x08\x01\x0f\x0c", 3),
+    (b"\x08\x01\x00\x0c", 4),
+    (b"\x08\x01\x14", 5),
+    (b"\x13\x14\x0c", 6),
+    (b"\x08\x01\x08\x02\x08\x03\x0c", 7),
+];
+
+fn small_case_agrees(alloc: Global, behind: &[u8], answer: usize) -> Result<bool, Stop> {
+    let case = Case::group(alloc, behind, 1, 3)?;
+    Ok(kind(&case.decoded(alloc)?) == answer && disagreement(alloc, &case)?.is_none())
+}
+
+pub(super) fn rows(alloc: Global) -> [Found; 8] {
+    SMALL.map(|(behind, answer)| found_in(small_case_agrees(alloc, behind, answer)))
+}
+
+#[test]
+fn ample_memory_lets_small_cases_agree(rt: HostRuntime) {
+    assert_eq!(rt; first_astray(&rows(rt.alloc())), None);
+}
+
+#[test]
+fn ample_memory_lets_calls_agree(rt: HostRuntime) -> Result<(), Fail> {
+    let mut generator = Generator::new(rt.alloc(), 2);
+    for _ in 0..10_000 {
+        let case = generator.case()?;
+        assert_eq!(rt; disagreement(rt.alloc(), &case)?, None, "{case:?}");
+    }
+    Ok(())
 }
 
 #[test]

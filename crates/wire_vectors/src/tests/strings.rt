@@ -1,7 +1,6 @@
 //! Strings: written, read, merged and borrowed.
-use crate::chunks::cut;
-use crate::found::{Found, Stop, found_in};
-use crate::payloads::LENGTHS;
+use super::payloads::LENGTHS;
+use super::{Found, Place, Stop, cut, first_astray, found_in, settled, writes};
 use bytes::Buf;
 use std::alloc::Global;
 use wire_codec::{
@@ -40,13 +39,6 @@ fn lengths_that_lie_are_short_input(rt: HostRuntime) {
     }
 }
 
-fn writes(alloc: Global) -> Result<bool, Stop> {
-    let mut sink = Vec::new(alloc);
-    encode_string("é", &mut sink)?;
-    put_string_field(2, "hi", &mut sink)?;
-    Ok(sink.as_slice() == b"\x02\xc3\xa9\x12\x02hi".as_slice())
-}
-
 fn measures(alloc: Global) -> Result<bool, Stop> {
     let bytes = vec![in alloc; b'a'; 128]?;
     match String::from_utf8(bytes) {
@@ -55,56 +47,61 @@ fn measures(alloc: Global) -> Result<bool, Stop> {
     }
 }
 
-fn decodes(alloc: Global, place: usize) -> Result<bool, Stop> {
+pub(super) fn rows(alloc: Global) -> [Found; 3] {
+    [
+        found_in(writes(alloc, b"\x02\xc3\xa9", |sink| encode_string("é", sink))),
+        found_in(writes(alloc, b"\x12\x02hi", |sink| put_string_field(2, "hi", sink))),
+        found_in(measures(alloc)),
+    ]
+}
+
+fn decodes(alloc: Global, place: Place) -> Result<bool, Stop> {
     let mut buf = cut(alloc, b"\x82\x00hi\x05", place)?;
     let text = decode_string(alloc, &mut buf)?;
     Ok(text.as_str() == "hi" && buf.remaining() == 1)
 }
 
-// A string that is merged into the text `old`: the answer, the text then, and the bytes left.
+// A string that is merged into the text `old`: the answer, the text then, and the bytes left. Want
+// of memory leaves `old`.
 fn merges(
     alloc: Global,
     bytes: &[u8],
+    place: Place,
     answer: Result<(), DecodeError>,
     text: &str,
     left: usize,
 ) -> Result<bool, Stop> {
     let mut value = String::from_str(alloc, "old")?;
-    let mut buf = cut(alloc, bytes, bytes.len() / 2)?;
+    let mut buf = cut(alloc, bytes, place)?;
     let found = merge_string(alloc, &mut value, &mut buf);
-    if found == Err(DecodeError::OutOfMemory) && value.as_str() == "old" {
-        return Err(Stop::Memory);
+    if found == Err(DecodeError::OutOfMemory) && value.as_str() != "old" {
+        return Ok(false);
     }
-    Ok(found == answer && value.as_str() == text && buf.remaining() == left)
+    Ok(settled(found)? == answer && value.as_str() == text && buf.remaining() == left)
 }
 
-fn rows(alloc: Global) -> [Found; 9] {
+pub(super) fn read_rows(alloc: Global, place: Place) -> [Found; 6] {
+    let (short, ended) = (DecodeError::UnexpectedEof, DecodeError::UnexpectedEof);
+    let invalid = DecodeError::InvalidUtf8;
     [
-        found_in(writes(alloc)),
-        found_in(measures(alloc)),
-        found_in(decodes(alloc, 0)),
-        found_in(decodes(alloc, 3)),
-        found_in(merges(alloc, b"\x02hi", Ok(()), "hi", 0)),
-        found_in(merges(alloc, b"\x06longer\x05", Ok(()), "longer", 1)),
-        found_in(merges(
-            alloc,
-            b"\x03a\xc3\x28",
-            Err(DecodeError::InvalidUtf8),
-            "",
-            0,
-        )),
-        found_in(merges(alloc, b"\x05a", Err(DecodeError::UnexpectedEof), "old", 1)),
-        found_in(merges(alloc, b"\x80", Err(DecodeError::UnexpectedEof), "old", 0)),
+        found_in(decodes(alloc, place)),
+        found_in(merges(alloc, b"\x02hi", place, Ok(()), "hi", 0)),
+        found_in(merges(alloc, b"\x06longer\x05", place, Ok(()), "longer", 1)),
+        found_in(merges(alloc, b"\x03a\xc3\x28", place, Err(invalid), "", 0)),
+        found_in(merges(alloc, b"\x05a", place, Err(short), "old", 1)),
+        found_in(merges(alloc, b"\x80", place, Err(ended), "old", 0)),
     ]
 }
 
-// With a refused allocation a row may find no memory, and never anything else.
 #[test]
-fn strings_answer_or_lack_memory(rt: HostRuntime) {
-    assert!(rt; rows(rt.alloc()).iter().all(|found| *found != Found::Other));
+fn ample_memory_writes_strings(rt: HostRuntime) {
+    assert_eq!(rt; first_astray(&rows(rt.alloc())), None);
 }
 
 #[test]
-fn ample_memory_reads_and_writes_strings(rt: HostRuntime) {
-    assert!(rt; rows(rt.alloc()).iter().all(|found| *found == Found::Own));
+fn ample_memory_reads_strings(rt: HostRuntime) {
+    for place in 0..=8 {
+        let rows = read_rows(rt.alloc(), Place::At(place));
+        assert_eq!(rt; first_astray(&rows), None, "{place}");
+    }
 }

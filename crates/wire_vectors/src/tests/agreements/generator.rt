@@ -1,6 +1,6 @@
 //! Cases by chance, the same at each run.
 use super::case::Case;
-use crate::found::Stop;
+use crate::tests::Stop;
 use std::alloc::Global;
 use wire_codec::{MAX_FIELD_NUMBER, Tag, WireType, encode_varint};
 

@@ -1,20 +1,16 @@
-//! Ropes and the other sinks: what they hold after puts, and how a rope is read.
-use crate::found::{Found, Stop, found_in};
+//! Ropes: the segments that they have after puts, and how a rope is read.
+use super::{Found, Stop, first_astray, found_in};
 use bytes::{Buf, Bytes, BytesMut};
 use std::alloc::Global;
-use wire_codec::{DEFAULT_MIN_SEGMENT, EncodeError, EncodeSink, Rope, RopeBuf};
+use wire_codec::{DEFAULT_MIN_SEGMENT, EncodeSink, Rope, RopeBuf};
 
-// A rope that is handed back is want of memory, where it has what it had, and else no row's answer.
-fn handed_back(rope: &Rope, len: usize, segments: usize) -> Stop {
-    if rope.len() == len && rope.segment_count() == segments {
-        Stop::Memory
-    } else {
-        Stop::Encode(EncodeError::LengthOverflow)
-    }
+// A rope that is handed back has the bytes that it had.
+fn is_handed_back(rope: &Rope, bytes: &Bytes, segments: usize) -> Result<bool, Stop> {
+    Ok(rope.to_contiguous_bytes()? == *bytes && rope.segment_count() == segments)
 }
 
 fn has_segments(rope: Rope, wanted: &[&'static [u8]]) -> Result<bool, Stop> {
-    let (len, count) = (rope.len(), rope.segment_count());
+    let (bytes, count) = (rope.to_contiguous_bytes()?, rope.segment_count());
     match rope.into_segments() {
         Ok(segments) => Ok(
             count == wanted.len()
@@ -24,13 +20,19 @@ fn has_segments(rope: Rope, wanted: &[&'static [u8]]) -> Result<bool, Stop> {
                     .zip(wanted)
                     .all(|(segment, bytes)| segment.as_slice() == *bytes),
         ),
-        Err(rope) => Err(handed_back(&rope, len, count)),
+        Err(rope) if is_handed_back(&rope, &bytes, count)? => Err(Stop::Memory),
+        Err(_) => Ok(false),
     }
 }
 
-fn reader_of(rope: Rope) -> Result<RopeBuf, Stop> {
-    let (len, count) = (rope.len(), rope.segment_count());
-    RopeBuf::from_rope(rope).map_err(|rope| handed_back(&rope, len, count))
+// Nothing where another rope is handed back.
+fn reader_of(rope: Rope) -> Result<Option<RopeBuf>, Stop> {
+    let (bytes, count) = (rope.to_contiguous_bytes()?, rope.segment_count());
+    match RopeBuf::from_rope(rope) {
+        Ok(buf) => Ok(Some(buf)),
+        Err(rope) if is_handed_back(&rope, &bytes, count)? => Err(Stop::Memory),
+        Err(_) => Ok(None),
+    }
 }
 
 fn shared(alloc: Global, bytes: &[u8]) -> Result<Bytes, Stop> {
@@ -56,7 +58,9 @@ fn joined_copy(alloc: Global) -> Result<bool, Stop> {
 }
 
 fn read_over_a_segment(alloc: Global) -> Result<bool, Stop> {
-    let mut buf = reader_of(short_long_short(alloc)?)?;
+    let Some(mut buf) = reader_of(short_long_short(alloc)?)? else {
+        return Ok(false);
+    };
     if buf.remaining() != 10 || buf.chunk() != b"ab".as_slice() {
         return Ok(false);
     }
@@ -65,7 +69,9 @@ fn read_over_a_segment(alloc: Global) -> Result<bool, Stop> {
 }
 
 fn read_to_the_end(alloc: Global) -> Result<bool, Stop> {
-    let mut buf = reader_of(short_long_short(alloc)?)?;
+    let Some(mut buf) = reader_of(short_long_short(alloc)?)? else {
+        return Ok(false);
+    };
     if buf.remaining() != 10 {
         return Ok(false);
     }
@@ -117,69 +123,33 @@ fn shorter_runs_are_joined(alloc: Global) -> Result<bool, Stop> {
     Ok(short && rope.segment_count() == 2)
 }
 
-// What `put_all` puts.
-const ALL: &[u8] =
-    b"\x01ab\x07\x00\x00\x00\x09\x00\x00\x00\x00\x00\x00\x00\xff\xff\xff\xff\xfe\xff\xff\xff\xff\xff\xff\xffcd";
-
-fn put_all<S: EncodeSink>(sink: &mut S) -> Result<(), EncodeError> {
-    sink.put_u8(1)?;
-    sink.put_slice(b"ab")?;
-    sink.put_u32_le(7)?;
-    sink.put_u64_le(9)?;
-    sink.put_i32_le(-1)?;
-    sink.put_i64_le(-2)?;
-    sink.put_shared(Bytes::from_static(b"cd"))
-}
-
-fn vec_takes_all(alloc: Global) -> Result<bool, Stop> {
-    let mut sink = Vec::new(alloc);
-    put_all(&mut sink)?;
-    Ok(sink.as_slice() == ALL)
-}
-
-fn bytes_mut_takes_all(alloc: Global) -> Result<bool, Stop> {
-    let mut sink = BytesMut::new(alloc);
-    put_all(&mut sink)?;
-    Ok(sink.as_slice() == ALL)
-}
-
-fn rope_takes_all(alloc: Global) -> Result<bool, Stop> {
-    let mut sink = Rope::with_min_segment(alloc, 2);
-    put_all(&mut sink)?;
-    Ok(sink.segment_count() == 2 && sink.to_contiguous_bytes()?.as_slice() == ALL)
-}
-
-fn rows(alloc: Global) -> [(&'static str, Found); 12] {
+pub(super) fn segment_rows(alloc: Global) -> [Found; 6] {
     [
-        ("a long run", found_in(long_run_stands_alone(alloc))),
-        ("a joined copy", found_in(joined_copy(alloc))),
-        ("over a segment", found_in(read_over_a_segment(alloc))),
-        ("to the end", found_in(read_to_the_end(alloc))),
-        ("short puts", found_in(short_puts_are_one_segment(alloc))),
-        ("no bytes", found_in(no_bytes_are_no_segment(alloc))),
-        ("the least minimum", found_in(least_minimum_is_one(alloc))),
-        ("the minimum", found_in(minimum_is_long_enough(alloc))),
-        ("shorter runs", found_in(shorter_runs_are_joined(alloc))),
-        ("a vector", found_in(vec_takes_all(alloc))),
-        ("a buffer", found_in(bytes_mut_takes_all(alloc))),
-        ("a rope", found_in(rope_takes_all(alloc))),
+        found_in(long_run_stands_alone(alloc)),
+        found_in(short_puts_are_one_segment(alloc)),
+        found_in(no_bytes_are_no_segment(alloc)),
+        found_in(least_minimum_is_one(alloc)),
+        found_in(minimum_is_long_enough(alloc)),
+        found_in(shorter_runs_are_joined(alloc)),
     ]
 }
 
-// With a refused allocation a row may find no memory, and never anything else.
-#[test]
-fn each_row_answers_its_own_or_lacks_memory(rt: HostRuntime) {
-    for (row, found) in rows(rt.alloc()) {
-        assert_ne!(rt; found, Found::Other, "{row}");
-    }
+pub(super) fn read_rows(alloc: Global) -> [Found; 3] {
+    [
+        found_in(joined_copy(alloc)),
+        found_in(read_over_a_segment(alloc)),
+        found_in(read_to_the_end(alloc)),
+    ]
 }
 
-// The one test that needs every allocation to be granted.
 #[test]
-fn ample_memory_gives_each_row_its_own(rt: HostRuntime) {
-    for (row, found) in rows(rt.alloc()) {
-        assert_eq!(rt; found, Found::Own, "{row}");
-    }
+fn ample_memory_makes_segments(rt: HostRuntime) {
+    assert_eq!(rt; first_astray(&segment_rows(rt.alloc())), None);
+}
+
+#[test]
+fn ample_memory_reads_ropes(rt: HostRuntime) {
+    assert_eq!(rt; first_astray(&read_rows(rt.alloc())), None);
 }
 
 #[test]

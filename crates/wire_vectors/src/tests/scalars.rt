@@ -1,9 +1,7 @@
-//! Scalars: what is written for them, what is read, and packed lists of them.
-use crate::found::{Found, Stop, found_in};
+//! Scalars: what is written for them, and what is read.
+use super::{Found, Stop, first_astray, found_in, writes};
 use std::alloc::Global;
-use wire_codec::{
-    DecodeError, EncodeError, EncodeSink, Tag, WireType, check_wire_type, count_varints, *,
-};
+use wire_codec::{DecodeError, EncodeError, EncodeSink, Tag, WireType, check_wire_type, *};
 
 const MINUS_ONE: &[u8] = b"\xff\xff\xff\xff\xff\xff\xff\xff\xff\x01";
 
@@ -24,7 +22,8 @@ const ENCODED: [&[u8]; 13] = [
     b"\xfd\xff\xff\xff\xff\xff\xff\xff",
 ];
 
-fn encode_all<S: EncodeSink>(sink: &mut S) -> Result<(), EncodeError> {
+/// Writes values one by one.
+pub(super) fn encode_all<S: EncodeSink>(sink: &mut S) -> Result<(), EncodeError> {
     encode_int32(-1, sink)?;
     encode_sint32(-1, sink)?;
     encode_sint64(i64::MIN, sink)?;
@@ -46,12 +45,6 @@ fn joined(alloc: Global, pieces: &[&[u8]]) -> Result<Vec<u8>, Stop> {
         bytes.extend_from_slice(piece)?;
     }
     Ok(bytes)
-}
-
-fn values_are_written(alloc: Global) -> Result<bool, Stop> {
-    let mut sink = Vec::new(alloc);
-    encode_all(&mut sink)?;
-    Ok(sink == joined(alloc, &ENCODED)?)
 }
 
 fn values_are_read_again(alloc: Global) -> Result<bool, Stop> {
@@ -111,7 +104,8 @@ const FIELDS: [&[u8]; 16] = [
     b"\xfb\xff\xff\xff\x0f",
 ];
 
-fn put_all<S: EncodeSink>(sink: &mut S) -> Result<(), EncodeError> {
+/// Writes fields one by one.
+pub(super) fn put_all<S: EncodeSink>(sink: &mut S) -> Result<(), EncodeError> {
     put_int32_field(1, -1, sink)?;
     put_int64_field(2, 5, sink)?;
     put_uint32_field(3, 6, sink)?;
@@ -129,131 +123,117 @@ fn put_all<S: EncodeSink>(sink: &mut S) -> Result<(), EncodeError> {
     put_group_start((1 << 29) - 1, sink)
 }
 
-fn fields_are_written(alloc: Global) -> Result<bool, Stop> {
-    let mut sink = Vec::new(alloc);
-    put_all(&mut sink)?;
-    Ok(sink == joined(alloc, &FIELDS)?)
+/// What `encode_all` and `put_all` write.
+pub(super) fn written(alloc: Global) -> Result<Vec<u8>, Stop> {
+    let mut text = joined(alloc, &ENCODED)?;
+    text.extend_from_slice(&joined(alloc, &FIELDS)?)?;
+    Ok(text)
 }
 
-// A packed list of `int32`, its answer, and the list that stands behind 4.
-const INT32_LISTS: [(&[u8], Result<(), DecodeError>, &[i32]); 4] = [
-    (
-        b"\x05\x80\x80\x80\x80\x80\x80\x80\x80\x80\x02\x07",
-        Err(DecodeError::VarintTooLong),
-        &[5],
-    ),
-    (b"\x05\x80", Err(DecodeError::UnexpectedEof), &[5]),
-    (b"\x05\x8e\x02", Ok(()), &[5, 270]),
-    (b"", Ok(()), &[]),
-];
-
-fn list_of_int32(
-    alloc: Global,
-    payload: &[u8],
-    answer: &Result<(), DecodeError>,
-    elements: &[i32],
-) -> Result<bool, Stop> {
-    let mut list = Vec::new(alloc);
-    let found = extend_packed_int32(alloc, payload, &mut list, count_varints(payload));
-    if let Err(DecodeError::OutOfMemory) = found {
-        return Err(Stop::Memory);
-    }
-    Ok(found == *answer && list.as_slice() == elements)
-}
-
-fn lists_of_int32(alloc: Global) -> Result<bool, Stop> {
-    for (payload, answer, elements) in &INT32_LISTS {
-        if !list_of_int32(alloc, payload, answer, elements)? {
-            return Ok(false);
-        }
-    }
-    Ok(true)
-}
-
-fn lists_of_varints(alloc: Global) -> Result<bool, Stop> {
-    let mut int64s = Vec::new(alloc);
-    extend_packed_int64(alloc, MINUS_ONE, &mut int64s, 1)?;
-    let mut uint32s = Vec::new(alloc);
-    extend_packed_uint32(alloc, b"\x05\xac\x02", &mut uint32s, 0)?;
-    let mut uint64s = Vec::new(alloc);
-    extend_packed_uint64(alloc, MINUS_ONE, &mut uint64s, 1)?;
-    let mut sint32s = Vec::new(alloc);
-    extend_packed_sint32(alloc, b"\x03\x04", &mut sint32s, 2)?;
-    let mut sint64s = Vec::new(alloc);
-    extend_packed_sint64(alloc, MINUS_ONE, &mut sint64s, 1)?;
-    let mut bools = Vec::new(alloc);
-    extend_packed_bool(alloc, b"\x00\x80\x01\x80\x00", &mut bools, 3)?;
-    Ok(
-        int64s.as_slice() == [-1].as_slice()
-            && uint32s.as_slice() == [5, 300].as_slice()
-            && uint64s.as_slice() == [u64::MAX].as_slice()
-            && sint32s.as_slice() == [-2, 2].as_slice()
-            && sint64s.as_slice() == [i64::MIN].as_slice()
-            && bools.as_slice() == [false, true, false].as_slice(),
-    )
-}
-
-fn lists_of_fixed(alloc: Global) -> Result<bool, Stop> {
-    let mut fixed32s = Vec::new(alloc);
-    extend_packed_fixed32(alloc, b"\x01\x00\x00\x00\xff\x00\x00\x00", &mut fixed32s)?;
-    let mut fixed64s = Vec::new(alloc);
-    extend_packed_fixed64(alloc, b"\x01\x00\x00\x00\xff\x00\x00\x00", &mut fixed64s)?;
-    let mut sfixed32s = Vec::new(alloc);
-    extend_packed_sfixed32(alloc, b"\xff\xff\xff\xff\x01\x00\x00\x00", &mut sfixed32s)?;
-    let mut sfixed64s = Vec::new(alloc);
-    extend_packed_sfixed64(alloc, b"\xfe\xff\xff\xff\xff\xff\xff\xff", &mut sfixed64s)?;
-    Ok(
-        fixed32s.as_slice() == [1, 255].as_slice()
-            && fixed64s.as_slice() == [0xff_0000_0001].as_slice()
-            && sfixed32s.as_slice() == [-1, 1].as_slice()
-            && sfixed64s.as_slice() == [-2].as_slice(),
-    )
-}
-
-fn cut_lists_of_fixed(alloc: Global) -> Result<bool, Stop> {
-    let mut fixed32s = Vec::new(alloc);
-    let short = extend_packed_fixed32(alloc, b"\x01\x00\x00\x00\x02", &mut fixed32s);
-    let mut fixed64s = Vec::from_slice(alloc, &[7])?;
-    let long = extend_packed_fixed64(
-        alloc,
-        b"\x01\x02\x03\x04\x05\x06\x07\x08\x09",
-        &mut fixed64s,
-    );
-    Ok(
-        short == Err(DecodeError::UnexpectedEof)
-            && fixed32s.is_empty()
-            && long == Err(DecodeError::UnexpectedEof)
-            && fixed64s.as_slice() == [7].as_slice(),
-    )
-}
-
-fn rows(alloc: Global) -> [(&'static str, Found); 8] {
+pub(super) fn read_rows(alloc: Global) -> [Found; 2] {
     [
-        ("values written", found_in(values_are_written(alloc))),
-        ("values read", found_in(values_are_read_again(alloc))),
-        ("elements read", found_in(elements_are_read_again(alloc))),
-        ("fields", found_in(fields_are_written(alloc))),
-        ("lists of int32", found_in(lists_of_int32(alloc))),
-        ("lists of varints", found_in(lists_of_varints(alloc))),
-        ("lists of fixed width", found_in(lists_of_fixed(alloc))),
-        ("cut lists", found_in(cut_lists_of_fixed(alloc))),
+        found_in(values_are_read_again(alloc)),
+        found_in(elements_are_read_again(alloc)),
     ]
 }
 
-// With a refused allocation a row may find no memory, and never anything else.
-#[test]
-fn each_row_answers_its_own_or_lacks_memory(rt: HostRuntime) {
-    for (row, found) in rows(rt.alloc()) {
-        assert_ne!(rt; found, Found::Other, "{row}");
-    }
+pub(super) fn varint_rows(alloc: Global) -> [Found; 7] {
+    [
+        found_in(writes(alloc, MINUS_ONE, |sink| encode_int32(-1, sink))),
+        found_in(writes(alloc, MINUS_ONE, |sink| encode_int64(-1, sink))),
+        found_in(writes(alloc, b"\xac\x02", |sink| encode_uint32(300, sink))),
+        found_in(writes(alloc, b"\xac\x02", |sink| encode_uint64(300, sink))),
+        found_in(writes(alloc, b"\xd7\x04", |sink| encode_sint32(-300, sink))),
+        found_in(writes(alloc, MINUS_ONE, |sink| encode_sint64(i64::MIN, sink))),
+        found_in(writes(alloc, b"\x01", |sink| encode_bool(true, sink))),
+    ]
 }
 
-// The one test that needs every allocation to be granted.
+pub(super) fn fixed_rows(alloc: Global) -> [Found; 4] {
+    [
+        found_in(writes(
+            alloc,
+            b"\x01\x02\x00\x00",
+            |sink| encode_fixed32(0x201, sink),
+        )),
+        found_in(writes(alloc, b"\x03\x00\x00\x00\x00\x00\x00\x00", |sink| {
+            encode_fixed64(3, sink)
+        })),
+        found_in(writes(alloc, b"\xfe\xff\xff\xff", |sink| encode_sfixed32(-2, sink))),
+        found_in(writes(alloc, b"\xfd\xff\xff\xff\xff\xff\xff\xff", |sink| {
+            encode_sfixed64(-3, sink)
+        })),
+    ]
+}
+
+pub(super) fn varint_field_rows(alloc: Global) -> [Found; 7] {
+    [
+        found_in(writes(
+            alloc,
+            b"\x08\xff\xff\xff\xff\xff\xff\xff\xff\xff\x01",
+            |sink| { put_int32_field(1, -1, sink) },
+        )),
+        found_in(writes(alloc, b"\x10\x05", |sink| put_int64_field(2, 5, sink))),
+        found_in(writes(alloc, b"\x18\x06", |sink| put_uint32_field(3, 6, sink))),
+        found_in(writes(
+            alloc,
+            b"\x20\xac\x02",
+            |sink| put_uint64_field(4, 300, sink),
+        )),
+        found_in(writes(alloc, b"\x28\x01", |sink| put_sint32_field(5, -1, sink))),
+        found_in(writes(alloc, b"\x30\x03", |sink| put_sint64_field(6, -2, sink))),
+        found_in(writes(alloc, b"\x38\x01", |sink| put_bool_field(7, true, sink))),
+    ]
+}
+
+pub(super) fn fixed_field_rows(alloc: Global) -> [Found; 4] {
+    [
+        found_in(writes(alloc, b"\x85\x01\x01\x00\x00\x00", |sink| {
+            put_fixed32_field(16, 1, sink)
+        })),
+        found_in(writes(alloc, b"\x49\x07\x00\x00\x00\x00\x00\x00\x00", |sink| {
+            put_fixed64_field(9, 7, sink)
+        })),
+        found_in(writes(alloc, b"\x55\xff\xff\xff\xff", |sink| {
+            put_sfixed32_field(10, -1, sink)
+        })),
+        found_in(writes(alloc, b"\x09\xff\xff\xff\xff\xff\xff\xff\xff", |sink| {
+            put_sfixed64_field(1, -1, sink)
+        })),
+    ]
+}
+
+pub(super) fn tag_rows(alloc: Global) -> [Found; 4] {
+    [
+        found_in(writes(
+            alloc,
+            b"\x12\xac\x02",
+            |sink| put_len_delimited_header(2, 300, sink),
+        )),
+        found_in(writes(alloc, b"\x0b", |sink| put_group_start(1, sink))),
+        found_in(writes(alloc, b"\x0c", |sink| put_group_end(1, sink))),
+        found_in(writes(alloc, b"\xfb\xff\xff\xff\x0f", |sink| {
+            put_group_start((1 << 29) - 1, sink)
+        })),
+    ]
+}
+
 #[test]
-fn ample_memory_gives_each_row_its_own(rt: HostRuntime) {
-    for (row, found) in rows(rt.alloc()) {
-        assert_eq!(rt; found, Found::Own, "{row}");
-    }
+fn ample_memory_reads_values_again(rt: HostRuntime) {
+    assert_eq!(rt; first_astray(&read_rows(rt.alloc())), None);
+}
+
+#[test]
+fn ample_memory_writes_values(rt: HostRuntime) {
+    assert_eq!(rt; first_astray(&varint_rows(rt.alloc())), None);
+    assert_eq!(rt; first_astray(&fixed_rows(rt.alloc())), None);
+}
+
+#[test]
+fn ample_memory_writes_fields(rt: HostRuntime) {
+    assert_eq!(rt; first_astray(&varint_field_rows(rt.alloc())), None);
+    assert_eq!(rt; first_astray(&fixed_field_rows(rt.alloc())), None);
+    assert_eq!(rt; first_astray(&tag_rows(rt.alloc())), None);
 }
 
 #[test]
