@@ -1,22 +1,30 @@
 -- Spans, one behind another: what they are charged, and which records they spell.
-use Rattle.std.proofs.Common.{◌≡◌, ◌≢◌, ◌⊎◌, ℕ, ◌+◌, ◌-◌, ◌^◌, ◌<◌, ◌≤◌, max, List, [], ◌∷◌, ◌++◌, Option, Some, None, Result, Ok, Err, refl, sym, ap, ap₂, ◌∙◌, subst, ⊎_elim, arith}
+use Rattle.std.proofs.Common.{◌≡◌, ◌≢◌, ◌⊎◌, ℕ, ◌+◌, ◌-◌, ◌%◌, ◌^◌, ◌<◌, ◌≤◌, max, Bool, true, false, nat_le, nat_lt, if◌then◌else◌, List, [], ◌∷◌, ◌++◌, Option, Some, None, Result, Ok, Err, refl, sym, ap, ap₂, ◌∙◌, subst, ⊎_elim, arith}
 use Rattle.std.specs.List.{concat}
 use Rattle.std.specs.Prelude.{OnOk, IfOk, IfErr, MatchResult}
 use Rattle.wire_base.specs.declared.error.DecodeError.{DecodeError}
-use Rattle.wire_base.specs.declared.error.DecodeError.TheVariants.{OutOfMemory}
+use Rattle.wire_base.specs.declared.error.DecodeError.TheVariants.{OutOfMemory, InvalidFieldNumber, InvalidWireType}
+use Rattle.wire_base.specs.declared.tag.WireType.{WireType}
+use Rattle.wire_base.specs.declared.tag.WireType.TheVariants.{StartGroup}
 use Rattle.wire_base.specs.Charge.{charge, count}
+use Rattle.wire_base.specs.Delimited.{DelimitedFault}
 use Rattle.wire_base.specs.Ending.{by_input}
+use Rattle.wire_base.specs.Fault.{PayloadFault}
 use Rattle.wire_base.specs.Field.{Fields, none, joined}
-use Rattle.wire_base.specs.Items.{Item, SpellsItems, TakesItems, SpanFault, slots, greatest_level, flat_charge}
+use Rattle.wire_base.specs.InRange.{AreFitting, AreNumbered}
+use Rattle.wire_base.specs.Items.{Item, SpellsItems, TakesItems, ItemFault, SpanFault, slots, greatest_level, flat_charge}
 use Rattle.wire_base.specs.Limits.{Limits, Charge, HasRoom, HaveRoom, Fits, both, left_after, no_charge, less}
 use Rattle.wire_base.specs.SpanLaws.{OneSpansCharge, SpansChargeRecords, JoinedSpansSpell}
 use Rattle.wire_base.specs.Spans.{AreCharged, fields_charge, limits_of, PushRefusal, TooMany, SpellEach, SpansRefusal, past}
 use Rattle.wire_base.specs.Spells.{Spells}
+use Rattle.wire_base.specs.Tag.{TagFault}
+use Rattle.wire_base.specs.Taken.{KeepsBehind}
+use Rattle.wire_base.specs.Varint.{VarintFault}
 use Rattle.wire_base.proofs.Agreement.{no_elements}
 use Rattle.wire_base.proofs.FaultLaws.{no_list_beside_fault_lemma}
-use Rattle.wire_base.proofs.FieldLaws.{joined-none, one_spelled_lemma}
+use Rattle.wire_base.proofs.FieldLaws.{joined-none, one_spelled_lemma, spelled_are_numbered_lemma, Spells-all}
 use Rattle.wire_base.proofs.JoinedLaws.{joined_assoc, Spells-joined}
-use Rattle.wire_base.proofs.LimitsLaws.{HaveRoom-none, Fits-first, Fits-second, both_assoc, both-nothing_first, both-nothing_last, charge-joined}
+use Rattle.wire_base.proofs.LimitsLaws.{HaveRoom-none, Fits-first, Fits-second, Fits-both, left_after-both, both_assoc, both-nothing_first, both-nothing_last, charge-joined}
 use Rattle.wire_base.proofs.Takes.{whole_input_lemma}
 use Rattle.wire_base.proofs.WalkLaws.{charges_walk, no_fault_in_records, one_walk_lemma, walk_all}
 use Rattle.wire_base.proofs.Walks.{records_are_items_lemma}
@@ -166,12 +174,45 @@ refused_for_memory l spans e (past front gs span behind parts h fits refusal) fs
 
 -- ---- replays
 
+-- one span more is read behind those that were
+pub read_more : (l now after : Limits) (spans next : List (List ℕ)) (s : List ℕ)
+    (fs read : Fields) → next ≡ spans ++ s ∷ [] → SpellEach spans fs → Fits (charge fs) l
+    → now ≡ left_after l (charge fs) → KeepsBehind now after fs s read []
+    → SpellEach next read × Fits (charge read) l × (after ≡ left_after l (charge read))
+read_more l now after spans next s fs read is each within left kept =
+    let all : charge read ≡ both (charge fs) (charge kept.fields) =
+    ap charge kept.behind ∙ charge-joined fs kept.fields in (
+      subst (λ t. SpellEach t read) (sym is)
+          (subst (SpellEach (spans ++ s ∷ [])) (sym kept.behind)
+          (spell_push spans s fs kept.fields each
+          (Spells-all kept.fields s [] kept.taken.read refl))),
+      subst (λ c. Fits c l) (sym all)
+          (Fits-both l (charge fs) (charge kept.fields) within
+          (subst (Fits (charge kept.fields)) left kept.taken.fits)),
+      kept.left ∙ ap (λ m. left_after m (charge kept.fields)) left
+          ∙ left_after-both l (charge fs) (charge kept.fields)
+          ∙ ap (left_after l) (sym all),
+    )
+
 pub only_spelled : (l : Limits) (spans : List (List ℕ)) (r : Result Fields DecodeError)
     → IfOk r (λ fs. SpellEach spans fs) → IfErr r (SpansRefusal l spans)
     → (fs : Fields) → SpellEach spans fs → Fits (charge fs) l
     → MatchResult r (λ read. read ≡ fs) (λ e. e ≡ OutOfMemory)
 only_spelled l spans (Ok read) each refusal fs h fits = spell_once spans read fs each h
 only_spelled l spans (Err e) each refusal fs h fits = refused_for_memory l spans e refusal fs h fits
+
+-- what each span spells is what the joined spans spell, with numbers that a field may have
+pub joined_spelled : (spans : List (List ℕ)) (r : Result Fields DecodeError)
+    → IfOk r (λ fs. SpellEach spans fs) → IfOk r (λ fs. Spells fs (concat spans))
+joined_spelled spans (Ok fs) each = joined_spans_spell_lemma spans fs each
+joined_spelled spans (Err e) each = tt
+
+pub in_range : (spans : List (List ℕ)) (r : Result Fields DecodeError)
+    → IfOk r (λ fs. SpellEach spans fs) → IfOk r (λ fs. AreFitting fs)
+    → IfOk r (λ fs. AreFitting fs × AreNumbered fs)
+in_range spans (Ok fs) each fitting =
+    (fitting, spelled_are_numbered_lemma fs (concat spans) (joined_spans_spell_lemma spans fs each))
+in_range spans (Err e) each fitting = tt
 
 -- what spans are charged is what their records are
 charged_alike : (spans : List (List ℕ)) (fs : Fields) (c : Charge) → SpellEach spans fs
@@ -246,3 +287,53 @@ pushes_records l new spans span (Err e) ok refusal fs spelled few room fewer =
     (λ fault. absurd (no_fault_in_records l span e fault fs spelled few room))
     (λ other. ⊎_elim (λ many. absurd (fewer many.1)) (λ memory. memory) other)
     refusal
+
+-- ---- no fault is want of memory
+
+varint_no_memory : (old : List ℕ) (e : DecodeError) → VarintFault old e → e ≡ OutOfMemory → ⊥
+varint_no_memory old e (VarintFault.cut_short continue few) is = cc
+varint_no_memory old e (VarintFault.too_long front tenth rest parts continue nine big) is = cc
+
+no_tag_no_memory : (a b c : Bool) (n : ℕ)
+    → (if a then Some InvalidFieldNumber
+    else (if b then Some (InvalidWireType n)
+    else (if c then Some InvalidFieldNumber else None))) ≡ Some OutOfMemory → ⊥
+no_tag_no_memory true b c n is = cc
+no_tag_no_memory false true c n is = cc
+no_tag_no_memory false false true n is = cc
+no_tag_no_memory false false false n is = cc
+
+tag_no_memory : (old : List ℕ) (e : DecodeError) → TagFault old e → e ≡ OutOfMemory → ⊥
+tag_no_memory old e (TagFault.no_varint fault) is = varint_no_memory old e fault is
+tag_no_memory old e (TagFault.no_tag v rest read why) is =
+    no_tag_no_memory (nat_le (2 ^ 32) v) (nat_le 6 (v % 8)) (nat_lt v 8) (v % 8)
+    (why ∙ ap Some is)
+
+bytes_no_memory : (most : Option ℕ) (old : List ℕ) (e : DecodeError) → DelimitedFault most old e
+    → e ≡ OutOfMemory → ⊥
+bytes_no_memory most old e (DelimitedFault.no_length fault) is = varint_no_memory old e fault is
+bytes_no_memory most old e (DelimitedFault.too_large len rest read above) is = cc
+bytes_no_memory most old e (DelimitedFault.cut_short len rest read room short) is = cc
+
+payload_no_memory : (l : Limits) (n : ℕ) (w : WireType) (old : List ℕ) (e : DecodeError)
+    → PayloadFault l n w old e → w ≢ StartGroup → e ≡ OutOfMemory → ⊥
+payload_no_memory l n w old e (PayloadFault.no_slot full) flat is = cc
+payload_no_memory l n w old e (PayloadFault.no_varint slot fault) flat is =
+    varint_no_memory old e fault is
+payload_no_memory l n w old e (PayloadFault.short_fixed64 slot short) flat is = cc
+payload_no_memory l n w old e (PayloadFault.short_fixed32 slot short) flat is = cc
+payload_no_memory l n w old e (PayloadFault.no_bytes slot fault) flat is =
+    bytes_no_memory None old e fault is
+payload_no_memory l n w old e (PayloadFault.end_outside slot) flat is = cc
+payload_no_memory l n w old e (PayloadFault.no_level slot level) flat is = cc
+payload_no_memory l n w old e (PayloadFault.in_group slot level fault) flat is = absurd (flat refl)
+
+pub span_no_memory : (l : Limits) (span : List ℕ) (e : DecodeError) → SpanFault l span e
+    → e ≡ OutOfMemory → ⊥
+span_no_memory l span e (SpanFault.past items rest taken (ItemFault.no_tag some fault)) is =
+    tag_no_memory rest e fault is
+span_no_memory l span e
+    (SpanFault.past items rest taken (ItemFault.no_slot n w behind tag inside full)) is = cc
+span_no_memory l span e
+    (SpanFault.past items rest taken (ItemFault.bad_payload n w behind tag inside flat fault)) is =
+    payload_no_memory (left_after l (flat_charge items)) n w behind e fault flat is

@@ -193,6 +193,22 @@ impl<'a> UnknownFieldsView<'a> {
             (λ read. (read ≡ fs) × (context.new.counts.unknown_fields ≡ Some 0))
             (λ e. e ≡ OutOfMemory) }
     {
+        self.read_spans(alloc, context)
+    }
+
+    // Reads each span as records.
+    fn read_spans(
+        &self,
+        alloc: Global,
+        context: &mut DecodeContext,
+    ) -> Result<UnknownFields, DecodeError>
+        ensures each { IfOk result (λ fs. SpellEach self.now fs) }
+        ensures within { IfOk result (λ fs. Fits (charge fs) context.old) }
+        ensures fitting { IfOk result (λ fs. AreFitting fs) }
+        ensures charged { IfOk result (λ fs. context.new ≡ left_after context.old (charge fs)) }
+        ensures fault { IfErr result (SpansRefusal context.old self.now) }
+        ensures counts { OnErr result (NoCountGrew context.old context.new) }
+    {
         let mut fields = UnknownFields::new(alloc);
         for span in &self.spans {
             fields.append_from_slice(alloc, span, context)?;
