@@ -270,23 +270,16 @@ only_charged spans c r sums each refusal fs h few =
 
 -- ---- pushes
 
--- where a span spells records whose slots are there, it is pushed for what they are charged, or there
--- is no memory
-pub pushes_records : (l new : Limits) (spans : List (List ℕ)) (span : List ℕ)
-    (r : Result (Unit {0}) DecodeError)
-    → OnOk r ((items : List Item) × TakesItems items l span []
-    × (new ≡ left_after l (flat_charge items)))
-    → IfErr r (PushRefusal l spans span)
+-- where a span that spells records is pushed, their slots were there and are taken
+pub pushed_records : (l new : Limits) (span : List ℕ) (items : List Item)
+    → TakesItems items l span [] → new ≡ left_after l (flat_charge items)
     → (fs : Fields) → Spells fs span → (charge fs).depth < 2 ^ 32
-    → HaveRoom l.counts (charge fs).counts → ¬ TooMany l spans span
-    → MatchResult r (λ done. new ≡ left_after l (charge fs)) (λ e. e ≡ OutOfMemory)
-pushes_records l new spans span (Ok u) (items, h, left) refusal fs spelled few room fewer =
-    left ∙ ap (left_after l) (charges_walk items l span h fs spelled few)
-pushes_records l new spans span (Err e) ok refusal fs spelled few room fewer =
-    ⊎_elim
-    (λ fault. absurd (no_fault_in_records l span e fault fs spelled few room))
-    (λ other. ⊎_elim (λ many. absurd (fewer many.1)) (λ memory. memory) other)
-    refusal
+    → HaveRoom l.counts (charge fs).counts × (new ≡ left_after l (charge fs))
+pushed_records l new span items h left fs spelled few =
+    let charged : flat_charge items ≡ charge fs = charges_walk items l span h fs spelled few in (
+      subst (λ (c : Charge). HaveRoom l.counts c.counts) charged h.room,
+      left ∙ ap (left_after l) charged,
+    )
 
 -- ---- no fault is want of memory
 

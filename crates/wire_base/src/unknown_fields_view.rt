@@ -101,9 +101,10 @@ impl<'a> UnknownFieldsView<'a> {
         ensures counts { OnErr result (NoCountGrew context.old context.new) }
         ensures depth { context.new.depth ≡ context.old.depth }
         ensures records { (fs : Fields) → Spells fs span.now → (charge fs).depth < 2 ^ 32
-            → HaveRoom context.old.counts (charge fs).counts → ¬ TooMany context.old self.old span.now
-            → MatchResult result (λ _. context.new ≡ left_after context.old (charge fs))
-            (λ e. e ≡ OutOfMemory) }
+            → MatchResult result (λ _. HaveRoom context.old.counts (charge fs).counts
+            × (context.new ≡ left_after context.old (charge fs)))
+            (λ e. HaveRoom context.old.counts (charge fs).counts
+            → ¬ TooMany context.old self.old span.now → e ≡ OutOfMemory) }
     {
         self.spans.reserve(1)?;
         let charge = register_unknown_record(span, context)?;

@@ -4,7 +4,7 @@ use Rattle.std.proofs.lemmas.Result.{err_from_is_err_and}
 use Rattle.wire_base.specs.Items.{slots, greatest_level}
 use Rattle.wire_base.specs.Spans.{AreCharged, fields_charge}
 use Rattle.wire_base.proofs.SpanLists.{spans_of}
-use Rattle.wire_base.proofs.Spans.{charged_more, span_no_memory}
+use Rattle.wire_base.proofs.Spans.{charged_more, pushed_records, span_no_memory}
 use Rattle.wire_base.proofs.unknown_fields_view.UnknownFieldsView.push_span.Goals as goal
 
 pub returns-in_err-charge-clause-memory : goal.returns-in_err-charge-clause-memory
@@ -25,3 +25,8 @@ invariant_of-self-2 c =
     ∙ ap (λ (ys : List (Bor (List ℕ))). spans_of ys ++ c.args.span.now ∷ [])
     c.in_ok-reserve.ensures.items))
     (charged_more _ _ _ items had.depth had.fields _ _ c.self.invariant taken deepest sum)
+
+pub returns-clause-records : goal.returns-clause-records
+returns-clause-records c =
+    let (items, taken, fields, depth, left) = c.in_ok-charge.ensures.ok in
+    pushed_records _ _ _ items taken left
