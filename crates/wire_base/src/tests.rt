@@ -6,6 +6,7 @@ mod spans;
 mod tags;
 mod unknown;
 mod varints;
+mod views;
 
 use crate::encode_sink::EncodeSink;
 use crate::error::{DecodeError, EncodeError};
