@@ -13,7 +13,7 @@ use Rattle.wire_codec.specs.Spells.{Spells}
 use Rattle.wire_samples.proofs.PersonFolds.{joined-none, push_joined}
 use Rattle.wire_samples.specs.FieldSteps.{SetsInt32, SetsText, AppendsInt32}
 use Rattle.wire_samples.specs.Person.{PersonValue, PersonTakes, id, name, scores, unknown}
-use Rattle.wire_samples.specs.PersonUnknowns.{is_known, others_of, OthersAre}
+use Rattle.wire_samples.specs.PersonUnknowns.{is_known_number, others_of, OthersAre}
 
 -- ---- which numbers are known
 
@@ -22,15 +22,15 @@ and_both true true e = (refl, refl)
 and_both true false e = absurd cc
 and_both false b e = absurd cc
 
-known_range : (n : ℕ) → is_known n ≡ true → (1 ≤ n) × (n ≤ 3)
+known_range : (n : ℕ) → is_known_number n ≡ true → (1 ≤ n) × (n ≤ 3)
 known_range n e =
     let parts = and_both (nat_le 1 n) (nat_le n 3) e in
     (leb-true 1 n parts.0, leb-true n 3 parts.1)
 
-pub not_known : (n : ℕ) → n ≢ 1 → n ≢ 2 → n ≢ 3 → is_known n ≡ false
-not_known n one two three = by_case (is_known n) refl
+pub not_known : (n : ℕ) → n ≢ 1 → n ≢ 2 → n ≢ 3 → is_known_number n ≡ false
+not_known n one two three = by_case (is_known_number n) refl
   where
-    by_case : (b : Bool) → is_known n ≡ b → is_known n ≡ false
+    by_case : (b : Bool) → is_known_number n ≡ b → is_known_number n ≡ false
     by_case false e = e
     by_case true e =
         let range = known_range n e in absurd (omega (arith, range.0, range.1, one, two, three))
@@ -47,7 +47,7 @@ pub others-joined : (fs gs : Fields)
     → others_of (joined fs gs) ≡ joined (others_of fs) (others_of gs)
 others-joined none gs = refl
 others-joined (field n p rest) gs =
-    choose_joined (is_known n) n p (others_of rest) (others_of gs) (others_of (joined rest gs))
+    choose_joined (is_known_number n) n p (others_of rest) (others_of gs) (others_of (joined rest gs))
     (others-joined rest gs)
 
 choose_depth : (b : Bool) (n : ℕ) (p : Payload) (rest : Fields) (most : ℕ)
@@ -59,17 +59,17 @@ choose_depth false n p rest most h = omega (arith, h)
 pub others_depth : (fs : Fields) → (charge (others_of fs)).depth ≤ (charge fs).depth
 others_depth none = omega arith
 others_depth (field n p rest) =
-    choose_depth (is_known n) n p (others_of rest) (charge rest).depth (others_depth rest)
+    choose_depth (is_known_number n) n p (others_of rest) (charge rest).depth (others_depth rest)
 
 -- a known record more at the end, and another
-pub others_known : (fs : Fields) (n : ℕ) (p : Payload) → is_known n ≡ true
+pub others_known : (fs : Fields) (n : ℕ) (p : Payload) → is_known_number n ≡ true
     → others_of (push fs n p) ≡ others_of fs
 others_known fs n p known =
     others-joined fs (field n p none)
     ∙ ap (λ (b : Bool). joined (others_of fs) (if b then none else field n p none)) known
     ∙ joined-none (others_of fs)
 
-pub others_other : (fs : Fields) (n : ℕ) (p : Payload) → is_known n ≡ false
+pub others_other : (fs : Fields) (n : ℕ) (p : Payload) → is_known_number n ≡ false
     → others_of (push fs n p) ≡ push (others_of fs) n p
 others_other fs n p other =
     others-joined fs (field n p none)
@@ -86,7 +86,7 @@ choose_spans false own others more = refl
 -- one record more at the end
 pub others_push : (fs : Fields) (n : ℕ) (p : Payload) (spans : List (List ℕ)) (text own : List ℕ)
     → OthersAre fs spans text → Spells (field n p none) own
-    → OthersAre (push fs n p) (spans ++ (if is_known n then [] else own ∷ [])) (text ++ own)
+    → OthersAre (push fs n p) (spans ++ (if is_known_number n then [] else own ∷ [])) (text ++ own)
 others_push none n p spans text own (no_spans, empty) h = (
   own,
   [],
@@ -94,18 +94,18 @@ others_push none n p spans text own (no_spans, empty) h = (
   h,
   ap (λ (t : List ℕ). t ++ own) empty ∙ sym (append-nil own),
   (refl, refl),
-  ap (λ (s : List (List ℕ)). s ++ (if is_known n then [] else own ∷ [])) no_spans,
+  ap (λ (s : List (List ℕ)). s ++ (if is_known_number n then [] else own ∷ [])) no_spans,
 )
 others_push (field m q rest) n p spans text own
     (first, behind, others, spelled, parts, more, is) h =
-    let last = if is_known n then [] else own ∷ [] in (
+    let last = if is_known_number n then [] else own ∷ [] in (
       first,
       behind ++ own,
       others ++ last,
       spelled,
       ap (λ (t : List ℕ). t ++ own) parts ∙ append_assoc first behind own,
       others_push rest n p others behind own more h,
-      ap (λ (s : List (List ℕ)). s ++ last) is ∙ choose_spans (is_known m) first others last,
+      ap (λ (s : List (List ℕ)). s ++ last) is ∙ choose_spans (is_known_number m) first others last,
     )
 
 pub others_spell : JoinedTextsSpell → (fs : Fields) (spans : List (List ℕ)) (text : List ℕ)
@@ -129,7 +129,7 @@ pub others_each : (fs : Fields) (spans : List (List ℕ)) (text : List ℕ)
 others_each none spans text (no_spans, empty) =
     subst (λ s. SpellEach s none) (sym no_spans) refl
 others_each (field n p rest) spans text (own, behind, others, spelled, parts, more, is) =
-    choose_each (is_known n) n p (others_of rest) own spans others spelled
+    choose_each (is_known_number n) n p (others_of rest) own spans others spelled
     (others_each rest others behind more) is
 
 -- ---- what a `Person` keeps
@@ -166,7 +166,7 @@ pub record KeepsOthers (m z : PersonValue) (fs : Fields) (c : Charge) : Type 0 w
 
 module _ (charges : ChargesAddUp) where
   known_step : (m mid z : PersonValue) (n : ℕ) (p : Payload) (rest : Fields) (c : Charge)
-      → is_known n ≡ true → (payload_charge p).depth ≡ 0 → mid.unknown ≡ m.unknown
+      → is_known_number n ≡ true → (payload_charge p).depth ≡ 0 → mid.unknown ≡ m.unknown
       → KeepsOthers mid z rest c → KeepsOthers m z (field n p rest) (both no_charge c)
   known_step m mid z n p rest c known flat same h =
       let skipped : others_of (field n p rest) ≡ others_of rest =
@@ -184,7 +184,7 @@ module _ (charges : ChargesAddUp) where
       }
 
   other_step : (m mid z : PersonValue) (n : ℕ) (p : Payload) (rest : Fields) (c : Charge)
-      → is_known n ≡ false → mid.unknown ≡ push m.unknown n p
+      → is_known_number n ≡ false → mid.unknown ≡ push m.unknown n p
       → KeepsOthers mid z rest c → KeepsOthers m z (field n p rest) (both (payload_charge p) c)
   other_step m mid z n p rest c other same h =
       let kept : others_of (field n p rest) ≡ field n p (others_of rest) =
@@ -205,13 +205,13 @@ module _ (charges : ChargesAddUp) where
       → PersonTakes m n p first mid → KeepsOthers mid z rest c
       → KeepsOthers m z (field n p rest) (both first c)
   one_step m mid z n p rest first c (id v is made charged value) h =
-      rw charged (known_step m mid z n p rest c (ap is_known is) (int32_flat p v made)
+      rw charged (known_step m mid z n p rest c (ap is_known_number is) (int32_flat p v made)
       (ap (λ (x : PersonValue). x.unknown) value) h)
   one_step m mid z n p rest first c (name text is made charged value) h =
-      rw charged (known_step m mid z n p rest c (ap is_known is) (text_flat p text made)
+      rw charged (known_step m mid z n p rest c (ap is_known_number is) (text_flat p text made)
       (ap (λ (x : PersonValue). x.unknown) value) h)
   one_step m mid z n p rest first c (scores after is made charged value) h =
-      rw charged (known_step m mid z n p rest c (ap is_known is)
+      rw charged (known_step m mid z n p rest c (ap is_known_number is)
       (append_flat m.scores after p made) (ap (λ (x : PersonValue). x.unknown) value) h)
   one_step m mid z n p rest first c (unknown one two three charged value) h =
       rw charged (other_step m mid z n p rest c (not_known n one two three)

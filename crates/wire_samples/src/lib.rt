@@ -7,12 +7,12 @@ pub mod laws;
 mod merge;
 mod node;
 mod person;
-mod person_unknowns;
 mod repeat;
 #[cfg(test)]
 mod tests;
+mod unknown_spans;
 
 pub use node::Node;
 pub use person::Person;
-pub use person_unknowns::person_unknowns;
 pub use repeat::Repeat;
+pub use unknown_spans::person_unknowns;
