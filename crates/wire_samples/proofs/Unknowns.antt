@@ -234,11 +234,12 @@ module _ (laws : RecordsInOrder) (adds : JoinedAddsUp) where
     span_spells = subst (Spells (field n p none))
         (sym (record_bytes mid own.text new own.parts)) own.spelled
 
-    pub span_depth : (charge (field n p none)).depth ≤ l.depth
-    span_depth = omega (
+    pub span_shallow : levels < 2 ^ 32 → (charge (field n p none)).depth < 2 ^ 32
+    span_shallow few = omega (
       arith,
+      few,
       ap (λ (c : Charge). c.depth) (laws.charges.nothing_last (payload_charge p)),
-      payload.fits.depth,
+      given.fits.depth,
     )
 
     -- its slots are there, where the bytes spell records for which there are slots
@@ -275,7 +276,7 @@ module _ (laws : RecordsInOrder) (adds : JoinedAddsUp) where
     where
       at : (more : Fields) → Spells more mid → ⊥
       at none empty = some empty
-      at (field m q others) (behind, rest, tag, payload, behind_it) =
+      at (field m q others) (behind, rest, tag, inside, behind_it) =
           laws.tag_fault mid behind m (type_of q) e tag fault
 
   pub no_payload_here : NoPayloadBesideFault → (l now : Limits) (bytes mid behind : List ℕ)
@@ -327,14 +328,15 @@ sum_within left most first second is h k =
 -- the slots of the spans so far and of one more can be counted, since they are of one budget
 pub can_count : OneSpansCharge → SpansChargeRecords → (l now : Limits) (bytes mid : List ℕ)
     (spans : List (List ℕ)) (span : List ℕ) (most : ℕ) → Passed l bytes mid spans now
-    → l.counts.unknown_fields ≡ Some most → most < 2 ^ 64 → l.depth < 2 ^ 32
-    → ¬ TooMany now spans span
-can_count one_charge charges l now bytes mid spans span most h budget few shallow
+    → l.counts.unknown_fields ≡ Some most → most < 2 ^ 64 → (levels : ℕ) → levels ≡ now.depth
+    → levels < 2 ^ 32 → ¬ TooMany now spans span
+can_count one_charge charges l now bytes mid spans span most h budget few levels level shallow
     (items, others, taken, charged, much) =
     let each = others_each h.fs spans h.text h.others in
+    let levels_are = level ∙ ap (λ (m : Limits). m.depth) h.left in
     let same : others ≡ charge (others_of h.fs) =
     one_charge spans others (charge (others_of h.fs)) charged
-    (charges spans (others_of h.fs) each (omega (arith, others_depth h.fs, h.depth, shallow))) in
+    (charges spans (others_of h.fs) each (omega (arith, others_depth h.fs, h.depth, shallow, levels_are))) in
     let room = subst (λ (m : Limits). HasRoom m.counts.unknown_fields (slots items)) h.left
     taken.room.unknown_fields in
     let within = sum_within l.counts.unknown_fields most (count (others_of h.fs)) (slots items)
@@ -342,6 +344,10 @@ can_count one_charge charges l now bytes mid spans span most h budget few shallo
     omega (arith, much, within, few, ap (λ (c : Charge). c.counts.unknown_fields) same)
 
 -- ---- the whole text
+
+pub nothing_left : (rest : List ℕ) → length rest ≡ 0 → rest ≡ []
+nothing_left [] e = refl
+nothing_left (b ∷ rest) e = absurd (omega (arith, e))
 
 module _ (laws : RecordsInOrder) (join : JoinedTextsSpell) where
   all_spelled : (l now : Limits) (bytes rest : List ℕ) (spans : List (List ℕ))
@@ -438,13 +444,13 @@ as_decoded laws whole k bytes r only l z levels counts decoded =
       has.depth,
       levels,
     ) in
-    by_result r (only fs has) unknown shallow
+    by_result fs r (only fs has) unknown shallow
   where
-    by_result : {fs : Fields} (r : Result (List (List ℕ)) DecodeError)
+    by_result : (fs : Fields) (r : Result (List (List ℕ)) DecodeError)
         → MatchResult r (λ view. SpellEach view (others_of fs)) (λ e. e ≡ OutOfMemory)
         → z.unknown ≡ others_of fs → (charge z.unknown).depth ≤ l.depth
         → MatchResult r (λ view. SpellEach view z.unknown × ((charge z.unknown).depth ≤ l.depth))
         (λ e. e ≡ OutOfMemory)
-    by_result (Ok view) found unknown shallow =
+    by_result fs (Ok view) found unknown shallow =
         (subst (SpellEach view) (sym unknown) found, shallow)
-    by_result (Err e) found unknown shallow = found
+    by_result fs (Err e) found unknown shallow = found
