@@ -8,6 +8,7 @@ mod person;
 mod pool;
 mod refusals;
 mod repeat;
+mod unknowns;
 
 use crate::person::Person;
 use bytes::Bytes;
