@@ -12,8 +12,8 @@ abbrev pub OneSpansCharge : Type 0
 OneSpansCharge =
     (spans : List (List ℕ)) (c d : Charge) → AreCharged spans c → AreCharged spans d → c ≡ d
 
--- spans that spell records are charged what the records are, where no level is past the greatest that
--- a flat walk counts
+-- spans that spell records are charged what the records are, where no level is past the greatest
+-- that a flat walk counts
 abbrev pub SpansChargeRecords : Type 0
 SpansChargeRecords =
     (spans : List (List ℕ)) (fs : Fields) → SpellEach spans fs → (charge fs).depth < 2 ^ 32

@@ -38,8 +38,8 @@ TooMany l spans span =
     (items : List Item) × (others : Charge) × TakesItems items l span [] × AreCharged spans others
     × (2 ^ 64 ≤ (both others (flat_charge items)).counts.unknown_fields)
 
--- A span is not added to others: it has a fault, its slots and theirs are too many to be counted, or
--- memory is wanted for one span more.
+-- A span is not added to others: it has a fault, its slots and theirs are too many to be counted,
+-- or memory is wanted for one span more.
 abbrev pub PushRefusal : Limits → List (List ℕ) → List ℕ → DecodeError → Type 0
 PushRefusal l spans span e =
     SpanFault l span e

@@ -24,8 +24,8 @@ use std::iter::Copied;
 use std::marker::Model;
 use std::slice;
 
-/// Spans of unknown fields, borrowed from the input, with what flat walks over them charge. A contract
-/// sees a value as its spans.
+/// Spans of unknown fields, borrowed from the input, with what flat walks over them charge. A
+/// contract sees a value as its spans.
 ///
 /// A span is counted when it is pushed, and read when it is replayed: until then its end tags were
 /// not compared with its start tags.
@@ -82,9 +82,9 @@ impl<'a> UnknownFieldsView<'a> {
         self.spans.len()
     }
 
-    /// Adds a span at the end, and takes its slots from the context as `register_unknown_record` does.
-    /// No byte is copied: memory is wanted for the list of spans alone, and before all else, so that
-    /// its refusal changes nothing. Any other refusal leaves the spans as they were.
+    /// Adds a span at the end, and takes its slots from the context as `register_unknown_record`
+    /// does. No byte is copied: memory is wanted for the list of spans alone, and before all else,
+    /// so that its refusal changes nothing. Any other refusal leaves the spans as they were.
     /// `UnknownFieldLimitExceeded` also comes where the slots of all spans would be more than
     /// `usize::MAX`; those of this one are then gone from the context.
     pub fn push_span(
@@ -147,7 +147,9 @@ impl<'a> UnknownFieldsView<'a> {
     {
         let mut len = 0usize;
         for span in &self.spans {
-            len = len.checked_add(span.len()).ok_or(EncodeError::LengthOverflow)?;
+            len = len
+                .checked_add(span.len())
+                .ok_or(EncodeError::LengthOverflow)?;
         }
         Ok(len)
     }
@@ -218,8 +220,9 @@ impl<'a> UnknownFieldsView<'a> {
         Ok(fields)
     }
 
-    /// Reads the spans as records under just the levels and slots that they were charged. Where they
-    /// spell records, whose groups nest less than 2^32 deep, these suffice.
+    /// Reads the spans as records under just the levels and slots that they were charged, which
+    /// suffice where they spell records whose groups nest less than 2^32 deep. It recurses as deep
+    /// as `depth` says, which no limit bounds but the slots.
     pub fn to_owned_fields(&self, alloc: Global) -> Result<UnknownFields, DecodeError>
         ensures each { IfOk result (λ fs. SpellEach self.now fs) }
         ensures spelled { IfOk result (λ fs. Spells fs (concat self.now)) }

@@ -47,8 +47,8 @@ pub others-joined : (fs gs : Fields)
     → others_of (joined fs gs) ≡ joined (others_of fs) (others_of gs)
 others-joined none gs = refl
 others-joined (field n p rest) gs =
-    choose_joined (is_known_number n) n p (others_of rest) (others_of gs) (others_of (joined rest gs))
-    (others-joined rest gs)
+    choose_joined (is_known_number n) n p (others_of rest) (others_of gs)
+    (others_of (joined rest gs)) (others-joined rest gs)
 
 choose_depth : (b : Bool) (n : ℕ) (p : Payload) (rest : Fields) (most : ℕ)
     → (charge rest).depth ≤ most

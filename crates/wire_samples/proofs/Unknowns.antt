@@ -99,8 +99,8 @@ module _ (laws : RecordsInOrder) where
 
 -- ---- the records so far
 
--- records up to rest, the spans of those that are not known, and what these leave of the limits; all
--- records of the bytes begin with them
+-- records up to rest, the spans of those that are not known, and what these leave of the limits;
+-- all records of the bytes begin with them
 pub record Passed (l : Limits) (bytes rest : List ℕ) (spans : List (List ℕ)) (now : Limits)
     : Type 0 where
   pub fs : Fields
@@ -336,7 +336,8 @@ can_count one_charge charges l now bytes mid spans span most h budget few levels
     let levels_are = level ∙ ap (λ (m : Limits). m.depth) h.left in
     let same : others ≡ charge (others_of h.fs) =
     one_charge spans others (charge (others_of h.fs)) charged
-    (charges spans (others_of h.fs) each (omega (arith, others_depth h.fs, h.depth, shallow, levels_are))) in
+    (charges spans (others_of h.fs) each
+    (omega (arith, others_depth h.fs, h.depth, shallow, levels_are))) in
     let room = subst (λ (m : Limits). HasRoom m.counts.unknown_fields (slots items)) h.left
     taken.room.unknown_fields in
     let within = sum_within l.counts.unknown_fields most (count (others_of h.fs)) (slots items)

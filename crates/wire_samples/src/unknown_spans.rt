@@ -10,13 +10,15 @@ ghost use Rattle.wire_samples.specs.Person.{PersonTakes, PersonValue, default_pe
 ghost use Rattle.wire_samples.specs.PersonUnknowns.{HasOthers, OthersAre, is_known_number, others_of};
 
 use std::alloc::Global;
-use wire_codec::{
-    DecodeContext, DecodeError, Tag, UnknownFieldsView, laws, skip_field_depth,
-};
+use wire_codec::{DecodeContext, DecodeError, Tag, UnknownFieldsView, laws, skip_field_depth};
 
 /// The records of a person's text that `Person` does not know, each as a span with its tag. Those
-/// that it knows are passed over, whatever they hold. Groups nest at most as deep as the context has
-/// levels, which it keeps, and the kept records take their slots from it.
+/// that it knows are passed over, whatever they hold. Groups nest at most as deep as the context
+/// has levels, which it keeps, and the kept records take their slots from it.
+///
+/// The first record that does not stand refuses the text: with the fault of its tag, with that of
+/// its payload as `skip_field_depth` names it, or with `UnknownFieldLimitExceeded` where there are
+/// no slots for a record that is kept.
 pub fn person_unknowns<'a>(
     alloc: Global,
     bytes: &'a [u8],
@@ -66,6 +68,7 @@ fn walk<'a>(
     laws::grammar::no_payload_beside_fault();
     laws::grammar::one_spans_charge();
     laws::grammar::spans_charge_records();
+    // The slots are a `usize`, so those of all spans can be counted.
     let _slots = context.remaining_unknown_fields();
     let mut view = UnknownFieldsView::new(alloc);
     let mut rest = bytes;

@@ -34,7 +34,8 @@ fn spells(alloc: Global, fields: &UnknownFields, text: &[u8]) -> Result<bool, St
 fn padded(alloc: Global) -> Result<bool, Stop> {
     let span = b"\xa2\x00\x81\x00\x61".as_slice();
     let view = view_of(alloc, &[span])?;
-    Ok(writes(alloc, &view, span)? && spells(alloc, &view.to_owned_fields(alloc)?, b"\x22\x01\x61")?)
+    let owned = view.to_owned_fields(alloc)?;
+    Ok(writes(alloc, &view, span)? && spells(alloc, &owned, b"\x22\x01\x61")?)
 }
 
 // A span that is charged so many fields and so deep, and that spells no records, for this cause.
@@ -74,7 +75,10 @@ fn two_spans(alloc: Global) -> Result<bool, Stop> {
 
 // What is charged is all that a replay takes.
 fn replayed(alloc: Global) -> Result<bool, Stop> {
-    let view = view_of(alloc, &[b"\x2b\x30\x00\x2c".as_slice(), b"\x22\x01\x61".as_slice()])?;
+    let view = view_of(
+        alloc,
+        &[b"\x2b\x30\x00\x2c".as_slice(), b"\x22\x01\x61".as_slice()],
+    )?;
     let mut context = DecodeContext::new(1, 3);
     let fields = view.replay(alloc, &mut context)?;
     Ok(fields.len() == 2 && context.remaining_unknown_fields() == 0 && context.depth() == 1)
@@ -111,8 +115,14 @@ fn rows(alloc: Global) -> [(&'static str, Found); 9] {
     let full = DecodeError::UnknownFieldLimitExceeded;
     [
         ("padded record", found_in(padded(alloc))),
-        ("open group", found_in(refused(alloc, b"\x0b", (1, 1), open))),
-        ("other end", found_in(refused(alloc, b"\x0b\x14", (1, 1), other))),
+        (
+            "open group",
+            found_in(refused(alloc, b"\x0b", (1, 1), open)),
+        ),
+        (
+            "other end",
+            found_in(refused(alloc, b"\x0b\x14", (1, 1), other)),
+        ),
         ("end alone", found_in(refused(alloc, b"\x0c", (0, 0), full))),
         ("no span", found_in(no_span(alloc))),
         ("two spans", found_in(two_spans(alloc))),

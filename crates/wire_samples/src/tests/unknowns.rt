@@ -65,10 +65,19 @@ fn rows(alloc: Global) -> [(&'static str, Found); 8] {
         ("kept", found_in(kept(alloc))),
         ("two slots", found_in(refuses(alloc, MIXED, 1, 2, full))),
         ("no level", found_in(refuses(alloc, MIXED, 0, 3, deep))),
-        ("end tag", found_in(refuses(alloc, b"\x08\x01\x2c", 1, 3, end))),
-        ("cut short", found_in(refuses(alloc, b"\x08\x01\x22\x02\x61", 1, 3, short))),
+        (
+            "end tag",
+            found_in(refuses(alloc, b"\x08\x01\x2c", 1, 3, end)),
+        ),
+        (
+            "cut short",
+            found_in(refuses(alloc, b"\x08\x01\x22\x02\x61", 1, 3, short)),
+        ),
         ("decoded", found_in(as_decoded(alloc, MIXED))),
-        ("padded", found_in(as_decoded(alloc, b"\xa2\x00\x81\x00\x61\x08\x01"))),
+        (
+            "padded",
+            found_in(as_decoded(alloc, b"\xa2\x00\x81\x00\x61\x08\x01")),
+        ),
         ("known alone", found_in(known_alone(alloc))),
     ]
 }

@@ -72,12 +72,14 @@ loop-rest-preserved c =
 
 pub returns-clause-ok : goal.returns-clause-ok
 returns-clause-ok c =
-    let none_left = nothing_left _ (eqb-true _ _ (sym c.is_empty.ensures ∙ c.loop-rest-test.false)) in
+    let none_left = nothing_left _
+    (eqb-true _ _ (sym c.is_empty.ensures ∙ c.loop-rest-test.false)) in
     all_passed c.records_in_order.ensures c.joined_texts_spell.ensures _ _ _ _ _
     c.loop-rest.invariant none_left
 
 pub returns-clause-only : goal.returns-clause-only
 returns-clause-only c =
-    let none_left = nothing_left _ (eqb-true _ _ (sym c.is_empty.ensures ∙ c.loop-rest-test.false)) in
+    let none_left = nothing_left _
+    (eqb-true _ _ (sym c.is_empty.ensures ∙ c.loop-rest-test.false)) in
     λ fs has. each_passed c.records_in_order.ensures c.joined_texts_spell.ensures _ _ _ _ _
     c.loop-rest.invariant none_left fs has.spelled
