@@ -19,6 +19,8 @@ pub mod RopeReads
 pub mod Ropes
 pub mod Sinks
 pub mod Skips
+pub mod SpanLists
+pub mod Spans
 pub mod TagLaws
 pub mod Tags
 pub mod Takes

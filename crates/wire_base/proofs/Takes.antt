@@ -10,10 +10,10 @@ use Rattle.wire_base.specs.Read.{Reads}
 use Rattle.wire_base.specs.RecordLaws.{OneList, WholeInput, RecordsOneByOne}
 use Rattle.wire_base.specs.Spells.{SpellsPayload, Spells}
 use Rattle.wire_base.specs.Tag.{IsTagSpelling}
-use Rattle.wire_base.specs.Taken.{TakesPayload, TakesFields, LastGoesOn}
+use Rattle.wire_base.specs.Taken.{TakesPayload, TakesFields, KeepsBehind, LastGoesOn}
 use Rattle.wire_base.proofs.FieldLaws.{either_front, head_of, none_takes_nothing, record_not_end, joined-none, rest_below, Reads-all, Spells-all}
-use Rattle.wire_base.proofs.JoinedLaws.{Reads-none, Reads-push, split_joined, count_top-joined, count_top-push}
-use Rattle.wire_base.proofs.LimitsLaws.{Fits-nothing, Fits-both, left_after-both, charge-push}
+use Rattle.wire_base.proofs.JoinedLaws.{joined_assoc, Reads-none, Reads-push, split_joined, count_top-joined, count_top-push}
+use Rattle.wire_base.proofs.LimitsLaws.{Fits-nothing, Fits-both, left_after-both, left_after-nothing, charge-push}
 use Rattle.wire_base.proofs.ReadLaws.{Reads-shorter}
 use Rattle.wire_base.proofs.TagLaws.{same_tag}
 
@@ -48,6 +48,33 @@ pub left_after-push : (l : Limits) (fs : Fields) (n : ℕ) (p : Payload)
     → left_after (left_after l (charge fs)) (payload_charge p) ≡ left_after l (charge (push fs n p))
 left_after-push l fs n p = left_after-both l (charge fs) (payload_charge p)
     ∙ ap (left_after l) (sym (charge-push fs n p))
+
+-- ---- behind others
+
+pub keeps_none : (l : Limits) (kept : Fields) (old : List ℕ) → KeepsBehind l l kept old kept old
+keeps_none l kept old = record {
+  fields = none;
+  taken = takes_none l old;
+  behind = sym (joined-none kept);
+  left = sym (left_after-nothing l);
+}
+
+-- one unknown field more
+pub keeps_field : (l now after : Limits) (kept kept_now : Fields) (n : ℕ) (w : WireType)
+    (p : Payload) (old mid behind new : List ℕ)
+    → KeepsBehind l now kept old kept_now mid → Reads mid (IsTagSpelling n w) behind
+    → TakesPayload (payload_charge p) now n w p behind new
+    → after ≡ left_after now (payload_charge p)
+    → KeepsBehind l after kept old (push kept_now n p) new
+keeps_field l now after kept kept_now n w p old mid behind new h tag k left = record {
+  fields = push h.fields n p;
+  taken = takes_field l h.fields n w p old mid behind new h.taken tag
+      (subst (λ m. TakesPayload (payload_charge p) m n w p behind new) h.left k);
+  behind = ap (λ (fs : Fields). push fs n p) h.behind
+      ∙ joined_assoc kept h.fields (field n p none);
+  left = left ∙ ap (λ m. left_after m (payload_charge p)) h.left
+      ∙ left_after-push l h.fields n p;
+}
 
 -- ---- the end
 

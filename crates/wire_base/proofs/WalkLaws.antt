@@ -232,7 +232,7 @@ walk_beside_fault l front (i ∷ more) rest e fault (r, h, others) room =
     no_item_beside_fault l front more i rest r e fault h room
 
 -- all of the bytes are the items behind which nothing is left
-walk_all : (items : List Item) (old : List ℕ) → Reads old (SpellsItems items) []
+pub walk_all : (items : List Item) (old : List ℕ) → Reads old (SpellsItems items) []
     → SpellsItems items old
 walk_all items old h = subst (SpellsItems items) (sym (h.parts ∙ append-nil h.text)) h.spelled
 
@@ -354,6 +354,25 @@ one_span_fault_lemma l span e f
 
 -- ---- what a walk over records takes
 
+-- items that are there are charged what the records are that the span spells
+pub charges_walk : (items : List Item) (l : Limits) (span : List ℕ) → TakesItems items l span []
+    → (fs : Fields) → Spells fs span → (charge fs).depth < 2 ^ 32 → flat_charge items ≡ charge fs
+charges_walk items l span h fs spelled few =
+    let (others, walk, same) = records_are_items_lemma fs span spelled few in
+    ap flat_charge (one_walk_lemma items others span (walk_all items span h.read) walk) ∙ same
+
+-- where a span spells records whose slots are there, it has no fault
+pub no_fault_in_records : (l : Limits) (span : List ℕ) (e : DecodeError) → SpanFault l span e
+    → (fs : Fields) → Spells fs span → (charge fs).depth < 2 ^ 32
+    → HaveRoom l.counts (charge fs).counts → ⊥
+no_fault_in_records l span e fault fs spelled few room =
+    let (items, walk, same) = records_are_items_lemma fs span spelled few in
+    no_walk_beside_fault_lemma items l span e fault
+    (record {
+      read = record { text = span; parts = sym (append-nil span); spelled = walk };
+      room = subst (λ (c : Charge). HaveRoom l.counts c.counts) (sym same) room;
+    })
+
 -- where a span spells records whose slots are there, a walk over it takes what they are charged
 pub charges_records : (l new : Limits) (span : List ℕ) (r : Result UnknownSpanCharge DecodeError)
     → IfOk r (λ taken. (items : List Item) × TakesItems items l span []
@@ -366,18 +385,10 @@ pub charges_records : (l new : Limits) (span : List ℕ) (r : Result UnknownSpan
     (λ taken. (taken.fields ≡ count fs) × (taken.depth ≡ (charge fs).depth)
     × (new ≡ left_after l (charge fs))) (λ e. ⊥)
 charges_records l new span (Ok taken) (items, h, fields, depth, left) fault fs spelled few room =
-    let (others, walk, same) = records_are_items_lemma fs span spelled few in
-    let one : items ≡ others =
-    one_walk_lemma items others span (walk_all items span h.read) walk in
-    let charged : flat_charge items ≡ charge fs = ap flat_charge one ∙ same in (
+    let charged : flat_charge items ≡ charge fs = charges_walk items l span h fs spelled few in (
       fields ∙ ap (λ (c : Charge). c.counts.unknown_fields) charged,
       depth ∙ ap (λ (c : Charge). c.depth) charged,
       left ∙ ap (left_after l) charged,
     )
 charges_records l new span (Err e) ok fault fs spelled few room =
-    let (items, walk, same) = records_are_items_lemma fs span spelled few in
-    no_walk_beside_fault_lemma items l span e fault
-    (record {
-      read = record { text = span; parts = sym (append-nil span); spelled = walk };
-      room = subst (λ (c : Charge). HaveRoom l.counts c.counts) (sym same) room;
-    })
+    no_fault_in_records l span e fault fs spelled few room

@@ -24,6 +24,8 @@ pub mod Refusal
 pub mod Rope
 pub mod Shortest
 pub mod Sink
+pub mod SpanLaws
+pub mod Spans
 pub mod Spells
 pub mod Tag
 pub mod TagLaws

@@ -1,9 +1,10 @@
 -- What stands at the front within the limits, where it takes so much of them.
 use Rattle.std.specs.Prelude.{◌≡◌, ◌⊎◌, ℕ, List}
 use Rattle.wire_base.specs.declared.tag.WireType.{WireType}
+use Rattle.wire_base.specs.Charge.{charge}
 use Rattle.wire_base.specs.Ending.{Ending, GoesOn, Ends}
-use Rattle.wire_base.specs.Field.{Payload, Fields, none, push}
-use Rattle.wire_base.specs.Limits.{Limits, Charge, Fits}
+use Rattle.wire_base.specs.Field.{Payload, Fields, none, joined, push}
+use Rattle.wire_base.specs.Limits.{Limits, Charge, Fits, left_after}
 use Rattle.wire_base.specs.Read.{Reads}
 use Rattle.wire_base.specs.Spells.{Spells, IsPayload}
 
@@ -36,3 +37,12 @@ pub record TakesUntil (c : Charge) (l : Limits) (ending : Ending) (fs : Fields)
   pub fields : TakesFields c l fs old end
   pub ended : Ends ending end new
   pub last : LastGoesOn ending fs old
+
+-- Records that stand at the front of old are kept behind others, new is what follows them, and what
+-- they are charged was taken from the limits.
+pub record KeepsBehind (before after : Limits) (kept : Fields) (old : List ℕ) (kept_then : Fields)
+    (new : List ℕ) : Type 0 where
+  pub fields : Fields
+  pub taken : TakesFields (charge fields) before fields old new
+  pub behind : kept_then ≡ joined kept fields
+  pub left : after ≡ left_after before (charge fields)

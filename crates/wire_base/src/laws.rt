@@ -6,6 +6,7 @@ ghost use Rattle.wire_base.specs.RecordLaws.{PayloadIsField, OnePayload, OneSpel
 ghost use Rattle.wire_base.specs.FaultLaws.{NoPayloadBesideFault, NoListBesideFault, OnePayloadFault, OneListFault, PayloadOrFaultStands, ListOrFaultStands};
 ghost use Rattle.wire_base.specs.AgreementLaws.{SkippedWhereDecoded, RefusedAlike, SlotsSuffice, BodyWhereDecoded, FaultsStay, CutIsShort};
 ghost use Rattle.wire_base.specs.ItemLaws.{RecordsAreItems, OneWalk, NoWalkBesideFault, OneSpanFault};
+ghost use Rattle.wire_base.specs.SpanLaws.{OneSpansCharge, SpansChargeRecords, JoinedSpansSpell};
 ghost use Rattle.wire_base.specs.WriteLaws.{TwoParts, PutIsWrite};
 
 /// The shortest varint of a number reads back as that number, whatever follows it.
@@ -284,6 +285,21 @@ pub fn no_walk_beside_fault()
 /// A span has one fault at most.
 pub fn one_span_fault()
     ensures { OneSpanFault }
+{}
+
+/// Spans are charged in one way at most.
+pub fn one_spans_charge()
+    ensures { OneSpansCharge }
+{}
+
+/// Spans that spell records which nest less than 2^32 deep are charged what the records are.
+pub fn spans_charge_records()
+    ensures { SpansChargeRecords }
+{}
+
+/// Where each span spells records, the joined spans spell all of them.
+pub fn joined_spans_spell()
+    ensures { JoinedSpansSpell }
 {}
 
 /// A write of two texts, one behind the other, is a write of the joined text.

@@ -14,6 +14,7 @@ mod tag;
 #[cfg(test)]
 mod tests;
 mod unknown_fields;
+mod unknown_fields_view;
 mod varint;
 
 pub use decode_context::{DEFAULT_UNKNOWN_FIELD_LIMIT, DecodeContext, RECURSION_LIMIT};
@@ -28,4 +29,5 @@ pub use tag::{
     check_wire_type, wire_type_mismatch,
 };
 pub use unknown_fields::{UnknownField, UnknownFieldData, UnknownFields, decode_unknown_field};
+pub use unknown_fields_view::UnknownFieldsView;
 pub use varint::{count_varints, decode_varint, encode_varint, varint_len};

@@ -8,6 +8,7 @@ mod spans;
 mod tags;
 mod unknown;
 mod varints;
+mod views;
 
 use crate::encode_sink::EncodeSink;
 use crate::error::{DecodeError, EncodeError};

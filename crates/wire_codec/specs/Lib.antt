@@ -18,6 +18,8 @@ pub use Rattle.wire_base.specs.Read
 pub use Rattle.wire_base.specs.RecordLaws
 pub use Rattle.wire_base.specs.Refusal
 pub use Rattle.wire_base.specs.Sink
+pub use Rattle.wire_base.specs.SpanLaws
+pub use Rattle.wire_base.specs.Spans
 pub use Rattle.wire_base.specs.Spells
 pub use Rattle.wire_base.specs.Tag
 pub use Rattle.wire_base.specs.TagView

@@ -23,9 +23,9 @@ pub use wire_base::{
     DEFAULT_MIN_SEGMENT, DEFAULT_UNKNOWN_FIELD_LIMIT, DecodeContext, DecodeError, EncodeError,
     EncodeSink, FIRST_RESERVED_FIELD_NUMBER, LAST_RESERVED_FIELD_NUMBER, MAX_FIELD_NUMBER,
     RECURSION_LIMIT, Rope, RopeBuf, Tag, UnknownField, UnknownFieldData, UnknownFields,
-    UnknownSpanCharge, WireType, check_wire_type, copy_bytes, count_varints, decode_length,
-    decode_unknown_field, decode_varint, encode_varint, register_unknown_record, skip_field,
-    skip_field_depth, take_bytes, varint_len, wire_type_mismatch,
+    UnknownFieldsView, UnknownSpanCharge, WireType, check_wire_type, copy_bytes, count_varints,
+    decode_length, decode_unknown_field, decode_varint, encode_varint, register_unknown_record,
+    skip_field, skip_field_depth, take_bytes, varint_len, wire_type_mismatch,
 };
 
 // Scalars, packed lists of them, and borrowed groups.

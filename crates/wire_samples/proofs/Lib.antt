@@ -6,6 +6,7 @@ pub mod NodeLists
 pub mod NodeTaken
 pub mod NodeValues
 pub mod Nodes
+pub mod Others
 pub mod PackedReads
 pub mod PersonFolds
 pub mod PersonSteps
@@ -14,3 +15,4 @@ pub mod Putting
 pub mod RepeatFolds
 pub mod RepeatSteps
 pub mod Repeats
+pub mod Unknowns

@@ -10,7 +10,9 @@ mod person;
 mod repeat;
 #[cfg(test)]
 mod tests;
+mod unknown_spans;
 
 pub use node::Node;
 pub use person::Person;
 pub use repeat::Repeat;
+pub use unknown_spans::person_unknowns;

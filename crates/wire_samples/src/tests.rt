@@ -9,6 +9,7 @@ mod person;
 mod pool;
 mod repeat;
 mod standing;
+mod unknowns;
 
 use crate::person::Person;
 use bytes::Bytes;

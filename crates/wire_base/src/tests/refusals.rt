@@ -27,8 +27,8 @@ fn pushes(alloc: Global) -> Result<bool, Stop> {
 // What a sink holds that held two bytes before a write of this text: the text, or a front of it
 // where memory was refused.
 fn holds(sink: &[u8], text: &[u8], is_whole: bool) -> bool {
-    sink.strip_prefix(b"\xaa\xbb")
-        .is_some_and(|written| text.starts_with(written) && (!is_whole || written == text))
+    sink.strip_prefix(b"\xaa\xbb").is_some_and(|written| text.starts_with(written)
+        && (!is_whole || written == text))
 }
 
 const TEXT: &[u8] = b"\x08\xac\x02\x1a\x10sixteen and then\x23\x2d\x04\x03\x02\x01\x24";

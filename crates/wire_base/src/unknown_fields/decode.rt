@@ -1,5 +1,5 @@
 //! Unknown fields from bytes.
-ghost use Rattle.std.specs.Prelude.{◌≡◌, OnErr, IfOk, IfErr, MatchResult};
+ghost use Rattle.std.specs.Prelude.{◌≡◌, [], OnOk, OnErr, IfOk, IfErr, MatchResult};
 ghost use Rattle.wire_base.specs.declared.error.DecodeError.TheVariants.{OutOfMemory};
 ghost use Rattle.wire_base.specs.Agreement.{NeverWantsSlots, KeepsWhatIsSkipped, RefusesAsSkipping, IsShortOrWantsMemory, StaysRefused, FaultOrMemory};
 ghost use Rattle.wire_base.specs.Charge.{charge, payload_charge};
@@ -10,7 +10,7 @@ ghost use Rattle.wire_base.specs.Limits.{Fits, NoCountGrew, counted, left_after}
 ghost use Rattle.wire_base.specs.Refusal.{PayloadRefusal, ListRefusal};
 ghost use Rattle.wire_base.specs.Spells.{Spells};
 ghost use Rattle.wire_base.specs.TagView.{tag_number, tag_type};
-ghost use Rattle.wire_base.specs.Taken.{TakesPayload, TakesUntil};
+ghost use Rattle.wire_base.specs.Taken.{KeepsBehind, TakesPayload, TakesUntil};
 ghost use Rattle.wire_base.specs.UnknownFields.{payload_of};
 
 use super::{UnknownField, UnknownFieldData, UnknownFields};
@@ -53,17 +53,33 @@ impl UnknownFields {
         ensures fault { IfErr result (ListRefusal context.old by_input bytes.now) }
         ensures counts { OnErr result (NoCountGrew context.old context.new) }
     {
-        let mut buf = bytes;
         let mut fields = UnknownFields::new(alloc);
+        fields.append_from_slice(alloc, bytes, context)?;
+        fields.widths_fit();
+        Ok(fields)
+    }
+
+    // Reads all of the bytes as records, and keeps them behind those that are there.
+    pub(crate) fn append_from_slice(
+        &mut self,
+        alloc: Global,
+        bytes: &[u8],
+        context: &mut DecodeContext,
+    ) -> Result<(), DecodeError>
+        ensures ok { OnOk result
+            (KeepsBehind context.old context.new self.old bytes.now self.new []) }
+        ensures fault { IfErr result (ListRefusal context.old by_input bytes.now) }
+        ensures counts { OnErr result (NoCountGrew context.old context.new) }
+    {
+        let mut buf = bytes;
         while !buf.is_empty() {
             let tag = Tag::decode(&mut buf)?;
             let field = decode_field(alloc, tag, &mut buf, context)?;
-            if fields.push(field).is_err() {
+            if self.push(field).is_err() {
                 return Err(DecodeError::OutOfMemory);
             }
         }
-        fields.widths_fit();
-        Ok(fields)
+        Ok(())
     }
 }
 

@@ -1,56 +1,15 @@
-use Rattle.std.proofs.Common.{sym, ap, ◌∙◌}
-use Rattle.std.proofs.lemmas.Bool.{eqb-false}
-use Rattle.std.proofs.lemmas.Result.{err_from_is_err_and}
-use Rattle.wire_base.specs.Charge.{payload_charge}
-use Rattle.wire_base.specs.Ending.{by_input}
-use Rattle.wire_base.specs.Fault.{bad_tag}
-use Rattle.wire_base.specs.Limits.{Limits, left_after}
-use Rattle.wire_base.specs.UnknownFields.{payload_of}
-use Rattle.wire_base.proofs.Decoded.{refused_tag, refused_payload, refused_push}
-use Rattle.wire_base.proofs.FieldLaws.{spelled_are_numbered_lemma}
-use Rattle.wire_base.proofs.ListLaws.{some_left}
-use Rattle.wire_base.proofs.Results.{at_ok}
-use Rattle.wire_base.proofs.Takes.{takes_field, left_after-push}
+use Rattle.std.proofs.Common.{ap, sym, refl, subst, ◌∙◌}
+use Rattle.wire_base.specs.Field.{Fields, joined}
+use Rattle.wire_base.specs.InRange.{AreNumbered}
+use Rattle.wire_base.proofs.FieldLaws.{spelled_are_numbered_lemma, Spells-all}
 use Rattle.wire_base.proofs.unknown_fields.UnknownFields.decode_from_slice_within.Goals as goal
-
-pub returns-in_err-tag-clause-fault : goal.returns-in_err-tag-clause-fault
-returns-in_err-tag-clause-fault c =
-    let p = err_from_is_err_and c.from_residual.result c.from_residual.ensures.1 in
-    rw (p.1, p.2)
-    (refused_tag _ by_input _ _ _ c.loop-buf.invariant.so_far _
-    (some_left _ (eqb-false _ _ (sym c.is_empty.ensures
-    ∙ c.loop-buf-test.true))) (bad_tag c.in_err-tag.ensures.fault))
-
-pub returns-in_err-field-clause-fault : goal.returns-in_err-field-clause-fault
-returns-in_err-field-clause-fault c =
-    let r = c.from_residual-in_err-field in
-    let p = err_from_is_err_and r.result r.ensures.1 in
-    let loop = c.loop-buf.invariant in
-    rw (p.1, p.2)
-    (refused_payload _ by_input _ _ _ loop.so_far _ _ _ _ _
-    (some_left _ (eqb-false _ _ (sym c.is_empty.ensures
-    ∙ c.loop-buf-test.true))) c.in_ok-tag.ensures.ok tt loop.context c.in_err-field.ensures.fault)
-
-pub returns-then-is_err-clause-fault : goal.returns-then-is_err-clause-fault
-returns-then-is_err-clause-fault c =
-    refused_push _ by_input _ _ _ c.loop-buf.invariant.so_far _ _ _ _ _ _
-    c.in_ok-tag.ensures.ok c.loop-buf.invariant.context c.in_ok-field.ensures.ok
-
-pub loop-buf-preserved : goal.loop-buf-preserved
-loop-buf-preserved c =
-    let loop = c.loop-buf.invariant in
-    let read = c.in_ok-field.ensures in
-    let pushed = at_ok c.push.result _ (sym c.is_err.ensures.value
-    ∙ c.if-is_err.false) c.push.ensures.ok in
-    rw (pushed, read.number) (record {
-      so_far = takes_field _ _ _ _ _ _ _ _ _ loop.so_far c.in_ok-tag.ensures.ok
-          (rw loop.context at read.ok);
-      context = read.charged
-          ∙ ap (λ (l : Limits). left_after l
-          (payload_charge (payload_of c.in_ok-field.field.value))) loop.context
-          ∙ left_after-push _ c.loop-buf.fields _ _;
-    })
 
 pub returns-clause-in_range : goal.returns-clause-in_range
 returns-clause-in_range c =
-    (c.widths_fit.ensures, spelled_are_numbered_lemma c.loop-buf.fields _ c.loop-buf.invariant.so_far.read.spelled)
+    let kept = c.in_ok-append_from_slice.ensures.ok in (
+      c.widths_fit.ensures,
+      subst AreNumbered
+          (sym (kept.behind ∙ ap (λ (fs : Fields). joined fs kept.fields) c.new-fields.ensures))
+          (spelled_are_numbered_lemma kept.fields _
+          (Spells-all kept.fields _ _ kept.taken.read refl)),
+    )

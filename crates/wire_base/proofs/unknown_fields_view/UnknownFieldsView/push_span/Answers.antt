@@ -1,0 +1,32 @@
+use Rattle.std.proofs.Common.{◌≡◌, ℕ, ◌+◌, max, List, [], ◌∷◌, ◌++◌, Bor, ap, rules, sym, subst, ◌∙◌}
+use Rattle.std.proofs.lemmas.List.{map_push}
+use Rattle.std.proofs.lemmas.Result.{err_from_is_err_and}
+use Rattle.wire_base.specs.Items.{slots, greatest_level}
+use Rattle.wire_base.specs.Spans.{AreCharged, fields_charge}
+use Rattle.wire_base.proofs.SpanLists.{spans_of}
+use Rattle.wire_base.proofs.Spans.{charged_more, pushed_records, span_no_memory}
+use Rattle.wire_base.proofs.unknown_fields_view.UnknownFieldsView.push_span.Goals as goal
+
+pub returns-in_err-charge-clause-memory : goal.returns-in_err-charge-clause-memory
+returns-in_err-charge-clause-memory c =
+    let r = c.from_residual-in_err-charge in
+    let p = err_from_is_err_and r.result r.ensures.1 in
+    rw (p.1, p.2) (λ is. absurd (span_no_memory _ _ _ c.in_err-charge.ensures.fault is))
+
+pub invariant_of-self-2 : goal.invariant_of-self-2
+invariant_of-self-2 c =
+    let (items, taken, fields, depth, left) = c.in_ok-charge.ensures.ok in
+    let had = c.self.inside in
+    let deepest : c.max-self-inside.result ≡ max had.depth (greatest_level 0 items) =
+    c.max-self-inside.ensures ∙ ap (max had.depth) depth in
+    let sum : c.in-Some.fields ≡ had.fields + slots items = search rules in
+    subst (λ t. AreCharged t (fields_charge c.max-self-inside.result c.in-Some.fields))
+    (sym (ap spans_of c.in_ok-push.ensures.items ∙ map_push (λ x. x.now) _ c.args.span
+    ∙ ap (λ (ys : List (Bor (List ℕ))). spans_of ys ++ c.args.span.now ∷ [])
+    c.in_ok-reserve.ensures.items))
+    (charged_more _ _ _ items had.depth had.fields _ _ c.self.invariant taken deepest sum)
+
+pub returns-clause-records : goal.returns-clause-records
+returns-clause-records c =
+    let (items, taken, fields, depth, left) = c.in_ok-charge.ensures.ok in
+    pushed_records _ _ _ items taken left

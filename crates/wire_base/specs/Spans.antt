@@ -1,0 +1,63 @@
+-- Spans of unknown fields, one behind another: what they are charged, and which records they spell.
+use Rattle.std.specs.Prelude.{◌≡◌, ◌⊎◌, ℕ, ◌+◌, ◌^◌, ◌≤◌, List, [], ◌∷◌, ◌++◌}
+use Rattle.wire_base.specs.declared.error.DecodeError.{DecodeError}
+use Rattle.wire_base.specs.declared.error.DecodeError.TheVariants.{OutOfMemory, UnknownFieldLimitExceeded}
+use Rattle.wire_base.specs.Charge.{charge}
+use Rattle.wire_base.specs.Ending.{by_input}
+use Rattle.wire_base.specs.Field.{Fields, none, joined}
+use Rattle.wire_base.specs.Items.{Item, SpellsItems, TakesItems, SpanFault, flat_charge}
+use Rattle.wire_base.specs.Limits.{Limits, Charge, Fits, both, counted, left_after, no_charge}
+use Rattle.wire_base.specs.Refusal.{ListRefusal}
+use Rattle.wire_base.specs.Spells.{Spells}
+
+-- ---- what spans are charged
+
+-- Each span is items, and this is what flat walks over all of them charge: the counts are sums, and
+-- the depth is the greatest.
+abbrev pub AreCharged : List (List ℕ) → Charge → Type 0
+AreCharged [] c = c ≡ no_charge
+AreCharged (s ∷ spans) c =
+    (items : List Item) × (others : Charge) × SpellsItems items s × AreCharged spans others
+    × (c ≡ both (flat_charge items) others)
+
+-- the charge of so many unknown fields, which nest so deep
+abbrev pub fields_charge : ℕ → ℕ → Charge
+fields_charge depth fields = record {
+  depth = depth;
+  counts = record { unknown_fields = fields; element_memory = 0 };
+}
+
+-- limits that leave nothing behind this charge
+abbrev pub limits_of : Charge → Limits
+limits_of c = counted c.depth c.counts.unknown_fields
+
+-- a span is items for which there are slots, and its slots and those of other spans are more than
+-- `usize::MAX`
+abbrev pub TooMany : Limits → List (List ℕ) → List ℕ → Type 0
+TooMany l spans span =
+    (items : List Item) × (others : Charge) × TakesItems items l span [] × AreCharged spans others
+    × (2 ^ 64 ≤ (both others (flat_charge items)).counts.unknown_fields)
+
+-- A span is not added to others: it has a fault, its slots and theirs are too many to be counted,
+-- or memory is wanted for one span more.
+abbrev pub PushRefusal : Limits → List (List ℕ) → List ℕ → DecodeError → Type 0
+PushRefusal l spans span e =
+    SpanFault l span e
+    ⊎ (((e ≡ UnknownFieldLimitExceeded) × TooMany l spans span) ⊎ (e ≡ OutOfMemory))
+
+-- ---- which records spans spell
+
+-- each span spells records, and these are all of them, one behind another
+abbrev pub SpellEach : List (List ℕ) → Fields → Type 0
+SpellEach [] fs = fs ≡ none
+SpellEach (s ∷ spans) fs =
+    (own : Fields) × (others : Fields) × Spells own s × SpellEach spans others
+    × (fs ≡ joined own others)
+
+-- spans that spell records within the limits, and then one that is refused as a list, under what is
+-- left
+pub data SpansRefusal : Limits → List (List ℕ) → DecodeError → Type 0 where
+  past : {l : Limits} {spans : List (List ℕ)} {e : DecodeError}
+      (front : List (List ℕ)) (fs : Fields) (span : List ℕ) (behind : List (List ℕ))
+      → spans ≡ front ++ span ∷ behind → SpellEach front fs → Fits (charge fs) l
+      → ListRefusal (left_after l (charge fs)) by_input span e → SpansRefusal l spans e
