@@ -88,7 +88,7 @@ const RUNS: [&[Put]; 8] = [
 ];
 
 // A run of puts behind a byte, again and again. A put that is refused leaves the sink as it was.
-fn grows<S: Shown>(alloc: Global, mut sink: S, run: &[Put]) -> Result<bool, Stop> {
+fn puts_again<S: Shown>(alloc: Global, mut sink: S, run: &[Put]) -> Result<bool, Stop> {
     let mut text = vec![in alloc; 7]?;
     sink.put_u8(7)?;
     for _ in 0..18 {
@@ -105,21 +105,21 @@ fn grows<S: Shown>(alloc: Global, mut sink: S, run: &[Put]) -> Result<bool, Stop
 }
 
 pub(super) fn vec_rows(alloc: Global) -> [Found; 8] {
-    RUNS.map(|run| found_in(grows(alloc, Vec::new(alloc), run)))
+    RUNS.map(|run| found_in(puts_again(alloc, Vec::new(alloc), run)))
 }
 
 pub(super) fn bytes_mut_rows(alloc: Global) -> [Found; 8] {
-    RUNS.map(|run| found_in(grows(alloc, BytesMut::new(alloc), run)))
+    RUNS.map(|run| found_in(puts_again(alloc, BytesMut::new(alloc), run)))
 }
 
 // Shared runs are segments of their own.
 pub(super) fn rope_rows(alloc: Global) -> [Found; 8] {
-    RUNS.map(|run| found_in(grows(alloc, Rope::with_min_segment(alloc, 1), run)))
+    RUNS.map(|run| found_in(puts_again(alloc, Rope::with_min_segment(alloc, 1), run)))
 }
 
 // Shared runs are copied.
 pub(super) fn copying_rope_rows(alloc: Global) -> [Found; 8] {
-    RUNS.map(|run| found_in(grows(alloc, Rope::new(alloc), run)))
+    RUNS.map(|run| found_in(puts_again(alloc, Rope::new(alloc), run)))
 }
 
 // What `put_texts` puts.
