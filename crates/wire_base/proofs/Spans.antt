@@ -270,6 +270,14 @@ only_charged spans c r sums each refusal fs h few =
 
 -- ---- pushes
 
+-- the items of a span are single, so what they leave is too
+pub taken_alike : (l new : Limits) (span : List ℕ) (items others : List Item)
+    → TakesItems items l span [] → new ≡ left_after l (flat_charge items)
+    → TakesItems others l span [] → new ≡ left_after l (flat_charge others)
+taken_alike l new span items others h left k =
+    left ∙ ap (λ (is : List Item). left_after l (flat_charge is))
+    (one_walk_lemma items others span (walk_all items span h.read) (walk_all others span k.read))
+
 -- where a span that spells records is pushed, their slots were there and are taken
 pub pushed_records : (l new : Limits) (span : List ℕ) (items : List Item)
     → TakesItems items l span [] → new ≡ left_after l (flat_charge items)
