@@ -1,7 +1,7 @@
 -- Spans, one behind another: what they are charged, and which records they spell.
-use Rattle.std.proofs.Common.{◌≡◌, ◌≢◌, ◌⊎◌, ℕ, ◌+◌, ◌-◌, ◌%◌, ◌^◌, ◌<◌, ◌≤◌, max, Bool, true, false, nat_le, nat_lt, if◌then◌else◌, List, [], ◌∷◌, ◌++◌, Option, Some, None, Result, Ok, Err, refl, sym, ap, ap₂, ◌∙◌, subst, ⊎_elim, arith}
+use Rattle.std.proofs.Common.{◌≡◌, ◌≢◌, ℕ, ◌+◌, ◌%◌, ◌^◌, ◌<◌, max, Bool, true, false, nat_le, nat_lt, if◌then◌else◌, List, [], ◌∷◌, ◌++◌, Option, Some, None, Result, Ok, Err, refl, sym, ap, ap₂, ◌∙◌, subst, ⊎_elim, arith}
 use Rattle.std.specs.List.{concat}
-use Rattle.std.specs.Prelude.{OnOk, IfOk, IfErr, MatchResult}
+use Rattle.std.specs.Prelude.{IfOk, IfErr, MatchResult}
 use Rattle.wire_base.specs.declared.error.DecodeError.{DecodeError}
 use Rattle.wire_base.specs.declared.error.DecodeError.TheVariants.{OutOfMemory, InvalidFieldNumber, InvalidWireType}
 use Rattle.wire_base.specs.declared.tag.WireType.{WireType}
@@ -15,7 +15,7 @@ use Rattle.wire_base.specs.InRange.{AreFitting, AreNumbered}
 use Rattle.wire_base.specs.Items.{Item, SpellsItems, TakesItems, ItemFault, SpanFault, slots, greatest_level, flat_charge}
 use Rattle.wire_base.specs.Limits.{Limits, Charge, HasRoom, HaveRoom, Fits, both, left_after, no_charge, less}
 use Rattle.wire_base.specs.SpanLaws.{OneSpansCharge, SpansChargeRecords, JoinedSpansSpell}
-use Rattle.wire_base.specs.Spans.{AreCharged, fields_charge, limits_of, PushRefusal, TooMany, SpellEach, SpansRefusal, past}
+use Rattle.wire_base.specs.Spans.{AreCharged, fields_charge, limits_of, SpellEach, SpansRefusal, past}
 use Rattle.wire_base.specs.Spells.{Spells}
 use Rattle.wire_base.specs.Tag.{TagFault}
 use Rattle.wire_base.specs.Taken.{KeepsBehind}
@@ -26,7 +26,7 @@ use Rattle.wire_base.proofs.FieldLaws.{joined-none, one_spelled_lemma, spelled_a
 use Rattle.wire_base.proofs.JoinedLaws.{joined_assoc, Spells-joined}
 use Rattle.wire_base.proofs.LimitsLaws.{HaveRoom-none, Fits-first, Fits-second, Fits-both, left_after-both, both_assoc, both-nothing_first, both-nothing_last, charge-joined}
 use Rattle.wire_base.proofs.Takes.{whole_input_lemma}
-use Rattle.wire_base.proofs.WalkLaws.{charges_walk, no_fault_in_records, one_walk_lemma, walk_all}
+use Rattle.wire_base.proofs.WalkLaws.{charges_walk, one_walk_lemma, walk_all}
 use Rattle.wire_base.proofs.Walks.{records_are_items_lemma}
 
 -- ---- what spans are charged
@@ -269,6 +269,14 @@ only_charged spans c r sums each refusal fs h few =
     (fits_just (limits_of c) fs c (charged_alike spans fs c h few sums) refl refl)
 
 -- ---- pushes
+
+-- the items of a span are single, so what they leave is too
+pub taken_alike : (l new : Limits) (span : List ℕ) (items others : List Item)
+    → TakesItems items l span [] → new ≡ left_after l (flat_charge items)
+    → TakesItems others l span [] → new ≡ left_after l (flat_charge others)
+taken_alike l new span items others h left k =
+    left ∙ ap (λ (is : List Item). left_after l (flat_charge is))
+    (one_walk_lemma items others span (walk_all items span h.read) (walk_all others span k.read))
 
 -- where a span that spells records is pushed, their slots were there and are taken
 pub pushed_records : (l new : Limits) (span : List ℕ) (items : List Item)

@@ -1,5 +1,5 @@
 //! Unknown fields that stay where they were read.
-ghost use Rattle.std.specs.Prelude.{◌≡◌, ◌↔◌, ◌+◌, ◌^◌, ◌<◌, ◌≤◌, ℕ, List, [], ◌∷◌, ◌++◌, length, map, IsTrue, Some, OnOk, OnErr, IfOk, IfErr, MatchResult};
+ghost use Rattle.std.specs.Prelude.{◌≡◌, ◌≢◌, ◌↔◌, ◌+◌, ◌^◌, ◌<◌, ◌≤◌, ℕ, List, [], ◌∷◌, ◌++◌, length, map, IsTrue, Some, OnOk, OnErr, IfOk, IfErr, MatchResult};
 ghost use Rattle.std.specs.Iterator.Adapters.{copied_source};
 ghost use Rattle.std.specs.List.{concat};
 ghost use Rattle.std.specs.Slice.Iter.{iter_rest};
@@ -100,6 +100,9 @@ impl<'a> UnknownFieldsView<'a> {
         ensures memory { IfErr result (λ e. e ≡ OutOfMemory → context.new ≡ context.old) }
         ensures counts { OnErr result (NoCountGrew context.old context.new) }
         ensures depth { context.new.depth ≡ context.old.depth }
+        ensures taken { (items : List Item) → TakesItems items context.old span.now []
+            → IfErr result (λ e. e ≢ OutOfMemory
+            → context.new ≡ left_after context.old (flat_charge items)) }
         ensures records { (fs : Fields) → Spells fs span.now → (charge fs).depth < 2 ^ 32
             → MatchResult result (λ _. HaveRoom context.old.counts (charge fs).counts
             × (context.new ≡ left_after context.old (charge fs)))

@@ -5,9 +5,9 @@ use Rattle.std.proofs.lemmas.List.{append-nil}
 use Rattle.wire_codec.specs.Charge.{payload_charge, charge}
 use Rattle.wire_codec.specs.Field.{Payload, varint, fixed64, fixed32, bytes, group, Fields, none, field, joined, push}
 use Rattle.wire_codec.specs.Folds.{Folds}
-use Rattle.wire_codec.specs.Limits.{Charge, both, no_charge, one_field}
+use Rattle.wire_codec.specs.Limits.{Charge, both, no_charge}
 use Rattle.wire_codec.specs.LimitsLaws.{ChargesAddUp}
-use Rattle.wire_codec.specs.RecordLaws.{JoinedAddsUp, JoinedTextsSpell}
+use Rattle.wire_codec.specs.RecordLaws.{JoinedTextsSpell}
 use Rattle.wire_codec.specs.Spans.{SpellEach}
 use Rattle.wire_codec.specs.Spells.{Spells}
 use Rattle.wire_samples.proofs.PersonFolds.{joined-none, push_joined}

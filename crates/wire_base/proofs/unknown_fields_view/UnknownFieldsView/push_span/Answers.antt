@@ -4,7 +4,8 @@ use Rattle.std.proofs.lemmas.Result.{err_from_is_err_and}
 use Rattle.wire_base.specs.Items.{slots, greatest_level}
 use Rattle.wire_base.specs.Spans.{AreCharged, fields_charge}
 use Rattle.wire_base.proofs.SpanLists.{spans_of}
-use Rattle.wire_base.proofs.Spans.{charged_more, pushed_records, span_no_memory}
+use Rattle.wire_base.proofs.Spans.{charged_more, pushed_records, span_no_memory, taken_alike}
+use Rattle.wire_base.proofs.WalkLaws.{no_walk_beside_fault_lemma}
 use Rattle.wire_base.proofs.unknown_fields_view.UnknownFieldsView.push_span.Goals as goal
 
 pub returns-in_err-charge-clause-memory : goal.returns-in_err-charge-clause-memory
@@ -12,6 +13,13 @@ returns-in_err-charge-clause-memory c =
     let r = c.from_residual-in_err-charge in
     let p = err_from_is_err_and r.result r.ensures.1 in
     rw (p.1, p.2) (λ is. absurd (span_no_memory _ _ _ c.in_err-charge.ensures.fault is))
+
+pub returns-in_err-charge-clause-taken : goal.returns-in_err-charge-clause-taken
+returns-in_err-charge-clause-taken c =
+    let r = c.from_residual-in_err-charge in
+    let p = err_from_is_err_and r.result r.ensures.1 in
+    rw (p.1, p.2) (λ items h. absurd
+    (no_walk_beside_fault_lemma items _ _ _ c.in_err-charge.ensures.fault h))
 
 pub invariant_of-self-2 : goal.invariant_of-self-2
 invariant_of-self-2 c =
@@ -30,3 +38,8 @@ pub returns-clause-records : goal.returns-clause-records
 returns-clause-records c =
     let (items, taken, fields, depth, left) = c.in_ok-charge.ensures.ok in
     pushed_records _ _ _ items taken left
+
+pub returns-in_default-clause-taken : goal.returns-in_default-clause-taken
+returns-in_default-clause-taken c =
+    let (items, taken, fields, depth, left) = c.in_ok-charge.ensures.ok in
+    λ others h other. taken_alike _ _ _ items others taken left h

@@ -1,4 +1,3 @@
-use Rattle.std.proofs.Common.{◌∙◌, sym, subst}
 use Rattle.wire_base.specs.Spans.{fields_charge}
 use Rattle.wire_base.proofs.Spans.{only_charged}
 use Rattle.wire_base.proofs.unknown_fields_view.UnknownFieldsView.to_owned_fields.Goals as goal
