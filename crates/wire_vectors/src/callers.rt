@@ -15,6 +15,8 @@ ghost use Rattle.wire_codec.specs.StringPayload.{IsString, StringRefusal};
 ghost use Rattle.wire_codec.specs.Taking.{Decodes};
 ghost use Rattle.wire_samples.specs.Person.{PersonTakes, default_person, value_of};
 
+pub mod counter;
+
 use bytes::Buf;
 use std::alloc::Global;
 use wire_codec::{
