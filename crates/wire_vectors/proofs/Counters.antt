@@ -1,5 +1,5 @@
 -- What a `Counter` is written as, and what it takes.
-use Rattle.std.proofs.Common.{◌≡◌, ◌≢◌, ℕ, zero, suc, ◌+◌, ◌≤◌, ◌^◌, ◌-◌, min, List, [], ◌∷◌, ◌++◌}
+use Rattle.std.proofs.Common.{◌≡◌, ◌≢◌, ℕ, zero, suc, ◌+◌, ◌<◌, ◌^◌, List, ◌++◌}
 use Rattle.std.proofs.Common.{length, refl, sym, ap, ◌∙◌, subst, arith, length-append}
 use Rattle.std.proofs.lemmas.List.{append-nil}
 use Rattle.wire_codec.specs.Charge.{payload_charge}
@@ -7,21 +7,25 @@ use Rattle.wire_codec.specs.DecodeError.{DecodeError}
 use Rattle.wire_codec.specs.Fault.{PayloadFault}
 use Rattle.wire_codec.specs.FaultLaws.{NoPayloadBesideFault}
 use Rattle.wire_codec.specs.Field.{Payload, varint}
-use Rattle.wire_codec.specs.Limits.{Limits, Charge, no_charge, uncounted}
-use Rattle.wire_codec.specs.LimitsLaws.{LimitsAddUp}
+use Rattle.wire_codec.specs.Folds.{Folds}
+use Rattle.wire_codec.specs.InRange.{AreFitting, AreNumbered}
+use Rattle.wire_codec.specs.Limits.{Limits, no_charge, uncounted}
+use Rattle.wire_codec.specs.LimitsLaws.{ChargesAddUp, LimitsAddUp}
 use Rattle.wire_codec.specs.Read.{Reads}
-use Rattle.wire_codec.specs.Records.{text, size}
+use Rattle.wire_codec.specs.Records.{plain, text, size}
 use Rattle.wire_codec.specs.Spells.{IsPayload}
 use Rattle.wire_codec.specs.Tag.{tag_text}
 use Rattle.wire_codec.specs.Taken.{TakesPayload}
-use Rattle.wire_codec.specs.Taking.{TakesRecord, IsCharged, NotTaken}
+use Rattle.wire_codec.specs.Taking.{TakesRecord, TakesAll, IsCharged, NotTaken}
+use Rattle.wire_codec.specs.TakingLaws.{RecordsInOrder, TextDecodes}
 use Rattle.wire_codec.specs.Text.{record_text}
 use Rattle.wire_codec.specs.Varint.{IsSpelling, VarintFault, shortest_varint}
 use Rattle.wire_codec.specs.VarintLaws.{NoVarintBesideFault}
 use Rattle.wire_codec.specs.WireType.{WireType}
 use Rattle.wire_codec.specs.WireType.TheVariants as types
 use Rattle.wire_vectors.specs.declared.callers.counter.Counter.{Counter}
-use Rattle.wire_vectors.specs.Counter.{CounterTakes, value, other, value_record, levels_of}
+use Rattle.wire_vectors.specs.Counter.{CounterTakes, value, other, value_record, counter_records}
+use Rattle.wire_vectors.specs.Counter.{levels_of}
 
 -- ---- writing
 
@@ -113,3 +117,36 @@ module _ (l : Limits) (n : ℕ) (w : WireType) (m : Counter) (old : List ℕ) wh
             spelled = read.spelled.spelled;
           }) fault
       at_step (other n_is charged after) = n_is is
+
+-- ---- round trips
+
+abbrev counter_of : ℕ → Counter
+counter_of v = record { value = v }
+
+folded : ChargesAddUp → (v : ℕ)
+    → Folds CounterTakes (counter_of 0) (plain (value_record v)) no_charge (counter_of v)
+folded charges zero = (refl, refl)
+folded charges (suc k) = (
+  counter_of (suc k),
+  no_charge,
+  no_charge,
+  value (suc k) refl refl refl refl,
+  (refl, refl),
+  sym (charges.nothing_first no_charge),
+)
+
+fitting : (v : ℕ) → v < 2 ^ 64 → AreFitting (plain (value_record v))
+fitting zero fits = tt
+fitting (suc k) fits = (fits, tt)
+
+numbered : (v : ℕ) → AreNumbered (plain (value_record v))
+numbered zero = tt
+numbered (suc k) = ((omega arith, omega arith), tt, tt)
+
+-- the text of a counter is decoded to it
+pub read_back : TextDecodes CounterTakes counter_records (counter_of 0) → RecordsInOrder
+    → (l : Limits) (v : ℕ) → v < 2 ^ 64
+    → TakesAll CounterTakes l (counter_of 0) (text (value_record v)) no_charge (counter_of v)
+read_back decodes order l v fits =
+    decodes l (counter_of v) no_charge (fitting v fits) (numbered v) (folded order.charges v)
+    (order.limits.nothing_fits l)
