@@ -7,3 +7,4 @@ pub mod messages;
 pub mod records;
 pub mod scalars;
 pub mod texts;
+pub mod views;
