@@ -18,16 +18,20 @@ pub trait EncodeSink {
     /// that has one saves the copy by `put_shared`.
     const IS_SEGMENTED: bool = false;
 
+    /// Appends one byte.
     fn put_u8(&mut self, value: u8) -> Result<(), EncodeError>
         ensures { Puts most (value ∷ []) (bytes_of self.old) (bytes_of self.new) result };
 
+    /// Appends the bytes.
     fn put_slice(&mut self, bytes: &[u8]) -> Result<(), EncodeError>
         ensures { Puts most bytes.now (bytes_of self.old) (bytes_of self.new) result };
 
+    /// Appends four bytes, the lowest first.
     fn put_u32_le(&mut self, value: u32) -> Result<(), EncodeError>
         ensures { Puts most (to_le_bytes w32 value)
             (bytes_of self.old) (bytes_of self.new) result };
 
+    /// Appends eight bytes, the lowest first.
     fn put_u64_le(&mut self, value: u64) -> Result<(), EncodeError>
         ensures { Puts most (to_le_bytes w64 value)
             (bytes_of self.old) (bytes_of self.new) result };

@@ -13,7 +13,8 @@ use bytes::Buf;
 use std::alloc::{AllocError, Global};
 
 /// Reads the length of a payload that is there as a whole, and is at most `max` bytes, where there
-/// is a maximum. A length above it is `MessageTooLarge`, also where fewer bytes remain.
+/// is a maximum. A length above it is `MessageTooLarge`, also where fewer bytes remain. See
+/// "Length-Delimited Records" of the encoding document.
 pub fn decode_length<B: Buf>(buf: &mut B, max: Option<usize>) -> Result<usize, DecodeError>
     ensures ok { IfOk result (λ len. Reads (B.unread buf.old) (IsSpelling len) (B.unread buf.new)) }
     ensures within { IfOk result (λ len. HasRoom max len) }

@@ -75,6 +75,7 @@ impl Rope {
         self.len
     }
 
+    /// Whether there is no byte.
     pub fn is_empty(&self) -> bool
         ensures { result ≡ (length (rope_bytes self.now) == 0) }
     {

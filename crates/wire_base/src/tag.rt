@@ -22,7 +22,7 @@ pub const FIRST_RESERVED_FIELD_NUMBER: u32 = 19_000;
 /// The last of the field numbers that the format reserves for itself. They are not refused.
 pub const LAST_RESERVED_FIELD_NUMBER: u32 = 19_999;
 
-/// How the payload behind a tag is laid out.
+/// How the payload behind a tag is laid out. See "Message Structure" of the encoding document.
 #[derive(Clone, Copy, Debug, PartialEq, Eq)]
 pub enum WireType {
     Varint = 0,
@@ -54,7 +54,8 @@ impl WireType {
     }
 }
 
-/// What stands before each payload: the field's number, and how the payload is laid out.
+/// What stands before each payload: the field's number, and how the payload is laid out. See
+/// "Message Structure" of the encoding document.
 #[derive(Clone, Copy, Debug, PartialEq, Eq)]
 pub struct Tag {
     field_number: u32,
@@ -83,6 +84,7 @@ impl Tag {
         }
     }
 
+    /// A number from 1 to `MAX_FIELD_NUMBER`.
     pub fn field_number(&self) -> u32
         ensures number { result ≡ tag_number self.now }
         ensures in_range { IsFieldNumber result }
@@ -90,6 +92,7 @@ impl Tag {
         self.field_number
     }
 
+    /// How the payload behind the tag is laid out.
     pub fn wire_type(&self) -> WireType
         ensures { result ≡ tag_type self.now }
     {
@@ -109,7 +112,9 @@ impl Tag {
         put_tag(self.field_number, self.wire_type, sink)
     }
 
-    /// Reads a tag, padded or not, from the front of the buffer.
+    /// Reads a tag, padded or not, from the front of the buffer. A number of 2^32 or more is
+    /// `InvalidFieldNumber`, wire types 6 and 7 are `InvalidWireType`, and field number 0 is
+    /// `InvalidFieldNumber`; a varint's own fault comes first.
     pub fn decode<B: Buf>(buf: &mut B) -> Result<Tag, DecodeError>
         ensures ok { IfOk result (λ tag. Reads (B.unread buf.old)
             (IsTagSpelling (tag_number tag) (tag_type tag)) (B.unread buf.new)) }
@@ -132,7 +137,8 @@ impl Tag {
     }
 
     /// Reads the tag of the next record in the body of a group of this number: none where its end
-    /// tag stands, which is taken.
+    /// tag stands, which is taken. The end tag of another number is `InvalidEndGroup`. See "Groups"
+    /// of the encoding document.
     pub fn decode_in_group<B: Buf>(buf: &mut B, number: u32) -> Result<Option<Tag>, DecodeError>
         ensures record { IfOk result (λ next. IfSome next (λ tag. Reads (B.unread buf.old)
             (IsTagSpelling (tag_number tag) (tag_type tag)) (B.unread buf.new))) }

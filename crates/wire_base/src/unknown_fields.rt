@@ -84,6 +84,7 @@ impl UnknownFields {
         }
     }
 
+    /// Whether there is no record.
     pub fn is_empty(&self) -> bool
         ensures { IsTrue result ↔ (self.now ≡ none) }
     {

@@ -69,6 +69,7 @@ impl<'a> UnknownFieldsView<'a> {
         self.depth = 0;
     }
 
+    /// Whether there is no span.
     pub fn is_empty(&self) -> bool
         ensures { IsTrue result ↔ (self.now ≡ []) }
     {

@@ -96,31 +96,36 @@ impl DecodeOptions {
         }
     }
 
+    /// How many groups and messages may stand in one another.
     pub fn recursion_limit(&self) -> u32
         ensures { result ≡ self.now.recursion_limit }
     {
         self.recursion_limit
     }
 
+    /// How many bytes an input may have.
     pub fn max_message_size(&self) -> usize
         ensures { result ≡ self.now.max_message_size }
     {
         self.max_message_size
     }
 
+    /// How many unknown fields may be kept.
     pub fn unknown_field_limit(&self) -> usize
         ensures { result ≡ self.now.unknown_field_limit }
     {
         self.unknown_field_limit
     }
 
+    /// How many bytes may be charged for elements.
     pub fn element_memory_limit(&self) -> usize
         ensures { result ≡ self.now.element_memory_limit }
     {
         self.element_memory_limit
     }
 
-    /// The value of the records of the whole buffer.
+    /// The value of the records of the whole buffer. An input of too many bytes is
+    /// `MessageTooLarge`, before any of it is read.
     pub fn decode<M: Message, B: Buf>(&self, alloc: Global, buf: &mut B) -> Result<M, DecodeError>
         ensures within { OnOk result (length (B.unread buf.old) ≤ self.now.max_message_size) }
         ensures ok { IfOk result (λ message. Decodes M.takes (limits_of self.now) M.default
@@ -140,6 +145,7 @@ impl DecodeOptions {
         Ok(message)
     }
 
+    /// The value of the records of all the bytes.
     pub fn decode_from_slice<M: Message>(
         &self,
         alloc: Global,
@@ -206,6 +212,8 @@ impl DecodeOptions {
         message.merge(alloc, buf, &mut self.context())
     }
 
+    /// Takes the records of all the bytes into the value, which an input that is too long leaves as
+    /// it was.
     pub fn merge_from_slice<M: Message>(
         &self,
         alloc: Global,

@@ -46,6 +46,7 @@ pub trait Message: Clone + PartialEq + Drop {
     /// What a value makes of a record: what is charged for it, and the value that it becomes.
     ghost takes: { Step Value };
 
+    /// The value of no records.
     fn default_value(alloc: Global) -> Self
         ensures { view result ≡ default };
 
@@ -89,10 +90,12 @@ pub trait Message: Clone + PartialEq + Drop {
         ensures counts { OnErr result (NoCountGrew context.old context.new) }
         ensures kept { B.kept buf.new ≡ B.kept buf.old };
 
+    /// Makes the value that of no records.
     fn clear(&mut self)
         ensures { view self.new ≡ default };
 
-    /// Writes the text with a cache of its own.
+    /// Writes the text with a cache of its own. The size is at most 2,147,483,647 bytes, as the
+    /// condition asks.
     fn encode<S: EncodeSink>(&self, alloc: Global, sink: &mut S) -> Result<(), EncodeError>
         requires { size (records (view self.now)) ≤ 2147483647 }
         ensures { Writes S.most (text (records (view self.now)))
@@ -117,7 +120,7 @@ pub trait Message: Clone + PartialEq + Drop {
         self.write_to(cache, sink)
     }
 
-    /// The size of the text.
+    /// The size of the text in bytes.
     fn encoded_len(&self, alloc: Global) -> Result<u32, EncodeError>
         requires { size (records (view self.now)) ≤ 2147483647 }
         ensures ok { IfOk result (λ len. len ≡ size (records (view self.now))) }
@@ -126,6 +129,8 @@ pub trait Message: Clone + PartialEq + Drop {
         self.compute_size(&mut SizeCache::new(alloc))
     }
 
+    /// Writes the text with a cache of its own, or answers `MessageTooLarge` where it has more than
+    /// 2,147,483,647 bytes.
     fn try_encode<S: EncodeSink>(&self, alloc: Global, sink: &mut S) -> Result<(), EncodeError>
         ensures { TriesToWrite (size (records (view self.now))) S.most
             (text (records (view self.now))) (S.bytes_of sink.old)
@@ -134,6 +139,8 @@ pub trait Message: Clone + PartialEq + Drop {
         self.try_encode_with_cache(&mut SizeCache::new(alloc), sink)
     }
 
+    /// Writes the text with this cache, whose sizes are cleared first, or answers
+    /// `MessageTooLarge`.
     fn try_encode_with_cache<S: EncodeSink>(
         &self,
         cache: &mut SizeCache,
@@ -149,6 +156,7 @@ pub trait Message: Clone + PartialEq + Drop {
         self.write_to(cache, sink)
     }
 
+    /// The size of the text in bytes, or `MessageTooLarge`.
     fn try_encoded_len(&self, alloc: Global) -> Result<u32, EncodeError>
         ensures { TriesToAnswer result (size (records (view self.now)))
             (λ len. len ≡ size (records (view self.now))) }
@@ -156,7 +164,8 @@ pub trait Message: Clone + PartialEq + Drop {
         checked_encode_size(self.compute_size(&mut SizeCache::new(alloc))?)
     }
 
-    /// Writes the size of the text as a varint, and the text.
+    /// Writes the size of the text as a varint, and the text. See "Length-Delimited Records" of the
+    /// encoding document.
     fn encode_length_delimited<S: EncodeSink>(
         &self,
         alloc: Global,
@@ -173,6 +182,7 @@ pub trait Message: Clone + PartialEq + Drop {
         self.write_to(&mut cache, sink)
     }
 
+    /// Writes the size of the text as a varint, and the text, or answers `MessageTooLarge`.
     fn try_encode_length_delimited<S: EncodeSink>(
         &self,
         alloc: Global,
@@ -203,6 +213,7 @@ pub trait Message: Clone + PartialEq + Drop {
         Ok(bytes)
     }
 
+    /// The text in a vector of just its length, or `MessageTooLarge`.
     fn try_encode_to_vec(&self, alloc: Global) -> Result<Vec<u8>, EncodeError>
         ensures { TriesToAnswer result (size (records (view self.now)))
             (λ bytes. bytes.items ≡ text (records (view self.now))) }
@@ -214,6 +225,7 @@ pub trait Message: Clone + PartialEq + Drop {
         Ok(bytes)
     }
 
+    /// The text as shared bytes.
     fn encode_to_bytes(&self, alloc: Global) -> Result<Bytes, EncodeError>
         requires { size (records (view self.now)) ≤ 2147483647 }
         ensures ok { IfOk result (λ bytes. bytes ≡ text (records (view self.now))) }
@@ -222,6 +234,7 @@ pub trait Message: Clone + PartialEq + Drop {
         Ok(Bytes::from_vec(self.encode_to_vec(alloc)?)?)
     }
 
+    /// The text as shared bytes, or `MessageTooLarge`.
     fn try_encode_to_bytes(&self, alloc: Global) -> Result<Bytes, EncodeError>
         ensures { TriesToAnswer result (size (records (view self.now)))
             (λ bytes. bytes ≡ text (records (view self.now))) }
@@ -229,7 +242,8 @@ pub trait Message: Clone + PartialEq + Drop {
         Ok(Bytes::from_vec(self.try_encode_to_vec(alloc)?)?)
     }
 
-    /// Writes the text where it has at most so many bytes, and answers its size.
+    /// Writes the text where it has at most so many bytes, and answers its size. More are
+    /// `ExceedsBudget`, and more than 2,147,483,647 `MessageTooLarge`.
     fn try_encode_bounded<S: EncodeSink>(
         &self,
         alloc: Global,
@@ -242,6 +256,7 @@ pub trait Message: Clone + PartialEq + Drop {
         self.try_encode_bounded_with_cache(max_bytes, &mut SizeCache::new(alloc), sink)
     }
 
+    /// The same with this cache, whose sizes are cleared first.
     fn try_encode_bounded_with_cache<S: EncodeSink>(
         &self,
         max_bytes: u32,
@@ -335,7 +350,7 @@ pub trait Message: Clone + PartialEq + Drop {
     }
 
     /// Takes the records of an embedded message, a length and a payload, into the value, one level
-    /// down.
+    /// down. See "Submessages" of the encoding document.
     fn merge_length_delimited<B: Buf>(
         &mut self,
         alloc: Global,
@@ -363,7 +378,7 @@ pub trait Message: Clone + PartialEq + Drop {
     }
 
     /// Takes the records of a group of this number into the value, up to its end tag, one level
-    /// down.
+    /// down. See "Groups" of the encoding document.
     fn merge_group<B: Buf>(
         &mut self,
         alloc: Global,
@@ -427,6 +442,7 @@ pub trait Message: Clone + PartialEq + Drop {
         Ok(message)
     }
 
+    /// The value of the records of all the bytes, within the limits of `decode`.
     fn decode_from_slice(alloc: Global, bytes: &[u8]) -> Result<Self, DecodeError>
         ensures ok { IfOk result (λ message. Decodes takes
             (with_elements (counted 100 1000000) 33554432) default bytes.now (view message)) }

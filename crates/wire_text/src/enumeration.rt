@@ -25,9 +25,11 @@ pub trait Enumeration: Clone + Copy + PartialEq + Eq + Hash + Debug {
     /// Holds of a value and each name by which it is found. A value may have names beside its own.
     ghost is_named: { Self → List ℕ → Type 0 } = { λ _ _. ⊤ };
 
+    /// The value of a number, where the enum has one.
     fn from_i32(value: i32) -> Option<Self>
         ensures { result ≡ of_number value };
 
+    /// The number of the value.
     fn to_i32(&self) -> i32
         ensures { result ≡ number self.now };
 
@@ -59,6 +61,7 @@ pub enum EnumValue<E: Enumeration> {
 }
 
 impl<E: Enumeration> EnumValue<E> {
+    /// A value that the enum has.
     pub fn from_known(variant: E) -> EnumValue<E>
         ensures { result ≡ Known variant }
     {
@@ -75,18 +78,21 @@ impl<E: Enumeration> EnumValue<E> {
         }
     }
 
+    /// Whether the enum has the value.
     pub fn is_known(&self) -> bool
         ensures { result ≡ is_some (known self.now) }
     {
         matches!(self, EnumValue::Known(_))
     }
 
+    /// Whether there is a number alone.
     pub fn is_unknown(&self) -> bool
         ensures { result ≡ is_none (known self.now) }
     {
         matches!(self, EnumValue::Unknown(_))
     }
 
+    /// The value, where the enum has it.
     pub fn as_known(&self) -> Option<E>
         ensures { result ≡ known self.now }
     {

@@ -30,6 +30,7 @@ pub trait ProtoBytes: Clone + PartialEq + Debug + Drop {
     fn from_vec(alloc: Global, value: Vec<u8>) -> Result<Self, DecodeError>
         ensures ok { IfOk result (λ made. bytes made ≡ value.items) };
 
+    /// The bytes of the value.
     fn as_slice(&self) -> &[u8]
         ensures { result.now ≡ bytes self.now };
 

@@ -16,6 +16,7 @@ pub trait ProtoList<T: Drop>: Clone + PartialEq + Debug + Drop {
         ensures err { IfErr result (λ back. back ≡ value) }
         ensures unchanged { OnErr result (items self.new ≡ items self.old) };
 
+    /// Takes all elements out.
     fn clear(&mut self)
         ensures { items self.new ≡ [] };
 
@@ -27,6 +28,7 @@ pub trait ProtoList<T: Drop>: Clone + PartialEq + Debug + Drop {
         Ok(())
     }
 
+    /// The elements in order.
     fn as_slice(&self) -> &[T]
         ensures { result.now ≡ items self.now };
 

@@ -28,9 +28,11 @@ pub trait ProtoString: Clone + PartialEq + Debug + Drop {
         ensures err { IfErr result (λ e. (e ≡ OutOfMemory) ⊎ answers (payload_bytes payload.entry)
             (Err e)) };
 
+    /// A value of this text. It may be refused, for want of memory or by the type.
     fn from_text(alloc: Global, value: &str) -> Result<Self, DecodeError>
         ensures ok { IfOk result (λ made. text made ≡ value.now) };
 
+    /// The text of the value.
     fn as_str(&self) -> &str
         ensures { result.now ≡ text self.now };
 

@@ -34,6 +34,7 @@ impl<'a> Clone for WirePayload<'a> {
 impl<'a> WirePayload<'a> {
     ghost use Rattle.wire_text.specs.WirePayload.{payload_bytes, is_owned_payload};
 
+    /// A payload that is lent.
     pub fn borrowed(bytes: &'a [u8]) -> WirePayload<'a>
         ensures bytes { payload_bytes result ≡ bytes.now }
         ensures source { is_owned_payload result ≡ false }
@@ -43,6 +44,7 @@ impl<'a> WirePayload<'a> {
         }
     }
 
+    /// A payload that is handed over.
     pub fn owned(bytes: Bytes) -> WirePayload<'a>
         ensures bytes { payload_bytes result ≡ bytes }
         ensures source { is_owned_payload result ≡ true }
@@ -52,6 +54,7 @@ impl<'a> WirePayload<'a> {
         }
     }
 
+    /// The bytes of the payload.
     pub fn as_slice(&self) -> &[u8]
         ensures { result.now ≡ payload_bytes self.now }
     {
@@ -61,18 +64,21 @@ impl<'a> WirePayload<'a> {
         }
     }
 
+    /// How many bytes the payload has.
     pub fn len(&self) -> usize
         ensures { result ≡ length (payload_bytes self.now) }
     {
         self.as_slice().len()
     }
 
+    /// Whether the payload has no byte.
     pub fn is_empty(&self) -> bool
         ensures { result ≡ (length (payload_bytes self.now) == 0) }
     {
         self.as_slice().is_empty()
     }
 
+    /// Whether the payload was handed over, and not lent.
     pub fn is_owned(&self) -> bool
         ensures { result ≡ is_owned_payload self.now }
     {
