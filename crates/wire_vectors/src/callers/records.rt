@@ -51,7 +51,8 @@ pub fn without(
     Ok((again, fields))
 }
 
-/// A rope of one record, a file in field 2. A file of 4,096 bytes or more is not copied.
+/// A rope of one record, a file in field 2. A file of 4,096 bytes or more is a segment of
+/// its own.
 pub fn attached(alloc: Global, file: Bytes) -> Result<Rope, EncodeError>
     ensures ok { IfOk result (λ rope. rope_bytes rope
         ≡ (tag_text 2 LengthDelimited ++ shortest_varint (length file)) ++ file) }
