@@ -1,6 +1,7 @@
 //! Worked rows. Each is a check that can be run while memory is refused, too: it then answers its
 //! own or want of memory, and where a call was refused it looks at what stands afterwards.
 mod agreements;
+mod callers;
 mod chunks;
 mod enums;
 mod lists;

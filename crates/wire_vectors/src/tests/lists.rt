@@ -210,10 +210,40 @@ fn reserves<L: ProtoList<u32>>(alloc: Global) -> Result<bool, Stop> {
     Ok(true)
 }
 
-pub(super) fn rows(alloc: Global) -> [Found; 2] {
+// A list that makes room for nothing before it is there.
+#[derive(Clone, Debug, PartialEq, Drop)]
+struct Unreserved {
+    elements: Vec<u32>,
+}
+
+impl ProtoList<u32> for Unreserved {
+    ghost items = { λ list. list.elements.items };
+
+    fn push(&mut self, value: u32) -> Result<(), u32> {
+        self.elements.push(value).map_err(|refused| refused.value)
+    }
+
+    fn clear(&mut self) {
+        self.elements.clear()
+    }
+
+    fn as_slice(&self) -> &[u32] {
+        self.elements.as_slice()
+    }
+
+    fn empty(alloc: Global) -> Unreserved {
+        Unreserved {
+            elements: Vec::new(alloc),
+        }
+    }
+}
+
+pub(super) fn rows(alloc: Global) -> [Found; 4] {
     [
         found_in(pushes::<Vec<u32>>(alloc)),
         found_in(reserves::<Vec<u32>>(alloc)),
+        found_in(pushes::<Unreserved>(alloc)),
+        found_in(reserves::<Unreserved>(alloc)),
     ]
 }
 
