@@ -6,7 +6,8 @@ ghost use Rattle.wire_base.specs.Limits.{Fits, counted, with_elements, one_field
 use crate::error::DecodeError;
 use std::marker::Model;
 
-/// How many groups or messages may stand in one another, where a caller names no limit.
+/// How many groups or messages may stand in one another, the outermost message not counted, where a
+/// caller names no limit.
 pub const RECURSION_LIMIT: u32 = 100;
 
 /// How many unknown fields are kept, where a caller names no limit.
@@ -79,7 +80,7 @@ impl DecodeContext {
         self.element_memory
     }
 
-    /// Takes one level.
+    /// Takes one level, or answers `RecursionLimitExceeded` where none is left.
     pub fn descend(&mut self) -> Result<(), DecodeError>
         ensures ok { OnOk result (self.new ≡ inner self.old) }
         ensures taken { OnOk result (0 < self.old.depth) }
@@ -95,7 +96,7 @@ impl DecodeContext {
         Ok(())
     }
 
-    /// Gives one level back.
+    /// Gives one level back, to a context with fewer than `u32::MAX`, as one has after `descend`.
     pub fn ascend(&mut self)
         requires { self.old.depth < 2 ^ 32 - 1 }
         ensures { self.new ≡ outer self.old }
@@ -103,7 +104,8 @@ impl DecodeContext {
         self.depth += 1;
     }
 
-    /// Takes the slot of one unknown field.
+    /// Takes the slot of one unknown field, or answers `UnknownFieldLimitExceeded` where none is
+    /// left.
     pub fn register_unknown_field(&mut self) -> Result<(), DecodeError>
         ensures ok { OnOk result (self.new ≡ left_after self.old one_field) }
         ensures taken { OnOk result (Fits one_field self.old) }
@@ -118,7 +120,8 @@ impl DecodeContext {
         Ok(())
     }
 
-    /// Takes so many bytes for an element. Without a limit nothing changes.
+    /// Takes so many bytes for an element, or answers `ElementMemoryLimitExceeded` where fewer are
+    /// left. Without a limit nothing changes.
     pub fn register_element_memory(&mut self, bytes: usize) -> Result<(), DecodeError>
         ensures ok { OnOk result (self.new ≡ left_after self.old (element_of bytes)) }
         ensures taken { OnOk result (Fits (element_of bytes) self.old) }

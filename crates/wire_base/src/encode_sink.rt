@@ -6,7 +6,9 @@ ghost use Rattle.wire_base.specs.Sink.{Puts};
 use crate::error::EncodeError;
 use bytes::{BufMut, Bytes, BytesMut};
 
-/// A growing list of bytes. A put appends all of its bytes or none.
+/// A growing list of bytes. A put appends all of its bytes or none: it answers `LengthOverflow`
+/// exactly where all bytes of the sink would then be more than it can count, and else `OutOfMemory`
+/// where it finds no room. A call of several puts leaves those before the refused one.
 pub trait EncodeSink {
     /// The bytes that were put, in order.
     ghost bytes_of: { Self → List ℕ };
@@ -36,7 +38,7 @@ pub trait EncodeSink {
         ensures { Puts most (to_le_bytes w64 value)
             (bytes_of self.old) (bytes_of self.new) result };
 
-    /// The two's complement, lowest byte first.
+    /// Appends the four bytes of the two's complement, the lowest first.
     fn put_i32_le(&mut self, value: i32) -> Result<(), EncodeError>
         ensures { Puts most (to_le_bytes w32 (cast_unsigned w32 value))
             (bytes_of self.old) (bytes_of self.new) result }
@@ -44,7 +46,7 @@ pub trait EncodeSink {
         self.put_u32_le(value.cast_unsigned())
     }
 
-    /// The two's complement, lowest byte first.
+    /// Appends the eight bytes of the two's complement, the lowest first.
     fn put_i64_le(&mut self, value: i64) -> Result<(), EncodeError>
         ensures { Puts most (to_le_bytes w64 (cast_unsigned w64 value))
             (bytes_of self.old) (bytes_of self.new) result }

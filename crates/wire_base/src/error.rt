@@ -8,11 +8,12 @@ use thiserror::Error;
 /// Why bytes do not decode.
 #[derive(Clone, Debug, PartialEq, Eq, Drop, Error)]
 pub enum DecodeError {
-    /// The bytes end inside a varint, a fixed-width value, a payload or a group.
+    /// The bytes end before a varint, a fixed-width value, a payload or a group does, or a record
+    /// runs past the payload that it stands in.
     #[error("unexpected end of buffer")]
     UnexpectedEof,
 
-    /// A varint goes on past ten bytes, or its tenth byte has a bit beyond 64.
+    /// A varint goes on past ten bytes, or its tenth byte has a bit beyond the 64th.
     #[error("varint exceeded maximum length of 10 bytes")]
     VarintTooLong,
 
@@ -24,11 +25,11 @@ pub enum DecodeError {
     #[error("invalid field number")]
     InvalidFieldNumber,
 
-    /// A message, or the length before one, is past a limit on its size.
+    /// An input, or the length before a payload, is past a limit on its size.
     #[error("message length exceeds the size limit (2 GiB protobuf maximum, or a configured DecodeOptions limit)")]
     MessageTooLarge,
 
-    /// A known field came with another wire type than its own.
+    /// A known field came with another wire type than its own; both are given by their numbers.
     #[error("wire type mismatch on field {field_number}: expected {expected}, got {actual}")]
     WireTypeMismatch {
         field_number: u32,
@@ -44,7 +45,7 @@ pub enum DecodeError {
     #[error("recursion limit exceeded")]
     RecursionLimitExceeded,
 
-    /// A group was ended by the end tag of another field number, which this is.
+    /// A group was ended by the end tag of another field number, which is given.
     #[error("invalid end-group tag: field number {0}")]
     InvalidEndGroup(u32),
 
@@ -84,7 +85,7 @@ pub enum EncodeError {
     #[error("out of memory")]
     OutOfMemory,
 
-    /// A length is past `usize::MAX`.
+    /// A length is past `usize::MAX`, or past what a sink can count.
     #[error("length does not fit")]
     LengthOverflow,
 }

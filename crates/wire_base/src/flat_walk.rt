@@ -16,13 +16,17 @@ use crate::tag::{Tag, WireType};
 pub struct UnknownSpanCharge {
     /// The unknown fields that were taken, those in groups counted too.
     pub fields: usize,
-    /// The greatest level of the walk. Where the span is records, it is how deep their groups nest.
+    /// The greatest level of the walk, at most `u32::MAX`. Where the span is records that nest less
+    /// than 2^32 deep, it is how deep their groups nest.
     pub depth: u32,
 }
 
 /// Takes the slots of the records in a span from the context, as decoding them would, and keeps
-/// nothing. It walks from tag to tag: an end tag is not compared with the start tag of its group and
-/// changes nothing where no group is open, groups may be left open, and no level is taken.
+/// nothing. It walks from tag to tag: an end tag is not compared with the start tag of its group
+/// and changes nothing where no group is open, groups may be left open, and no level is taken.
+/// Refused with the first fault from the left: of a tag as `Tag::decode`, with
+/// `UnknownFieldLimitExceeded` where its record has no slot, or of a payload, which is never that
+/// of a group, as `skip_field_depth`. A refused walk may have used up slots.
 pub fn register_unknown_record(
     span: &[u8],
     context: &mut DecodeContext,

@@ -13,8 +13,9 @@ use bytes::Buf;
 use std::alloc::{AllocError, Global};
 
 /// Reads the length of a payload that is there as a whole, and is at most `max` bytes, where there
-/// is a maximum. A length above it is `MessageTooLarge`, also where fewer bytes remain. See
-/// "Length-Delimited Records" of the encoding document.
+/// is a maximum. The fault of its varint comes first, then `MessageTooLarge` for a length above
+/// `max`, then `UnexpectedEof` where fewer bytes remain. See "Length-Delimited Records" of the
+/// encoding document.
 pub fn decode_length<B: Buf>(buf: &mut B, max: Option<usize>) -> Result<usize, DecodeError>
     ensures ok { IfOk result (λ len. Reads (B.unread buf.old) (IsSpelling len) (B.unread buf.new)) }
     ensures within { IfOk result (λ len. HasRoom max len) }
@@ -60,7 +61,8 @@ pub(crate) fn skip_bytes<B: Buf>(buf: &mut B, len: u64) -> Result<(), DecodeErro
     Ok(())
 }
 
-/// Copies so many bytes, which are there, into a vector of just their size.
+/// Copies so many bytes, which are there, into a vector of just their size. Refused where there is
+/// no memory for them; the buffer then stays.
 #[inline(always)]
 pub fn take_bytes<B: Buf>(alloc: Global, buf: &mut B, len: usize) -> Result<Vec<u8>, AllocError>
     requires there { len ≤ length (B.unread buf.old) }

@@ -13,13 +13,13 @@ mod sink;
 
 pub use buf::RopeBuf;
 
-/// How many bytes a shared run has at least that a `Rope` keeps as a segment of its own, where the
-/// caller asks for no other number.
+/// The least number of bytes of a shared run that a `Rope` keeps as a segment of its own, where the
+/// caller asks for no other.
 pub const DEFAULT_MIN_SEGMENT: usize = 4096;
 
 /// A sink that copies no long shared run: it has finished segments, none of them empty, and behind
 /// them a tail that the short puts go to. Its bytes are these joined in order, at most
-/// `usize::MAX`.
+/// `usize::MAX`; more are `LengthOverflow`.
 #[derive(Drop)]
 pub struct Rope {
     finished: Vec<Bytes>,
@@ -109,7 +109,7 @@ impl Rope {
         Ok(finished)
     }
 
-    /// A copy of all the bytes in one run.
+    /// A copy of all the bytes in one run, or `OutOfMemory`.
     pub fn to_contiguous_bytes(&self) -> Result<Bytes, EncodeError>
         ensures ok { IfOk result (λ bytes. bytes ≡ rope_bytes self.now) }
         ensures err { IfErr result (λ e. e ≡ OutOfMemory) }

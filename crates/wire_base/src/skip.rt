@@ -16,7 +16,8 @@ use crate::tag::{Tag, WireType};
 use crate::varint::decode_varint;
 use bytes::Buf;
 
-/// Passes over the payload of a tag that was read, in which groups nest at most 100 deep.
+/// Passes over the payload of a tag that was read, in which groups, its own counted, nest at most
+/// 100 deep. Refused as `skip_field_depth`.
 #[inline(always)]
 pub fn skip_field<B: Buf>(tag: Tag, buf: &mut B) -> Result<(), DecodeError>
     ensures ok { OnOk result ((p : Payload) × TakesPayload (payload_charge p) (uncounted 100)
@@ -36,8 +37,13 @@ pub fn skip_field<B: Buf>(tag: Tag, buf: &mut B) -> Result<(), DecodeError>
     skip_field_depth(tag, buf, RECURSION_LIMIT)
 }
 
-/// Passes over the payload of a tag that was read, in which groups nest at most so deep. It agrees
-/// with `decode_unknown_field` under as many levels.
+/// Passes over the payload of a tag that was read, in which groups, its own counted, nest at most
+/// `depth` deep. Refused with the first fault from the left: as `decode_varint`, as `decode_length`
+/// without a maximum, as `Tag::decode_in_group`, with `UnexpectedEof` where a payload of a fixed
+/// width is cut short, with `RecursionLimitExceeded` at a group too deep, and with
+/// `InvalidWireType` where the tag itself is an end tag. But for slots and memory it agrees with
+/// `decode_unknown_field` under as many levels. See "Message Structure" and "Groups" of the
+/// encoding document.
 #[inline(always)]
 pub fn skip_field_depth<B: Buf>(tag: Tag, buf: &mut B, depth: u32) -> Result<(), DecodeError>
     ensures ok { OnOk result ((p : Payload) × TakesPayload (payload_charge p) (uncounted depth)

@@ -37,7 +37,8 @@ impl WireType {
     ghost use Rattle.wire_base.specs.declared.error.DecodeError.TheVariants.{InvalidWireType};
     ghost use Rattle.wire_base.specs.Tag.{wire_number};
 
-    /// The wire type of a number, which is the low three bits of a tag.
+    /// The wire type of a number, which is the low three bits of a tag. A number above 5 is
+    /// `InvalidWireType`.
     pub fn from_u32(value: u32) -> Result<WireType, DecodeError>
         ensures ok { IfOk result (λ wire_type. wire_number wire_type ≡ value) }
         ensures err { IfErr result (λ e. (5 < value) × (e ≡ InvalidWireType value)) }
@@ -99,7 +100,7 @@ impl Tag {
         self.wire_type
     }
 
-    /// Writes the shortest text of the tag.
+    /// Writes the shortest text of the tag. Refused where the sink refuses a byte.
     #[inline(always)]
     pub fn encode<S: EncodeSink>(&self, sink: &mut S) -> Result<(), EncodeError>
         ensures ok { OnOk result (S.bytes_of sink.new
@@ -137,8 +138,9 @@ impl Tag {
     }
 
     /// Reads the tag of the next record in the body of a group of this number: none where its end
-    /// tag stands, which is taken. The end tag of another number is `InvalidEndGroup`. See "Groups"
-    /// of the encoding document.
+    /// tag stands, which is taken. The end tag of another number is `InvalidEndGroup`. Refused else
+    /// as `Tag::decode`, so with `UnexpectedEof` where the bytes end before the group does. See
+    /// "Groups" of the encoding document.
     pub fn decode_in_group<B: Buf>(buf: &mut B, number: u32) -> Result<Option<Tag>, DecodeError>
         ensures record { IfOk result (λ next. IfSome next (λ tag. Reads (B.unread buf.old)
             (IsTagSpelling (tag_number tag) (tag_type tag)) (B.unread buf.new))) }

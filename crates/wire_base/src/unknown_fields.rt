@@ -14,14 +14,16 @@ mod write;
 
 pub use decode::decode_unknown_field;
 
-/// Records in the order in which they came. A contract sees a value as its records.
+/// Records in the order in which they came. A contract sees a value as its records. What goes over
+/// a value, its clone and drop too, recurses as deep as its groups nest. See "Message Structure" of
+/// the encoding document.
 #[cycle(unknown)]
 #[derive(Debug, Drop)]
 pub struct UnknownFields {
     fields: Vec<UnknownField>,
 }
 
-/// A record: its field number, and its payload.
+/// A record: its field number, and its payload. See "Message Structure" of the encoding document.
 ///
 /// The number is any `u32`; decoding gives one from 1 to `MAX_FIELD_NUMBER`.
 #[cycle(unknown)]
@@ -135,6 +137,7 @@ impl UnknownFields {
     }
 
     /// Keeps the records, in order, of which the test answers true. It is asked once of each.
+    /// Records in groups are not asked: they stay or go with their group.
     pub fn retain<F: Fn(&UnknownField) -> bool + Drop>(&mut self, test: F)
         requires { F.IsAlwaysCallable test }
         ensures kept { KeptBy (IsFiltered (CalledAt F.FnMut) test) self.old self.new }

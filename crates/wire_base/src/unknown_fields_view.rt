@@ -24,8 +24,8 @@ use std::iter::Copied;
 use std::marker::Model;
 use std::slice;
 
-/// Spans of unknown fields, borrowed from the input, with what flat walks over them charge. A
-/// contract sees a value as its spans.
+/// Spans of unknown fields, borrowed from the input, with what `register_unknown_record` found in
+/// them. A contract sees a value as its spans. See "Message Structure" of the encoding document.
 ///
 /// A span is counted when it is pushed, and read when it is replayed: until then its end tags were
 /// not compared with its start tags.
@@ -83,9 +83,9 @@ impl<'a> UnknownFieldsView<'a> {
         self.spans.len()
     }
 
-    /// Adds a span at the end, and takes its slots from the context as `register_unknown_record`
-    /// does. No byte is copied: memory is wanted for the list of spans alone, and before all else,
-    /// so that its refusal changes nothing. Any other refusal leaves the spans as they were.
+    /// Adds a span at the end, and takes its slots from the context. No byte is copied: memory is
+    /// wanted for the list of spans alone, and before all else, so that `OutOfMemory` changes
+    /// nothing. Else refused as `register_unknown_record`, and the spans are as they were.
     /// `UnknownFieldLimitExceeded` also comes where the slots of all spans would be more than
     /// `usize::MAX`; those of this one are then gone from the context.
     pub fn push_span(
@@ -158,7 +158,8 @@ impl<'a> UnknownFieldsView<'a> {
         Ok(len)
     }
 
-    /// Writes the spans as they came, one put for each. Nothing is shortened.
+    /// Writes the spans as they came, one put for each. Nothing is shortened. Refused where the
+    /// sink refuses a put.
     pub fn write_to<S: EncodeSink>(&self, sink: &mut S) -> Result<(), EncodeError>
         ensures ok { OnOk result (S.bytes_of sink.new ≡ S.bytes_of sink.old ++ concat self.now) }
         ensures err { OnErr result (KeepsFront (S.bytes_of sink.old)
@@ -171,9 +172,10 @@ impl<'a> UnknownFieldsView<'a> {
         Ok(())
     }
 
-    /// Reads each span as records to its own end, under the limits of the context. The first that
-    /// does not spell records within what is left is refused with its fault as a list. A refused
-    /// attempt may have used up slots of the context, and leaves its depth open.
+    /// Reads each span as records to its own end, under the limits of the context. Refused as
+    /// `UnknownFields::decode_from_slice_within` refuses the first span that does not spell records
+    /// within what is left, or with `OutOfMemory`. A refused attempt may have used up slots and
+    /// levels of the context.
     pub fn replay(
         &self,
         alloc: Global,
@@ -225,8 +227,8 @@ impl<'a> UnknownFieldsView<'a> {
     }
 
     /// Reads the spans as records under just the levels and slots that they were charged, which
-    /// suffice where they spell records whose groups nest less than 2^32 deep. It recurses as deep
-    /// as `depth` says, which no limit bounds but the slots.
+    /// suffice where they spell records whose groups nest less than 2^32 deep. Refused as `replay`.
+    /// It recurses as deep as `depth` says, which no limit bounds but the slots.
     pub fn to_owned_fields(&self, alloc: Global) -> Result<UnknownFields, DecodeError>
         ensures each { IfOk result (λ fs. SpellEach self.now fs) }
         ensures spelled { IfOk result (λ fs. Spells fs (concat self.now)) }

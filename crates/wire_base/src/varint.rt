@@ -19,7 +19,8 @@ pub fn varint_len(value: u64) -> usize
     value.max(1).ilog2() as usize / 7 + 1
 }
 
-/// Writes the shortest varint of a number. See "Base 128 Varints" of the encoding document.
+/// Writes the shortest varint of a number. See "Base 128 Varints" of the encoding document. Refused
+/// where the sink refuses a byte.
 pub fn encode_varint<S: EncodeSink>(value: u64, sink: &mut S) -> Result<(), EncodeError>
     ensures ok { OnOk result (S.bytes_of sink.new ≡ S.bytes_of sink.old ++ shortest_varint value) }
     ensures err { OnErr result (KeepsFront (S.bytes_of sink.old)
@@ -34,9 +35,9 @@ pub fn encode_varint<S: EncodeSink>(value: u64, sink: &mut S) -> Result<(), Enco
     sink.put_u8(rest as u8)
 }
 
-/// Reads a varint, padded with zeros or not, from the front of the buffer. One of one byte or two
-/// is read at once. Nine bytes of 0x80 or more and then one above 1 are `VarintTooLong`, and fewer
-/// than ten bytes, all of 0x80 or more, are `UnexpectedEof`.
+/// Reads a varint, padded with zeros or not, from the front of the buffer. Nine bytes of 0x80 or
+/// more and then one above 1 are `VarintTooLong`, and fewer than ten bytes, all of 0x80 or more,
+/// are `UnexpectedEof`. See "Base 128 Varints" of the encoding document.
 #[inline(always)]
 pub fn decode_varint<B: Buf>(buf: &mut B) -> Result<u64, DecodeError>
     ensures ok { IfOk result (λ v. Reads (B.unread buf.old) (IsSpelling v) (B.unread buf.new)) }
@@ -96,7 +97,8 @@ fn decode_varint_slow<B: Buf>(buf: &mut B) -> Result<u64, DecodeError>
     Ok(value | u64::from(byte) << 63)
 }
 
-/// How many varints end in the bytes: the number of bytes below 0x80.
+/// How many varints end in the bytes: the number of bytes below 0x80. See "Packed Repeated Fields"
+/// of the encoding document.
 pub fn count_varints(payload: &[u8]) -> usize
     ensures { result ≡ count_by (λ byte. nat_lt byte 128) payload.now }
 {

@@ -16,7 +16,8 @@ use std::alloc::Global;
 use std::marker::Model;
 use wire_base::{DEFAULT_UNKNOWN_FIELD_LIMIT, DecodeContext, DecodeError, RECURSION_LIMIT};
 
-/// How many bytes the elements that message types charge may take, where a caller names no limit.
+/// How many bytes the elements that message types charge may take in `Message::decode`, and under
+/// `DecodeOptions` that name no limit.
 pub const DEFAULT_ELEMENT_MEMORY_LIMIT: usize = 33_554_432;
 
 /// Limits for decoding: levels of nesting, bytes of an input, unknown fields, and bytes for the
@@ -56,7 +57,7 @@ impl DecodeOptions {
         }
     }
 
-    /// How many groups and messages may stand in one another.
+    /// How many groups and messages may stand in one another, the outermost message not counted.
     pub fn with_recursion_limit(self, limit: u32) -> DecodeOptions
         ensures { result ≡ with_recursion self limit }
     {
@@ -66,7 +67,7 @@ impl DecodeOptions {
         }
     }
 
-    /// How many bytes an input may have. More than 2,147,483,647 are no more than these.
+    /// How many bytes an input may have. A limit above 2,147,483,647 counts as 2,147,483,647.
     pub fn with_max_message_size(self, limit: usize) -> DecodeOptions
         ensures { result ≡ with_message_size self limit }
     {
@@ -125,7 +126,8 @@ impl DecodeOptions {
     }
 
     /// The value of the records of the whole buffer. An input of too many bytes is
-    /// `MessageTooLarge`, before any of it is read.
+    /// `MessageTooLarge`, before any of it is read; else refused as `Message::merge` under these
+    /// limits.
     pub fn decode<M: Message, B: Buf>(&self, alloc: Global, buf: &mut B) -> Result<M, DecodeError>
         ensures within { OnOk result (length (B.unread buf.old) ≤ self.now.max_message_size) }
         ensures ok { IfOk result (λ message. Decodes M.takes (limits_of self.now) M.default
@@ -145,7 +147,7 @@ impl DecodeOptions {
         Ok(message)
     }
 
-    /// The value of the records of all the bytes.
+    /// The value of the records of all the bytes. Refused as `decode`.
     pub fn decode_from_slice<M: Message>(
         &self,
         alloc: Global,
@@ -164,7 +166,8 @@ impl DecodeOptions {
         self.decode(alloc, &mut buf)
     }
 
-    /// The value of a length-delimited payload of no more bytes than an input may have.
+    /// The value of a length-delimited payload of no more bytes than an input may have. Refused as
+    /// `Message::merge_delimited` under these limits.
     pub fn decode_length_delimited<M: Message, B: Buf>(
         &self,
         alloc: Global,
@@ -185,8 +188,8 @@ impl DecodeOptions {
         Ok(message)
     }
 
-    /// Takes the records of the whole buffer into the value. An input that is too long leaves the
-    /// value and the buffer as they were.
+    /// Takes the records of the whole buffer into the value. Refused as `decode`. An input that is
+    /// too long leaves the value and the buffer as they were.
     pub fn merge<M: Message, B: Buf>(
         &self,
         alloc: Global,
@@ -212,8 +215,8 @@ impl DecodeOptions {
         message.merge(alloc, buf, &mut self.context())
     }
 
-    /// Takes the records of all the bytes into the value, which an input that is too long leaves as
-    /// it was.
+    /// Takes the records of all the bytes into the value. Refused as `decode`. An input that is too
+    /// long leaves the value as it was.
     pub fn merge_from_slice<M: Message>(
         &self,
         alloc: Global,

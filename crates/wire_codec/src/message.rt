@@ -28,7 +28,8 @@ use wire_base::{
     DecodeContext, DecodeError, EncodeError, EncodeSink, Tag, decode_length, encode_varint, laws,
 };
 
-/// A type whose values are encoded as records.
+/// A type whose values are encoded as records. See "Submessages" and "Field Order" of the encoding
+/// document.
 ///
 /// A value is measured in one pass, which records the sizes of the embedded messages, and written
 /// in a second one, which reads them.
@@ -51,14 +52,16 @@ pub trait Message: Clone + PartialEq + Drop {
         ensures { view result ≡ default };
 
     /// Records the sizes of the embedded messages, an outer one before its inner ones, and answers
-    /// the size of the text. Each is cut at `u32::MAX`.
+    /// the size of the text in bytes. Each is cut at `u32::MAX`. Refused where memory runs out.
     fn compute_size(&self, cache: &mut SizeCache) -> Result<u32, EncodeError>
         ensures size { IfOk result (λ answer. answer ≡ cut (size (records (view self.now)))) }
         ensures sizes { OnOk result (cache.new
             ≡ recorded cache.old (cut_sizes (records (view self.now)))) }
         ensures err { IfErr result (λ e. e ≡ OutOfMemory) };
 
-    /// Writes the shortest text of the records, with the sizes that the cache has next.
+    /// Writes the shortest text of the records, of at most 2,147,483,647 bytes, with the sizes that
+    /// the cache has next, which are those that `compute_size` recorded, as the conditions ask.
+    /// Refused where the sink refuses a put.
     fn write_to<S: EncodeSink>(
         &self,
         cache: &mut SizeCache,
@@ -72,8 +75,11 @@ pub trait Message: Clone + PartialEq + Drop {
             ≡ advanced cache.old (length (sizes (records (view self.now))))) };
 
     /// Reads the payload behind this tag and takes the record into the value. An end tag has no
-    /// payload, and is refused. A refusal leaves open what the value holds, the place of the buffer
-    /// and the depth of the context.
+    /// payload, and is refused; a known field of another wire type is, by custom,
+    /// `WireTypeMismatch`. Any error but `OutOfMemory` says that the type does not take the record
+    /// within the limits; which one it is, is the type's. A refusal leaves open what the value
+    /// holds, the place of the buffer and the depth of the context, and may have used up counts of
+    /// it. See "Message Structure" and "Last One Wins" of the encoding document.
     fn merge_field<B: Buf>(
         &mut self,
         alloc: Global,
@@ -95,7 +101,8 @@ pub trait Message: Clone + PartialEq + Drop {
         ensures { view self.new ≡ default };
 
     /// Writes the text with a cache of its own. The size is at most 2,147,483,647 bytes, as the
-    /// condition asks.
+    /// condition asks. Refused where memory runs out or the sink refuses a put. See "Encoded Proto
+    /// Size Limitations" of the encoding document.
     fn encode<S: EncodeSink>(&self, alloc: Global, sink: &mut S) -> Result<(), EncodeError>
         requires { size (records (view self.now)) ≤ 2147483647 }
         ensures { Writes S.most (text (records (view self.now)))
@@ -104,7 +111,7 @@ pub trait Message: Clone + PartialEq + Drop {
         self.encode_with_cache(&mut SizeCache::new(alloc), sink)
     }
 
-    /// Writes the text with this cache, whose sizes are cleared first.
+    /// Writes the text as `encode` does, with this cache, whose sizes are cleared first.
     fn encode_with_cache<S: EncodeSink>(
         &self,
         cache: &mut SizeCache,
@@ -120,7 +127,8 @@ pub trait Message: Clone + PartialEq + Drop {
         self.write_to(cache, sink)
     }
 
-    /// The size of the text in bytes.
+    /// The size of the text in bytes, at most 2,147,483,647, as the condition asks. Refused where
+    /// memory runs out.
     fn encoded_len(&self, alloc: Global) -> Result<u32, EncodeError>
         requires { size (records (view self.now)) ≤ 2147483647 }
         ensures ok { IfOk result (λ len. len ≡ size (records (view self.now))) }
@@ -129,8 +137,8 @@ pub trait Message: Clone + PartialEq + Drop {
         self.compute_size(&mut SizeCache::new(alloc))
     }
 
-    /// Writes the text with a cache of its own, or answers `MessageTooLarge` where it has more than
-    /// 2,147,483,647 bytes.
+    /// Writes the text as `encode` does, or answers `MessageTooLarge`, before anything is written,
+    /// where it has more than 2,147,483,647 bytes and memory lasts to measure it.
     fn try_encode<S: EncodeSink>(&self, alloc: Global, sink: &mut S) -> Result<(), EncodeError>
         ensures { TriesToWrite (size (records (view self.now))) S.most
             (text (records (view self.now))) (S.bytes_of sink.old)
@@ -139,8 +147,7 @@ pub trait Message: Clone + PartialEq + Drop {
         self.try_encode_with_cache(&mut SizeCache::new(alloc), sink)
     }
 
-    /// Writes the text with this cache, whose sizes are cleared first, or answers
-    /// `MessageTooLarge`.
+    /// Writes the text as `try_encode` does, with this cache, whose sizes are cleared first.
     fn try_encode_with_cache<S: EncodeSink>(
         &self,
         cache: &mut SizeCache,
@@ -156,7 +163,8 @@ pub trait Message: Clone + PartialEq + Drop {
         self.write_to(cache, sink)
     }
 
-    /// The size of the text in bytes, or `MessageTooLarge`.
+    /// The size of the text in bytes. Refused where memory runs out, and else with
+    /// `MessageTooLarge` where it is above 2,147,483,647.
     fn try_encoded_len(&self, alloc: Global) -> Result<u32, EncodeError>
         ensures { TriesToAnswer result (size (records (view self.now)))
             (λ len. len ≡ size (records (view self.now))) }
@@ -164,8 +172,9 @@ pub trait Message: Clone + PartialEq + Drop {
         checked_encode_size(self.compute_size(&mut SizeCache::new(alloc))?)
     }
 
-    /// Writes the size of the text as a varint, and the text. See "Length-Delimited Records" of the
-    /// encoding document.
+    /// Writes the size of the text as a varint, and the text, of at most 2,147,483,647 bytes, as
+    /// the condition asks. Refused as `encode`. See "Length-Delimited Records" of the encoding
+    /// document.
     fn encode_length_delimited<S: EncodeSink>(
         &self,
         alloc: Global,
@@ -182,7 +191,7 @@ pub trait Message: Clone + PartialEq + Drop {
         self.write_to(&mut cache, sink)
     }
 
-    /// Writes the size of the text as a varint, and the text, or answers `MessageTooLarge`.
+    /// Writes the size of the text as a varint, and the text. Refused as `try_encode`.
     fn try_encode_length_delimited<S: EncodeSink>(
         &self,
         alloc: Global,
@@ -200,7 +209,8 @@ pub trait Message: Clone + PartialEq + Drop {
         self.write_to(&mut cache, sink)
     }
 
-    /// The text in a vector of just its length.
+    /// The text in a vector of just its length, at most 2,147,483,647 bytes, as the condition asks.
+    /// Refused where memory runs out.
     fn encode_to_vec(&self, alloc: Global) -> Result<Vec<u8>, EncodeError>
         requires { size (records (view self.now)) ≤ 2147483647 }
         ensures ok { IfOk result (λ bytes. bytes.items ≡ text (records (view self.now))) }
@@ -213,7 +223,8 @@ pub trait Message: Clone + PartialEq + Drop {
         Ok(bytes)
     }
 
-    /// The text in a vector of just its length, or `MessageTooLarge`.
+    /// The text in a vector of just its length. Refused where memory runs out, which comes first
+    /// while it is measured, and with `MessageTooLarge` where it has more than 2,147,483,647 bytes.
     fn try_encode_to_vec(&self, alloc: Global) -> Result<Vec<u8>, EncodeError>
         ensures { TriesToAnswer result (size (records (view self.now)))
             (λ bytes. bytes.items ≡ text (records (view self.now))) }
@@ -225,7 +236,8 @@ pub trait Message: Clone + PartialEq + Drop {
         Ok(bytes)
     }
 
-    /// The text as shared bytes.
+    /// The text as shared bytes, at most 2,147,483,647, as the condition asks. Refused as
+    /// `encode_to_vec`.
     fn encode_to_bytes(&self, alloc: Global) -> Result<Bytes, EncodeError>
         requires { size (records (view self.now)) ≤ 2147483647 }
         ensures ok { IfOk result (λ bytes. bytes ≡ text (records (view self.now))) }
@@ -234,7 +246,7 @@ pub trait Message: Clone + PartialEq + Drop {
         Ok(Bytes::from_vec(self.encode_to_vec(alloc)?)?)
     }
 
-    /// The text as shared bytes, or `MessageTooLarge`.
+    /// The text as shared bytes. Refused as `try_encode_to_vec`.
     fn try_encode_to_bytes(&self, alloc: Global) -> Result<Bytes, EncodeError>
         ensures { TriesToAnswer result (size (records (view self.now)))
             (λ bytes. bytes ≡ text (records (view self.now))) }
@@ -242,8 +254,10 @@ pub trait Message: Clone + PartialEq + Drop {
         Ok(Bytes::from_vec(self.try_encode_to_vec(alloc)?)?)
     }
 
-    /// Writes the text where it has at most so many bytes, and answers its size. More are
-    /// `ExceedsBudget`, and more than 2,147,483,647 `MessageTooLarge`.
+    /// Writes the text where it has at most `max_bytes` bytes, and answers its size in bytes. More
+    /// than 2,147,483,647 are `MessageTooLarge`, and else more than `max_bytes` are
+    /// `ExceedsBudget`, before anything is written. Refused else as `encode`; memory that runs out
+    /// while it is measured comes first.
     fn try_encode_bounded<S: EncodeSink>(
         &self,
         alloc: Global,
@@ -256,7 +270,8 @@ pub trait Message: Clone + PartialEq + Drop {
         self.try_encode_bounded_with_cache(max_bytes, &mut SizeCache::new(alloc), sink)
     }
 
-    /// The same with this cache, whose sizes are cleared first.
+    /// Writes the text as `try_encode_bounded` does, with this cache, whose sizes are cleared
+    /// first.
     fn try_encode_bounded_with_cache<S: EncodeSink>(
         &self,
         max_bytes: u32,
@@ -277,6 +292,7 @@ pub trait Message: Clone + PartialEq + Drop {
     }
 
     /// Takes the records of the whole buffer into the value, within the limits of the context.
+    /// Refused as `merge_to_limit`.
     fn merge<B: Buf>(
         &mut self,
         alloc: Global,
@@ -295,7 +311,8 @@ pub trait Message: Clone + PartialEq + Drop {
     }
 
     /// Takes whole records into the value while more than `limit` bytes remain. The last of them
-    /// may run past that place.
+    /// may run past that place. Refused as `Tag::decode` and `merge_field`, at the first record
+    /// that is not taken.
     fn merge_to_limit<B: Buf>(
         &mut self,
         alloc: Global,
@@ -320,7 +337,9 @@ pub trait Message: Clone + PartialEq + Drop {
     }
 
     /// Takes the records of a length-delimited payload of at most `max` bytes into the value, at
-    /// the context's own level. A record that runs past the payload is refused.
+    /// the context's own level. Refused as `decode_length`, as `merge_to_limit` at a record that
+    /// begins in the payload, or with `UnexpectedEof` where one that was taken ends past it. See
+    /// "Length-Delimited Records" of the encoding document.
     fn merge_delimited<B: Buf>(
         &mut self,
         alloc: Global,
@@ -349,8 +368,9 @@ pub trait Message: Clone + PartialEq + Drop {
         Ok(())
     }
 
-    /// Takes the records of an embedded message, a length and a payload, into the value, one level
-    /// down. See "Submessages" of the encoding document.
+    /// Takes the records of an embedded message, a length and a payload of at most 2,147,483,647
+    /// bytes, into the value, one level down. Refused with `RecursionLimitExceeded` where no level
+    /// is left, and else as `merge_delimited`. See "Submessages" of the encoding document.
     fn merge_length_delimited<B: Buf>(
         &mut self,
         alloc: Global,
@@ -378,7 +398,8 @@ pub trait Message: Clone + PartialEq + Drop {
     }
 
     /// Takes the records of a group of this number into the value, up to its end tag, one level
-    /// down. See "Groups" of the encoding document.
+    /// down. Refused with `RecursionLimitExceeded` where no level is left, and else as
+    /// `Tag::decode_in_group` and `merge_field`. See "Groups" of the encoding document.
     fn merge_group<B: Buf>(
         &mut self,
         alloc: Global,
@@ -407,7 +428,7 @@ pub trait Message: Clone + PartialEq + Drop {
     }
 
     /// The value of a length-delimited payload of at most 2,147,483,647 bytes, within the limits of
-    /// `decode`.
+    /// `decode`. Refused as `merge_delimited`.
     fn decode_length_delimited<B: Buf>(alloc: Global, buf: &mut B) -> Result<Self, DecodeError>
         ensures ok { IfOk result (λ message. (c : Charge) × TakesDelimited takes
             (with_elements (counted 100 1000000) 33554432) 2147483647 default
@@ -426,8 +447,8 @@ pub trait Message: Clone + PartialEq + Drop {
         Ok(message)
     }
 
-    /// The value of the records of the whole buffer, within 100 levels, 1,000,000 unknown fields
-    /// and 33,554,432 bytes for elements.
+    /// The value of the records of the whole buffer, which may have any length, within 100 levels,
+    /// 1,000,000 unknown fields and 33,554,432 bytes for elements. Refused as `merge`.
     fn decode<B: Buf>(alloc: Global, buf: &mut B) -> Result<Self, DecodeError>
         ensures ok { IfOk result (λ message. Decodes takes
             (with_elements (counted 100 1000000) 33554432) default
@@ -442,7 +463,7 @@ pub trait Message: Clone + PartialEq + Drop {
         Ok(message)
     }
 
-    /// The value of the records of all the bytes, within the limits of `decode`.
+    /// The value of the records of all the bytes. Limits and refusals are those of `decode`.
     fn decode_from_slice(alloc: Global, bytes: &[u8]) -> Result<Self, DecodeError>
         ensures ok { IfOk result (λ message. Decodes takes
             (with_elements (counted 100 1000000) 33554432) default bytes.now (view message)) }
@@ -453,7 +474,8 @@ pub trait Message: Clone + PartialEq + Drop {
         Self::decode(alloc, &mut buf)
     }
 
-    /// Takes the records of all the bytes into the value, within the limits of `decode`.
+    /// Takes the records of all the bytes into the value, within the limits of `decode`. Refused as
+    /// `merge`.
     fn merge_from_slice(&mut self, alloc: Global, bytes: &[u8]) -> Result<(), DecodeError>
         ensures ok { OnOk result (Decodes takes (with_elements (counted 100 1000000) 33554432)
             (view self.old) bytes.now (view self.new)) }

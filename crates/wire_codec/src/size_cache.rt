@@ -84,6 +84,7 @@ impl SizeCache {
 
     /// Adds a slot, which reads 0 until it is set, and answers its index. It is called before the
     /// embedded message is measured, so that the slot stands before those of the messages in it.
+    /// From the seventeenth slot on it is refused where memory runs out.
     pub fn reserve(&mut self) -> Result<usize, EncodeError>
         ensures index { IfOk result (λ index. index ≡ length self.old.sizes) }
         ensures slot { IfOk result (λ _. self.new ≡ recorded self.old (0 ∷ [])) }
@@ -101,7 +102,7 @@ impl SizeCache {
         Ok(index)
     }
 
-    /// Writes a size into a slot.
+    /// Writes a size into a slot, whose index is below `slot_count`, as the condition asks.
     #[tactic(auto, using(crate::proofs::Slots::slot_laws))]
     pub fn set(&mut self, index: usize, size: u32)
         requires { index < length self.old.sizes }
@@ -114,7 +115,7 @@ impl SizeCache {
         }
     }
 
-    /// The next size.
+    /// The next size, where `unread` is not 0, as the condition asks.
     pub fn consume_next(&mut self) -> u32
         requires { 0 < length (unread_of self.old) }
         ensures next { unread_of self.old ≡ result ∷ unread_of self.new }

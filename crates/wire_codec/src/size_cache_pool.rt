@@ -15,7 +15,7 @@ use std::marker::Model;
 use wire_base::{EncodeError, EncodeSink};
 
 /// Memory of size caches that were given back, for the next ones. Encoding with it writes the same
-/// bytes and gives the same answers as encoding with a new cache.
+/// bytes and, where memory lasts, gives the same answers as encoding with a new cache.
 #[derive(Drop)]
 pub struct SizeCachePool {
     buffers: Vec<Vec<u32>>,

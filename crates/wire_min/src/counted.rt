@@ -46,7 +46,7 @@ impl<D> Counted<D> {
 impl<R: Read> Counted<R> {
     ghost use Rattle.wire_min.specs.Counted.{device_of, failures_of, after_call};
 
-    /// One read of the device.
+    /// One read of the device, whose error is answered and counted.
     pub fn read(&mut self, buf: &mut [u8]) -> io::Result<usize>
         ensures bound { ReadsAtMost result buf.new }
         ensures bytes { ReadConsumes (R.remaining (device_of self.old))
@@ -64,7 +64,7 @@ impl<R: Read> Counted<R> {
 impl<W: Write> Counted<W> {
     ghost use Rattle.wire_min.specs.Counted.{device_of, failures_of, after_call, after_write};
 
-    /// One write to the device.
+    /// One write to the device, whose error is answered and counted; 0 bytes taken are counted too.
     pub fn write(&mut self, buf: &[u8]) -> io::Result<usize>
         ensures bound { WritesAtMost result buf.now }
         ensures bytes { WriteAppends (W.contents (device_of self.old))
@@ -78,7 +78,7 @@ impl<W: Write> Counted<W> {
         result
     }
 
-    /// One flush of the device.
+    /// One flush of the device, whose error is answered and counted.
     pub fn flush(&mut self) -> io::Result<()>
         ensures bytes { Keeps (W.contents (device_of self.old)) (W.contents (device_of self.new)) }
         ensures failures { failures_of self.new ≡ after_call result (failures_of self.old) }

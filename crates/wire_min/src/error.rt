@@ -8,7 +8,7 @@ use wire_codec::DecodeError;
 /// Why a run fails. `{}` shows the line for standard error.
 #[derive(Debug, PartialEq, Drop, Error)]
 pub enum RunError {
-    /// The input is not a list of fields.
+    /// The input is not a list of fields within 100 levels and 1,000,000 fields.
     #[error("wire_min: refused: {0}")]
     Refused(DecodeError),
 
@@ -20,7 +20,8 @@ pub enum RunError {
     #[error("wire_min: read failed")]
     ReadFailed,
 
-    /// The writer failed or took no byte.
+    /// The writer failed, in a write or the flush, or took no byte. A front of the text may be
+    /// written.
     #[error("wire_min: write failed")]
     WriteFailed,
 }

@@ -16,7 +16,8 @@ const CHUNK: usize = 8 * 1024;
 
 /// Reads all of the input, decodes it as unknown fields, writes their shortest text and flushes.
 /// The first error of the reader or the writer ends it, an interrupted call too, and so does a
-/// write that takes no byte. A failed run may have read a part of the input.
+/// write that takes no byte. A failed run may have read a part of the input. Input that
+/// `UnknownFields::decode_from_slice` refuses is `Refused`, and `OutOfMemory` where memory ran out.
 pub fn run<R: Read, W: Write>(
     alloc: Global,
     reader: &mut Counted<R>,

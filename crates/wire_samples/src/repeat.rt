@@ -8,7 +8,8 @@ use wire_codec::{
 
 const NO_RECORD: &str = "no record of a Repeat";
 
-/// A count that is spelled out, a record for each, and a mark behind it.
+/// A message of `times` records of field 1, each the number 0, and one of field 2, the number 128,
+/// where `extra` is set. Any other record is `Custom`, or the fault of its varint.
 #[derive(Clone, Debug, Drop, PartialEq)]
 pub struct Repeat {
     pub times: u64,

@@ -16,9 +16,9 @@ use wire_codec::{DecodeContext, DecodeError, Tag, UnknownFieldsView, laws, skip_
 /// that it knows are passed over, whatever they hold. Groups nest at most as deep as the context
 /// has levels, which it keeps, and the kept records take their slots from it.
 ///
-/// The first record that does not stand refuses the text: with the fault of its tag, with that of
-/// its payload as `skip_field_depth` names it, or with `UnknownFieldLimitExceeded` where there are
-/// no slots for a record that is kept.
+/// Refused at the first record that cannot be read: with the fault of its tag, then that of its
+/// payload as `skip_field_depth` names it, then with `UnknownFieldLimitExceeded` where a record
+/// that is kept finds no slots; or with `OutOfMemory`.
 pub fn person_unknowns<'a>(
     alloc: Global,
     bytes: &'a [u8],

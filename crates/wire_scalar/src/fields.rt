@@ -13,7 +13,8 @@ use crate::fixed::{encode_fixed32, encode_fixed64};
 use crate::scalar::{Bool, Int32, Int64, Sint32, Sint64, Uint32, Uint64, VarintScalar};
 use wire_base::{EncodeError, EncodeSink, Tag, WireType, encode_varint, laws};
 
-/// Writes a field of type `int32`.
+/// Writes a field of type `int32`, of a number from 1 to `MAX_FIELD_NUMBER`: its tag, and the value
+/// as `encode_int32` does. Refused where the sink refuses a put.
 #[inline(always)]
 pub fn put_int32_field<S: EncodeSink>(
     number: u32,
@@ -31,7 +32,8 @@ pub fn put_int32_field<S: EncodeSink>(
     put_varint(number, WireType::Varint, Int32::number_of(value), sink)
 }
 
-/// Writes a field of type `int64`.
+/// Writes a field of type `int64`, of a number from 1 to `MAX_FIELD_NUMBER`: its tag, and the value
+/// as `encode_int64` does. Refused where the sink refuses a put.
 #[inline(always)]
 pub fn put_int64_field<S: EncodeSink>(
     number: u32,
@@ -49,7 +51,8 @@ pub fn put_int64_field<S: EncodeSink>(
     put_varint(number, WireType::Varint, Int64::number_of(value), sink)
 }
 
-/// Writes a field of type `uint32`.
+/// Writes a field of type `uint32`, of a number from 1 to `MAX_FIELD_NUMBER`: its tag, and the
+/// value as `encode_uint32` does. Refused where the sink refuses a put.
 #[inline(always)]
 pub fn put_uint32_field<S: EncodeSink>(
     number: u32,
@@ -67,7 +70,8 @@ pub fn put_uint32_field<S: EncodeSink>(
     put_varint(number, WireType::Varint, Uint32::number_of(value), sink)
 }
 
-/// Writes a field of type `uint64`.
+/// Writes a field of type `uint64`, of a number from 1 to `MAX_FIELD_NUMBER`: its tag, and the
+/// value as `encode_uint64` does. Refused where the sink refuses a put.
 #[inline(always)]
 pub fn put_uint64_field<S: EncodeSink>(
     number: u32,
@@ -85,7 +89,8 @@ pub fn put_uint64_field<S: EncodeSink>(
     put_varint(number, WireType::Varint, Uint64::number_of(value), sink)
 }
 
-/// Writes a field of type `sint32`.
+/// Writes a field of type `sint32`, of a number from 1 to `MAX_FIELD_NUMBER`: its tag, and the
+/// value as `encode_sint32` does. Refused where the sink refuses a put.
 #[inline(always)]
 pub fn put_sint32_field<S: EncodeSink>(
     number: u32,
@@ -103,7 +108,8 @@ pub fn put_sint32_field<S: EncodeSink>(
     put_varint(number, WireType::Varint, Sint32::number_of(value), sink)
 }
 
-/// Writes a field of type `sint64`.
+/// Writes a field of type `sint64`, of a number from 1 to `MAX_FIELD_NUMBER`: its tag, and the
+/// value as `encode_sint64` does. Refused where the sink refuses a put.
 #[inline(always)]
 pub fn put_sint64_field<S: EncodeSink>(
     number: u32,
@@ -121,7 +127,8 @@ pub fn put_sint64_field<S: EncodeSink>(
     put_varint(number, WireType::Varint, Sint64::number_of(value), sink)
 }
 
-/// Writes a field of type `bool`.
+/// Writes a field of type `bool`, of a number from 1 to `MAX_FIELD_NUMBER`: its tag, and the value
+/// as `encode_bool` does. Refused where the sink refuses a put.
 #[inline(always)]
 pub fn put_bool_field<S: EncodeSink>(
     number: u32,
@@ -139,7 +146,8 @@ pub fn put_bool_field<S: EncodeSink>(
     put_varint(number, WireType::Varint, Bool::number_of(value), sink)
 }
 
-/// Writes a field of type `fixed32`.
+/// Writes a field of type `fixed32`, of a number from 1 to `MAX_FIELD_NUMBER`: its tag, and the
+/// value as `encode_fixed32` does. Refused where the sink refuses a put.
 #[inline(always)]
 pub fn put_fixed32_field<S: EncodeSink>(
     number: u32,
@@ -160,7 +168,8 @@ pub fn put_fixed32_field<S: EncodeSink>(
     encode_fixed32(value, sink)
 }
 
-/// Writes a field of type `fixed64`.
+/// Writes a field of type `fixed64`, of a number from 1 to `MAX_FIELD_NUMBER`: its tag, and the
+/// value as `encode_fixed64` does. Refused where the sink refuses a put.
 #[inline(always)]
 pub fn put_fixed64_field<S: EncodeSink>(
     number: u32,
@@ -181,7 +190,8 @@ pub fn put_fixed64_field<S: EncodeSink>(
     encode_fixed64(value, sink)
 }
 
-/// Writes a field of type `sfixed32`.
+/// Writes a field of type `sfixed32`, of a number from 1 to `MAX_FIELD_NUMBER`: its tag, and the
+/// value as `encode_sfixed32` does. Refused where the sink refuses a put.
 #[inline(always)]
 pub fn put_sfixed32_field<S: EncodeSink>(
     number: u32,
@@ -199,7 +209,8 @@ pub fn put_sfixed32_field<S: EncodeSink>(
     put_fixed32_field(number, value.cast_unsigned(), sink)
 }
 
-/// Writes a field of type `sfixed64`.
+/// Writes a field of type `sfixed64`, of a number from 1 to `MAX_FIELD_NUMBER`: its tag, and the
+/// value as `encode_sfixed64` does. Refused where the sink refuses a put.
 #[inline(always)]
 pub fn put_sfixed64_field<S: EncodeSink>(
     number: u32,
@@ -217,7 +228,9 @@ pub fn put_sfixed64_field<S: EncodeSink>(
     put_fixed64_field(number, value.cast_unsigned(), sink)
 }
 
-/// Writes what stands before a length-delimited payload: its tag and its length.
+/// Writes what stands before a length-delimited payload of a field of a number from 1 to
+/// `MAX_FIELD_NUMBER`: its tag and its length in bytes. Refused where the sink refuses a put. See
+/// "Length-Delimited Records" of the encoding document.
 #[inline(always)]
 pub fn put_len_delimited_header<S: EncodeSink>(
     number: u32,
@@ -235,7 +248,8 @@ pub fn put_len_delimited_header<S: EncodeSink>(
     put_varint(number, WireType::LengthDelimited, len, sink)
 }
 
-/// Writes the tag that begins a group.
+/// Writes the tag that begins a group of a number from 1 to `MAX_FIELD_NUMBER`. Refused where the
+/// sink refuses a put. See "Groups" of the encoding document.
 #[inline(always)]
 pub fn put_group_start<S: EncodeSink>(number: u32, sink: &mut S) -> Result<(), EncodeError>
     requires { IsFieldNumber number }
@@ -248,7 +262,8 @@ pub fn put_group_start<S: EncodeSink>(number: u32, sink: &mut S) -> Result<(), E
     Tag::new(number, WireType::StartGroup).encode(sink)
 }
 
-/// Writes the tag that ends a group.
+/// Writes the tag that ends a group of a number from 1 to `MAX_FIELD_NUMBER`. Refused where the
+/// sink refuses a put. See "Groups" of the encoding document.
 #[inline(always)]
 pub fn put_group_end<S: EncodeSink>(number: u32, sink: &mut S) -> Result<(), EncodeError>
     requires { IsFieldNumber number }

@@ -16,7 +16,8 @@ pub const FIXED32_ENCODED_LEN: usize = 4;
 /// How many bytes a `fixed64` or a `sfixed64` has on the wire.
 pub const FIXED64_ENCODED_LEN: usize = 8;
 
-/// Writes a `fixed32`: four bytes, the lowest first.
+/// Writes a `fixed32`: four bytes, the lowest first. See "Non-varint Numbers" of the encoding
+/// document. One put, all or nothing, refused where the sink refuses it.
 pub fn encode_fixed32<S: EncodeSink>(value: u32, sink: &mut S) -> Result<(), EncodeError>
     ensures { Puts S.most (to_le_bytes w32 (fixed32.enc value))
         (S.bytes_of sink.old) (S.bytes_of sink.new) result }
@@ -24,7 +25,7 @@ pub fn encode_fixed32<S: EncodeSink>(value: u32, sink: &mut S) -> Result<(), Enc
     sink.put_u32_le(value)
 }
 
-/// Reads a `fixed32`. The buffer stays as it was where fewer bytes are left.
+/// Reads a `fixed32`, as `encode_fixed32` writes it. Fewer bytes are `UnexpectedEof`, and stay.
 pub fn decode_fixed32<B: Buf>(buf: &mut B) -> Result<u32, DecodeError>
     ensures ok { IfOk result (λ value.
         ReadsValue (IsFixed w32) fixed32 (B.unread buf.old) value (B.unread buf.new)) }
@@ -35,7 +36,8 @@ pub fn decode_fixed32<B: Buf>(buf: &mut B) -> Result<u32, DecodeError>
     Ok(buf.try_get_u32_le()?)
 }
 
-/// Writes a `fixed64`: eight bytes, the lowest first.
+/// Writes a `fixed64`: eight bytes, the lowest first. See "Non-varint Numbers" of the encoding
+/// document. One put, all or nothing, refused where the sink refuses it.
 pub fn encode_fixed64<S: EncodeSink>(value: u64, sink: &mut S) -> Result<(), EncodeError>
     ensures { Puts S.most (to_le_bytes w64 (fixed64.enc value))
         (S.bytes_of sink.old) (S.bytes_of sink.new) result }
@@ -43,7 +45,7 @@ pub fn encode_fixed64<S: EncodeSink>(value: u64, sink: &mut S) -> Result<(), Enc
     sink.put_u64_le(value)
 }
 
-/// Reads a `fixed64`. The buffer stays as it was where fewer bytes are left.
+/// Reads a `fixed64`, as `encode_fixed64` writes it. Fewer bytes are `UnexpectedEof`, and stay.
 pub fn decode_fixed64<B: Buf>(buf: &mut B) -> Result<u64, DecodeError>
     ensures ok { IfOk result (λ value.
         ReadsValue (IsFixed w64) fixed64 (B.unread buf.old) value (B.unread buf.new)) }
@@ -54,7 +56,8 @@ pub fn decode_fixed64<B: Buf>(buf: &mut B) -> Result<u64, DecodeError>
     Ok(buf.try_get_u64_le()?)
 }
 
-/// Writes a `sfixed32`: the two's complement in four bytes, the lowest first.
+/// Writes a `sfixed32`: the two's complement in four bytes, the lowest first. See "Non-varint
+/// Numbers" of the encoding document. One put, all or nothing, refused where the sink refuses it.
 pub fn encode_sfixed32<S: EncodeSink>(value: i32, sink: &mut S) -> Result<(), EncodeError>
     ensures { Puts S.most (to_le_bytes w32 (sfixed32.enc value))
         (S.bytes_of sink.old) (S.bytes_of sink.new) result }
@@ -62,7 +65,7 @@ pub fn encode_sfixed32<S: EncodeSink>(value: i32, sink: &mut S) -> Result<(), En
     sink.put_i32_le(value)
 }
 
-/// Reads a `sfixed32`. The buffer stays as it was where fewer bytes are left.
+/// Reads a `sfixed32`, as `encode_sfixed32` writes it. Fewer bytes are `UnexpectedEof`, and stay.
 pub fn decode_sfixed32<B: Buf>(buf: &mut B) -> Result<i32, DecodeError>
     ensures ok { IfOk result (λ value.
         ReadsValue (IsFixed w32) sfixed32 (B.unread buf.old) value (B.unread buf.new)) }
@@ -73,7 +76,8 @@ pub fn decode_sfixed32<B: Buf>(buf: &mut B) -> Result<i32, DecodeError>
     Ok(decode_fixed32(buf)?.cast_signed())
 }
 
-/// Writes a `sfixed64`: the two's complement in eight bytes, the lowest first.
+/// Writes a `sfixed64`: the two's complement in eight bytes, the lowest first. See "Non-varint
+/// Numbers" of the encoding document. One put, all or nothing, refused where the sink refuses it.
 pub fn encode_sfixed64<S: EncodeSink>(value: i64, sink: &mut S) -> Result<(), EncodeError>
     ensures { Puts S.most (to_le_bytes w64 (sfixed64.enc value))
         (S.bytes_of sink.old) (S.bytes_of sink.new) result }
@@ -81,7 +85,7 @@ pub fn encode_sfixed64<S: EncodeSink>(value: i64, sink: &mut S) -> Result<(), En
     sink.put_i64_le(value)
 }
 
-/// Reads a `sfixed64`. The buffer stays as it was where fewer bytes are left.
+/// Reads a `sfixed64`, as `encode_sfixed64` writes it. Fewer bytes are `UnexpectedEof`, and stay.
 pub fn decode_sfixed64<B: Buf>(buf: &mut B) -> Result<i64, DecodeError>
     ensures ok { IfOk result (λ value.
         ReadsValue (IsFixed w64) sfixed64 (B.unread buf.old) value (B.unread buf.new)) }

@@ -15,8 +15,11 @@ ghost use Rattle.wire_scalar.specs.Borrow.{BorrowsBody};
 use wire_base::{DecodeError, Tag, laws, skip_field_depth};
 
 /// The body of a group whose start tag was read, up to the end tag of the same number. The slice
-/// then begins behind that tag. Groups in the body nest at most so deep; the group itself is not
-/// counted.
+/// then begins behind that tag. Groups in the body nest at most `depth` deep; the group itself is
+/// not counted. Refused with the first fault in the body or at its end, and the slice then stays:
+/// with that of a tag or a payload, with `InvalidEndGroup` at the end tag of another number, with
+/// `UnexpectedEof` where there is no end tag, or with `RecursionLimitExceeded` at a group too deep.
+/// See "Groups" of the encoding document.
 pub fn borrow_group<'a>(
     buf: &mut &'a [u8],
     number: u32,

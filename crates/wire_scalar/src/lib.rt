@@ -1,10 +1,10 @@
-//! The scalar types of the wire format, packed lists of them, and groups borrowed from a slice.
-//! `CALLING.md` shows its calls.
+//! The scalar types of the wire format but for `float` and `double`, packed lists of them, and
+//! groups borrowed from a slice. `CALLING.md` shows its calls.
 //!
 //! Behind a tag of the right wire type call `decode_T`; `put_T_field` writes a field with its tag,
-//! and `extend_packed_T` reads a packed list. Of the encoding document see "Base 128 Varints", "Bools
-//! and Enums", "Signed Integers" for `sint32` and `sint64`, "Non-varint Numbers" for the fixed types,
-//! "Packed Repeated Fields" and "Groups".
+//! and `extend_packed_T` reads a packed list. Of the encoding document see "Base 128 Varints",
+//! "Bools and Enums", "Signed Integers", "Non-varint Numbers" for the fixed types, "Packed Repeated
+//! Fields" and "Groups".
 #![tactic(auto)]
 
 mod fields;

@@ -13,8 +13,10 @@ use crate::scalar::{Bool, Int32, Int64, Sint32, Sint64, Uint32, Uint64, VarintSc
 use std::alloc::Global;
 use wire_base::{DecodeError, decode_varint};
 
-/// Appends the elements of a packed list of `int32`, up to the first that is no varint, with room
-/// for so many reserved first.
+/// Appends the elements of a packed list of `int32`, whose payload this is, after making room for
+/// `reserve` more of them. It stops, and keeps those before, at the first that is no varint,
+/// refused as `decode_varint`, or that finds no room, `OutOfMemory`, which also comes where the
+/// room cannot be made. See "Packed Repeated Fields" of the encoding document.
 pub fn extend_packed_int32(
     _alloc: Global,
     payload: &[u8],
@@ -29,8 +31,10 @@ pub fn extend_packed_int32(
     extend_as::<Int32>(payload, out, reserve)
 }
 
-/// Appends the elements of a packed list of `int64`, up to the first that is no varint, with room
-/// for so many reserved first.
+/// Appends the elements of a packed list of `int64`, whose payload this is, after making room for
+/// `reserve` more of them. It stops, and keeps those before, at the first that is no varint,
+/// refused as `decode_varint`, or that finds no room, `OutOfMemory`, which also comes where the
+/// room cannot be made. See "Packed Repeated Fields" of the encoding document.
 pub fn extend_packed_int64(
     _alloc: Global,
     payload: &[u8],
@@ -45,8 +49,10 @@ pub fn extend_packed_int64(
     extend_as::<Int64>(payload, out, reserve)
 }
 
-/// Appends the elements of a packed list of `uint32`, up to the first that is no varint, with room
-/// for so many reserved first.
+/// Appends the elements of a packed list of `uint32`, whose payload this is, after making room for
+/// `reserve` more of them. It stops, and keeps those before, at the first that is no varint,
+/// refused as `decode_varint`, or that finds no room, `OutOfMemory`, which also comes where the
+/// room cannot be made. See "Packed Repeated Fields" of the encoding document.
 pub fn extend_packed_uint32(
     _alloc: Global,
     payload: &[u8],
@@ -61,8 +67,10 @@ pub fn extend_packed_uint32(
     extend_as::<Uint32>(payload, out, reserve)
 }
 
-/// Appends the elements of a packed list of `uint64`, up to the first that is no varint, with room
-/// for so many reserved first.
+/// Appends the elements of a packed list of `uint64`, whose payload this is, after making room for
+/// `reserve` more of them. It stops, and keeps those before, at the first that is no varint,
+/// refused as `decode_varint`, or that finds no room, `OutOfMemory`, which also comes where the
+/// room cannot be made. See "Packed Repeated Fields" of the encoding document.
 pub fn extend_packed_uint64(
     _alloc: Global,
     payload: &[u8],
@@ -77,8 +85,10 @@ pub fn extend_packed_uint64(
     extend_as::<Uint64>(payload, out, reserve)
 }
 
-/// Appends the elements of a packed list of `sint32`, up to the first that is no varint, with room
-/// for so many reserved first.
+/// Appends the elements of a packed list of `sint32`, whose payload this is, after making room for
+/// `reserve` more of them. It stops, and keeps those before, at the first that is no varint,
+/// refused as `decode_varint`, or that finds no room, `OutOfMemory`, which also comes where the
+/// room cannot be made. See "Packed Repeated Fields" of the encoding document.
 pub fn extend_packed_sint32(
     _alloc: Global,
     payload: &[u8],
@@ -93,8 +103,10 @@ pub fn extend_packed_sint32(
     extend_as::<Sint32>(payload, out, reserve)
 }
 
-/// Appends the elements of a packed list of `sint64`, up to the first that is no varint, with room
-/// for so many reserved first.
+/// Appends the elements of a packed list of `sint64`, whose payload this is, after making room for
+/// `reserve` more of them. It stops, and keeps those before, at the first that is no varint,
+/// refused as `decode_varint`, or that finds no room, `OutOfMemory`, which also comes where the
+/// room cannot be made. See "Packed Repeated Fields" of the encoding document.
 pub fn extend_packed_sint64(
     _alloc: Global,
     payload: &[u8],
@@ -109,8 +121,10 @@ pub fn extend_packed_sint64(
     extend_as::<Sint64>(payload, out, reserve)
 }
 
-/// Appends the elements of a packed list of `bool`, up to the first that is no varint, with room
-/// for so many reserved first.
+/// Appends the elements of a packed list of `bool`, whose payload this is, after making room for
+/// `reserve` more of them. It stops, and keeps those before, at the first that is no varint,
+/// refused as `decode_varint`, or that finds no room, `OutOfMemory`, which also comes where the
+/// room cannot be made. See "Packed Repeated Fields" of the encoding document.
 pub fn extend_packed_bool(
     _alloc: Global,
     payload: &[u8],
@@ -125,7 +139,9 @@ pub fn extend_packed_bool(
     extend_as::<Bool>(payload, out, reserve)
 }
 
-/// Appends the elements of a packed list of `fixed32`, all or none.
+/// Appends the elements of a packed list of `fixed32`, all or none. `UnexpectedEof` where the
+/// payload ends within one, `OutOfMemory` where the list finds no room. See "Packed Repeated
+/// Fields" of the encoding document.
 pub fn extend_packed_fixed32(
     _alloc: Global,
     payload: &[u8],
@@ -139,7 +155,9 @@ pub fn extend_packed_fixed32(
     extend_fixed::<Fixed32>(payload, out)
 }
 
-/// Appends the elements of a packed list of `fixed64`, all or none.
+/// Appends the elements of a packed list of `fixed64`, all or none. `UnexpectedEof` where the
+/// payload ends within one, `OutOfMemory` where the list finds no room. See "Packed Repeated
+/// Fields" of the encoding document.
 pub fn extend_packed_fixed64(
     _alloc: Global,
     payload: &[u8],
@@ -153,7 +171,9 @@ pub fn extend_packed_fixed64(
     extend_fixed::<Fixed64>(payload, out)
 }
 
-/// Appends the elements of a packed list of `sfixed32`, all or none.
+/// Appends the elements of a packed list of `sfixed32`, all or none. `UnexpectedEof` where the
+/// payload ends within one, `OutOfMemory` where the list finds no room. See "Packed Repeated
+/// Fields" of the encoding document.
 pub fn extend_packed_sfixed32(
     _alloc: Global,
     payload: &[u8],
@@ -167,7 +187,9 @@ pub fn extend_packed_sfixed32(
     extend_fixed::<Sfixed32>(payload, out)
 }
 
-/// Appends the elements of a packed list of `sfixed64`, all or none.
+/// Appends the elements of a packed list of `sfixed64`, all or none. `UnexpectedEof` where the
+/// payload ends within one, `OutOfMemory` where the list finds no room. See "Packed Repeated
+/// Fields" of the encoding document.
 pub fn extend_packed_sfixed64(
     _alloc: Global,
     payload: &[u8],

@@ -9,7 +9,7 @@ use crate::scalar::{Bool, Int32, Int64, Sint32, Sint64, Uint32, Uint64, VarintSc
 use bytes::Buf;
 use wire_base::{DecodeError, EncodeError, EncodeSink, decode_varint, encode_varint, varint_len};
 
-/// How many bytes a `bool` has on the wire.
+/// How many bytes `encode_bool` writes.
 pub const BOOL_ENCODED_LEN: usize = 1;
 
 // Reads a varint as a value of the type.
@@ -23,7 +23,8 @@ pub(crate) fn decode_as<T: VarintScalar, B: Buf>(buf: &mut B) -> Result<T::Value
 }
 
 /// Writes an `int32` as its shortest varint, a negative one as the 64 bits of its two's complement,
-/// in ten bytes.
+/// in ten bytes. Refused where the sink refuses a byte. See "Signed Integers" of the encoding
+/// document.
 pub fn encode_int32<S: EncodeSink>(value: i32, sink: &mut S) -> Result<(), EncodeError>
     ensures ok { OnOk result (S.bytes_of sink.new
         ≡ S.bytes_of sink.old ++ shortest_varint (int32.enc value)) }
@@ -35,7 +36,7 @@ pub fn encode_int32<S: EncodeSink>(value: i32, sink: &mut S) -> Result<(), Encod
     encode_varint(Int32::number_of(value), sink)
 }
 
-/// Reads an `int32`: the low 32 bits of a varint.
+/// Reads an `int32`: the low 32 bits of a varint. Refused as `decode_varint`.
 pub fn decode_int32<B: Buf>(buf: &mut B) -> Result<i32, DecodeError>
     ensures ok { IfOk result (λ value.
         ReadsValue IsSpelling int32 (B.unread buf.old) value (B.unread buf.new)) }
@@ -55,7 +56,7 @@ pub fn decode_int32_packed<B: Buf>(buf: &mut B) -> Result<i32, DecodeError>
     decode_int32(buf)
 }
 
-/// How many bytes `encode_int32` writes.
+/// How many bytes `encode_int32` writes: 1 to 5, and 10 for a negative value.
 pub fn int32_encoded_len(value: i32) -> usize
     ensures { result ≡ length (shortest_varint (int32.enc value)) }
 {
@@ -63,7 +64,8 @@ pub fn int32_encoded_len(value: i32) -> usize
 }
 
 /// Writes an `int64` as its shortest varint, a negative one as the 64 bits of its two's complement,
-/// in ten bytes.
+/// in ten bytes. Refused where the sink refuses a byte. See "Signed Integers" of the encoding
+/// document.
 pub fn encode_int64<S: EncodeSink>(value: i64, sink: &mut S) -> Result<(), EncodeError>
     ensures ok { OnOk result (S.bytes_of sink.new
         ≡ S.bytes_of sink.old ++ shortest_varint (int64.enc value)) }
@@ -75,7 +77,7 @@ pub fn encode_int64<S: EncodeSink>(value: i64, sink: &mut S) -> Result<(), Encod
     encode_varint(Int64::number_of(value), sink)
 }
 
-/// Reads an `int64`: the 64 bits of a varint.
+/// Reads an `int64`: the 64 bits of a varint. Refused as `decode_varint`.
 pub fn decode_int64<B: Buf>(buf: &mut B) -> Result<i64, DecodeError>
     ensures ok { IfOk result (λ value.
         ReadsValue IsSpelling int64 (B.unread buf.old) value (B.unread buf.new)) }
@@ -95,14 +97,15 @@ pub fn decode_int64_packed<B: Buf>(buf: &mut B) -> Result<i64, DecodeError>
     decode_int64(buf)
 }
 
-/// How many bytes `encode_int64` writes.
+/// How many bytes `encode_int64` writes: 1 to 9, and 10 for a negative value.
 pub fn int64_encoded_len(value: i64) -> usize
     ensures { result ≡ length (shortest_varint (int64.enc value)) }
 {
     varint_len(Int64::number_of(value))
 }
 
-/// Writes a `uint32` as its shortest varint.
+/// Writes a `uint32` as its shortest varint. See "Base 128 Varints" of the encoding document.
+/// Refused where the sink refuses a byte.
 pub fn encode_uint32<S: EncodeSink>(value: u32, sink: &mut S) -> Result<(), EncodeError>
     ensures ok { OnOk result (S.bytes_of sink.new
         ≡ S.bytes_of sink.old ++ shortest_varint (uint32.enc value)) }
@@ -114,7 +117,7 @@ pub fn encode_uint32<S: EncodeSink>(value: u32, sink: &mut S) -> Result<(), Enco
     encode_varint(Uint32::number_of(value), sink)
 }
 
-/// Reads a `uint32`: the low 32 bits of a varint.
+/// Reads a `uint32`: the low 32 bits of a varint. Refused as `decode_varint`.
 pub fn decode_uint32<B: Buf>(buf: &mut B) -> Result<u32, DecodeError>
     ensures ok { IfOk result (λ value.
         ReadsValue IsSpelling uint32 (B.unread buf.old) value (B.unread buf.new)) }
@@ -134,14 +137,15 @@ pub fn decode_uint32_packed<B: Buf>(buf: &mut B) -> Result<u32, DecodeError>
     decode_uint32(buf)
 }
 
-/// How many bytes `encode_uint32` writes.
+/// How many bytes `encode_uint32` writes: 1 to 5.
 pub fn uint32_encoded_len(value: u32) -> usize
     ensures { result ≡ length (shortest_varint (uint32.enc value)) }
 {
     varint_len(Uint32::number_of(value))
 }
 
-/// Writes a `uint64` as its shortest varint.
+/// Writes a `uint64` as its shortest varint. See "Base 128 Varints" of the encoding document.
+/// Refused where the sink refuses a byte.
 pub fn encode_uint64<S: EncodeSink>(value: u64, sink: &mut S) -> Result<(), EncodeError>
     ensures ok { OnOk result (S.bytes_of sink.new
         ≡ S.bytes_of sink.old ++ shortest_varint (uint64.enc value)) }
@@ -153,7 +157,7 @@ pub fn encode_uint64<S: EncodeSink>(value: u64, sink: &mut S) -> Result<(), Enco
     encode_varint(Uint64::number_of(value), sink)
 }
 
-/// Reads a `uint64`.
+/// Reads a `uint64`: the number of a varint. Refused as `decode_varint`.
 pub fn decode_uint64<B: Buf>(buf: &mut B) -> Result<u64, DecodeError>
     ensures ok { IfOk result (λ value.
         ReadsValue IsSpelling uint64 (B.unread buf.old) value (B.unread buf.new)) }
@@ -173,7 +177,7 @@ pub fn decode_uint64_packed<B: Buf>(buf: &mut B) -> Result<u64, DecodeError>
     decode_uint64(buf)
 }
 
-/// How many bytes `encode_uint64` writes.
+/// How many bytes `encode_uint64` writes: 1 to 10.
 pub fn uint64_encoded_len(value: u64) -> usize
     ensures { result ≡ length (shortest_varint (uint64.enc value)) }
 {
@@ -181,6 +185,7 @@ pub fn uint64_encoded_len(value: u64) -> usize
 }
 
 /// Writes a `sint32` as its shortest varint, in zigzag order, in which numbers near zero are short.
+/// See "Signed Integers" of the encoding document. Refused where the sink refuses a byte.
 pub fn encode_sint32<S: EncodeSink>(value: i32, sink: &mut S) -> Result<(), EncodeError>
     ensures ok { OnOk result (S.bytes_of sink.new
         ≡ S.bytes_of sink.old ++ shortest_varint (sint32.enc value)) }
@@ -192,7 +197,7 @@ pub fn encode_sint32<S: EncodeSink>(value: i32, sink: &mut S) -> Result<(), Enco
     encode_varint(Sint32::number_of(value), sink)
 }
 
-/// Reads a `sint32`: the low 32 bits of a varint, out of zigzag order.
+/// Reads a `sint32`: the low 32 bits of a varint, taken as zigzag. Refused as `decode_varint`.
 pub fn decode_sint32<B: Buf>(buf: &mut B) -> Result<i32, DecodeError>
     ensures ok { IfOk result (λ value.
         ReadsValue IsSpelling sint32 (B.unread buf.old) value (B.unread buf.new)) }
@@ -212,7 +217,7 @@ pub fn decode_sint32_packed<B: Buf>(buf: &mut B) -> Result<i32, DecodeError>
     decode_sint32(buf)
 }
 
-/// How many bytes `encode_sint32` writes.
+/// How many bytes `encode_sint32` writes: 1 to 5.
 pub fn sint32_encoded_len(value: i32) -> usize
     ensures { result ≡ length (shortest_varint (sint32.enc value)) }
 {
@@ -220,6 +225,7 @@ pub fn sint32_encoded_len(value: i32) -> usize
 }
 
 /// Writes a `sint64` as its shortest varint, in zigzag order, in which numbers near zero are short.
+/// See "Signed Integers" of the encoding document. Refused where the sink refuses a byte.
 pub fn encode_sint64<S: EncodeSink>(value: i64, sink: &mut S) -> Result<(), EncodeError>
     ensures ok { OnOk result (S.bytes_of sink.new
         ≡ S.bytes_of sink.old ++ shortest_varint (sint64.enc value)) }
@@ -231,7 +237,7 @@ pub fn encode_sint64<S: EncodeSink>(value: i64, sink: &mut S) -> Result<(), Enco
     encode_varint(Sint64::number_of(value), sink)
 }
 
-/// Reads a `sint64`: a varint, out of zigzag order.
+/// Reads a `sint64`: a varint, taken as zigzag. Refused as `decode_varint`.
 pub fn decode_sint64<B: Buf>(buf: &mut B) -> Result<i64, DecodeError>
     ensures ok { IfOk result (λ value.
         ReadsValue IsSpelling sint64 (B.unread buf.old) value (B.unread buf.new)) }
@@ -251,14 +257,15 @@ pub fn decode_sint64_packed<B: Buf>(buf: &mut B) -> Result<i64, DecodeError>
     decode_sint64(buf)
 }
 
-/// How many bytes `encode_sint64` writes.
+/// How many bytes `encode_sint64` writes: 1 to 10.
 pub fn sint64_encoded_len(value: i64) -> usize
     ensures { result ≡ length (shortest_varint (sint64.enc value)) }
 {
     varint_len(Sint64::number_of(value))
 }
 
-/// Writes a `bool` as one byte, 00 or 01.
+/// Writes a `bool` as one byte, 00 or 01. See "Bools and Enums" of the encoding document. Refused
+/// where the sink refuses a byte.
 pub fn encode_bool<S: EncodeSink>(value: bool, sink: &mut S) -> Result<(), EncodeError>
     ensures ok { OnOk result (S.bytes_of sink.new
         ≡ S.bytes_of sink.old ++ shortest_varint (bool.enc value)) }
@@ -270,7 +277,7 @@ pub fn encode_bool<S: EncodeSink>(value: bool, sink: &mut S) -> Result<(), Encod
     encode_varint(Bool::number_of(value), sink)
 }
 
-/// Reads a `bool`: each varint but 0 is true.
+/// Reads a `bool`: each varint but 0 is true. Refused as `decode_varint`.
 pub fn decode_bool<B: Buf>(buf: &mut B) -> Result<bool, DecodeError>
     ensures ok { IfOk result (λ value.
         ReadsValue IsSpelling bool (B.unread buf.old) value (B.unread buf.new)) }

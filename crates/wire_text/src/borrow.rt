@@ -8,7 +8,9 @@ ghost use Rattle.wire_text.specs.StringPayload.{IsString, StringFault};
 
 use wire_base::{DecodeError, decode_length};
 
-/// The bytes of a length-delimited payload. The slice then begins behind them.
+/// The bytes of a length-delimited payload. The slice then begins behind them. Refused as
+/// `decode_length` without a maximum; the slice then stays. See "Length-Delimited Records" of the
+/// encoding document.
 #[inline(always)]
 pub fn borrow_bytes<'a>(buf: &mut &'a [u8]) -> Result<&'a [u8], DecodeError>
     ensures ok { IfOk result (λ payload. Reads buf.old.now (IsDelimited payload.now) buf.new.now) }
@@ -23,7 +25,7 @@ pub fn borrow_bytes<'a>(buf: &mut &'a [u8]) -> Result<&'a [u8], DecodeError>
 }
 
 /// The text of a length-delimited payload. The slice then begins behind it, also where the payload
-/// is not UTF-8.
+/// is not UTF-8, which is `InvalidUtf8`. Every other refusal is that of `borrow_bytes`.
 #[inline(always)]
 pub fn borrow_str<'a>(buf: &mut &'a [u8]) -> Result<&'a str, DecodeError>
     ensures ok { IfOk result (λ text. Reads buf.old.now (IsString text.now) buf.new.now) }

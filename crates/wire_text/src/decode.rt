@@ -12,7 +12,8 @@ use std::alloc::Global;
 use wire_base::{DecodeError, copy_bytes, decode_length, take_bytes};
 
 /// The bytes of a length-delimited payload, in a vector of just their size. Nothing is reserved
-/// before the bytes are known to be there.
+/// before the bytes are known to be there. Refused as `decode_length` without a maximum, or with
+/// `OutOfMemory`. See "Length-Delimited Records" of the encoding document.
 #[inline(always)]
 pub fn decode_bytes<B: Buf>(alloc: Global, buf: &mut B) -> Result<Vec<u8>, DecodeError>
     ensures ok { IfOk result (λ payload. Reads (B.unread buf.old)
@@ -24,7 +25,7 @@ pub fn decode_bytes<B: Buf>(alloc: Global, buf: &mut B) -> Result<Vec<u8>, Decod
     Ok(take_bytes(alloc, buf, len)?)
 }
 
-/// The bytes of a length-delimited payload, as a run that can be shared.
+/// The bytes of a length-delimited payload, as a run that can be shared. Refused as `decode_bytes`.
 pub fn decode_bytes_to_bytes<B: Buf>(alloc: Global, buf: &mut B) -> Result<Bytes, DecodeError>
     ensures ok { IfOk result (λ payload. Reads (B.unread buf.old)
         (IsDelimited payload) (B.unread buf.new)) }
@@ -35,7 +36,8 @@ pub fn decode_bytes_to_bytes<B: Buf>(alloc: Global, buf: &mut B) -> Result<Bytes
     Ok(Bytes::from_vec(payload)?)
 }
 
-/// The text of a length-delimited payload. The whole payload is taken also where it is not UTF-8.
+/// The text of a length-delimited payload. The whole payload is taken also where it is not UTF-8,
+/// which is `InvalidUtf8`. Every other refusal is that of `decode_bytes`.
 pub fn decode_string<B: Buf>(alloc: Global, buf: &mut B) -> Result<String, DecodeError>
     ensures ok { IfOk result (λ text. Reads (B.unread buf.old)
         (IsString (string_bytes text)) (B.unread buf.new)) }
@@ -49,7 +51,7 @@ pub fn decode_string<B: Buf>(alloc: Global, buf: &mut B) -> Result<String, Decod
 }
 
 /// Puts the bytes of a length-delimited payload in the place of those that the vector has, and
-/// keeps its room where they fit. A refusal leaves it as it was.
+/// keeps its room where they fit. Refused as `decode_bytes`; the vector is then as it was.
 pub fn merge_bytes<B: Buf>(
     alloc: Global,
     value: &mut Vec<u8>,
@@ -68,8 +70,9 @@ pub fn merge_bytes<B: Buf>(
 }
 
 /// Puts the text of a length-delimited payload in the place of the one that the string has, and
-/// keeps its room where it fits. A payload that is not UTF-8 is taken whole, and leaves the empty
-/// text; every other refusal leaves the string as it was.
+/// keeps its room where it fits. A payload that is not UTF-8 is taken whole, leaves the empty text,
+/// and is `InvalidUtf8`; every other refusal is that of `decode_bytes`, and leaves the string as it
+/// was.
 pub fn merge_string<B: Buf>(
     alloc: Global,
     value: &mut String,

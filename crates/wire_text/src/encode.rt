@@ -31,7 +31,8 @@ pub fn bytes_encoded_len(value: &[u8]) -> Result<usize, EncodeError>
         .ok_or(EncodeError::LengthOverflow)
 }
 
-/// Writes the length of a string and its UTF-8 bytes.
+/// Writes the length of a string and its UTF-8 bytes. Refused where the sink refuses a put. See
+/// "Length-Delimited Records" of the encoding document.
 #[inline(always)]
 pub fn encode_string<S: EncodeSink>(value: &str, sink: &mut S) -> Result<(), EncodeError>
     ensures ok { OnOk result (S.bytes_of sink.new
@@ -43,7 +44,8 @@ pub fn encode_string<S: EncodeSink>(value: &str, sink: &mut S) -> Result<(), Enc
     encode_bytes(value.as_bytes(), sink)
 }
 
-/// Writes the length of the bytes, and the bytes.
+/// Writes the length of the bytes, and the bytes. Refused where the sink refuses a put. See
+/// "Length-Delimited Records" of the encoding document.
 #[inline(always)]
 pub fn encode_bytes<S: EncodeSink>(value: &[u8], sink: &mut S) -> Result<(), EncodeError>
     ensures ok { OnOk result (S.bytes_of sink.new
@@ -58,7 +60,9 @@ pub fn encode_bytes<S: EncodeSink>(value: &[u8], sink: &mut S) -> Result<(), Enc
     sink.put_slice(value)
 }
 
-/// Writes a record with a string: its tag, its length and its UTF-8 bytes.
+/// Writes a record with a string, of a number from 1 to `MAX_FIELD_NUMBER`: its tag, its length and
+/// its UTF-8 bytes. Refused where the sink refuses a put. See "Length-Delimited Records" of the
+/// encoding document.
 #[inline(always)]
 pub fn put_string_field<S: EncodeSink>(
     number: u32,
@@ -76,7 +80,9 @@ pub fn put_string_field<S: EncodeSink>(
     put_bytes_field(number, value.as_bytes(), sink)
 }
 
-/// Writes a record with bytes: its tag, their length and the bytes.
+/// Writes a record with bytes, of a number from 1 to `MAX_FIELD_NUMBER`: its tag, their length and
+/// the bytes. Refused where the sink refuses a put. See "Length-Delimited Records" of the encoding
+/// document.
 #[inline(always)]
 pub fn put_bytes_field<S: EncodeSink>(
     number: u32,

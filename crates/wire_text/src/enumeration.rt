@@ -11,7 +11,7 @@ use std::hash::Hash;
 
 /// An enum whose values stand in message fields. A value has a number on the wire, and a name in
 /// the enum's definition. For an enum that lists its values, `specs/EnumNumbers.antt` has
-/// `of_number` and the proof of the law.
+/// `of_number` and the proof of the law. See "Bools and Enums" of the encoding document.
 pub trait Enumeration: Clone + Copy + PartialEq + Eq + Hash + Debug {
     /// The number of a value on the wire.
     ghost number: { Self → ℤ };
@@ -33,11 +33,11 @@ pub trait Enumeration: Clone + Copy + PartialEq + Eq + Hash + Debug {
     fn to_i32(&self) -> i32
         ensures { result ≡ number self.now };
 
-    /// The value's name in the message's definition.
+    /// The value's name in the enum's definition.
     fn proto_name(&self) -> &'static str
         ensures { result.now ≡ name self.now };
 
-    /// The value with a name, where the enum looks its names up.
+    /// The value with a name: none where no value has it, or the enum looks up no names.
     fn from_proto_name(_name: &str) -> Option<Self>
         ensures { IfSome result (λ value. is_named value _name.now) }
     {
@@ -53,7 +53,8 @@ pub trait Enumeration: Clone + Copy + PartialEq + Eq + Hash + Debug {
     ghost keeps_number: { (n : ℤ) (e : Self) → of_number n ≡ Some e → number e ≡ n };
 }
 
-/// The value of an enum field: one that the enum knows, or the number of one that it does not.
+/// The value of an enum field: one that the enum knows, or the number of one that it does not. See
+/// "Bools and Enums" of the encoding document.
 #[derive(Clone, Copy, PartialEq, Eq, Hash)]
 pub enum EnumValue<E: Enumeration> {
     Known(E),

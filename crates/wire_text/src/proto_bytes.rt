@@ -12,21 +12,23 @@ use std::alloc::Global;
 use std::fmt::Debug;
 use wire_base::DecodeError;
 
-/// Bytes, made of a bytes field's payload.
+/// Bytes, made of a bytes field's payload. See "Length-Delimited Records" of the encoding document.
 pub trait ProtoBytes: Clone + PartialEq + Debug + Drop {
     ghost bytes: { Self → List ℕ };
 
     /// What the type makes of a payload: bytes, or an error.
     ghost answers: { List ℕ → Answer → Type 0 };
 
-    /// The bytes that the type makes of a payload, or the error with which it refuses it.
+    /// The bytes that the type makes of a payload, or the error with which it refuses it, or
+    /// `OutOfMemory`. `Vec<u8>` and `Bytes` take all bytes.
     fn from_wire(alloc: Global, payload: WirePayload<'_>) -> Result<Self, DecodeError>
         ensures ok { IfOk result (λ value. answers (payload_bytes payload.entry)
             (Ok (bytes value))) }
         ensures err { IfErr result (λ e. (e ≡ OutOfMemory) ⊎ answers (payload_bytes payload.entry)
             (Err e)) };
 
-    /// The vector is given up where it is refused.
+    /// A value of these bytes. It may be refused, for want of memory or by the type, and the vector
+    /// is then given up.
     fn from_vec(alloc: Global, value: Vec<u8>) -> Result<Self, DecodeError>
         ensures ok { IfOk result (λ made. bytes made ≡ value.items) };
 
@@ -97,7 +99,9 @@ impl ProtoBytes for Bytes {
 }
 
 /// What the type makes of a bytes field's payload. A payload that lies in one chunk is lent to it,
-/// and taken from the buffer only where the type takes it; any other is copied and handed over.
+/// and taken from the buffer only where the type takes it; any other is taken, copied and handed
+/// over, also where the type then refuses it. Refused as `decode_bytes`, or with the type's own
+/// error.
 pub fn decode_bytes_to<P: ProtoBytes, B: Buf>(alloc: Global, buf: &mut B) -> Result<P, DecodeError>
     ensures ok { IfOk result (λ value. TakesValue P.answers (P.bytes value)
         (B.unread buf.old) (B.unread buf.new)) }

@@ -6,7 +6,7 @@ use std::alloc::Global;
 use std::fmt::Debug;
 use wire_base::DecodeError;
 
-/// A list of the elements of a repeated field.
+/// A list of the elements of a repeated field. See "Repeated Elements" of the encoding document.
 pub trait ProtoList<T: Drop>: Clone + PartialEq + Debug + Drop {
     ghost items: { Self → List T };
 
@@ -20,7 +20,7 @@ pub trait ProtoList<T: Drop>: Clone + PartialEq + Debug + Drop {
     fn clear(&mut self)
         ensures { items self.new ≡ [] };
 
-    /// Makes room for so many elements more, as far as the type can.
+    /// Makes room for so many elements more, as far as the type can, or answers `OutOfMemory`.
     fn reserve(&mut self, _additional: usize) -> Result<(), DecodeError>
         ensures unchanged { items self.new ≡ items self.old }
         ensures err { IfErr result (λ e. e ≡ OutOfMemory) }

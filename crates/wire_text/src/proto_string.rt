@@ -13,7 +13,8 @@ use std::alloc::Global;
 use std::fmt::Debug;
 use wire_base::DecodeError;
 
-/// A text, made of a string field's payload.
+/// A text, made of a string field's payload. See "Length-Delimited Records" of the encoding
+/// document.
 pub trait ProtoString: Clone + PartialEq + Debug + Drop {
     /// The bytes of the text.
     ghost text: { Self → List ℕ };
@@ -21,7 +22,8 @@ pub trait ProtoString: Clone + PartialEq + Debug + Drop {
     /// What the type makes of a payload: a text, or an error.
     ghost answers: { List ℕ → Answer → Type 0 };
 
-    /// The text of a payload, or the error with which the type refuses it.
+    /// The text of a payload, or the error with which the type refuses it, or `OutOfMemory`.
+    /// `String` refuses what is not UTF-8, with `InvalidUtf8`.
     fn from_wire(alloc: Global, payload: WirePayload<'_>) -> Result<Self, DecodeError>
         ensures ok { IfOk result (λ value. answers (payload_bytes payload.entry)
             (Ok (text value))) }
@@ -73,7 +75,9 @@ impl ProtoString for String {
 }
 
 /// What the type makes of a string field's payload. A payload that lies in one chunk is lent to it,
-/// and taken from the buffer only where the type takes it; any other is copied and handed over.
+/// and taken from the buffer only where the type takes it; any other is taken, copied and handed
+/// over, also where the type then refuses it. Refused as `decode_bytes`, or with the type's own
+/// error.
 pub fn decode_string_to<P: ProtoString, B: Buf>(
     alloc: Global,
     buf: &mut B,

@@ -6,7 +6,8 @@ use bytes::Bytes;
 use std::alloc::{AllocError, Global};
 use wire_base::DecodeError;
 
-/// The bytes of a payload: lent where they lie together in the input, else a run of their own.
+/// The bytes of a payload: lent where they lie together in the input, else a run of their own. See
+/// "Length-Delimited Records" of the encoding document.
 #[derive(Drop)]
 pub struct WirePayload<'a> {
     source: Source<'a>,
@@ -88,7 +89,7 @@ impl<'a> WirePayload<'a> {
         }
     }
 
-    /// The bytes as a text. `InvalidUtf8` comes exactly where they are none.
+    /// The bytes as a text. `InvalidUtf8` comes exactly where they are not UTF-8.
     pub fn to_str(&self) -> Result<&str, DecodeError>
         ensures ok { IfOk result (λ text. text.now ≡ payload_bytes self.now) }
         ensures utf8 { OnOk result (IsUtf8 (payload_bytes self.now)) }
@@ -98,7 +99,8 @@ impl<'a> WirePayload<'a> {
         simdutf8::basic::from_utf8(self.as_slice()).or(Err(DecodeError::InvalidUtf8))
     }
 
-    /// The bytes as a run of their own, which takes no memory where they are one.
+    /// The bytes as a run of their own. Those of a lent payload are copied, and refused with
+    /// `OutOfMemory` where there is no room for them.
     pub fn into_bytes(self, alloc: Global) -> Result<Bytes, DecodeError>
         ensures ok { IfOk result (λ bytes. bytes ≡ payload_bytes self.entry) }
         ensures err { IfErr result (λ e. e ≡ OutOfMemory) }

@@ -67,7 +67,7 @@ impl Buf for RopeBuf {
         }
     }
 
-    /// In a time that grows with the segments that are read to their end alone.
+    /// Takes time for each segment that is read to its end, and not for its bytes.
     fn advance(&mut self, cnt: usize)
         requires { cnt ≤ length (concat self.old) }
         ensures value { concat self.new ≡ drop cnt (concat self.old) }

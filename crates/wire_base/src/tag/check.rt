@@ -7,7 +7,8 @@ ghost use Rattle.wire_base.specs.TagView.{tag_number, tag_type};
 use super::{Tag, WireType};
 use crate::error::DecodeError;
 
-/// Refuses a tag whose wire type is not the one that its field has.
+/// Refuses a tag whose wire type is not the one that its field has, with `WireTypeMismatch`. See
+/// "Message Structure" of the encoding document.
 pub fn check_wire_type(tag: Tag, expected: WireType) -> Result<(), DecodeError>
     ensures ok { OnOk result (tag_type tag ≡ expected) }
     ensures err { IfErr result (λ e. (tag_type tag ≢ expected)

@@ -24,7 +24,7 @@ use std::alloc::Global;
 
 impl UnknownFields {
     /// Reads all of the bytes as records, in which groups nest at most 100 deep and which are at
-    /// most 1,000,000, those in groups counted.
+    /// most 1,000,000, those in groups counted. Refused as `decode_from_slice_within`.
     pub fn decode_from_slice(alloc: Global, bytes: &[u8]) -> Result<UnknownFields, DecodeError>
         ensures spelled { IfOk result (λ fs. Spells fs bytes.now) }
         ensures within { IfOk result (λ fs. Fits (charge fs) (counted 100 1000000)) }
@@ -39,8 +39,10 @@ impl UnknownFields {
         UnknownFields::decode_from_slice_within(alloc, bytes, &mut context)
     }
 
-    /// Reads all of the bytes as records, under the limits of the context. A refused attempt may
-    /// have used up slots of it, and leaves its depth open.
+    /// Reads all of the bytes as records, under the limits of the context. Refused with the first
+    /// fault from the left, of a tag as `Tag::decode` or of a payload as `decode_unknown_field`, or
+    /// with `OutOfMemory`. A refused attempt may have used up slots and levels of the context. See
+    /// "Message Structure" of the encoding document.
     pub fn decode_from_slice_within(
         alloc: Global,
         bytes: &[u8],
@@ -83,9 +85,12 @@ impl UnknownFields {
     }
 }
 
-/// Reads the payload of a tag that was read, and keeps it as a field. It takes one unknown field
-/// for itself and one for each field in its groups, and a level for each group and for each group
-/// in it. With more slots left than bytes it agrees with `skip_field_depth` at as many levels.
+/// Reads the payload of a tag that was read, and keeps it as a field. It takes a slot for itself
+/// and one for each field in its groups, and a level for each group while that is read.
+/// `UnknownFieldLimitExceeded`, where no slot is left, comes before any fault of the payload; else
+/// refused as `skip_field_depth` at the levels of the context, or with `OutOfMemory`, only for
+/// bytes that are there. A refused attempt may have used up slots and levels. With more slots left
+/// than bytes it agrees with `skip_field_depth` at as many levels, but for memory.
 #[inline(always)]
 pub fn decode_unknown_field<B: Buf>(
     alloc: Global,

@@ -13,7 +13,8 @@ use crate::tag::{WireType, put_tag};
 use crate::varint::encode_varint;
 
 impl UnknownFields {
-    /// Writes the shortest text of the records. Padding that they came with is gone.
+    /// Writes the shortest text of the records. Padding that they came with is gone. Refused where
+    /// the sink refuses a put.
     #[inline(always)]
     pub fn write_to<S: EncodeSink>(&self, sink: &mut S) -> Result<(), EncodeError>
         ensures ok { OnOk result (S.bytes_of sink.new ≡ S.bytes_of sink.old ++ text_of self.now) }
@@ -46,7 +47,8 @@ impl UnknownFields {
 }
 
 impl UnknownField {
-    /// Writes the shortest text of the record. Its number may be one that decoding refuses.
+    /// Writes the shortest text of the record. Its number may be one that decoding refuses. Refused
+    /// where the sink refuses a put.
     pub fn write_to<S: EncodeSink>(&self, sink: &mut S) -> Result<(), EncodeError>
         ensures ok { OnOk result (S.bytes_of sink.new
             ≡ S.bytes_of sink.old ++ record_text self.now.number (payload_of self.now.value)) }
