@@ -1,10 +1,11 @@
 //! The callers that ask for memory, and what they answer.
 use super::{Found, Place, Stop, cut, first_astray, found_in, settled, writes};
 use crate::callers::counter::Counter;
+use crate::callers::texts::ShortText;
 use crate::callers::{first, log, messages, records, scalars, texts, views};
 use bytes::Bytes;
 use std::alloc::Global;
-use wire_codec::DecodeError;
+use wire_codec::{DecodeError, ProtoString};
 
 // A counter is read from an input that is not trusted, and one more is written.
 fn raises(alloc: Global) -> Result<bool, Stop> {
@@ -59,7 +60,12 @@ fn puts_balance(alloc: Global) -> Result<bool, Stop> {
     writes(alloc, b"\x08\x03", |sink| scalars::put_balance(-2, sink))
 }
 
-pub(super) fn rows(alloc: Global) -> [Found; 10] {
+fn makes_short_text(alloc: Global) -> Result<bool, Stop> {
+    let short = ShortText::from_text(alloc, "hi")?;
+    Ok(short.as_str() == "hi" && ShortText::empty(alloc).as_str() == "")
+}
+
+pub(super) fn rows(alloc: Global) -> [Found; 11] {
     [
         found_in(raises(alloc)),
         found_in(refuses_long(alloc)),
@@ -71,6 +77,7 @@ pub(super) fn rows(alloc: Global) -> [Found; 10] {
         found_in(keeps_twice(alloc)),
         found_in(puts_pair(alloc)),
         found_in(puts_balance(alloc)),
+        found_in(makes_short_text(alloc)),
     ]
 }
 
