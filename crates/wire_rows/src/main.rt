@@ -1,0 +1,33 @@
+//! Worked rows of the crates below. Standard input is a table with a row a line: a call, what it is
+//! given, and the answer that is wanted. Each row is tried, and each that is astray is told.
+#![tactic(auto)]
+
+mod agreements;
+mod caches;
+mod callers;
+mod calls;
+mod contexts;
+mod enums;
+mod errors;
+mod found;
+mod lists;
+mod messages;
+mod ropes;
+mod row;
+mod say;
+mod scalars;
+mod sinks;
+mod table;
+mod texts;
+mod unknown;
+mod views;
+
+use std::io;
+use std::io::Read;
+use std::process::ExitCode;
+
+fn main(rt: HostRuntime) -> io::Result<ExitCode> {
+    let mut text = String::with_capacity(rt.alloc(), 1 << 20)?;
+    rt.stdin().read_to_string(&mut text)?;
+    table::run(&rt, &text)
+}
