@@ -190,7 +190,8 @@ mutual
       let head = head_of n p more old new h in
       let same = same_tag old head.behind behind n m (type_of p) w head.tag tag in
       payload_beside_fault l m w behind e fault p head.rest
-      (payload_at m n w p head.behind behind head.rest same.number same.kind same.rest head.payload) fits
+      (payload_at m n w p head.behind behind head.rest same.number same.kind same.rest head.payload)
+      fits
 
   -- a list within the limits that ends, and a fault in its place
   list_beside_fault : (l : Limits) (ending : Ending) (old : List ℕ) (e : DecodeError)
@@ -334,7 +335,8 @@ one_place : (l : Limits) (ending : Ending) (gs fs : Fields) (old rest end : List
 one_place l ending gs fs old rest end e f h k fault other =
     ⊎_elim
     (λ front. same_place l ending gs fs front.more rest end e fault front.parts front.others k.fits)
-    (λ front. let same = same_place l ending fs gs front.more end rest f other front.parts front.others h.fits in (sym same.0, sym same.1))
+    (λ front. let same = same_place l ending fs gs front.more end rest f other front.parts
+    front.others h.fits in (sym same.0, sym same.1))
     (either_front gs fs old rest end h.read k.read)
 
 -- the second fault, at the place of the first
