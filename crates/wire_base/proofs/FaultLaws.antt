@@ -182,8 +182,7 @@ mutual
       → RecordFault l ending old e
       → (n : ℕ) (p : Payload) (more : Fields) (new : List ℕ)
       → Reads old (Spells (field n p more)) new → Fits (payload_charge p) l → ⊥
-  record_beside_fault l ending old e
-      (RecordFault.no_tag fault) n p more new h fits =
+  record_beside_fault l ending old e (RecordFault.no_tag fault) n p more new h fits =
       record_beside_tag_fault ending old e fault n p more new h
   record_beside_fault l ending old e
       (RecordFault.bad_payload m w behind tag is fault) n p more new h fits =
