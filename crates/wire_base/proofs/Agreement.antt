@@ -179,7 +179,8 @@ next_tag_error ending old e (other_end k behind tag other) = λ is. absurd cc
 mutual
   payload_suffices : (l : Limits) (n : ℕ) (w : WireType) (old : List ℕ) (e : DecodeError)
       → PayloadFault l n w old e → HasSlotsFor l old → e ≢ UnknownFieldLimitExceeded
-  payload_suffices l n w old e (PayloadFault.no_slot full) many = absurd (full (slot_there l old many))
+  payload_suffices l n w old e (PayloadFault.no_slot full) many =
+      absurd (full (slot_there l old many))
   payload_suffices l n w old e (PayloadFault.no_varint slot fault) many = varint_error old e fault
   payload_suffices l n w old e (PayloadFault.short_fixed64 slot short) many = λ is. absurd cc
   payload_suffices l n w old e (PayloadFault.short_fixed32 slot short) many = λ is. absurd cc

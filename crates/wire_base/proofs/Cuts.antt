@@ -21,10 +21,6 @@ use Rattle.wire_base.proofs.FieldLaws.{one_payload_lemma}
 use Rattle.wire_base.proofs.PlainReader.{payload_or_fault_lemma}
 use Rattle.wire_base.proofs.Takes.{goes_on_before}
 
--- an error that says that bytes are missing, or a fault that stays
-Stays : (List ℕ → DecodeError → Type 0) → List ℕ → DecodeError → Type 0
-Stays Fault longer e = (e ≡ UnexpectedEof) ⊎ Fault longer e
-
 -- what follows a text may be longer
 Reads-longer : (IsText : List ℕ → Type 0) (old new more : List ℕ) → Reads old IsText new
     → Reads (old ++ more) IsText (new ++ more)
@@ -74,7 +70,8 @@ mutual
   payload_stays l n w old more e (PayloadFault.short_fixed64 slot short) = inl refl
   payload_stays l n w old more e (PayloadFault.short_fixed32 slot short) = inl refl
   payload_stays l n w old more e (PayloadFault.no_bytes slot fault) =
-      ⊎_elim inl (λ stays. inr (PayloadFault.no_bytes slot stays)) (delimited_stays old more e fault)
+      ⊎_elim inl (λ stays. inr (PayloadFault.no_bytes slot stays))
+      (delimited_stays old more e fault)
   payload_stays l n w old more e (PayloadFault.end_outside slot) =
       inr (PayloadFault.end_outside slot)
   payload_stays l n w old more e (PayloadFault.no_level slot flat) =

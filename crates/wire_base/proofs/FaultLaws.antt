@@ -182,15 +182,15 @@ mutual
       → RecordFault l ending old e
       → (n : ℕ) (p : Payload) (more : Fields) (new : List ℕ)
       → Reads old (Spells (field n p more)) new → Fits (payload_charge p) l → ⊥
-  record_beside_fault l ending old e
-      (RecordFault.no_tag fault) n p more new h fits =
+  record_beside_fault l ending old e (RecordFault.no_tag fault) n p more new h fits =
       record_beside_tag_fault ending old e fault n p more new h
   record_beside_fault l ending old e
       (RecordFault.bad_payload m w behind tag is fault) n p more new h fits =
       let head = head_of n p more old new h in
       let same = same_tag old head.behind behind n m (type_of p) w head.tag tag in
       payload_beside_fault l m w behind e fault p head.rest
-      (payload_at m n w p head.behind behind head.rest same.number same.kind same.rest head.payload) fits
+      (payload_at m n w p head.behind behind head.rest same.number same.kind same.rest head.payload)
+      fits
 
   -- a list within the limits that ends, and a fault in its place
   list_beside_fault : (l : Limits) (ending : Ending) (old : List ℕ) (e : DecodeError)
@@ -334,7 +334,8 @@ one_place : (l : Limits) (ending : Ending) (gs fs : Fields) (old rest end : List
 one_place l ending gs fs old rest end e f h k fault other =
     ⊎_elim
     (λ front. same_place l ending gs fs front.more rest end e fault front.parts front.others k.fits)
-    (λ front. let same = same_place l ending fs gs front.more end rest f other front.parts front.others h.fits in (sym same.0, sym same.1))
+    (λ front. let same = same_place l ending fs gs front.more end rest f other front.parts
+    front.others h.fits in (sym same.0, sym same.1))
     (either_front gs fs old rest end h.read k.read)
 
 -- the second fault, at the place of the first

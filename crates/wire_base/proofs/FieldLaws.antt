@@ -154,9 +154,11 @@ front_to_tag n fs gs mid end r s h k (field m q more) parts others =
 same_body : (n : ℕ) (fs gs : Fields) (old r s : List ℕ) (h : Body n fs old r) (k : Body n gs old s)
     → Front fs gs h.end k.end ⊎ Front gs fs k.end h.end → (fs ≡ gs) × (r ≡ s)
 same_body n fs gs old r s h k (inl front) =
-    let same = front_to_tag n fs gs h.end k.end r s h.tag k.tag front.more front.parts front.others in (sym same.0, same.1)
+    let same = front_to_tag n fs gs h.end k.end r s h.tag k.tag front.more front.parts front.others
+    in (sym same.0, same.1)
 same_body n fs gs old r s h k (inr front) =
-    let same = front_to_tag n gs fs k.end h.end s r k.tag h.tag front.more front.parts front.others in (same.0, sym same.1)
+    let same = front_to_tag n gs fs k.end h.end s r k.tag h.tag front.more front.parts front.others
+    in (same.0, sym same.1)
 
 same_number : (v w : ℕ) (old r s : List ℕ) → Reads old (IsSpelling v) r → Reads old (IsSpelling w) s
     → (varint v ≡ varint w) × (r ≡ s)
@@ -276,8 +278,11 @@ mutual
 
   numbered : (fs : Fields) (t : List ℕ) → Spells fs t → AreNumbered fs
   numbered none t h = tt
-  numbered (field n p fs) t (behind, rest, tag, payload, others) =
-      (tag.spelled.number, payload_numbered n p payload.text payload.spelled, numbered fs rest others)
+  numbered (field n p fs) t (behind, rest, tag, payload, others) = (
+    tag.spelled.number,
+    payload_numbered n p payload.text payload.spelled,
+    numbered fs rest others,
+  )
 
 -- ---- the laws
 

@@ -2,7 +2,7 @@
 use Rattle.std.proofs.Common.{◌≡◌, ℕ, zero, suc, ◌+◌, ◌*◌, ◌-◌, ◌%◌, ◌^◌, ◌<◌, ◌≤◌, inl, inr, List, [], ◌∷◌, ◌++◌, length, drop, get_or, sym, ap, ◌∙◌, subst, arith, append_assoc}
 use Rattle.std.proofs.lemmas.List.{append-nil, length-append, drop-append-le}
 use Rattle.std.proofs.lemmas.Nat.{pow-add}
-use Rattle.std.proofs.Math.Nat.{mod-lt, mul_assoc, add-mul, mul-le-mul_right}
+use Rattle.std.proofs.Math.Nat.{mod-lt, mul_assoc, add-mul}
 use Rattle.std.proofs.Math.Pow.{pow_mono}
 use Rattle.std.proofs.Common.{add-one, drop-cons, take, take-append-drop}
 use Rattle.wire_base.proofs.ReadLaws.{Reads-inside}
@@ -12,7 +12,7 @@ use Rattle.wire_base.specs.declared.error.DecodeError.TheVariants.{VarintTooLong
 use Rattle.wire_base.specs.Varint.{AllContinue, IsSpelling, VarintFault, too_long}
 use Rattle.wire_base.specs.Read.{Reads}
 use Rattle.wire_base.proofs.Varints.{ReadSoFar, ReadSoFar-more, ReadSoFar-ends, ReadSoFar-fits}
-use Rattle.wire_base.proofs.Varints.{digit_below, value_of-below, ReadSoFar-tenth}
+use Rattle.wire_base.proofs.Varints.{digit_below, varint_value-below, ReadSoFar-tenth}
 
 all_above : (bytes : List ℕ) (i : ℕ) → AllContinue bytes → i < length bytes → 128 ≤ get_or bytes i 0
 all_above [] i all there = absurd (omega (arith, there))
@@ -38,21 +38,8 @@ one_more_there bytes (b ∷ now) v count holds so_far few =
 
 -- ---- digits in numbers of 32 bits
 
--- a byte as a digit among four fits
-pub digit_fits : (b place : ℕ) → b < 256 → place ≤ 3 → b * 2 ^ (7 * place) < 2 ^ 29
-digit_fits b place byte few =
-    let most : b * 2 ^ (7 * place) ≤ 255 * 2 ^ (7 * place) =
-    mul-le-mul_right (2 ^ (7 * place)) (omega (arith, byte)) in
-    let power : 2 ^ (7 * place) ≤ 2 ^ 21 = pow_mono {i = 7 * place} {j = 21} (omega (arith, few)) in
-    omega (arith, most, power)
-
 -- a byte that continues, with its digit added and the continuation bit taken off
 module _ (v b p : ℕ) (high : 128 ≤ b) where
-  pub continuation_there : 128 * p ≤ v + b * p
-  continuation_there =
-      let most : 128 * p ≤ b * p = mul-le-mul_right p high in
-      omega (arith, most)
-
   pub continuation_off : b < 256 → v + b * p - 128 * p ≡ v + b % 128 * p
   continuation_off byte =
       let is : b ≡ b % 128 + 128 = omega (arith, high, byte) in
@@ -76,7 +63,7 @@ digit_more v count b new below is =
 
 so_far_below : (bytes now : List ℕ) (v count : ℕ) → ReadSoFar bytes now v count
     → v < 2 ^ (7 * count)
-so_far_below bytes now v count h = rw (h.value, h.len) at (value_of-below h.front)
+so_far_below bytes now v count h = rw (h.value, h.len) at (varint_value-below h.front)
 
 -- what the bytes have from a place on
 next_byte : (bytes : List ℕ) (i b : ℕ) → i < length bytes → b ≡ get_or bytes i 0
@@ -129,12 +116,6 @@ module _ (bytes : List ℕ) (b : ℕ) where
           rw middle_whole (ReadSoFar-ends bytes _ _ (low + middle * 2 ^ 28) i b h
           (next_byte bytes i b there at) last (omega (arith, few))
           (ReadSoFar-fits bytes _ (low + middle * 2 ^ 28) i b h (omega (arith, few))))
-
--- at most four digits are below 2 ^ 28
-pub four_digits : (v i : ℕ) → v < 2 ^ (7 * (i - 4)) → i ≤ 8 → v < 2 ^ 28
-four_digits v i below few =
-    let most : 2 ^ (7 * (i - 4)) ≤ 2 ^ 28 = pow_mono {i = 7 * (i - 4)} {j = 28} (omega arith) in
-    omega (arith, below, most)
 
 pub low_fits : (bytes now : List ℕ) (v count : ℕ) → ReadSoFar bytes now v count → count ≤ 4
     → v < 2 ^ 28

@@ -170,7 +170,8 @@ module _ (l : Limits) (span mid new : List ℕ) (at deepest : ℕ) (now : Limits
 -- ---- where a walk stops
 
 pub walked_stops : (l : Limits) (span rest : List ℕ) (at deepest : ℕ) (now : Limits)
-    (e : DecodeError) → Walked l span rest at deepest now → ItemFault now rest e → SpanFault l span e
+    (e : DecodeError) → Walked l span rest at deepest now → ItemFault now rest e
+    → SpanFault l span e
 walked_stops l span rest at deepest now e h fault =
     past h.items rest h.taken (subst (λ m. ItemFault m rest e) h.left fault)
 

@@ -1,13 +1,12 @@
 -- One list of records behind another: its texts, its shortest text, and how many it has.
-use Rattle.std.proofs.Common.{◌≡◌, ℕ, ◌+◌, List, [], ◌++◌, length, refl, sym, ap, ◌∙◌, subst, arith, append_assoc, append-nil, length-append}
+use Rattle.std.proofs.Common.{◌≡◌, ℕ, ◌+◌, List, [], ◌++◌, refl, sym, ap, ◌∙◌, subst, arith, append_assoc, append-nil}
 use Rattle.wire_base.specs.declared.tag.WireType.{WireType}
 use Rattle.wire_base.specs.Field.{Payload, Fields, none, field, type_of, joined, push, count_top}
-use Rattle.wire_base.specs.InRange.{IsPayloadFitting, AreFitting}
 use Rattle.wire_base.specs.Read.{Reads}
 use Rattle.wire_base.specs.RecordLaws.{JoinedTextsSpell, JoinedAddsUp}
 use Rattle.wire_base.specs.Spells.{SpellsPayload, Spells, IsPayload}
 use Rattle.wire_base.specs.Tag.{IsTagSpelling, tag_text}
-use Rattle.wire_base.specs.Text.{payload_text, text_of, size}
+use Rattle.wire_base.specs.Text.{payload_text, text_of}
 use Rattle.wire_base.proofs.FieldLaws.{head_of}
 use Rattle.wire_base.proofs.LimitsLaws.{charge-joined}
 use Rattle.wire_base.proofs.ReadLaws.{Reads-inside, joined_parts}
@@ -18,11 +17,6 @@ use Rattle.wire_base.proofs.ReadLaws.{Reads-inside, joined_parts}
 pub joined_assoc : (fs gs hs : Fields) → joined (joined fs gs) hs ≡ joined fs (joined gs hs)
 joined_assoc none gs hs = refl
 joined_assoc (field n p fs) gs hs = ap (field n p) (joined_assoc fs gs hs)
-
--- a record at the end of the first list is one at the front of the second
-pub joined-push : (fs gs : Fields) (n : ℕ) (p : Payload)
-    → joined (push fs n p) gs ≡ joined fs (field n p gs)
-joined-push fs gs n p = joined_assoc fs (field n p none) gs
 
 -- ---- measures
 
@@ -40,32 +34,10 @@ pub count_top-joined : (fs gs : Fields) → count_top (joined fs gs) ≡ count_t
 count_top-joined none gs = omega arith
 count_top-joined (field n p fs) gs = omega (arith, count_top-joined fs gs)
 
--- the text of one record more
-pub text_of-push : (fs : Fields) (n : ℕ) (p : Payload)
-    → text_of (push fs n p) ≡ text_of fs ++ (tag_text n (type_of p) ++ payload_text n p)
-text_of-push fs n p = text_of-joined fs (field n p none)
-    ∙ ap (λ l. text_of fs ++ (tag_text n (type_of p) ++ l)) (append-nil (payload_text n p))
-
 -- a record more is one more at the top
 pub count_top-push : (fs : Fields) (n : ℕ) (p : Payload)
     → count_top (push fs n p) ≡ count_top fs + 1
 count_top-push fs n p = omega (arith, count_top-joined fs (field n p none))
-
--- the size of one record more
-pub size-push : (fs : Fields) (n : ℕ) (p : Payload)
-    → size (push fs n p) ≡ size fs + (length (tag_text n (type_of p)) + length (payload_text n p))
-size-push fs n p =
-    ap length (text_of-push fs n p) ∙ length-append (text_of fs) _
-    ∙ ap (λ k. length (text_of fs) + k) (length-append (tag_text n (type_of p)) (payload_text n p))
-
--- two lists whose numbers fit are one list whose numbers fit
-pub AreFitting-joined : (fs gs : Fields) → AreFitting fs → AreFitting gs → AreFitting (joined fs gs)
-AreFitting-joined none gs h k = k
-AreFitting-joined (field n p fs) gs h k = (h.0, AreFitting-joined fs gs h.1 k)
-
-pub AreFitting-push : (fs : Fields) (n : ℕ) (p : Payload) → AreFitting fs → IsPayloadFitting p
-    → AreFitting (push fs n p)
-AreFitting-push fs n p h k = AreFitting-joined fs (field n p none) h (k, tt)
 
 -- ---- texts
 

@@ -72,22 +72,29 @@ HaveRoom-none left = record {
 
 HaveRoom-first : (left : Budgets) (a b : Counts) → HaveRoom left (sums a b) → HaveRoom left a
 HaveRoom-first left a b h = record {
-  unknown_fields = HasRoom-first left.unknown_fields a.unknown_fields b.unknown_fields h.unknown_fields;
-  element_memory = HasRoom-first left.element_memory a.element_memory b.element_memory h.element_memory;
+  unknown_fields = HasRoom-first left.unknown_fields a.unknown_fields b.unknown_fields
+      h.unknown_fields;
+  element_memory = HasRoom-first left.element_memory a.element_memory b.element_memory
+      h.element_memory;
 }
 
 pub HaveRoom-second : (left : Budgets) (a b : Counts) → HaveRoom left (sums a b)
     → HaveRoom (each_less left a) b
 HaveRoom-second left a b h = record {
-  unknown_fields = HasRoom-second left.unknown_fields a.unknown_fields b.unknown_fields h.unknown_fields;
-  element_memory = HasRoom-second left.element_memory a.element_memory b.element_memory h.element_memory;
+  unknown_fields = HasRoom-second left.unknown_fields a.unknown_fields b.unknown_fields
+      h.unknown_fields;
+  element_memory = HasRoom-second left.element_memory a.element_memory b.element_memory
+      h.element_memory;
 }
 
-pub HaveRoom-sums : (left : Budgets) (a b : Counts) → HaveRoom left a → HaveRoom (each_less left a) b
+pub HaveRoom-sums : (left : Budgets) (a b : Counts) → HaveRoom left a
+    → HaveRoom (each_less left a) b
     → HaveRoom left (sums a b)
 HaveRoom-sums left a b h k = record {
-  unknown_fields = HasRoom-sum left.unknown_fields a.unknown_fields b.unknown_fields h.unknown_fields k.unknown_fields;
-  element_memory = HasRoom-sum left.element_memory a.element_memory b.element_memory h.element_memory k.element_memory;
+  unknown_fields = HasRoom-sum left.unknown_fields a.unknown_fields b.unknown_fields
+      h.unknown_fields k.unknown_fields;
+  element_memory = HasRoom-sum left.element_memory a.element_memory b.element_memory
+      h.element_memory k.element_memory;
 }
 
 -- all budgets have room, or one has none
@@ -126,8 +133,10 @@ AreNoMore-each_less left a = record {
 
 AreNoMore-again : (a b c : Budgets) → AreNoMore b a → AreNoMore c b → AreNoMore c a
 AreNoMore-again a b c h k = record {
-  unknown_fields = IsNoMore-again a.unknown_fields b.unknown_fields c.unknown_fields h.unknown_fields k.unknown_fields;
-  element_memory = IsNoMore-again a.element_memory b.element_memory c.element_memory h.element_memory k.element_memory;
+  unknown_fields = IsNoMore-again a.unknown_fields b.unknown_fields c.unknown_fields
+      h.unknown_fields k.unknown_fields;
+  element_memory = IsNoMore-again a.element_memory b.element_memory c.element_memory
+      h.element_memory k.element_memory;
 }
 
 sums_assoc : (a b c : Counts) → sums (sums a b) c ≡ sums a (sums b c)
@@ -265,11 +274,6 @@ pub NoCountGrew-again : (l m k : Limits) → NoCountGrew l m → NoCountGrew m k
 NoCountGrew-again l m k h j =
     record { counts = AreNoMore-again l.counts m.counts k.counts h.counts j.counts }
 
--- what is left after a charge, and what is left after that
-pub NoCountGrew-after : (l m : Limits) (c : Charge) → NoCountGrew (left_after l c) m
-    → NoCountGrew l m
-NoCountGrew-after l m c h = NoCountGrew-again l (left_after l c) m (NoCountGrew-left_after l c) h
-
 -- ---- unknown fields
 
 -- a record fits only where one slot does
@@ -298,13 +302,6 @@ Fits-group l fs h level k =
     Fits-both l one_field (nested (charge fs)) h
     (Fits-nested (left_after l one_field) (charge fs) level k)
 
--- a group's slot and its level, its records, and the level again: the charge of the group
-pub left_after-group : (l : Limits) (fs : Fields) → 0 < l.depth
-    → outer (left_after (inner (left_after l one_field)) (charge fs)) ≡ left_after l
-    (payload_charge (group fs))
-left_after-group l fs level = left_after-nested (left_after l one_field) (charge fs) level
-    ∙ left_after-both l one_field (nested (charge fs))
-
 -- without a count there is a slot for each field
 pub uncounted_slot : (levels : ℕ) → Fits one_field (uncounted levels)
 uncounted_slot levels =
@@ -318,7 +315,7 @@ charges_add_up_lemma = record {
   nothing_first = both-nothing_first;
   nothing_last = both-nothing_last;
   lists = total-joined;
-  unknown = charge-total;
+  kept_records = charge-total;
 }
 
 pub limits_add_up_lemma : LimitsAddUp
@@ -338,4 +335,8 @@ levels_add_up_lemma = record {
 }
 
 pub counts_fall_lemma : CountsFall
-counts_fall_lemma = record { unchanged = NoCountGrew-itself; after = NoCountGrew-left_after; again = NoCountGrew-again }
+counts_fall_lemma = record {
+  unchanged = NoCountGrew-itself;
+  after = NoCountGrew-left_after;
+  again = NoCountGrew-again;
+}

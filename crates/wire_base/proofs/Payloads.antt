@@ -1,12 +1,10 @@
 -- The payload behind a tag, by its wire type.
 use Rattle.std.proofs.Common.{◌≡◌, ℕ, ◌<◌, ◌≤◌, List, ◌++◌, length, take, drop, refl, length-take-le}
 use Rattle.std.specs.Int.{w32, w64, from_le_bytes}
-use Rattle.wire_base.specs.declared.error.DecodeError.{DecodeError}
 use Rattle.wire_base.specs.declared.tag.WireType.TheVariants as types
 use Rattle.wire_base.specs.Charge.{charge, payload_charge}
 use Rattle.wire_base.specs.Delimited.{IsDelimited}
 use Rattle.wire_base.specs.Ending.{by_tag}
-use Rattle.wire_base.specs.Fault.{PayloadFault, ListFault, in_group}
 use Rattle.wire_base.specs.Field.{varint, fixed64, fixed32, bytes, group, Fields}
 use Rattle.wire_base.specs.Limits.{Limits, Charge, Fits, one_field, inner, left_after}
 use Rattle.wire_base.specs.Read.{Reads}
@@ -29,8 +27,11 @@ group_read c l n fs old new h = payload_as n (group fs) old new (record {
   text = h.fields.read.text ++ h.ended.text;
   parts = joined_parts (Spells fs)
       (IsTagSpelling n types.EndGroup) old h.end new h.fields.read h.ended;
-  spelled =
-      (h.ended.text, record { text = h.fields.read.text; parts = refl; spelled = h.fields.read.spelled }, h.ended.spelled);
+  spelled = (
+    h.ended.text,
+    record { text = h.fields.read.text; parts = refl; spelled = h.fields.read.spelled },
+    h.ended.spelled,
+  );
 })
 
 group_list : (c : Charge) (l : Limits) (n : ℕ) (fs : Fields) (old new : List ℕ) → Fits c l
@@ -92,12 +93,6 @@ module _ (l : Limits) (n : ℕ) (slot : Fits one_field l) where
     read = group_read (charge fs) (inner (left_after l one_field)) n fs old new h;
     fits = Fits-group l fs slot level h.fields.fits;
   }
-
-  -- a fault in the group, under the limits that are left there
-  pub fails_in_group : (left : Limits) (k : ℕ) {bytes : List ℕ} {e : DecodeError} → 0 < l.depth
-      → left ≡ inner (left_after l one_field) → k ≡ n → ListFault left (by_tag k) bytes e
-      → PayloadFault l n types.StartGroup bytes e
-  fails_in_group left k level is same f = in_group slot level (rw (is, same) at f)
 
 -- records up to a place where they end
 pub takes_until : (l : Limits) (n : ℕ) (fs : Fields) (old mid new : List ℕ)

@@ -1,5 +1,5 @@
 -- Readings, one behind the other.
-use Rattle.std.proofs.Common.{◌≡◌, ℕ, ◌≤◌, List, ◌++◌, length, take, drop, refl, sym, ap, ◌∙◌, append_assoc, arith, length-append, take-append-drop}
+use Rattle.std.proofs.Common.{◌≡◌, ℕ, ◌≤◌, List, ◌++◌, length, take, drop, sym, ap, ◌∙◌, append_assoc, arith, length-append, take-append-drop}
 use Rattle.wire_base.specs.Read.{Reads}
 
 -- what stands at the front of a text stands at the front of what the text begins
@@ -10,12 +10,6 @@ Reads-inside IsText old text rest new e h = record {
   parts = e ∙ ap (λ l. l ++ new) h.parts ∙ append_assoc h.text rest new;
   spelled = h.spelled;
 }
-
--- a text and its rest, without what stands behind the rest
-pub Reads-alone : (IsText : List ℕ
-    → Type 0) (old rest new : List ℕ) (h : Reads old IsText (rest ++ new))
-    → Reads (h.text ++ rest) IsText rest
-Reads-alone IsText old rest new h = record { text = h.text; parts = refl; spelled = h.spelled }
 
 -- a text that stands at the front, and another at what follows it, joined
 pub joined_parts : (IsText OtherText : List ℕ → Type 0) (old mid new : List ℕ)

@@ -52,24 +52,6 @@ Written-more bound old text now next left piece after w put is within = record {
       (still_within bound w.front now piece w.within within some);
 }
 
--- all of the text is written
-pub Written-all : (bound : Option ℕ) (old text now : List ℕ) → Written bound old text now []
-    → now ≡ old ++ text
-Written-all bound old text now w = w.held
-    ∙ ap (λ (t : List ℕ). old ++ t) (sym (w.parts ∙ append-nil w.front))
-
-pub Written-within : (bound : Option ℕ) (old text now : List ℕ) → Written bound old text now []
-    → text ≢ [] → ¬ IsBeyond bound (length old + length text)
-Written-within bound old text now w some =
-    let whole : text ≡ w.front = w.parts ∙ append-nil w.front in
-    λ beyond. w.within (λ e. some (whole
-    ∙ e)) (IsBeyond-more bound (length old + length text) (length now)
-    (omega (
-      arith,
-      ap length (Written-all bound old text now w)
-          ∙ length-append old text,
-    )) beyond)
-
 -- the last piece, whose result is returned
 pub Written-ok : (bound : Option ℕ) (r : Result (Unit {0}) EncodeError)
     (old text now new left : List ℕ) → Written bound old text now left → OnOk r (new ≡ now ++ left)
@@ -88,12 +70,6 @@ Written-total bound old text now left w =
       ap length w.held
           ∙ length-append old w.front,
     )
-
--- a refused put
-pub Written-stops : (bound : Option ℕ) (old text now new left : List ℕ)
-    → Written bound old text now left → new ≡ now → KeepsFront old text new
-Written-stops bound old text now new left w same =
-    record { front = w.front; rest = left; parts = w.parts; held = same ∙ w.held }
 
 -- a refused longer write within it
 pub Written-breaks : (bound : Option ℕ) (old text now new left piece after : List ℕ)
@@ -162,16 +138,4 @@ last_put bound (Ok u) old text now left w h =
     (omega (arith, Written-total bound old text now left w)) beyond)
 last_put bound (Err e) old text now left w h =
     refused_put bound (length now + length left) old text e
-    (omega (arith, Written-total bound old text now left w)) h
-
--- the last one of several longer writes, which is of some bytes
-pub last_write : (bound : Option ℕ) (r : Result (Unit {0}) EncodeError) (old text now left : List ℕ)
-    → Written bound old text now left → left ≢ [] → WriteAnswers bound now left r
-    → WriteAnswers bound old text r
-last_write bound (Ok u) old text now left w some h =
-    λ whole beyond. h some
-    (IsBeyond-more bound (length old + length text) (length now + length left)
-    (omega (arith, Written-total bound old text now left w)) beyond)
-last_write bound (Err e) old text now left w some h =
-    refused_write bound now left old text e
     (omega (arith, Written-total bound old text now left w)) h

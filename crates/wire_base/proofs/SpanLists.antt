@@ -1,30 +1,15 @@
 -- Borrowed spans as lists of bytes, from a place on and up to it.
-use Rattle.std.proofs.Common.{◌≡◌, ℕ, ◌+◌, ◌<◌, ◌≤◌, List, [], ◌∷◌, ◌++◌, Bor, length, map, take, drop, get_or, refl, sym, ap, ◌∙◌, add-one}
-use Rattle.std.proofs.lemmas.List.{map-append, map_more, take-append-drop, take_all}
-use Rattle.std.proofs.Math.ListN.{drop_of_length-le}
+use Rattle.std.proofs.Common.{◌≡◌, ℕ, ◌+◌, ◌<◌, List, [], ◌∷◌, ◌++◌, Bor, length, map, take, drop, get_or, refl, sym, ap, ◌∙◌, add-one}
+use Rattle.std.proofs.lemmas.List.{map-append, map_more, take-append-drop}
 use Rattle.std.proofs.Math.Seq.{drop-cons}
-use Rattle.std.specs.List.{concat}
 
 abbrev pub spans_of : List (Bor (List ℕ)) → List (List ℕ)
 spans_of xs = map (λ s. s.now) xs
 
 module _ (xs : List (Bor (List ℕ))) (i : ℕ) where
-  -- behind the last place there are no spans
-  pub spans_of-end : length xs ≤ i → spans_of (drop i xs) ≡ []
-  spans_of-end past_all = ap spans_of (drop_of_length-le xs past_all)
-
-  -- and up to it there are all
-  pub spans_of-whole : length xs ≤ i → spans_of (take i xs) ≡ spans_of xs
-  spans_of-whole past_all = ap spans_of (take_all i xs past_all)
-
   module _ (d : Bor (List ℕ)) (there : i < length xs) where
     pub spans_of-at : spans_of (drop i xs) ≡ (get_or xs i d).now ∷ spans_of (drop (i + 1) xs)
     spans_of-at = ap spans_of (drop-cons xs i d there) ∙ rw add-one refl
-
-    -- the bytes from a place on begin with those of the span there
-    pub concat-at : concat (spans_of (drop i xs))
-        ≡ (get_or xs i d).now ++ concat (spans_of (drop (i + 1) xs))
-    concat-at = ap concat spans_of-at
 
     -- one span more
     pub spans_of-more : spans_of (take (i + 1) xs)

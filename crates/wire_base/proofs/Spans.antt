@@ -15,7 +15,7 @@ use Rattle.wire_base.specs.InRange.{AreFitting, AreNumbered}
 use Rattle.wire_base.specs.Items.{Item, SpellsItems, TakesItems, ItemFault, SpanFault, slots, greatest_level, flat_charge}
 use Rattle.wire_base.specs.Limits.{Limits, Charge, HasRoom, HaveRoom, Fits, both, left_after, no_charge, less}
 use Rattle.wire_base.specs.SpanLaws.{OneSpansCharge, SpansChargeRecords, JoinedSpansSpell}
-use Rattle.wire_base.specs.Spans.{AreCharged, fields_charge, limits_of, SpellEach, SpansRefusal, past}
+use Rattle.wire_base.specs.Spans.{AreCharged, fields_charge, exact_limits, SpellEach, SpansRefusal, past}
 use Rattle.wire_base.specs.Spells.{Spells}
 use Rattle.wire_base.specs.Tag.{TagFault}
 use Rattle.wire_base.specs.Taken.{KeepsBehind}
@@ -261,12 +261,12 @@ uses_all l new spans (Err e) each charged refusal fs c h few sums levels slots =
 -- under what the spans are charged
 pub only_charged : (spans : List (List ℕ)) (c : Charge) (r : Result Fields DecodeError)
     → AreCharged spans c → IfOk r (λ fs. SpellEach spans fs)
-    → IfErr r (SpansRefusal (limits_of c) spans)
+    → IfErr r (SpansRefusal (exact_limits c) spans)
     → (fs : Fields) → SpellEach spans fs → (charge fs).depth < 2 ^ 32
     → MatchResult r (λ read. read ≡ fs) (λ e. e ≡ OutOfMemory)
 only_charged spans c r sums each refusal fs h few =
-    only_spelled (limits_of c) spans r each refusal fs h
-    (fits_just (limits_of c) fs c (charged_alike spans fs c h few sums) refl refl)
+    only_spelled (exact_limits c) spans r each refusal fs h
+    (fits_just (exact_limits c) fs c (charged_alike spans fs c h few sums) refl refl)
 
 -- ---- pushes
 

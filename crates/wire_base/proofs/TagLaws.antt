@@ -78,10 +78,6 @@ tag_value-at_least n w h = omega (arith, h.0)
 pub tag_value-type : (n : ℕ) (w : WireType) → tag_value n w % 8 ≡ wire_number w
 tag_value-type n w = omega (arith, wire_number-below w)
 
--- the other bits are the field number
-pub tag_value-number : (n : ℕ) (w : WireType) → tag_value n w / 8 ≡ n
-tag_value-number n w = omega (arith, wire_number-below w)
-
 -- ---- why a number is no tag
 
 -- a number past 32 bits
@@ -198,7 +194,19 @@ tag_or_fault_from_value : (bytes : List ℕ) (v : ℕ) (rest : List ℕ) → Rea
     → ((n : ℕ) × (w : WireType) × IsFieldNumber n × (tag_value n w ≡ v))
     ⊎ ((e : DecodeError) × (tag_error v ≡ Some e)) → TagOrFault bytes
 tag_or_fault_from_value bytes v rest p (inl (n, w, h, same)) =
-    inl (n, w, rest, record { text = p.text; parts = p.parts; spelled = record { number = h; varint = subst (λ v. IsSpelling v p.text) (sym same) p.spelled } })
+    inl (
+      n,
+      w,
+      rest,
+      record {
+        text = p.text;
+        parts = p.parts;
+        spelled = record {
+          number = h;
+          varint = subst (λ v. IsSpelling v p.text) (sym same) p.spelled;
+        };
+      },
+    )
 tag_or_fault_from_value bytes v rest p (inr (e, error)) = inr (e, no_tag v rest p error)
 
 -- a varint or a fault is a tag or a fault

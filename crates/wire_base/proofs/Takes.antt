@@ -166,12 +166,14 @@ front_of_list ending fs gs (field n p more) old end rest r h ends last parts k =
 pub one_list_lemma : OneList
 one_list_lemma ending fs gs c d l m old r s h k =
     ⊎_elim
-    (λ front. let same = front_of_list ending fs gs front.more old h.end k.end r h.fields.read h.ended k.last front.parts front.others in (
+    (λ front. let same = front_of_list ending fs gs front.more old h.end k.end r h.fields.read
+    h.ended k.last front.parts front.others in (
       sym same.0,
       ends_once ending k.end r s
           (subst (λ t. Ends ending t r) same.1 h.ended) k.ended,
     ))
-    (λ front. let same = front_of_list ending gs fs front.more old k.end h.end s k.fields.read k.ended h.last front.parts front.others in
+    (λ front. let same = front_of_list ending gs fs front.more old k.end h.end s k.fields.read
+    k.ended h.last front.parts front.others in
     (same.0, ends_once ending h.end r s h.ended (subst (λ t. Ends ending t s) same.1 k.ended)))
     (either_front fs gs old h.end k.end h.fields.read k.fields.read)
 

@@ -1,5 +1,5 @@
 -- A list of unknown fields, one record at a time.
-use Rattle.std.proofs.Common.{◌≡◌, ℕ, zero, suc, ◌+◌, ◌<◌, ◌≤◌, Bool, true, false, ◌==◌, ◌&&◌, eqb, ◌≢◌, List, [], ◌∷◌, ◌++◌, length, get_or, drop, refl, sym, ap, ◌∙◌, append_assoc, add-one, arith}
+use Rattle.std.proofs.Common.{◌≡◌, ℕ, suc, ◌+◌, ◌<◌, ◌≤◌, Bool, true, false, ◌==◌, ◌&&◌, eqb, ◌≢◌, List, [], ◌∷◌, ◌++◌, length, get_or, drop, refl, sym, ap, ◌∙◌, append_assoc, add-one, arith}
 use Rattle.std.proofs.lemmas.Bool.{eqb-true, and_right}
 use Rattle.std.specs.Prelude.{IsTrue, ◌↔◌}
 use Rattle.std.specs.List.{items_where_true}
@@ -11,7 +11,6 @@ use Rattle.wire_base.specs.FieldsEq.{payload_eq, fields_eq}
 use Rattle.wire_base.specs.InRange.{AreFitting, AreNumbered, IsPayloadFitting}
 use Rattle.wire_base.specs.Tag.{tag_text}
 use Rattle.wire_base.specs.Text.{text_of, payload_text, record_text}
-use Rattle.wire_base.specs.Charge.{count, payload_count}
 use Rattle.wire_base.specs.UnknownFields.{payload_of, fields_of, one_record}
 use Rattle.wire_base.proofs.JoinedLaws.{joined_assoc}
 
@@ -29,13 +28,6 @@ pub fields_of-drop : (fs : List UnknownField) (i : ℕ) (f : UnknownField) → i
     → f ≡ get_or fs i f
     → fields_of (drop i fs) ≡ field f.number (payload_of f.value) (fields_of (drop (i + 1) fs))
 fields_of-drop fs i f lt at = ap fields_of (drop-cons fs i f lt) ∙ rw (← at, add-one) refl
-
--- no record counts more than the list that it is in
-pub payload_count-at : (fs : List UnknownField) (i : ℕ) (f : UnknownField) → i < length fs
-    → f ≡ get_or fs i f → payload_count (payload_of f.value) ≤ count (fields_of fs)
-payload_count-at [] i f lt at = absurd (omega arith)
-payload_count-at (g ∷ fs) zero f lt at = rw at (omega arith)
-payload_count-at (g ∷ fs) (suc i) f lt at = omega (arith, payload_count-at fs i f (omega arith) at)
 
 pub text_of-field : (n : ℕ) (p : Payload) (rest : Fields)
     → text_of (field n p rest) ≡ record_text n p ++ text_of rest

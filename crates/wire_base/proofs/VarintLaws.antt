@@ -7,7 +7,7 @@ use Rattle.wire_base.specs.declared.error.DecodeError.{DecodeError}
 use Rattle.wire_base.specs.declared.error.DecodeError.TheVariants.{UnexpectedEof, VarintTooLong}
 use Rattle.wire_base.specs.VarintLaws.{ShortestReadsBack, NoSpellingBeginsAnother, OneVarint, NoVarintBesideFault, NoSpellingIsShorter, OneVarintFault, VarintOrFault}
 use Rattle.wire_base.specs.Read.{Reads}
-use Rattle.wire_base.specs.Varint.{value_of, AllContinue, IsEnded, IsSpelling, digits, shortest_varint, VarintFault, cut_short, too_long}
+use Rattle.wire_base.specs.Varint.{varint_value, AllContinue, IsEnded, IsSpelling, digits, shortest_varint, VarintFault, cut_short, too_long}
 
 -- ---- where a varint ends
 
@@ -64,20 +64,21 @@ AllContinue-push (x ∷ front) b h k = (h.0, AllContinue-push front b h.1 k)
 -- ---- values
 
 -- what stands behind n digits counts 128 ^ n times
-pub value_of-append : (a b : List ℕ) → value_of (a ++ b) ≡ value_of a + 128 ^ length a * value_of b
-value_of-append [] b = omega arith
-value_of-append (x ∷ a) b =
-    let shift : 128 ^ suc (length a) * value_of b ≡ 128 * (128 ^ length a * value_of b) = rw
+pub varint_value-append : (a b : List ℕ) → varint_value (a ++ b)
+    ≡ varint_value a + 128 ^ length a * varint_value b
+varint_value-append [] b = omega arith
+varint_value-append (x ∷ a) b =
+    let shift : 128 ^ suc (length a) * varint_value b ≡ 128 * (128 ^ length a * varint_value b) = rw
     (pow-suc, mul_comm (128 ^ length a) 128, mul_assoc) refl in
-    omega (arith, value_of-append a b)
+    omega (arith, varint_value-append a b)
 
 -- n digits have a value below 128 ^ n
-pub value_of-below : (t : List ℕ) → value_of t < 128 ^ length t
-value_of-below [] = omega arith
-value_of-below (x ∷ t) =
+pub varint_value-below : (t : List ℕ) → varint_value t < 128 ^ length t
+varint_value-below [] = omega arith
+varint_value-below (x ∷ t) =
     let shift : 128 ^ suc (length t) ≡ 128 * 128 ^ length t = pow-suc 128 (length t)
     ∙ mul_comm (128 ^ length t) 128 in
-    omega (arith, value_of-below t)
+    omega (arith, varint_value-below t)
 
 -- ---- digits
 
@@ -90,27 +91,11 @@ digits-low (suc n) v h = rw lt-ltb
 pub digits-high : (n v : ℕ) → 128 ≤ v → digits (suc n) v ≡ (v % 128 + 128) ∷ digits n (v / 128)
 digits-high n v h = rw le-ltb
 
--- below the largest power a digit less serves
-pub digits-enough : (n v : ℕ) → v < 128 ^ suc n → digits (suc n) v ≡ digits n v
-digits-enough zero v h = digits-low 1 v h
-digits-enough (suc n) v h = digits_by_size n v h (cases_lt v 128) (digits-enough n (v / 128))
-  where
-    digits_by_size : (n v : ℕ) → v < 128 ^ suc (suc n) → (v < 128) ⊎ (128 ≤ v)
-        → (v / 128 < 128 ^ suc n → digits (suc n) (v / 128) ≡ digits n (v / 128))
-        → digits (suc (suc n)) v ≡ digits (suc n) v
-    digits_by_size n v h (inl low) again = digits-low (suc (suc n)) v low
-        ∙ sym (digits-low (suc n) v low)
-    digits_by_size n v h (inr high) again =
-        let shift : 128 ^ suc (suc n) ≡ 128 * 128 ^ suc n = pow-suc 128 (suc n)
-        ∙ mul_comm (128 ^ suc n) 128 in
-        digits-high (suc n) v high ∙ ap (λ l. (v % 128 + 128) ∷ l) (again (omega arith))
-        ∙ sym (digits-high n v high)
-
 -- the digits of a number that has so many are a varint of it
 pub record AreDigits (n v : ℕ) (text : List ℕ) : Type 0 where
   pub ended : IsEnded text
   pub short : length text ≤ suc n
-  pub value : value_of text ≡ v
+  pub value : varint_value text ≡ v
 
 -- one digit more at the front
 AreDigits-more : (n v : ℕ) (text : List ℕ) → 128 ≤ v → AreDigits n (v / 128) text
@@ -160,18 +145,6 @@ pub shortest_varint-digits : (v : ℕ) → v < 2 ^ 64 → shortest_varint v ≡ 
 unfolding shortest_varint
 shortest_varint-digits v h = rw (lt-ltb v (2 ^ 64) h)
 
--- below 128 there is one byte
-pub shortest_varint-low : (v : ℕ) → v < 128 → shortest_varint v ≡ v ∷ []
-shortest_varint-low v h = shortest_varint-digits v (omega arith) ∙ digits-low 9 v h
-
--- from 128 on there is a continued byte, and the number 128 times smaller
-pub shortest_varint-high : (v : ℕ) → 128 ≤ v → v < 2 ^ 64
-    → shortest_varint v ≡ (v % 128 + 128) ∷ shortest_varint (v / 128)
-shortest_varint-high v h fits =
-    shortest_varint-digits v fits ∙ digits-high 8 v h
-    ∙ ap (λ l. (v % 128 + 128) ∷ l) (sym (digits-enough 8 (v / 128) (omega arith))
-    ∙ sym (shortest_varint-digits (v / 128) (omega arith)))
-
 -- the shortest spelling is a spelling
 pub IsSpelling-shortest_varint : (v : ℕ) → v < 2 ^ 64 → IsSpelling v (shortest_varint v)
 IsSpelling-shortest_varint v h =
@@ -186,14 +159,15 @@ length-shortest_varint k v fits le low high = ap length (shortest_varint-digits 
     ∙ length-digits 9 k v le low high
 
 -- digits are no more than the bytes of any text of the number
-pub digits_at_most : (n : ℕ) (t : List ℕ) → IsEnded t → length (digits n (value_of t)) ≤ length t
+pub digits_at_most : (n : ℕ) (t : List ℕ) → IsEnded t
+    → length (digits n (varint_value t)) ≤ length t
 digits_at_most n [] h = absurd h
 digits_at_most zero (b ∷ t) h = omega arith
 digits_at_most (suc n) (b ∷ []) h =
     rw (digits-low (suc n) (b % 128 + 128 * 0) (omega arith)) (omega arith)
 digits_at_most (suc n) (b ∷ c ∷ t) h =
-    let v = value_of (b ∷ c ∷ t) in
-    let later : v / 128 ≡ value_of (c ∷ t) = omega arith in
+    let v = varint_value (b ∷ c ∷ t) in
+    let later : v / 128 ≡ varint_value (c ∷ t) = omega arith in
     ⊎_elim
     (λ low. rw (digits-low (suc n) v low) (omega arith))
     (λ high. rw (digits-high n v high, later) (omega (arith, digits_at_most n (c ∷ t) h.1)))
@@ -201,20 +175,20 @@ digits_at_most (suc n) (b ∷ c ∷ t) h =
 
 -- a text with no byte more than the digits has the very digits
 pub digits_of_least : (n : ℕ) (t : List ℕ) → IsEnded t → All (λ b. b < 256) t
-    → length t ≤ length (digits n (value_of t)) → t ≡ digits n (value_of t)
+    → length t ≤ length (digits n (varint_value t)) → t ≡ digits n (varint_value t)
 digits_of_least n [] h all le = absurd h
 digits_of_least n (b ∷ []) h all le =
     let same : b % 128 + 128 * 0 ≡ b = omega arith in
     rw (same, digits-low n b h) refl
 digits_of_least zero (b ∷ c ∷ t) h all le = absurd (omega arith)
 digits_of_least (suc n) (b ∷ c ∷ t) h all le =
-    let v = value_of (b ∷ c ∷ t) in
-    let later : v / 128 ≡ value_of (c ∷ t) = omega arith in
+    let v = varint_value (b ∷ c ∷ t) in
+    let later : v / 128 ≡ varint_value (c ∷ t) = omega arith in
     ⊎_elim
     (λ low. let one : length (digits (suc n) v) ≡ 1 = ap length
     (digits-low (suc n) v low) in absurd (omega arith))
     (λ high. let split : digits (suc n) v ≡ (v % 128 + 128) ∷ digits n
-    (value_of (c ∷ t)) = digits-high n v high ∙ ap (λ w. (v % 128 + 128) ∷ digits n w) later in
+    (varint_value (c ∷ t)) = digits-high n v high ∙ ap (λ w. (v % 128 + 128) ∷ digits n w) later in
     let first : b ≡ v % 128 + 128 = omega (arith, All-head (λ x. x < 256) b (c ∷ t) all, h.0) in
     let others = digits_of_least n (c ∷ t) h.1 (All-tail (λ x. x < 256) b (c ∷ t) all)
     (omega (arith, ap length split)) in
@@ -225,14 +199,14 @@ digits_of_least (suc n) (b ∷ c ∷ t) h all le =
 pub shortest_at_most : (t : List ℕ) (v : ℕ) → IsSpelling v t → length (shortest_varint v) ≤ length t
 shortest_at_most t v h =
     subst (λ w. length (shortest_varint w) ≤ length t) h.value
-    (rw (shortest_varint-digits (value_of t) (subst (λ w. w < 2 ^ 64) (sym h.value) h.fits))
+    (rw (shortest_varint-digits (varint_value t) (subst (λ w. w < 2 ^ 64) (sym h.value) h.fits))
     (digits_at_most 9 t h.ended))
 
 -- no other spelling is as short
 pub shortest_of_least : (t : List ℕ) (v : ℕ) → IsSpelling v t → All (λ b. b < 256) t
     → length t ≡ length (shortest_varint v) → t ≡ shortest_varint v
 shortest_of_least t v h all same =
-    let written : shortest_varint v ≡ digits 9 (value_of t) = shortest_varint-digits v h.fits
+    let written : shortest_varint v ≡ digits 9 (varint_value t) = shortest_varint-digits v h.fits
     ∙ ap (digits 9) (sym h.value) in
     digits_of_least 9 t h.ended all (omega (arith, ap length written)) ∙ sym written
 
@@ -253,28 +227,29 @@ same_varint bytes r s v w p q =
     ∙ q.parts) in
     record {
       text = same.0;
-      value = sym p.spelled.value ∙ ap value_of same.0
+      value = sym p.spelled.value ∙ ap varint_value same.0
           ∙ q.spelled.value;
       rest = same.1;
     }
 
 -- behind nine digits the value counts 2 ^ 63 times
-pub value_of-tenth : (front t : List ℕ) (tenth : ℕ) → length front ≡ 9 → t ≡ front ++ tenth ∷ []
-    → tenth < 128 → value_of t ≡ value_of front + 2 ^ 63 * tenth
-value_of-tenth front t tenth nine e low =
-    let last : value_of t ≡ value_of front + 128 ^ 9 * value_of (tenth ∷ []) = ap value_of e
-    ∙ value_of-append front (tenth ∷ [])
-    ∙ ap (λ n. value_of front + 128 ^ n * value_of (tenth ∷ [])) nine in
+pub varint_value-tenth : (front t : List ℕ) (tenth : ℕ) → length front ≡ 9 → t ≡ front ++ tenth ∷ []
+    → tenth < 128 → varint_value t ≡ varint_value front + 2 ^ 63 * tenth
+varint_value-tenth front t tenth nine e low =
+    let last : varint_value t ≡ varint_value front + 128 ^ 9 * varint_value (tenth ∷ []) =
+    ap varint_value e
+    ∙ varint_value-append front (tenth ∷ [])
+    ∙ ap (λ n. varint_value front + 128 ^ n * varint_value (tenth ∷ [])) nine in
     omega arith
 
 -- a tenth byte of 2 or more ends no varint
 beyond_ten : (front more t : List ℕ) (tenth : ℕ) (after rest : List ℕ) → t ≡ front ++ more
     → length front ≡ 9 → IsEnded more → tenth ∷ after ≡ more ++ rest
-    → 2 ≤ tenth → length t ≤ 10 → value_of t < 2 ^ 64 → ⊥
+    → 2 ≤ tenth → length t ≤ 10 → varint_value t < 2 ^ 64 → ⊥
 beyond_ten front [] t tenth after rest e nine h same big short fits = h
 beyond_ten front (y ∷ []) t tenth after rest e nine h same big short fits =
     let first : tenth ≡ y = cc in
-    omega (arith, value_of-tenth front t y nine e h)
+    omega (arith, varint_value-tenth front t y nine e h)
 beyond_ten front (y ∷ z ∷ more) t tenth after rest e nine h same big short fits =
     omega (arith, ap length e ∙ length-append front (y ∷ z ∷ more))
 
@@ -286,7 +261,8 @@ no_reading_beside_fault bytes rest v e p (cut_short all short) =
 no_reading_beside_fault bytes rest v e p (too_long front tenth after parts all nine big) =
     let past = past_continued front p.text rest (tenth ∷ after) all p.spelled.ended (sym p.parts
     ∙ parts) in
-    beyond_ten front past.0 p.text tenth after rest past.1 nine past.2 past.3 big p.spelled.at_most_ten (subst (λ w. w < 2 ^ 64) (sym p.spelled.value) p.spelled.fits)
+    beyond_ten front past.0 p.text tenth after rest past.1 nine past.2 past.3 big
+    p.spelled.at_most_ten (subst (λ w. w < 2 ^ 64) (sym p.spelled.value) p.spelled.fits)
 
 -- one list is not both too short and long enough for ten bytes
 ten_not_short : (bytes front : List ℕ) (tenth : ℕ) (rest : List ℕ) → length bytes < 10
@@ -330,40 +306,40 @@ scan zero (b ∷ bs) = goes_on [] b bs refl tt refl
 scan (suc n) (b ∷ bs) = scanned_more n b bs (cases_lt b 128) (scan n bs)
 
 -- a varint's text of nine bytes or fewer has a value of 63 bits
-pub IsSpelling-nine : (t : List ℕ) → IsEnded t → length t ≤ 9 → IsSpelling (value_of t) t
+pub IsSpelling-nine : (t : List ℕ) → IsEnded t → length t ≤ 9 → IsSpelling (varint_value t) t
 IsSpelling-nine t h short =
     record {
       ended = h;
       at_most_ten = omega arith;
       value = refl;
       fits = lt_of_lt_of_le
-          (value_of-below t) (le_trans (pow-le-pow_right (omega arith) short) (omega arith));
+          (varint_value-below t) (le_trans (pow-le-pow_right (omega arith) short) (omega arith));
     }
 
 -- ten bytes, of which the last is 0 or 1, are a varint
 pub IsSpelling-ten : (front : List ℕ) (tenth : ℕ) → AllContinue front → length front ≡ 9 → tenth < 2
-    → IsSpelling (value_of (front ++ tenth ∷ [])) (front ++ tenth ∷ [])
+    → IsSpelling (varint_value (front ++ tenth ∷ [])) (front ++ tenth ∷ [])
 IsSpelling-ten front tenth all nine low = record {
   ended = IsEnded-append front (tenth ∷ []) all (omega arith);
   at_most_ten = omega (arith, length-append front (tenth ∷ []));
   value = refl;
   fits = omega (
     arith,
-    value_of-tenth front (front ++ tenth ∷ []) tenth nine refl (omega arith),
+    varint_value-tenth front (front ++ tenth ∷ []) tenth nine refl (omega arith),
     subst
-        (λ n. value_of front < 128 ^ n) nine (value_of-below front),
+        (λ n. varint_value front < 128 ^ n) nine (varint_value-below front),
   );
 }
 
 -- what the first nine bytes tell
 from_scanned : (bytes : List ℕ) → Scanned 9 bytes → VarintOrFault bytes
 from_scanned bytes (ends t rest e h le) =
-    inl (value_of t, rest, record { text = t; parts = e; spelled = IsSpelling-nine t h le })
+    inl (varint_value t, rest, record { text = t; parts = e; spelled = IsSpelling-nine t h le })
 from_scanned bytes (runs_out all le) = inr (UnexpectedEof, cut_short all (omega arith))
 from_scanned bytes (goes_on front next rest e all nine) =
     ⊎_elim
     (λ low. inl (
-      value_of (front ++ next ∷ []),
+      varint_value (front ++ next ∷ []),
       rest,
       record {
         text = front ++ next ∷ [];

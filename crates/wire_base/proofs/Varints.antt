@@ -8,7 +8,7 @@ use Rattle.std.proofs.Math.Nat.{mod-lt, mul-le-mul_right, div-lt_iff_lt-mul}
 use Rattle.std.proofs.Math.Pow.{pow_mono}
 use Rattle.wire_base.specs.declared.error.DecodeError.TheVariants.{UnexpectedEof, VarintTooLong}
 use Rattle.wire_base.specs.Read.{Reads}
-use Rattle.wire_base.specs.Varint.{value_of, AllContinue, IsEnded, IsSpelling, digits, shortest_varint, VarintFault, cut_short, too_long}
+use Rattle.wire_base.specs.Varint.{varint_value, AllContinue, IsEnded, IsSpelling, digits, shortest_varint, VarintFault, cut_short, too_long}
 
 -- ---- the shortest spelling
 
@@ -84,21 +84,21 @@ length-shortest_varint v place fits least most small =
 -- ---- reading
 
 -- one byte more at the end of a number's bytes adds its low seven bits above the others
-pub value_of-push : (front : List ℕ) (b : ℕ)
-    → value_of (front ++ b ∷ []) ≡ value_of front + b % 128 * 2 ^ (7 * length front)
-value_of-push [] b = omega arith
-value_of-push (a ∷ front) b =
+pub varint_value-push : (front : List ℕ) (b : ℕ)
+    → varint_value (front ++ b ∷ []) ≡ varint_value front + b % 128 * 2 ^ (7 * length front)
+varint_value-push [] b = omega arith
+varint_value-push (a ∷ front) b =
     let power : 2 ^ (7 * suc (length front)) ≡ 128 * 2 ^ (7 * length front) = ap (λ k. 2 ^ k)
     (omega arith) ∙ pow-add 2 7 (7 * length front) in
-    rw (value_of-push front b, power) (omega arith)
+    rw (varint_value-push front b, power) (omega arith)
 
 -- so many bytes have at most seven bits each
-pub value_of-below : (front : List ℕ) → value_of front < 2 ^ (7 * length front)
-value_of-below [] = omega arith
-value_of-below (a ∷ front) =
+pub varint_value-below : (front : List ℕ) → varint_value front < 2 ^ (7 * length front)
+varint_value-below [] = omega arith
+varint_value-below (a ∷ front) =
     let power : 2 ^ (7 * suc (length front)) ≡ 128 * 2 ^ (7 * length front) = ap (λ k. 2 ^ k)
     (omega arith) ∙ pow-add 2 7 (7 * length front) in
-    omega (arith, power, value_of-below front)
+    omega (arith, power, varint_value-below front)
 
 -- a number above the low k bits, by `|`
 pub or_shl : (k low high : ℕ) → low < 2 ^ k → bit_or low (high * 2 ^ k) ≡ low + high * 2 ^ k
@@ -127,17 +127,14 @@ pub record ReadSoFar (old now : List ℕ) (v count : ℕ) : Type 0 where
   pub parts : old ≡ front ++ now
   pub continue : AllContinue front
   pub len : length front ≡ count
-  pub value : value_of front ≡ v
-
-pub ReadSoFar-none : (old : List ℕ) → ReadSoFar old old 0 0
-ReadSoFar-none old = record { front = []; parts = refl; continue = tt; len = refl; value = refl }
+  pub value : varint_value front ≡ v
 
 -- the number with one byte more, as the code joins it
 pub joined_value : (old now : List ℕ) (v count b : ℕ) → ReadSoFar old now v count → count ≤ 8
     → bit_or v (b % 128 * 2 ^ (7 * count) % 2 ^ 64) ≡ v + b % 128 * 2 ^ (7 * count)
 joined_value old now v count b so_far few =
     let below : v < 2 ^ (7 * count) = rw (so_far.value, so_far.len) at
-    (value_of-below so_far.front) in
+    (varint_value-below so_far.front) in
     let low : b % 128 < 2 ^ 7 = mod-lt b (omega arith) in
     rw (shl_whole (b % 128) 7 (7 * count) 64 low (omega arith))
     (or_shl (7 * count) v (b % 128) below)
@@ -150,7 +147,7 @@ ReadSoFar-more old now rest v count b so_far e high = record {
       ∙ sym (append_assoc so_far.front (b ∷ []) rest);
   continue = AllContinue-push so_far.front b so_far.continue high;
   len = length-append so_far.front (b ∷ []) ∙ omega (arith, so_far.len);
-  value = value_of-push so_far.front b ∙ rw (so_far.value, so_far.len) refl;
+  value = varint_value-push so_far.front b ∙ rw (so_far.value, so_far.len) refl;
 }
 
 -- the byte that lacks the continuation bit ends the number, where it fits 64 bits
@@ -164,7 +161,7 @@ ReadSoFar-ends old now rest v count b so_far e low few fits = record {
   spelled = record {
     ended = IsEnded-push so_far.front b so_far.continue low;
     at_most_ten = omega (arith, so_far.len, length-append so_far.front (b ∷ []));
-    value = value_of-push so_far.front b ∙ rw (so_far.value, so_far.len) refl;
+    value = varint_value-push so_far.front b ∙ rw (so_far.value, so_far.len) refl;
     fits = fits;
   };
 }
@@ -179,7 +176,7 @@ pub ReadSoFar-fits : (old now : List ℕ) (v count b : ℕ) → ReadSoFar old no
     → v + b % 128 * 2 ^ (7 * count) < 2 ^ 64
 ReadSoFar-fits old now v count b so_far few =
     let below : v < 2 ^ (7 * count) = rw (so_far.value, so_far.len) at
-    (value_of-below so_far.front) in
+    (varint_value-below so_far.front) in
     let all : v + b % 128 * 2 ^ (7 * count) < 128 * 2 ^ (7 * count) = digit_below v (b % 128)
     (2 ^ (7 * count)) below (mod-lt b (omega arith)) in
     let power : 2 ^ (7 + 7 * count) ≡ 128 * 2 ^ (7 * count) = pow-add 2 7 (7 * count) in
@@ -191,14 +188,15 @@ ReadSoFar-fits old now v count b so_far few =
 pub ReadSoFar-tenth : (old now : List ℕ) (v b : ℕ) → ReadSoFar old now v 9 → b ≤ 1
     → v + b % 128 * 2 ^ (7 * 9) < 2 ^ 64
 ReadSoFar-tenth old now v b so_far few =
-    let below : v < 2 ^ (7 * 9) = rw (so_far.value, so_far.len) at (value_of-below so_far.front) in
+    let below : v < 2 ^ (7 * 9) =
+    rw (so_far.value, so_far.len) at (varint_value-below so_far.front) in
     omega arith
 
 -- the number with such a tenth byte, as the code joins it
 pub tenth_value : (old now : List ℕ) (v b : ℕ) → ReadSoFar old now v 9 → b ≤ 1
     → bit_or v (b * 2 ^ 63 % 2 ^ 64) ≡ v + b % 128 * 2 ^ (7 * 9)
 tenth_value old now v b so_far few =
-    let below : v < 2 ^ 63 = rw (so_far.value, so_far.len) at (value_of-below so_far.front) in
+    let below : v < 2 ^ 63 = rw (so_far.value, so_far.len) at (varint_value-below so_far.front) in
     let same : b % 128 ≡ b = omega arith in
     rw (same, shl_whole b 1 63 64 (omega arith) (omega arith)) (or_shl 63 v b below)
 

@@ -42,7 +42,8 @@ record Begins (i : Item) (old : List ℕ) : Type 0 where
 -- the record that an item is
 record_of : (n : ℕ) (p : Payload) (old new : List ℕ) → Reads old (IsItem (whole n p)) new
     → Reads old (Spells (field n p none)) new
-record_of n p old new h = Reads-as (IsItem (whole n p)) (Spells (field n p none)) old new h h.spelled.1
+record_of n p old new h = Reads-as (IsItem (whole n p)) (Spells (field n p none)) old new h
+    h.spelled.1
 
 begins : (i : Item) (old new : List ℕ) → Reads old (IsItem i) new → Begins i old
 begins (start n) old new h = record { behind = new; tag = h }
@@ -248,12 +249,14 @@ one_item_fault : (l : Limits) (old : List ℕ) (e f : DecodeError) → ItemFault
     → ItemFault l old f → e ≡ f
 one_item_fault l old e f (ItemFault.no_tag some fault) (ItemFault.no_tag also other) =
     one_tag_fault_lemma old e f fault other
-one_item_fault l old e f (ItemFault.no_tag some fault) (ItemFault.no_slot n w behind tag inside full) =
+one_item_fault l old e f (ItemFault.no_tag some fault)
+    (ItemFault.no_slot n w behind tag inside full) =
     absurd (no_tag_beside_fault_lemma old behind n w e tag fault)
 one_item_fault l old e f (ItemFault.no_tag some fault)
     (ItemFault.bad_payload n w behind tag inside flat other) =
     absurd (no_tag_beside_fault_lemma old behind n w e tag fault)
-one_item_fault l old e f (ItemFault.no_slot n w behind tag inside full) (ItemFault.no_tag some fault) =
+one_item_fault l old e f (ItemFault.no_slot n w behind tag inside full)
+    (ItemFault.no_tag some fault) =
     absurd (no_tag_beside_fault_lemma old behind n w f tag fault)
 one_item_fault l old e f (ItemFault.no_slot n w behind tag inside full)
     (ItemFault.no_slot m x after other within also) = refl
@@ -281,7 +284,8 @@ record WalksOn (front items : List Item) (mid new : List ℕ) : Type 0 where
   pub others : Reads mid (SpellsItems more) new
 
 -- the first item of a walk, and the others
-first_of : (i : Item) (items : List Item) (old new : List ℕ) → Reads old (SpellsItems (i ∷ items)) new
+first_of : (i : Item) (items : List Item) (old new : List ℕ)
+    → Reads old (SpellsItems (i ∷ items)) new
     → (mid : List ℕ) × Reads old (IsItem i) mid × Reads mid (SpellsItems items) new
 first_of i items old new h =
     let (rest, first, others) = h.spelled in (

@@ -9,8 +9,7 @@ total charge_of none = no_charge
 total charge_of (field n p rest) = both (charge_of n p) (total charge_of rest)
 
 -- What a record kept as unknown takes: one field for itself, and for a group what its records take
--- one level
--- down. `charge` is the `total` of this for a list.
+-- one level down. `charge` is the `total` of this for a list.
 abbrev mutual
   pub payload_charge : Payload → Charge
   payload_charge (varint v) = one_field

@@ -15,8 +15,7 @@ abbrev pub delimited_text : List ℕ → List ℕ
 delimited_text payload = shortest_varint (length payload) ++ payload
 
 -- No length-delimited payload of at most so many bytes, where there is a greatest length, stands at
--- the
--- front of these bytes, with the error that says why.
+-- the front of these bytes, with the error that says why.
 pub data DelimitedFault : Option ℕ → List ℕ → DecodeError → Type 0 where
   no_length : {most : Option ℕ} {bytes : List ℕ} {e : DecodeError}
       → VarintFault bytes e → DelimitedFault most bytes e

@@ -46,8 +46,8 @@ abbrev pub greatest_level : ℕ → List Item → ℕ
 greatest_level level [] = level
 greatest_level level (i ∷ items) = max level (greatest_level (level_after i level) items)
 
--- what a flat walk charges for items. End tags are not compared with start tags, so the depth is that
--- of the records only where the items spell records.
+-- what a flat walk charges for items. End tags are not compared with start tags, so the depth is
+-- that of the records only where the items spell records.
 abbrev pub flat_charge : List Item → Charge
 flat_charge items = record {
   depth = greatest_level 0 items;

@@ -12,7 +12,7 @@ pub record ChargesAddUp : Type 0 where
   pub nothing_last : (a : Charge) → both a no_charge ≡ a
   pub lists : (charge_of : ℕ → Payload → Charge) (fs gs : Fields)
       → total charge_of (joined fs gs) ≡ both (total charge_of fs) (total charge_of gs)
-  pub unknown : (fs : Fields) → charge fs ≡ total (λ n p. payload_charge p) fs
+  pub kept_records : (fs : Fields) → charge fs ≡ total (λ n p. payload_charge p) fs
 
 -- a sum fits exactly where its first part fits and its second fits what is left
 pub record LimitsAddUp : Type 0 where

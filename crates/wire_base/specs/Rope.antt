@@ -61,8 +61,7 @@ first_segment [] = []
 first_segment (s ∷ segments) = s
 
 -- the segments that are left once n bytes are read: what is left of the one that the last of them
--- lies
--- in, and those behind it as they are
+-- lies in, and those behind it as they are
 abbrev pub left_segments : ℕ → List (List ℕ) → List (List ℕ)
 left_segments n [] = []
 left_segments n (s ∷ segments) =

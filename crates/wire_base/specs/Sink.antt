@@ -40,3 +40,10 @@ pub record Puts (most : Option ℕ) (text old new : List ℕ) (result : Result (
   pub ok : OnOk result (new ≡ old ++ text)
   pub err : OnErr result (new ≡ old)
   pub cause : PutAnswers most (length old + length text) result
+
+-- a longer write of a text: all of it behind old, or a front of it and the cause
+pub record Writes (most : Option ℕ) (text old new : List ℕ)
+    (result : Result (Unit {0}) EncodeError) : Type 0 where
+  pub ok : OnOk result (new ≡ old ++ text)
+  pub err : OnErr result (KeepsFront old text new)
+  pub cause : WriteAnswers most old text result

@@ -17,8 +17,8 @@ use Rattle.wire_base.specs.Spells.{Spells}
 abbrev pub AreCharged : List (List ℕ) → Charge → Type 0
 AreCharged [] c = c ≡ no_charge
 AreCharged (s ∷ spans) c =
-    (items : List Item) × (others : Charge) × SpellsItems items s × AreCharged spans others
-    × (c ≡ both (flat_charge items) others)
+    (items : List Item) × (behind : Charge) × SpellsItems items s × AreCharged spans behind
+    × (c ≡ both (flat_charge items) behind)
 
 -- the charge of so many unknown fields, which nest so deep
 abbrev pub fields_charge : ℕ → ℕ → Charge
@@ -28,15 +28,15 @@ fields_charge depth fields = record {
 }
 
 -- limits that leave nothing behind this charge
-abbrev pub limits_of : Charge → Limits
-limits_of c = counted c.depth c.counts.unknown_fields
+abbrev pub exact_limits : Charge → Limits
+exact_limits c = counted c.depth c.counts.unknown_fields
 
 -- a span is items for which there are slots, and its slots and those of other spans are more than
 -- `usize::MAX`
 abbrev pub TooMany : Limits → List (List ℕ) → List ℕ → Type 0
 TooMany l spans span =
-    (items : List Item) × (others : Charge) × TakesItems items l span [] × AreCharged spans others
-    × (2 ^ 64 ≤ (both others (flat_charge items)).counts.unknown_fields)
+    (items : List Item) × (before : Charge) × TakesItems items l span [] × AreCharged spans before
+    × (2 ^ 64 ≤ (both before (flat_charge items)).counts.unknown_fields)
 
 -- A span is not added to others: it has a fault, its slots and theirs are too many to be counted,
 -- or memory is wanted for one span more.
@@ -51,8 +51,8 @@ PushRefusal l spans span e =
 abbrev pub SpellEach : List (List ℕ) → Fields → Type 0
 SpellEach [] fs = fs ≡ none
 SpellEach (s ∷ spans) fs =
-    (own : Fields) × (others : Fields) × Spells own s × SpellEach spans others
-    × (fs ≡ joined own others)
+    (own : Fields) × (behind : Fields) × Spells own s × SpellEach spans behind
+    × (fs ≡ joined own behind)
 
 -- spans that spell records within the limits, and then one that is refused as a list, under what is
 -- left

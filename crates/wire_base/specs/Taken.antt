@@ -29,8 +29,7 @@ LastGoesOn ending fs old =
     × Reads old (Spells before) rest × GoesOn ending rest)
 
 -- The records fs stand at the front of old, their charge fits, the list ends behind the last of
--- them and not
--- before it, and new is what follows its end.
+-- them and not before it, and new is what follows its end.
 pub record TakesUntil (c : Charge) (l : Limits) (ending : Ending) (fs : Fields)
     (old new : List ℕ) : Type 0 where
   pub end : List ℕ

@@ -5,9 +5,9 @@ use Rattle.wire_base.specs.declared.error.DecodeError.{DecodeError}
 use Rattle.wire_base.specs.declared.error.DecodeError.TheVariants.{UnexpectedEof, VarintTooLong}
 
 -- the sum of (byte i modulo 128) times 128 ^ i
-abbrev pub value_of : List ℕ → ℕ
-value_of [] = 0
-value_of (b ∷ bs) = b % 128 + 128 * value_of bs
+abbrev pub varint_value : List ℕ → ℕ
+varint_value [] = 0
+varint_value (b ∷ bs) = b % 128 + 128 * varint_value bs
 
 -- every byte has the continuation bit
 abbrev pub AllContinue : List ℕ → Type 0
@@ -24,7 +24,7 @@ IsEnded (b ∷ c ∷ bs) = (128 ≤ b) × IsEnded (c ∷ bs)
 pub record IsSpelling (v : ℕ) (text : List ℕ) : Type 0 where
   pub ended : IsEnded text
   pub at_most_ten : length text ≤ 10
-  pub value : value_of text ≡ v
+  pub value : varint_value text ≡ v
   pub fits : v < 2 ^ 64
 
 -- the digits of v to the base 128, where `more` digits may follow the first

@@ -1,6 +1,5 @@
 -- What holds of varints and of length-delimited payloads. Each statement is proved as the contract
--- of a law
--- of src/laws.rt.
+-- of a law of src/laws.rt.
 use Rattle.std.specs.Prelude.{◌≡◌, ℕ, ◌^◌, ◌<◌, ◌≤◌, ◌⊎◌, List, [], ◌++◌, length, All, Option}
 use Rattle.wire_base.specs.declared.error.DecodeError.{DecodeError}
 use Rattle.wire_base.specs.Delimited.{IsDelimited, DelimitedFault, delimited_text}

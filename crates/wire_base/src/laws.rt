@@ -266,8 +266,8 @@ pub fn cut_is_short()
     ensures { CutIsShort }
 {}
 
-/// A text of records that nest less than 2^32 deep is one of items, and a flat walk charges for them
-/// what the records are charged.
+/// A text of records that nest less than 2^32 deep is one of items, and a flat walk charges for
+/// them what the records are charged.
 pub fn records_are_items()
     ensures { RecordsAreItems }
 {}

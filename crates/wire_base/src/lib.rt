@@ -2,9 +2,9 @@
 //! `bytes::Buf` and any growing sink. `CALLING.md` shows its calls.
 //!
 //! To read, call `Tag::decode` first, and then by the wire type `decode_varint`, `decode_length`,
-//! `skip_field` or `decode_unknown_field`. To write, make a `Vec<u8>`, a `BytesMut` or a `Rope`, and
-//! call `Tag::encode` and `encode_varint`. `UnknownFields::decode_from_slice` reads all records of an
-//! input. Message types stand in `wire_codec`.
+//! `skip_field` or `decode_unknown_field`. To write, make a `Vec<u8>`, a `BytesMut` or a `Rope`,
+//! and call `Tag::encode` and `encode_varint`. `UnknownFields::decode_from_slice` reads all records
+//! of an input. Message types stand in `wire_codec`.
 //!
 //! The encoding document is <https://protobuf.dev/programming-guides/encoding/>.
 #![tactic(auto)]

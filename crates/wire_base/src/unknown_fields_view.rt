@@ -11,7 +11,7 @@ ghost use Rattle.wire_base.specs.InRange.{AreFitting, AreNumbered};
 ghost use Rattle.wire_base.specs.Items.{Item, TakesItems, flat_charge};
 ghost use Rattle.wire_base.specs.Limits.{Charge, Fits, HaveRoom, NoCountGrew, left_after};
 ghost use Rattle.wire_base.specs.Sink.{KeepsFront, WriteAnswers};
-ghost use Rattle.wire_base.specs.Spans.{AreCharged, PushRefusal, SpellEach, SpansRefusal, TooMany, limits_of};
+ghost use Rattle.wire_base.specs.Spans.{AreCharged, PushRefusal, SpellEach, SpansRefusal, TooMany, exact_limits};
 ghost use Rattle.wire_base.specs.Spells.{Spells};
 
 use crate::decode_context::DecodeContext;
@@ -88,6 +88,9 @@ impl<'a> UnknownFieldsView<'a> {
     /// nothing. Else refused as `register_unknown_record`, and the spans are as they were.
     /// `UnknownFieldLimitExceeded` also comes where the slots of all spans would be more than
     /// `usize::MAX`; those of this one are then gone from the context.
+    ///
+    /// No level of the context is taken: the groups of a span may nest as deep as there are slots,
+    /// as `depth` tells, and `to_owned_fields` recurses as deep.
     pub fn push_span(
         &mut self,
         span: &'a [u8],
@@ -176,11 +179,7 @@ impl<'a> UnknownFieldsView<'a> {
     /// `UnknownFields::decode_from_slice_within` refuses the first span that does not spell records
     /// within what is left, or with `OutOfMemory`. A refused attempt may have used up slots and
     /// levels of the context.
-    pub fn replay(
-        &self,
-        alloc: Global,
-        context: &mut DecodeContext,
-    ) -> Result<UnknownFields, DecodeError>
+    pub fn replay(&self, context: &mut DecodeContext) -> Result<UnknownFields, DecodeError>
         ensures each { IfOk result (λ fs. SpellEach self.now fs) }
         ensures spelled { IfOk result (λ fs. Spells fs (concat self.now)) }
         ensures within { IfOk result (λ fs. Fits (charge fs) context.old) }
@@ -202,15 +201,11 @@ impl<'a> UnknownFieldsView<'a> {
             (λ read. (read ≡ fs) × (context.new.counts.unknown_fields ≡ Some 0))
             (λ e. e ≡ OutOfMemory) }
     {
-        self.read_spans(alloc, context)
+        self.read_spans(context)
     }
 
     // Reads each span as records.
-    fn read_spans(
-        &self,
-        alloc: Global,
-        context: &mut DecodeContext,
-    ) -> Result<UnknownFields, DecodeError>
+    fn read_spans(&self, context: &mut DecodeContext) -> Result<UnknownFields, DecodeError>
         ensures each { IfOk result (λ fs. SpellEach self.now fs) }
         ensures within { IfOk result (λ fs. Fits (charge fs) context.old) }
         ensures fitting { IfOk result (λ fs. AreFitting fs) }
@@ -218,6 +213,7 @@ impl<'a> UnknownFieldsView<'a> {
         ensures fault { IfErr result (SpansRefusal context.old self.now) }
         ensures counts { OnErr result (NoCountGrew context.old context.new) }
     {
+        let alloc = *self.spans.allocator();
         let mut fields = UnknownFields::new(alloc);
         for span in &self.spans {
             fields.append_from_slice(alloc, span, context)?;
@@ -228,21 +224,24 @@ impl<'a> UnknownFieldsView<'a> {
 
     /// Reads the spans as records under just the levels and slots that they were charged, which
     /// suffice where they spell records whose groups nest less than 2^32 deep. Refused as `replay`.
-    /// It recurses as deep as `depth` says, which no limit bounds but the slots.
-    pub fn to_owned_fields(&self, alloc: Global) -> Result<UnknownFields, DecodeError>
+    ///
+    /// It recurses as deep as `depth` says, which no limit bounds but the slots: 33,000 start tags,
+    /// a byte each, overflow a stack of 8 MiB. Where the spans are not trusted look at `depth`
+    /// first, or call `replay` under a context of 100 levels, which refuses deeper ones.
+    pub fn to_owned_fields(&self) -> Result<UnknownFields, DecodeError>
         ensures each { IfOk result (λ fs. SpellEach self.now fs) }
         ensures spelled { IfOk result (λ fs. Spells fs (concat self.now)) }
         ensures within { IfOk result (λ fs. (c : Charge) × AreCharged self.now c
-            × Fits (charge fs) (limits_of c)) }
+            × Fits (charge fs) (exact_limits c)) }
         ensures in_range { IfOk result (λ fs. AreFitting fs × AreNumbered fs) }
         ensures fault { IfErr result (λ e. (c : Charge) × AreCharged self.now c
-            × SpansRefusal (limits_of c) self.now e) }
+            × SpansRefusal (exact_limits c) self.now e) }
 
         // The records that the spans spell are read, unless memory runs out.
         ensures only { (fs : Fields) → SpellEach self.now fs → (charge fs).depth < 2 ^ 32
             → MatchResult result (λ read. read ≡ fs) (λ e. e ≡ OutOfMemory) }
     {
         let mut context = DecodeContext::new(self.depth, self.fields);
-        self.replay(alloc, &mut context)
+        self.replay(&mut context)
     }
 }

@@ -62,9 +62,6 @@ pub counted_all : (values : List ℤ) (i len : ℕ) → length values ≤ i → 
     (length (packed_int32 values)) → len ≡ in_64_bits (length (packed_int32 values))
 counted_all values i len all fits is = omega (arith, ap length (no_number values i all))
 
-pub regrouped : (old a b new : List ℕ) → new ≡ (old ++ a) ++ b → new ≡ old ++ (a ++ b)
-regrouped old a b new is = is ∙ append_assoc old a b
-
 -- ---- sizes
 
 pub sizes-int32_field : (n : ℕ) (v : ℤ) → sizes (int32_field n v) ≡ []

@@ -27,8 +27,8 @@ charge-push : ChargesAddUp → (fs : Fields) (n : ℕ) (p : Payload)
     → charge (push fs n p) ≡ both (charge fs) (payload_charge p)
 charge-push law fs n p =
     let unknown : ℕ → Payload → Charge = λ n p. payload_charge p in
-    law.unknown (push fs n p) ∙ law.lists unknown fs (field n p none)
-    ∙ ap (λ c. both c (total unknown (field n p none))) (sym (law.unknown fs))
+    law.kept_records (push fs n p) ∙ law.lists unknown fs (field n p none)
+    ∙ ap (λ c. both c (total unknown (field n p none))) (sym (law.kept_records fs))
     ∙ ap (both (charge fs)) (law.nothing_last (payload_charge p))
 
 -- one record more, where no count is kept

@@ -30,4 +30,11 @@ pub fixed_counted : (width : Width) (numbers text : List ℕ)
     → SpellsEach (IsFixed width) numbers text → length text ≡ byte_len width * length numbers
 fixed_counted width [] text s = omega (arith, ap length s)
 fixed_counted width (x ∷ xs) text s =
-    omega (arith, ap length s.2, length-append s.0 s.1, s.3.0, fixed_counted width xs s.1 s.4, mul-suc (byte_len width) (length xs))
+    omega (
+      arith,
+      ap length s.2,
+      length-append s.0 s.1,
+      s.3.0,
+      fixed_counted width xs s.1 s.4,
+      mul-suc (byte_len width) (length xs),
+    )

@@ -121,9 +121,25 @@ from_front fuel b bytes le shorter (inl r) =
     let read = r.2 in
     with_first r.0 (b ∷ bytes) r.1 read
     (shorter r.1
-    (omega (arith, ap length read.parts, length-append read.text r.1, ended_is_some read.text read.spelled.ended)))
+    (omega (
+      arith,
+      ap length read.parts,
+      length-append read.text r.1,
+      ended_is_some read.text read.spelled.ended,
+    )))
 from_front fuel b bytes le shorter (inr f) =
-    inr ([], f.0, record { front = []; rest = b ∷ bytes; parts = refl; spelled = refl; more = λ e. absurd cc; fault = f.1 })
+    inr (
+      [],
+      f.0,
+      record {
+        front = [];
+        rest = b ∷ bytes;
+        parts = refl;
+        spelled = refl;
+        more = λ e. absurd cc;
+        fault = f.1;
+      },
+    )
 
 module _ (or_fault : VarintOrFaultStands) where
   -- a text of at most so many bytes

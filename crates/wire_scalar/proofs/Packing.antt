@@ -1,13 +1,12 @@
 -- Elements of a packed payload, appended one after another.
-use Rattle.std.proofs.Common.{◌≡◌, ◌≢◌, ℕ, ◌+◌, ◌*◌, ◌%◌, ◌<◌, ◌≤◌, List, [], ◌∷◌, ◌++◌, length, refl, sym, ap, ◌∙◌, append_assoc, arith}
+use Rattle.std.proofs.Common.{◌≡◌, ℕ, ◌+◌, ◌*◌, ◌%◌, ◌<◌, ◌≤◌, List, [], ◌∷◌, ◌++◌, length, refl, sym, ap, ◌∙◌, append_assoc, arith}
 use Rattle.std.proofs.Math.Nat.{mul-add-mod_self_left}
 use Rattle.std.proofs.lemmas.List.{append-nil, length-append}
 use Rattle.std.specs.Int.{Width, byte_len}
 use Rattle.std.specs.Prelude.{map}
-use Rattle.wire_base.specs.declared.error.DecodeError.{DecodeError}
 use Rattle.wire_base.specs.Read.{Reads}
-use Rattle.wire_base.specs.Varint.{IsSpelling, VarintFault}
-use Rattle.wire_scalar.specs.Packed.{SpellsEach, Appends, AppendsFront, StopsAtFault}
+use Rattle.wire_base.specs.Varint.{IsSpelling}
+use Rattle.wire_scalar.specs.Packed.{SpellsEach, Appends}
 use Rattle.wire_base.specs.Fixed.{IsFixed}
 use Rattle.wire_scalar.specs.Reading.{ReadsValue}
 use Rattle.wire_scalar.specs.ValueMap.{ValueMap}
@@ -68,10 +67,6 @@ pub record Appended {T : Type 0} (IsText : ℕ → List ℕ
 
 module _ {T : Type 0} (IsText : ℕ → List ℕ
     → Type 0) (values : ValueMap T) (payload : List ℕ) (before : List T) where
-  pub Appended-none : Appended IsText values payload payload before before
-  Appended-none =
-      record { front = []; parts = refl; appended = record { numbers = []; spelled = refl; appended = sym (append-nil before) } }
-
   -- one element more
   pub Appended-more : (left next : List ℕ) (now after : List T) (value : T)
       → Appended IsText values payload left before now → ReadsValue IsText values left value next
@@ -85,7 +80,8 @@ module _ {T : Type 0} (IsText : ℕ → List ℕ
             ∙ sym (append_assoc a.front r.read.text next);
         appended = record {
           numbers = so_far.numbers ++ r.number ∷ [];
-          spelled = SpellsEach-push IsText so_far.numbers a.front r.number r.read.text so_far.spelled r.read.spelled;
+          spelled = SpellsEach-push IsText so_far.numbers a.front r.number r.read.text
+              so_far.spelled r.read.spelled;
           appended = e ∙ ap (λ (t : List T). t ++ value ∷ []) so_far.appended
               ∙ append_assoc before (map values.dec so_far.numbers) (value ∷ [])
               ∙ ap (λ (t : List T). before ++ t)
@@ -93,32 +89,6 @@ module _ {T : Type 0} (IsText : ℕ → List ℕ
               ∙ sym (map-push values.dec so_far.numbers r.number));
         };
       }
-
-  -- nothing is left
-  pub Appended-all : (now : List T) → Appended IsText values payload [] before now
-      → Appends IsText values payload before now
-  Appended-all now a =
-      record {
-        numbers = a.appended.numbers;
-        spelled = rw (a.parts
-            ∙ append-nil a.front) a.appended.spelled;
-        appended = a.appended.appended;
-      }
-
-  pub Appended-front : (left : List ℕ) (now : List T)
-      → Appended IsText values payload left before now
-      → (payload ≢ [] → left ≢ []) → AppendsFront IsText values payload before now
-  Appended-front left now a more =
-      record { front = a.front; rest = left; parts = a.parts; unfinished = more; appended = a.appended }
-
--- what is left is no varint
-pub Appended-stops : {T : Type 0} (values : ValueMap T) (payload left : List ℕ)
-    (before now : List T) (e : DecodeError) → Appended IsSpelling values payload left before now
-    → left ≢ [] → VarintFault left e
-    → StopsAtFault values payload before now e
-Appended-stops values payload left before now e a more fault =
-    let so_far = a.appended in
-    record { numbers = so_far.numbers; broken = record { front = a.front; rest = left; parts = a.parts; spelled = so_far.spelled; more = more; fault = fault }; appended = so_far.appended }
 
 -- one element less is still a multiple of the width
 pub whole_rest : {T : Type 0} (width : Width) (values : ValueMap T) (left next : List ℕ) (value : T)

@@ -20,7 +20,7 @@ pub record Appends {T : Type 0} (IsText : ℕ → List ℕ → Type 0) (values :
   pub appended : after ≡ before ++ map values.dec numbers
 
 -- the same for a front of the payload, and not for the whole of one that has some bytes
-pub record AppendsFront {T : Type 0} (IsText : ℕ → List ℕ → Type 0) (values : ValueMap T)
+pub record AppendsPart {T : Type 0} (IsText : ℕ → List ℕ → Type 0) (values : ValueMap T)
     (payload : List ℕ) (before after : List T) : Type 0 where
   pub front : List ℕ
   pub rest : List ℕ

@@ -1,9 +1,9 @@
 //! Fields written one by one: a tag and its payload.
-ghost use Rattle.std.specs.Prelude.{◌≡◌, ◌++◌, OnOk, OnErr};
+ghost use Rattle.std.specs.Prelude.{◌++◌};
 ghost use Rattle.wire_base.specs.declared.tag.WireType.TheVariants.{LengthDelimited, StartGroup, EndGroup};
 ghost use Rattle.wire_base.specs.Field.{varint, fixed32 as four_bytes, fixed64 as eight_bytes};
 ghost use Rattle.wire_base.specs.FieldNumber.{IsFieldNumber};
-ghost use Rattle.wire_base.specs.Sink.{KeepsFront, WriteAnswers};
+ghost use Rattle.wire_base.specs.Sink.{Writes};
 ghost use Rattle.wire_base.specs.Tag.{tag_text};
 ghost use Rattle.wire_base.specs.Text.{record_text};
 ghost use Rattle.wire_base.specs.Varint.{shortest_varint};
@@ -22,12 +22,8 @@ pub fn put_int32_field<S: EncodeSink>(
     sink: &mut S,
 ) -> Result<(), EncodeError>
     requires { IsFieldNumber number }
-    ensures ok { OnOk result (S.bytes_of sink.new
-        ≡ S.bytes_of sink.old ++ record_text number (varint (int32.enc value))) }
-    ensures err { OnErr result (KeepsFront (S.bytes_of sink.old)
-        (record_text number (varint (int32.enc value))) (S.bytes_of sink.new)) }
-    ensures cause { WriteAnswers S.most (S.bytes_of sink.old)
-        (record_text number (varint (int32.enc value))) result }
+    ensures { Writes S.most (record_text number (varint (int32.enc value)))
+        (S.bytes_of sink.old) (S.bytes_of sink.new) result }
 {
     put_varint(number, WireType::Varint, Int32::number_of(value), sink)
 }
@@ -41,12 +37,8 @@ pub fn put_int64_field<S: EncodeSink>(
     sink: &mut S,
 ) -> Result<(), EncodeError>
     requires { IsFieldNumber number }
-    ensures ok { OnOk result (S.bytes_of sink.new
-        ≡ S.bytes_of sink.old ++ record_text number (varint (int64.enc value))) }
-    ensures err { OnErr result (KeepsFront (S.bytes_of sink.old)
-        (record_text number (varint (int64.enc value))) (S.bytes_of sink.new)) }
-    ensures cause { WriteAnswers S.most (S.bytes_of sink.old)
-        (record_text number (varint (int64.enc value))) result }
+    ensures { Writes S.most (record_text number (varint (int64.enc value)))
+        (S.bytes_of sink.old) (S.bytes_of sink.new) result }
 {
     put_varint(number, WireType::Varint, Int64::number_of(value), sink)
 }
@@ -60,12 +52,8 @@ pub fn put_uint32_field<S: EncodeSink>(
     sink: &mut S,
 ) -> Result<(), EncodeError>
     requires { IsFieldNumber number }
-    ensures ok { OnOk result (S.bytes_of sink.new
-        ≡ S.bytes_of sink.old ++ record_text number (varint (uint32.enc value))) }
-    ensures err { OnErr result (KeepsFront (S.bytes_of sink.old)
-        (record_text number (varint (uint32.enc value))) (S.bytes_of sink.new)) }
-    ensures cause { WriteAnswers S.most (S.bytes_of sink.old)
-        (record_text number (varint (uint32.enc value))) result }
+    ensures { Writes S.most (record_text number (varint (uint32.enc value)))
+        (S.bytes_of sink.old) (S.bytes_of sink.new) result }
 {
     put_varint(number, WireType::Varint, Uint32::number_of(value), sink)
 }
@@ -79,12 +67,8 @@ pub fn put_uint64_field<S: EncodeSink>(
     sink: &mut S,
 ) -> Result<(), EncodeError>
     requires { IsFieldNumber number }
-    ensures ok { OnOk result (S.bytes_of sink.new
-        ≡ S.bytes_of sink.old ++ record_text number (varint (uint64.enc value))) }
-    ensures err { OnErr result (KeepsFront (S.bytes_of sink.old)
-        (record_text number (varint (uint64.enc value))) (S.bytes_of sink.new)) }
-    ensures cause { WriteAnswers S.most (S.bytes_of sink.old)
-        (record_text number (varint (uint64.enc value))) result }
+    ensures { Writes S.most (record_text number (varint (uint64.enc value)))
+        (S.bytes_of sink.old) (S.bytes_of sink.new) result }
 {
     put_varint(number, WireType::Varint, Uint64::number_of(value), sink)
 }
@@ -98,12 +82,8 @@ pub fn put_sint32_field<S: EncodeSink>(
     sink: &mut S,
 ) -> Result<(), EncodeError>
     requires { IsFieldNumber number }
-    ensures ok { OnOk result (S.bytes_of sink.new
-        ≡ S.bytes_of sink.old ++ record_text number (varint (sint32.enc value))) }
-    ensures err { OnErr result (KeepsFront (S.bytes_of sink.old)
-        (record_text number (varint (sint32.enc value))) (S.bytes_of sink.new)) }
-    ensures cause { WriteAnswers S.most (S.bytes_of sink.old)
-        (record_text number (varint (sint32.enc value))) result }
+    ensures { Writes S.most (record_text number (varint (sint32.enc value)))
+        (S.bytes_of sink.old) (S.bytes_of sink.new) result }
 {
     put_varint(number, WireType::Varint, Sint32::number_of(value), sink)
 }
@@ -117,12 +97,8 @@ pub fn put_sint64_field<S: EncodeSink>(
     sink: &mut S,
 ) -> Result<(), EncodeError>
     requires { IsFieldNumber number }
-    ensures ok { OnOk result (S.bytes_of sink.new
-        ≡ S.bytes_of sink.old ++ record_text number (varint (sint64.enc value))) }
-    ensures err { OnErr result (KeepsFront (S.bytes_of sink.old)
-        (record_text number (varint (sint64.enc value))) (S.bytes_of sink.new)) }
-    ensures cause { WriteAnswers S.most (S.bytes_of sink.old)
-        (record_text number (varint (sint64.enc value))) result }
+    ensures { Writes S.most (record_text number (varint (sint64.enc value)))
+        (S.bytes_of sink.old) (S.bytes_of sink.new) result }
 {
     put_varint(number, WireType::Varint, Sint64::number_of(value), sink)
 }
@@ -136,12 +112,8 @@ pub fn put_bool_field<S: EncodeSink>(
     sink: &mut S,
 ) -> Result<(), EncodeError>
     requires { IsFieldNumber number }
-    ensures ok { OnOk result (S.bytes_of sink.new
-        ≡ S.bytes_of sink.old ++ record_text number (varint (bool.enc value))) }
-    ensures err { OnErr result (KeepsFront (S.bytes_of sink.old)
-        (record_text number (varint (bool.enc value))) (S.bytes_of sink.new)) }
-    ensures cause { WriteAnswers S.most (S.bytes_of sink.old)
-        (record_text number (varint (bool.enc value))) result }
+    ensures { Writes S.most (record_text number (varint (bool.enc value)))
+        (S.bytes_of sink.old) (S.bytes_of sink.new) result }
 {
     put_varint(number, WireType::Varint, Bool::number_of(value), sink)
 }
@@ -155,12 +127,8 @@ pub fn put_fixed32_field<S: EncodeSink>(
     sink: &mut S,
 ) -> Result<(), EncodeError>
     requires { IsFieldNumber number }
-    ensures ok { OnOk result (S.bytes_of sink.new
-        ≡ S.bytes_of sink.old ++ record_text number (four_bytes (fixed32.enc value))) }
-    ensures err { OnErr result (KeepsFront (S.bytes_of sink.old)
-        (record_text number (four_bytes (fixed32.enc value))) (S.bytes_of sink.new)) }
-    ensures cause { WriteAnswers S.most (S.bytes_of sink.old)
-        (record_text number (four_bytes (fixed32.enc value))) result }
+    ensures { Writes S.most (record_text number (four_bytes (fixed32.enc value)))
+        (S.bytes_of sink.old) (S.bytes_of sink.new) result }
 {
     laws::two_parts();
     laws::put_is_a_write();
@@ -177,12 +145,8 @@ pub fn put_fixed64_field<S: EncodeSink>(
     sink: &mut S,
 ) -> Result<(), EncodeError>
     requires { IsFieldNumber number }
-    ensures ok { OnOk result (S.bytes_of sink.new
-        ≡ S.bytes_of sink.old ++ record_text number (eight_bytes (fixed64.enc value))) }
-    ensures err { OnErr result (KeepsFront (S.bytes_of sink.old)
-        (record_text number (eight_bytes (fixed64.enc value))) (S.bytes_of sink.new)) }
-    ensures cause { WriteAnswers S.most (S.bytes_of sink.old)
-        (record_text number (eight_bytes (fixed64.enc value))) result }
+    ensures { Writes S.most (record_text number (eight_bytes (fixed64.enc value)))
+        (S.bytes_of sink.old) (S.bytes_of sink.new) result }
 {
     laws::two_parts();
     laws::put_is_a_write();
@@ -199,12 +163,8 @@ pub fn put_sfixed32_field<S: EncodeSink>(
     sink: &mut S,
 ) -> Result<(), EncodeError>
     requires { IsFieldNumber number }
-    ensures ok { OnOk result (S.bytes_of sink.new
-        ≡ S.bytes_of sink.old ++ record_text number (four_bytes (sfixed32.enc value))) }
-    ensures err { OnErr result (KeepsFront (S.bytes_of sink.old)
-        (record_text number (four_bytes (sfixed32.enc value))) (S.bytes_of sink.new)) }
-    ensures cause { WriteAnswers S.most (S.bytes_of sink.old)
-        (record_text number (four_bytes (sfixed32.enc value))) result }
+    ensures { Writes S.most (record_text number (four_bytes (sfixed32.enc value)))
+        (S.bytes_of sink.old) (S.bytes_of sink.new) result }
 {
     put_fixed32_field(number, value.cast_unsigned(), sink)
 }
@@ -218,12 +178,8 @@ pub fn put_sfixed64_field<S: EncodeSink>(
     sink: &mut S,
 ) -> Result<(), EncodeError>
     requires { IsFieldNumber number }
-    ensures ok { OnOk result (S.bytes_of sink.new
-        ≡ S.bytes_of sink.old ++ record_text number (eight_bytes (sfixed64.enc value))) }
-    ensures err { OnErr result (KeepsFront (S.bytes_of sink.old)
-        (record_text number (eight_bytes (sfixed64.enc value))) (S.bytes_of sink.new)) }
-    ensures cause { WriteAnswers S.most (S.bytes_of sink.old)
-        (record_text number (eight_bytes (sfixed64.enc value))) result }
+    ensures { Writes S.most (record_text number (eight_bytes (sfixed64.enc value)))
+        (S.bytes_of sink.old) (S.bytes_of sink.new) result }
 {
     put_fixed64_field(number, value.cast_unsigned(), sink)
 }
@@ -238,12 +194,8 @@ pub fn put_len_delimited_header<S: EncodeSink>(
     sink: &mut S,
 ) -> Result<(), EncodeError>
     requires { IsFieldNumber number }
-    ensures ok { OnOk result (S.bytes_of sink.new
-        ≡ S.bytes_of sink.old ++ tag_text number LengthDelimited ++ shortest_varint len) }
-    ensures err { OnErr result (KeepsFront (S.bytes_of sink.old)
-        (tag_text number LengthDelimited ++ shortest_varint len) (S.bytes_of sink.new)) }
-    ensures cause { WriteAnswers S.most (S.bytes_of sink.old)
-        (tag_text number LengthDelimited ++ shortest_varint len) result }
+    ensures { Writes S.most (tag_text number LengthDelimited ++ shortest_varint len)
+        (S.bytes_of sink.old) (S.bytes_of sink.new) result }
 {
     put_varint(number, WireType::LengthDelimited, len, sink)
 }
@@ -253,11 +205,8 @@ pub fn put_len_delimited_header<S: EncodeSink>(
 #[inline(always)]
 pub fn put_group_start<S: EncodeSink>(number: u32, sink: &mut S) -> Result<(), EncodeError>
     requires { IsFieldNumber number }
-    ensures ok { OnOk result (S.bytes_of sink.new
-        ≡ S.bytes_of sink.old ++ tag_text number StartGroup) }
-    ensures err { OnErr result (KeepsFront (S.bytes_of sink.old)
-        (tag_text number StartGroup) (S.bytes_of sink.new)) }
-    ensures cause { WriteAnswers S.most (S.bytes_of sink.old) (tag_text number StartGroup) result }
+    ensures { Writes S.most (tag_text number StartGroup)
+        (S.bytes_of sink.old) (S.bytes_of sink.new) result }
 {
     Tag::new(number, WireType::StartGroup).encode(sink)
 }
@@ -267,11 +216,8 @@ pub fn put_group_start<S: EncodeSink>(number: u32, sink: &mut S) -> Result<(), E
 #[inline(always)]
 pub fn put_group_end<S: EncodeSink>(number: u32, sink: &mut S) -> Result<(), EncodeError>
     requires { IsFieldNumber number }
-    ensures ok { OnOk result (S.bytes_of sink.new
-        ≡ S.bytes_of sink.old ++ tag_text number EndGroup) }
-    ensures err { OnErr result (KeepsFront (S.bytes_of sink.old)
-        (tag_text number EndGroup) (S.bytes_of sink.new)) }
-    ensures cause { WriteAnswers S.most (S.bytes_of sink.old) (tag_text number EndGroup) result }
+    ensures { Writes S.most (tag_text number EndGroup)
+        (S.bytes_of sink.old) (S.bytes_of sink.new) result }
 {
     Tag::new(number, WireType::EndGroup).encode(sink)
 }
@@ -285,12 +231,8 @@ fn put_varint<S: EncodeSink>(
     sink: &mut S,
 ) -> Result<(), EncodeError>
     requires { IsFieldNumber number }
-    ensures ok { OnOk result (S.bytes_of sink.new
-        ≡ S.bytes_of sink.old ++ tag_text number wire_type ++ shortest_varint value) }
-    ensures err { OnErr result (KeepsFront (S.bytes_of sink.old)
-        (tag_text number wire_type ++ shortest_varint value) (S.bytes_of sink.new)) }
-    ensures cause { WriteAnswers S.most (S.bytes_of sink.old)
-        (tag_text number wire_type ++ shortest_varint value) result }
+    ensures { Writes S.most (tag_text number wire_type ++ shortest_varint value)
+        (S.bytes_of sink.old) (S.bytes_of sink.new) result }
 {
     laws::two_parts();
     Tag::new(number, wire_type).encode(sink)?;

@@ -4,7 +4,7 @@ ghost use Rattle.std.specs.Int.{byte_len, w32, w64};
 ghost use Rattle.wire_base.specs.declared.error.DecodeError.TheVariants.{OutOfMemory};
 ghost use Rattle.wire_base.specs.Read.{Reads};
 ghost use Rattle.wire_base.specs.Varint.{IsSpelling, VarintFault};
-ghost use Rattle.wire_scalar.specs.Packed.{Appends, AppendsFront, FixedRefusal, StopsAtFault};
+ghost use Rattle.wire_scalar.specs.Packed.{Appends, AppendsPart, FixedRefusal, StopsAtFault};
 ghost use Rattle.wire_base.specs.Fixed.{IsFixed};
 ghost use Rattle.wire_scalar.specs.ValueMap.{int32, int64, uint32, uint64, sint32, sint64, bool, fixed32, fixed64, sfixed32, sfixed64};
 
@@ -25,7 +25,7 @@ pub fn extend_packed_int32(
 ) -> Result<(), DecodeError>
     ensures ok { OnOk result (Appends IsSpelling int32 payload.now out.old.items out.new.items) }
     ensures fault { IfErr result (λ e.
-        ((e ≡ OutOfMemory) × AppendsFront IsSpelling int32 payload.now out.old.items out.new.items)
+        ((e ≡ OutOfMemory) × AppendsPart IsSpelling int32 payload.now out.old.items out.new.items)
         ⊎ StopsAtFault int32 payload.now out.old.items out.new.items e) }
 {
     extend_as::<Int32>(payload, out, reserve)
@@ -43,7 +43,7 @@ pub fn extend_packed_int64(
 ) -> Result<(), DecodeError>
     ensures ok { OnOk result (Appends IsSpelling int64 payload.now out.old.items out.new.items) }
     ensures fault { IfErr result (λ e.
-        ((e ≡ OutOfMemory) × AppendsFront IsSpelling int64 payload.now out.old.items out.new.items)
+        ((e ≡ OutOfMemory) × AppendsPart IsSpelling int64 payload.now out.old.items out.new.items)
         ⊎ StopsAtFault int64 payload.now out.old.items out.new.items e) }
 {
     extend_as::<Int64>(payload, out, reserve)
@@ -61,7 +61,7 @@ pub fn extend_packed_uint32(
 ) -> Result<(), DecodeError>
     ensures ok { OnOk result (Appends IsSpelling uint32 payload.now out.old.items out.new.items) }
     ensures fault { IfErr result (λ e.
-        ((e ≡ OutOfMemory) × AppendsFront IsSpelling uint32 payload.now out.old.items out.new.items)
+        ((e ≡ OutOfMemory) × AppendsPart IsSpelling uint32 payload.now out.old.items out.new.items)
         ⊎ StopsAtFault uint32 payload.now out.old.items out.new.items e) }
 {
     extend_as::<Uint32>(payload, out, reserve)
@@ -79,7 +79,7 @@ pub fn extend_packed_uint64(
 ) -> Result<(), DecodeError>
     ensures ok { OnOk result (Appends IsSpelling uint64 payload.now out.old.items out.new.items) }
     ensures fault { IfErr result (λ e.
-        ((e ≡ OutOfMemory) × AppendsFront IsSpelling uint64 payload.now out.old.items out.new.items)
+        ((e ≡ OutOfMemory) × AppendsPart IsSpelling uint64 payload.now out.old.items out.new.items)
         ⊎ StopsAtFault uint64 payload.now out.old.items out.new.items e) }
 {
     extend_as::<Uint64>(payload, out, reserve)
@@ -97,7 +97,7 @@ pub fn extend_packed_sint32(
 ) -> Result<(), DecodeError>
     ensures ok { OnOk result (Appends IsSpelling sint32 payload.now out.old.items out.new.items) }
     ensures fault { IfErr result (λ e.
-        ((e ≡ OutOfMemory) × AppendsFront IsSpelling sint32 payload.now out.old.items out.new.items)
+        ((e ≡ OutOfMemory) × AppendsPart IsSpelling sint32 payload.now out.old.items out.new.items)
         ⊎ StopsAtFault sint32 payload.now out.old.items out.new.items e) }
 {
     extend_as::<Sint32>(payload, out, reserve)
@@ -115,7 +115,7 @@ pub fn extend_packed_sint64(
 ) -> Result<(), DecodeError>
     ensures ok { OnOk result (Appends IsSpelling sint64 payload.now out.old.items out.new.items) }
     ensures fault { IfErr result (λ e.
-        ((e ≡ OutOfMemory) × AppendsFront IsSpelling sint64 payload.now out.old.items out.new.items)
+        ((e ≡ OutOfMemory) × AppendsPart IsSpelling sint64 payload.now out.old.items out.new.items)
         ⊎ StopsAtFault sint64 payload.now out.old.items out.new.items e) }
 {
     extend_as::<Sint64>(payload, out, reserve)
@@ -133,7 +133,7 @@ pub fn extend_packed_bool(
 ) -> Result<(), DecodeError>
     ensures ok { OnOk result (Appends IsSpelling bool payload.now out.old.items out.new.items) }
     ensures fault { IfErr result (λ e.
-        ((e ≡ OutOfMemory) × AppendsFront IsSpelling bool payload.now out.old.items out.new.items)
+        ((e ≡ OutOfMemory) × AppendsPart IsSpelling bool payload.now out.old.items out.new.items)
         ⊎ StopsAtFault bool payload.now out.old.items out.new.items e) }
 {
     extend_as::<Bool>(payload, out, reserve)
@@ -211,7 +211,7 @@ fn extend_as<T: VarintScalar>(
 ) -> Result<(), DecodeError>
     ensures ok { OnOk result (Appends IsSpelling T.map payload.now out.old.items out.new.items) }
     ensures fault { IfErr result (λ e.
-        ((e ≡ OutOfMemory) × AppendsFront IsSpelling T.map payload.now out.old.items out.new.items)
+        ((e ≡ OutOfMemory) × AppendsPart IsSpelling T.map payload.now out.old.items out.new.items)
         ⊎ StopsAtFault T.map payload.now out.old.items out.new.items e) }
 {
     out.reserve(reserve)?;

@@ -162,7 +162,8 @@ impl Hash for UnknownField {
 
     ghost hash_input = { λ f. fed.u32 f.number ++ payload_writes (payload_of f.value) };
 
-    ghost respects_eq = { λ a b. record_writes-same a.number b.number (payload_of a.value) (payload_of b.value) };
+    ghost respects_eq = { λ a b. record_writes-same a.number b.number
+        (payload_of a.value) (payload_of b.value) };
 
     #[cycle(hash)]
     fn hash<H: Hasher>(&self, state: &mut H) {

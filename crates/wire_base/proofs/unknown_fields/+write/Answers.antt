@@ -15,25 +15,29 @@ UnknownField::write_record-returns-in_err-put_tag-in-Varint-clause-err g t c =
 
 pub UnknownField::write_record-returns-in_err-put_tag-in-Fixed64-clause-err : goal.UnknownField::write_record-returns-in_err-put_tag-in-Fixed64-clause-err
 UnknownField::write_record-returns-in_err-put_tag-in-Fixed64-clause-err g t c =
-    let p = err_from_is_err_and c.from_residual-in_err-put_tag-in-Fixed64.result c.from_residual-in_err-put_tag-in-Fixed64.ensures.1 in
+    let p = err_from_is_err_and c.from_residual-in_err-put_tag-in-Fixed64.result
+    c.from_residual-in_err-put_tag-in-Fixed64.ensures.1 in
     rw (p.1, c.in-Fixed64.is)
     (KeepsFront-longer _ _ _ _ _ refl (c.in_err-put_tag-in-Fixed64).ensures.err)
 
 pub UnknownField::write_record-returns-in_err-put_tag-in-Fixed32-clause-err : goal.UnknownField::write_record-returns-in_err-put_tag-in-Fixed32-clause-err
 UnknownField::write_record-returns-in_err-put_tag-in-Fixed32-clause-err g t c =
-    let p = err_from_is_err_and c.from_residual-in_err-put_tag-in-Fixed32.result c.from_residual-in_err-put_tag-in-Fixed32.ensures.1 in
+    let p = err_from_is_err_and c.from_residual-in_err-put_tag-in-Fixed32.result
+    c.from_residual-in_err-put_tag-in-Fixed32.ensures.1 in
     rw (p.1, c.in-Fixed32.is)
     (KeepsFront-longer _ _ _ _ _ refl (c.in_err-put_tag-in-Fixed32).ensures.err)
 
 pub UnknownField::write_record-returns-in_err-put_tag-in-LengthDelimited-clause-err : goal.UnknownField::write_record-returns-in_err-put_tag-in-LengthDelimited-clause-err
 UnknownField::write_record-returns-in_err-put_tag-in-LengthDelimited-clause-err g t c =
-    let p = err_from_is_err_and c.from_residual-in_err-put_tag-in-LengthDelimited.result c.from_residual-in_err-put_tag-in-LengthDelimited.ensures.1 in
+    let p = err_from_is_err_and c.from_residual-in_err-put_tag-in-LengthDelimited.result
+    c.from_residual-in_err-put_tag-in-LengthDelimited.ensures.1 in
     rw (p.1, c.in-LengthDelimited.is)
     (KeepsFront-longer _ _ _ _ _ refl (c.in_err-put_tag-in-LengthDelimited).ensures.err)
 
 pub UnknownField::write_record-returns-in_err-put_tag-in-Group-clause-err : goal.UnknownField::write_record-returns-in_err-put_tag-in-Group-clause-err
 UnknownField::write_record-returns-in_err-put_tag-in-Group-clause-err g t c =
-    let p = err_from_is_err_and c.from_residual-in_err-put_tag-in-Group.result c.from_residual-in_err-put_tag-in-Group.ensures.1 in
+    let p = err_from_is_err_and c.from_residual-in_err-put_tag-in-Group.result
+    c.from_residual-in_err-put_tag-in-Group.ensures.1 in
     rw (p.1, c.in-Group.is)
     (KeepsFront-longer _ _ _ _ _ refl (c.in_err-put_tag-in-Group).ensures.err)
 

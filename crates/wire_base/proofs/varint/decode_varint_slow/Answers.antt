@@ -30,7 +30,8 @@ loop-index-preserved g c =
 
 pub returns-in_err-byte-2-clause-fault : goal.returns-in_err-byte-2-clause-fault
 returns-in_err-byte-2-clause-fault g c =
-    let p = err_from_is_err_and c.from_residual-in_err-byte-2.result c.from_residual-in_err-byte-2.ensures.1 in
+    let p = err_from_is_err_and c.from_residual-in_err-byte-2.result
+    c.from_residual-in_err-byte-2.ensures.1 in
     rw (p.1, p.2, c.in_err-byte-2.ensures.end.0)
     (ReadSoFar-cut_short _ _ _ _ c.loop-index.invariant.read c.in_err-byte-2.ensures.end.1
     (omega arith))

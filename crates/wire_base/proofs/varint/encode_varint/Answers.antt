@@ -17,17 +17,21 @@ pub loop-rest-preserved : goal.loop-rest-preserved
 loop-rest-preserved g c = record {
   fits = omega arith;
   written = Written-more _ _ _ _ _ _
-      ((c.loop-rest.rest % 128 + 128) ∷ []) _ c.loop-rest.invariant.written c.in_ok-put_u8.ensures.ok (shortest_varint-more c.loop-rest.rest c.loop-rest-test.true c.loop-rest.invariant.fits) (λ some. c.in_ok-put_u8.ensures.cause);
+      ((c.loop-rest.rest % 128 + 128) ∷ []) _ c.loop-rest.invariant.written
+      c.in_ok-put_u8.ensures.ok (shortest_varint-more c.loop-rest.rest c.loop-rest-test.true
+      c.loop-rest.invariant.fits) (λ some. c.in_ok-put_u8.ensures.cause);
 }
 
 pub returns-clause-ok : goal.returns-clause-ok
 returns-clause-ok g c =
     let w = rw
-    (shortest_varint-last c.loop-rest.rest c.loop-rest-test.false) at c.loop-rest.invariant.written in
+    (shortest_varint-last c.loop-rest.rest c.loop-rest-test.false)
+    at c.loop-rest.invariant.written in
     Written-ok _ c.put_u8-2.result _ _ _ _ _ w c.put_u8-2.ensures.ok
 
 pub returns-clause-cause : goal.returns-clause-cause
 returns-clause-cause g c =
     let w = rw
-    (shortest_varint-last c.loop-rest.rest c.loop-rest-test.false) at c.loop-rest.invariant.written in
+    (shortest_varint-last c.loop-rest.rest c.loop-rest-test.false)
+    at c.loop-rest.invariant.written in
     last_put _ c.put_u8-2.result _ _ _ _ w c.put_u8-2.ensures.cause

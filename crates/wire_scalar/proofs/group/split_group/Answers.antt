@@ -29,7 +29,8 @@ pub loop-tag-preserved : goal.loop-tag-preserved
 loop-tag-preserved c =
     let so_far = c.loop-tag.invariant.so_far in
     let p = c.in_ok-skip_field_depth.ensures.ok in
-    let next = one_more c.charges_add_up.ensures c.records_one_by_one.ensures _ so_far.0 _ _ p.0 _ _ _ _ so_far.1 (rw c.in-Some.is at c.in_ok-tag.ensures.record) p.1 in
+    let next = one_more c.charges_add_up.ensures c.records_one_by_one.ensures _ so_far.0 _ _ p.0 _ _
+    _ _ so_far.1 (rw c.in-Some.is at c.in_ok-tag.ensures.record) p.1 in
     record {
       so_far = (push so_far.0 _ p.0, next);
       len = omega (

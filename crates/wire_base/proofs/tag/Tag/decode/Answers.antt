@@ -16,7 +16,8 @@ returns-then-value-clause-fault g c =
 
 pub returns-in_err-wire_type-clause-fault : goal.returns-in_err-wire_type-clause-fault
 returns-in_err-wire_type-clause-fault g c =
-    let p = err_from_is_err_and c.from_residual-in_err-wire_type.result c.from_residual-in_err-wire_type.ensures.1 in
+    let p = err_from_is_err_and c.from_residual-in_err-wire_type.result
+    c.from_residual-in_err-wire_type.ensures.1 in
     let err = c.in_err-wire_type.ensures.err in
     rw (p.1, p.2, err.1)
     (no_tag c.in_ok-value.value _ c.in_ok-value.ensures.ok

@@ -19,6 +19,7 @@ pub invariant_of-self : goal.invariant_of-self
 invariant_of-self c =
     elim c.match-push.branch [
       | in-Ok w ↦ rw w.in-Ok.ensures.items
-          (AreFitting-append c.self.inside.fields.items c.args.field c.self.invariant c.widths_fit.ensures)
+          (AreFitting-append c.self.inside.fields.items c.args.field c.self.invariant
+          c.widths_fit.ensures)
       | in-Err w ↦ rw w.in-Err.ensures.items c.self.invariant
     ]

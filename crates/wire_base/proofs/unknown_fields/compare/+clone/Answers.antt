@@ -8,7 +8,8 @@ use Rattle.wire_base.proofs.unknown_fields.compare.+clone.Goals as goal
 pub UnknownFieldsClone::clone-loop-field-preserved : goal.UnknownFieldsClone::clone-loop-field-preserved
 UnknownFieldsClone::clone-loop-field-preserved t c =
     rw c.in_ok-push.ensures.items
-    (joined-copy _ _ _ _ _ _ c.loop-field-test.true c.field-item.is c.in_ok-clone.ensures.cases c.loop-field.invariant)
+    (joined-copy _ _ _ _ _ _ c.loop-field-test.true c.field-item.is c.in_ok-clone.ensures.cases
+    c.loop-field.invariant)
 
 pub UnknownFieldsClone::clone-returns : goal.UnknownFieldsClone::clone-returns
 UnknownFieldsClone::clone-returns t c = record {

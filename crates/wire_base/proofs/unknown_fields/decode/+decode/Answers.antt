@@ -157,7 +157,8 @@ decode_group-returns-in_err-tag-clause-fault g t c =
 
 pub decode_group-returns-in_err-field-clause-fault : goal.decode_group-returns-in_err-field-clause-fault
 decode_group-returns-in_err-field-clause-fault g t c =
-    let p = err_from_is_err_and c.from_residual-in_err-field.result c.from_residual-in_err-field.ensures.1 in
+    let p = err_from_is_err_and c.from_residual-in_err-field.result
+    c.from_residual-in_err-field.ensures.1 in
     let loop = c.loop-fields.invariant in
     let tag = c.in_ok-tag.ensures in
     rw (p.1, p.2)

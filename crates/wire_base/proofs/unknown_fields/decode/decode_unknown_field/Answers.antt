@@ -4,19 +4,22 @@ use Rattle.wire_base.proofs.unknown_fields.decode.decode_unknown_field.Goals as 
 
 pub returns-clause-enough : goal.returns-clause-enough
 returns-clause-enough g c =
-    never_wants_slots (λ field. payload_of field.value) _ _ _ _ (g.B.Buf.unread c.decode_field.new.buf)
+    never_wants_slots (λ field. payload_of field.value) _ _ _ _
+    (g.B.Buf.unread c.decode_field.new.buf)
     c.decode_field.result
     c.decode_field.ensures.fault
 
 pub returns-clause-skipped : goal.returns-clause-skipped
 returns-clause-skipped g c =
-    keeps_what_is_skipped (λ field. payload_of field.value) _ _ _ _ (g.B.Buf.unread c.decode_field.new.buf)
+    keeps_what_is_skipped (λ field. payload_of field.value) _ _ _ _
+    (g.B.Buf.unread c.decode_field.new.buf)
     c.decode_field.result c.decode_field.ensures.ok
     c.decode_field.ensures.fault
 
 pub returns-clause-refused : goal.returns-clause-refused
 returns-clause-refused g c =
-    refuses_as_skipping (λ field. payload_of field.value) _ _ _ _ (g.B.Buf.unread c.decode_field.new.buf)
+    refuses_as_skipping (λ field. payload_of field.value) _ _ _ _
+    (g.B.Buf.unread c.decode_field.new.buf)
     c.decode_field.result c.decode_field.ensures.ok
     c.decode_field.ensures.fault
 

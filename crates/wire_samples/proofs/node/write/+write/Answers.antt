@@ -1,12 +1,8 @@
 use Rattle.std.proofs.Common.{refl, ◌∙◌, rules, SFits, to_z-of_z, w64, arith}
 use Rattle.std.proofs.lemmas.Result.{err_from_is_err_and, on_ok_weaker}
-use Rattle.wire_codec.specs.Tag.{tag_text}
-use Rattle.wire_codec.specs.Varint.{shortest_varint}
-use Rattle.wire_codec.specs.WireType.TheVariants.{LengthDelimited}
 use Rattle.wire_samples.specs.declared.node.Node.{out-Node}
 use Rattle.wire_samples.specs.declared.node.Node.TheViews.{the_lemmas}
 use Rattle.wire_samples.specs.Node.{value_of, node_records}
-use Rattle.wire_samples.proofs.FieldTexts.{regrouped}
 use Rattle.wire_samples.proofs.Nodes.{value_put, child_put, children_put, group_put}
 use Rattle.wire_samples.proofs.Nodes.{group_text, child_parts, children_parts, group_parts}
 use Rattle.wire_samples.proofs.Nodes.{records_of, next_child, unknown_text}
@@ -34,17 +30,12 @@ pub write_embedded-returns-in_err-put_len_delimited_header-clause-written :
     goal.write_embedded-returns-in_err-put_len_delimited_header-clause-written
 write_embedded-returns-in_err-put_len_delimited_header-clause-written g t c =
     let p = err_from_is_err_and c.from_residual.result c.from_residual.ensures.1 in
-    let wrote = c.in_err-put_len_delimited_header.ensures in
     let rs = node_records (value_of c.args.node.now) in
     let len = c.from.ensures ∙ read_size c.args.number _ rs c.args.cache.now
     c.consume_next-len.new.self c.requires.sizes c.consume_next-len.ensures.next in
     let pieces = c.piece_by_piece.ensures in
     rw (p.1, p.2) (pieces.refused _ _ _ _ _ _ _ _ _ (pieces.start _ _ _)
-    (embedded_parts c.args.number _ rs len) (record {
-      ok = tt;
-      err = wrote.err;
-      cause = wrote.cause;
-    }))
+    (embedded_parts c.args.number _ rs len) c.in_err-put_len_delimited_header.ensures)
 
 pub write_embedded-write_node-requires : goal.write_embedded-write_node-requires
 write_embedded-write_node-requires g t c κs within =
@@ -55,68 +46,45 @@ write_embedded-write_node-requires g t c κs within =
 
 pub write_embedded-returns-clause-written : goal.write_embedded-returns-clause-written
 write_embedded-returns-clause-written g t c =
-    let wrote = c.in_ok-put_len_delimited_header.ensures in
     let rs = node_records (value_of c.args.node.now) in
     let len = c.from.ensures ∙ read_size c.args.number _ rs c.args.cache.now
     c.consume_next-len.new.self c.requires.sizes c.consume_next-len.ensures.next in
     let pieces = c.piece_by_piece.ensures in
     let header = pieces.more _ _ _ _ _ _ _ _ tt (pieces.start _ _ _)
-    (embedded_parts c.args.number _ rs len) (record {
-      ok = regrouped (g.S.EncodeSink.bytes_of c.args.sink.now)
-          (tag_text c.args.number LengthDelimited) (shortest_varint c.from.result) _ wrote.ok;
-      err = tt;
-      cause = wrote.cause;
-    }) in
+    (embedded_parts c.args.number _ rs len) c.in_ok-put_len_delimited_header.ensures in
     pieces.last _ _ _ _ _ _ c.write_node.result header c.write_node.ensures.written
 
 pub write_group-returns-in_err-put_group_start-in-Some-clause-written :
     goal.write_group-returns-in_err-put_group_start-in-Some-clause-written
 write_group-returns-in_err-put_group_start-in-Some-clause-written g t c =
     let p = err_from_is_err_and c.from_residual.result c.from_residual.ensures.1 in
-    let wrote = c.in_err-put_group_start-in-Some.ensures in
     let pieces = c.piece_by_piece.ensures in
     rw (p.1, p.2) (pieces.refused _ _ _ _ _ _ _ _ _ (pieces.start _ _ _)
-    (group_text c.args.node.now _ c.in-Some.group c.in-Some.is refl) (record {
-      ok = tt;
-      err = wrote.err;
-      cause = wrote.cause;
-    }))
+    (group_text c.args.node.now _ c.in-Some.group c.in-Some.is refl)
+    c.in_err-put_group_start-in-Some.ensures)
 
 pub write_group-returns-in_err-write_node-in-Some-clause-written :
     goal.write_group-returns-in_err-write_node-in-Some-clause-written
 write_group-returns-in_err-write_node-in-Some-clause-written g t c =
     let p = err_from_is_err_and c.from_residual-in_err-write_node-in-Some.result
     c.from_residual-in_err-write_node-in-Some.ensures.1 in
-    let wrote = c.in_ok-put_group_start-in-Some.ensures in
     let pieces = c.piece_by_piece.ensures in
     let tag = pieces.more _ _ _ _ _ _ _ _ tt (pieces.start _ _ _)
-    (group_text c.args.node.now _ c.in-Some.group c.in-Some.is c.deref.ensures) (record {
-      ok = wrote.ok;
-      err = tt;
-      cause = wrote.cause;
-    }) in
+    (group_text c.args.node.now _ c.in-Some.group c.in-Some.is c.deref.ensures)
+    c.in_ok-put_group_start-in-Some.ensures in
     rw (p.1, p.2) (pieces.refused _ _ _ _ _ _ _ _ _ tag refl
     c.in_err-write_node-in-Some.ensures.written)
 
 pub write_group-returns-in_ok-write_node-in-Some-clause-written :
     goal.write_group-returns-in_ok-write_node-in-Some-clause-written
 write_group-returns-in_ok-write_node-in-Some-clause-written g t c =
-    let wrote = c.in_ok-put_group_start-in-Some.ensures in
     let pieces = c.piece_by_piece.ensures in
     let tag = pieces.more _ _ _ _ _ _ _ _ tt (pieces.start _ _ _)
-    (group_text c.args.node.now _ c.in-Some.group c.in-Some.is c.deref.ensures) (record {
-      ok = wrote.ok;
-      err = tt;
-      cause = wrote.cause;
-    }) in
+    (group_text c.args.node.now _ c.in-Some.group c.in-Some.is c.deref.ensures)
+    c.in_ok-put_group_start-in-Some.ensures in
     let inner = pieces.more _ _ _ _ _ _ _ _ tt tag refl
     c.in_ok-write_node-in-Some.ensures.written in
-    let end = c.put_group_end.ensures in
-    pieces.last _ _ _ _ _ _ c.put_group_end.result inner (record {
-      ok = end.ok;
-      err = end.err;
-      cause = end.cause;
-    })
+    pieces.last _ _ _ _ _ _ c.put_group_end.result inner c.put_group_end.ensures
 
 pub write_node-returns-in_err-put_sint64-clause-written :
     goal.write_node-returns-in_err-put_sint64-clause-written
