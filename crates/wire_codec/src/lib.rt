@@ -1,8 +1,8 @@
 //! Messages of the Protocol Buffers wire format, with all names of the crates below. `CALLING.md`
 //! shows its calls, and a message type from nothing.
 //!
-//! A user of a message type calls `decode_from_slice` and `try_encode_to_vec` of `Message`, and those
-//! of `DecodeOptions` for an input that is not trusted. Of the encoding document see "Message
+//! A user of a message type calls `decode_from_slice` and `try_encode_to_vec` of `Message`, and
+//! those of `DecodeOptions` for an input that is not trusted. Of the encoding document see "Message
 //! Structure", "Submessages", "Last One Wins" and "Field Order".
 #![tactic(auto)]
 

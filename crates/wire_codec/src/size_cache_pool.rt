@@ -3,7 +3,7 @@ ghost use Rattle.std.specs.Prelude.{◌≡◌, ◌≤◌, ◌⊎◌, ℕ, ◌∷
 ghost use Rattle.wire_base.specs.declared.error.EncodeError.TheVariants.{OutOfMemory};
 ghost use Rattle.wire_codec.specs.Encoding.{TriesToAnswer, TriesToWrite, WritesWithin};
 ghost use Rattle.wire_codec.specs.Pool.{KeepsLimits, IsWithinLimits, empty_pool};
-ghost use Rattle.wire_codec.specs.Records.{text, size};
+ghost use Rattle.wire_codec.specs.Records.{text, text_size};
 ghost use Rattle.wire_codec.specs.Tape.{blank};
 ghost use Rattle.wire_codec.specs.Writes.{Writes};
 
@@ -100,8 +100,8 @@ impl SizeCachePool {
 
     /// As `Message::encoded_len`.
     pub fn encoded_len<M: Message>(&mut self, message: &M) -> Result<u32, EncodeError>
-        requires { size (M.records (M.view message.now)) ≤ 2147483647 }
-        ensures ok { IfOk result (λ len. len ≡ size (M.records (M.view message.now))) }
+        requires { text_size (M.records (M.view message.now)) ≤ 2147483647 }
+        ensures ok { IfOk result (λ len. len ≡ text_size (M.records (M.view message.now))) }
         ensures err { IfErr result (λ e. e ≡ OutOfMemory) }
         ensures limits { KeepsLimits self.old self.new }
     {
@@ -117,7 +117,7 @@ impl SizeCachePool {
         message: &M,
         sink: &mut S,
     ) -> Result<(), EncodeError>
-        requires { size (M.records (M.view message.now)) ≤ 2147483647 }
+        requires { text_size (M.records (M.view message.now)) ≤ 2147483647 }
         ensures written { Writes S.most (text (M.records (M.view message.now)))
             (S.bytes_of sink.old) (S.bytes_of sink.new) result }
         ensures limits { KeepsLimits self.old self.new }
@@ -130,8 +130,8 @@ impl SizeCachePool {
 
     /// As `Message::try_encoded_len`.
     pub fn try_encoded_len<M: Message>(&mut self, message: &M) -> Result<u32, EncodeError>
-        ensures size { TriesToAnswer result (size (M.records (M.view message.now)))
-            (λ len. len ≡ size (M.records (M.view message.now))) }
+        ensures size { TriesToAnswer result (text_size (M.records (M.view message.now)))
+            (λ len. len ≡ text_size (M.records (M.view message.now))) }
         ensures limits { KeepsLimits self.old self.new }
     {
         let mut cache = self.acquire();
@@ -146,7 +146,7 @@ impl SizeCachePool {
         message: &M,
         sink: &mut S,
     ) -> Result<(), EncodeError>
-        ensures written { TriesToWrite (size (M.records (M.view message.now))) S.most
+        ensures written { TriesToWrite (text_size (M.records (M.view message.now))) S.most
             (text (M.records (M.view message.now))) (S.bytes_of sink.old)
             (S.bytes_of sink.new) result }
         ensures limits { KeepsLimits self.old self.new }

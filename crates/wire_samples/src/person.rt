@@ -1,6 +1,6 @@
 //! A message with a field of each common kind.
 ghost use Rattle.std.specs.Prelude.{◌≡◌};
-ghost use Rattle.wire_samples.specs.Person.{value_of};
+ghost use Rattle.wire_samples.specs.Person.{person_value};
 
 use crate::fields::{
     bytes_len, int32_len, packed_int32_len, put_bytes, put_int32, put_packed_int32, unknown_len,
@@ -25,7 +25,7 @@ pub struct Person {
 impl Person {
     /// The fields that decoding found and this type does not know.
     pub fn unknown(&self) -> &UnknownFields
-        ensures { result.now ≡ (value_of self.now).unknown }
+        ensures { result.now ≡ (person_value self.now).unknown }
     {
         &self.unknown
     }
@@ -42,13 +42,13 @@ impl MessageName for Person {
 }
 
 impl Message for Person {
-    ghost use Rattle.wire_samples.specs.Person.{PersonValue, value_of};
+    ghost use Rattle.wire_samples.specs.Person.{PersonValue, person_value};
     ghost use Rattle.wire_samples.specs.Person.{person_records, default_person, PersonTakes};
     ghost use Rattle.wire_samples.specs.PersonSingle.{person_single};
 
     ghost Value = { PersonValue };
 
-    ghost view = { value_of };
+    ghost view = { person_value };
 
     ghost records = { person_records };
 

@@ -12,7 +12,7 @@ use Rattle.wire_codec.specs.InRange.{AreFitting, AreNumbered}
 use Rattle.wire_codec.specs.Limits.{Limits, no_charge, uncounted}
 use Rattle.wire_codec.specs.LimitsLaws.{ChargesAddUp, LimitsAddUp}
 use Rattle.wire_codec.specs.Read.{Reads}
-use Rattle.wire_codec.specs.Records.{plain, text, size}
+use Rattle.wire_codec.specs.Records.{plain, text, text_size}
 use Rattle.wire_codec.specs.Spells.{IsPayload}
 use Rattle.wire_codec.specs.Tag.{tag_text}
 use Rattle.wire_codec.specs.Taken.{TakesPayload}
@@ -38,7 +38,7 @@ one_byte : length (tag_text 1 types.Varint) ≡ 1
 unfolding shortest_varint
 one_byte = refl
 
-pub record_size : (v : ℕ) → v ≢ 0 → size (value_record v) ≡ 1 + length (shortest_varint v)
+pub record_size : (v : ℕ) → v ≢ 0 → text_size (value_record v) ≡ 1 + length (shortest_varint v)
 record_size v some =
     ap length (record_written v some)
     ∙ length-append (tag_text 1 types.Varint) (shortest_varint v)

@@ -3,7 +3,7 @@ ghost use Rattle.std.specs.Prelude.{◌≡◌, ◌≢◌, ◌≤◌, length, OnO
 ghost use Rattle.wire_codec.specs.DecodeError.TheVariants.{OutOfMemory};
 ghost use Rattle.wire_codec.specs.Limits.{counted, with_elements};
 ghost use Rattle.wire_codec.specs.Taking.{Decodes};
-ghost use Rattle.wire_samples.specs.Person.{PersonTakes, default_person, value_of};
+ghost use Rattle.wire_samples.specs.Person.{PersonTakes, default_person, person_value};
 
 use crate::callers::counter::Counter;
 use std::alloc::Global;
@@ -15,7 +15,7 @@ use wire_samples::Person;
 pub fn person_of(alloc: Global, bytes: &[u8]) -> Result<Person, DecodeError>
     ensures short { OnOk result (length bytes.now ≤ 4096) }
     ensures ok { IfOk result (λ person. Decodes PersonTakes
-        (with_elements (counted 100 10) 33554432) default_person bytes.now (value_of person)) }
+        (with_elements (counted 100 10) 33554432) default_person bytes.now (person_value person)) }
 {
     DecodeOptions::new()
         .with_max_message_size(4096)

@@ -3,7 +3,7 @@ use Rattle.std.proofs.Common.{w32}
 use Rattle.std.specs.Prelude.{ℤ}
 use Rattle.std.proofs.lemmas.Result.{err_from_is_err_and}
 use Rattle.wire_samples.specs.FieldRecords.{packed_int32}
-use Rattle.wire_samples.specs.Person.{value_of}
+use Rattle.wire_samples.specs.Person.{person_value}
 use Rattle.wire_samples.proofs.Persons.{person_parts, scores_fit}
 use Rattle.wire_samples.proofs.person.PersonMessage.write_to.Goals as goal
 
@@ -12,7 +12,7 @@ returns-in_err-put_int32-clause-written g c =
     let e = err_from_is_err_and c.from_residual.result c.from_residual.ensures.1 in
     let fits : SFits w32 c.args.self.now.id = search rules in
     let parts = person_parts c.joined_records_add_up.ensures c.fields_are_plain.ensures
-    (value_of c.args.self.now) _ _ _ (to_z-of_z fits) refl refl in
+    (person_value c.args.self.now) _ _ _ (to_z-of_z fits) refl refl in
     let pieces = c.piece_by_piece.ensures in
     rw (e.1, e.2) (pieces.refused _ _ _ _ _ _ _ _ _ (pieces.start _ _ _) parts
     c.in_err-put_int32.ensures)
@@ -23,7 +23,7 @@ returns-in_err-put_bytes-clause-written g c =
     c.from_residual-in_err-put_bytes.ensures.1 in
     let fits : SFits w32 c.args.self.now.id = search rules in
     let parts = person_parts c.joined_records_add_up.ensures c.fields_are_plain.ensures
-    (value_of c.args.self.now) _ _ _ (to_z-of_z fits) c.as_bytes.ensures.value refl in
+    (person_value c.args.self.now) _ _ _ (to_z-of_z fits) c.as_bytes.ensures.value refl in
     let pieces = c.piece_by_piece.ensures in
     let one = pieces.more _ _ _ _ _ _ _ _ tt (pieces.start _ _ _) parts c.in_ok-put_int32.ensures in
     rw (e.1, e.2) (pieces.refused _ _ _ _ _ _ _ _ _ one refl c.in_err-put_bytes.ensures)
@@ -31,7 +31,7 @@ returns-in_err-put_bytes-clause-written g c =
 pub put_packed_int32-requires-clause-fits : goal.put_packed_int32-requires-clause-fits
 put_packed_int32-requires-clause-fits g c =
     let fit = scores_fit c.joined_records_add_up.ensures c.fields_are_plain.ensures
-    (value_of c.args.self.now) c.requires.size in
+    (person_value c.args.self.now) c.requires.size in
     subst (λ (vs : List ℤ). length (packed_int32 vs) < 2 ^ 64) (sym c.deref.ensures.value) fit
 
 pub returns-in_err-put_packed_int32-clause-written
@@ -41,7 +41,7 @@ returns-in_err-put_packed_int32-clause-written g c =
     c.from_residual-in_err-put_packed_int32.ensures.1 in
     let fits : SFits w32 c.args.self.now.id = search rules in
     let parts = person_parts c.joined_records_add_up.ensures c.fields_are_plain.ensures
-    (value_of c.args.self.now) _ _ _ (to_z-of_z fits) c.as_bytes.ensures.value
+    (person_value c.args.self.now) _ _ _ (to_z-of_z fits) c.as_bytes.ensures.value
     c.deref.ensures.value in
     let pieces = c.piece_by_piece.ensures in
     let one = pieces.more _ _ _ _ _ _ _ _ tt (pieces.start _ _ _) parts c.in_ok-put_int32.ensures in
@@ -52,7 +52,7 @@ pub returns-clause-written : goal.returns-clause-written
 returns-clause-written g c =
     let fits : SFits w32 c.args.self.now.id = search rules in
     let parts = person_parts c.joined_records_add_up.ensures c.fields_are_plain.ensures
-    (value_of c.args.self.now) _ _ _ (to_z-of_z fits) c.as_bytes.ensures.value
+    (person_value c.args.self.now) _ _ _ (to_z-of_z fits) c.as_bytes.ensures.value
     c.deref.ensures.value in
     let pieces = c.piece_by_piece.ensures in
     let one = pieces.more _ _ _ _ _ _ _ _ tt (pieces.start _ _ _) parts c.in_ok-put_int32.ensures in

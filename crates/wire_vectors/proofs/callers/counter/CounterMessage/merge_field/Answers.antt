@@ -13,7 +13,8 @@ returns-then-field_number-ne1-clause-ok g c =
 pub returns-then-field_number-ne1-clause-err : goal.returns-then-field_number-ne1-clause-err
 returns-then-field_number-ne1-clause-err g c =
     IfErr-weaker c.skip_field_depth.result _ _ (λ e fault wanting. not_passed _ _ _ _ _
-    c.no_payload_beside_fault.ensures _ e c.depth.ensures (search rules) fault) c.skip_field_depth.ensures.fault
+    c.no_payload_beside_fault.ensures _ e c.depth.ensures (search rules) fault)
+    c.skip_field_depth.ensures.fault
 
 pub returns-in_err-self-clause-err : goal.returns-in_err-self-clause-err
 returns-in_err-self-clause-err g c =
