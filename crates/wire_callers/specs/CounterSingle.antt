@@ -3,8 +3,8 @@ use Rattle.std.proofs.Common.{◌≡◌, ℕ, sym, ap, ◌∙◌}
 use Rattle.wire_codec.specs.Field.{varint}
 use Rattle.wire_codec.specs.Folds.{IsSingle}
 use Rattle.wire_codec.specs.TakingLaws.{OneReading}
-use Rattle.wire_vectors.specs.declared.callers.counter.Counter.{Counter}
-use Rattle.wire_vectors.specs.Counter.{CounterTakes, value, other}
+use Rattle.wire_callers.specs.declared.counter.Counter.{Counter}
+use Rattle.wire_callers.specs.Counter.{CounterTakes, value, other}
 
 same_number : (v w : ℕ) → varint v ≡ varint w → v ≡ w
 same_number v w same = cc

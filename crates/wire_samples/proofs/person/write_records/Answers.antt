@@ -5,25 +5,25 @@ use Rattle.std.proofs.lemmas.Result.{err_from_is_err_and}
 use Rattle.wire_samples.specs.FieldRecords.{packed_int32}
 use Rattle.wire_samples.specs.Person.{person_value}
 use Rattle.wire_samples.proofs.Persons.{person_parts, scores_fit}
-use Rattle.wire_samples.proofs.person.PersonMessage.write_to.Goals as goal
+use Rattle.wire_samples.proofs.person.write_records.Goals as goal
 
-pub returns-in_err-put_int32-clause-written : goal.returns-in_err-put_int32-clause-written
-returns-in_err-put_int32-clause-written g c =
+pub returns-in_err-put_int32 : goal.returns-in_err-put_int32
+returns-in_err-put_int32 g c =
     let e = err_from_is_err_and c.from_residual.result c.from_residual.ensures.1 in
-    let fits : SFits w32 c.args.self.now.id = search rules in
+    let fits : SFits w32 c.args.person.now.id = search rules in
     let parts = person_parts c.joined_records_add_up.ensures c.fields_are_plain.ensures
-    (person_value c.args.self.now) _ _ _ (to_z-of_z fits) refl refl in
+    (person_value c.args.person.now) _ _ _ (to_z-of_z fits) refl refl in
     let pieces = c.piece_by_piece.ensures in
     rw (e.1, e.2) (pieces.refused _ _ _ _ _ _ _ _ _ (pieces.start _ _ _) parts
     c.in_err-put_int32.ensures)
 
-pub returns-in_err-put_bytes-clause-written : goal.returns-in_err-put_bytes-clause-written
-returns-in_err-put_bytes-clause-written g c =
+pub returns-in_err-put_bytes : goal.returns-in_err-put_bytes
+returns-in_err-put_bytes g c =
     let e = err_from_is_err_and c.from_residual-in_err-put_bytes.result
     c.from_residual-in_err-put_bytes.ensures.1 in
-    let fits : SFits w32 c.args.self.now.id = search rules in
+    let fits : SFits w32 c.args.person.now.id = search rules in
     let parts = person_parts c.joined_records_add_up.ensures c.fields_are_plain.ensures
-    (person_value c.args.self.now) _ _ _ (to_z-of_z fits) c.as_bytes.ensures.value refl in
+    (person_value c.args.person.now) _ _ _ (to_z-of_z fits) c.as_bytes.ensures.value refl in
     let pieces = c.piece_by_piece.ensures in
     let one = pieces.more _ _ _ _ _ _ _ _ tt (pieces.start _ _ _) parts c.in_ok-put_int32.ensures in
     rw (e.1, e.2) (pieces.refused _ _ _ _ _ _ _ _ _ one refl c.in_err-put_bytes.ensures)
@@ -31,28 +31,28 @@ returns-in_err-put_bytes-clause-written g c =
 pub put_packed_int32-requires-clause-fits : goal.put_packed_int32-requires-clause-fits
 put_packed_int32-requires-clause-fits g c =
     let fit = scores_fit c.joined_records_add_up.ensures c.fields_are_plain.ensures
-    (person_value c.args.self.now) c.requires.size in
+    (person_value c.args.person.now) c.requires in
     subst (λ (vs : List ℤ). length (packed_int32 vs) < 2 ^ 64) (sym c.deref.ensures.value) fit
 
-pub returns-in_err-put_packed_int32-clause-written
-    : goal.returns-in_err-put_packed_int32-clause-written
-returns-in_err-put_packed_int32-clause-written g c =
+pub returns-in_err-put_packed_int32
+    : goal.returns-in_err-put_packed_int32
+returns-in_err-put_packed_int32 g c =
     let e = err_from_is_err_and c.from_residual-in_err-put_packed_int32.result
     c.from_residual-in_err-put_packed_int32.ensures.1 in
-    let fits : SFits w32 c.args.self.now.id = search rules in
+    let fits : SFits w32 c.args.person.now.id = search rules in
     let parts = person_parts c.joined_records_add_up.ensures c.fields_are_plain.ensures
-    (person_value c.args.self.now) _ _ _ (to_z-of_z fits) c.as_bytes.ensures.value
+    (person_value c.args.person.now) _ _ _ (to_z-of_z fits) c.as_bytes.ensures.value
     c.deref.ensures.value in
     let pieces = c.piece_by_piece.ensures in
     let one = pieces.more _ _ _ _ _ _ _ _ tt (pieces.start _ _ _) parts c.in_ok-put_int32.ensures in
     let two = pieces.more _ _ _ _ _ _ _ _ tt one refl c.in_ok-put_bytes.ensures in
     rw (e.1, e.2) (pieces.refused _ _ _ _ _ _ _ _ _ two refl c.in_err-put_packed_int32.ensures)
 
-pub returns-clause-written : goal.returns-clause-written
-returns-clause-written g c =
-    let fits : SFits w32 c.args.self.now.id = search rules in
+pub returns : goal.returns
+returns g c =
+    let fits : SFits w32 c.args.person.now.id = search rules in
     let parts = person_parts c.joined_records_add_up.ensures c.fields_are_plain.ensures
-    (person_value c.args.self.now) _ _ _ (to_z-of_z fits) c.as_bytes.ensures.value
+    (person_value c.args.person.now) _ _ _ (to_z-of_z fits) c.as_bytes.ensures.value
     c.deref.ensures.value in
     let pieces = c.piece_by_piece.ensures in
     let one = pieces.more _ _ _ _ _ _ _ _ tt (pieces.start _ _ _) parts c.in_ok-put_int32.ensures in
@@ -62,6 +62,5 @@ returns-clause-written g c =
     pieces.last _ _ _ _ _ _ c.write_to.result three (record {
       ok = put.ok;
       err = put.err;
-      cause =
-          put.cause;
+      cause = put.cause;
     })

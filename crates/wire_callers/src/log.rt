@@ -1,8 +1,8 @@
 //! Messages one after another, each behind its length.
 ghost use Rattle.std.specs.Prelude.{[], IfOk};
-ghost use Rattle.wire_vectors.specs.CounterLog.{ReadsCounters};
+ghost use Rattle.wire_callers.specs.CounterLog.{ReadsCounters};
 
-use crate::callers::counter::Counter;
+use crate::counter::Counter;
 use bytes::Buf;
 use std::alloc::Global;
 use wire_codec::{DecodeError, Message};

@@ -4,7 +4,7 @@ use Rattle.wire_codec.specs.Charge.{payload_charge}
 use Rattle.wire_codec.specs.Field as grammar
 use Rattle.wire_codec.specs.Limits.{Charge, no_charge, no_counts}
 use Rattle.wire_codec.specs.Records.{Records, none, field, varint}
-use Rattle.wire_vectors.specs.declared.callers.counter.Counter.{Counter}
+use Rattle.wire_callers.specs.declared.counter.Counter.{Counter}
 
 -- a record of field 1, where the number is not 0
 abbrev pub value_record : ℕ → Records

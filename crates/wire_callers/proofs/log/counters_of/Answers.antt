@@ -1,6 +1,6 @@
 use Rattle.std.proofs.Common.{rules, ◌≡◌, [], ◌∷◌, ◌++◌}
-use Rattle.wire_vectors.specs.CounterLog.{none, more}
-use Rattle.wire_vectors.proofs.callers.log.counters_of.Goals as goal
+use Rattle.wire_callers.specs.CounterLog.{none, more}
+use Rattle.wire_callers.proofs.log.counters_of.Goals as goal
 
 pub loop-buf-init : goal.loop-buf-init
 loop-buf-init g c = rw (c.new-counters.ensures.items) none

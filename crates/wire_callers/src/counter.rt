@@ -14,9 +14,9 @@ pub struct Counter {
 }
 
 impl Message for Counter {
-    ghost use Rattle.wire_vectors.specs.declared.callers.counter.Counter.{Counter};
-    ghost use Rattle.wire_vectors.specs.Counter.{counter_records, CounterTakes};
-    ghost use Rattle.wire_vectors.specs.CounterSingle.{counter_single};
+    ghost use Rattle.wire_callers.specs.declared.counter.Counter.{Counter};
+    ghost use Rattle.wire_callers.specs.Counter.{counter_records, CounterTakes};
+    ghost use Rattle.wire_callers.specs.CounterSingle.{counter_single};
 
     ghost Value = { Counter };
 

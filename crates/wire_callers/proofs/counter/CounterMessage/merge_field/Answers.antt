@@ -1,7 +1,7 @@
 use Rattle.std.proofs.Common.{rules}
 use Rattle.std.proofs.lemmas.Result.{err_from_is_err_and, IfErr-weaker, on_ok_weaker}
-use Rattle.wire_vectors.proofs.Counters.{set, passed, not_passed, no_number}
-use Rattle.wire_vectors.proofs.callers.counter.CounterMessage.merge_field.Goals as goal
+use Rattle.wire_callers.proofs.Counters.{set, passed, not_passed, no_number}
+use Rattle.wire_callers.proofs.counter.CounterMessage.merge_field.Goals as goal
 
 pub returns-then-field_number-ne1-clause-ok : goal.returns-then-field_number-ne1-clause-ok
 returns-then-field_number-ne1-clause-ok g c =

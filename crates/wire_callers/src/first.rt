@@ -3,10 +3,10 @@ ghost use Rattle.std.specs.Prelude.{◌≡◌, ◌+◌, ◌-◌, ◌^◌, min, I
 ghost use Rattle.wire_codec.specs.Limits.{counted, with_elements};
 ghost use Rattle.wire_codec.specs.Records.{text};
 ghost use Rattle.wire_codec.specs.Taking.{Decodes};
-ghost use Rattle.wire_vectors.specs.Counter.{counter_records, CounterTakes};
-ghost use Rattle.wire_vectors.specs.declared.callers.counter.Counter.{Counter};
+ghost use Rattle.wire_callers.specs.Counter.{counter_records, CounterTakes};
+ghost use Rattle.wire_callers.specs.declared.counter.Counter.{Counter};
 
-use crate::callers::counter::Counter;
+use crate::counter::Counter;
 use std::alloc::Global;
 use wire_codec::{DecodeError, DecodeOptions, Message};
 

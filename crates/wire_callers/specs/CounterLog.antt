@@ -2,8 +2,8 @@
 use Rattle.std.specs.Prelude.{ℕ, List, [], ◌∷◌, ◌++◌}
 use Rattle.wire_codec.specs.Limits.{Limits, Charge, counted, with_elements}
 use Rattle.wire_codec.specs.Nested.{TakesDelimited}
-use Rattle.wire_vectors.specs.declared.callers.counter.Counter.{Counter}
-use Rattle.wire_vectors.specs.Counter.{CounterTakes}
+use Rattle.wire_callers.specs.declared.counter.Counter.{Counter}
+use Rattle.wire_callers.specs.Counter.{CounterTakes}
 
 -- the limits of a caller that names none, for each counter anew
 abbrev pub default_limits : Limits

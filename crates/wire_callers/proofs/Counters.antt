@@ -23,9 +23,9 @@ use Rattle.wire_codec.specs.Varint.{IsSpelling, VarintFault, shortest_varint}
 use Rattle.wire_codec.specs.VarintLaws.{NoVarintBesideFault}
 use Rattle.wire_codec.specs.WireType.{WireType}
 use Rattle.wire_codec.specs.WireType.TheVariants as types
-use Rattle.wire_vectors.specs.declared.callers.counter.Counter.{Counter}
-use Rattle.wire_vectors.specs.Counter.{CounterTakes, value, other, value_record, counter_records}
-use Rattle.wire_vectors.specs.Counter.{levels_of}
+use Rattle.wire_callers.specs.declared.counter.Counter.{Counter}
+use Rattle.wire_callers.specs.Counter.{CounterTakes, value, other, value_record, counter_records}
+use Rattle.wire_callers.specs.Counter.{levels_of}
 
 -- ---- writing
 

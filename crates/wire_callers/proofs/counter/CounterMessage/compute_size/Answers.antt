@@ -1,6 +1,6 @@
 use Rattle.std.proofs.Common.{arith}
-use Rattle.wire_vectors.proofs.Counters.{record_size}
-use Rattle.wire_vectors.proofs.callers.counter.CounterMessage.compute_size.Goals as goal
+use Rattle.wire_callers.proofs.Counters.{record_size}
+use Rattle.wire_callers.proofs.counter.CounterMessage.compute_size.Goals as goal
 
 pub returns-clause-size : goal.returns-clause-size
 returns-clause-size c =

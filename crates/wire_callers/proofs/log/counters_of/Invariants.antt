@@ -1,6 +1,6 @@
 use Rattle.std.proofs.Common.{length}
-use Rattle.wire_vectors.specs.CounterLog.{ReadsCounters}
-use Rattle.wire_vectors.proofs.callers.log.counters_of.Given as goal
+use Rattle.wire_callers.specs.CounterLog.{ReadsCounters}
+use Rattle.wire_callers.proofs.log.counters_of.Given as goal
 
 abbrev pub invariant-loop-buf : goal.invariant-loop-buf
 invariant-loop-buf g l =

@@ -2,9 +2,9 @@ use Rattle.std.proofs.Common.{rules, ◌≡◌, ◌<◌, ◌^◌}
 use Rattle.std.proofs.lemmas.Result.{IfErr-weaker, IfOk-weaker}
 use Rattle.wire_codec.specs.Limits.{uncounted}
 use Rattle.wire_codec.specs.Records.{text}
-use Rattle.wire_vectors.proofs.Counters.{read_back}
-use Rattle.wire_vectors.specs.Counter.{counter_records}
-use Rattle.wire_vectors.proofs.callers.messages.copied.Goals as goal
+use Rattle.wire_callers.proofs.Counters.{read_back}
+use Rattle.wire_callers.specs.Counter.{counter_records}
+use Rattle.wire_callers.proofs.messages.copied.Goals as goal
 
 pub returns-clause-same : goal.returns-clause-same
 returns-clause-same c =
