@@ -18,8 +18,6 @@ mod payload;
 mod rope;
 mod skip;
 mod tag;
-#[cfg(test)]
-mod tests;
 mod unknown_fields;
 mod unknown_fields_view;
 mod varint;

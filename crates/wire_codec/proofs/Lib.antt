@@ -1,5 +1,6 @@
 pub mod DelimitedLists
 pub mod Delimiting
+pub mod Fitting
 pub mod Lists
 pub mod Measured
 pub mod Pieces

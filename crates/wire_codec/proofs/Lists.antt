@@ -192,8 +192,8 @@ module _ (order : RecordsInOrder) {V : Type 0} (takes : Step V) where
         → HeadBehind takes l ending n w m behind z new
         → Rest takes (left_after l d) ending u next z new
     rest_of l ending n w m u z behind next new d h k =
-        let same = order.reading.payload n w h.payload k.taken.payload behind next k.next h.read.read
-        k.taken.read.read in
+        let same = order.reading.payload n w h.payload k.taken.payload behind next k.next
+        h.read.read k.taken.read.read in
         let one = single m m u k.mid n h.payload d k.first h.step
         (subst (λ p. takes m n p k.first k.mid) (sym same.0) k.taken.step) in
         record {

@@ -3,11 +3,11 @@ use Rattle.std.proofs.Common.{◌≡◌, ℕ, List, [], ◌++◌, refl, sym, ap,
 use Rattle.wire_base.specs.Field.{Payload, Fields, type_of}
 use Rattle.wire_base.specs.Tag.{tag_text}
 use Rattle.wire_base.specs.Text.{payload_text}
-use Rattle.wire_codec.specs.Records.{Records, none, field, plain, plain_payload, text, joined}
+use Rattle.wire_codec.specs.Records.{Records, none, field, plain, plain_payload, text, joined_records}
 use Rattle.wire_codec.specs.Records.{of_payload, of_fields}
 use Rattle.wire_codec.specs.Sizes.{payload_sizes, sizes}
 
-pub text-joined : (rs qs : Records) → text (joined rs qs) ≡ text rs ++ text qs
+pub text-joined : (rs qs : Records) → text (joined_records rs qs) ≡ text rs ++ text qs
 text-joined none qs = refl
 text-joined (field n p rest) qs =
     let tag = tag_text n (type_of (plain_payload p)) in
@@ -16,7 +16,7 @@ text-joined (field n p rest) qs =
     ∙ ap (λ (t : List ℕ). tag ++ t) (sym (append_assoc payload (text rest) (text qs)))
     ∙ sym (append_assoc tag (payload ++ text rest) (text qs))
 
-pub sizes-joined : (rs qs : Records) → sizes (joined rs qs) ≡ sizes rs ++ sizes qs
+pub sizes-joined : (rs qs : Records) → sizes (joined_records rs qs) ≡ sizes rs ++ sizes qs
 sizes-joined none qs = refl
 sizes-joined (field n p rest) qs =
     ap (λ (ns : List ℕ). payload_sizes p ++ ns) (sizes-joined rest qs)

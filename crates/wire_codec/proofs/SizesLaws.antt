@@ -11,7 +11,7 @@ use Rattle.wire_base.specs.Tag.{tag_text}
 use Rattle.wire_base.specs.Text.{payload_text}
 use Rattle.wire_base.specs.Varint.{shortest_varint}
 use Rattle.wire_codec.specs.Records.{ValuePayload, varint, fixed64, fixed32, bytes, group, embedded}
-use Rattle.wire_codec.specs.Records.{Records, none, field, plain_payload, text, size}
+use Rattle.wire_codec.specs.Records.{Records, none, field, plain_payload, text, text_size}
 use Rattle.wire_codec.specs.Sizes.{payload_sizes, sizes, cut, cut_sizes}
 
 mutual
@@ -24,11 +24,11 @@ mutual
   payload_sizes_below (group rs) n most h =
       sizes_below rs most (omega (arith, length-append (text rs) (tag_text n EndGroup)))
   payload_sizes_below (embedded rs) n most h =
-      let inner : size rs ≤ most = omega
-      (arith, length-append (shortest_varint (size rs)) (text rs)) in
-      All-cons (λ k. k ≤ most) (size rs) (sizes rs) inner (sizes_below rs most inner)
+      let inner : text_size rs ≤ most = omega
+      (arith, length-append (shortest_varint (text_size rs)) (text rs)) in
+      All-cons (λ k. k ≤ most) (text_size rs) (sizes rs) inner (sizes_below rs most inner)
 
-  pub sizes_below : (rs : Records) (most : ℕ) → size rs ≤ most → All (λ k. k ≤ most) (sizes rs)
+  pub sizes_below : (rs : Records) (most : ℕ) → text_size rs ≤ most → All (λ k. k ≤ most) (sizes rs)
   sizes_below none most h = All-nil (λ k. k ≤ most)
   sizes_below (field n p rest) most h =
       let tag = length-append (tag_text n (type_of (plain_payload p)))
@@ -45,13 +45,13 @@ uncut (n ∷ ns) h =
     let others : map cut ns ≡ ns = uncut ns (All-tail P n ns h) in
     cc
 
-pub cut_sizes-below : (rs : Records) → size rs < 2 ^ 32 → cut_sizes rs ≡ sizes rs
+pub cut_sizes-below : (rs : Records) → text_size rs < 2 ^ 32 → cut_sizes rs ≡ sizes rs
 cut_sizes-below rs small =
-    let below = sizes_below rs (size rs) (omega arith) in
-    uncut (sizes rs) (All-weaker (λ k. k ≤ size rs) (λ k. k < 2 ^ 32) (λ k h. omega arith)
+    let below = sizes_below rs (text_size rs) (omega arith) in
+    uncut (sizes rs) (All-weaker (λ k. k ≤ text_size rs) (λ k. k < 2 ^ 32) (λ k h. omega arith)
     (sizes rs) below)
 
-pub cut_sizes-small : (rs : Records) → size rs ≤ 2147483647 → cut_sizes rs ≡ sizes rs
+pub cut_sizes-small : (rs : Records) → text_size rs ≤ 2147483647 → cut_sizes rs ≡ sizes rs
 cut_sizes-small rs small = cut_sizes-below rs (omega arith)
 
 -- a size that was not cut

@@ -4,31 +4,38 @@ use Rattle.std.specs.Prelude.{◌≡◌, ℕ, ◌^◌, ◌<◌, ◌≤◌, List,
 use Rattle.std.specs.Prelude.{Err, All}
 use Rattle.wire_base.specs.declared.error.EncodeError.{EncodeError}
 use Rattle.wire_base.specs.Field.{Fields}
-use Rattle.wire_codec.specs.Records.{Records, plain, text, size, joined, of_fields}
+use Rattle.wire_base.specs.InRange.{AreFitting}
+use Rattle.wire_base.specs.Spells.{Spells}
+use Rattle.wire_codec.specs.Records.{Records, plain, text, text_size, joined_records, of_fields}
 use Rattle.wire_codec.specs.Sizes.{sizes, cut_sizes}
 use Rattle.wire_codec.specs.Tape.{Tape, NextAre, blank, recorded, advanced}
 use Rattle.wire_codec.specs.Writes.{Writes, IsWrittenTo}
 
 abbrev pub NoSizeIsAboveTheWhole : Type 0
-NoSizeIsAboveTheWhole = (rs : Records) → All (λ n. n ≤ size rs) (sizes rs)
+NoSizeIsAboveTheWhole = (rs : Records) → All (λ n. n ≤ text_size rs) (sizes rs)
 
 abbrev pub SmallSizesAreUncut : Type 0
-SmallSizesAreUncut = (rs : Records) → size rs < 2 ^ 32 → cut_sizes rs ≡ sizes rs
+SmallSizesAreUncut = (rs : Records) → text_size rs < 2 ^ 32 → cut_sizes rs ≡ sizes rs
 
 -- a blank tape that a small message was measured with has the sizes that it is written with
 abbrev pub MeasuredAreNext : Type 0
 MeasuredAreNext = (rs : Records) (t : Tape) → t ≡ recorded blank (cut_sizes rs)
-    → size rs ≤ 2147483647 → NextAre (sizes rs) t
+    → text_size rs ≤ 2147483647 → NextAre (sizes rs) t
 
 -- records one behind another
 pub record JoinedAddsUp : Type 0 where
-  pub text : (rs qs : Records) → text (joined rs qs) ≡ text rs ++ text qs
-  pub sizes : (rs qs : Records) → sizes (joined rs qs) ≡ sizes rs ++ sizes qs
+  pub text : (rs qs : Records) → text (joined_records rs qs) ≡ text rs ++ text qs
+  pub sizes : (rs qs : Records) → sizes (joined_records rs qs) ≡ sizes rs ++ sizes qs
 
 -- records of the grammar stand for themselves
 pub record FieldsArePlain : Type 0 where
   pub plain : (fs : Fields) → plain (of_fields fs) ≡ fs
   pub sizes : (fs : Fields) → sizes (of_fields fs) ≡ []
+
+-- what bytes spell has numbers and lengths in range
+abbrev pub SpelledAreFitting : Type 0
+SpelledAreFitting =
+    (fs : Fields) (text : List ℕ) → All (λ b. b < 256) text → Spells fs text → AreFitting fs
 
 -- a message with no embedded message leaves the tape as it is
 pub record FlatKeepsTheTape : Type 0 where

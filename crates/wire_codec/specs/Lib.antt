@@ -1,5 +1,5 @@
--- The definitions that the contracts of this crate cite from below, for crates
--- that stand on it alone.
+-- The definitions of the crates below that contracts cite, for crates that stand on this one alone.
+pub use Rattle.wire_base.specs.Agreement
 pub use Rattle.wire_base.specs.AgreementLaws
 pub use Rattle.wire_base.specs.Charge
 pub use Rattle.wire_base.specs.Delimited
@@ -8,7 +8,12 @@ pub use Rattle.wire_base.specs.Fault
 pub use Rattle.wire_base.specs.FaultLaws
 pub use Rattle.wire_base.specs.Field
 pub use Rattle.wire_base.specs.FieldNumber
+pub use Rattle.wire_base.specs.FieldsCode
+pub use Rattle.wire_base.specs.FieldsEq
+pub use Rattle.wire_base.specs.FieldsEqLaws
+pub use Rattle.wire_base.specs.Filtered
 pub use Rattle.wire_base.specs.Fixed
+pub use Rattle.wire_base.specs.InPlace
 pub use Rattle.wire_base.specs.InRange
 pub use Rattle.wire_base.specs.ItemLaws
 pub use Rattle.wire_base.specs.Items
@@ -17,31 +22,41 @@ pub use Rattle.wire_base.specs.LimitsLaws
 pub use Rattle.wire_base.specs.Read
 pub use Rattle.wire_base.specs.RecordLaws
 pub use Rattle.wire_base.specs.Refusal
+pub use Rattle.wire_base.specs.Rope
+pub use Rattle.wire_base.specs.Shortest
 pub use Rattle.wire_base.specs.Sink
 pub use Rattle.wire_base.specs.SpanLaws
 pub use Rattle.wire_base.specs.Spans
 pub use Rattle.wire_base.specs.Spells
 pub use Rattle.wire_base.specs.Tag
+pub use Rattle.wire_base.specs.TagLaws
 pub use Rattle.wire_base.specs.TagView
 pub use Rattle.wire_base.specs.Taken
 pub use Rattle.wire_base.specs.Text
 pub use Rattle.wire_base.specs.UnknownFields
+pub use Rattle.wire_base.specs.UnknownFieldsSize
 pub use Rattle.wire_base.specs.Varint
 pub use Rattle.wire_base.specs.VarintLaws
+pub use Rattle.wire_base.specs.WriteLaws
+pub use Rattle.wire_base.specs.declared.error.DecodeError
+pub use Rattle.wire_base.specs.declared.error.EncodeError
+pub use Rattle.wire_base.specs.declared.tag.WireType
+pub use Rattle.wire_base.specs.declared.unknown_fields.UnknownField
+pub use Rattle.wire_base.specs.declared.unknown_fields.UnknownFieldData
 pub use Rattle.wire_scalar.specs.Borrow
 pub use Rattle.wire_scalar.specs.Laws as ScalarLaws
 pub use Rattle.wire_scalar.specs.Packed
 pub use Rattle.wire_scalar.specs.Reading
 pub use Rattle.wire_scalar.specs.ValueMap
 pub use Rattle.wire_text.specs.BytesPayload
-pub use Rattle.wire_text.specs.Enumeration
 pub use Rattle.wire_text.specs.EnumNumbers
+pub use Rattle.wire_text.specs.Enumeration
 pub use Rattle.wire_text.specs.FromWire
 pub use Rattle.wire_text.specs.FromWireLaws
+pub use Rattle.wire_text.specs.Laws as TextLaws
 pub use Rattle.wire_text.specs.StringPayload
-pub use Rattle.wire_base.specs.declared.error.DecodeError
-pub use Rattle.wire_base.specs.declared.error.EncodeError
-pub use Rattle.wire_base.specs.declared.tag.WireType
+pub use Rattle.wire_text.specs.WirePayload
+pub use Rattle.wire_text.specs.declared.enumeration.EnumValue
 pub mod Encoding
 pub mod Folds
 pub mod Laws

@@ -37,13 +37,13 @@ abbrev pub text : Records → List ℕ
 text rs = text_of (plain rs)
 
 -- the length of the text
-abbrev pub size : Records → ℕ
-size rs = length (text rs)
+abbrev pub text_size : Records → ℕ
+text_size rs = length (text rs)
 
 -- one list behind another
-abbrev pub joined : Records → Records → Records
-joined none more = more
-joined (field n p rest) more = field n p (joined rest more)
+abbrev pub joined_records : Records → Records → Records
+joined_records none more = more
+joined_records (field n p rest) more = field n p (joined_records rest more)
 
 -- records of the grammar as records of a value, none of them an embedded message
 abbrev mutual

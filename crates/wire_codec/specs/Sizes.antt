@@ -1,7 +1,7 @@
 -- The sizes of embedded messages, which are measured first and then written in front of them.
 use Rattle.std.specs.Prelude.{ℕ, ◌-◌, ◌^◌, min, List, [], ◌∷◌, ◌++◌, map}
 use Rattle.wire_codec.specs.Records.{ValuePayload, varint, fixed64, fixed32, bytes, group, embedded}
-use Rattle.wire_codec.specs.Records.{Records, none, field, size}
+use Rattle.wire_codec.specs.Records.{Records, none, field, text_size}
 
 -- the text lengths of all embedded messages, an outer one before its inner ones, left to right
 abbrev mutual
@@ -11,7 +11,7 @@ abbrev mutual
   payload_sizes (fixed32 v) = []
   payload_sizes (bytes b) = []
   payload_sizes (group rs) = sizes rs
-  payload_sizes (embedded rs) = size rs ∷ sizes rs
+  payload_sizes (embedded rs) = text_size rs ∷ sizes rs
 
   pub sizes : Records → List ℕ
   sizes none = []

@@ -31,6 +31,7 @@ pub struct DecodeOptions {
 }
 
 impl Model for DecodeOptions {
+    ghost use Rattle.std.specs.Prelude.{◌≤◌};
     ghost use Rattle.wire_codec.specs.Options.{Options};
 
     ghost Value = { Options };
@@ -41,6 +42,8 @@ impl Model for DecodeOptions {
       unknown_field_limit = options.unknown_field_limit;
       element_memory_limit = options.element_memory_limit;
     } };
+
+    ghost invariant = { λ options. options.max_message_size ≤ 2147483647 };
 }
 
 impl DecodeOptions {
@@ -104,9 +107,10 @@ impl DecodeOptions {
         self.recursion_limit
     }
 
-    /// How many bytes an input may have.
+    /// How many bytes an input may have, which are at most 2,147,483,647.
     pub fn max_message_size(&self) -> usize
-        ensures { result ≡ self.now.max_message_size }
+        ensures value { result ≡ self.now.max_message_size }
+        ensures most { self.now.max_message_size ≤ 2147483647 }
     {
         self.max_message_size
     }

@@ -1,7 +1,8 @@
 //! Laws of the definitions that the contracts cite: each function is a theorem, and does nothing.
 //! Those of the crates below stand in modules of their own.
 ghost use Rattle.wire_codec.specs.Laws.{NoSizeIsAboveTheWhole, SmallSizesAreUncut, MeasuredAreNext};
-ghost use Rattle.wire_codec.specs.Laws.{JoinedAddsUp, FieldsArePlain};
+ghost use Rattle.std.specs.Prelude.{◌<◌, All};
+ghost use Rattle.wire_codec.specs.Laws.{JoinedAddsUp, FieldsArePlain, SpelledAreFitting};
 ghost use Rattle.wire_codec.specs.Laws.{FlatKeepsTheTape, PieceByPiece};
 ghost use Rattle.wire_codec.specs.TakingLaws.{OneReading, RecordsInOrder, AllIsSpelled};
 ghost use Rattle.wire_codec.specs.TakingLaws.{DelimitedIsRead, LevelsAndCounts};
@@ -38,6 +39,21 @@ pub fn joined_records_add_up()
 pub fn fields_are_plain()
     ensures { FieldsArePlain }
 {}
+
+/// Records that bytes spell have numbers and lengths in range, inside groups too.
+pub fn spelled_are_fitting()
+    ensures { SpelledAreFitting }
+{}
+
+/// What a slice has is bytes, each of them below 256, which no clause can say of a slice by itself.
+/// The walk over it is compiled away.
+pub fn slice_has_bytes(bytes: &[u8])
+    ensures { All (λ b. b < 256) bytes.now }
+{
+    for i in 0..bytes.len() {
+        let _byte = bytes[i];
+    }
+}
 
 /// A message with no embedded message records and reads no sizes.
 pub fn flat_messages_have_no_sizes()

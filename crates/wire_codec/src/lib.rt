@@ -1,8 +1,8 @@
 //! Messages of the Protocol Buffers wire format, with all names of the crates below. `CALLING.md`
 //! shows its calls, and a message type from nothing.
 //!
-//! A user of a message type calls `decode_from_slice` and `try_encode_to_vec` of `Message`, and those
-//! of `DecodeOptions` for an input that is not trusted. Of the encoding document see "Message
+//! A user of a message type calls `decode_from_slice` and `try_encode_to_vec` of `Message`, and
+//! those of `DecodeOptions` for an input that is not trusted. Of the encoding document see "Message
 //! Structure", "Submessages", "Last One Wins" and "Field Order".
 #![tactic(auto)]
 
@@ -13,8 +13,6 @@ mod message_name;
 mod size;
 mod size_cache;
 mod size_cache_pool;
-#[cfg(test)]
-mod tests;
 
 pub use decode_options::{DEFAULT_ELEMENT_MEMORY_LIMIT, DecodeOptions};
 pub use message::Message;

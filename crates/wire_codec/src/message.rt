@@ -11,7 +11,7 @@ ghost use Rattle.wire_codec.specs.Taking.{TakesRecord, TakesList, TakesAll, Deco
 ghost use Rattle.wire_codec.specs.Taking.{IsCharged, NotTaken, NotDecoded};
 ghost use Rattle.wire_codec.specs.Encoding.{TriesToAnswer, TriesToWrite, WritesWithin, read_tape};
 ghost use Rattle.wire_codec.specs.Nested.{TakesDelimited, TakesEmbedded, TakesGroup};
-ghost use Rattle.wire_codec.specs.Records.{Records, text, size};
+ghost use Rattle.wire_codec.specs.Records.{Records, text, text_size};
 ghost use Rattle.wire_codec.specs.Sizes.{cut, cut_sizes, sizes};
 ghost use Rattle.wire_codec.specs.TakingLaws.{OneReading};
 ghost use Rattle.wire_codec.specs.Tape.{NextAre, recorded, advanced};
@@ -54,7 +54,7 @@ pub trait Message: Clone + PartialEq + Drop {
     /// Records the sizes of the embedded messages, an outer one before its inner ones, and answers
     /// the size of the text in bytes. Each is cut at `u32::MAX`. Refused where memory runs out.
     fn compute_size(&self, cache: &mut SizeCache) -> Result<u32, EncodeError>
-        ensures size { IfOk result (λ answer. answer ≡ cut (size (records (view self.now)))) }
+        ensures size { IfOk result (λ answer. answer ≡ cut (text_size (records (view self.now)))) }
         ensures sizes { OnOk result (cache.new
             ≡ recorded cache.old (cut_sizes (records (view self.now)))) }
         ensures err { IfErr result (λ e. e ≡ OutOfMemory) };
@@ -68,7 +68,7 @@ pub trait Message: Clone + PartialEq + Drop {
         sink: &mut S,
     ) -> Result<(), EncodeError>
         requires sizes { NextAre (sizes (records (view self.now))) cache.old }
-        requires size { size (records (view self.now)) ≤ 2147483647 }
+        requires size { text_size (records (view self.now)) ≤ 2147483647 }
         ensures written { Writes S.most (text (records (view self.now)))
             (S.bytes_of sink.old) (S.bytes_of sink.new) result }
         ensures read { OnOk result (cache.new
@@ -104,7 +104,7 @@ pub trait Message: Clone + PartialEq + Drop {
     /// condition asks. Refused where memory runs out or the sink refuses a put. See "Encoded Proto
     /// Size Limitations" of the encoding document.
     fn encode<S: EncodeSink>(&self, alloc: Global, sink: &mut S) -> Result<(), EncodeError>
-        requires { size (records (view self.now)) ≤ 2147483647 }
+        requires { text_size (records (view self.now)) ≤ 2147483647 }
         ensures { Writes S.most (text (records (view self.now)))
             (S.bytes_of sink.old) (S.bytes_of sink.new) result }
     {
@@ -117,7 +117,7 @@ pub trait Message: Clone + PartialEq + Drop {
         cache: &mut SizeCache,
         sink: &mut S,
     ) -> Result<(), EncodeError>
-        requires { size (records (view self.now)) ≤ 2147483647 }
+        requires { text_size (records (view self.now)) ≤ 2147483647 }
         ensures written { Writes S.most (text (records (view self.now)))
             (S.bytes_of sink.old) (S.bytes_of sink.new) result }
         ensures read { OnOk result (cache.new ≡ read_tape (records (view self.now))) }
@@ -130,8 +130,8 @@ pub trait Message: Clone + PartialEq + Drop {
     /// The size of the text in bytes, at most 2,147,483,647, as the condition asks. Refused where
     /// memory runs out.
     fn encoded_len(&self, alloc: Global) -> Result<u32, EncodeError>
-        requires { size (records (view self.now)) ≤ 2147483647 }
-        ensures ok { IfOk result (λ len. len ≡ size (records (view self.now))) }
+        requires { text_size (records (view self.now)) ≤ 2147483647 }
+        ensures ok { IfOk result (λ len. len ≡ text_size (records (view self.now))) }
         ensures err { IfErr result (λ e. e ≡ OutOfMemory) }
     {
         self.compute_size(&mut SizeCache::new(alloc))
@@ -140,7 +140,7 @@ pub trait Message: Clone + PartialEq + Drop {
     /// Writes the text as `encode` does, or answers `MessageTooLarge`, before anything is written,
     /// where it has more than 2,147,483,647 bytes and memory lasts to measure it.
     fn try_encode<S: EncodeSink>(&self, alloc: Global, sink: &mut S) -> Result<(), EncodeError>
-        ensures { TriesToWrite (size (records (view self.now))) S.most
+        ensures { TriesToWrite (text_size (records (view self.now))) S.most
             (text (records (view self.now))) (S.bytes_of sink.old)
             (S.bytes_of sink.new) result }
     {
@@ -153,7 +153,7 @@ pub trait Message: Clone + PartialEq + Drop {
         cache: &mut SizeCache,
         sink: &mut S,
     ) -> Result<(), EncodeError>
-        ensures written { TriesToWrite (size (records (view self.now))) S.most
+        ensures written { TriesToWrite (text_size (records (view self.now))) S.most
             (text (records (view self.now))) (S.bytes_of sink.old)
             (S.bytes_of sink.new) result }
         ensures read { OnOk result (cache.new ≡ read_tape (records (view self.now))) }
@@ -166,8 +166,8 @@ pub trait Message: Clone + PartialEq + Drop {
     /// The size of the text in bytes. Refused where memory runs out, and else with
     /// `MessageTooLarge` where it is above 2,147,483,647.
     fn try_encoded_len(&self, alloc: Global) -> Result<u32, EncodeError>
-        ensures { TriesToAnswer result (size (records (view self.now)))
-            (λ len. len ≡ size (records (view self.now))) }
+        ensures { TriesToAnswer result (text_size (records (view self.now)))
+            (λ len. len ≡ text_size (records (view self.now))) }
     {
         checked_encode_size(self.compute_size(&mut SizeCache::new(alloc))?)
     }
@@ -180,7 +180,7 @@ pub trait Message: Clone + PartialEq + Drop {
         alloc: Global,
         sink: &mut S,
     ) -> Result<(), EncodeError>
-        requires { size (records (view self.now)) ≤ 2147483647 }
+        requires { text_size (records (view self.now)) ≤ 2147483647 }
         ensures { Writes S.most (delimited_text (text (records (view self.now))))
             (S.bytes_of sink.old) (S.bytes_of sink.new) result }
     {
@@ -197,7 +197,7 @@ pub trait Message: Clone + PartialEq + Drop {
         alloc: Global,
         sink: &mut S,
     ) -> Result<(), EncodeError>
-        ensures { TriesToWrite (size (records (view self.now))) S.most
+        ensures { TriesToWrite (text_size (records (view self.now))) S.most
             (delimited_text (text (records (view self.now)))) (S.bytes_of sink.old)
             (S.bytes_of sink.new) result }
     {
@@ -212,7 +212,7 @@ pub trait Message: Clone + PartialEq + Drop {
     /// The text in a vector of just its length, at most 2,147,483,647 bytes, as the condition asks.
     /// Refused where memory runs out.
     fn encode_to_vec(&self, alloc: Global) -> Result<Vec<u8>, EncodeError>
-        requires { size (records (view self.now)) ≤ 2147483647 }
+        requires { text_size (records (view self.now)) ≤ 2147483647 }
         ensures ok { IfOk result (λ bytes. bytes.items ≡ text (records (view self.now))) }
         ensures err { IfErr result (λ e. e ≡ OutOfMemory) }
     {
@@ -226,7 +226,7 @@ pub trait Message: Clone + PartialEq + Drop {
     /// The text in a vector of just its length. Refused where memory runs out, which comes first
     /// while it is measured, and with `MessageTooLarge` where it has more than 2,147,483,647 bytes.
     fn try_encode_to_vec(&self, alloc: Global) -> Result<Vec<u8>, EncodeError>
-        ensures { TriesToAnswer result (size (records (view self.now)))
+        ensures { TriesToAnswer result (text_size (records (view self.now)))
             (λ bytes. bytes.items ≡ text (records (view self.now))) }
     {
         let mut cache = SizeCache::new(alloc);
@@ -239,7 +239,7 @@ pub trait Message: Clone + PartialEq + Drop {
     /// The text as shared bytes, at most 2,147,483,647, as the condition asks. Refused as
     /// `encode_to_vec`.
     fn encode_to_bytes(&self, alloc: Global) -> Result<Bytes, EncodeError>
-        requires { size (records (view self.now)) ≤ 2147483647 }
+        requires { text_size (records (view self.now)) ≤ 2147483647 }
         ensures ok { IfOk result (λ bytes. bytes ≡ text (records (view self.now))) }
         ensures err { IfErr result (λ e. e ≡ OutOfMemory) }
     {
@@ -248,7 +248,7 @@ pub trait Message: Clone + PartialEq + Drop {
 
     /// The text as shared bytes. Refused as `try_encode_to_vec`.
     fn try_encode_to_bytes(&self, alloc: Global) -> Result<Bytes, EncodeError>
-        ensures { TriesToAnswer result (size (records (view self.now)))
+        ensures { TriesToAnswer result (text_size (records (view self.now)))
             (λ bytes. bytes ≡ text (records (view self.now))) }
     {
         Ok(Bytes::from_vec(self.try_encode_to_vec(alloc)?)?)

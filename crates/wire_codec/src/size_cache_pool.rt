@@ -3,7 +3,7 @@ ghost use Rattle.std.specs.Prelude.{◌≡◌, ◌≤◌, ◌⊎◌, ℕ, ◌∷
 ghost use Rattle.wire_base.specs.declared.error.EncodeError.TheVariants.{OutOfMemory};
 ghost use Rattle.wire_codec.specs.Encoding.{TriesToAnswer, TriesToWrite, WritesWithin};
 ghost use Rattle.wire_codec.specs.Pool.{KeepsLimits, IsWithinLimits, empty_pool};
-ghost use Rattle.wire_codec.specs.Records.{text, size};
+ghost use Rattle.wire_codec.specs.Records.{text, text_size};
 ghost use Rattle.wire_codec.specs.Tape.{blank};
 ghost use Rattle.wire_codec.specs.Writes.{Writes};
 
@@ -100,8 +100,8 @@ impl SizeCachePool {
 
     /// As `Message::encoded_len`.
     pub fn encoded_len<M: Message>(&mut self, message: &M) -> Result<u32, EncodeError>
-        requires { size (M.records (M.view message.now)) ≤ 2147483647 }
-        ensures ok { IfOk result (λ len. len ≡ size (M.records (M.view message.now))) }
+        requires { text_size (M.records (M.view message.now)) ≤ 2147483647 }
+        ensures ok { IfOk result (λ len. len ≡ text_size (M.records (M.view message.now))) }
         ensures err { IfErr result (λ e. e ≡ OutOfMemory) }
         ensures limits { KeepsLimits self.old self.new }
     {
@@ -117,7 +117,7 @@ impl SizeCachePool {
         message: &M,
         sink: &mut S,
     ) -> Result<(), EncodeError>
-        requires { size (M.records (M.view message.now)) ≤ 2147483647 }
+        requires { text_size (M.records (M.view message.now)) ≤ 2147483647 }
         ensures written { Writes S.most (text (M.records (M.view message.now)))
             (S.bytes_of sink.old) (S.bytes_of sink.new) result }
         ensures limits { KeepsLimits self.old self.new }
@@ -130,8 +130,8 @@ impl SizeCachePool {
 
     /// As `Message::try_encoded_len`.
     pub fn try_encoded_len<M: Message>(&mut self, message: &M) -> Result<u32, EncodeError>
-        ensures size { TriesToAnswer result (size (M.records (M.view message.now)))
-            (λ len. len ≡ size (M.records (M.view message.now))) }
+        ensures size { TriesToAnswer result (text_size (M.records (M.view message.now)))
+            (λ len. len ≡ text_size (M.records (M.view message.now))) }
         ensures limits { KeepsLimits self.old self.new }
     {
         let mut cache = self.acquire();
@@ -146,7 +146,7 @@ impl SizeCachePool {
         message: &M,
         sink: &mut S,
     ) -> Result<(), EncodeError>
-        ensures written { TriesToWrite (size (M.records (M.view message.now))) S.most
+        ensures written { TriesToWrite (text_size (M.records (M.view message.now))) S.most
             (text (M.records (M.view message.now))) (S.bytes_of sink.old)
             (S.bytes_of sink.new) result }
         ensures limits { KeepsLimits self.old self.new }
@@ -172,63 +172,5 @@ impl SizeCachePool {
         let answer = message.try_encode_bounded_with_cache(max_bytes, &mut cache, sink);
         self.release(cache);
         answer
-    }
-}
-
-#[cfg(test)]
-mod tests {
-    use super::SizeCachePool;
-    use crate::size_cache::SizeCache;
-    use std::alloc::{AllocError, Global};
-
-    fn released(alloc: Global, pool: &mut SizeCachePool) -> Result<(), AllocError> {
-        pool.release(SizeCache::with_spill_buffer(vec![in alloc; 1]?));
-        Ok(())
-    }
-
-    // A pool of one keeps one buffer when two caches come back, and none after the next is taken.
-    fn keeps_one(alloc: Global) -> Result<bool, AllocError> {
-        let mut pool = SizeCachePool::new(alloc, 1, usize::MAX);
-        released(alloc, &mut pool)?;
-        released(alloc, &mut pool)?;
-        let after_two = pool.buffers.len();
-        let cache = pool.acquire();
-        let after_next = pool.buffers.len();
-        pool.release(cache);
-        Ok(after_two == 1 && after_next == 0)
-    }
-
-    // A buffer with too much room is shrunk or given up, and one with none is not kept.
-    fn keeps_small_ones(alloc: Global) -> Result<bool, AllocError> {
-        let mut pool = SizeCachePool::new(alloc, 4, 8);
-        let large = Vec::with_capacity(alloc, 100)?;
-        pool.release(SizeCache::with_spill_buffer(large));
-        pool.release(SizeCache::new(alloc));
-        Ok(
-            pool.buffers
-                .iter()
-                .all(|buffer| buffer.capacity() != 0 && buffer.capacity() <= 8),
-        )
-    }
-
-    // A cache that never had a seventeenth slot leaves nothing to keep.
-    fn keeps_nothing(alloc: Global) -> bool {
-        let mut pool = SizeCachePool::new(alloc, 4, 8);
-        let mut cache = pool.acquire();
-        let taken = (0..16).all(|_| cache.reserve().is_ok());
-        pool.release(cache);
-        taken && pool.buffers.is_empty()
-    }
-
-    #[test]
-    fn buffers_are_kept_or_given_up(rt: HostRuntime) {
-        assert_ne!(rt; keeps_small_ones(rt.alloc()), Ok(false));
-        assert!(rt; keeps_nothing(rt.alloc()));
-    }
-
-    #[test]
-    fn ample_memory_keeps_buffers(rt: HostRuntime) {
-        assert_eq!(rt; keeps_one(rt.alloc()), Ok(true));
-        assert_eq!(rt; keeps_small_ones(rt.alloc()), Ok(true));
     }
 }

@@ -18,9 +18,9 @@ run_limits = counted 100 1000000
 abbrev pub IsTaken : List ℕ → Fields → Type 0
 IsTaken input fields = TakesFields (charge fields) run_limits fields input []
 
--- the input is refused: it spells no records within the limits, and this says why
-abbrev pub IsRefused : List ℕ → DecodeError → Type 0
-IsRefused input e = ListFault run_limits by_input input e
+-- the input has a fault: it spells no records within the limits, and this says why
+abbrev pub HasFault : List ℕ → DecodeError → Type 0
+HasFault input e = ListFault run_limits by_input input e
 
 -- the output is the shortest text of what the input spells
 pub record IsShortest (input output : List ℕ) : Type 0 where

@@ -4,7 +4,7 @@ ghost use Rattle.std.specs.Io.KnownBytes.{Appends, Keeps};
 ghost use Rattle.wire_codec.specs.DecodeError.{DecodeError};
 ghost use Rattle.wire_min.specs.Counted.{device_of, failures_of};
 ghost use Rattle.wire_min.specs.Outcome.{failed_reads, failed_writes};
-ghost use Rattle.wire_min.specs.Run.{AppendsFront, IsRefused, IsShortest, WritesFront, WritesShortest};
+ghost use Rattle.wire_min.specs.Run.{AppendsFront, HasFault, IsShortest, WritesFront, WritesShortest};
 
 use crate::counted::Counted;
 use crate::error::RunError;
@@ -30,7 +30,7 @@ pub fn run<R: Read, W: Write>(
         WritesShortest input (W.contents (device_of writer.old))
         (W.contents (device_of writer.new)))) }
     ensures refused { (e : DecodeError) → result ≡ Err (RunError.Refused e)
-        → IfSome (R.remaining (device_of reader.old)) (λ input. IsRefused input e) }
+        → IfSome (R.remaining (device_of reader.old)) (λ input. HasFault input e) }
     ensures front { result ≡ Err RunError.WriteFailed
         → IfSome (R.remaining (device_of reader.old)) (λ input.
         WritesFront input (W.contents (device_of writer.old))
@@ -75,7 +75,7 @@ fn read_to_end<R: Read>(alloc: Global, reader: &mut Counted<R>) -> Result<Vec<u8
 fn shortest_text(alloc: Global, input: &[u8]) -> Result<Vec<u8>, RunError>
     ensures ok { IfOk result (λ output. IsShortest input.now output.items) }
     ensures refused { (e : DecodeError) → result ≡ Err (RunError.Refused e)
-        → IsRefused input.now e }
+        → HasFault input.now e }
     ensures failures { (failed_reads result ≡ 0) × (failed_writes result ≡ 0) }
 {
     let fields = UnknownFields::decode_from_slice(alloc, input)?;

@@ -7,9 +7,10 @@ use bytes::{Buf, Bytes};
 use std::alloc::Global;
 use std::fmt::Write;
 use wire_codec::{DecodeError, EncodeSink, ProtoString};
-use wire_vectors::callers::counter::Counter;
+use wire_callers::counter::Counter;
+use wire_callers::{first, log, messages as written, sinks};
 use wire_vectors::callers::texts::ShortText;
-use wire_vectors::callers::{first, log, messages, records, scalars, texts, views};
+use wire_vectors::callers::{messages, records, scalars, texts, views};
 
 pub fn read<B: Buf>(
     alloc: Global,
@@ -48,7 +49,7 @@ pub fn tell(alloc: Global, row: &Row<'_>, said: &mut String) -> Result<bool, Sto
             let counter = Counter {
                 value: row.value()?,
             };
-            let value = messages::copied(alloc, &counter)?.value;
+            let value = written::copied(alloc, &counter)?.value;
             write!(said, "{value}")?
         }
         "person_of" => {

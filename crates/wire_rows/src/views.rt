@@ -85,12 +85,12 @@ fn say_view(
     expect(view.is_empty() == (view.len() == 0), "empty")?;
     say::written(said, &text, row.bytes)?;
     write!(said, "; ")?;
-    let owned = match view.to_owned_fields(alloc) {
+    let owned = match view.to_owned_fields() {
         Ok(owned) => owned,
         Err(error) => return say::refusal(said, error),
     };
     let mut context = DecodeContext::new(depth, fields);
-    expect(view.replay(alloc, &mut context)? == owned, "another replay")?;
+    expect(view.replay(&mut context)? == owned, "another replay")?;
     expect(
         context.remaining_unknown_fields() == 0 && context.depth() == depth,
         "a charge",
@@ -127,7 +127,7 @@ fn unknowns(alloc: Global, row: &Row<'_>, said: &mut String) -> Result<(), Stop>
     write!(said, ", {slots} slots")?;
     if let Ok(person) = Person::decode_from_slice(alloc, row.bytes) {
         expect(
-            view.to_owned_fields(alloc)? == *person.unknown(),
+            view.to_owned_fields()? == *person.unknown(),
             "other fields are kept",
         )?;
     }

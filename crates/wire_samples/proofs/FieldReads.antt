@@ -156,7 +156,8 @@ pub no_packed : OneDelimited → (n : ℕ) (w : WireType) (payload : List ℕ) (
 no_packed one n w payload before old rest is read none after new h =
     delimited_of n w h.payload old new is h.read
     (λ b same again. none after (subst (λ t. Numbers t before after)
-    (one b payload old new rest again read).0 (subst (λ p. AppendsInt32 before p after) same h.made)))
+    (one b payload old new rest again read).0
+    (subst (λ p. AppendsInt32 before p after) same h.made)))
 
 -- no length-delimited payload stands there
 pub no_delimited_field : {T : Type 0} → NoDelimitedBesideFault → (n : ℕ) (w : WireType)

@@ -8,7 +8,7 @@ use Rattle.wire_codec.specs.Tag.{tag_text}
 use Rattle.wire_codec.specs.ValueMap.{int32}
 use Rattle.wire_codec.specs.Varint.{shortest_varint}
 use Rattle.wire_codec.specs.WireType.TheVariants.{LengthDelimited}
-use Rattle.wire_codec.specs.Records.{text, size}
+use Rattle.wire_codec.specs.Records.{text, text_size}
 use Rattle.wire_codec.specs.Sizes.{sizes}
 use Rattle.wire_samples.specs.FieldRecords.{int32_field, sint64_field, bytes_field, packed_int32}
 use Rattle.wire_samples.specs.FieldRecords.{packed_int32_field, in_64_bits}
@@ -84,7 +84,7 @@ sizes-packed_int32_field n (v ∷ vs) = refl
 
 -- a payload is no longer than its field
 pub packed-within_field : (n : ℕ) (values : List ℤ)
-    → length (packed_int32 values) ≤ size (packed_int32_field n values)
+    → length (packed_int32 values) ≤ text_size (packed_int32_field n values)
 packed-within_field n [] = omega arith
 packed-within_field n (v ∷ vs) =
     let payload = packed_int32 (v ∷ vs) in
@@ -95,7 +95,7 @@ packed-within_field n (v ∷ vs) =
           (tag_text n LengthDelimited ++ shortest_varint (length payload)) payload,
     )
 
-pub bytes-within_field : (n : ℕ) (value : List ℕ) → length value ≤ size (bytes_field n value)
+pub bytes-within_field : (n : ℕ) (value : List ℕ) → length value ≤ text_size (bytes_field n value)
 bytes-within_field n [] = omega arith
 bytes-within_field n (b ∷ more) =
     let tag = tag_text n LengthDelimited in

@@ -1,5 +1,9 @@
+pub mod DecodedOthers
+pub mod DecodedNodes
+pub mod DecodedPersons
 pub mod FieldReads
 pub mod FieldTexts
+pub mod Kept
 pub mod Measuring
 pub mod NodeFolds
 pub mod NodeLists

@@ -5,8 +5,8 @@ use Rattle.std.proofs.lemmas.List.{append-nil, map-append}
 use Rattle.std.proofs.Math.Seq.{set-append_seam}
 use Rattle.std.specs.Prelude.{slice_set}
 use Rattle.wire_codec.specs.Laws.{JoinedAddsUp}
-use Rattle.wire_codec.specs.Records.{Records, none, field, embedded, group, joined}
-use Rattle.wire_codec.specs.Records.{size as text_size, text}
+use Rattle.wire_codec.specs.Records.{Records, none, field, embedded, group, joined_records}
+use Rattle.wire_codec.specs.Records.{text_size, text}
 use Rattle.wire_codec.specs.Sizes.{sizes, cut, cut_sizes}
 use Rattle.wire_codec.specs.Tag.{tag_text}
 use Rattle.wire_codec.specs.Tape.{Tape, recorded}
@@ -17,7 +17,7 @@ use Rattle.wire_samples.specs.Measuring.{Measures}
 
 -- records of which these come first
 pub record Splits (left piece after : Records) : Type 0 where
-  pub is : left ≡ joined piece after
+  pub is : left ≡ joined_records piece after
 
 -- records in front of these were measured, and these are left
 pub record IsMeasuredTo (whole left : Records) (old now : Tape) (len : ℕ) : Type 0 where
@@ -36,10 +36,11 @@ pub start : (whole : Records) (t : Tape) → IsMeasuredTo whole whole t t 0
 start whole t = record { size = omega arith; sizes = refl }
 
 pub size_joined : JoinedAddsUp → (a b : Records)
-    → text_size (joined a b) ≡ text_size a + text_size b
+    → text_size (joined_records a b) ≡ text_size a + text_size b
 size_joined joins a b = ap length (joins.text a b) ∙ length-append (text a) (text b)
 
-cut_joined : JoinedAddsUp → (a b : Records) → cut_sizes (joined a b) ≡ cut_sizes a ++ cut_sizes b
+cut_joined : JoinedAddsUp → (a b : Records)
+    → cut_sizes (joined_records a b) ≡ cut_sizes a ++ cut_sizes b
 cut_joined joins a b = ap (map cut) (joins.sizes a b) ∙ map-append cut (sizes a) (sizes b)
 
 summed : (len k sum left piece after whole : ℕ) → cut (len + left) ≡ cut whole

@@ -4,7 +4,7 @@ use Rattle.std.specs.Prelude.{ℤ}
 use Rattle.wire_codec.specs.Charge.{payload_charge}
 use Rattle.wire_codec.specs.Delimited.{IsDelimited}
 use Rattle.wire_codec.specs.Ending.{by_limit}
-use Rattle.wire_codec.specs.Field.{Payload, bytes, group, Fields}
+use Rattle.wire_codec.specs.Field.{bytes, group, Fields}
 use Rattle.wire_codec.specs.Limits.{Limits, Charge, Fits, left_after, nested, element_of, inner, outer}
 use Rattle.wire_codec.specs.LimitsLaws.{LimitsAddUp, LevelsAddUp}
 use Rattle.wire_codec.specs.Nested.{TakesEmbedded, TakesGroup}
@@ -19,7 +19,7 @@ use Rattle.wire_codec.specs.WireType.TheVariants as types
 use Rattle.wire_samples.specs.FieldSteps.{SetsSint64, ReadsField, NoField, KeepsField, NotKept}
 use Rattle.wire_samples.specs.Node.{NodeValue, default_node, or_default, child_of, group_of}
 use Rattle.wire_samples.specs.Node.{unknown_of, with_value, with_child, with_another, with_group}
-use Rattle.wire_samples.specs.Node.{with_unknown, IsOther}
+use Rattle.wire_samples.specs.Node.{with_unknown, IsNodeOther}
 use Rattle.wire_codec.proofs.DelimitedLists.{limit_is_whole, whole_in_limit}
 use Rattle.wire_samples.specs.NodePayloads.{Enters, TakesWithin}
 use Rattle.wire_samples.specs.NodeSteps.{NodeTakes, value, child, another, grouped, unknown}
@@ -40,7 +40,8 @@ pub record Inside (l : Limits) (from : NodeValue) (old : List ℕ) (c : Charge) 
   merged : NodeMerges from b c z
   fits : Fits c (inner l)
 
-module _ (whole : WholeInput) (l : Limits) (from z : NodeValue) (old new : List ℕ) (c : Charge) where
+module _ (whole : WholeInput) (l : Limits) (from z : NodeValue) (old new : List ℕ)
+    (c : Charge) where
   inside : TakesEmbedded NodeTakes l from old c z new → Inside l from old c z new
   inside h =
       let all = (whole c (inner l) h.taken.taken.fields h.taken.payload []).0 h.taken.taken.read in
@@ -158,17 +159,6 @@ bytes_back n w b old new h =
 
 -- ---- what is taken
 
--- a record that stands there, for its charge
-record_taken : (l k : Limits) (n : ℕ) (w : WireType) (m z : NodeValue) (p : Payload)
-    (old new : List ℕ) (c d : Charge) → Reads old (IsPayload n w p) new → Fits d l
-    → NodeTakes m n p d z → k ≡ left_after l d
-    → IsCharged l k (λ c. TakesRecord NodeTakes l n w m old c z new)
-record_taken l k n w m z p old new c d read fits step left = record {
-  charge = d;
-  taken = record { payload = p; read = record { read = read; fits = fits }; step = step };
-  left = left;
-}
-
 module _ (l k : Limits) (n : ℕ) (w : WireType) (m z : NodeValue) (old new : List ℕ) where
   pub value_taken : LimitsAddUp → (v : ℤ) → n ≡ 1 → l ≡ k → z ≡ with_value m v
       → ReadsField n w (λ p. SetsSint64 p v) old new
@@ -178,7 +168,7 @@ module _ (l k : Limits) (n : ℕ) (w : WireType) (m z : NodeValue) (old new : Li
       (uncharged NodeTakes limits l n w m z h.payload old new h.read
       (value v is h.made refl z_is))
 
-  pub unknown_taken : IsOther n → (after : Fields) → z ≡ with_unknown m after
+  pub unknown_taken : IsNodeOther n → (after : Fields) → z ≡ with_unknown m after
       → KeepsField l k n w (unknown_of m) old after new
       → IsCharged l k (λ c. TakesRecord NodeTakes l n w m old c z new)
   unknown_taken other after z_is h = record {
@@ -264,7 +254,7 @@ module _ (l : Limits) (n : ℕ) (w : WireType) (m : NodeValue) (old : List ℕ) 
       let k = at_value is h.step in
       none k.v new (record { payload = h.payload; read = h.read.read; made = k.made })
 
-  pub no_unknown : IsOther n → NotKept l n w old → NotTaken (TakesRecord NodeTakes l n w m old)
+  pub no_unknown : IsNodeOther n → NotKept l n w old → NotTaken (TakesRecord NodeTakes l n w m old)
   no_unknown other none c z new h =
       let k = at_other other h.step in
       none h.payload new (subst (λ x. TakesPayload x l n w h.payload old new) k.0 h.read)

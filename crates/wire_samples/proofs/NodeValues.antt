@@ -10,41 +10,37 @@ use Rattle.wire_samples.specs.declared.node.Node.{Node}
 use Rattle.wire_samples.specs.declared.node.Node.TheViews.{out-Node, roll-Node, out-roll-Node}
 use Rattle.wire_samples.specs.declared.node.Node.TheOpen.{Node-F}
 use Rattle.wire_samples.specs.declared.node.Node.TheFolds.{fold_out-Node, fold-roll-Node, map-Node}
-use Rattle.wire_samples.specs.Node.{NodeValue, value_of, level, listed, appended, or_default}
+use Rattle.wire_samples.specs.Node.{NodeValue, node_value, one_node, listed, appended, or_default}
 use Rattle.wire_samples.specs.Node.{default_node, child_of, group_of, unknown_of}
 use Rattle.wire_samples.specs.Node.{with_value, with_child, with_another, with_group, with_unknown, NodeList, Holds, node, ahead}
 
 -- ---- what a node holds
 
-held_value : Option (Box Node Global) → NodeValue
-held_value None = default_node
-held_value (Some boxed) = value_of (box_value boxed)
-
-pub unknown_is : (n : Node) → unknown_of (value_of n) ≡ (out-Node n).unknown
-unknown_is n = ap unknown_of (fold_out-Node NodeValue level n)
+pub unknown_is : (n : Node) → unknown_of (node_value n) ≡ (out-Node n).unknown
+unknown_is n = ap unknown_of (fold_out-Node NodeValue one_node n)
 
 pub child_held : (n : Node) (boxed : Box Node Global) → (out-Node n).child ≡ Some boxed
-    → value_of (box_value boxed) ≡ or_default (child_of (value_of n))
+    → node_value (box_value boxed) ≡ or_default (child_of (node_value n))
 child_held n boxed is =
-    sym (ap (λ (m : NodeValue). or_default (child_of m)) (fold_out-Node NodeValue level n)
+    sym (ap (λ (m : NodeValue). or_default (child_of m)) (fold_out-Node NodeValue one_node n)
     ∙ rw is refl)
 
 pub no_child_held : (n : Node) → (out-Node n).child ≡ None
-    → default_node ≡ or_default (child_of (value_of n))
+    → default_node ≡ or_default (child_of (node_value n))
 no_child_held n is =
-    sym (ap (λ (m : NodeValue). or_default (child_of m)) (fold_out-Node NodeValue level n)
+    sym (ap (λ (m : NodeValue). or_default (child_of m)) (fold_out-Node NodeValue one_node n)
     ∙ rw is refl)
 
 pub group_held : (n : Node) (boxed : Box Node Global) → (out-Node n).group ≡ Some boxed
-    → value_of (box_value boxed) ≡ or_default (group_of (value_of n))
+    → node_value (box_value boxed) ≡ or_default (group_of (node_value n))
 group_held n boxed is =
-    sym (ap (λ (m : NodeValue). or_default (group_of m)) (fold_out-Node NodeValue level n)
+    sym (ap (λ (m : NodeValue). or_default (group_of m)) (fold_out-Node NodeValue one_node n)
     ∙ rw is refl)
 
 pub no_group_held : (n : Node) → (out-Node n).group ≡ None
-    → default_node ≡ or_default (group_of (value_of n))
+    → default_node ≡ or_default (group_of (node_value n))
 no_group_held n is =
-    sym (ap (λ (m : NodeValue). or_default (group_of m)) (fold_out-Node NodeValue level n)
+    sym (ap (λ (m : NodeValue). or_default (group_of m)) (fold_out-Node NodeValue one_node n)
     ∙ rw is refl)
 
 -- ---- a node with another part
@@ -53,47 +49,48 @@ abbrev with_children : NodeValue → NodeList → NodeValue
 with_children (node v child children group unknown) ms = node v child ms group unknown
 
 listed_append : (ns : List Node) (added : Node)
-    → listed (map value_of (ns ++ added ∷ [])) ≡ appended (listed (map value_of ns)) (value_of added)
+    → listed (map node_value (ns ++ added ∷ []))
+    ≡ appended (listed (map node_value ns)) (node_value added)
 listed_append [] added = refl
-listed_append (n ∷ ns) added = ap (ahead (value_of n)) (listed_append ns added)
+listed_append (n ∷ ns) added = ap (ahead (node_value n)) (listed_append ns added)
 
 module _ (n : Node) where
   -- the parts of a node, rolled again
-  pub same_node : value_of (roll-Node (record {
+  pub same_node : node_value (roll-Node (record {
     value = (out-Node n).value;
     child = (out-Node n).child;
     children = (out-Node n).children;
     group = (out-Node n).group;
     unknown = (out-Node n).unknown;
-  })) ≡ value_of n
-  same_node = fold-roll-Node NodeValue level _ ∙ sym (fold_out-Node NodeValue level n)
+  })) ≡ node_value n
+  same_node = fold-roll-Node NodeValue one_node _ ∙ sym (fold_out-Node NodeValue one_node n)
 
-  pub value_set : (v : ℤ) → value_of (roll-Node (record {
+  pub value_set : (v : ℤ) → node_value (roll-Node (record {
     value = v;
     child = (out-Node n).child;
     children = (out-Node n).children;
     group = (out-Node n).group;
     unknown = (out-Node n).unknown;
-  })) ≡ with_value (value_of n) v
+  })) ≡ with_value (node_value n) v
   value_set v =
-      fold-roll-Node NodeValue level _
-      ∙ sym (ap (λ (m : NodeValue). with_value m v) (fold_out-Node NodeValue level n))
+      fold-roll-Node NodeValue one_node _
+      ∙ sym (ap (λ (m : NodeValue). with_value m v) (fold_out-Node NodeValue one_node n))
 
   pub child_set : (field : Option (Box Node Global)) (held_there : Node) → Holds field held_there
-      → value_of (roll-Node (record {
+      → node_value (roll-Node (record {
         value = (out-Node n).value;
         child = field;
         children = (out-Node n).children;
         group = (out-Node n).group;
         unknown = (out-Node n).unknown;
-      })) ≡ with_child (value_of n) (value_of held_there)
+      })) ≡ with_child (node_value n) (node_value held_there)
   child_set None held_there is = absurd is
   child_set (Some boxed) held_there is =
-      fold-roll-Node NodeValue level _
-      ∙ ap (λ (m : Node). with_child (level (map-Node Node NodeValue value_of (out-Node n)))
-      (value_of m)) is
-      ∙ sym (ap (λ (m : NodeValue). with_child m (value_of held_there))
-      (fold_out-Node NodeValue level n))
+      fold-roll-Node NodeValue one_node _
+      ∙ ap (λ (m : Node). with_child (one_node (map-Node Node NodeValue node_value (out-Node n)))
+      (node_value m)) is
+      ∙ sym (ap (λ (m : NodeValue). with_child m (node_value held_there))
+      (fold_out-Node NodeValue one_node n))
 
   -- the same node with other children
   abbrev pub layer : Vec Node Global → Node-F Node
@@ -110,20 +107,20 @@ module _ (n : Node) where
 
   pub another_set : (nodes : Vec Node Global) (added : Node)
       → nodes.items ≡ (out-Node n).children.items ++ added ∷ []
-      → value_of (roll-Node (record {
+      → node_value (roll-Node (record {
         value = (out-Node n).value;
         child = (out-Node n).child;
         children = nodes;
         group = (out-Node n).group;
         unknown = (out-Node n).unknown;
-      })) ≡ with_another (value_of n) (value_of added)
+      })) ≡ with_another (node_value n) (node_value added)
   another_set nodes added is =
-      fold-roll-Node NodeValue level _
-      ∙ ap (with_children (level (map-Node Node NodeValue value_of (out-Node n))))
-      (ap (λ (ns : List Node). listed (map value_of ns)) is
+      fold-roll-Node NodeValue one_node _
+      ∙ ap (with_children (one_node (map-Node Node NodeValue node_value (out-Node n))))
+      (ap (λ (ns : List Node). listed (map node_value ns)) is
       ∙ listed_append (out-Node n).children.items added)
-      ∙ sym (ap (λ (m : NodeValue). with_another m (value_of added))
-      (fold_out-Node NodeValue level n))
+      ∙ sym (ap (λ (m : NodeValue). with_another m (node_value added))
+      (fold_out-Node NodeValue one_node n))
 
   -- the last of the children is the one that was put there
   pub last_is : (nodes : Vec Node Global) (fresh other : Node) (index : ℕ)
@@ -138,13 +135,13 @@ module _ (n : Node) where
   pub last_set : (nodes : Vec Node Global) (fresh after : Node) (index : ℕ)
       → index ≡ length (out-Node n).children.items
       → nodes.items ≡ (out-Node n).children.items ++ fresh ∷ []
-      → value_of (roll-Node (record {
+      → node_value (roll-Node (record {
         value = (out-Node (with_nodes nodes)).value;
         child = (out-Node (with_nodes nodes)).child;
         children = with_item (out-Node (with_nodes nodes)).children index after;
         group = (out-Node (with_nodes nodes)).group;
         unknown = (out-Node (with_nodes nodes)).unknown;
-      })) ≡ with_another (value_of n) (value_of after)
+      })) ≡ with_another (node_value n) (node_value after)
   last_set nodes fresh after index at is =
       rw (out-roll-Node (layer nodes)) (another_set (with_item nodes index after) after
       (ap (λ (ns : List Node). slice_set ns index after) is
@@ -152,28 +149,28 @@ module _ (n : Node) where
       ∙ set-append_seam (out-Node n).children.items fresh [] after))
 
   pub group_set : (field : Option (Box Node Global)) (held_there : Node) → Holds field held_there
-      → value_of (roll-Node (record {
+      → node_value (roll-Node (record {
         value = (out-Node n).value;
         child = (out-Node n).child;
         children = (out-Node n).children;
         group = field;
         unknown = (out-Node n).unknown;
-      })) ≡ with_group (value_of n) (value_of held_there)
+      })) ≡ with_group (node_value n) (node_value held_there)
   group_set None held_there is = absurd is
   group_set (Some boxed) held_there is =
-      fold-roll-Node NodeValue level _
-      ∙ ap (λ (m : Node). with_group (level (map-Node Node NodeValue value_of (out-Node n)))
-      (value_of m)) is
-      ∙ sym (ap (λ (m : NodeValue). with_group m (value_of held_there))
-      (fold_out-Node NodeValue level n))
+      fold-roll-Node NodeValue one_node _
+      ∙ ap (λ (m : Node). with_group (one_node (map-Node Node NodeValue node_value (out-Node n)))
+      (node_value m)) is
+      ∙ sym (ap (λ (m : NodeValue). with_group m (node_value held_there))
+      (fold_out-Node NodeValue one_node n))
 
-  pub unknown_set : (fs : Fields) → value_of (roll-Node (record {
+  pub unknown_set : (fs : Fields) → node_value (roll-Node (record {
     value = (out-Node n).value;
     child = (out-Node n).child;
     children = (out-Node n).children;
     group = (out-Node n).group;
     unknown = fs;
-  })) ≡ with_unknown (value_of n) fs
+  })) ≡ with_unknown (node_value n) fs
   unknown_set fs =
-      fold-roll-Node NodeValue level _
-      ∙ sym (ap (λ (m : NodeValue). with_unknown m fs) (fold_out-Node NodeValue level n))
+      fold-roll-Node NodeValue one_node _
+      ∙ sym (ap (λ (m : NodeValue). with_unknown m fs) (fold_out-Node NodeValue one_node n))

@@ -1,20 +1,77 @@
 -- The varints of a packed payload, appended one after another.
-use Rattle.std.proofs.Common.{◌≡◌, ◌≢◌, ◌⊎◌, inl, inr, ℕ, zero, suc, take, ◌<◌, ◌≤◌, List, [], ◌∷◌, ◌++◌, length, refl, sym, ap, ◌∙◌, subst, arith, append_assoc, length-append}
-use Rattle.std.proofs.lemmas.List.{append-nil, append_cancel_right}
+use Rattle.std.proofs.Common.{◌≡◌, ◌≢◌, ◌⊎◌, inl, inr, ℕ, zero, suc, take, ◌+◌, ◌-◌, ◌<◌, ◌≤◌, List, [], ◌∷◌, ◌++◌, length, refl, sym, ap, ◌∙◌, subst, arith, append_assoc, length-append, length-take}
+use Rattle.std.proofs.lemmas.List.{append-nil, map-append, take-append-le}
+use Rattle.std.proofs.Math.Seq.{take-append-add}
 use Rattle.std.specs.Prelude.{ℤ, map}
 use Rattle.wire_codec.specs.DecodeError.{DecodeError}
-use Rattle.wire_codec.specs.DecodeError.TheVariants.{OutOfMemory}
+use Rattle.wire_codec.specs.DecodeError.TheVariants.{OutOfMemory, UnexpectedEof}
 use Rattle.wire_codec.specs.Packed.{SpellsEach, Appends, StopsAtFault}
 use Rattle.wire_codec.specs.ScalarLaws.{NoPackedListBesideFault}
-use Rattle.wire_codec.specs.Read.{Reads}
 use Rattle.wire_codec.specs.Reading.{ReadsValue}
 use Rattle.wire_codec.specs.ValueMap.{int32}
-use Rattle.wire_codec.specs.Varint.{IsSpelling, VarintFault}
-use Rattle.wire_codec.specs.VarintLaws.{OneVarint, NoVarintBesideFault}
+use Rattle.wire_codec.specs.Varint.{AllContinue, IsEnded, IsSpelling, VarintFault, cut_short, too_long}
+use Rattle.wire_samples.specs.FieldSteps.{PackedRefusal}
 
 -- numbers that a payload appends
 abbrev pub Numbers : List ℕ → List ℤ → List ℤ → Type 0
 Numbers payload before after = Appends IsSpelling int32 payload before after
+
+-- one varint more at the end
+one_number_more : (numbers : List ℕ) (x : ℕ) (front text : List ℕ)
+    → SpellsEach IsSpelling numbers front → IsSpelling x text
+    → SpellsEach IsSpelling (numbers ++ x ∷ []) (front ++ text)
+one_number_more [] x front text none h =
+    (text, [], ap (λ (t : List ℕ). t ++ text) none ∙ sym (append-nil text), h, refl)
+one_number_more (n ∷ numbers) x front text (one, more, parts, first, others) h = (
+  one,
+  more ++ text,
+  ap (λ (t : List ℕ). t ++ text) parts ∙ append_assoc one more text,
+  first,
+  one_number_more numbers x more text others h,
+)
+
+-- the numbers of a front of the payload were appended, and unread is what is left of it
+pub record FollowsPacked (payload : List ℕ) (before : List ℤ) (unread : List ℕ) (now : List ℤ)
+    : Type 0 where
+  pub front : List ℕ
+  pub parts : payload ≡ front ++ unread
+  pub numbers : Numbers front before now
+
+module _ (payload : List ℕ) (before : List ℤ) where
+  packed_start : FollowsPacked payload before payload before
+  packed_start = record {
+    front = [];
+    parts = refl;
+    numbers = record { numbers = []; spelled = refl; appended = sym (append-nil before) };
+  }
+
+  module _ (unread : List ℕ) (now : List ℤ) (h : FollowsPacked payload before unread now) where
+    -- a varint more
+    packed_more : (v u : ℤ) (next : List ℕ) (then : List ℤ)
+        → ReadsValue IsSpelling int32 unread v next → u ≡ v → then ≡ now ++ u ∷ []
+        → FollowsPacked payload before next then
+    packed_more v u next then r same pushed = record {
+      front = h.front ++ r.read.text;
+      parts = h.parts ∙ ap (λ (t : List ℕ). h.front ++ t) r.read.parts
+          ∙ sym (append_assoc h.front r.read.text next);
+      numbers = record {
+        numbers = h.numbers.numbers ++ r.number ∷ [];
+        spelled = one_number_more h.numbers.numbers r.number h.front r.read.text h.numbers.spelled
+            r.read.spelled;
+        appended = pushed ∙ ap (λ (x : ℤ). now ++ x ∷ []) (same ∙ r.is)
+            ∙ ap (λ (t : List ℤ). t ++ int32.dec r.number ∷ []) h.numbers.appended
+            ∙ append_assoc before (map int32.dec h.numbers.numbers) (int32.dec r.number ∷ [])
+            ∙ ap (λ (t : List ℤ). before ++ t)
+            (sym (map-append int32.dec h.numbers.numbers (r.number ∷ [])));
+      };
+    }
+
+-- The payload is read within bytes that go on behind it: unread is what is left of it and the rest.
+pub record FollowsWithin (payload rest : List ℕ) (before : List ℤ) (unread : List ℕ)
+    (now : List ℤ) : Type 0 where
+  pub left : List ℕ
+  pub parts : unread ≡ left ++ rest
+  pub follows : FollowsPacked payload before left now
 
 -- of two beginnings of one list, the shorter one begins the other
 split : (a b c d : List ℕ) → a ++ b ≡ c ++ d → length d ≤ length b
@@ -25,146 +82,105 @@ split (x ∷ a) b (y ∷ c) d e le =
     let (m, front, back) = split a b c d (cc) le in
     (m, cc, back)
 
--- the first of the varints of some bytes, whatever follows these
-record First (left rest : List ℕ) (now after : List ℤ) : Type 0 where
-  number : ℕ
-  more : List ℕ
-  read : Reads (left ++ rest) (IsSpelling number) (more ++ rest)
-  others : Numbers more (now ++ int32.dec number ∷ []) after
-
-first_of : (left rest : List ℕ) (now after : List ℤ) → 0 < length left → Numbers left now after
-    → First left rest now after
-first_of left rest now after some h = at_first h.numbers h.spelled h.appended
-  where
-    at_first : (xs : List ℕ) → SpellsEach IsSpelling xs left → after ≡ now ++ map int32.dec xs
-        → First left rest now after
-    at_first [] none appended = absurd (omega (arith, ap length none))
-    at_first (x ∷ xs) (one, more, parts, spelled, others) appended = record {
-      number = x;
-      more = more;
-      read = record {
-        text = one;
-        parts = ap (λ (t : List ℕ). t ++ rest) parts ∙ append_assoc one more rest;
-        spelled = spelled;
-      };
-      others = record {
-        numbers = xs;
-        spelled = others;
-        appended = appended
-            ∙ sym (append_assoc now (int32.dec x ∷ []) (map int32.dec xs));
-      };
-    }
-
--- what is appended from here on is what is appended from the start; rest is what follows the
--- payload
-pub record FollowsPacked (payload rest : List ℕ) (before : List ℤ) (unread : List ℕ)
-    (now : List ℤ) : Type 0 where
-  pub left : List ℕ
-  pub parts : unread ≡ left ++ rest
-  pub on : (after : List ℤ) → Numbers left now after → Numbers payload before after
-  pub back : (after : List ℤ) → Numbers payload before after → Numbers left now after
-
 module _ (payload rest : List ℕ) (before : List ℤ) where
-  pub packed_start : (unread : List ℕ) → unread ≡ payload ++ rest
-      → FollowsPacked payload rest before unread before
-  packed_start unread parts =
-      record { left = payload; parts = parts; on = λ after h. h; back = λ after h. h }
+  pub within_start : (unread : List ℕ) → unread ≡ payload ++ rest
+      → FollowsWithin payload rest before unread before
+  within_start unread parts =
+      record { left = payload; parts = parts; follows = packed_start payload before }
 
-  -- nothing is left
-  none_left : (left unread : List ℕ) → unread ≡ left ++ rest → length unread ≤ length rest
-      → left ≡ []
-  none_left [] unread parts short = refl
-  none_left (b ∷ left) unread parts short =
-      absurd (omega (arith, ap length parts, length-append (b ∷ left) rest))
+  module _ (unread : List ℕ) (now : List ℤ)
+      (h : FollowsWithin payload rest before unread now) where
+    -- a varint more
+    pub within_more : (v u : ℤ) (next : List ℕ) (then : List ℤ)
+        → ReadsValue IsSpelling int32 unread v next → length rest ≤ length next → u ≡ v
+        → then ≡ now ++ u ∷ [] → FollowsWithin payload rest before next then
+    within_more v u next then r fits same pushed =
+        let (left, front, back) = split r.read.text next h.left rest (sym r.read.parts ∙ h.parts)
+        fits in
+        record {
+          left = left;
+          parts = back;
+          follows = packed_more payload before h.left now h.follows v u left then
+              (record {
+                number = r.number;
+                read = record { text = r.read.text; parts = front; spelled = r.read.spelled };
+                is = r.is;
+              })
+              same pushed;
+        }
 
-  some_left : (left unread : List ℕ) → unread ≡ left ++ rest → length rest < length unread
-      → 0 < length left
-  some_left [] unread parts long = absurd (omega (arith, ap length parts))
-  some_left (b ∷ left) unread parts long = omega arith
+-- ---- varints that do not end within the payload
 
-  module _ (unread : List ℕ) (now : List ℤ) (h : FollowsPacked payload rest before unread now) where
-    pub packed_end : length unread ≤ length rest
-        → Numbers payload before now × (unread ≡ rest)
-    packed_end short =
-        let none = none_left h.left unread h.parts short in (
-          h.on now (record {
-            numbers = [];
-            spelled = none;
-            appended = sym (append-nil now);
-          }),
-          h.parts ∙ ap (λ (t : List ℕ). t ++ rest) none,
-        )
+continue_front : (len : ℕ) (t : List ℕ) → AllContinue t → AllContinue (take len t)
+continue_front zero t all = tt
+continue_front (suc len) [] all = tt
+continue_front (suc len) (b ∷ t) all = (all.0, continue_front len t all.1)
 
-    module _ (long : length rest < length unread) where
-      first : (after : List ℤ) → Numbers payload before after → First h.left rest now after
-      first after whole =
-          first_of h.left rest now after (some_left h.left unread h.parts long) (h.back after whole)
+-- but for the last byte of a varint all continue
+ended_front : (len : ℕ) (t rest : List ℕ) → IsEnded t → len < length t
+    → AllContinue (take len (t ++ rest))
+ended_front zero t rest ended short = tt
+ended_front (suc len) [] rest ended short = absurd ended
+ended_front (suc len) (b ∷ []) rest ended short = absurd (omega (arith, short))
+ended_front (suc len) (b ∷ c ∷ t) rest ended short =
+    (ended.0, ended_front len (c ∷ t) rest ended.1 (omega (arith, short)))
 
-      -- no varint stands here
-      pub packed_fault : NoVarintBesideFault → (e : DecodeError) → VarintFault unread e
-          → (after : List ℤ) → Numbers payload before after → ⊥
-      packed_fault beside e fault after whole =
-          let one = first after whole in
-          beside unread (one.more ++ rest) one.number e
-          (subst (λ t. Reads t (IsSpelling one.number) (one.more ++ rest)) (sym h.parts) one.read)
-          fault
+pub runs_past : (len : ℕ) (old next : List ℕ) (v : ℤ) → ReadsValue IsSpelling int32 old v next
+    → len ≤ length old → length next + len < length old → VarintFault (take len old) UnexpectedEof
+runs_past len old next v r fits past =
+    let text = r.read.text in
+    let short : len < length text = omega (arith, ap length r.read.parts, length-append text next)
+    in
+    subst (λ t. VarintFault (take len t) UnexpectedEof) (sym r.read.parts)
+    (cut_short (ended_front len text next r.read.spelled.ended short)
+    (omega (arith, r.read.spelled.at_most_ten, short, length-take len (text ++ next))))
 
-      module _ (one_varint : OneVarint) (v : ℤ) (next : List ℕ)
-          (r : ReadsValue IsSpelling int32 unread v next) where
-        same_first : (after : List ℤ) (whole : Numbers payload before after)
-            → let one = first after whole in (one.number ≡ r.number) × (one.more ++ rest ≡ next)
-        same_first after whole =
-            let one = first after whole in
-            one_varint unread (one.more ++ rest) next one.number r.number
-            (subst (λ t. Reads t (IsSpelling one.number) (one.more ++ rest)) (sym h.parts) one.read)
-            r.read
+take_behind : (len : ℕ) (front : List ℕ) (tenth : ℕ) (rest : List ℕ) → length front ≡ 9 → 10 ≤ len
+    → take len (front ++ tenth ∷ rest) ≡ front ++ tenth ∷ take (len - 10) rest
+take_behind len front tenth rest nine ten =
+    let long : len ≡ length front + suc (len - 10) = omega (arith, nine, ten) in
+    ap (λ (n : ℕ). take n (front ++ tenth ∷ rest)) long
+    ∙ take-append-add front (tenth ∷ rest) (suc (len - 10))
 
-        -- a varint that runs past the payload
-        pub packed_past : length next < length rest → (after : List ℤ)
-            → Numbers payload before after → ⊥
-        packed_past short after whole =
-            let one = first after whole in
-            omega (arith, ap length (same_first after whole).1, length-append one.more rest)
+-- a fault of bytes that go on behind the payload is one of the payload: this, where ten bytes are
+-- there, and short input where fewer are
+pub fault_within : (len : ℕ) (old : List ℕ) (e : DecodeError) → VarintFault old e
+    → len ≤ length old → 10 ≤ len → VarintFault (take len old) e
+fault_within len old e (cut_short all few) fits ten = absurd (omega (arith, few, fits, ten))
+fault_within len old e (too_long front tenth rest parts all nine high) fits ten =
+    too_long front tenth (take (len - 10) rest)
+    (ap (take len) parts ∙ take_behind len front tenth rest nine ten) all nine high
 
-        -- a varint more
-        pub packed_more : (u : ℤ) (then : List ℤ) → u ≡ v → length rest ≤ length next
-            → then ≡ now ++ u ∷ [] → FollowsPacked payload rest before next then
-        packed_more u then same_value fits appended =
-            let pushed = appended ∙ ap (λ (x : ℤ). now ++ x ∷ []) same_value in
-            let (left, front, back) = split r.read.text next h.left rest (sym r.read.parts ∙ h.parts)
-            fits in
-            record {
-              left = left;
-              parts = back;
-              on = λ after more. h.on after (record {
-                numbers = r.number ∷ more.numbers;
-                spelled = (r.read.text, left, front, r.read.spelled, more.spelled);
-                appended = more.appended
-                    ∙ ap (λ (vs : List ℤ). vs ++ map int32.dec more.numbers) pushed
-                    ∙ append_assoc now (v ∷ []) (map int32.dec more.numbers)
-                    ∙ ap (λ (u : ℤ). now ++ u ∷ map int32.dec more.numbers) r.is;
-              });
-              back = λ after whole.
-                  let one = first after whole in
-                  let same = same_first after whole in
-                  let here = append_cancel_right one.more left rest (same.1 ∙ back) in
-                  let value = ap int32.dec same.0 ∙ sym r.is in
-                  let start = ap (λ (u : ℤ). now ++ u ∷ []) value ∙ sym pushed in
-                  rw (sym here, sym start) one.others;
-            }
+pub fault_before : (len : ℕ) (old : List ℕ) (e : DecodeError) → VarintFault old e → len < 10
+    → VarintFault (take len old) UnexpectedEof
+fault_before len old e (cut_short all few) short =
+    cut_short (continue_front len old all) (omega (arith, short, length-take len old))
+fault_before len old e (too_long front tenth rest parts all nine high) short =
+    let same = ap (take len) parts
+    ∙ take-append-le len front (tenth ∷ rest) (omega (arith, short, nine)) in
+    cut_short (subst AllContinue (sym same) (continue_front len front all))
+    (omega (arith, short, length-take len old))
 
--- a payload that has a fault has no numbers
-pub no_numbers : {P : Type 0} → NoPackedListBesideFault → (payload : List ℕ)
-    (before now : List ℤ) (e : DecodeError)
-    → ((e ≡ OutOfMemory) × P) ⊎ StopsAtFault int32 payload before now e → e ≢ OutOfMemory
-    → (after : List ℤ) → Numbers payload before after → ⊥
-no_numbers beside payload before now e (inl memory) other after h = other memory.0
-no_numbers beside payload before now e (inr fault) other after h =
+-- a payload that is refused for its bytes has no numbers
+pub no_numbers : NoPackedListBesideFault → (payload : List ℕ) (before : List ℤ) (e : DecodeError)
+    → PackedRefusal payload before e → e ≢ OutOfMemory → (after : List ℤ)
+    → Numbers payload before after → ⊥
+no_numbers beside payload before e (inl memory) other after h = absurd (other memory)
+no_numbers beside payload before e (inr (now, fault)) other after h =
     beside h.numbers fault.numbers payload e h.spelled fault.broken
+
+-- what `extend_packed_int32` says of a refusal
+pub packed_refusal : {P : Type 0} (chunk payload : List ℕ) (before now : List ℤ)
+    (e : DecodeError) → chunk ≡ payload
+    → ((e ≡ OutOfMemory) × P) ⊎ StopsAtFault int32 chunk before now e
+    → PackedRefusal payload before e
+packed_refusal chunk payload before now e same (inl memory) = inl memory.0
+packed_refusal chunk payload before now e same (inr fault) = inr (now, rw (sym same) fault)
 
 -- a beginning of a beginning
 pub take_within : (i j : ℕ) (l : List ℕ) → i ≤ j → take i (take j l) ≡ take i l
 take_within zero j l le = refl
 take_within (suc i) zero l le = absurd (omega arith)
 take_within (suc i) (suc j) [] le = refl
-take_within (suc i) (suc j) (b ∷ l) le = ap (λ (t : List ℕ). b ∷ t) (take_within i j l (omega arith))
+take_within (suc i) (suc j) (b ∷ l) le =
+    ap (λ (t : List ℕ). b ∷ t) (take_within i j l (omega arith))

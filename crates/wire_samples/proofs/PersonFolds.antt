@@ -12,7 +12,7 @@ use Rattle.wire_codec.specs.Laws.{JoinedAddsUp, FieldsArePlain}
 use Rattle.wire_codec.specs.Limits.{Charge, no_charge}
 use Rattle.wire_codec.specs.LimitsLaws.{ChargesAddUp}
 use Rattle.wire_codec.specs.Packed.{SpellsEach}
-use Rattle.wire_codec.specs.Records.{Records, plain, size, joined, of_fields}
+use Rattle.wire_codec.specs.Records.{Records, plain, text_size, joined_records, of_fields}
 use Rattle.wire_codec.specs.ScalarLaws.{ReadsBack}
 use Rattle.wire_codec.specs.ValueMap.{int32}
 use Rattle.wire_codec.specs.Varint.{IsSpelling, shortest_varint}
@@ -20,9 +20,10 @@ use Rattle.wire_codec.specs.VarintLaws.{ShortestReadsBack}
 use Rattle.wire_samples.proofs.Persons.{scores_fit, name_fits}
 use Rattle.wire_samples.specs.FieldRecords.{int32_field, bytes_field, packed_int32}
 use Rattle.wire_samples.specs.FieldRecords.{packed_int32_field}
+use Rattle.wire_samples.specs.Kept.{AreOthers}
 use Rattle.wire_samples.specs.Person.{PersonValue, PersonTakes, id, name, scores, unknown}
-use Rattle.wire_samples.specs.Person.{with_id, with_name, with_scores, with_unknown, AreOthers}
-use Rattle.wire_samples.specs.Person.{IsPerson, default_person, person_records}
+use Rattle.wire_samples.specs.Person.{with_id, with_name, with_scores, with_unknown}
+use Rattle.wire_samples.specs.Person.{IsPerson, IsPersonOther, default_person, person_records}
 
 enc_fits : (v : ℤ) → FitsSigned w32 v → int32.enc v < 2 ^ 64
 enc_fits (pos n) h = omega (arith, h)
@@ -56,7 +57,7 @@ module _ (charges : ChargesAddUp) where
   id_folds : ReadsBack int32 (FitsSigned w32) → (m z : PersonValue) (v : ℤ) (rest : Records)
       (c : Charge) → m.id ≡ pos 0 → FitsSigned w32 v
       → Folds PersonTakes (with_id m v) (plain rest) c z
-      → Folds PersonTakes m (plain (joined (int32_field 1 v) rest)) c z
+      → Folds PersonTakes m (plain (joined_records (int32_field 1 v) rest)) c z
   id_folds back m z (pos zero) rest c start fits h =
       subst (λ (k : PersonValue). Folds PersonTakes k (plain rest) c z)
       (ap (with_id m) (sym start)) h
@@ -69,7 +70,7 @@ module _ (charges : ChargesAddUp) where
 
   name_folds : (m z : PersonValue) (text : List ℕ) (rest : Records) (c : Charge) → m.name ≡ []
       → IsUtf8 text → Folds PersonTakes (with_name m text) (plain rest) c z
-      → Folds PersonTakes m (plain (joined (bytes_field 2 text) rest)) c z
+      → Folds PersonTakes m (plain (joined_records (bytes_field 2 text) rest)) c z
   name_folds m z [] rest c start utf8 h =
       subst (λ (k : PersonValue). Folds PersonTakes k (plain rest) c z)
       (ap (with_name m) (sym start)) h
@@ -100,7 +101,7 @@ module _ (charges : ChargesAddUp) where
   scores_fold : ShortestReadsBack → ReadsBack int32 (FitsSigned w32) → (m z : PersonValue)
       (vs : List ℤ) (rest : Records) (c : Charge) → m.scores ≡ [] → All (FitsSigned w32) vs
       → Folds PersonTakes (with_scores m vs) (plain rest) c z
-      → Folds PersonTakes m (plain (joined (packed_int32_field 3 vs) rest)) c z
+      → Folds PersonTakes m (plain (joined_records (packed_int32_field 3 vs) rest)) c z
   scores_fold shortest back m z [] rest c start fits h =
       subst (λ (k : PersonValue). Folds PersonTakes k (plain rest) c z)
       (ap (with_scores m) (sym start)) h
@@ -114,7 +115,7 @@ module _ (charges : ChargesAddUp) where
             ∙ ap (λ (us : List ℤ). us ++ map int32.dec (map int32.enc (v ∷ vs))) (sym start);
       }) refl refl) h
 
-unknown_fold : (m : PersonValue) (fs : grammar.Fields) → AreOthers fs
+unknown_fold : (m : PersonValue) (fs : grammar.Fields) → AreOthers IsPersonOther fs
     → Folds PersonTakes m fs (charge fs) (with_unknown m (grammar.joined m.unknown fs))
 unknown_fold m grammar.none others =
     (refl, ap (with_unknown m) (joined-none m.unknown))
@@ -130,59 +131,67 @@ unknown_fold m (grammar.field n p fs) others = (
   refl,
 )
 
+-- ---- the records behind those of a field
+
+abbrev behind_name : PersonValue → Records
+behind_name m = joined_records (packed_int32_field 3 m.scores) (of_fields m.unknown)
+
+abbrev behind_id : PersonValue → Records
+behind_id m = joined_records (bytes_field 2 m.name) (behind_name m)
+
 -- ---- numbers and lengths in range
 
 id_fitting : (v : ℤ) (rest : Records) → FitsSigned w32 v → AreFitting (plain rest)
-    → AreFitting (plain (joined (int32_field 1 v) rest))
+    → AreFitting (plain (joined_records (int32_field 1 v) rest))
 id_fitting (pos zero) rest fits h = h
 id_fitting (pos (suc k)) rest fits h = (enc_fits (pos (suc k)) fits, h)
 id_fitting (negsuc k) rest fits h = (enc_fits (negsuc k) fits, h)
 
 id_numbered : (v : ℤ) (rest : Records) → AreNumbered (plain rest)
-    → AreNumbered (plain (joined (int32_field 1 v) rest))
+    → AreNumbered (plain (joined_records (int32_field 1 v) rest))
 id_numbered (pos zero) rest h = h
 id_numbered (pos (suc k)) rest h = ((omega arith, omega arith), tt, h)
 id_numbered (negsuc k) rest h = ((omega arith, omega arith), tt, h)
 
 name_fitting : (text : List ℕ) (rest : Records) → length text < 2 ^ 64 → AreFitting (plain rest)
-    → AreFitting (plain (joined (bytes_field 2 text) rest))
+    → AreFitting (plain (joined_records (bytes_field 2 text) rest))
 name_fitting [] rest fits h = h
 name_fitting (b ∷ more) rest fits h = (fits, h)
 
 name_numbered : (text : List ℕ) (rest : Records) → AreNumbered (plain rest)
-    → AreNumbered (plain (joined (bytes_field 2 text) rest))
+    → AreNumbered (plain (joined_records (bytes_field 2 text) rest))
 name_numbered [] rest h = h
 name_numbered (b ∷ more) rest h = ((omega arith, omega arith), tt, h)
 
 scores_fitting : (vs : List ℤ) (rest : Records) → length (packed_int32 vs) < 2 ^ 64
-    → AreFitting (plain rest) → AreFitting (plain (joined (packed_int32_field 3 vs) rest))
+    → AreFitting (plain rest) → AreFitting (plain (joined_records (packed_int32_field 3 vs) rest))
 scores_fitting [] rest fits h = h
 scores_fitting (v ∷ vs) rest fits h = (fits, h)
 
 scores_numbered : (vs : List ℤ) (rest : Records) → AreNumbered (plain rest)
-    → AreNumbered (plain (joined (packed_int32_field 3 vs) rest))
+    → AreNumbered (plain (joined_records (packed_int32_field 3 vs) rest))
 scores_numbered [] rest h = h
 scores_numbered (v ∷ vs) rest h = ((omega arith, omega arith), tt, h)
 
 pub person_fitting : JoinedAddsUp → FieldsArePlain → (m : PersonValue) → IsPerson m
-    → size (person_records m) ≤ 2147483647 → AreFitting (plain (person_records m))
+    → text_size (person_records m) ≤ 2147483647 → AreFitting (plain (person_records m))
 person_fitting joins same m h small =
     id_fitting m.id
-    (joined (bytes_field 2 m.name) (joined (packed_int32_field 3 m.scores) (of_fields m.unknown)))
+    (behind_id m)
     h.id
-    (name_fitting m.name (joined (packed_int32_field 3 m.scores) (of_fields m.unknown))
+    (name_fitting m.name (behind_name m)
     (name_fits joins same m small)
     (scores_fitting m.scores (of_fields m.unknown) (scores_fit joins same m small)
-    (subst AreFitting (sym (same.plain m.unknown)) h.fitting)))
+    (subst AreFitting (sym (same.plain m.unknown)) h.unknown.fitting)))
 
 pub person_numbered : FieldsArePlain → (m : PersonValue) → IsPerson m
     → AreNumbered (plain (person_records m))
 person_numbered same m h =
     id_numbered m.id
-    (joined (bytes_field 2 m.name) (joined (packed_int32_field 3 m.scores) (of_fields m.unknown)))
-    (name_numbered m.name (joined (packed_int32_field 3 m.scores) (of_fields m.unknown))
+    (behind_id m)
+    (name_numbered m.name (behind_name m)
     (scores_numbered m.scores (of_fields m.unknown)
-    (subst AreNumbered (sym (same.plain m.unknown)) h.numbered)))
+    (subst AreNumbered (sym (same.plain m.unknown)) h.unknown.numbered)))
 
 -- ---- all of it
 
@@ -193,12 +202,11 @@ module _ (charges : ChargesAddUp) (shortest : ShortestReadsBack)
   person_folds m h =
       let with_scores_of = with_scores (with_name (with_id default_person m.id) m.name) m.scores in
       id_folds charges back default_person m m.id
-      (joined (bytes_field 2 m.name)
-      (joined (packed_int32_field 3 m.scores) (of_fields m.unknown)))
+      (behind_id m)
       (charge m.unknown) refl h.id
       (name_folds charges (with_id default_person m.id) m m.name
-      (joined (packed_int32_field 3 m.scores) (of_fields m.unknown)) (charge m.unknown) refl h.name
+      (behind_name m) (charge m.unknown) refl h.name
       (scores_fold charges shortest back (with_name (with_id default_person m.id) m.name) m
       m.scores (of_fields m.unknown) (charge m.unknown) refl h.scores
       (subst (λ (fs : grammar.Fields). Folds PersonTakes with_scores_of fs (charge m.unknown) m)
-      (sym (same.plain m.unknown)) (unknown_fold with_scores_of m.unknown h.others))))
+      (sym (same.plain m.unknown)) (unknown_fold with_scores_of m.unknown h.unknown.others))))

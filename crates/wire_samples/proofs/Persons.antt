@@ -1,26 +1,24 @@
 -- The text of a `Person`, field by field.
-use Rattle.std.proofs.Common.{◌≡◌, ℕ, ◌+◌, ◌^◌, ◌<◌, ◌≤◌, List, [], ◌++◌, length, refl, ap, ◌∙◌, arith}
+use Rattle.std.proofs.Common.{◌≡◌, ℕ, ◌+◌, ◌^◌, ◌<◌, ◌≤◌, List, ◌++◌, length, refl, ap, ◌∙◌, arith}
 use Rattle.std.proofs.Common.{length-append}
 use Rattle.std.specs.Prelude.{ℤ}
 use Rattle.wire_codec.specs.Field.{Fields}
 use Rattle.wire_codec.specs.Text.{text_of}
 use Rattle.wire_codec.specs.Laws.{JoinedAddsUp, FieldsArePlain}
-use Rattle.wire_codec.specs.Records.{Records, text, size, joined, of_fields}
-use Rattle.wire_codec.specs.Sizes.{sizes}
+use Rattle.wire_codec.specs.Records.{Records, text, text_size, joined_records, of_fields}
 use Rattle.wire_samples.specs.FieldRecords.{int32_field, bytes_field, packed_int32}
 use Rattle.wire_samples.specs.FieldRecords.{packed_int32_field}
 use Rattle.wire_samples.specs.Person.{PersonValue, person_records}
-use Rattle.wire_samples.proofs.FieldTexts.{sizes-int32_field, sizes-bytes_field}
-use Rattle.wire_samples.proofs.FieldTexts.{sizes-packed_int32_field, packed-within_field}
+use Rattle.wire_samples.proofs.FieldTexts.{packed-within_field}
 use Rattle.wire_samples.proofs.FieldTexts.{bytes-within_field}
 
 -- four lists of records, the last of the grammar
 four_texts : JoinedAddsUp → FieldsArePlain → (a b c : Records) (fs : Fields)
-    → text (joined a (joined b (joined c (of_fields fs))))
+    → text (joined_records a (joined_records b (joined_records c (of_fields fs))))
     ≡ text a ++ (text b ++ (text c ++ text_of fs))
 four_texts joins same a b c fs =
-    joins.text a (joined b (joined c (of_fields fs)))
-    ∙ ap (λ (t : List ℕ). text a ++ t) (joins.text b (joined c (of_fields fs)))
+    joins.text a (joined_records b (joined_records c (of_fields fs)))
+    ∙ ap (λ (t : List ℕ). text a ++ t) (joins.text b (joined_records c (of_fields fs)))
     ∙ ap (λ (t : List ℕ). text a ++ (text b ++ t)) (joins.text c (of_fields fs))
     ∙ ap (λ (gs : Fields). text a ++ (text b ++ (text c ++ text_of gs))) (same.plain fs)
 
@@ -35,24 +33,10 @@ person_parts joins same p id name scores is_id is_name is_scores =
     rw (is_id, is_name, is_scores) (four_texts joins same (int32_field 1 p.id)
     (bytes_field 2 p.name) (packed_int32_field 3 p.scores) p.unknown)
 
-no_sizes : JoinedAddsUp → (a b : Records) → sizes a ≡ [] → sizes b ≡ [] → sizes (joined a b) ≡ []
-no_sizes joins a b left right = joins.sizes a b ∙ ap (λ (ns : List ℕ). ns ++ sizes b) left ∙ right
-
-pub person_sizes : JoinedAddsUp → FieldsArePlain → (p : PersonValue) → sizes (person_records p) ≡ []
-person_sizes joins same p =
-    let scores = no_sizes joins (packed_int32_field 3 p.scores) (of_fields p.unknown)
-    (sizes-packed_int32_field 3 p.scores) (same.sizes p.unknown) in
-    let name = no_sizes joins (bytes_field 2 p.name)
-    (joined (packed_int32_field 3 p.scores) (of_fields p.unknown)) (sizes-bytes_field 2 p.name)
-    scores in
-    no_sizes joins (int32_field 1 p.id)
-    (joined (bytes_field 2 p.name) (joined (packed_int32_field 3 p.scores)
-    (of_fields p.unknown))) (sizes-int32_field 1 p.id) name
-
 -- the packed scores and the name are no longer than the whole
 pub parts_fit : JoinedAddsUp → FieldsArePlain → (p : PersonValue)
     → length (text (bytes_field 2 p.name)) + length (text (packed_int32_field 3 p.scores))
-    ≤ size (person_records p)
+    ≤ text_size (person_records p)
 parts_fit joins same p =
     let id = text (int32_field 1 p.id) in
     let name = text (bytes_field 2 p.name) in
@@ -67,11 +51,11 @@ parts_fit joins same p =
     )
 
 pub scores_fit : JoinedAddsUp → FieldsArePlain → (p : PersonValue)
-    → size (person_records p) ≤ 2147483647 → length (packed_int32 p.scores) < 2 ^ 64
+    → text_size (person_records p) ≤ 2147483647 → length (packed_int32 p.scores) < 2 ^ 64
 scores_fit joins same p small =
     omega (arith, packed-within_field 3 p.scores, parts_fit joins same p)
 
 pub name_fits : JoinedAddsUp → FieldsArePlain → (p : PersonValue)
-    → size (person_records p) ≤ 2147483647 → length p.name < 2 ^ 64
+    → text_size (person_records p) ≤ 2147483647 → length p.name < 2 ^ 64
 name_fits joins same p small =
     omega (arith, bytes-within_field 2 p.name, parts_fit joins same p)

@@ -7,7 +7,7 @@ use Rattle.std.specs.Prelude.{Option, Result, Ok, Err}
 use Rattle.wire_codec.specs.EncodeError.{EncodeError}
 use Rattle.wire_codec.specs.Laws.{JoinedAddsUp, PieceByPiece}
 use Rattle.wire_codec.specs.Records.{Records, none, field, embedded, group}
-use Rattle.wire_codec.specs.Records.{size as text_size, text}
+use Rattle.wire_codec.specs.Records.{text_size, text}
 use Rattle.wire_codec.specs.Sizes.{sizes}
 use Rattle.wire_codec.specs.Tag.{tag_text}
 use Rattle.wire_codec.specs.Tape.{Tape, NextAre, advanced, unread_of}

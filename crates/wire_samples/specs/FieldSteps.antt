@@ -1,9 +1,11 @@
 -- What a known field makes of the payload of a record.
-use Rattle.std.specs.Prelude.{◌≡◌, ℕ, ℤ, List, [], ◌∷◌, ◌++◌, IsUtf8}
+use Rattle.std.specs.Prelude.{◌≡◌, ◌⊎◌, ℕ, ℤ, List, [], ◌∷◌, ◌++◌, IsUtf8}
 use Rattle.wire_codec.specs.Charge.{payload_charge}
+use Rattle.wire_codec.specs.DecodeError.{DecodeError}
+use Rattle.wire_codec.specs.DecodeError.TheVariants.{OutOfMemory}
 use Rattle.wire_codec.specs.Field.{Payload, varint, fixed64, fixed32, bytes, group, Fields, push}
 use Rattle.wire_codec.specs.Limits.{Limits, left_after}
-use Rattle.wire_codec.specs.Packed.{Appends}
+use Rattle.wire_codec.specs.Packed.{Appends, StopsAtFault}
 use Rattle.wire_codec.specs.Read.{Reads}
 use Rattle.wire_codec.specs.Spells.{IsPayload}
 use Rattle.wire_codec.specs.Taken.{TakesPayload}
@@ -40,6 +42,11 @@ AppendsInt32 before (fixed64 x) after = ⊥
 AppendsInt32 before (fixed32 x) after = ⊥
 AppendsInt32 before (bytes b) after = Appends IsSpelling int32 b before after
 AppendsInt32 before (group fs) after = ⊥
+
+-- why a packed payload is not appended: some of its bytes begin with no varint, or memory is wanted
+abbrev pub PackedRefusal : List ℕ → List ℤ → DecodeError → Type 0
+PackedRefusal payload before e =
+    (e ≡ OutOfMemory) ⊎ ((after : List ℤ) × StopsAtFault int32 payload before after e)
 
 -- behind a tag (n, w) a payload stands at the front of old, a field makes something of it, and new
 -- is what follows

@@ -3,12 +3,12 @@ use Rattle.std.specs.Prelude.{◌≡◌, ◌≢◌, ℤ, pos, ℕ, List, [], ◌
 use Rattle.std.specs.Prelude.{FitsSigned}
 use Rattle.std.specs.Int.{w64}
 use Rattle.std.specs.declared.alloc.Global.{Global}
-use Rattle.wire_codec.specs.Field.{Fields, field}
-use Rattle.wire_codec.specs.InRange.{AreFitting, AreNumbered}
+use Rattle.wire_codec.specs.Field.{Fields}
 use Rattle.wire_codec.specs.Records as records
-use Rattle.wire_codec.specs.Records.{Records, joined, of_fields}
+use Rattle.wire_codec.specs.Records.{Records, joined_records, of_fields}
 use Rattle.wire_samples.specs.declared.node.Node.{Node, Node-F, fold-Node}
 use Rattle.wire_samples.specs.FieldRecords.{sint64_field}
+use Rattle.wire_samples.specs.Kept.{AreKept}
 
 -- ---- values
 
@@ -34,11 +34,11 @@ listed [] = empty
 listed (m ∷ ms) = ahead m (listed ms)
 
 -- one node, with values in the places of those that it holds
-abbrev pub level : Node-F NodeValue → NodeValue
-level n = node n.value (held n.child) (listed n.children.items) (held n.group) n.unknown
+abbrev pub one_node : Node-F NodeValue → NodeValue
+one_node n = node n.value (held n.child) (listed n.children.items) (held n.group) n.unknown
 
-abbrev pub value_of : Node → NodeValue
-value_of = fold-Node NodeValue level
+abbrev pub node_value : Node → NodeValue
+node_value = fold-Node NodeValue one_node
 
 -- the field holds this node
 abbrev pub Holds : Option (Box Node Global) → Node → Type 0
@@ -91,8 +91,10 @@ abbrev mutual
   -- in the order of the numbers, and the unknown fields behind
   pub node_records : NodeValue → Records
   node_records (node v child children group unknown) =
-      joined (sint64_field 1 v) (joined (child_record child) (joined (children_records children)
-      (joined (group_record group) (of_fields unknown))))
+      joined_records (sint64_field 1 v)
+      (joined_records (child_record child)
+      (joined_records (children_records children)
+      (joined_records (group_record group) (of_fields unknown))))
 
   -- an embedded message, where there is one
   pub child_record : MaybeNode → Records
@@ -113,27 +115,17 @@ abbrev mutual
 -- ---- the values that a `Node` of Rust has, with unknown fields as decoding leaves them
 
 -- the number is none that the type knows
-pub record IsOther (n : ℕ) : Type 0 where
+pub record IsNodeOther (n : ℕ) : Type 0 where
   pub value : n ≢ 1
   pub child : n ≢ 2
   pub children : n ≢ 3
   pub group : n ≢ 4
 
--- the numbers of the records are none that the type knows; those inside groups may be any
-abbrev pub AreOthers : Fields → Type 0
-AreOthers Fields.none = Unit {0}
-AreOthers (field n p rest) = IsOther n × AreOthers rest
-
-pub record IsKept (unknown : Fields) : Type 0 where
-  pub fitting : AreFitting unknown
-  pub numbered : AreNumbered unknown
-  pub others : AreOthers unknown
-
 abbrev mutual
   pub IsNode : NodeValue → Type 0
   IsNode (node v child children group unknown) =
       FitsSigned w64 v × IsMaybeNode child × AreNodes children × IsMaybeNode group
-      × IsKept unknown
+      × AreKept IsNodeOther unknown
 
   pub IsMaybeNode : MaybeNode → Type 0
   IsMaybeNode absent = Unit {0}

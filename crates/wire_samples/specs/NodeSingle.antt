@@ -12,14 +12,14 @@ use Rattle.wire_samples.specs.FieldSteps.{SetsSint64}
 use Rattle.wire_samples.specs.FieldStepsLaws.{one_number}
 use Rattle.wire_samples.specs.Node.{NodeValue, default_node, or_default, child_of, group_of}
 use Rattle.wire_samples.specs.Node.{unknown_of, with_value, with_child, with_another, with_group}
-use Rattle.wire_samples.specs.Node.{with_unknown, IsOther}
+use Rattle.wire_samples.specs.Node.{with_unknown, IsNodeOther}
 use Rattle.wire_samples.specs.NodeSteps.{NodeTakes, value, child, another, grouped, unknown}
 use Rattle.wire_samples.specs.NodeSteps.{another_charge}
 use Rattle.wire_samples.specs.NodeSteps.{NodeMerges, merged, NodeFolds, no_more, one_more}
 
 -- ---- by the number
 
-pub record TakesValue (m : NodeValue) (p : Payload) (c : Charge) (z : NodeValue) : Type 0 where
+pub record TakesNumber (m : NodeValue) (p : Payload) (c : Charge) (z : NodeValue) : Type 0 where
   pub v : ℤ
   pub made : SetsSint64 p v
   pub charged : c ≡ no_charge
@@ -52,7 +52,7 @@ abbrev pub TakesAnother : NodeValue → Payload → Charge → NodeValue → Typ
 TakesAnother m = TakesMessage default_node another_charge (with_another m)
 
 pub at_value : {m z : NodeValue} {n : ℕ} {p : Payload} {c : Charge} → n ≡ 1
-    → NodeTakes m n p c z → TakesValue m p c z
+    → NodeTakes m n p c z → TakesNumber m p c z
 at_value is (value v n_is made charged z_is) =
     record { v = v; made = made; charged = charged; is = z_is }
 at_value is (child b inside after n_is p_is k charged z_is) = absurd (omega (arith, is, n_is))
@@ -108,7 +108,7 @@ at_group is (grouped fs inside after n_is p_is k charged z_is) = record {
 }
 at_group is (unknown other charged z_is) = absurd (other.group is)
 
-pub at_other : {m z : NodeValue} {n : ℕ} {p : Payload} {c : Charge} → IsOther n
+pub at_other : {m z : NodeValue} {n : ℕ} {p : Payload} {c : Charge} → IsNodeOther n
     → NodeTakes m n p c z → (c ≡ payload_charge p) × (z ≡ with_unknown m (push (unknown_of m) n p))
 at_other is (value v n_is made charged z_is) = absurd (is.value n_is)
 at_other is (child b inside after n_is p_is k charged z_is) = absurd (is.child n_is)

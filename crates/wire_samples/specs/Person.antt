@@ -4,11 +4,11 @@ use Rattle.std.specs.Prelude.{All, FitsSigned, IsUtf8}
 use Rattle.std.specs.Int.{w32}
 use Rattle.wire_codec.specs.Charge.{payload_charge}
 use Rattle.wire_codec.specs.Field.{Payload, Fields, push}
-use Rattle.wire_codec.specs.InRange.{AreFitting, AreNumbered}
 use Rattle.wire_codec.specs.Limits.{Charge, no_charge}
-use Rattle.wire_codec.specs.Records.{Records, joined, of_fields}
+use Rattle.wire_codec.specs.Records.{Records, joined_records, of_fields}
 use Rattle.wire_samples.specs.declared.person.Person.{Person}
 use Rattle.wire_samples.specs.FieldRecords.{int32_field, bytes_field, packed_int32_field}
+use Rattle.wire_samples.specs.Kept.{AreKept}
 use Rattle.wire_samples.specs.FieldSteps.{SetsInt32, SetsText, AppendsInt32}
 
 pub record PersonValue : Type 0 where
@@ -17,13 +17,12 @@ pub record PersonValue : Type 0 where
   pub scores : List ℤ
   pub unknown : Fields
 
-abbrev pub value_of : Person → PersonValue
-value_of m = record {
+abbrev pub person_value : Person → PersonValue
+person_value m = record {
   id = m.id;
   name = string_bytes m.name;
   scores = m.scores.items;
-  unknown =
-      m.unknown;
+  unknown = m.unknown;
 }
 
 abbrev pub default_person : PersonValue
@@ -32,8 +31,9 @@ default_person = record { id = pos 0; name = []; scores = []; unknown = Fields.n
 -- in the order of the numbers, and the unknown fields behind
 abbrev pub person_records : PersonValue → Records
 person_records p =
-    joined (int32_field 1 p.id) (joined (bytes_field 2 p.name)
-    (joined (packed_int32_field 3 p.scores) (of_fields p.unknown)))
+    joined_records (int32_field 1 p.id)
+    (joined_records (bytes_field 2 p.name)
+    (joined_records (packed_int32_field 3 p.scores) (of_fields p.unknown)))
 
 -- the same person but for one field
 abbrev pub with_id : PersonValue → ℤ → PersonValue
@@ -61,19 +61,12 @@ pub data PersonTakes (m : PersonValue) (n : ℕ) (p : Payload) (c : Charge) (z :
       → z ≡ with_unknown m (push m.unknown n p) → PersonTakes m n p c z
 
 -- the number is none that the type knows
-abbrev pub IsOther : ℕ → Type 0
-IsOther n = (n ≢ 1) × (n ≢ 2) × (n ≢ 3)
-
--- the numbers of the records are none that the type knows; those inside groups may be any
-abbrev pub AreOthers : Fields → Type 0
-AreOthers Fields.none = Unit {0}
-AreOthers (Fields.field n p rest) = IsOther n × AreOthers rest
+abbrev pub IsPersonOther : ℕ → Type 0
+IsPersonOther n = (n ≢ 1) × (n ≢ 2) × (n ≢ 3)
 
 -- the values that a `Person` of Rust has, with unknown fields as decoding leaves them
 pub record IsPerson (m : PersonValue) : Type 0 where
   pub id : FitsSigned w32 m.id
   pub name : IsUtf8 m.name
   pub scores : All (FitsSigned w32) m.scores
-  pub fitting : AreFitting m.unknown
-  pub numbered : AreNumbered m.unknown
-  pub others : AreOthers m.unknown
+  pub unknown : AreKept IsPersonOther m.unknown

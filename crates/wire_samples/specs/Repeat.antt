@@ -2,7 +2,7 @@
 use Rattle.std.specs.Prelude.{◌≡◌, ℕ, zero, suc, ◌+◌, ◌<◌, Bool, true, false}
 use Rattle.wire_codec.specs.Field as grammar
 use Rattle.wire_codec.specs.Limits.{Charge, no_charge}
-use Rattle.wire_codec.specs.Records.{Records, none, field, varint, joined}
+use Rattle.wire_codec.specs.Records.{Records, none, field, varint, joined_records}
 use Rattle.wire_samples.specs.declared.repeat.Repeat.{Repeat}
 
 -- so many records of field 1
@@ -16,7 +16,7 @@ extra_record false = none
 extra_record true = field 2 (varint 128) none
 
 abbrev pub repeat_records : Repeat → Records
-repeat_records m = joined (repeated m.times) (extra_record m.extra)
+repeat_records m = joined_records (repeated m.times) (extra_record m.extra)
 
 -- a record of field 1 counts, as far as 64 bits go, and a record of field 2 marks; each has one
 -- number only

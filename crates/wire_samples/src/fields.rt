@@ -1,7 +1,7 @@
 //! Fields that are left out where they have their default value.
 ghost use Rattle.std.specs.Prelude.{◌≡◌, ◌^◌, ◌<◌, length};
 ghost use Rattle.wire_codec.specs.FieldNumber.{IsFieldNumber};
-ghost use Rattle.wire_codec.specs.Records.{text, size};
+ghost use Rattle.wire_codec.specs.Records.{text, text_size};
 ghost use Rattle.wire_codec.specs.Text.{text_of};
 ghost use Rattle.wire_codec.specs.Writes.{Writes};
 ghost use Rattle.wire_samples.specs.FieldRecords.{int32_field, sint64_field, bytes_field};
@@ -16,7 +16,7 @@ use wire_codec::{
 /// How many bytes a field of type `int32` takes.
 pub(crate) fn int32_len(number: u32, value: i32) -> u64
     requires { IsFieldNumber number }
-    ensures { result ≡ in_64_bits (size (int32_field number value)) }
+    ensures { result ≡ in_64_bits (text_size (int32_field number value)) }
 {
     if value == 0 {
         return 0;
@@ -27,7 +27,7 @@ pub(crate) fn int32_len(number: u32, value: i32) -> u64
 /// How many bytes a field of type `sint64` takes.
 pub(crate) fn sint64_len(number: u32, value: i64) -> u64
     requires { IsFieldNumber number }
-    ensures { result ≡ in_64_bits (size (sint64_field number value)) }
+    ensures { result ≡ in_64_bits (text_size (sint64_field number value)) }
 {
     if value == 0 {
         return 0;
@@ -38,7 +38,7 @@ pub(crate) fn sint64_len(number: u32, value: i64) -> u64
 /// How many bytes a field of type `bytes` or `string` takes.
 pub(crate) fn bytes_len(number: u32, value: &[u8]) -> u64
     requires { IsFieldNumber number }
-    ensures { result ≡ in_64_bits (size (bytes_field number value.now)) }
+    ensures { result ≡ in_64_bits (text_size (bytes_field number value.now)) }
 {
     if value.is_empty() {
         return 0;
@@ -49,7 +49,7 @@ pub(crate) fn bytes_len(number: u32, value: &[u8]) -> u64
 /// How many bytes a packed field of type `int32` takes.
 pub(crate) fn packed_int32_len(number: u32, values: &[i32]) -> u64
     requires { IsFieldNumber number }
-    ensures { result ≡ in_64_bits (size (packed_int32_field number values.now)) }
+    ensures { result ≡ in_64_bits (text_size (packed_int32_field number values.now)) }
 {
     if values.is_empty() {
         return 0;

@@ -1,11 +1,14 @@
 //! Laws of the message types: each function is a theorem, and does nothing.
 ghost use Rattle.std.specs.Prelude.{false};
+ghost use Rattle.wire_codec.specs.Charge.{charge};
 ghost use Rattle.wire_samples.specs.Laws.{IsTable, NodesFoldBack, PersonsFoldBack, RepeatsFoldBack};
-ghost use Rattle.wire_samples.specs.Node.{value_of as node_of, default_node, node_records};
+ghost use Rattle.wire_samples.specs.Laws.{StaysInRange, DecodedFoldsBack};
+ghost use Rattle.wire_samples.specs.Node.{node_value, default_node, node_records, IsNode};
+ghost use Rattle.wire_samples.specs.NodeCharge.{node_charge};
 ghost use Rattle.wire_samples.specs.NodePayloads.{PayloadsAreEmbedded};
 ghost use Rattle.wire_samples.specs.NodeSteps.{NodeTakes, NodesFoldByTheirStep};
-ghost use Rattle.wire_samples.specs.Person.{value_of as person_of, default_person};
-ghost use Rattle.wire_samples.specs.Person.{person_records, PersonTakes};
+ghost use Rattle.wire_samples.specs.Person.{person_value, default_person};
+ghost use Rattle.wire_samples.specs.Person.{person_records, PersonTakes, IsPerson};
 ghost use Rattle.wire_samples.specs.Repeat.{repeat_records, RepeatTakes};
 
 use crate::node::Node;
@@ -15,14 +18,14 @@ use wire_codec::{Message, laws};
 
 /// A `Person` takes and writes the records of its table, over its fields.
 pub fn person_is_as_its_table()
-    ensures { IsTable ⟦<Person as Message>⟧.view person_of
+    ensures { IsTable ⟦<Person as Message>⟧.view person_value
         ⟦<Person as Message>⟧.default default_person ⟦<Person as Message>⟧.takes PersonTakes
         ⟦<Person as Message>⟧.records person_records }
 {}
 
 /// A `Node` takes and writes the records of its table, over its fields.
 pub fn node_is_as_its_table()
-    ensures { IsTable ⟦<Node as Message>⟧.view node_of
+    ensures { IsTable ⟦<Node as Message>⟧.view node_value
         ⟦<Node as Message>⟧.default default_node ⟦<Node as Message>⟧.takes NodeTakes
         ⟦<Node as Message>⟧.records node_records }
 {}
@@ -35,7 +38,8 @@ pub fn repeat_is_as_its_table()
         ⟦<Repeat as Message>⟧.records repeat_records }
 {}
 
-/// The records of a `Person` fold back to it, and are charged for its unknown fields. With
+/// The records of a `Person` fold back to it, where its size is one that a message may have
+/// and it is as `persons_stay_in_range` says, and are charged for its unknown fields. With
 /// `laws::text_decodes` of `wire_codec`, what is written of it decodes to it.
 pub fn persons_fold_back()
     ensures { PersonsFoldBack ⟦<Person as Message>⟧.takes ⟦<Person as Message>⟧.records
@@ -48,8 +52,28 @@ pub fn persons_fold_back()
     laws::scalar::values_read_back();
 }
 
-/// The records of a `Node` fold back to it, where its size is one that a message may have and its
-/// unknown fields are as decoding leaves them. They are charged for what it holds, one level down,
+/// What decoding leaves of a `Person` is in range, and has no unknown field, at its top, of a
+/// number that the type knows: as the records of bytes are taken, whatever the call.
+pub fn persons_stay_in_range()
+    ensures { StaysInRange ⟦<Person as Message>⟧.takes ⟦<Person as Message>⟧.default IsPerson }
+{
+    laws::spelled_are_fitting();
+    laws::grammar::spelled_are_numbered();
+}
+
+/// A `Person` that these bytes decode to is in range and folds back. The walk over the bytes is
+/// compiled away.
+pub fn decoded_persons_fold_back(bytes: &[u8])
+    ensures { DecodedFoldsBack ⟦<Person as Message>⟧.takes ⟦<Person as Message>⟧.records
+        ⟦<Person as Message>⟧.default IsPerson (λ m. charge m.unknown) bytes.now }
+{
+    persons_stay_in_range();
+    persons_fold_back();
+    laws::slice_has_bytes(bytes);
+}
+
+/// The records of a `Node` fold back to it, where its size is one that a message may have and it is
+/// as `nodes_stay_in_range` says. They are charged for what it holds, one level down,
 /// for 64 bytes for each of its children, and for its unknown fields. With `laws::text_decodes` of
 /// `wire_codec`, what is written of it decodes to it.
 pub fn nodes_fold_back()
@@ -61,6 +85,27 @@ pub fn nodes_fold_back()
     laws::grammar::charges_add_up();
     laws::grammar::shortest_text_spells();
     laws::scalar::values_read_back();
+}
+
+/// What decoding leaves of a `Node` is in range, with the nodes that it holds, and each has no
+/// unknown field, at its top, of a number that the type knows: as the records of bytes are taken,
+/// whatever the call.
+pub fn nodes_stay_in_range()
+    ensures { StaysInRange ⟦<Node as Message>⟧.takes ⟦<Node as Message>⟧.default IsNode }
+{
+    laws::spelled_are_fitting();
+    laws::grammar::spelled_are_numbered();
+}
+
+/// A `Node` that these bytes decode to is in range and folds back. The walk over the bytes is
+/// compiled away.
+pub fn decoded_nodes_fold_back(bytes: &[u8])
+    ensures { DecodedFoldsBack ⟦<Node as Message>⟧.takes ⟦<Node as Message>⟧.records
+        ⟦<Node as Message>⟧.default IsNode node_charge bytes.now }
+{
+    nodes_stay_in_range();
+    nodes_fold_back();
+    laws::slice_has_bytes(bytes);
 }
 
 /// A node takes records one after another by its step, as any message type does.

@@ -8,8 +8,6 @@ mod merge;
 mod node;
 mod person;
 mod repeat;
-#[cfg(test)]
-mod tests;
 mod unknown_spans;
 
 pub use node::Node;

@@ -1,15 +1,17 @@
 //! Known fields from the payloads of their records.
-ghost use Rattle.std.specs.Prelude.{◌≡◌, ◌≢◌, ◌≤◌, ℤ, List, [], ◌∷◌, ◌++◌, length, take, drop, string_bytes, OnOk, OnErr, IfErr};
+ghost use Rattle.std.specs.Prelude.{◌≡◌, ◌≢◌, ◌+◌, ◌≤◌, ℤ, List, [], ◌∷◌, ◌++◌, length, take, drop, string_bytes, OnOk, OnErr, IfOk, IfErr};
 ghost use Rattle.wire_codec.specs.Charge.{payload_charge};
 ghost use Rattle.wire_codec.specs.DecodeError.TheVariants.{OutOfMemory};
 ghost use Rattle.wire_codec.specs.Field.{push};
 ghost use Rattle.wire_codec.specs.Limits.{NoCountGrew, left_after};
 ghost use Rattle.wire_codec.specs.Packed.{Appends};
+ghost use Rattle.wire_codec.specs.Reading.{ReadsValue};
 ghost use Rattle.wire_codec.specs.TagView.{tag_number, tag_type};
 ghost use Rattle.wire_codec.specs.ValueMap.{int32};
-ghost use Rattle.wire_codec.specs.Varint.{IsSpelling};
+ghost use Rattle.wire_codec.specs.Varint.{IsSpelling, VarintFault};
 ghost use Rattle.wire_samples.specs.FieldSteps.{SetsInt32, SetsSint64, SetsText, AppendsInt32};
 ghost use Rattle.wire_samples.specs.FieldSteps.{KeepsField, NotKept, ReadsField, NoField};
+ghost use Rattle.wire_samples.specs.FieldSteps.{PackedRefusal};
 
 use bytes::Buf;
 use std::alloc::Global;
@@ -18,6 +20,9 @@ use wire_codec::{
     decode_int32, decode_length, decode_sint64, decode_unknown_field, extend_packed_int32, laws,
     merge_string, wire_type_mismatch,
 };
+
+// How many bytes a varint has at most.
+const MAX_VARINT_BYTES: usize = 10;
 
 /// Sets a field of type `int32`.
 pub(crate) fn merge_int32<B: Buf>(tag: Tag, value: &mut i32, buf: &mut B) -> Result<(), DecodeError>
@@ -88,6 +93,7 @@ pub(crate) fn merge_repeated_int32<B: Buf>(
     laws::grammar::no_varint_beside_fault();
     laws::grammar::one_delimited();
     laws::grammar::no_delimited_beside_fault();
+    laws::scalar::no_packed_list_beside_fault();
     match tag.wire_type() {
         WireType::LengthDelimited => {
             let len = decode_length(buf, None)?;
@@ -102,7 +108,7 @@ pub(crate) fn merge_repeated_int32<B: Buf>(
 }
 
 // Appends the varints of the next bytes, so many of which are there. They are read in place, and
-// one by one where they do not lie in one chunk.
+// one by one where they do not lie in one chunk. Neither way looks past the payload.
 fn merge_packed_int32<B: Buf>(
     alloc: Global,
     len: usize,
@@ -113,11 +119,9 @@ fn merge_packed_int32<B: Buf>(
     ensures ok { OnOk result (Appends IsSpelling int32 (take len (B.unread buf.old))
         values.old.items values.new.items) }
     ensures rest { OnOk result (B.unread buf.new ≡ drop len (B.unread buf.old)) }
-    ensures err { IfErr result (λ e. e ≢ OutOfMemory → (after : List ℤ)
-        → Appends IsSpelling int32 (take len (B.unread buf.old)) values.old.items after → ⊥) }
+    ensures fault { IfErr result (PackedRefusal (take len (B.unread buf.old)) values.old.items) }
     ensures kept { B.kept buf.new ≡ B.kept buf.old }
 {
-    laws::scalar::no_packed_list_beside_fault();
     let chunk = buf.chunk();
     if chunk.len() < len {
         return merge_varints(len, values, buf);
@@ -134,21 +138,33 @@ fn merge_varints<B: Buf>(len: usize, values: &mut Vec<i32>, buf: &mut B) -> Resu
     ensures ok { OnOk result (Appends IsSpelling int32 (take len (B.unread buf.old))
         values.old.items values.new.items) }
     ensures rest { OnOk result (B.unread buf.new ≡ drop len (B.unread buf.old)) }
-    ensures err { IfErr result (λ e. e ≢ OutOfMemory → (after : List ℤ)
-        → Appends IsSpelling int32 (take len (B.unread buf.old)) values.old.items after → ⊥) }
+    ensures fault { IfErr result (PackedRefusal (take len (B.unread buf.old)) values.old.items) }
     ensures kept { B.kept buf.new ≡ B.kept buf.old }
 {
-    laws::grammar::one_varint();
-    laws::grammar::no_varint_beside_fault();
     let rest = buf.remaining() - len;
     while buf.remaining() > rest {
-        let value = decode_int32(buf)?;
-        if buf.remaining() < rest {
-            return Err(DecodeError::UnexpectedEof);
-        }
+        let value = decode_within(buf.remaining() - rest, buf)?;
         push(values, value)?;
     }
     Ok(())
+}
+
+// Reads a number from the next bytes, so many of which are there. It is refused as if the input
+// ended behind them.
+fn decode_within<B: Buf>(len: usize, buf: &mut B) -> Result<i32, DecodeError>
+    requires { len ≤ length (B.unread buf.old) }
+    ensures ok { IfOk result (λ value.
+        ReadsValue IsSpelling int32 (B.unread buf.old) value (B.unread buf.new)) }
+    ensures within { OnOk result (length (B.unread buf.old) ≤ length (B.unread buf.new) + len) }
+    ensures fault { IfErr result (VarintFault (take len (B.unread buf.old))) }
+    ensures kept { B.kept buf.new ≡ B.kept buf.old }
+{
+    let rest = buf.remaining() - len;
+    match decode_int32(buf) {
+        Ok(value) if buf.remaining() >= rest => Ok(value),
+        Err(error) if len >= MAX_VARINT_BYTES => Err(error),
+        _ => Err(DecodeError::UnexpectedEof),
+    }
 }
 
 // Appends a number.

@@ -1,6 +1,6 @@
 //! A message that holds itself.
 ghost use Rattle.std.specs.Prelude.{◌≡◌};
-ghost use Rattle.wire_samples.specs.Node.{value_of, unknown_of, default_node};
+ghost use Rattle.wire_samples.specs.Node.{node_value, unknown_of, default_node};
 
 mod merge;
 mod write;
@@ -28,13 +28,13 @@ pub struct Node {
 impl Node {
     /// The fields that decoding found and this type does not know.
     pub fn unknown(&self) -> &UnknownFields
-        ensures { result.now ≡ unknown_of (value_of self.now) }
+        ensures { result.now ≡ unknown_of (node_value self.now) }
     {
         &self.unknown
     }
 
     fn empty(alloc: Global) -> Node
-        ensures { value_of result ≡ default_node }
+        ensures { node_value result ≡ default_node }
     {
         Node {
             value: 0,
@@ -57,13 +57,13 @@ impl MessageName for Node {
 }
 
 impl Message for Node {
-    ghost use Rattle.wire_samples.specs.Node.{NodeValue, value_of, node_records, default_node};
+    ghost use Rattle.wire_samples.specs.Node.{NodeValue, node_value, node_records, default_node};
     ghost use Rattle.wire_samples.specs.NodeSteps.{NodeTakes};
     ghost use Rattle.wire_samples.specs.NodeSingle.{node_single};
 
     ghost Value = { NodeValue };
 
-    ghost view = { value_of };
+    ghost view = { node_value };
 
     ghost records = { node_records };
 

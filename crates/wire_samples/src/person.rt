@@ -1,6 +1,12 @@
 //! A message with a field of each common kind.
-ghost use Rattle.std.specs.Prelude.{◌≡◌};
-ghost use Rattle.wire_samples.specs.Person.{value_of};
+ghost use Rattle.std.specs.Prelude.{◌≡◌, ◌≢◌, ◌≤◌, OnOk, OnErr, IfErr};
+ghost use Rattle.wire_codec.specs.DecodeError.TheVariants.{OutOfMemory};
+ghost use Rattle.wire_codec.specs.Limits.{NoCountGrew};
+ghost use Rattle.wire_codec.specs.Records.{text, text_size};
+ghost use Rattle.wire_codec.specs.TagView.{tag_number, tag_type};
+ghost use Rattle.wire_codec.specs.Taking.{TakesRecord, IsCharged, NotTaken};
+ghost use Rattle.wire_codec.specs.Writes.{Writes};
+ghost use Rattle.wire_samples.specs.Person.{PersonTakes, person_records, person_value};
 
 use crate::fields::{
     bytes_len, int32_len, packed_int32_len, put_bytes, put_int32, put_packed_int32, unknown_len,
@@ -25,7 +31,7 @@ pub struct Person {
 impl Person {
     /// The fields that decoding found and this type does not know.
     pub fn unknown(&self) -> &UnknownFields
-        ensures { result.now ≡ (value_of self.now).unknown }
+        ensures { result.now ≡ (person_value self.now).unknown }
     {
         &self.unknown
     }
@@ -42,13 +48,13 @@ impl MessageName for Person {
 }
 
 impl Message for Person {
-    ghost use Rattle.wire_samples.specs.Person.{PersonValue, value_of};
+    ghost use Rattle.wire_samples.specs.Person.{PersonValue, person_value};
     ghost use Rattle.wire_samples.specs.Person.{person_records, default_person, PersonTakes};
     ghost use Rattle.wire_samples.specs.PersonSingle.{person_single};
 
     ghost Value = { PersonValue };
 
-    ghost view = { value_of };
+    ghost view = { person_value };
 
     ghost records = { person_records };
 
@@ -86,11 +92,7 @@ impl Message for Person {
         laws::flat_messages_have_no_sizes();
         laws::joined_records_add_up();
         laws::fields_are_plain();
-        laws::piece_by_piece();
-        put_int32(1, self.id, sink)?;
-        put_bytes(2, self.name.as_bytes(), sink)?;
-        put_packed_int32(3, &self.scores, sink)?;
-        self.unknown.write_to(sink)
+        write_records(self, sink)
     }
 
     fn merge_field<B: Buf>(
@@ -100,13 +102,7 @@ impl Message for Person {
         buf: &mut B,
         context: &mut DecodeContext,
     ) -> Result<(), DecodeError> {
-        laws::records_in_order();
-        match tag.field_number() {
-            1 => merge_int32(tag, &mut self.id, buf),
-            2 => merge_text(alloc, tag, &mut self.name, buf),
-            3 => merge_repeated_int32(alloc, tag, &mut self.scores, buf),
-            _ => keep_unknown(alloc, tag, &mut self.unknown, buf, context),
-        }
+        merge_record(self, alloc, tag, buf, context)
     }
 
     fn clear(&mut self) {
@@ -114,5 +110,47 @@ impl Message for Person {
         self.name.clear();
         self.scores.clear();
         self.unknown.clear();
+    }
+}
+
+// Writes the records, in the order of their numbers and the unknown fields behind.
+fn write_records<S: EncodeSink>(person: &Person, sink: &mut S) -> Result<(), EncodeError>
+    requires { text_size (person_records (person_value person.now)) ≤ 2147483647 }
+    ensures { Writes S.most (text (person_records (person_value person.now)))
+        (S.bytes_of sink.old) (S.bytes_of sink.new) result }
+{
+    laws::joined_records_add_up();
+    laws::fields_are_plain();
+    laws::piece_by_piece();
+    put_int32(1, person.id, sink)?;
+    put_bytes(2, person.name.as_bytes(), sink)?;
+    put_packed_int32(3, &person.scores, sink)?;
+    person.unknown.write_to(sink)
+}
+
+// Takes the record of a tag that was read.
+fn merge_record<B: Buf>(
+    person: &mut Person,
+    alloc: Global,
+    tag: Tag,
+    buf: &mut B,
+    context: &mut DecodeContext,
+) -> Result<(), DecodeError>
+    ensures ok { OnOk result (IsCharged context.old context.new (λ c.
+        TakesRecord PersonTakes context.old (tag_number tag) (tag_type tag)
+        (person_value person.old) (B.unread buf.old) c (person_value person.new)
+        (B.unread buf.new))) }
+    ensures err { IfErr result (λ e. e ≢ OutOfMemory → NotTaken (TakesRecord PersonTakes
+        context.old (tag_number tag) (tag_type tag) (person_value person.old)
+        (B.unread buf.old))) }
+    ensures counts { OnErr result (NoCountGrew context.old context.new) }
+    ensures kept { B.kept buf.new ≡ B.kept buf.old }
+{
+    laws::records_in_order();
+    match tag.field_number() {
+        1 => merge_int32(tag, &mut person.id, buf),
+        2 => merge_text(alloc, tag, &mut person.name, buf),
+        3 => merge_repeated_int32(alloc, tag, &mut person.scores, buf),
+        _ => keep_unknown(alloc, tag, &mut person.unknown, buf, context),
     }
 }

@@ -6,10 +6,13 @@ use wire_codec::{
     decode_varint, laws, put_uint64_field, saturate_size,
 };
 
-const NO_RECORD: &str = "no record of a Repeat";
+const NO_RECORD: &str = "not a Repeat record";
+
+const TOO_MANY: &str = "too many";
 
 /// A message of `times` records of field 1, each the number 0, and one of field 2, the number 128,
-/// where `extra` is set. Any other record is `Custom`, or the fault of its varint.
+/// where `extra` is set. Any other record is `Custom("not a Repeat record")`, or the fault of its
+/// varint, and one of field 1 past the greatest `times` is `Custom("too many")`.
 #[derive(Clone, Debug, Drop, PartialEq)]
 pub struct Repeat {
     pub times: u64,
@@ -77,6 +80,7 @@ impl Message for Repeat {
         }
         match (tag.field_number(), decode_varint(buf)?) {
             (1, 0) if self.times < u64::MAX => self.times += 1,
+            (1, 0) => return Err(DecodeError::Custom(TOO_MANY)),
             (2, 128) => self.extra = true,
             _ => return Err(DecodeError::Custom(NO_RECORD)),
         }

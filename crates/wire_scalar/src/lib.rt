@@ -13,8 +13,6 @@ mod group;
 pub mod laws;
 mod packed;
 mod scalar;
-#[cfg(test)]
-mod tests;
 mod varints;
 
 pub use fields::{

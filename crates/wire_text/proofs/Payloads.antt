@@ -8,7 +8,7 @@ use Rattle.wire_base.specs.Delimited.{IsDelimited, DelimitedFault, no_length, to
 use Rattle.wire_base.specs.Read.{Reads}
 use Rattle.wire_base.specs.Varint as v
 use Rattle.wire_text.specs.BytesPayload.{BytesRefusal}
-use Rattle.wire_text.specs.StringPayload.{IsString, StringFault, StringRefusal, no_payload, not_utf8}
+use Rattle.wire_text.specs.StringPayload.{StringFault, StringRefusal, no_payload, not_utf8}
 
 -- no error of a length and what stands behind it is one of its bytes
 is_no_utf8 : (bytes : List ℕ) (e : DecodeError) → DelimitedFault None bytes e → e ≢ InvalidUtf8
@@ -25,12 +25,6 @@ refusal_is_no_utf8 bytes e (inr (memory, there)) same = absurd cc
 pub no_string : (bytes : List ℕ) (e : DecodeError) → BytesRefusal bytes e → StringRefusal bytes e
 no_string bytes e (inl fault) = inl (no_payload fault)
 no_string bytes e (inr memory) = inr memory
-
--- a payload that is a text
-pub reads_string : (payload old new : List ℕ) → Reads old (IsDelimited payload) new → IsUtf8 payload
-    → Reads old (IsString payload) new
-reads_string payload old new r utf8 =
-    record { text = r.text; parts = r.parts; spelled = record { delimited = r.spelled; utf8 = utf8 } }
 
 -- a payload whose bytes are no text
 pub refused_text : {T : Type 0} (r : Result T DecodeError) (old payload new : List ℕ)

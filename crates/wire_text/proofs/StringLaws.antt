@@ -44,7 +44,16 @@ no_true_is_false same = absurd cc
 by_utf8 : (test : Bool) (p old rest : List ℕ) → is_utf8 p ≡ test → Reads old (IsDelimited p) rest
     → StringOutcome old
 by_utf8 true p old rest is r =
-    inl (p, rest, record { text = r.text; parts = r.parts; spelled = record { delimited = r.spelled; utf8 = IsUtf8-from_is_utf8 p is } })
+    let utf8 = IsUtf8-from_is_utf8 p is in
+    inl (
+      p,
+      rest,
+      record {
+        text = r.text;
+        parts = r.parts;
+        spelled = record { delimited = r.spelled; utf8 = utf8 };
+      },
+    )
 by_utf8 false p old rest is r =
     inr (
       InvalidUtf8,

@@ -2,7 +2,7 @@
 use Rattle.std.proofs.Common.{◌≡◌, ◌≤◌, ◌⊎◌, inl, inr, ℕ, List, ◌++◌, length, take, drop, Result, Ok, Err, sym, ap, ◌∙◌, take-append-drop}
 use Rattle.std.proofs.lemmas.List.{take-append-le}
 use Rattle.bytes.specs.Unread.{IsChunkOf}
-use Rattle.std.specs.Prelude.{IfOk, IfErr}
+use Rattle.std.specs.Prelude.{IfErr}
 use Rattle.wire_base.specs.declared.error.DecodeError.{DecodeError}
 use Rattle.wire_base.specs.declared.error.DecodeError.TheVariants.{OutOfMemory}
 use Rattle.wire_base.specs.Delimited.{IsDelimited}
@@ -22,12 +22,6 @@ module _ (answers : List ℕ → Answer
   refuses_value e new left (inr answer) = inl (refused payload rest h answer left)
 
   -- what it answers to a payload that was handed over
-  pub takes_owned : {P : Type 0} (view : P → List ℕ) (result : Result P DecodeError) (new : List ℕ)
-      → new ≡ rest → IfOk result (λ value. answers payload (Ok (view value)))
-      → IfOk result (λ value. TakesValue answers (view value) old new)
-  takes_owned view (Ok value) new same taken = takes_value (view value) new same taken
-  takes_owned view (Err e) new same taken = tt
-
   pub refuses_owned : {P : Type 0} (result : Result P DecodeError) (new : List ℕ) → new ≡ rest
       → IfErr result (λ e. (e ≡ OutOfMemory) ⊎ answers payload (Err e))
       → IfErr result (ValueRefusal answers old new)

@@ -1,9 +1,9 @@
 //! Strings and bytes of the wire format: a length, and as many bytes. `CALLING.md` shows its calls.
 //!
 //! Behind a tag of wire type `LengthDelimited` call `decode_string` or `decode_bytes`, over a slice
-//! `borrow_str` or `borrow_bytes`, and for a type of one's own `decode_string_to`. `put_string_field`
-//! writes a field with its tag. Of the encoding document see "Length-Delimited Records", and "Bools
-//! and Enums" for `EnumValue`.
+//! `borrow_str` or `borrow_bytes`, and for a type of one's own `decode_string_to`.
+//! `put_string_field` writes a field with its tag. Of the encoding document see "Length-Delimited
+//! Records", and "Bools and Enums" for `EnumValue`.
 #![tactic(auto)]
 
 mod borrow;

@@ -1,5 +1,1 @@
-pub mod Counter
-pub mod CounterLog
-pub mod CounterSingle
-pub mod NoX
 pub mod ShortText

@@ -1,7 +1,4 @@
-//! Worked rows over several crates, as tests, and short proved callers. Each row is a check that
-//! can be run while memory is refused, too.
+//! Short proved callers of the crates up to `wire_samples`, as their `CALLING.md` shows them.
 #![tactic(auto)]
 
 pub mod callers;
-#[cfg(test)]
-mod tests;

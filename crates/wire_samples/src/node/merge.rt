@@ -6,7 +6,7 @@ ghost use Rattle.wire_codec.specs.Limits.{Charge, NoCountGrew, left_after, outer
 ghost use Rattle.wire_codec.specs.Nested.{TakesEmbedded, TakesGroup};
 ghost use Rattle.wire_codec.specs.TagView.{tag_number, tag_type};
 ghost use Rattle.wire_codec.specs.Taking.{TakesRecord, IsCharged, NotTaken};
-ghost use Rattle.wire_samples.specs.Node.{NodeValue, value_of, Holds};
+ghost use Rattle.wire_samples.specs.Node.{NodeValue, node_value, Holds};
 ghost use Rattle.wire_samples.specs.NodePayloads.{Enters, TakesWithin};
 ghost use Rattle.wire_samples.specs.NodeSteps.{NodeTakes};
 
@@ -32,10 +32,10 @@ pub(super) fn merge_record<B: Buf>(
     context: &mut DecodeContext,
 ) -> Result<(), DecodeError>
     ensures ok { OnOk result (IsCharged context.old context.new (λ c.
-        TakesRecord NodeTakes context.old (tag_number tag) (tag_type tag) (value_of node.old)
-        (B.unread buf.old) c (value_of node.new) (B.unread buf.new))) }
+        TakesRecord NodeTakes context.old (tag_number tag) (tag_type tag) (node_value node.old)
+        (B.unread buf.old) c (node_value node.new) (B.unread buf.new))) }
     ensures err { IfErr result (λ e. e ≢ OutOfMemory → NotTaken (TakesRecord NodeTakes context.old
-        (tag_number tag) (tag_type tag) (value_of node.old) (B.unread buf.old))) }
+        (tag_number tag) (tag_type tag) (node_value node.old) (B.unread buf.old))) }
     ensures counts { OnErr result (NoCountGrew context.old context.new) }
     ensures kept { B.kept buf.new ≡ B.kept buf.old }
 {
@@ -60,10 +60,10 @@ fn merge_child<B: Buf>(
 ) -> Result<(), DecodeError>
     requires { tag_number tag ≡ 2 }
     ensures ok { OnOk result (IsCharged context.old context.new (λ c.
-        TakesRecord NodeTakes context.old (tag_number tag) (tag_type tag) (value_of node.old)
-        (B.unread buf.old) c (value_of node.new) (B.unread buf.new))) }
+        TakesRecord NodeTakes context.old (tag_number tag) (tag_type tag) (node_value node.old)
+        (B.unread buf.old) c (node_value node.new) (B.unread buf.new))) }
     ensures err { IfErr result (λ e. e ≢ OutOfMemory → NotTaken (TakesRecord NodeTakes context.old
-        (tag_number tag) (tag_type tag) (value_of node.old) (B.unread buf.old))) }
+        (tag_number tag) (tag_type tag) (node_value node.old) (B.unread buf.old))) }
     ensures counts { OnErr result (NoCountGrew context.old context.new) }
     ensures kept { B.kept buf.new ≡ B.kept buf.old }
 {
@@ -101,10 +101,10 @@ fn merge_another<B: Buf>(
 ) -> Result<(), DecodeError>
     requires { tag_number tag ≡ 3 }
     ensures ok { OnOk result (IsCharged context.old context.new (λ c.
-        TakesRecord NodeTakes context.old (tag_number tag) (tag_type tag) (value_of node.old)
-        (B.unread buf.old) c (value_of node.new) (B.unread buf.new))) }
+        TakesRecord NodeTakes context.old (tag_number tag) (tag_type tag) (node_value node.old)
+        (B.unread buf.old) c (node_value node.new) (B.unread buf.new))) }
     ensures err { IfErr result (λ e. e ≢ OutOfMemory → NotTaken (TakesRecord NodeTakes context.old
-        (tag_number tag) (tag_type tag) (value_of node.old) (B.unread buf.old))) }
+        (tag_number tag) (tag_type tag) (node_value node.old) (B.unread buf.old))) }
     ensures counts { OnErr result (NoCountGrew context.old context.new) }
     ensures kept { B.kept buf.new ≡ B.kept buf.old }
 {
@@ -138,10 +138,10 @@ fn merge_grouped<B: Buf>(
 ) -> Result<(), DecodeError>
     requires { tag_number tag ≡ 4 }
     ensures ok { OnOk result (IsCharged context.old context.new (λ c.
-        TakesRecord NodeTakes context.old (tag_number tag) (tag_type tag) (value_of node.old)
-        (B.unread buf.old) c (value_of node.new) (B.unread buf.new))) }
+        TakesRecord NodeTakes context.old (tag_number tag) (tag_type tag) (node_value node.old)
+        (B.unread buf.old) c (node_value node.new) (B.unread buf.new))) }
     ensures err { IfErr result (λ e. e ≢ OutOfMemory → NotTaken (TakesRecord NodeTakes context.old
-        (tag_number tag) (tag_type tag) (value_of node.old) (B.unread buf.old))) }
+        (tag_number tag) (tag_type tag) (node_value node.old) (B.unread buf.old))) }
     ensures counts { OnErr result (NoCountGrew context.old context.new) }
     ensures kept { B.kept buf.new ≡ B.kept buf.old }
 {
@@ -188,10 +188,10 @@ fn merge_payload<B: Buf>(
 ) -> Result<(), DecodeError>
     requires { context.old.depth < 2 ^ 32 - 1 }
     ensures ok { OnOk result ((c : Charge) × TakesWithin NodeTakes context.old rest
-        (value_of node.old) (B.unread buf.old) c (value_of node.new) (B.unread buf.new)
+        (node_value node.old) (B.unread buf.old) c (node_value node.new) (B.unread buf.new)
         × (context.new ≡ outer (left_after context.old c))) }
     ensures err { IfErr result (λ e. e ≢ OutOfMemory → NotTaken (TakesWithin NodeTakes
-        context.old rest (value_of node.old) (B.unread buf.old))) }
+        context.old rest (node_value node.old) (B.unread buf.old))) }
     ensures counts { OnErr result (NoCountGrew context.old context.new) }
     ensures kept { B.kept buf.new ≡ B.kept buf.old }
 {
@@ -218,10 +218,10 @@ fn merge_group<B: Buf>(
     number: u32,
 ) -> Result<(), DecodeError>
     ensures ok { OnOk result (IsCharged context.old context.new (λ c. TakesGroup NodeTakes
-        context.old number (value_of node.old) (B.unread buf.old) c (value_of node.new)
+        context.old number (node_value node.old) (B.unread buf.old) c (node_value node.new)
         (B.unread buf.new))) }
     ensures err { IfErr result (λ e. e ≢ OutOfMemory → NotTaken (TakesGroup NodeTakes
-        context.old number (value_of node.old) (B.unread buf.old))) }
+        context.old number (node_value node.old) (B.unread buf.old))) }
     ensures counts { OnErr result (NoCountGrew context.old context.new) }
     ensures kept { B.kept buf.new ≡ B.kept buf.old }
 {

@@ -2,12 +2,12 @@
 ghost use Rattle.std.specs.Prelude.{◌≡◌, ◌≤◌, map, length, OnOk, IfOk, IfErr};
 ghost use Rattle.wire_codec.specs.EncodeError.TheVariants.{OutOfMemory};
 ghost use Rattle.wire_codec.specs.FieldNumber.{IsFieldNumber};
-ghost use Rattle.wire_codec.specs.Records.{none, field, embedded, text, size};
+ghost use Rattle.wire_codec.specs.Records.{none, field, embedded, text, text_size};
 ghost use Rattle.wire_codec.specs.Sizes.{cut, cut_sizes, sizes};
 ghost use Rattle.wire_codec.specs.Tape.{NextAre, recorded, advanced};
 ghost use Rattle.wire_codec.specs.Writes.{Writes};
 ghost use Rattle.wire_samples.specs.Measuring.{Measures};
-ghost use Rattle.wire_samples.specs.Node.{listed, value_of, child_of, group_of, node_records};
+ghost use Rattle.wire_samples.specs.Node.{listed, node_value, child_of, group_of, node_records};
 ghost use Rattle.wire_samples.specs.Node.{child_record, children_records, group_record};
 
 use super::Node;
@@ -23,9 +23,10 @@ const GROUP_TAGS_LEN: u64 = 2;
 /// Records the sizes of the embedded messages, and answers the size of the text.
 #[cycle(size)]
 pub(super) fn node_size(node: &Node, cache: &mut SizeCache) -> Result<u32, EncodeError>
-    ensures size { IfOk result (λ answer. answer ≡ cut (size (node_records (value_of node.now)))) }
+    ensures size { IfOk result (λ answer. answer
+        ≡ cut (text_size (node_records (node_value node.now)))) }
     ensures sizes { OnOk result (cache.new
-        ≡ recorded cache.old (cut_sizes (node_records (value_of node.now)))) }
+        ≡ recorded cache.old (cut_sizes (node_records (node_value node.now)))) }
     ensures err { IfErr result (λ e. e ≡ OutOfMemory) }
 {
     laws::joined_records_add_up();
@@ -44,7 +45,7 @@ pub(super) fn node_size(node: &Node, cache: &mut SizeCache) -> Result<u32, Encod
 // How many bytes the child takes, where there is one.
 #[cycle(size)]
 fn child_len(node: &Node, cache: &mut SizeCache) -> Result<u64, EncodeError>
-    ensures ok { IfOk result (λ len. Measures (child_record (child_of (value_of node.now)))
+    ensures ok { IfOk result (λ len. Measures (child_record (child_of (node_value node.now)))
         cache.old cache.new len) }
     ensures err { IfErr result (λ e. e ≡ OutOfMemory) }
 {
@@ -58,7 +59,7 @@ fn child_len(node: &Node, cache: &mut SizeCache) -> Result<u64, EncodeError>
 #[cycle(size)]
 fn children_len(children: &[Node], cache: &mut SizeCache) -> Result<u64, EncodeError>
     ensures ok { IfOk result (λ len. Measures
-        (children_records (listed (map value_of children.now))) cache.old cache.new len) }
+        (children_records (listed (map node_value children.now))) cache.old cache.new len) }
     ensures err { IfErr result (λ e. e ≡ OutOfMemory) }
 {
     laws::joined_records_add_up();
@@ -72,7 +73,7 @@ fn children_len(children: &[Node], cache: &mut SizeCache) -> Result<u64, EncodeE
 // How many bytes the group takes, where there is one.
 #[cycle(size)]
 fn group_len(node: &Node, cache: &mut SizeCache) -> Result<u64, EncodeError>
-    ensures ok { IfOk result (λ len. Measures (group_record (group_of (value_of node.now)))
+    ensures ok { IfOk result (λ len. Measures (group_record (group_of (node_value node.now)))
         cache.old cache.new len) }
     ensures err { IfErr result (λ e. e ≡ OutOfMemory) }
 {
@@ -87,7 +88,7 @@ fn group_len(node: &Node, cache: &mut SizeCache) -> Result<u64, EncodeError>
 fn embedded_len(number: u32, node: &Node, cache: &mut SizeCache) -> Result<u64, EncodeError>
     requires { IsFieldNumber number }
     ensures ok { IfOk result (λ len. Measures
-        (field number (embedded (node_records (value_of node.now))) none)
+        (field number (embedded (node_records (node_value node.now))) none)
         cache.old cache.new len) }
     ensures err { IfErr result (λ e. e ≡ OutOfMemory) }
 {
@@ -104,12 +105,12 @@ pub(super) fn write_node<S: EncodeSink>(
     cache: &mut SizeCache,
     sink: &mut S,
 ) -> Result<(), EncodeError>
-    requires sizes { NextAre (sizes (node_records (value_of node.now))) cache.old }
-    requires size { size (node_records (value_of node.now)) ≤ 2147483647 }
-    ensures written { Writes S.most (text (node_records (value_of node.now)))
+    requires sizes { NextAre (sizes (node_records (node_value node.now))) cache.old }
+    requires size { text_size (node_records (node_value node.now)) ≤ 2147483647 }
+    ensures written { Writes S.most (text (node_records (node_value node.now)))
         (S.bytes_of sink.old) (S.bytes_of sink.new) result }
     ensures read { OnOk result (cache.new
-        ≡ advanced cache.old (length (sizes (node_records (value_of node.now))))) }
+        ≡ advanced cache.old (length (sizes (node_records (node_value node.now))))) }
 {
     laws::joined_records_add_up();
     laws::fields_are_plain();
@@ -128,12 +129,12 @@ fn write_child<S: EncodeSink>(
     cache: &mut SizeCache,
     sink: &mut S,
 ) -> Result<(), EncodeError>
-    requires sizes { NextAre (sizes (child_record (child_of (value_of node.now)))) cache.old }
-    requires size { size (child_record (child_of (value_of node.now))) ≤ 2147483647 }
-    ensures written { Writes S.most (text (child_record (child_of (value_of node.now))))
+    requires sizes { NextAre (sizes (child_record (child_of (node_value node.now)))) cache.old }
+    requires size { text_size (child_record (child_of (node_value node.now))) ≤ 2147483647 }
+    ensures written { Writes S.most (text (child_record (child_of (node_value node.now))))
         (S.bytes_of sink.old) (S.bytes_of sink.new) result }
     ensures read { OnOk result (cache.new
-        ≡ advanced cache.old (length (sizes (child_record (child_of (value_of node.now)))))) }
+        ≡ advanced cache.old (length (sizes (child_record (child_of (node_value node.now)))))) }
 {
     match &node.child {
         Some(child) => write_embedded(2, child, cache, sink),
@@ -148,13 +149,14 @@ fn write_children<S: EncodeSink>(
     cache: &mut SizeCache,
     sink: &mut S,
 ) -> Result<(), EncodeError>
-    requires sizes { NextAre (sizes (children_records (listed (map value_of children.now))))
+    requires sizes { NextAre (sizes (children_records (listed (map node_value children.now))))
         cache.old }
-    requires size { size (children_records (listed (map value_of children.now))) ≤ 2147483647 }
-    ensures written { Writes S.most (text (children_records (listed (map value_of children.now))))
+    requires size { text_size (children_records (listed (map node_value children.now)))
+        ≤ 2147483647 }
+    ensures written { Writes S.most (text (children_records (listed (map node_value children.now))))
         (S.bytes_of sink.old) (S.bytes_of sink.new) result }
     ensures read { OnOk result (cache.new ≡ advanced cache.old
-        (length (sizes (children_records (listed (map value_of children.now)))))) }
+        (length (sizes (children_records (listed (map node_value children.now)))))) }
 {
     laws::joined_records_add_up();
     laws::piece_by_piece();
@@ -171,12 +173,12 @@ fn write_group<S: EncodeSink>(
     cache: &mut SizeCache,
     sink: &mut S,
 ) -> Result<(), EncodeError>
-    requires sizes { NextAre (sizes (group_record (group_of (value_of node.now)))) cache.old }
-    requires size { size (group_record (group_of (value_of node.now))) ≤ 2147483647 }
-    ensures written { Writes S.most (text (group_record (group_of (value_of node.now))))
+    requires sizes { NextAre (sizes (group_record (group_of (node_value node.now)))) cache.old }
+    requires size { text_size (group_record (group_of (node_value node.now))) ≤ 2147483647 }
+    ensures written { Writes S.most (text (group_record (group_of (node_value node.now))))
         (S.bytes_of sink.old) (S.bytes_of sink.new) result }
     ensures read { OnOk result (cache.new
-        ≡ advanced cache.old (length (sizes (group_record (group_of (value_of node.now)))))) }
+        ≡ advanced cache.old (length (sizes (group_record (group_of (node_value node.now)))))) }
 {
     laws::piece_by_piece();
     match &node.group {
@@ -198,15 +200,15 @@ fn write_embedded<S: EncodeSink>(
     sink: &mut S,
 ) -> Result<(), EncodeError>
     requires number { IsFieldNumber number }
-    requires sizes { NextAre (sizes (field number (embedded (node_records (value_of node.now)))
+    requires sizes { NextAre (sizes (field number (embedded (node_records (node_value node.now)))
         none)) cache.old }
-    requires size { size (field number (embedded (node_records (value_of node.now))) none)
+    requires size { text_size (field number (embedded (node_records (node_value node.now))) none)
         ≤ 2147483647 }
     ensures written { Writes S.most
-        (text (field number (embedded (node_records (value_of node.now))) none))
+        (text (field number (embedded (node_records (node_value node.now))) none))
         (S.bytes_of sink.old) (S.bytes_of sink.new) result }
     ensures read { OnOk result (cache.new ≡ advanced cache.old
-        (length (sizes (field number (embedded (node_records (value_of node.now))) none)))) }
+        (length (sizes (field number (embedded (node_records (node_value node.now))) none)))) }
 {
     laws::piece_by_piece();
     let len = cache.consume_next();

@@ -1,21 +1,20 @@
-//! Callers of `wire_codec`: a message under limits, and one that is written and read again.
-ghost use Rattle.std.specs.Prelude.{◌≡◌, ◌≢◌, ◌≤◌, length, OnOk, IfOk, IfErr};
-ghost use Rattle.wire_codec.specs.DecodeError.TheVariants.{OutOfMemory};
+//! Callers of message types: one under limits, and one that is stored and read again.
+ghost use Rattle.std.specs.Prelude.{◌≡◌, ◌≤◌, length, OnOk, IfOk};
 ghost use Rattle.wire_codec.specs.Limits.{counted, with_elements};
 ghost use Rattle.wire_codec.specs.Taking.{Decodes};
-ghost use Rattle.wire_samples.specs.Person.{PersonTakes, default_person, value_of};
+ghost use Rattle.wire_samples.specs.Person.{PersonTakes, default_person, person_value};
 
-use crate::callers::counter::Counter;
 use std::alloc::Global;
-use wire_codec::{DecodeError, DecodeOptions, Message, laws};
-use wire_samples::Person;
+pub use wire_callers::messages::copied;
+use wire_codec::{DecodeError, DecodeOptions, Message};
+use wire_samples::{Person, laws};
 
 /// A person from an input that is not trusted: at most 4,096 bytes, and 10 fields that the type
 /// does not know.
 pub fn person_of(alloc: Global, bytes: &[u8]) -> Result<Person, DecodeError>
     ensures short { OnOk result (length bytes.now ≤ 4096) }
     ensures ok { IfOk result (λ person. Decodes PersonTakes
-        (with_elements (counted 100 10) 33554432) default_person bytes.now (value_of person)) }
+        (with_elements (counted 100 10) 33554432) default_person bytes.now (person_value person)) }
 {
     DecodeOptions::new()
         .with_max_message_size(4096)
@@ -23,17 +22,17 @@ pub fn person_of(alloc: Global, bytes: &[u8]) -> Result<Person, DecodeError>
         .decode_from_slice(alloc, bytes)
 }
 
-/// What is read from the text of a counter: the counter, where memory lasts.
-pub fn copied(alloc: Global, counter: &Counter) -> Result<Counter, DecodeError>
-    ensures same { IfOk result (λ copy. copy ≡ counter.now) }
-    ensures memory { IfErr result (λ e. ¬ (e ≢ OutOfMemory)) }
+/// The person that the bytes are, and what is read from its encoding: the same person.
+pub fn stored(alloc: Global, bytes: &[u8]) -> Result<(Person, Person), DecodeError>
+    ensures same { IfOk result (λ both. person_value both.1 ≡ person_value both.0) }
 {
-    laws::text_decodes::<Counter>();
-    laws::taken_in_one_way::<Counter>();
-    laws::records_in_order();
-    let _value = counter.value;
-    let text = counter
+    laws::decoded_persons_fold_back(bytes);
+    wire_codec::laws::text_decodes::<Person>();
+    wire_codec::laws::taken_in_one_way::<Person>();
+    let person = Person::decode_from_slice(alloc, bytes)?;
+    let encoded = person
         .try_encode_to_vec(alloc)
         .or(Err(DecodeError::OutOfMemory))?;
-    Counter::decode_from_slice(alloc, &text)
+    let again = Person::decode_from_slice(alloc, &encoded)?;
+    Ok((person, again))
 }

@@ -18,8 +18,11 @@ loop-rest-preserved g c =
     let rest = c.loop-rest.rest.now in
     let count = c.in-Ok.count in
     record {
-      written =
-          (done ++ take count rest, moves_front _ done rest count parts, Appends-trans _ _ _ _ _ appended c.in-Ok.ensures.bytes);
+      written = (
+        done ++ take count rest,
+        moves_front _ done rest count parts,
+        Appends-trans _ _ _ _ _ appended c.in-Ok.ensures.bytes,
+      );
       failures = c.write.ensures.failures ∙ after_write-taken _ _ _ c.in-Ok.is c.if-count-gt0.true
           ∙ c.loop-rest.invariant.failures;
     }

@@ -3,6 +3,7 @@ use Rattle.std.proofs.lemmas.Result.{err_from_is_err_and, IfErr-weaker, on_ok_we
 use Rattle.wire_samples.specs.FieldSteps.{AppendsInt32}
 use Rattle.wire_samples.proofs.FieldReads.{int32_appended, no_varint_field, packed_read, no_packed}
 use Rattle.wire_samples.proofs.FieldReads.{no_delimited_field, on_ok_two}
+use Rattle.wire_samples.proofs.PackedReads.{no_numbers}
 use Rattle.wire_samples.proofs.merge.merge_repeated_int32.Goals as goal
 
 pub returns-in_err-len-in-LengthDelimited-clause-err
@@ -32,9 +33,11 @@ returns-in_ok-len-in-LengthDelimited-clause-ok g c =
 pub returns-in_ok-len-in-LengthDelimited-clause-err
     : goal.returns-in_ok-len-in-LengthDelimited-clause-err
 returns-in_ok-len-in-LengthDelimited-clause-err g c =
-    IfErr-weaker c.merge_packed_int32.result _ _ (λ e none other. no_packed
+    IfErr-weaker c.merge_packed_int32.result _ _ (λ e refused other. no_packed
     c.one_delimited.ensures _ _ _ _ _ _ (sym c.wire_type.ensures ∙ c.in-LengthDelimited.is)
-    (c.in_ok-len-in-LengthDelimited).ensures.payload (none other)) c.merge_packed_int32.ensures.err
+    (c.in_ok-len-in-LengthDelimited).ensures.payload
+    (no_numbers c.no_packed_list_beside_fault.ensures _ _ e refused other))
+    c.merge_packed_int32.ensures.fault
 
 pub returns-in_ok-value-in-Varint-clause-ok : goal.returns-in_ok-value-in-Varint-clause-ok
 returns-in_ok-value-in-Varint-clause-ok g c =

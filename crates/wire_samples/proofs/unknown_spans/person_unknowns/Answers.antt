@@ -1,4 +1,4 @@
-use Rattle.wire_samples.proofs.Unknowns.{as_decoded}
+use Rattle.wire_samples.proofs.DecodedOthers.{as_decoded}
 use Rattle.wire_samples.proofs.unknown_spans.person_unknowns.Goals as goal
 
 pub returns-clause-decoded : goal.returns-clause-decoded

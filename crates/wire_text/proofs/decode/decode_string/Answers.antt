@@ -14,4 +14,5 @@ returns-in_err-payload-clause-passed g c =
 
 pub returns-clause-fault : goal.returns-clause-fault
 returns-clause-fault g c =
-    refused_text c.into_text.result _ _ _ c.in_ok-payload.ensures.ok c.into_text.ensures.err c.into_text.ensures.not_utf8
+    refused_text c.into_text.result _ _ _ c.in_ok-payload.ensures.ok
+    c.into_text.ensures.err c.into_text.ensures.not_utf8

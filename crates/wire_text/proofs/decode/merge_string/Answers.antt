@@ -10,7 +10,8 @@ returns-in_err-len-clause-fault g c =
 
 pub returns-in_err-value-clause-fault : goal.returns-in_err-value-clause-fault
 returns-in_err-value-clause-fault g c =
-    let p = err_from_is_err_and c.from_residual-in_err-value.result c.from_residual-in_err-value.ensures.1 in
+    let p = err_from_is_err_and c.from_residual-in_err-value.result
+    c.from_residual-in_err-value.ensures.1 in
     let refused = c.in_err-value.ensures in
     rw (p.1, p.2, refused.err)
     (inl (not_utf8 _ _ c.in_ok-len.ensures.payload

@@ -13,7 +13,8 @@ pub returns-then-chunk-len-clause-fault : goal.returns-then-chunk-len-clause-fau
 returns-then-chunk-len-clause-fault g c =
     let taken = c.in_ok-payload.ensures in
     let front = c.owned.ensures.bytes ∙ c.in_ok-from_vec.ensures.ok ∙ taken.ok in
-    refuses_owned g.T.FromWire.answers _ _ _ c.in_ok-len.ensures.payload c.from_wire.result _ taken.rest (rw front at c.from_wire.ensures.err)
+    refuses_owned g.T.FromWire.answers _ _ _ c.in_ok-len.ensures.payload
+    c.from_wire.result _ taken.rest (rw front at c.from_wire.ensures.err)
 
 pub returns-in_err-value-clause-fault : goal.returns-in_err-value-clause-fault
 returns-in_err-value-clause-fault g c =

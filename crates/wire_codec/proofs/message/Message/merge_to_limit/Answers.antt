@@ -23,7 +23,8 @@ loop-buf-preserved g c =
     let taken = c.in_ok-merge_field.ensures.ok in
     record {
       follows = one_more c.records_in_order.ensures g.Self.Message.takes
-          (g.met.Self.Message.single c.records_in_order.ensures.reading) (by_limit c.args.limit) _ _ _ _ _ _ _ _ _ _ _ _ _ c.loop-buf.invariant.follows
+          (g.met.Self.Message.single c.records_in_order.ensures.reading) (by_limit c.args.limit)
+          _ _ _ _ _ _ _ _ _ _ _ _ _ c.loop-buf.invariant.follows
           (omega (arith, c.remaining.ensures, c.loop-buf-test.true)) c.in_ok-tag.ensures.ok tt
           taken.taken taken.left;
       kept = c.in_ok-merge_field.ensures.kept ∙ c.in_ok-tag.ensures.kept

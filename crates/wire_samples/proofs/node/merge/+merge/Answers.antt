@@ -8,7 +8,7 @@ use Rattle.wire_codec.proofs.Lists.{no_next_tag, group_end}
 use Rattle.wire_codec.specs.Nested.{TakesEmbedded, TakesGroup}
 use Rattle.wire_codec.specs.Taking.{IsCharged}
 use Rattle.wire_samples.specs.declared.node.Node.TheViews.{out-Node, out-roll-Node}
-use Rattle.wire_samples.specs.Node.{NodeValue, IsOther, value_of, default_node, or_default, child_of, with_child, with_group}
+use Rattle.wire_samples.specs.Node.{NodeValue, IsNodeOther, node_value, default_node, or_default, child_of, with_child, with_group}
 use Rattle.wire_samples.specs.NodeSteps.{NodeTakes}
 use Rattle.wire_samples.specs.NodeSingle.{node_single}
 use Rattle.wire_samples.proofs.NodeValues.{value_set, child_set, group_set, last_set, last_is, layer}
@@ -146,7 +146,7 @@ merge_record-returns-in-1-clause-err g t c =
 
 pub merge_record-returns-in_default-clause-ok : goal.merge_record-returns-in_default-clause-ok
 merge_record-returns-in_default-clause-ok g t c =
-    let other : IsOther (tag_number c.args.tag) = record {
+    let other : IsNodeOther (tag_number c.args.tag) = record {
       value = search rules;
       child = search rules;
       children = search rules;
@@ -158,7 +158,7 @@ merge_record-returns-in_default-clause-ok g t c =
 
 pub merge_record-returns-in_default-clause-err : goal.merge_record-returns-in_default-clause-err
 merge_record-returns-in_default-clause-err g t c =
-    let other : IsOther (tag_number c.args.tag) = record {
+    let other : IsNodeOther (tag_number c.args.tag) = record {
       value = search rules;
       child = search rules;
       children = search rules;
@@ -174,8 +174,8 @@ merge_child-returns-in-Some-clause-ok g t c =
     let entered = c.in_ok-rest.ensures.ok in
     on_ok_weaker c.merge_payload.result (λ taken. child_taken _ _ _ _ _ _ _ _
     c.delimited_is_read.ensures.whole c.levels_and_counts.ensures.levels _
-    (value_of c.merge_payload.new.node) c.requires c.in_ok-check_wire_type.ensures.ok
-    (ap value_of c.deref_mut.ensures.value ∙ child_held c.args.node.now _ c.in-Some.is)
+    (node_value c.merge_payload.new.node) c.requires c.in_ok-check_wire_type.ensures.ok
+    (ap node_value c.deref_mut.ensures.value ∙ child_held c.args.node.now _ c.in-Some.is)
     (child_set c.args.node.now _ c.merge_payload.new.node refl)
     (charged_within c.delimited_is_read.ensures c.levels_and_counts.ensures.levels
     _ _ _ _ _ _ _ _ _ entered taken)) c.merge_payload.ensures.ok
@@ -184,7 +184,7 @@ pub merge_child-returns-in-Some-clause-err : goal.merge_child-returns-in-Some-cl
 merge_child-returns-in-Some-clause-err g t c =
     IfErr-weaker c.merge_payload.result _ _ (λ e none other. no_child _ _ _ _ _
     c.delimited_is_read.ensures.whole c.levels_and_counts.ensures.levels _ c.requires
-    (ap value_of c.deref_mut.ensures.value ∙ child_held c.args.node.now _ c.in-Some.is)
+    (ap node_value c.deref_mut.ensures.value ∙ child_held c.args.node.now _ c.in-Some.is)
     (not_within c.delimited_is_read.ensures _ _ _ _ _ _ c.in_ok-rest.ensures.ok (none other)))
     c.merge_payload.ensures.err
 
@@ -204,7 +204,7 @@ pub merge_child-returns-in_ok-merge_payload-in-None-clause-ok :
 merge_child-returns-in_ok-merge_payload-in-None-clause-ok g t c =
     let merge = c.merge_payload-in-None in
     let inside : IsCharged c.args.context.now merge.new.context (λ c'. TakesEmbedded NodeTakes
-    c.args.context.now default_node (g.B.Buf.unread c.args.buf.now) c' (value_of merge.new.node)
+    c.args.context.now default_node (g.B.Buf.unread c.args.buf.now) c' (node_value merge.new.node)
     (g.B.Buf.unread merge.new.buf)) =
     charged_within c.delimited_is_read.ensures c.levels_and_counts.ensures.levels
     _ _ _ _ _ _ _ _ _ c.in_ok-rest.ensures.ok
@@ -212,7 +212,7 @@ merge_child-returns-in_ok-merge_payload-in-None-clause-ok g t c =
     on_ok_weaker c.hold.result (λ held_there. child_taken _ _ _ _ _ _ _ _
     c.delimited_is_read.ensures.whole c.levels_and_counts.ensures.levels _ _ c.requires
     c.in_ok-check_wire_type.ensures.ok (no_child_held c.args.node.now c.in-None.is)
-    (child_set _ _ _ held_there ∙ ap (λ (m : NodeValue). with_child m (value_of merge.new.node))
+    (child_set _ _ _ held_there ∙ ap (λ (m : NodeValue). with_child m (node_value merge.new.node))
     (same_node c.args.node.now)) inside) c.hold.ensures.ok
 
 pub merge_child-returns-in_err-rest-clause-err : goal.merge_child-returns-in_err-rest-clause-err
@@ -220,7 +220,7 @@ merge_child-returns-in_err-rest-clause-err g t c =
     let p = err_from_is_err_and c.from_residual-in_err-rest.result
     c.from_residual-in_err-rest.ensures.1 in
     rw (p.1, p.2) (λ other. no_child _ _ _ _ _ c.delimited_is_read.ensures.whole
-    c.levels_and_counts.ensures.levels (or_default (child_of (value_of c.args.node.now)))
+    c.levels_and_counts.ensures.levels (or_default (child_of (node_value c.args.node.now)))
     c.requires refl (c.in_err-rest.ensures.err _))
 
 -- ---- the children
@@ -247,19 +247,19 @@ merge_another-index_mut-requires g t c =
 pub merge_another-returns-clause-ok : goal.merge_another-returns-clause-ok
 merge_another-returns-clause-ok g t c =
     let merge = c.merge_payload in
-    let fresh : default_node ≡ value_of c.index_mut.result.now =
-    sym (ap value_of (c.index_mut.ensures.value ∙ last_is c.args.node.now _ _ _ _
+    let fresh : default_node ≡ node_value c.index_mut.result.now =
+    sym (ap node_value (c.index_mut.ensures.value ∙ last_is c.args.node.now _ _ _ _
     (c.len-index.ensures ∙ (out-Node c.args.node.now).children.ok.0) c.in_ok-push.ensures.ok)
     ∙ c.empty.ensures) in
     on_ok_weaker merge.result (λ taken.
     let inside : IsCharged c.register_element_memory.new.self merge.new.context (λ c'.
     TakesEmbedded NodeTakes c.register_element_memory.new.self default_node
-    (g.B.Buf.unread c.args.buf.now) c' (value_of merge.new.node) (g.B.Buf.unread merge.new.buf)) =
+    (g.B.Buf.unread c.args.buf.now) c' (node_value merge.new.node) (g.B.Buf.unread merge.new.buf)) =
     rw fresh (charged_within c.delimited_is_read.ensures c.levels_and_counts.ensures.levels
     _ _ _ _ _ _ _ _ _ c.in_ok-rest.ensures.ok taken) in
     another_taken _ _ _ _ _ _ _ _
     c.delimited_is_read.ensures.whole c.limits_add_up.ensures c.levels_and_counts.ensures.levels
-    _ (value_of merge.new.node) c.requires c.in_ok-check_wire_type.ensures.ok
+    _ (node_value merge.new.node) c.requires c.in_ok-check_wire_type.ensures.ok
     c.in_ok-register_element_memory.ensures.taken c.in_ok-register_element_memory.ensures.ok
     (last_set c.args.node.now _ _ _ _
     (c.len-index.ensures ∙ (out-Node c.args.node.now).children.ok.0) c.in_ok-push.ensures.ok)
@@ -267,8 +267,8 @@ merge_another-returns-clause-ok g t c =
 
 pub merge_another-returns-clause-err : goal.merge_another-returns-clause-err
 merge_another-returns-clause-err g t c =
-    let fresh : default_node ≡ value_of c.index_mut.result.now =
-    sym (ap value_of (c.index_mut.ensures.value ∙ last_is c.args.node.now _ _ _ _
+    let fresh : default_node ≡ node_value c.index_mut.result.now =
+    sym (ap node_value (c.index_mut.ensures.value ∙ last_is c.args.node.now _ _ _ _
     (c.len-index.ensures ∙ (out-Node c.args.node.now).children.ok.0) c.in_ok-push.ensures.ok)
     ∙ c.empty.ensures) in
     IfErr-weaker c.merge_payload.result _ _ (λ e none other. no_another _ _ _ _ _
@@ -283,8 +283,8 @@ pub merge_grouped-returns-in-Some-clause-ok : goal.merge_grouped-returns-in-Some
 merge_grouped-returns-in-Some-clause-ok g t c =
     on_ok_weaker c.merge_group.result (group_taken _ _ _ _ _ _ _ _
     c.group_is_list.ensures c.levels_and_counts.ensures.levels _
-    (value_of c.merge_group.new.node) c.requires c.in_ok-check_wire_type.ensures.ok
-    (ap value_of c.deref_mut.ensures.value ∙ group_held c.args.node.now _ c.in-Some.is)
+    (node_value c.merge_group.new.node) c.requires c.in_ok-check_wire_type.ensures.ok
+    (ap node_value c.deref_mut.ensures.value ∙ group_held c.args.node.now _ c.in-Some.is)
     (group_set c.args.node.now _ c.merge_group.new.node refl))
     (rw (c.requires) c.merge_group.ensures.ok)
 
@@ -292,7 +292,7 @@ pub merge_grouped-returns-in-Some-clause-err : goal.merge_grouped-returns-in-Som
 merge_grouped-returns-in-Some-clause-err g t c =
     IfErr-weaker c.merge_group.result _ _ (λ e none other. no_group _ _ _ _ _
     c.group_is_list.ensures c.levels_and_counts.ensures.levels _ c.requires
-    (ap value_of c.deref_mut.ensures.value ∙ group_held c.args.node.now _ c.in-Some.is)
+    (ap node_value c.deref_mut.ensures.value ∙ group_held c.args.node.now _ c.in-Some.is)
     (rw (c.requires) (none other))) c.merge_group.ensures.err
 
 pub merge_grouped-returns-in_err-merge_group-in-None-clause-err :
@@ -311,10 +311,10 @@ merge_grouped-returns-in_ok-merge_group-in-None-clause-ok g t c =
     let merge = c.merge_group-in-None in
     let inside : IsCharged c.args.context.now merge.new.context (λ c'. TakesGroup NodeTakes
     c.args.context.now (tag_number c.args.tag) default_node (g.B.Buf.unread c.args.buf.now) c'
-    (value_of merge.new.node) (g.B.Buf.unread merge.new.buf)) =
+    (node_value merge.new.node) (g.B.Buf.unread merge.new.buf)) =
     rw (sym c.empty-group.ensures, c.requires) (c.in_ok-merge_group-in-None).ensures.ok in
     on_ok_weaker c.hold.result (λ held_there. group_taken _ _ _ _ _ _ _ _
     c.group_is_list.ensures c.levels_and_counts.ensures.levels _ _ c.requires
     c.in_ok-check_wire_type.ensures.ok (no_group_held c.args.node.now c.in-None.is)
-    (group_set _ _ _ held_there ∙ ap (λ (m : NodeValue). with_group m (value_of merge.new.node))
+    (group_set _ _ _ held_there ∙ ap (λ (m : NodeValue). with_group m (node_value merge.new.node))
     (same_node c.args.node.now)) inside) c.hold.ensures.ok

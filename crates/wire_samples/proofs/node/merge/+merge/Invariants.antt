@@ -2,7 +2,7 @@ use Rattle.std.proofs.Common.{◌≡◌, ◌+◌, ◌*◌, length}
 use Rattle.wire_codec.specs.Ending.{by_limit, by_tag}
 use Rattle.wire_codec.specs.Limits.{inner}
 use Rattle.wire_codec.proofs.Lists.{Follows}
-use Rattle.wire_samples.specs.Node.{value_of}
+use Rattle.wire_samples.specs.Node.{node_value}
 use Rattle.wire_samples.specs.NodeSteps.{NodeTakes}
 use Rattle.wire_samples.proofs.node.merge.+merge.Given as goal
 
@@ -30,8 +30,8 @@ decreases-merge_payload g l = 4 * l.context.now.depth + 3
 
 abbrev pub invariant-merge_payload-loop-alloc : goal.invariant-merge_payload-loop-alloc
 invariant-merge_payload-loop-alloc g l = record {
-  follows : Follows NodeTakes (by_limit l.fn.rest) l.fn.context (value_of l.fn.node)
-      (g.B.Buf.unread l.fn.buf) l.context (value_of l.node) (g.B.Buf.unread l.buf);
+  follows : Follows NodeTakes (by_limit l.fn.rest) l.fn.context (node_value l.fn.node)
+      (g.B.Buf.unread l.fn.buf) l.context (node_value l.node) (g.B.Buf.unread l.buf);
   kept : g.B.Buf.kept l.buf ≡ g.B.Buf.kept l.fn.buf;
 }
 
@@ -40,8 +40,8 @@ decreases-merge_payload-loop-alloc g l = length (g.B.Buf.unread l.buf)
 
 abbrev pub invariant-merge_group-loop-tag : goal.invariant-merge_group-loop-tag
 invariant-merge_group-loop-tag g l = record {
-  follows : Follows NodeTakes (by_tag l.fn.number) (inner l.fn.context) (value_of l.fn.node)
-      (g.B.Buf.unread l.fn.buf) l.context (value_of l.node) (g.B.Buf.unread l.buf);
+  follows : Follows NodeTakes (by_tag l.fn.number) (inner l.fn.context) (node_value l.fn.node)
+      (g.B.Buf.unread l.fn.buf) l.context (node_value l.node) (g.B.Buf.unread l.buf);
   kept : g.B.Buf.kept l.buf ≡ g.B.Buf.kept l.fn.buf;
 }
 

@@ -2,7 +2,7 @@ use Rattle.std.proofs.Common.{refl, ◌∙◌, rules, SFits, to_z-of_z, w64, ari
 use Rattle.std.proofs.lemmas.Result.{err_from_is_err_and, on_ok_weaker}
 use Rattle.wire_samples.specs.declared.node.Node.{out-Node}
 use Rattle.wire_samples.specs.declared.node.Node.TheViews.{the_lemmas}
-use Rattle.wire_samples.specs.Node.{value_of, node_records}
+use Rattle.wire_samples.specs.Node.{node_value, node_records}
 use Rattle.wire_samples.proofs.Nodes.{value_put, child_put, children_put, group_put}
 use Rattle.wire_samples.proofs.Nodes.{group_text, child_parts, children_parts, group_parts}
 use Rattle.wire_samples.proofs.Nodes.{records_of, next_child, unknown_text}
@@ -30,7 +30,7 @@ pub write_embedded-returns-in_err-put_len_delimited_header-clause-written :
     goal.write_embedded-returns-in_err-put_len_delimited_header-clause-written
 write_embedded-returns-in_err-put_len_delimited_header-clause-written g t c =
     let p = err_from_is_err_and c.from_residual.result c.from_residual.ensures.1 in
-    let rs = node_records (value_of c.args.node.now) in
+    let rs = node_records (node_value c.args.node.now) in
     let len = c.from.ensures ∙ read_size c.args.number _ rs c.args.cache.now
     c.consume_next-len.new.self c.requires.sizes c.consume_next-len.ensures.next in
     let pieces = c.piece_by_piece.ensures in
@@ -39,14 +39,14 @@ write_embedded-returns-in_err-put_len_delimited_header-clause-written g t c =
 
 pub write_embedded-write_node-requires : goal.write_embedded-write_node-requires
 write_embedded-write_node-requires g t c κs within =
-    let rs = node_records (value_of c.args.node.now) in
+    let rs = node_records (node_value c.args.node.now) in
     let next = inner_next c.args.number _ rs c.args.cache.now c.consume_next-len.new.self
     c.requires.sizes c.consume_next-len.ensures.next in
     (omega arith, (search rules, (next, inner_small c.args.number rs c.requires.size)))
 
 pub write_embedded-returns-clause-written : goal.write_embedded-returns-clause-written
 write_embedded-returns-clause-written g t c =
-    let rs = node_records (value_of c.args.node.now) in
+    let rs = node_records (node_value c.args.node.now) in
     let len = c.from.ensures ∙ read_size c.args.number _ rs c.args.cache.now
     c.consume_next-len.new.self c.requires.sizes c.consume_next-len.ensures.next in
     let pieces = c.piece_by_piece.ensures in
@@ -94,7 +94,7 @@ write_node-returns-in_err-put_sint64-clause-written g t c =
     let n = c.args.node.now in
     let fits : SFits w64 (out-Node n).value = search rules in
     rw (p.1, p.2) (put.refused c.joined_records_add_up.ensures _ _ _ _ _ _ _ _ _
-    (put.start pieces _ (node_records (value_of n)) _ _ c.requires.sizes c.requires.size)
+    (put.start pieces _ (node_records (node_value n)) _ _ c.requires.sizes c.requires.size)
     (records_of n _ (to_z-of_z fits)) pieces _ _ c.in_err-put_sint64.ensures)
 
 pub write_node-write_child-requires : goal.write_node-write_child-requires

@@ -3,7 +3,7 @@ use Rattle.std.proofs.lemmas.Result.{err_from_is_err_and}
 use Rattle.wire_samples.proofs.RepeatSteps.{no_number, other_number, count_taken, mark_taken}
 use Rattle.wire_samples.proofs.repeat.RepeatMessage.merge_field.Goals as goal
 use Rattle.wire_samples.proofs.repeat.RepeatMessage.merge_field.Goals.{in-1-eq0, in-2-eq128}
-use Rattle.wire_samples.proofs.repeat.RepeatMessage.merge_field.Goals.{in_default-via-in-1-eq0+else-self-lt18446744073709551615, in_default-via-in-1+in_default, in_default-via-in-2+in_default, in_default-via-in_default}
+use Rattle.wire_samples.proofs.repeat.RepeatMessage.merge_field.Goals.{in_default-via-in-1+in_default, in_default-via-in-2+in_default, in_default-via-in_default}
 
 pub returns-in_err-decode_varint-clause-err : goal.returns-in_err-decode_varint-clause-err
 returns-in_err-decode_varint-clause-err g c =
@@ -17,14 +17,12 @@ returns-in_default-clause-err g c = λ other.
     c.in_ok-decode_varint.ensures.ok
     (λ one zero room. let number = c.field_number.ensures.number in
     elim c.in_default.branch [
-      | in_default-via-in-1-eq0+else-self-lt18446744073709551615 w ↦ search rules
       | in_default-via-in-1+in_default w ↦ search rules
       | in_default-via-in-2+in_default w ↦ search rules
       | in_default-via-in_default w ↦ search rules
     ])
     (λ two mark. let number = c.field_number.ensures.number in
     elim c.in_default.branch [
-      | in_default-via-in-1-eq0+else-self-lt18446744073709551615 w ↦ search rules
       | in_default-via-in-1+in_default w ↦ search rules
       | in_default-via-in-2+in_default w ↦ search rules
       | in_default-via-in_default w ↦ search rules
