@@ -6,7 +6,7 @@ use crate::counter::Counter;
 use std::alloc::Global;
 use wire_codec::{DecodeError, Message, laws};
 
-/// What is read from the text of a counter: the counter, where memory lasts.
+/// What is read from the encoding of a counter: the counter, where memory lasts.
 pub fn copied(alloc: Global, counter: &Counter) -> Result<Counter, DecodeError>
     ensures same { IfOk result (λ copy. copy ≡ counter.now) }
     ensures memory { IfErr result (λ e. ¬ (e ≢ OutOfMemory)) }

@@ -30,7 +30,7 @@ pub fn sizes_fit()
     ensures next { MeasuredAreNext }
 {}
 
-/// The text and the sizes of records one behind another are theirs, one behind another.
+/// The encoding and the sizes of records one behind another are theirs, one behind another.
 pub fn joined_records_add_up()
     ensures { JoinedAddsUp }
 {}
@@ -60,7 +60,7 @@ pub fn flat_messages_have_no_sizes()
     ensures { FlatKeepsTheTape }
 {}
 
-/// A text may be written piece by piece.
+/// An encoding may be written piece by piece.
 pub fn piece_by_piece()
     ensures { PieceByPiece }
 {
@@ -151,7 +151,7 @@ pub fn limit_is_the_lesser<M: Message>()
 {}
 
 /// A value whose records have numbers and lengths in range, fold back to it, and fit, is what its
-/// text decodes to.
+/// encoding decodes to.
 pub fn text_decodes<M: Message>()
     ensures { TextDecodes M.takes M.records M.default }
 {

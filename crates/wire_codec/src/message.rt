@@ -52,16 +52,16 @@ pub trait Message: Clone + PartialEq + Drop {
         ensures { view result ≡ default };
 
     /// Records the sizes of the embedded messages, an outer one before its inner ones, and answers
-    /// the size of the text in bytes. Each is cut at `u32::MAX`. Refused where memory runs out.
+    /// the size of the encoding in bytes. Each is cut at `u32::MAX`. Refused where memory runs out.
     fn compute_size(&self, cache: &mut SizeCache) -> Result<u32, EncodeError>
         ensures size { IfOk result (λ answer. answer ≡ cut (text_size (records (view self.now)))) }
         ensures sizes { OnOk result (cache.new
             ≡ recorded cache.old (cut_sizes (records (view self.now)))) }
         ensures err { IfErr result (λ e. e ≡ OutOfMemory) };
 
-    /// Writes the shortest text of the records, of at most 2,147,483,647 bytes, with the sizes that
-    /// the cache has next, which are those that `compute_size` recorded, as the conditions ask.
-    /// Refused where the sink refuses a put.
+    /// Writes the shortest encoding of the records, of at most 2,147,483,647 bytes, with the sizes
+    /// that the cache has next, which are those that `compute_size` recorded, as the conditions
+    /// ask. Refused where the sink refuses a put.
     fn write_to<S: EncodeSink>(
         &self,
         cache: &mut SizeCache,
@@ -100,7 +100,7 @@ pub trait Message: Clone + PartialEq + Drop {
     fn clear(&mut self)
         ensures { view self.new ≡ default };
 
-    /// Writes the text with a cache of its own. The size is at most 2,147,483,647 bytes, as the
+    /// Writes the encoding with a cache of its own. The size is at most 2,147,483,647 bytes, as the
     /// condition asks. Refused where memory runs out or the sink refuses a put. See "Encoded Proto
     /// Size Limitations" of the encoding document.
     fn encode<S: EncodeSink>(&self, alloc: Global, sink: &mut S) -> Result<(), EncodeError>
@@ -111,7 +111,7 @@ pub trait Message: Clone + PartialEq + Drop {
         self.encode_with_cache(&mut SizeCache::new(alloc), sink)
     }
 
-    /// Writes the text as `encode` does, with this cache, whose sizes are cleared first.
+    /// Writes the encoding as `encode` does, with this cache, whose sizes are cleared first.
     fn encode_with_cache<S: EncodeSink>(
         &self,
         cache: &mut SizeCache,
@@ -127,8 +127,8 @@ pub trait Message: Clone + PartialEq + Drop {
         self.write_to(cache, sink)
     }
 
-    /// The size of the text in bytes, at most 2,147,483,647, as the condition asks. Refused where
-    /// memory runs out.
+    /// The size of the encoding in bytes, at most 2,147,483,647, as the condition asks. Refused
+    /// where memory runs out.
     fn encoded_len(&self, alloc: Global) -> Result<u32, EncodeError>
         requires { text_size (records (view self.now)) ≤ 2147483647 }
         ensures ok { IfOk result (λ len. len ≡ text_size (records (view self.now))) }
@@ -137,8 +137,8 @@ pub trait Message: Clone + PartialEq + Drop {
         self.compute_size(&mut SizeCache::new(alloc))
     }
 
-    /// Writes the text as `encode` does, or answers `MessageTooLarge`, before anything is written,
-    /// where it has more than 2,147,483,647 bytes and memory lasts to measure it.
+    /// Writes the encoding as `encode` does, or answers `MessageTooLarge`, before anything is
+    /// written, where it has more than 2,147,483,647 bytes and memory lasts to measure it.
     fn try_encode<S: EncodeSink>(&self, alloc: Global, sink: &mut S) -> Result<(), EncodeError>
         ensures { TriesToWrite (text_size (records (view self.now))) S.most
             (text (records (view self.now))) (S.bytes_of sink.old)
@@ -147,7 +147,7 @@ pub trait Message: Clone + PartialEq + Drop {
         self.try_encode_with_cache(&mut SizeCache::new(alloc), sink)
     }
 
-    /// Writes the text as `try_encode` does, with this cache, whose sizes are cleared first.
+    /// Writes the encoding as `try_encode` does, with this cache, whose sizes are cleared first.
     fn try_encode_with_cache<S: EncodeSink>(
         &self,
         cache: &mut SizeCache,
@@ -163,7 +163,7 @@ pub trait Message: Clone + PartialEq + Drop {
         self.write_to(cache, sink)
     }
 
-    /// The size of the text in bytes. Refused where memory runs out, and else with
+    /// The size of the encoding in bytes. Refused where memory runs out, and else with
     /// `MessageTooLarge` where it is above 2,147,483,647.
     fn try_encoded_len(&self, alloc: Global) -> Result<u32, EncodeError>
         ensures { TriesToAnswer result (text_size (records (view self.now)))
@@ -172,9 +172,9 @@ pub trait Message: Clone + PartialEq + Drop {
         checked_encode_size(self.compute_size(&mut SizeCache::new(alloc))?)
     }
 
-    /// Writes the size of the text as a varint, and the text, of at most 2,147,483,647 bytes, as
-    /// the condition asks. Refused as `encode`. See "Length-Delimited Records" of the encoding
-    /// document.
+    /// Writes the size of the encoding as a varint, and the encoding, of at most 2,147,483,647
+    /// bytes, as the condition asks. Refused as `encode`. See "Length-Delimited Records" of the
+    /// encoding document.
     fn encode_length_delimited<S: EncodeSink>(
         &self,
         alloc: Global,
@@ -191,7 +191,7 @@ pub trait Message: Clone + PartialEq + Drop {
         self.write_to(&mut cache, sink)
     }
 
-    /// Writes the size of the text as a varint, and the text. Refused as `try_encode`.
+    /// Writes the size of the encoding as a varint, and the encoding. Refused as `try_encode`.
     fn try_encode_length_delimited<S: EncodeSink>(
         &self,
         alloc: Global,
@@ -209,8 +209,8 @@ pub trait Message: Clone + PartialEq + Drop {
         self.write_to(&mut cache, sink)
     }
 
-    /// The text in a vector of just its length, at most 2,147,483,647 bytes, as the condition asks.
-    /// Refused where memory runs out.
+    /// The encoding in a vector of just its length, at most 2,147,483,647 bytes, as the condition
+    /// asks. Refused where memory runs out.
     fn encode_to_vec(&self, alloc: Global) -> Result<Vec<u8>, EncodeError>
         requires { text_size (records (view self.now)) ≤ 2147483647 }
         ensures ok { IfOk result (λ bytes. bytes.items ≡ text (records (view self.now))) }
@@ -223,8 +223,9 @@ pub trait Message: Clone + PartialEq + Drop {
         Ok(bytes)
     }
 
-    /// The text in a vector of just its length. Refused where memory runs out, which comes first
-    /// while it is measured, and with `MessageTooLarge` where it has more than 2,147,483,647 bytes.
+    /// The encoding in a vector of just its length. Refused where memory runs out, which comes
+    /// first while it is measured, and with `MessageTooLarge` where it has more than 2,147,483,647
+    /// bytes.
     fn try_encode_to_vec(&self, alloc: Global) -> Result<Vec<u8>, EncodeError>
         ensures { TriesToAnswer result (text_size (records (view self.now)))
             (λ bytes. bytes.items ≡ text (records (view self.now))) }
@@ -236,7 +237,7 @@ pub trait Message: Clone + PartialEq + Drop {
         Ok(bytes)
     }
 
-    /// The text as shared bytes, at most 2,147,483,647, as the condition asks. Refused as
+    /// The encoding as shared bytes, at most 2,147,483,647, as the condition asks. Refused as
     /// `encode_to_vec`.
     fn encode_to_bytes(&self, alloc: Global) -> Result<Bytes, EncodeError>
         requires { text_size (records (view self.now)) ≤ 2147483647 }
@@ -246,7 +247,7 @@ pub trait Message: Clone + PartialEq + Drop {
         Ok(Bytes::from_vec(self.encode_to_vec(alloc)?)?)
     }
 
-    /// The text as shared bytes. Refused as `try_encode_to_vec`.
+    /// The encoding as shared bytes. Refused as `try_encode_to_vec`.
     fn try_encode_to_bytes(&self, alloc: Global) -> Result<Bytes, EncodeError>
         ensures { TriesToAnswer result (text_size (records (view self.now)))
             (λ bytes. bytes ≡ text (records (view self.now))) }
@@ -254,8 +255,8 @@ pub trait Message: Clone + PartialEq + Drop {
         Ok(Bytes::from_vec(self.try_encode_to_vec(alloc)?)?)
     }
 
-    /// Writes the text where it has at most `max_bytes` bytes, and answers its size in bytes. More
-    /// than 2,147,483,647 are `MessageTooLarge`, and else more than `max_bytes` are
+    /// Writes the encoding where it has at most `max_bytes` bytes, and answers its size in bytes.
+    /// More than 2,147,483,647 are `MessageTooLarge`, and else more than `max_bytes` are
     /// `ExceedsBudget`, before anything is written. Refused else as `encode`; memory that runs out
     /// while it is measured comes first.
     fn try_encode_bounded<S: EncodeSink>(
@@ -270,7 +271,7 @@ pub trait Message: Clone + PartialEq + Drop {
         self.try_encode_bounded_with_cache(max_bytes, &mut SizeCache::new(alloc), sink)
     }
 
-    /// Writes the text as `try_encode_bounded` does, with this cache, whose sizes are cleared
+    /// Writes the encoding as `try_encode_bounded` does, with this cache, whose sizes are cleared
     /// first.
     fn try_encode_bounded_with_cache<S: EncodeSink>(
         &self,

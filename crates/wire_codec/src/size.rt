@@ -5,9 +5,9 @@ ghost use Rattle.wire_codec.specs.Sizes.{cut};
 
 use wire_base::EncodeError;
 
-/// The most bytes that a message's text may have where it is written or stands behind a length: 2
-/// GiB less one, so that a length fits a signed 32-bit number. See "Encoded Proto Size Limitations"
-/// of the encoding document.
+/// The most bytes that a message's encoding may have where it is written or stands behind a length:
+/// 2 GiB less one, so that a length fits a signed 32-bit number. See "Encoded Proto Size
+/// Limitations" of the encoding document.
 pub const MAX_MESSAGE_BYTES: u32 = 2_147_483_647;
 
 /// The size, or `u32::MAX` where it is more.

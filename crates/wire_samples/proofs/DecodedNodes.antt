@@ -86,7 +86,8 @@ mutual
   records_bytes (field n p others) t all (behind, rest, tag, payload, more) =
       let after_tag = read_bytes _ t behind tag all in
       let after = read_bytes (SpellsPayload n p) behind rest payload after_tag.1 in
-      (payload_bytes p n payload.text after.0 payload.spelled, records_bytes others rest after.1 more)
+      let here = payload_bytes p n payload.text after.0 payload.spelled in
+      (here, records_bytes others rest after.1 more)
 
 -- a record, and records, whose numbers, lengths and bytes are in range
 record IsSound (n : ℕ) (p : Payload) : Type 0 where

@@ -10,7 +10,7 @@ use Rattle.wire_codec.specs.Varint.{shortest_varint}
 use Rattle.wire_codec.specs.WireType.TheVariants.{LengthDelimited}
 use Rattle.wire_codec.specs.Records.{text, text_size}
 use Rattle.wire_codec.specs.Sizes.{sizes}
-use Rattle.wire_samples.specs.FieldRecords.{int32_field, sint64_field, bytes_field, packed_int32}
+use Rattle.wire_samples.specs.FieldRecords.{sint64_field, bytes_field, packed_int32}
 use Rattle.wire_samples.specs.FieldRecords.{packed_int32_field, in_64_bits}
 
 -- z is the number at i, as the code reads it
@@ -64,23 +64,10 @@ counted_all values i len all fits is = omega (arith, ap length (no_number values
 
 -- ---- sizes
 
-pub sizes-int32_field : (n : ℕ) (v : ℤ) → sizes (int32_field n v) ≡ []
-sizes-int32_field n (pos zero) = refl
-sizes-int32_field n (pos (suc k)) = refl
-sizes-int32_field n (negsuc k) = refl
-
 pub sizes-sint64_field : (n : ℕ) (v : ℤ) → sizes (sint64_field n v) ≡ []
 sizes-sint64_field n (pos zero) = refl
 sizes-sint64_field n (pos (suc k)) = refl
 sizes-sint64_field n (negsuc k) = refl
-
-pub sizes-bytes_field : (n : ℕ) (b : List ℕ) → sizes (bytes_field n b) ≡ []
-sizes-bytes_field n [] = refl
-sizes-bytes_field n (x ∷ xs) = refl
-
-pub sizes-packed_int32_field : (n : ℕ) (values : List ℤ) → sizes (packed_int32_field n values) ≡ []
-sizes-packed_int32_field n [] = refl
-sizes-packed_int32_field n (v ∷ vs) = refl
 
 -- a payload is no longer than its field
 pub packed-within_field : (n : ℕ) (values : List ℤ)

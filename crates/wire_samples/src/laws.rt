@@ -38,8 +38,8 @@ pub fn repeat_is_as_its_table()
         ⟦<Repeat as Message>⟧.records repeat_records }
 {}
 
-/// The records of a `Person` fold back to it, where its size is one that a message may have
-/// and it is as `persons_stay_in_range` says, and are charged for its unknown fields. With
+/// The records of a `Person` fold back to it, where its size is one that a message may have and it
+/// is as `persons_stay_in_range` says, and are charged for its unknown fields. With
 /// `laws::text_decodes` of `wire_codec`, what is written of it decodes to it.
 pub fn persons_fold_back()
     ensures { PersonsFoldBack ⟦<Person as Message>⟧.takes ⟦<Person as Message>⟧.records
@@ -73,9 +73,9 @@ pub fn decoded_persons_fold_back(bytes: &[u8])
 }
 
 /// The records of a `Node` fold back to it, where its size is one that a message may have and it is
-/// as `nodes_stay_in_range` says. They are charged for what it holds, one level down,
-/// for 64 bytes for each of its children, and for its unknown fields. With `laws::text_decodes` of
-/// `wire_codec`, what is written of it decodes to it.
+/// as `nodes_stay_in_range` says. They are charged for what it holds, one level down, for 64 bytes
+/// for each of its children, and for its unknown fields. With `laws::text_decodes` of `wire_codec`,
+/// what is written of it decodes to it.
 pub fn nodes_fold_back()
     ensures { NodesFoldBack ⟦<Node as Message>⟧.takes ⟦<Node as Message>⟧.records
         ⟦<Node as Message>⟧.default }

@@ -12,9 +12,9 @@ ghost use Rattle.wire_samples.specs.PersonUnknowns.{HasOthers, OthersAre, is_kno
 use std::alloc::Global;
 use wire_codec::{DecodeContext, DecodeError, Tag, UnknownFieldsView, laws, skip_field_depth};
 
-/// The records of a person's text that `Person` does not know, each as a span with its tag. Those
-/// that it knows are passed over, whatever they hold. Groups nest at most as deep as the context
-/// has levels, which it keeps, and the kept records take their slots from it.
+/// The records of a person's encoding that `Person` does not know, each as a span with its tag.
+/// Those that it knows are passed over, whatever they hold. Groups nest at most as deep as the
+/// context has levels, which it keeps, and the kept records take their slots from it.
 ///
 /// Refused at the first record that cannot be read: with the fault of its tag, then that of its
 /// payload as `skip_field_depth` names it, then with `UnknownFieldLimitExceeded` where a record

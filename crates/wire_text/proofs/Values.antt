@@ -7,14 +7,10 @@ use Rattle.wire_base.specs.declared.error.DecodeError.{DecodeError}
 use Rattle.wire_base.specs.declared.error.DecodeError.TheVariants.{OutOfMemory}
 use Rattle.wire_base.specs.Delimited.{IsDelimited}
 use Rattle.wire_base.specs.Read.{Reads}
-use Rattle.wire_text.specs.FromWire.{Answer, TakesValue, ValueRefusal, AfterRefusal, refused}
+use Rattle.wire_text.specs.FromWire.{Answer, ValueRefusal, AfterRefusal, refused}
 
 module _ (answers : List ℕ → Answer
     → Type 0) (old payload rest : List ℕ) (h : Reads old (IsDelimited payload) rest) where
-  pub takes_value : (value new : List ℕ) → new ≡ rest → answers payload (Ok value)
-      → TakesValue answers value old new
-  takes_value value new same taken = record { payload = payload; read = rw same h; taken = taken }
-
   -- the type refused it, or had no memory for it
   pub refuses_value : (e : DecodeError) (new : List ℕ) → AfterRefusal payload rest new
       → (e ≡ OutOfMemory) ⊎ answers payload (Err e) → ValueRefusal answers old new e

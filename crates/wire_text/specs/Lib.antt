@@ -1,5 +1,5 @@
--- The definitions that the contracts of this crate cite from below, for crates
--- that stand on it alone.
+-- The definitions that the contracts of this crate cite from below, for crates that stand on it
+-- alone.
 pub use Rattle.wire_base.specs.Delimited
 pub use Rattle.wire_base.specs.Field
 pub use Rattle.wire_base.specs.FieldNumber

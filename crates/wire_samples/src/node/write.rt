@@ -1,4 +1,4 @@
-//! A node to bytes: its sizes first, and then its text.
+//! A node to bytes: its sizes first, and then its encoding.
 ghost use Rattle.std.specs.Prelude.{◌≡◌, ◌≤◌, map, length, OnOk, IfOk, IfErr};
 ghost use Rattle.wire_codec.specs.EncodeError.TheVariants.{OutOfMemory};
 ghost use Rattle.wire_codec.specs.FieldNumber.{IsFieldNumber};
@@ -20,7 +20,7 @@ use wire_codec::{
 // How many bytes the two tags of a group take.
 const GROUP_TAGS_LEN: u64 = 2;
 
-/// Records the sizes of the embedded messages, and answers the size of the text.
+/// Records the sizes of the embedded messages, and answers the size of the encoding.
 #[cycle(size)]
 pub(super) fn node_size(node: &Node, cache: &mut SizeCache) -> Result<u32, EncodeError>
     ensures size { IfOk result (λ answer. answer
@@ -98,7 +98,7 @@ fn embedded_len(number: u32, node: &Node, cache: &mut SizeCache) -> Result<u64, 
     Ok(delimited_len(number, u64::from(len)))
 }
 
-/// Writes the text with the sizes that the cache has next.
+/// Writes the encoding with the sizes that the cache has next.
 #[cycle(write)]
 pub(super) fn write_node<S: EncodeSink>(
     node: &Node,
@@ -191,7 +191,7 @@ fn write_group<S: EncodeSink>(
     }
 }
 
-// Writes an embedded message: its size, which the cache has next, and its text.
+// Writes an embedded message: its size, which the cache has next, and its encoding.
 #[cycle(write)]
 fn write_embedded<S: EncodeSink>(
     number: u32,
