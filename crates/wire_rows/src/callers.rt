@@ -6,9 +6,9 @@ use crate::say::Hex;
 use bytes::{Buf, Bytes};
 use std::alloc::Global;
 use std::fmt::Write;
-use wire_codec::{DecodeError, EncodeSink, ProtoString};
 use wire_callers::counter::Counter;
 use wire_callers::{first, log, messages as written, sinks};
+use wire_codec::{DecodeError, EncodeSink, ProtoString};
 use wire_vectors::callers::texts::ShortText;
 use wire_vectors::callers::{messages, records, scalars, texts, views};
 
@@ -57,6 +57,11 @@ pub fn tell(alloc: Global, row: &Row<'_>, said: &mut String) -> Result<bool, Sto
             let (id, unknown) = (person.id, person.unknown().len());
             write!(said, "{id} {unknown}")?
         }
+        "stored" => {
+            let (person, again) = messages::stored(alloc, row.bytes)?;
+            let is_same = person == again;
+            write!(said, "{is_same}")?
+        }
         "first_number" => {
             let answer = records::first_number(row.bytes);
             write!(said, "{answer:?}")?
@@ -102,6 +107,16 @@ fn tell_more(alloc: Global, row: &Row<'_>, said: &mut String) -> Result<bool, St
             scalars::put_balance(row.value()?, &mut sink)?;
             say::written(said, &sink, row.bytes)?
         }
+        "in_rope" => {
+            let rope = sinks::in_rope(
+                alloc,
+                &Counter {
+                    value: row.value()?,
+                },
+            )?;
+            say::written(said, rope.to_contiguous_bytes()?.as_slice(), row.bytes)?
+        }
+        "shortened" => say::written(said, &sinks::shortened(alloc, row.bytes)?, row.bytes)?,
         "ShortText" => {
             let (short, empty) = (ShortText::from_text(alloc, "hi")?, ShortText::empty(alloc));
             let (short, empty) = (short.as_str(), empty.as_str());

@@ -27,7 +27,7 @@ use std::io::Read;
 use std::process::ExitCode;
 
 fn main(rt: HostRuntime) -> io::Result<ExitCode> {
-    let mut text = String::with_capacity(rt.alloc(), 1 << 20)?;
+    let mut text = String::new(rt.alloc());
     rt.stdin().read_to_string(&mut text)?;
     table::run(&rt, &text)
 }

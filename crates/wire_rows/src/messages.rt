@@ -1,5 +1,4 @@
 //! Messages: read under limits, merged, and written by each call.
-mod every_call;
 mod sample;
 mod writing;
 
@@ -10,7 +9,7 @@ use crate::say;
 use bytes::Buf;
 use std::alloc::Global;
 use std::fmt::Write;
-use wire_codec::{DecodeContext, DecodeError, DecodeOptions, Message};
+use wire_codec::{DecodeContext, DecodeError, DecodeOptions, Message, Tag};
 use wire_samples::{Node, Person, Repeat};
 
 // A row's call is `TYPE.CALL`, and `TYPE` alone where the type is decoded.
@@ -95,6 +94,10 @@ fn merge_as<M: Sample, B: Buf>(
     let (limit, number) = (row.number("limit"), row.number("n"));
     let answer = match call {
         "merge" => message.merge(alloc, buf, &mut context),
+        "merge_field" => {
+            let tag = Tag::decode(buf)?;
+            message.merge_field(alloc, tag, buf, &mut context)
+        }
         "merge_to_limit" => {
             message.merge_to_limit(alloc, buf, &mut context, limit.ok_or(Stop::NoRow)?)
         }
@@ -166,7 +169,6 @@ fn tell_as<M: Sample>(
             }
         }
         "merge_from_slice" => merge_slices::<M>(alloc, row, said)?,
-        "every_call" => every_call::answer::<M>(alloc, row, said)?,
         "clear" => clear::<M>(alloc, row, said)?,
         _ => return writing::tell::<M>(alloc, row, call, said),
     }

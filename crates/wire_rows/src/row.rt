@@ -78,15 +78,13 @@ impl<'a> Row<'a> {
         self.number("value").ok_or(Stop::NoRow)
     }
 
-    /// The bytes behind `name=`, two digits each, and none where the word is not there.
+    /// The bytes behind `name=`, two digits each and eight bytes at most; none without the word.
     pub fn hex(&self, alloc: Global, name: &str) -> Result<Vec<u8>, Stop> {
         let word = self.word(name).unwrap_or("");
-        let mut bytes = Vec::with_capacity(alloc, word.len())?;
-        for pair in word.as_bytes().chunks(2) {
-            let digits = std::str::from_utf8(pair).or(Err(Stop::NoRow))?;
-            bytes.push(u8::from_str_radix(digits, 16).or(Err(Stop::NoRow))?)?;
-        }
-        Ok(bytes)
+        let number = u64::from_str_radix(word, 16).unwrap_or(0);
+        let unused = 8usize.saturating_sub(word.len() / 2);
+        let bytes = number.to_be_bytes();
+        Ok(Vec::from_slice(alloc, bytes.get(unused..).unwrap_or(&[]))?)
     }
 
     /// How many spans there are.

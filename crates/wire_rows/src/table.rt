@@ -11,12 +11,8 @@ use wire_codec::{EncodeSink, Rope, RopeBuf};
 // Rows with more bytes are cut in the middle alone.
 const SHORT: usize = 1000;
 
-// The greatest number of requests that a case makes to find how many are granted.
-const REQUESTS: u32 = 10_000;
-
-/// Tries each row of a table, tells which are astray, and how many there are. A line `ask N` makes
-/// so many requests for memory, and rows behind it are cut in the middle alone; a line `left` tells
-/// how many are granted.
+/// Tries each row of a table, tells which are astray, and how many there are. Behind a line `half`
+/// rows are cut in the middle alone.
 pub fn run<R: Print + AllocGlobal>(rt: &R, text: &str) -> io::Result<ExitCode> {
     let mut table = match Table::new(rt.alloc()) {
         Ok(table) => table,
@@ -27,11 +23,8 @@ pub fn run<R: Print + AllocGlobal>(rt: &R, text: &str) -> io::Result<ExitCode> {
         if line.is_empty() || line.starts_with('#') {
             continue;
         }
-        if let Some(number) = line.strip_prefix("ask ") {
-            table.ask(number.parse().unwrap_or(0));
-        } else if line == "left" {
-            let granted = table.granted();
-            println!(rt; "granted {granted}")?;
+        if line == "half" {
+            table.is_halving = true;
         } else {
             let found = table.found(line);
             if found != Found::Own {
@@ -41,9 +34,7 @@ pub fn run<R: Print + AllocGlobal>(rt: &R, text: &str) -> io::Result<ExitCode> {
         }
     }
     let (rows, astray) = (table.rows, table.astray);
-    if !table.is_asking {
-        println!(rt; "{rows} rows, {astray} astray")?;
-    }
+    println!(rt; "{rows} rows, {astray} astray")?;
     Ok(ExitCode::from(table.status))
 }
 
@@ -56,7 +47,7 @@ struct Table {
     astray: usize,
     // 0 where each row found its own answer, 1 where one found another, else 2.
     status: u8,
-    is_asking: bool,
+    is_halving: bool,
 }
 
 impl Table {
@@ -68,21 +59,8 @@ impl Table {
             rows: 0,
             astray: 0,
             status: 0,
-            is_asking: false,
+            is_halving: false,
         })
-    }
-
-    fn ask(&mut self, times: u32) {
-        self.is_asking = true;
-        for _ in 0..times {
-            let _ = Box::new(self.alloc, 0u8);
-        }
-    }
-
-    fn granted(&self) -> u32 {
-        (0..REQUESTS)
-            .find(|_| Box::new(self.alloc, 0u8).is_err())
-            .unwrap_or(REQUESTS)
     }
 
     fn found(&mut self, line: &str) -> Found {
@@ -125,7 +103,7 @@ impl Table {
             return Ok(false);
         }
         let len = row.bytes.len();
-        let is_long = self.is_asking || len > SHORT;
+        let is_long = self.is_halving || len > SHORT;
         let (first, last) = if is_long {
             (len / 2, len / 2)
         } else {

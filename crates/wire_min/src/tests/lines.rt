@@ -78,12 +78,6 @@ fn reports(
     }
 }
 
-/// What the row at a place finds, where there is one.
-pub(super) fn found_at(alloc: Global, place: usize) -> Option<Found> {
-    let (error, line, status) = lines().into_iter().nth(place)?;
-    Some(found_in(reports(alloc, error, line, status)))
-}
-
 #[test]
 fn each_error_is_reported(rt: HostRuntime) {
     for (error, line, status) in lines() {

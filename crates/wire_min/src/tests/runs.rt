@@ -1,6 +1,5 @@
 //! Runs from readers and into writers that work, and that do not.
 use super::devices::{BY_BYTES, Habits, Shelf, Source, WILLING};
-use super::{Found, found_in};
 use crate::counted::Counted;
 use crate::error::RunError;
 use crate::run::run;
@@ -153,15 +152,6 @@ fn runs(alloc: Global, row: Row) -> Result<bool, RunError> {
         return Err(RunError::OutOfMemory);
     }
     Ok(found == answer && shelf.taken() == written)
-}
-
-/// How many rows there are: those above, and five whose devices fail in the middle.
-pub(super) const COUNT: u8 = 29;
-
-/// What the row at a place finds, where there is one.
-pub(super) fn found_at(alloc: Global, place: usize) -> Option<Found> {
-    let row = rows().into_iter().chain(rows_behind(CALLS / 2)).nth(place)?;
-    Some(found_in(runs(alloc, row)))
 }
 
 #[test]

@@ -6,7 +6,7 @@ use crate::row::Row;
 use crate::say;
 use std::alloc::Global;
 use std::fmt::Write;
-use wire_codec::{EncodeError, Message, SizeCache, SizeCachePool};
+use wire_codec::{EncodeError, Message, SizeCache, SizeCachePool, laws};
 
 // What a call answers; what it writes is in the sink.
 #[derive(Debug, PartialEq, Drop)]
@@ -46,7 +46,7 @@ pub fn tell<M: Sample>(
         say_sizes::<M>(alloc, row, said)?;
         return Ok(true);
     }
-    if !call.contains("enc") {
+    if !call.contains("enc") && call != "write_to" {
         return Ok(false);
     }
     let message = M::given(alloc, row, row.bytes)?;
@@ -54,8 +54,10 @@ pub fn tell<M: Sample>(
     sink.push(7)?;
     let answer = if call.starts_with("pool_") {
         pooled(alloc, &message, row, call, &mut sink)?
-    } else {
+    } else if call.starts_with("try_") {
         tried(alloc, &message, row, call, &mut sink)?
+    } else {
+        asked(alloc, &message, call, &mut sink)?
     };
     match answer {
         Answer::NoCall => return Ok(false),
@@ -119,6 +121,37 @@ fn tried<M: Message>(
             Ok(bytes) => kept(sink, bytes.as_slice())?,
             Err(error) => Answer::Refused(error),
         },
+        _ => Answer::NoCall,
+    })
+}
+
+// The calls that ask for the size condition, once it was tested, and the two passes by hand.
+fn asked<M: Message>(
+    alloc: Global,
+    message: &M,
+    call: &str,
+    sink: &mut Vec<u8>,
+) -> Result<Answer, Stop> {
+    laws::sizes_fit();
+    message.try_encoded_len(alloc)?;
+    let mut cache = SizeCache::new(alloc);
+    Ok(match call {
+        "encode" => message.encode(alloc, sink).into(),
+        "encode_with_cache" => message.encode_with_cache(&mut cache, sink).into(),
+        "encoded_len" => message.encoded_len(alloc).into(),
+        "encode_length_delimited" => message.encode_length_delimited(alloc, sink).into(),
+        "encode_to_vec" => match message.encode_to_vec(alloc) {
+            Ok(bytes) => kept(sink, &bytes)?,
+            Err(error) => Answer::Refused(error),
+        },
+        "encode_to_bytes" => match message.encode_to_bytes(alloc) {
+            Ok(bytes) => kept(sink, bytes.as_slice())?,
+            Err(error) => Answer::Refused(error),
+        },
+        "write_to" => {
+            message.compute_size(&mut cache)?;
+            message.write_to(&mut cache, sink).into()
+        }
         _ => Answer::NoCall,
     })
 }
