@@ -1,3 +1,4 @@
+pub mod Countable
 pub mod FieldReads
 pub mod FieldTexts
 pub mod Measuring

@@ -242,7 +242,7 @@ module _ (laws : RecordsInOrder) (adds : JoinedAddsUp) where
       given.fits.depth,
     )
 
-    -- its slots are there, where the bytes spell records for which there are slots
+    -- there is room for it, where the bytes spell records for which there is room
     pub slots_there : is_known_number n ≡ false → (gs : Fields) → HasOthers l bytes gs
         → HaveRoom now.counts (charge (field n p none)).counts
     slots_there other gs has =
@@ -311,38 +311,9 @@ module _ (laws : RecordsInOrder) (adds : JoinedAddsUp) where
                 has.depth,
                 level ∙ ap (λ (m : Limits). m.depth) h.left,
               );
-              counts = record { unknown_fields = tt; element_memory = tt };
+              counts = record { unknown_fields = tt; element_memory = tt; unknown_bytes = tt };
             };
           })
-
--- ---- counts
-
--- what is left of a budget has room for what both together do not exceed
-sum_within : (left : Option ℕ) (most first second : ℕ) → left ≡ Some most → HasRoom left first
-    → HasRoom (less left first) second → first + second ≤ most
-sum_within left most first second is h k =
-    let a : first ≤ most = subst (λ x. HasRoom x first) is h in
-    let b : second ≤ most - first = subst (λ x. HasRoom (less x first) second) is k in
-    omega (arith, a, b)
-
--- the slots of the spans so far and of one more can be counted, since they are of one budget
-pub can_count : OneSpansCharge → SpansChargeRecords → (l now : Limits) (bytes mid : List ℕ)
-    (spans : List (List ℕ)) (span : List ℕ) (most : ℕ) → Passed l bytes mid spans now
-    → l.counts.unknown_fields ≡ Some most → most < 2 ^ 64 → (levels : ℕ) → levels ≡ now.depth
-    → levels < 2 ^ 32 → ¬ TooMany now spans span
-can_count one_charge charges l now bytes mid spans span most h budget few levels level shallow
-    (items, others, taken, charged, much) =
-    let each = others_each h.fs spans h.text h.others in
-    let levels_are = level ∙ ap (λ (m : Limits). m.depth) h.left in
-    let same : others ≡ charge (others_of h.fs) =
-    one_charge spans others (charge (others_of h.fs)) charged
-    (charges spans (others_of h.fs) each
-    (omega (arith, others_depth h.fs, h.depth, shallow, levels_are))) in
-    let room = subst (λ (m : Limits). HasRoom m.counts.unknown_fields (slots items)) h.left
-    taken.room.unknown_fields in
-    let within = sum_within l.counts.unknown_fields most (count (others_of h.fs)) (slots items)
-    budget h.fits.counts.unknown_fields room in
-    omega (arith, much, within, few, ap (λ (c : Charge). c.counts.unknown_fields) same)
 
 -- ---- the whole text
 
@@ -403,9 +374,10 @@ no_room_wanted (Some left) taken is = omega (arith, is)
 -- what decodes has its others, and keeps just these
 pub decodes_others : RecordsInOrder → WholeInput → (k l : Limits) (bytes : List ℕ) (z : PersonValue)
     → l.depth ≡ k.depth → l.counts.unknown_fields ≡ k.counts.unknown_fields
+    → ((b : ℕ) → HasRoom l.counts.unknown_bytes b → HasRoom k.counts.unknown_bytes b)
     → Decodes PersonTakes l default_person bytes z
     → (fs : Fields) × HasOthers k bytes fs × (z.unknown ≡ others_of fs)
-decodes_others laws whole k l bytes z levels counts (c, taken) =
+decodes_others laws whole k l bytes z levels counts room (c, taken) =
     let fs = taken.fields in
     let kept = keeps_others laws.charges default_person z fs c taken.folded in
     let read = taken.read in
@@ -420,24 +392,26 @@ decodes_others laws whole k l bytes z levels counts (c, taken) =
               within.counts.unknown_fields;
           element_memory = no_room_wanted k.counts.element_memory _
               (no_elements (others_of fs));
+          unknown_bytes = room _ within.counts.unknown_bytes;
         };
       },
       kept.unknown,
     )
 
--- where a `Person` decodes within as many levels and slots, a reader of the others gives just those
--- that it keeps
+-- where a `Person` decodes within as many levels and slots and no more bytes, a reader of the others
+-- gives just those that it keeps
 pub as_decoded : RecordsInOrder → WholeInput → (k : Limits) (bytes : List ℕ)
     (r : Result (List (List ℕ)) DecodeError)
     → ((fs : Fields) → HasOthers k bytes fs
     → MatchResult r (λ view. SpellEach view (others_of fs)) (λ e. e ≡ OutOfMemory))
     → (l : Limits) (z : PersonValue) → l.depth ≡ k.depth
     → l.counts.unknown_fields ≡ k.counts.unknown_fields
+    → ((b : ℕ) → HasRoom l.counts.unknown_bytes b → HasRoom k.counts.unknown_bytes b)
     → Decodes PersonTakes l default_person bytes z
     → MatchResult r (λ view. SpellEach view z.unknown × ((charge z.unknown).depth ≤ l.depth))
     (λ e. e ≡ OutOfMemory)
-as_decoded laws whole k bytes r only l z levels counts decoded =
-    let (fs, has, unknown) = decodes_others laws whole k l bytes z levels counts decoded in
+as_decoded laws whole k bytes r only l z levels counts room decoded =
+    let (fs, has, unknown) = decodes_others laws whole k l bytes z levels counts room decoded in
     let shallow : (charge z.unknown).depth ≤ l.depth = omega (
       arith,
       ap (λ (gs : Fields). (charge gs).depth) unknown,
