@@ -1,7 +1,7 @@
 //! Callers of `wire_codec`: a message under limits, and one that is written and read again.
-ghost use Rattle.std.specs.Prelude.{◌≡◌, ◌≢◌, ◌≤◌, length, OnOk, IfOk, IfErr};
+ghost use Rattle.std.specs.Prelude.{◌≡◌, ◌≢◌, ◌-◌, ◌^◌, ◌≤◌, length, OnOk, IfOk, IfErr};
 ghost use Rattle.wire_codec.specs.DecodeError.TheVariants.{OutOfMemory};
-ghost use Rattle.wire_codec.specs.Limits.{counted, with_elements};
+ghost use Rattle.wire_codec.specs.Limits.{counted, with_elements, with_unknown_bytes};
 ghost use Rattle.wire_codec.specs.Taking.{Decodes};
 ghost use Rattle.wire_samples.specs.Person.{PersonTakes, default_person, value_of};
 
@@ -15,7 +15,8 @@ use wire_samples::Person;
 pub fn person_of(alloc: Global, bytes: &[u8]) -> Result<Person, DecodeError>
     ensures short { OnOk result (length bytes.now ≤ 4096) }
     ensures ok { IfOk result (λ person. Decodes PersonTakes
-        (with_elements (counted 100 10) 33554432) default_person bytes.now (value_of person)) }
+        (with_unknown_bytes (with_elements (counted 100 10) 33554432) (2 ^ 64 - 1))
+        default_person bytes.now (value_of person)) }
 {
     DecodeOptions::new()
         .with_max_message_size(4096)
