@@ -4,14 +4,14 @@ use Rattle.std.specs.Prelude.{IfOk, IfErr, OnOk}
 use Rattle.wire_base.specs.declared.error.DecodeError.{DecodeError}
 use Rattle.wire_base.specs.declared.error.DecodeError.TheVariants.{OutOfMemory, UnexpectedEof, UnknownFieldLimitExceeded}
 use Rattle.wire_base.specs.declared.tag.WireType.{WireType}
-use Rattle.wire_base.specs.Agreement.{FollowsDecoding, RefusesAsDecoding, NeverWantsSlots, KeepsWhatIsSkipped, RefusesAsSkipping, IsShortWhereCut, IsShortOrWantsMemory, StaysRefused, FaultOrMemory}
+use Rattle.wire_base.specs.Agreement.{FollowsDecoding, RefusesAsDecoding, NeverWantsRoom, KeepsWhatIsSkipped, RefusesAsSkipping, IsShortWhereCut, IsShortOrWantsMemory, StaysRefused, FaultOrMemory}
 use Rattle.wire_base.specs.Charge.{payload_charge}
 use Rattle.wire_base.specs.Fault.{PayloadFault}
 use Rattle.wire_base.specs.Field.{Payload}
 use Rattle.wire_base.specs.Limits.{Limits, uncounted}
 use Rattle.wire_base.specs.Refusal.{PayloadRefusal}
 use Rattle.wire_base.specs.Taken.{TakesPayload}
-use Rattle.wire_base.proofs.Agreement.{skipped_where_decoded_lemma, refused_alike_lemma, slots_suffice_lemma}
+use Rattle.wire_base.proofs.Agreement.{skipped_where_decoded_lemma, refused_alike_lemma, room_suffices_lemma}
 use Rattle.wire_base.proofs.Cuts.{cut_is_short_lemma, faults_stay_lemma}
 use Rattle.wire_base.proofs.FaultLaws.{no_payload_beside_fault_lemma, one_payload_fault_lemma}
 use Rattle.wire_base.proofs.FieldLaws.{one_payload_lemma}
@@ -65,12 +65,12 @@ module _ (levels n : ℕ) (w : WireType) (old new : List ℕ) where
 
 module _ {T : Type 0} (payload_in : T → Payload) (l : Limits) (n : ℕ) (w : WireType)
     (old new : List ℕ) where
-  pub never_wants_slots : (r : Result T DecodeError) → IfErr r (PayloadRefusal l n w old)
-      → NeverWantsSlots l old r
-  never_wants_slots (Ok kept) refused many = tt
-  never_wants_slots (Err e) refused many =
+  pub never_wants_room : (r : Result T DecodeError) → IfErr r (PayloadRefusal l n w old)
+      → NeverWantsRoom l old r
+  never_wants_room (Ok kept) refused many = tt
+  never_wants_room (Err e) refused many =
       ⊎_elim
-      (λ fault. λ is. slots_suffice_lemma.none_wanted l n w old many
+      (λ fault. λ is. room_suffices_lemma.none_wanted l n w old many
       (subst (PayloadFault l n w old) is fault))
       (λ memory. λ is. let both : OutOfMemory ≡ UnknownFieldLimitExceeded = sym memory.0 ∙ is in
       absurd cc) refused
@@ -84,7 +84,7 @@ module _ {T : Type 0} (payload_in : T → Payload) (l : Limits) (n : ℕ) (w : W
   keeps_what_is_skipped (Err e) ok refused many p rest h =
       ⊎_elim
       (λ fault. absurd (no_payload_beside_fault_lemma l n w old rest e p fault
-      (slots_suffice_lemma.taken l n w p old rest many h)))
+      (room_suffices_lemma.taken l n w p old rest many h)))
       (λ memory. memory.0) refused
 
   pub refuses_as_skipping : (r : Result T DecodeError)
@@ -98,7 +98,7 @@ module _ {T : Type 0} (payload_in : T → Payload) (l : Limits) (n : ℕ) (w : W
       ⊎_elim
       (λ fault. inl (one_payload_fault_lemma (uncounted l.depth) n w old f e
       (refused_alike_lemma l n w old f fault
-      (λ is. slots_suffice_lemma.none_wanted l n w old many
+      (λ is. room_suffices_lemma.none_wanted l n w old many
       (subst (PayloadFault l n w old) is fault))) h))
       (λ memory. inr memory.0) refused
 

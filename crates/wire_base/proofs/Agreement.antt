@@ -4,13 +4,14 @@ use Rattle.wire_base.specs.declared.error.DecodeError.{DecodeError}
 use Rattle.wire_base.specs.declared.error.DecodeError.TheVariants.{InvalidFieldNumber, InvalidWireType, UnknownFieldLimitExceeded}
 use Rattle.wire_base.specs.declared.tag.WireType.{WireType}
 use Rattle.wire_base.specs.declared.tag.WireType.TheVariants.{StartGroup}
-use Rattle.wire_base.specs.AgreementLaws.{SkippedWhereDecoded, RefusedAlike, HasSlotsFor, SlotsSuffice, BodyWhereDecoded}
+use Rattle.wire_base.specs.AgreementLaws.{SkippedWhereDecoded, RefusedAlike, HasRoomFor, RoomSuffices, BodyWhereDecoded}
 use Rattle.wire_base.specs.Charge.{payload_charge, payload_count, charge, count}
-use Rattle.wire_base.specs.Delimited.{DelimitedFault}
+use Rattle.wire_base.specs.Delimited.{IsDelimited, DelimitedFault}
 use Rattle.wire_base.specs.Ending.{Ending, by_tag}
 use Rattle.wire_base.specs.Fault.{NextTagFault, bad_tag, other_end, PayloadFault, RecordFault, ListFault}
 use Rattle.wire_base.specs.Field.{Payload, varint, fixed64, fixed32, bytes, group, Fields, none, field, type_of}
-use Rattle.wire_base.specs.Limits.{Limits, Charge, HasRoom, Fits, one_field, left_after, inner, less, uncounted}
+use Rattle.wire_base.specs.Limits.{Limits, Charge, HasRoom, Fits, each_less, one_field, bytes_charge, left_after, inner, less, uncounted}
+use Rattle.wire_base.specs.Read.{Reads}
 use Rattle.wire_base.specs.Spells.{SpellsPayload, Spells, IsPayload}
 use Rattle.wire_base.specs.Tag.{TagFault, tag_error}
 use Rattle.wire_base.specs.Varint.{VarintFault}
@@ -28,7 +29,10 @@ use Rattle.wire_base.proofs.TagLaws.{tag_error-large, tag_error-type, tag_error-
 -- a charge within the levels fits where nothing is counted
 fits_uncounted : (c : Charge) (levels : ℕ) → c.depth ≤ levels → Fits c (uncounted levels)
 fits_uncounted c levels h =
-    record { depth = h; counts = record { unknown_fields = tt; element_memory = tt } }
+    record {
+      depth = h;
+      counts = record { unknown_fields = tt; element_memory = tt; unknown_bytes = tt };
+    }
 
 pub skipped_where_decoded_lemma : SkippedWhereDecoded
 skipped_where_decoded_lemma l n w p old new h =
@@ -47,6 +51,7 @@ mutual
       PayloadFault.short_fixed32 (uncounted_slot l.depth) short
   payload_alike l n w old e (PayloadFault.no_bytes slot fault) other =
       PayloadFault.no_bytes (uncounted_slot l.depth) fault
+  payload_alike l n w old e (PayloadFault.no_room b rest slot h full) other = absurd (other refl)
   payload_alike l n w old e (PayloadFault.end_outside slot) other =
       PayloadFault.end_outside (uncounted_slot l.depth)
   payload_alike l n w old e (PayloadFault.no_level slot flat) other =
@@ -75,7 +80,7 @@ mutual
 pub refused_alike_lemma : RefusedAlike
 refused_alike_lemma = payload_alike
 
--- ---- more slots than bytes
+-- ---- room for the bytes
 
 pub room_for_less : (left : Option ℕ) (a b : ℕ) → b ≤ a → HasRoom left a → HasRoom left b
 room_for_less None a b few h = tt
@@ -86,12 +91,31 @@ room_behind : (left : Option ℕ) (taken rest all : ℕ) → taken + rest ≤ al
 room_behind None taken rest all few h = tt
 room_behind (Some left) taken rest all few h = omega (arith, few, h)
 
-slot_there : (l : Limits) (old : List ℕ) → HasSlotsFor l old → Fits one_field l
+slot_there : (l : Limits) (old : List ℕ) → HasRoomFor l old → Fits one_field l
 slot_there l old h = record {
   depth = omega arith;
   counts = record {
-    unknown_fields = room_for_less l.counts.unknown_fields (length old + 1) 1 (omega arith) h;
+    unknown_fields = room_for_less l.counts.unknown_fields (length old + 1) 1 (omega arith)
+        h.unknown_fields;
     element_memory = (HaveRoom-none l.counts).element_memory;
+    unknown_bytes = (HaveRoom-none l.counts).unknown_bytes;
+  };
+}
+
+-- a payload that stands there has room
+bytes_there : (l : Limits) (b old rest : List ℕ) → HasRoomFor l old → Reads old (IsDelimited b) rest
+    → Fits (bytes_charge (length b)) (left_after l one_field)
+bytes_there l b old rest many h = record {
+  depth = omega arith;
+  counts = record {
+    unknown_fields = (HaveRoom-none (each_less l.counts one_field.counts)).unknown_fields;
+    element_memory = (HaveRoom-none (each_less l.counts one_field.counts)).element_memory;
+    unknown_bytes = room_behind l.counts.unknown_bytes 0 (length b) (length old)
+        (omega (
+          arith,
+          ap length h.parts ∙ length-append h.text rest,
+          ap length h.spelled.parts ∙ length-append h.spelled.text b,
+        )) many.unknown_bytes;
   };
 }
 
@@ -123,7 +147,36 @@ mutual
       )
 
 mutual
-  payload_no_elements : (p : Payload) → (payload_charge p).counts.element_memory ≡ 0
+  -- the length-delimited payloads in a payload are no longer than its bytes
+  bytes_of_payload : (p : Payload) (n : ℕ) (text : List ℕ) → SpellsPayload n p text
+      → (payload_charge p).counts.unknown_bytes ≤ length text
+  bytes_of_payload (varint v) n text h = omega arith
+  bytes_of_payload (fixed64 v) n text h = omega arith
+  bytes_of_payload (fixed32 v) n text h = omega arith
+  bytes_of_payload (bytes b) n text h =
+      omega (arith, ap length h.parts ∙ length-append h.text b)
+  bytes_of_payload (group fs) n text (end, body, tag) =
+      let inside = bytes_of_list fs body.text body.spelled in
+      omega (arith, inside, ap length body.parts ∙ length-append body.text end)
+
+  -- and those in records no longer than theirs
+  pub bytes_of_list : (fs : Fields) (text : List ℕ) → Spells fs text
+      → (charge fs).counts.unknown_bytes ≤ length text
+  bytes_of_list none text h = omega arith
+  bytes_of_list (field n p others) text (behind, rest, tag, payload, more) =
+      let one = bytes_of_payload p n payload.text payload.spelled in
+      let below = rest_below n (type_of p) text behind tag in
+      let others_few = bytes_of_list others rest more in
+      omega (
+        arith,
+        one,
+        below,
+        others_few,
+        ap length payload.parts ∙ length-append payload.text rest,
+      )
+
+mutual
+  pub payload_no_elements : (p : Payload) → (payload_charge p).counts.element_memory ≡ 0
   payload_no_elements (varint v) = refl
   payload_no_elements (fixed64 v) = refl
   payload_no_elements (fixed32 v) = refl
@@ -178,42 +231,57 @@ next_tag_error ending old e (other_end k behind tag other) = λ is. absurd cc
 
 mutual
   payload_suffices : (l : Limits) (n : ℕ) (w : WireType) (old : List ℕ) (e : DecodeError)
-      → PayloadFault l n w old e → HasSlotsFor l old → e ≢ UnknownFieldLimitExceeded
+      → PayloadFault l n w old e → HasRoomFor l old → e ≢ UnknownFieldLimitExceeded
   payload_suffices l n w old e (PayloadFault.no_slot full) many =
       absurd (full (slot_there l old many))
   payload_suffices l n w old e (PayloadFault.no_varint slot fault) many = varint_error old e fault
   payload_suffices l n w old e (PayloadFault.short_fixed64 slot short) many = λ is. absurd cc
   payload_suffices l n w old e (PayloadFault.short_fixed32 slot short) many = λ is. absurd cc
   payload_suffices l n w old e (PayloadFault.no_bytes slot fault) many = delimited_error old e fault
+  payload_suffices l n w old e (PayloadFault.no_room b rest slot h full) many =
+      absurd (full (bytes_there l b old rest many h))
   payload_suffices l n w old e (PayloadFault.end_outside slot) many = λ is. absurd cc
   payload_suffices l n w old e (PayloadFault.no_level slot flat) many = λ is. absurd cc
   payload_suffices l n w old e (PayloadFault.in_group slot level fault) many =
       list_suffices (inner (left_after l one_field)) (by_tag n) old e fault
-      (room_behind l.counts.unknown_fields 1 (length old) (length old + 1) (omega arith) many)
+      (room_behind l.counts.unknown_fields 1 (length old) (length old + 1) (omega arith)
+      many.unknown_fields)
+      (room_behind l.counts.unknown_bytes 0 (length old) (length old) (omega arith)
+      many.unknown_bytes)
 
   record_suffices : (l : Limits) (ending : Ending) (old : List ℕ) (e : DecodeError)
       → RecordFault l ending old e → HasRoom l.counts.unknown_fields (length old)
-      → e ≢ UnknownFieldLimitExceeded
-  record_suffices l ending old e (RecordFault.no_tag fault) many = next_tag_error ending old e fault
-  record_suffices l ending old e (RecordFault.bad_payload n w behind tag is fault) many =
+      → HasRoom l.counts.unknown_bytes (length old) → e ≢ UnknownFieldLimitExceeded
+  record_suffices l ending old e (RecordFault.no_tag fault) many room =
+      next_tag_error ending old e fault
+  record_suffices l ending old e (RecordFault.bad_payload n w behind tag is fault) many room =
+      let below = rest_below n w old behind tag in
       payload_suffices l n w behind e fault
-      (room_for_less l.counts.unknown_fields (length old) (length behind + 1)
-      (omega (arith, rest_below n w old behind tag)) many)
+      (record {
+        unknown_fields = room_for_less l.counts.unknown_fields (length old) (length behind + 1)
+            (omega (arith, below)) many;
+        unknown_bytes = room_for_less l.counts.unknown_bytes (length old) (length behind)
+            (omega (arith, below)) room;
+      })
 
   list_suffices : (l : Limits) (ending : Ending) (old : List ℕ) (e : DecodeError)
       → ListFault l ending old e → HasRoom l.counts.unknown_fields (length old)
-      → e ≢ UnknownFieldLimitExceeded
-  list_suffices l ending old e (ListFault.past fs rest taken goes fault) many =
+      → HasRoom l.counts.unknown_bytes (length old) → e ≢ UnknownFieldLimitExceeded
+  list_suffices l ending old e (ListFault.past fs rest taken goes fault) many room =
       let read = taken.read in
       let few = count_of_list fs read.text read.spelled in
+      let small = bytes_of_list fs read.text read.spelled in
+      let all = ap length read.parts ∙ length-append read.text rest in
       record_suffices (left_after l (charge fs)) ending rest e fault
       (room_behind l.counts.unknown_fields (count fs) (length rest) (length old)
-      (omega (arith, few, ap length read.parts ∙ length-append read.text rest)) many)
+      (omega (arith, few, all)) many)
+      (room_behind l.counts.unknown_bytes (charge fs).counts.unknown_bytes (length rest)
+      (length old) (omega (arith, small, all)) room)
 
 -- what skipping refuses, decoding refuses
-refused_with_slots : (l : Limits) (n : ℕ) (w : WireType) (old : List ℕ) (e : DecodeError)
-    → HasSlotsFor l old → PayloadFault (uncounted l.depth) n w old e → PayloadFault l n w old e
-refused_with_slots l n w old e many h =
+refused_with_room : (l : Limits) (n : ℕ) (w : WireType) (old : List ℕ) (e : DecodeError)
+    → HasRoomFor l old → PayloadFault (uncounted l.depth) n w old e → PayloadFault l n w old e
+refused_with_room l n w old e many h =
     ⊎_elim
     (λ there. absurd (no_payload_beside_fault_lemma (uncounted l.depth) n w old there.1 e there.0 h
     (skipped_where_decoded_lemma l n w there.0 old there.1 there.2)))
@@ -240,25 +308,29 @@ body_where_decoded_lemma l n fs old new h =
       last = last_before (by_tag n) fs old body.end body.fields (λ rest longer. tt);
     }
 
-pub slots_suffice_lemma : SlotsSuffice
-slots_suffice_lemma = record {
+pub room_suffices_lemma : RoomSuffices
+room_suffices_lemma = record {
   none_wanted =
       λ l n w old many fault. payload_suffices l n w old UnknownFieldLimitExceeded fault many refl;
   taken = λ l n w p old new many h.
       let read = h.read in
       let few = count_of_payload p n read.text read.spelled.spelled in
+      let small = bytes_of_payload p n read.text read.spelled.spelled in
+      let all = ap length read.parts ∙ length-append read.text new in
       record {
         read = read;
         fits = record {
           depth = h.fits.depth;
           counts = record {
             unknown_fields = room_for_less l.counts.unknown_fields (length old + 1)
-                (payload_count p)
-                (omega (arith, few, ap length read.parts ∙ length-append read.text new)) many;
+                (payload_count p) (omega (arith, few, all)) many.unknown_fields;
             element_memory = subst (HasRoom l.counts.element_memory)
                 (sym (payload_no_elements p)) (HaveRoom-none l.counts).element_memory;
+            unknown_bytes = room_for_less l.counts.unknown_bytes (length old)
+                (payload_charge p).counts.unknown_bytes (omega (arith, small, all))
+                many.unknown_bytes;
           };
         };
       };
-  refused = refused_with_slots;
+  refused = refused_with_room;
 }

@@ -6,7 +6,7 @@ use Rattle.wire_base.specs.declared.tag.WireType.{WireType}
 use Rattle.wire_base.specs.declared.tag.WireType.TheVariants as types
 use Rattle.wire_base.specs.AgreementLaws.{FaultsStay, CutIsShort}
 use Rattle.wire_base.specs.Charge.{payload_charge, charge}
-use Rattle.wire_base.specs.Delimited.{DelimitedFault}
+use Rattle.wire_base.specs.Delimited.{IsDelimited, DelimitedFault}
 use Rattle.wire_base.specs.Ending.{Ending, by_tag}
 use Rattle.wire_base.specs.Fault.{NextTagFault, bad_tag, other_end, PayloadFault, RecordFault, ListFault}
 use Rattle.wire_base.specs.Field.{Payload}
@@ -72,6 +72,9 @@ mutual
   payload_stays l n w old more e (PayloadFault.no_bytes slot fault) =
       ⊎_elim inl (λ stays. inr (PayloadFault.no_bytes slot stays))
       (delimited_stays old more e fault)
+  payload_stays l n w old more e (PayloadFault.no_room b rest slot h full) =
+      inr (PayloadFault.no_room b (rest ++ more) slot
+      (Reads-longer (IsDelimited b) old rest more h) full)
   payload_stays l n w old more e (PayloadFault.end_outside slot) =
       inr (PayloadFault.end_outside slot)
   payload_stays l n w old more e (PayloadFault.no_level slot flat) =

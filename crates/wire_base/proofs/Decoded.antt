@@ -1,15 +1,15 @@
 -- What decoding of unknown fields tells, step by step.
-use Rattle.std.proofs.Common.{◌≡◌, ◌<◌, ◌≤◌, inl, inr, ℕ, List, [], length, take, drop, Result, Ok, Err, refl, sym, subst, ⊎_elim}
+use Rattle.std.proofs.Common.{◌≡◌, ◌<◌, ◌≤◌, inl, inr, ℕ, List, [], length, take, drop, Result, Ok, Err, refl, sym, ap, ◌∙◌, subst, ⊎_elim, length-take-le}
 use Rattle.std.specs.Prelude.{IfOk, IfErr, MatchResult}
 use Rattle.wire_base.specs.declared.error.DecodeError.{DecodeError}
-use Rattle.wire_base.specs.declared.error.DecodeError.TheVariants.{OutOfMemory}
+use Rattle.wire_base.specs.declared.error.DecodeError.TheVariants.{OutOfMemory, UnknownFieldLimitExceeded}
 use Rattle.wire_base.specs.declared.tag.WireType.{WireType}
 use Rattle.wire_base.specs.declared.tag.WireType.TheVariants as types
 use Rattle.wire_base.specs.Charge.{charge, payload_charge}
 use Rattle.wire_base.specs.Ending.{Ending, by_input, by_tag, GoesOn, IsRecordTag}
-use Rattle.wire_base.specs.Fault.{NextTagFault, no_tag, bad_payload, past, in_group}
+use Rattle.wire_base.specs.Fault.{NextTagFault, PayloadFault, no_tag, bad_payload, past, in_group, no_room}
 use Rattle.wire_base.specs.Field.{Payload, Fields, none, field, push}
-use Rattle.wire_base.specs.Limits.{Limits, Fits, left_after, one_field, inner}
+use Rattle.wire_base.specs.Limits.{Limits, Fits, both, left_after, one_field, bytes_charge, inner}
 use Rattle.wire_base.specs.Read.{Reads}
 use Rattle.wire_base.specs.Refusal.{PayloadWantsMemory, FieldsWantMemory, for_bytes, for_field, for_payload, in_group as memory_in_group, PayloadRefusal, ListRefusal}
 use Rattle.wire_base.specs.Spells.{Spells}
@@ -19,7 +19,8 @@ use Rattle.wire_base.specs.Varint.{IsSpelling}
 use Rattle.wire_base.proofs.DelimitedLaws.{delimited_at}
 use Rattle.wire_base.proofs.FieldLaws.{one_spelled_lemma, none_takes_nothing}
 use Rattle.wire_base.proofs.FaultLaws.{no_list_beside_fault_lemma}
-use Rattle.wire_base.proofs.LimitsLaws.{left_after-nothing}
+use Rattle.wire_base.proofs.LimitsLaws.{left_after-both, left_after-nothing}
+use Rattle.wire_base.proofs.Payloads.{takes_bytes}
 use Rattle.wire_base.proofs.Takes.{takes_field, whole_input_lemma}
 
 -- ---- one payload
@@ -27,13 +28,36 @@ use Rattle.wire_base.proofs.Takes.{takes_field, whole_input_lemma}
 -- memory for a payload that is there
 pub no_memory_for_bytes : (l : Limits) (n len : ℕ) (old mid : List ℕ) → Fits one_field l
     → Reads old (IsSpelling len) mid → len ≤ length mid
+    → Fits (bytes_charge len) (left_after l one_field)
     → PayloadRefusal l n types.LengthDelimited old OutOfMemory
-no_memory_for_bytes l n len old mid slot h there =
+no_memory_for_bytes l n len old mid slot h there room =
     inr (
       refl,
-      for_bytes (take len mid) (drop len mid) slot
+      for_bytes (take len mid) (drop len mid)
+          (takes_bytes l n slot len old mid (drop len mid) h there refl room).fits
           (delimited_at len old mid (drop len mid) h there refl),
     )
+
+-- a payload that is there, and more than the bytes that are left
+pub no_room_for_bytes : (l : Limits) (n len : ℕ) (old mid : List ℕ) → Fits one_field l
+    → Reads old (IsSpelling len) mid → len ≤ length mid
+    → ¬ Fits (bytes_charge len) (left_after l one_field)
+    → PayloadFault l n types.LengthDelimited old UnknownFieldLimitExceeded
+no_room_for_bytes l n len old mid slot h there full =
+    no_room (take len mid) (drop len mid) slot
+    (delimited_at len old mid (drop len mid) h there refl)
+    (λ room. full (subst (λ k. Fits (bytes_charge k) (left_after l one_field))
+    (length-take-le len mid there) room))
+
+-- what a payload leaves, behind its slot
+pub left_after-bytes : (l slot now : Limits) (len : ℕ) (b mid : List ℕ)
+    → slot ≡ left_after l one_field → now ≡ left_after slot (bytes_charge len)
+    → b ≡ take len mid → len ≤ length mid → now ≡ left_after l (payload_charge (Payload.bytes b))
+left_after-bytes l slot now len b mid first second is there =
+    second ∙ ap (λ m. left_after m (bytes_charge len)) first
+    ∙ left_after-both l one_field (bytes_charge len)
+    ∙ ap (λ k. left_after l (both one_field (bytes_charge k)))
+    (sym (ap length is ∙ length-take-le len mid there))
 
 -- a refusal in a group, under the limits that are left there
 pub refused_in_group : (l left : Limits) (n k : ℕ) (old : List ℕ) (e : DecodeError)

@@ -19,58 +19,11 @@ use Rattle.wire_base.specs.Varint.{VarintFault}
 use Rattle.wire_base.proofs.DelimitedLaws.{beside_fault, one_fault}
 use Rattle.wire_base.proofs.FieldLaws.{either_front, not_end_group, record_not_end, head_of, none_takes_nothing, body_of, joined-none}
 use Rattle.wire_base.proofs.LimitsLaws.{Fits-first, Fits-second, Fits-one_field, level_of_group, Fits-inside, charge-joined}
+use Rattle.wire_base.proofs.PayloadFaults.{group_of, varint_beside_fault, fixed64_not_short, fixed32_not_short, bytes_beside_fault, room_beside_fault, no_slot_only, varint_only, fixed64_only, fixed32_only, bytes_only, room_only, end_only, no_level_once, in_group_once}
 use Rattle.wire_base.proofs.ReadLaws.{Reads-as, Reads-shorter}
 use Rattle.wire_base.proofs.TagLaws.{same_tag, no_tag_beside_fault_lemma, one_tag_fault_lemma}
 use Rattle.wire_base.proofs.Takes.{not_both, goes_on_before}
 use Rattle.wire_base.proofs.VarintLaws.{no_varint_beside_fault_lemma, one_varint_fault_lemma}
-
--- ---- one payload
-
--- the text of a payload with this value
-payload_text_of : (n : ℕ) (w : WireType) (p : Payload) (old new : List ℕ)
-    → Reads old (IsPayload n w p) new → Reads old (SpellsPayload n p) new
-payload_text_of n w p old new h =
-    Reads-as (IsPayload n w p) (SpellsPayload n p) old new h h.spelled.spelled
-
--- the payload behind the tag of a group is a group
-group_of : (p : Payload) (n : ℕ) (old new : List ℕ) → Reads old (IsPayload n types.StartGroup p) new
-    → (fs : Fields) × (p ≡ group fs) × Reads old (SpellsPayload n (group fs)) new
-group_of (group fs) n old new h =
-    (fs, refl, payload_text_of n types.StartGroup (group fs) old new h)
-group_of p n old new h = let kind = h.spelled.kind in absurd (cc)
-
--- a varint's payload, and a fault in its place
-varint_beside_fault : (p : Payload) (n : ℕ) (old new : List ℕ) (e : DecodeError)
-    → Reads old (IsPayload n types.Varint p) new → VarintFault old e → ⊥
-varint_beside_fault (varint v) n old new e h fault =
-    no_varint_beside_fault_lemma old new v e
-    (payload_text_of n types.Varint (varint v) old new h) fault
-varint_beside_fault p n old new e h fault = let kind = h.spelled.kind in absurd (cc)
-
--- a text of k bytes stands in k bytes at least
-long_enough : (old text new : List ℕ) (k : ℕ) → old ≡ text ++ new → length text ≡ k → length old < k
-    → ⊥
-long_enough old text new k e same short = omega (arith, ap length e ∙ length-append text new)
-
-fixed64_not_short : (p : Payload) (n : ℕ) (old new : List ℕ)
-    → Reads old (IsPayload n types.Fixed64 p) new → length old < 8 → ⊥
-fixed64_not_short (fixed64 v) n old new h short =
-    long_enough old h.text new 8 h.parts h.spelled.spelled.0 short
-fixed64_not_short p n old new h short = let kind = h.spelled.kind in absurd (cc)
-
-fixed32_not_short : (p : Payload) (n : ℕ) (old new : List ℕ)
-    → Reads old (IsPayload n types.Fixed32 p) new → length old < 4 → ⊥
-fixed32_not_short (fixed32 v) n old new h short =
-    long_enough old h.text new 4 h.parts h.spelled.spelled.0 short
-fixed32_not_short p n old new h short = let kind = h.spelled.kind in absurd (cc)
-
--- a length-delimited payload, and a fault in its place
-bytes_beside_fault : (p : Payload) (n : ℕ) (old new : List ℕ) (e : DecodeError)
-    → Reads old (IsPayload n types.LengthDelimited p) new → DelimitedFault None old e → ⊥
-bytes_beside_fault (bytes b) n old new e h fault =
-    beside_fault None b old new e
-    (payload_text_of n types.LengthDelimited (bytes b) old new h) tt fault
-bytes_beside_fault p n old new e h fault = let kind = h.spelled.kind in absurd (cc)
 
 -- ---- one place in a list
 
@@ -163,6 +116,8 @@ mutual
       fixed32_not_short p n old new h short
   payload_beside_fault l n w old e (PayloadFault.no_bytes slot fault) p new h fits =
       bytes_beside_fault p n old new e h fault
+  payload_beside_fault l n w old e (PayloadFault.no_room b rest slot there full) p new h fits =
+      room_beside_fault l p n b rest old new h fits there full
   payload_beside_fault l n w old e (PayloadFault.end_outside slot) p new h fits =
       not_end_group p h.spelled.kind
   payload_beside_fault l n w old e (PayloadFault.no_level slot flat) p new h fits =
@@ -206,61 +161,6 @@ mutual
       (charge gs)) ending rest e fault n p others end k room) front.parts front.others)
       (λ front. fault_past_list l ending gs front.more rest end new e fault goes ends front.others)
       (either_front gs fs old rest end taken.read h)
-
--- ---- one fault of a payload
-
--- with no slot left there is this fault alone
-pub no_slot_only : (l : Limits) (n : ℕ) (w : WireType) (old : List ℕ) (f : DecodeError)
-    → ¬ Fits one_field l → PayloadFault l n w old f → UnknownFieldLimitExceeded ≡ f
-no_slot_only l n w old f full (PayloadFault.no_slot also) = refl
-no_slot_only l n w old f full (PayloadFault.no_varint slot fault) = absurd (full slot)
-no_slot_only l n w old f full (PayloadFault.short_fixed64 slot short) = absurd (full slot)
-no_slot_only l n w old f full (PayloadFault.short_fixed32 slot short) = absurd (full slot)
-no_slot_only l n w old f full (PayloadFault.no_bytes slot fault) = absurd (full slot)
-no_slot_only l n w old f full (PayloadFault.end_outside slot) = absurd (full slot)
-no_slot_only l n w old f full (PayloadFault.no_level slot flat) = absurd (full slot)
-no_slot_only l n w old f full (PayloadFault.in_group slot level fault) = absurd (full slot)
-
-varint_only : (l : Limits) (n : ℕ) (old : List ℕ) (f : DecodeError) → Fits one_field l
-    → PayloadFault l n types.Varint old f → VarintFault old f
-varint_only l n old f slot (PayloadFault.no_slot full) = absurd (full slot)
-varint_only l n old f slot (PayloadFault.no_varint also fault) = fault
-
-fixed64_only : (l : Limits) (n : ℕ) (old : List ℕ) (f : DecodeError) → Fits one_field l
-    → PayloadFault l n types.Fixed64 old f → UnexpectedEof ≡ f
-fixed64_only l n old f slot (PayloadFault.no_slot full) = absurd (full slot)
-fixed64_only l n old f slot (PayloadFault.short_fixed64 also short) = refl
-
-fixed32_only : (l : Limits) (n : ℕ) (old : List ℕ) (f : DecodeError) → Fits one_field l
-    → PayloadFault l n types.Fixed32 old f → UnexpectedEof ≡ f
-fixed32_only l n old f slot (PayloadFault.no_slot full) = absurd (full slot)
-fixed32_only l n old f slot (PayloadFault.short_fixed32 also short) = refl
-
-bytes_only : (l : Limits) (n : ℕ) (old : List ℕ) (f : DecodeError) → Fits one_field l
-    → PayloadFault l n types.LengthDelimited old f → DelimitedFault None old f
-bytes_only l n old f slot (PayloadFault.no_slot full) = absurd (full slot)
-bytes_only l n old f slot (PayloadFault.no_bytes also fault) = fault
-
-end_only : (l : Limits) (n : ℕ) (old : List ℕ) (f : DecodeError) → Fits one_field l
-    → PayloadFault l n types.EndGroup old f → InvalidWireType 4 ≡ f
-end_only l n old f slot (PayloadFault.no_slot full) = absurd (full slot)
-end_only l n old f slot (PayloadFault.end_outside also) = refl
-
--- with no level left a group has this fault alone
-no_level_once : (l : Limits) (n : ℕ) (old : List ℕ) (f : DecodeError) → Fits one_field l
-    → l.depth ≡ 0 → PayloadFault l n types.StartGroup old f → RecursionLimitExceeded ≡ f
-no_level_once l n old f slot flat (PayloadFault.no_slot full) = absurd (full slot)
-no_level_once l n old f slot flat (PayloadFault.no_level also flat2) = refl
-no_level_once l n old f slot flat (PayloadFault.in_group also level fault) = absurd (omega arith)
-
--- a fault inside a group is its one fault, where the inside has one
-in_group_once : (l : Limits) (n : ℕ) (old : List ℕ) (e f : DecodeError) → Fits one_field l
-    → 0 < l.depth
-    → ((g : DecodeError) → ListFault (inner (left_after l one_field)) (by_tag n) old g → e ≡ g)
-    → PayloadFault l n types.StartGroup old f → e ≡ f
-in_group_once l n old e f slot level again (PayloadFault.no_slot full) = absurd (full slot)
-in_group_once l n old e f slot level again (PayloadFault.no_level also flat) = absurd (omega arith)
-in_group_once l n old e f slot level again (PayloadFault.in_group also level2 fault) = again f fault
 
 -- ---- one fault of a record
 
@@ -360,7 +260,9 @@ mutual
   one_payload_fault l n w old e (PayloadFault.short_fixed32 slot short) f other =
       fixed32_only l n old f slot other
   one_payload_fault l n w old e (PayloadFault.no_bytes slot fault) f other =
-      one_fault None old e f fault (bytes_only l n old f slot other)
+      bytes_only l n old e f slot fault other
+  one_payload_fault l n w old e (PayloadFault.no_room b rest slot h full) f other =
+      room_only l n old b rest f slot h other
   one_payload_fault l n w old e (PayloadFault.end_outside slot) f other =
       end_only l n old f slot other
   one_payload_fault l n w old e (PayloadFault.no_level slot flat) f other =

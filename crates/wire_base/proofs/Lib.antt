@@ -11,9 +11,11 @@ pub mod Items
 pub mod JoinedLaws
 pub mod LimitsLaws
 pub mod ListLaws
+pub mod PayloadFaults
 pub mod Payloads
 pub mod PlainReader
 pub mod ReadLaws
+pub mod RecordWalks
 pub mod Results
 pub mod RopeReads
 pub mod Ropes

@@ -1,10 +1,10 @@
 -- The algebra of limits and charges. One budget more is a line in each lemma on all counts
 -- together.
-use Rattle.std.proofs.Common.{◌≡◌, ℕ, ◌+◌, ◌<◌, ◌⊎◌, inl, inr, Option, Some, None, refl, sym, ap, ◌∙◌, arith, ⊎_elim}
+use Rattle.std.proofs.Common.{◌≡◌, ℕ, ◌+◌, ◌<◌, ◌⊎◌, length, inl, inr, Option, Some, None, refl, sym, ap, ◌∙◌, arith, ⊎_elim}
 use Rattle.std.proofs.lemmas.Bool.{cases_lt}
 use Rattle.wire_base.specs.Charge.{total, payload_charge, charge}
 use Rattle.wire_base.specs.Field.{Payload, Fields, none, field, group, joined, varint, fixed64, fixed32, bytes}
-use Rattle.wire_base.specs.Limits.{Counts, Budgets, HasRoom, less, IsNoMore, HaveRoom, each_less, AreNoMore, sums, no_counts, Limits, Charge, Fits, left_after, both, no_charge, one_field, nested, inner, outer, NoCountGrew, uncounted}
+use Rattle.wire_base.specs.Limits.{Counts, Budgets, HasRoom, less, IsNoMore, HaveRoom, each_less, AreNoMore, sums, no_counts, Limits, Charge, Fits, left_after, both, no_charge, one_field, bytes_charge, nested, inner, outer, NoCountGrew, uncounted}
 use Rattle.wire_base.specs.LimitsLaws.{ChargesAddUp, LimitsAddUp, LevelsAddUp, CountsFall}
 
 -- ---- one count
@@ -56,26 +56,30 @@ IsNoMore-again (Some a) (Some b) (Some c) h k = omega arith
 
 -- ---- all counts together
 
-same_counts : (a b : Counts) → a.unknown_fields ≡ b.unknown_fields
-    → a.element_memory ≡ b.element_memory → a ≡ b
-same_counts a b p q = λ i. record { unknown_fields = p i; element_memory = q i }
+pub same_counts : (a b : Counts) → a.unknown_fields ≡ b.unknown_fields
+    → a.element_memory ≡ b.element_memory → a.unknown_bytes ≡ b.unknown_bytes → a ≡ b
+same_counts a b p q r =
+    λ i. record { unknown_fields = p i; element_memory = q i; unknown_bytes = r i }
 
 same_budgets : (a b : Budgets) → a.unknown_fields ≡ b.unknown_fields
-    → a.element_memory ≡ b.element_memory → a ≡ b
-same_budgets a b p q = λ i. record { unknown_fields = p i; element_memory = q i }
+    → a.element_memory ≡ b.element_memory → a.unknown_bytes ≡ b.unknown_bytes → a ≡ b
+same_budgets a b p q r =
+    λ i. record { unknown_fields = p i; element_memory = q i; unknown_bytes = r i }
 
 pub HaveRoom-none : (left : Budgets) → HaveRoom left no_counts
 HaveRoom-none left = record {
   unknown_fields = HasRoom-none left.unknown_fields;
   element_memory = HasRoom-none left.element_memory;
+  unknown_bytes = HasRoom-none left.unknown_bytes;
 }
 
-HaveRoom-first : (left : Budgets) (a b : Counts) → HaveRoom left (sums a b) → HaveRoom left a
+pub HaveRoom-first : (left : Budgets) (a b : Counts) → HaveRoom left (sums a b) → HaveRoom left a
 HaveRoom-first left a b h = record {
   unknown_fields = HasRoom-first left.unknown_fields a.unknown_fields b.unknown_fields
       h.unknown_fields;
   element_memory = HasRoom-first left.element_memory a.element_memory b.element_memory
       h.element_memory;
+  unknown_bytes = HasRoom-first left.unknown_bytes a.unknown_bytes b.unknown_bytes h.unknown_bytes;
 }
 
 pub HaveRoom-second : (left : Budgets) (a b : Counts) → HaveRoom left (sums a b)
@@ -85,6 +89,7 @@ HaveRoom-second left a b h = record {
       h.unknown_fields;
   element_memory = HasRoom-second left.element_memory a.element_memory b.element_memory
       h.element_memory;
+  unknown_bytes = HasRoom-second left.unknown_bytes a.unknown_bytes b.unknown_bytes h.unknown_bytes;
 }
 
 pub HaveRoom-sums : (left : Budgets) (a b : Counts) → HaveRoom left a
@@ -95,6 +100,8 @@ HaveRoom-sums left a b h k = record {
       h.unknown_fields k.unknown_fields;
   element_memory = HasRoom-sum left.element_memory a.element_memory b.element_memory
       h.element_memory k.element_memory;
+  unknown_bytes = HasRoom-sum left.unknown_bytes a.unknown_bytes b.unknown_bytes h.unknown_bytes
+      k.unknown_bytes;
 }
 
 -- all budgets have room, or one has none
@@ -102,7 +109,11 @@ rooms_or_not : (left : Budgets) (a : Counts) → HaveRoom left a ⊎ ¬ HaveRoom
 rooms_or_not left a =
     ⊎_elim
     (λ fields. ⊎_elim
-    (λ memory. inl (record { unknown_fields = fields; element_memory = memory }))
+    (λ memory. ⊎_elim
+    (λ bytes. inl
+    (record { unknown_fields = fields; element_memory = memory; unknown_bytes = bytes }))
+    (λ full. inr (λ h. full h.unknown_bytes))
+    (room_or_not left.unknown_bytes a.unknown_bytes))
     (λ full. inr (λ h. full h.element_memory))
     (room_or_not left.element_memory a.element_memory))
     (λ full. inr (λ h. full h.unknown_fields))
@@ -114,21 +125,25 @@ each_less-each_less left a b =
     same_budgets _ _
     (less-less left.unknown_fields a.unknown_fields b.unknown_fields)
     (less-less left.element_memory a.element_memory b.element_memory)
+    (less-less left.unknown_bytes a.unknown_bytes b.unknown_bytes)
 
 each_less-none : (left : Budgets) → each_less left no_counts ≡ left
 each_less-none left =
     same_budgets _ _ (less-none left.unknown_fields) (less-none left.element_memory)
+    (less-none left.unknown_bytes)
 
 AreNoMore-itself : (left : Budgets) → AreNoMore left left
 AreNoMore-itself left = record {
   unknown_fields = IsNoMore-itself left.unknown_fields;
   element_memory = IsNoMore-itself left.element_memory;
+  unknown_bytes = IsNoMore-itself left.unknown_bytes;
 }
 
 AreNoMore-each_less : (left : Budgets) (a : Counts) → AreNoMore (each_less left a) left
 AreNoMore-each_less left a = record {
   unknown_fields = IsNoMore-less left.unknown_fields a.unknown_fields;
   element_memory = IsNoMore-less left.element_memory a.element_memory;
+  unknown_bytes = IsNoMore-less left.unknown_bytes a.unknown_bytes;
 }
 
 AreNoMore-again : (a b c : Budgets) → AreNoMore b a → AreNoMore c b → AreNoMore c a
@@ -137,16 +152,18 @@ AreNoMore-again a b c h k = record {
       h.unknown_fields k.unknown_fields;
   element_memory = IsNoMore-again a.element_memory b.element_memory c.element_memory
       h.element_memory k.element_memory;
+  unknown_bytes = IsNoMore-again a.unknown_bytes b.unknown_bytes c.unknown_bytes h.unknown_bytes
+      k.unknown_bytes;
 }
 
 sums_assoc : (a b c : Counts) → sums (sums a b) c ≡ sums a (sums b c)
-sums_assoc a b c = same_counts _ _ (omega arith) (omega arith)
+sums_assoc a b c = same_counts _ _ (omega arith) (omega arith) (omega arith)
 
 sums-none_first : (a : Counts) → sums no_counts a ≡ a
-sums-none_first a = same_counts _ _ (omega arith) (omega arith)
+sums-none_first a = same_counts _ _ (omega arith) (omega arith) (omega arith)
 
 sums-none_last : (a : Counts) → sums a no_counts ≡ a
-sums-none_last a = same_counts _ _ (omega arith) (omega arith)
+sums-none_last a = same_counts _ _ (omega arith) (omega arith) (omega arith)
 
 -- ---- charges
 
@@ -281,7 +298,7 @@ pub Fits-one_field : (l : Limits) (p : Payload) → Fits (payload_charge p) l �
 Fits-one_field l (varint v) h = h
 Fits-one_field l (fixed64 v) h = h
 Fits-one_field l (fixed32 v) h = h
-Fits-one_field l (bytes b) h = h
+Fits-one_field l (bytes b) h = Fits-first l one_field (bytes_charge (length b)) h
 Fits-one_field l (group fs) h = Fits-first l one_field (nested (charge fs)) h
 
 -- a group that fits has a level
@@ -305,7 +322,19 @@ Fits-group l fs h level k =
 -- without a count there is a slot for each field
 pub uncounted_slot : (levels : ℕ) → Fits one_field (uncounted levels)
 uncounted_slot levels =
-    record { depth = omega arith; counts = record { unknown_fields = tt; element_memory = tt } }
+    record {
+      depth = omega arith;
+      counts = record { unknown_fields = tt; element_memory = tt; unknown_bytes = tt };
+    }
+
+-- and room for each payload
+pub uncounted_bytes : (levels any : ℕ)
+    → Fits (bytes_charge any) (left_after (uncounted levels) one_field)
+uncounted_bytes levels any =
+    record {
+      depth = omega arith;
+      counts = record { unknown_fields = tt; element_memory = tt; unknown_bytes = tt };
+    }
 
 -- ---- the laws
 

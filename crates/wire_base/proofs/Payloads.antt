@@ -1,20 +1,21 @@
 -- The payload behind a tag, by its wire type.
-use Rattle.std.proofs.Common.{◌≡◌, ℕ, ◌<◌, ◌≤◌, List, ◌++◌, length, take, drop, refl, length-take-le}
+use Rattle.std.proofs.Common.{◌≡◌, ℕ, ◌<◌, ◌≤◌, List, ◌++◌, length, take, drop, refl, sym, subst, length-take-le}
 use Rattle.std.specs.Int.{w32, w64, from_le_bytes}
 use Rattle.wire_base.specs.declared.tag.WireType.TheVariants as types
 use Rattle.wire_base.specs.Charge.{charge, payload_charge}
 use Rattle.wire_base.specs.Delimited.{IsDelimited}
 use Rattle.wire_base.specs.Ending.{by_tag}
 use Rattle.wire_base.specs.Field.{varint, fixed64, fixed32, bytes, group, Fields}
-use Rattle.wire_base.specs.Limits.{Limits, Charge, Fits, one_field, inner, left_after}
+use Rattle.wire_base.specs.Limits.{Limits, Charge, Fits, one_field, bytes_charge, inner, left_after}
 use Rattle.wire_base.specs.Read.{Reads}
 use Rattle.wire_base.specs.RecordLaws.{GroupIsList}
 use Rattle.wire_base.specs.Spells.{SpellsPayload, Spells, IsPayload}
 use Rattle.wire_base.specs.Tag.{IsTagSpelling}
 use Rattle.wire_base.specs.Taken.{TakesPayload, TakesFields, TakesUntil}
 use Rattle.wire_base.specs.Varint.{IsSpelling}
+use Rattle.wire_base.proofs.DelimitedLaws.{delimited_at}
 use Rattle.wire_base.proofs.JoinedLaws.{payload_as}
-use Rattle.wire_base.proofs.LimitsLaws.{Fits-group}
+use Rattle.wire_base.proofs.LimitsLaws.{Fits-both, Fits-group}
 use Rattle.wire_base.proofs.ReadLaws.{Reads-take, Reads-inside, joined_parts}
 use Rattle.wire_base.proofs.Takes.{last_before}
 
@@ -83,8 +84,22 @@ module _ (l : Limits) (n : ℕ) (slot : Fits one_field l) where
       }
 
   pub takes_delimited : (b old new : List ℕ) → Reads old (IsDelimited b) new
-      → TakesPayload one_field l n types.LengthDelimited (bytes b) old new
-  takes_delimited b old new h = record { read = payload_as n (bytes b) old new h; fits = slot }
+      → Fits (bytes_charge (length b)) (left_after l one_field)
+      → TakesPayload (payload_charge (bytes b)) l n types.LengthDelimited (bytes b) old new
+  takes_delimited b old new h room = record {
+    read = payload_as n (bytes b) old new h;
+    fits = Fits-both l one_field (bytes_charge (length b)) slot room;
+  }
+
+  -- the payload that a length tells
+  pub takes_bytes : (len : ℕ) (old mid new : List ℕ) → Reads old (IsSpelling len) mid
+      → len ≤ length mid → new ≡ drop len mid → Fits (bytes_charge len) (left_after l one_field)
+      → TakesPayload (payload_charge (bytes (take len mid))) l n types.LengthDelimited
+      (bytes (take len mid)) old new
+  takes_bytes len old mid new h there e room =
+      takes_delimited (take len mid) old new (delimited_at len old mid new h there e)
+      (subst (λ k. Fits (bytes_charge k) (left_after l one_field))
+      (sym (length-take-le len mid there)) room)
 
   pub takes_group : (fs : Fields) (old new : List ℕ) → 0 < l.depth
       → TakesUntil (charge fs) (inner (left_after l one_field)) (by_tag n) fs old new

@@ -11,7 +11,7 @@ use Rattle.wire_base.specs.Ending.{Ending, by_limit, by_tag, GoesOn, Ends, IsRec
 use Rattle.wire_base.specs.Fault.{bad_tag, other_end, PayloadFault, RecordFault, ListFault}
 use Rattle.wire_base.specs.FaultLaws.{PayloadOrFault, PayloadOrFaultStands, ListOrFault, ListOrFaultStands}
 use Rattle.wire_base.specs.Field.{Payload, varint, bytes, group, Fields, none, field}
-use Rattle.wire_base.specs.Limits.{Limits, Fits, one_field, left_after, inner}
+use Rattle.wire_base.specs.Limits.{Limits, Fits, one_field, bytes_charge, left_after, inner}
 use Rattle.wire_base.specs.Read.{Reads}
 use Rattle.wire_base.specs.Spells.{Spells, IsPayload}
 use Rattle.wire_base.specs.Tag.{IsTagSpelling}
@@ -52,8 +52,11 @@ fixed32_outcome l n old slot (inr enough) =
 
 bytes_outcome : (l : Limits) (n : ℕ) (old : List ℕ) → Fits one_field l → DelimitedOrFault None old
     → PayloadOrFault l n types.LengthDelimited old
-bytes_outcome l n old slot (inl (b, rest, h, room)) =
-    inl (bytes b, rest, takes_delimited l n slot b old rest h)
+bytes_outcome l n old slot (inl (b, rest, h, within)) =
+    ⊎_elim
+    (λ room. inl (bytes b, rest, takes_delimited l n slot b old rest h room))
+    (λ full. inr (UnknownFieldLimitExceeded, PayloadFault.no_room b rest slot h full))
+    (fits_or_not (left_after l one_field) (bytes_charge (length b)))
 bytes_outcome l n old slot (inr (e, fault)) = inr (e, PayloadFault.no_bytes slot fault)
 
 -- the inside of a group

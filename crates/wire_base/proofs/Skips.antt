@@ -9,12 +9,11 @@ use Rattle.wire_base.specs.Charge.{payload_charge, charge}
 use Rattle.wire_base.specs.Ending.{by_tag}
 use Rattle.wire_base.specs.Fault.{PayloadFault, ListFault, short_fixed64, short_fixed32, in_group}
 use Rattle.wire_base.specs.Field.{Payload, varint, bytes, group, Fields}
-use Rattle.wire_base.specs.Limits.{Limits, Fits, one_field, inner, left_after}
+use Rattle.wire_base.specs.Limits.{Limits, Fits, one_field, bytes_charge, inner, left_after}
 use Rattle.wire_base.specs.Read.{Reads}
 use Rattle.wire_base.specs.Taken.{TakesPayload, TakesUntil}
 use Rattle.wire_base.specs.Varint.{IsSpelling}
-use Rattle.wire_base.proofs.DelimitedLaws.{delimited_at}
-use Rattle.wire_base.proofs.Payloads.{takes_varint, takes_fixed64, takes_fixed32, takes_delimited, takes_group}
+use Rattle.wire_base.proofs.Payloads.{takes_varint, takes_fixed64, takes_fixed32, takes_bytes, takes_group}
 
 -- a payload of the tag stood at the front of old
 abbrev pub SkipsPayload : Limits → ℕ → WireType → List ℕ → List ℕ → Type 0
@@ -47,11 +46,13 @@ module _ (l : Limits) (n : ℕ) (w : WireType) (slot : Fits one_field l) where
   stops_fixed32 (Ok u) old kind e short = tt
   stops_fixed32 (Err d) old kind e short = rw (kind, e) (short_fixed32 slot short)
 
-  pub skips_bytes : (len : ℕ) (old mid new : List ℕ) → w ≡ types.LengthDelimited
+  pub skips_bytes : (len : ℕ) (old mid new : List ℕ)
+      → ((any : ℕ) → Fits (bytes_charge any) (left_after l one_field))
+      → w ≡ types.LengthDelimited
       → Reads old (IsSpelling len) mid → len ≤ length mid → new ≡ drop len mid
       → SkipsPayload l n w old new
-  skips_bytes len old mid new kind h there e =
-      rw kind (bytes _, takes_delimited l n slot _ old new (delimited_at len old mid new h there e))
+  skips_bytes len old mid new room kind h there e =
+      rw kind (bytes _, takes_bytes l n slot len old mid new h there e (room len))
 
   pub skips_group : (r : Result (Unit {0}) DecodeError) (old new : List ℕ) → w ≡ types.StartGroup
       → 0 < l.depth

@@ -12,7 +12,7 @@ use Rattle.wire_base.specs.Ending.{by_input}
 use Rattle.wire_base.specs.Fault.{PayloadFault}
 use Rattle.wire_base.specs.Field.{Fields, none, joined}
 use Rattle.wire_base.specs.InRange.{AreFitting, AreNumbered}
-use Rattle.wire_base.specs.Items.{Item, SpellsItems, TakesItems, ItemFault, SpanFault, slots, greatest_level, flat_charge}
+use Rattle.wire_base.specs.Items.{Item, SpellsItems, TakesItems, ItemFault, SpanFault, slots, item_bytes, greatest_level, flat_charge}
 use Rattle.wire_base.specs.Limits.{Limits, Charge, HasRoom, HaveRoom, Fits, both, left_after, no_charge, less}
 use Rattle.wire_base.specs.SpanLaws.{OneSpansCharge, SpansChargeRecords, JoinedSpansSpell}
 use Rattle.wire_base.specs.Spans.{AreCharged, fields_charge, exact_limits, SpellEach, SpansRefusal, past}
@@ -25,8 +25,9 @@ use Rattle.wire_base.proofs.FaultLaws.{no_list_beside_fault_lemma}
 use Rattle.wire_base.proofs.FieldLaws.{joined-none, one_spelled_lemma, spelled_are_numbered_lemma, Spells-all}
 use Rattle.wire_base.proofs.JoinedLaws.{joined_assoc, Spells-joined}
 use Rattle.wire_base.proofs.LimitsLaws.{HaveRoom-none, Fits-first, Fits-second, Fits-both, left_after-both, both_assoc, both-nothing_first, both-nothing_last, charge-joined}
+use Rattle.wire_base.proofs.RecordWalks.{charges_walk}
 use Rattle.wire_base.proofs.Takes.{whole_input_lemma}
-use Rattle.wire_base.proofs.WalkLaws.{charges_walk, one_walk_lemma, walk_all}
+use Rattle.wire_base.proofs.WalkLaws.{one_walk_lemma, walk_all}
 use Rattle.wire_base.proofs.Walks.{records_are_items_lemma}
 
 -- ---- what spans are charged
@@ -53,14 +54,17 @@ charged_push (t ∷ spans) s c items (own, others, walk, rest, same) h = (
       ∙ both_assoc (flat_charge own) others (flat_charge items),
 )
 
--- one span more, of so many slots
+-- one span more, of so many slots and bytes
 pub charged_more : (spans : List (List ℕ)) (s : List ℕ) (l : Limits) (items : List Item)
-    (depth fields deeper more : ℕ) → AreCharged spans (fields_charge depth fields)
+    (depth fields bytes deeper more longer : ℕ)
+    → AreCharged spans (fields_charge depth fields bytes)
     → TakesItems items l s [] → deeper ≡ max depth (greatest_level 0 items)
-    → more ≡ fields + slots items → AreCharged (spans ++ s ∷ []) (fields_charge deeper more)
-charged_more spans s l items depth fields deeper more h taken deepest sum =
-    rw (deepest, sum)
-    (charged_push spans s (fields_charge depth fields) items h (walk_all items s taken.read))
+    → more ≡ fields + slots items → longer ≡ bytes + item_bytes items
+    → AreCharged (spans ++ s ∷ []) (fields_charge deeper more longer)
+charged_more spans s l items depth fields bytes deeper more longer h taken deepest sum total =
+    rw (deepest, sum, total)
+    (charged_push spans s (fields_charge depth fields bytes) items h
+    (walk_all items s taken.read))
 
 pub one_spans_charge_lemma : OneSpansCharge
 one_spans_charge_lemma [] c d h k = h ∙ sym k
@@ -220,16 +224,19 @@ charged_alike : (spans : List (List ℕ)) (fs : Fields) (c : Charge) → SpellEa
 charged_alike spans fs c h few charged =
     one_spans_charge_lemma spans (charge fs) c (spans_charge_records_lemma spans fs h few) charged
 
--- a charge of unknown fields fits levels and slots that are just as many
+-- a charge of unknown fields fits levels and slots that are just as many, with room for its bytes
 fits_just : (l : Limits) (fs : Fields) (c : Charge) → charge fs ≡ c → l.depth ≡ c.depth
-    → l.counts.unknown_fields ≡ Some c.counts.unknown_fields → Fits (charge fs) l
-fits_just l fs c same levels slots = record {
+    → l.counts.unknown_fields ≡ Some c.counts.unknown_fields
+    → HasRoom l.counts.unknown_bytes c.counts.unknown_bytes → Fits (charge fs) l
+fits_just l fs c same levels slots room = record {
   depth = omega (arith, levels, ap (λ (d : Charge). d.depth) same);
   counts = record {
     unknown_fields = subst (λ left. HasRoom left (count fs)) (sym slots)
         (omega (arith, ap (λ (d : Charge). d.counts.unknown_fields) same));
     element_memory = subst (HasRoom l.counts.element_memory) (sym (no_elements fs))
         (HaveRoom-none l.counts).element_memory;
+    unknown_bytes = subst (λ (d : Charge). HasRoom l.counts.unknown_bytes d.counts.unknown_bytes)
+        (sym same) room;
   };
 }
 
@@ -244,19 +251,25 @@ pub uses_all : (l new : Limits) (spans : List (List ℕ)) (r : Result Fields Dec
     → (fs : Fields) (c : Charge) → SpellEach spans fs → (charge fs).depth < 2 ^ 32
     → AreCharged spans c → l.depth ≡ c.depth
     → l.counts.unknown_fields ≡ Some c.counts.unknown_fields
-    → MatchResult r (λ read. (read ≡ fs) × (new.counts.unknown_fields ≡ Some 0))
+    → HasRoom l.counts.unknown_bytes c.counts.unknown_bytes
+    → MatchResult r (λ read. (read ≡ fs) × (new.counts.unknown_fields ≡ Some 0)
+    × (l.counts.unknown_bytes ≡ Some c.counts.unknown_bytes
+    → new.counts.unknown_bytes ≡ Some 0))
     (λ e. e ≡ OutOfMemory)
-uses_all l new spans (Ok read) each charged refusal fs c h few sums levels slots =
+uses_all l new spans (Ok read) each charged refusal fs c h few sums levels slots room =
     let one = spell_once spans read fs each h in
     let same : charge read ≡ c = ap charge one ∙ charged_alike spans fs c h few sums in (
       one,
       ap (λ (m : Limits). m.counts.unknown_fields) charged
           ∙ nothing_left l.counts.unknown_fields (count read) c.counts.unknown_fields slots
           (ap (λ (d : Charge). d.counts.unknown_fields) same),
+      λ bytes. ap (λ (m : Limits). m.counts.unknown_bytes) charged
+          ∙ nothing_left l.counts.unknown_bytes (charge read).counts.unknown_bytes
+          c.counts.unknown_bytes bytes (ap (λ (d : Charge). d.counts.unknown_bytes) same),
     )
-uses_all l new spans (Err e) each charged refusal fs c h few sums levels slots =
+uses_all l new spans (Err e) each charged refusal fs c h few sums levels slots room =
     refused_for_memory l spans e refusal fs h
-    (fits_just l fs c (charged_alike spans fs c h few sums) levels slots)
+    (fits_just l fs c (charged_alike spans fs c h few sums) levels slots room)
 
 -- under what the spans are charged
 pub only_charged : (spans : List (List ℕ)) (c : Charge) (r : Result Fields DecodeError)
@@ -266,7 +279,7 @@ pub only_charged : (spans : List (List ℕ)) (c : Charge) (r : Result Fields Dec
     → MatchResult r (λ read. read ≡ fs) (λ e. e ≡ OutOfMemory)
 only_charged spans c r sums each refusal fs h few =
     only_spelled (exact_limits c) spans r each refusal fs h
-    (fits_just (exact_limits c) fs c (charged_alike spans fs c h few sums) refl refl)
+    (fits_just (exact_limits c) fs c (charged_alike spans fs c h few sums) refl refl (omega arith))
 
 -- ---- pushes
 
@@ -278,7 +291,7 @@ taken_alike l new span items others h left k =
     left ∙ ap (λ (is : List Item). left_after l (flat_charge is))
     (one_walk_lemma items others span (walk_all items span h.read) (walk_all others span k.read))
 
--- where a span that spells records is pushed, their slots were there and are taken
+-- where a span that spells records is pushed, there was room for them, and their charge is taken
 pub pushed_records : (l new : Limits) (span : List ℕ) (items : List Item)
     → TakesItems items l span [] → new ≡ left_after l (flat_charge items)
     → (fs : Fields) → Spells fs span → (charge fs).depth < 2 ^ 32
@@ -325,6 +338,7 @@ payload_no_memory l n w old e (PayloadFault.short_fixed64 slot short) flat is = 
 payload_no_memory l n w old e (PayloadFault.short_fixed32 slot short) flat is = cc
 payload_no_memory l n w old e (PayloadFault.no_bytes slot fault) flat is =
     bytes_no_memory None old e fault is
+payload_no_memory l n w old e (PayloadFault.no_room b rest slot h full) flat is = cc
 payload_no_memory l n w old e (PayloadFault.end_outside slot) flat is = cc
 payload_no_memory l n w old e (PayloadFault.no_level slot level) flat is = cc
 payload_no_memory l n w old e (PayloadFault.in_group slot level fault) flat is = absurd (flat refl)

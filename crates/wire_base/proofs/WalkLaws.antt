@@ -15,13 +15,15 @@ use Rattle.wire_base.specs.Read.{Reads}
 use Rattle.wire_base.specs.Spells.{Spells}
 use Rattle.wire_base.specs.Tag.{IsTagSpelling}
 use Rattle.wire_base.proofs.Agreement.{room_for_less}
-use Rattle.wire_base.proofs.FaultLaws.{no_payload_beside_fault_lemma, one_payload_fault_lemma, no_slot_only}
+use Rattle.wire_base.proofs.FaultLaws.{no_payload_beside_fault_lemma, one_payload_fault_lemma}
 use Rattle.wire_base.proofs.FieldLaws.{either_front, head_of, none_takes_nothing, not_end_group, rest_below, Reads-here}
 use Rattle.wire_base.proofs.JoinedLaws.{payload_as}
-use Rattle.wire_base.proofs.LimitsLaws.{HaveRoom-second}
+use Rattle.wire_base.proofs.Items.{whole_fits}
+use Rattle.wire_base.proofs.LimitsLaws.{HaveRoom-none, HaveRoom-first, HaveRoom-second}
+use Rattle.wire_base.proofs.PayloadFaults.{no_slot_only}
 use Rattle.wire_base.proofs.ReadLaws.{Reads-as, Reads-inside}
 use Rattle.wire_base.proofs.TagLaws.{same_tag, no_tag_beside_fault_lemma, one_tag_fault_lemma}
-use Rattle.wire_base.proofs.Walks.{slots-joined, records_are_items_lemma}
+use Rattle.wire_base.proofs.Walks.{counts-joined}
 
 -- ---- the tag that an item begins with
 
@@ -147,45 +149,41 @@ goes_behind (g ∷ front) (i ∷ items) old rest h (r, k, more) =
 
 -- ---- no walk beside a fault
 
--- what a record that is no group is charged, fits where there is a slot
-flat_fits : (l : Limits) (p : Payload) → type_of p ≢ StartGroup → Fits one_field l
-    → Fits (payload_charge p) l
-flat_fits l (varint v) flat h = h
-flat_fits l (fixed64 v) flat h = h
-flat_fits l (fixed32 v) flat h = h
-flat_fits l (bytes b) flat h = h
-flat_fits l (group fs) flat h = absurd (flat refl)
+-- there is room for an item behind others
+room_for : (l : Limits) (front more : List Item) (i : Item)
+    → HaveRoom l.counts (flat_charge (front ++ i ∷ more)).counts
+    → HaveRoom (left_after l (flat_charge front)).counts (flat_charge (i ∷ [])).counts
+room_for l front more i room =
+    let left = (left_after l (flat_charge front)).counts in
+    HaveRoom-first left (flat_charge (i ∷ [])).counts (flat_charge more).counts
+    (subst (HaveRoom left) (counts-joined (i ∷ []) more)
+    (HaveRoom-second l.counts (flat_charge front).counts (flat_charge (i ∷ more)).counts
+    (subst (HaveRoom l.counts) (counts-joined front (i ∷ more)) room)))
 
--- there is a slot for an item that takes one
-slot_for : (l : Limits) (front more : List Item) (i : Item)
-    → HaveRoom l.counts (flat_charge (front ++ i ∷ more)).counts → 1 ≤ slots (i ∷ more)
-    → Fits one_field (left_after l (flat_charge front))
-slot_for l front more i room some =
-    let rest = HaveRoom-second l.counts (flat_charge front).counts (flat_charge (i ∷ more)).counts
-    (subst (λ k. HaveRoom l.counts (record { unknown_fields = k; element_memory = 0 }))
-    (slots-joined front (i ∷ more)) room) in
-    record {
-      depth = omega arith;
-      counts = record {
-        unknown_fields = room_for_less _ (slots (i ∷ more)) 1 some rest.unknown_fields;
-        element_memory = rest.element_memory;
-      };
-    }
-
-takes_slot : (i : Item) (more : List Item) → kind_of i ≢ EndGroup → 1 ≤ slots (i ∷ more)
-takes_slot (start n) more inside = omega arith
-takes_slot (end n) more inside = absurd (inside refl)
-takes_slot (whole n p) more inside = omega arith
+-- and a slot, where it takes one
+slot_of : (l : Limits) (i : Item) → kind_of i ≢ EndGroup
+    → HaveRoom l.counts (flat_charge (i ∷ [])).counts → Fits one_field l
+slot_of l (start n) inside room = record { depth = omega arith; counts = room }
+slot_of l (end n) inside room = absurd (inside refl)
+slot_of l (whole n p) inside room = record {
+  depth = omega arith;
+  counts = record {
+    unknown_fields = room.unknown_fields;
+    element_memory = room.element_memory;
+    unknown_bytes = (HaveRoom-none l.counts).unknown_bytes;
+  };
+}
 
 -- an item, and a fault of a payload in its place
 item_beside_fault : (l : Limits) (i : Item) (n : ℕ) (w : WireType) (old behind new : List ℕ)
     (e : DecodeError) → Reads old (IsItem i) new → Reads old (IsTagSpelling n w) behind
-    → w ≢ EndGroup → w ≢ StartGroup → PayloadFault l n w behind e → Fits one_field l → ⊥
-item_beside_fault l (start k) n w old behind new e h tag inside flat fault slot =
+    → w ≢ EndGroup → w ≢ StartGroup → PayloadFault l n w behind e
+    → HaveRoom l.counts (flat_charge (i ∷ [])).counts → ⊥
+item_beside_fault l (start k) n w old behind new e h tag inside flat fault room =
     flat (same_tag old behind new n k w StartGroup tag h).kind
-item_beside_fault l (end k) n w old behind new e h tag inside flat fault slot =
+item_beside_fault l (end k) n w old behind new e h tag inside flat fault room =
     inside (same_tag old behind new n k w EndGroup tag h).kind
-item_beside_fault l (whole k p) n w old behind new e h tag inside flat fault slot =
+item_beside_fault l (whole k p) n w old behind new e h tag inside flat fault room =
     let head = head_of k p none old new (record_of k p old new h) in
     let same = same_tag old head.behind behind k n (type_of p) w head.tag tag in
     no_payload_beside_fault_lemma l k (type_of p) head.behind head.rest e p
@@ -194,10 +192,10 @@ item_beside_fault l (whole k p) n w old behind new e h tag inside flat fault slo
     (subst (λ m. PayloadFault l m w behind e) (sym same.number) fault)))
     (record {
       read = payload_as k p head.behind head.rest head.payload;
-      fits = flat_fits l p h.spelled.0 slot;
+      fits = whole_fits l k p h.spelled.0 room;
     })
 
--- an item that has its slot, and a fault in its place
+-- an item that has its room, and a fault in its place
 no_item_beside_fault : (l : Limits) (front more : List Item) (i : Item) (rest new : List ℕ)
     (e : DecodeError) → ItemFault (left_after l (flat_charge front)) rest e
     → Reads rest (IsItem i) new → HaveRoom l.counts (flat_charge (front ++ i ∷ more)).counts → ⊥
@@ -208,13 +206,12 @@ no_item_beside_fault l front more i rest new e
     (ItemFault.no_slot n w behind tag inside full) h room =
     let b = begins i rest new h in
     let kind = (same_tag rest b.behind behind (number_of i) n (kind_of i) w b.tag tag).kind in
-    full (slot_for l front more i room (takes_slot i more (λ is. inside (sym kind ∙ is))))
+    full (slot_of (left_after l (flat_charge front)) i (λ is. inside (sym kind ∙ is))
+    (room_for l front more i room))
 no_item_beside_fault l front more i rest new e
     (ItemFault.bad_payload n w behind tag inside flat fault) h room =
-    let b = begins i rest new h in
-    let kind = (same_tag rest b.behind behind (number_of i) n (kind_of i) w b.tag tag).kind in
     item_beside_fault (left_after l (flat_charge front)) i n w rest behind new e h tag inside flat
-    fault (slot_for l front more i room (takes_slot i more (λ is. inside (sym kind ∙ is))))
+    fault (room_for l front more i room)
 
 -- some bytes are left where a fault stands
 fault_there : (l : Limits) (rest : List ℕ) (e : DecodeError) → ItemFault l rest e → rest ≡ [] → ⊥
@@ -355,44 +352,3 @@ one_span_fault_lemma l span e f
     (subst (λ is. HaveRoom l.counts (flat_charge is).counts) on.parts taken.room)
     (subst (λ is. ItemFault (left_after l (flat_charge is)) rest e) on.parts fault)))
     (walks_on gs hs span rest after taken.read also.read)
-
--- ---- what a walk over records takes
-
--- items that are there are charged what the records are that the span spells
-pub charges_walk : (items : List Item) (l : Limits) (span : List ℕ) → TakesItems items l span []
-    → (fs : Fields) → Spells fs span → (charge fs).depth < 2 ^ 32 → flat_charge items ≡ charge fs
-charges_walk items l span h fs spelled few =
-    let (others, walk, same) = records_are_items_lemma fs span spelled few in
-    ap flat_charge (one_walk_lemma items others span (walk_all items span h.read) walk) ∙ same
-
--- where a span spells records whose slots are there, it has no fault
-pub no_fault_in_records : (l : Limits) (span : List ℕ) (e : DecodeError) → SpanFault l span e
-    → (fs : Fields) → Spells fs span → (charge fs).depth < 2 ^ 32
-    → HaveRoom l.counts (charge fs).counts → ⊥
-no_fault_in_records l span e fault fs spelled few room =
-    let (items, walk, same) = records_are_items_lemma fs span spelled few in
-    no_walk_beside_fault_lemma items l span e fault
-    (record {
-      read = record { text = span; parts = sym (append-nil span); spelled = walk };
-      room = subst (λ (c : Charge). HaveRoom l.counts c.counts) (sym same) room;
-    })
-
--- where a span spells records whose slots are there, a walk over it takes what they are charged
-pub charges_records : (l new : Limits) (span : List ℕ) (r : Result UnknownSpanCharge DecodeError)
-    → IfOk r (λ taken. (items : List Item) × TakesItems items l span []
-    × (taken.fields ≡ slots items) × (taken.depth ≡ greatest_level 0 items)
-    × (new ≡ left_after l (flat_charge items)))
-    → IfErr r (SpanFault l span)
-    → (fs : Fields) → Spells fs span → (charge fs).depth < 2 ^ 32
-    → HaveRoom l.counts (charge fs).counts
-    → MatchResult r
-    (λ taken. (taken.fields ≡ count fs) × (taken.depth ≡ (charge fs).depth)
-    × (new ≡ left_after l (charge fs))) (λ e. ⊥)
-charges_records l new span (Ok taken) (items, h, fields, depth, left) fault fs spelled few room =
-    let charged : flat_charge items ≡ charge fs = charges_walk items l span h fs spelled few in (
-      fields ∙ ap (λ (c : Charge). c.counts.unknown_fields) charged,
-      depth ∙ ap (λ (c : Charge). c.depth) charged,
-      left ∙ ap (left_after l) charged,
-    )
-charges_records l new span (Err e) ok fault fs spelled few room =
-    no_fault_in_records l span e fault fs spelled few room

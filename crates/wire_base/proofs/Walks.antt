@@ -4,13 +4,14 @@ use Rattle.wire_base.specs.declared.tag.WireType.TheVariants.{StartGroup, EndGro
 use Rattle.wire_base.specs.Charge.{payload_charge, payload_count, charge, count}
 use Rattle.wire_base.specs.Field.{Payload, varint, fixed64, fixed32, bytes, group, Fields, none, field, type_of}
 use Rattle.wire_base.specs.ItemLaws.{RecordsAreItems}
-use Rattle.wire_base.specs.Items.{Item, start, end, whole, IsItem, SpellsItems, slots, level_after, greatest_level, flat_charge}
-use Rattle.wire_base.specs.Limits.{Charge}
+use Rattle.wire_base.specs.Items.{Item, start, end, whole, IsItem, SpellsItems, slots, item_bytes, level_after, greatest_level, flat_charge}
+use Rattle.wire_base.specs.Limits.{Charge, sums}
 use Rattle.wire_base.specs.Read.{Reads}
 use Rattle.wire_base.specs.Spells.{SpellsPayload, Spells}
 use Rattle.wire_base.specs.Tag.{IsTagSpelling}
 use Rattle.wire_base.proofs.Agreement.{no_elements}
 use Rattle.wire_base.proofs.Items.{level_behind}
+use Rattle.wire_base.proofs.LimitsLaws.{same_counts}
 use Rattle.wire_base.proofs.ReadLaws.{Reads-inside}
 
 -- ---- items behind items
@@ -25,11 +26,24 @@ items_joined (i ∷ items) others a b (rest, first, more) k = (
   items_joined items others rest b more k,
 )
 
-pub slots-joined : (items others : List Item) → slots (items ++ others) ≡ slots items + slots others
+slots-joined : (items others : List Item) → slots (items ++ others) ≡ slots items + slots others
 slots-joined [] others = omega arith
 slots-joined (start n ∷ items) others = omega (arith, slots-joined items others)
 slots-joined (end n ∷ items) others = slots-joined items others
 slots-joined (whole n p ∷ items) others = omega (arith, slots-joined items others)
+
+item_bytes-joined : (items others : List Item)
+    → item_bytes (items ++ others) ≡ item_bytes items + item_bytes others
+item_bytes-joined [] others = omega arith
+item_bytes-joined (start n ∷ items) others = item_bytes-joined items others
+item_bytes-joined (end n ∷ items) others = item_bytes-joined items others
+item_bytes-joined (whole n p ∷ items) others = omega (arith, item_bytes-joined items others)
+
+pub counts-joined : (items others : List Item)
+    → (flat_charge (items ++ others)).counts
+    ≡ sums (flat_charge items).counts (flat_charge others).counts
+counts-joined items others =
+    same_counts _ _ (slots-joined items others) refl (item_bytes-joined items others)
 
 behind-joined : (level : ℕ) (items others : List Item)
     → level_behind level (items ++ others) ≡ level_behind (level_behind level items) others
@@ -126,6 +140,26 @@ mutual
   slots_of (field n p fs) =
       omega (arith, slots-joined (payload_items n p) (items_of fs), payload_slots n p, slots_of fs)
 
+mutual
+  payload_item_bytes : (n : ℕ) (p : Payload)
+      → item_bytes (payload_items n p) ≡ (payload_charge p).counts.unknown_bytes
+  payload_item_bytes n (varint v) = omega arith
+  payload_item_bytes n (fixed64 v) = omega arith
+  payload_item_bytes n (fixed32 v) = omega arith
+  payload_item_bytes n (bytes b) = omega arith
+  payload_item_bytes n (group fs) =
+      omega (arith, item_bytes-joined (items_of fs) (end n ∷ []), item_bytes_of fs)
+
+  item_bytes_of : (fs : Fields) → item_bytes (items_of fs) ≡ (charge fs).counts.unknown_bytes
+  item_bytes_of none = omega arith
+  item_bytes_of (field n p fs) =
+      omega (
+        arith,
+        item_bytes-joined (payload_items n p) (items_of fs),
+        payload_item_bytes n p,
+        item_bytes_of fs,
+      )
+
 -- the items rise so far above the level that they begin at, and end at it
 record Rises (level : ℕ) (items : List Item) (by : ℕ) : Type 0 where
   pub behind : level_behind level items ≡ level
@@ -196,13 +230,8 @@ mutual
 
 -- ---- the law
 
-same_charge : (a b : Charge) → a.depth ≡ b.depth
-    → a.counts.unknown_fields ≡ b.counts.unknown_fields
-    → a.counts.element_memory ≡ b.counts.element_memory → a ≡ b
-same_charge a b depth fields memory = λ i. record {
-  depth = depth i;
-  counts = record { unknown_fields = fields i; element_memory = memory i };
-}
+same_charge : (a b : Charge) → a.depth ≡ b.depth → a.counts ≡ b.counts → a ≡ b
+same_charge a b depth counts = λ i. record { depth = depth i; counts = counts i }
 
 pub records_are_items_lemma : RecordsAreItems
 records_are_items_lemma fs text h few =
@@ -210,5 +239,5 @@ records_are_items_lemma fs text h few =
       items_of fs,
       walk_of fs text h,
       same_charge (flat_charge (items_of fs)) (charge fs) (omega (arith, rises.greatest))
-          (slots_of fs) (sym (no_elements fs)),
+          (same_counts _ _ (slots_of fs) (sym (no_elements fs)) (item_bytes_of fs)),
     )

@@ -4,7 +4,7 @@ use Rattle.std.specs.Prelude.{◌≡◌, ◌≢◌, ◌⊎◌, ℕ, List, [], �
 use Rattle.wire_base.specs.declared.error.DecodeError.{DecodeError}
 use Rattle.wire_base.specs.declared.error.DecodeError.TheVariants.{OutOfMemory, UnexpectedEof, UnknownFieldLimitExceeded}
 use Rattle.wire_base.specs.declared.tag.WireType.{WireType}
-use Rattle.wire_base.specs.AgreementLaws.{HasSlotsFor}
+use Rattle.wire_base.specs.AgreementLaws.{HasRoomFor}
 use Rattle.wire_base.specs.Charge.{payload_charge}
 use Rattle.wire_base.specs.Fault.{PayloadFault}
 use Rattle.wire_base.specs.Field.{Payload}
@@ -20,7 +20,7 @@ FollowsDecoding levels n w old new result =
     (l : Limits) (p : Payload) (rest : List ℕ) → l.depth ≡ levels
     → TakesPayload (payload_charge p) l n w p old rest → IsOk result × (new ≡ rest)
 
--- where decoding refuses for another cause than slots, the call refuses with the same error
+-- where decoding refuses for another cause than slots and bytes, the call refuses with the same error
 abbrev pub RefusesAsDecoding : ℕ → ℕ → WireType → List ℕ → Result (Unit {0}) DecodeError → Type 0
 RefusesAsDecoding levels n w old result =
     (l : Limits) (e : DecodeError) → l.depth ≡ levels → PayloadFault l n w old e
@@ -28,24 +28,24 @@ RefusesAsDecoding levels n w old result =
 
 -- ---- keeping a payload
 
--- with more slots than bytes the call never wants for a slot
-abbrev pub NeverWantsSlots : {T : Type 0} → Limits → List ℕ → Result T DecodeError → Type 0
-NeverWantsSlots l old result =
-    HasSlotsFor l old → IfErr result (λ e. e ≢ UnknownFieldLimitExceeded)
+-- with room for the bytes the call never wants for room
+abbrev pub NeverWantsRoom : {T : Type 0} → Limits → List ℕ → Result T DecodeError → Type 0
+NeverWantsRoom l old result =
+    HasRoomFor l old → IfErr result (λ e. e ≢ UnknownFieldLimitExceeded)
 
--- with more slots than bytes the call keeps the payload that skipping takes, or memory is refused
+-- with room for the bytes the call keeps the payload that skipping takes, or memory is refused
 abbrev pub KeepsWhatIsSkipped : {T : Type 0} → (T → Payload) → Limits → ℕ → WireType → List ℕ
     → List ℕ → Result T DecodeError → Type 0
 KeepsWhatIsSkipped payload_in l n w old new result =
-    HasSlotsFor l old → (p : Payload) (rest : List ℕ)
+    HasRoomFor l old → (p : Payload) (rest : List ℕ)
     → TakesPayload (payload_charge p) (uncounted l.depth) n w p old rest
     → MatchResult result (λ kept. (payload_in kept ≡ p) × (new ≡ rest)) (λ e. e ≡ OutOfMemory)
 
--- with more slots than bytes the call refuses as skipping does, or memory is refused
+-- with room for the bytes the call refuses as skipping does, or memory is refused
 abbrev pub RefusesAsSkipping : {T : Type 0} → Limits → ℕ → WireType → List ℕ
     → Result T DecodeError → Type 0
 RefusesAsSkipping l n w old result =
-    HasSlotsFor l old → (e : DecodeError) → PayloadFault (uncounted l.depth) n w old e
+    HasRoomFor l old → (e : DecodeError) → PayloadFault (uncounted l.depth) n w old e
     → MatchResult result (λ kept. ⊥) (λ f. (f ≡ e) ⊎ (f ≡ OutOfMemory))
 
 -- ---- bytes that are missing, and bytes that follow

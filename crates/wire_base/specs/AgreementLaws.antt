@@ -19,27 +19,28 @@ SkippedWhereDecoded =
     → TakesPayload (payload_charge p) l n w p old new
     → TakesPayload (payload_charge p) (uncounted l.depth) n w p old new
 
--- a fault that is no want of slots is the fault of skipping
+-- a fault that is no want of slots or of bytes is the fault of skipping
 abbrev pub RefusedAlike : Type 0
 RefusedAlike =
     (l : Limits) (n : ℕ) (w : WireType) (bytes : List ℕ) (e : DecodeError)
     → PayloadFault l n w bytes e → e ≢ UnknownFieldLimitExceeded
     → PayloadFault (uncounted l.depth) n w bytes e
 
--- there are more slots than bytes
-abbrev pub HasSlotsFor : Limits → List ℕ → Type 0
-HasSlotsFor l bytes = HasRoom l.counts.unknown_fields (length bytes + 1)
+-- there are more slots than bytes, and as many bytes may be kept
+pub record HasRoomFor (l : Limits) (bytes : List ℕ) : Type 0 where
+  pub unknown_fields : HasRoom l.counts.unknown_fields (length bytes + 1)
+  pub unknown_bytes : HasRoom l.counts.unknown_bytes (length bytes)
 
--- with more slots than bytes decoding agrees with skipping: it never wants for a slot, takes what
+-- with room for the bytes decoding agrees with skipping: it never wants for room, takes what
 -- skipping takes, and refuses what skipping refuses
-pub record SlotsSuffice : Type 0 where
-  pub none_wanted : (l : Limits) (n : ℕ) (w : WireType) (bytes : List ℕ) → HasSlotsFor l bytes
+pub record RoomSuffices : Type 0 where
+  pub none_wanted : (l : Limits) (n : ℕ) (w : WireType) (bytes : List ℕ) → HasRoomFor l bytes
       → PayloadFault l n w bytes UnknownFieldLimitExceeded → ⊥
   pub taken : (l : Limits) (n : ℕ) (w : WireType) (p : Payload) (old new : List ℕ)
-      → HasSlotsFor l old → TakesPayload (payload_charge p) (uncounted l.depth) n w p old new
+      → HasRoomFor l old → TakesPayload (payload_charge p) (uncounted l.depth) n w p old new
       → TakesPayload (payload_charge p) l n w p old new
   pub refused : (l : Limits) (n : ℕ) (w : WireType) (bytes : List ℕ) (e : DecodeError)
-      → HasSlotsFor l bytes → PayloadFault (uncounted l.depth) n w bytes e
+      → HasRoomFor l bytes → PayloadFault (uncounted l.depth) n w bytes e
       → PayloadFault l n w bytes e
 
 -- of a group that is decoded, the body and its end tag are a list with one level less

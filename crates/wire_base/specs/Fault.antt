@@ -5,10 +5,10 @@ use Rattle.wire_base.specs.declared.error.DecodeError.TheVariants.{UnexpectedEof
 use Rattle.wire_base.specs.declared.tag.WireType.{WireType}
 use Rattle.wire_base.specs.declared.tag.WireType.TheVariants as types
 use Rattle.wire_base.specs.Charge.{charge}
-use Rattle.wire_base.specs.Delimited.{DelimitedFault}
+use Rattle.wire_base.specs.Delimited.{IsDelimited, DelimitedFault}
 use Rattle.wire_base.specs.Ending.{Ending, by_tag, GoesOn, IsRecordTag}
 use Rattle.wire_base.specs.Field.{Fields}
-use Rattle.wire_base.specs.Limits.{Limits, Fits, one_field, left_after, inner}
+use Rattle.wire_base.specs.Limits.{Limits, Fits, one_field, bytes_charge, left_after, inner}
 use Rattle.wire_base.specs.Read.{Reads}
 use Rattle.wire_base.specs.Tag.{IsTagSpelling, TagFault}
 use Rattle.wire_base.specs.Taken.{TakesFields}
@@ -23,8 +23,8 @@ pub data NextTagFault : Ending → List ℕ → DecodeError → Type 0 where
       → NextTagFault (by_tag n) bytes (InvalidEndGroup k)
 
 mutual
-  -- Behind a tag (n, w) no payload stands within the limits. A slot is taken before all else, and a
-  -- level before what stands inside the group.
+  -- Behind a tag (n, w) no payload stands within the limits. A slot is taken before all else, a
+  -- level before what stands inside the group, and bytes where they are known to be there.
   pub data PayloadFault : Limits → ℕ → WireType → List ℕ → DecodeError → Type 0 where
     no_slot : {l : Limits} {n : ℕ} {w : WireType} {bytes : List ℕ}
         → ¬ Fits one_field l → PayloadFault l n w bytes UnknownFieldLimitExceeded
@@ -37,6 +37,10 @@ mutual
     no_bytes : {l : Limits} {n : ℕ} {bytes : List ℕ} {e : DecodeError}
         → Fits one_field l → DelimitedFault None bytes e
         → PayloadFault l n types.LengthDelimited bytes e
+    no_room : {l : Limits} {n : ℕ} {bytes : List ℕ} (payload rest : List ℕ)
+        → Fits one_field l → Reads bytes (IsDelimited payload) rest
+        → ¬ Fits (bytes_charge (length payload)) (left_after l one_field)
+        → PayloadFault l n types.LengthDelimited bytes UnknownFieldLimitExceeded
     end_outside : {l : Limits} {n : ℕ} {bytes : List ℕ}
         → Fits one_field l → PayloadFault l n types.EndGroup bytes (InvalidWireType 4)
     no_level : {l : Limits} {n : ℕ} {bytes : List ℕ}

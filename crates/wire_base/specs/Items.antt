@@ -4,6 +4,7 @@ use Rattle.wire_base.specs.declared.error.DecodeError.{DecodeError}
 use Rattle.wire_base.specs.declared.error.DecodeError.TheVariants.{UnknownFieldLimitExceeded}
 use Rattle.wire_base.specs.declared.tag.WireType.{WireType}
 use Rattle.wire_base.specs.declared.tag.WireType.TheVariants.{StartGroup, EndGroup}
+use Rattle.wire_base.specs.Charge.{payload_charge}
 use Rattle.wire_base.specs.Fault.{PayloadFault}
 use Rattle.wire_base.specs.Field.{Payload, none, field, type_of}
 use Rattle.wire_base.specs.Limits.{Limits, Charge, HaveRoom, Fits, one_field, left_after}
@@ -35,6 +36,13 @@ slots (start n ∷ items) = suc (slots items)
 slots (end n ∷ items) = slots items
 slots (whole n p ∷ items) = suc (slots items)
 
+-- how many bytes the length-delimited payloads of the items are
+abbrev pub item_bytes : List Item → ℕ
+item_bytes [] = 0
+item_bytes (start n ∷ items) = item_bytes items
+item_bytes (end n ∷ items) = item_bytes items
+item_bytes (whole n p ∷ items) = (payload_charge p).counts.unknown_bytes + item_bytes items
+
 -- the level behind an item: one up at a start tag and one down at an end tag, from 0 to 2 ^ 32 - 1
 abbrev pub level_after : Item → ℕ → ℕ
 level_after (start n) level = min (level + 1) (2 ^ 32 - 1)
@@ -51,7 +59,11 @@ greatest_level level (i ∷ items) = max level (greatest_level (level_after i le
 abbrev pub flat_charge : List Item → Charge
 flat_charge items = record {
   depth = greatest_level 0 items;
-  counts = record { unknown_fields = slots items; element_memory = 0 };
+  counts = record {
+    unknown_fields = slots items;
+    element_memory = 0;
+    unknown_bytes = item_bytes items;
+  };
 }
 
 -- the items stand at the front of old, there is room for what they count, and new is what follows
@@ -59,7 +71,7 @@ pub record TakesItems (items : List Item) (l : Limits) (old new : List ℕ) : Ty
   pub read : Reads old (SpellsItems items) new
   pub room : HaveRoom l.counts (flat_charge items).counts
 
--- some bytes are left, and no item stands there for which there is a slot
+-- some bytes are left, and no item stands there for which there is room
 pub data ItemFault : Limits → List ℕ → DecodeError → Type 0 where
   no_tag : {l : Limits} {bytes : List ℕ} {e : DecodeError}
       → bytes ≢ [] → TagFault bytes e → ItemFault l bytes e
@@ -71,7 +83,7 @@ pub data ItemFault : Limits → List ℕ → DecodeError → Type 0 where
       → Reads bytes (IsTagSpelling n w) behind → w ≢ EndGroup → w ≢ StartGroup
       → PayloadFault l n w behind e → ItemFault l bytes e
 
--- items for which there are slots, and then a fault
+-- items for which there is room, and then a fault
 pub data SpanFault : Limits → List ℕ → DecodeError → Type 0 where
   past : {l : Limits} {span : List ℕ} {e : DecodeError} (items : List Item) (rest : List ℕ)
       → TakesItems items l span rest → ItemFault (left_after l (flat_charge items)) rest e

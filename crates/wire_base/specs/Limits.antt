@@ -9,11 +9,13 @@ use Rattle.std.specs.Prelude.{ℕ, ◌+◌, ◌-◌, ◌≤◌, max, Option, Som
 pub record Counts : Type 0 where
   pub unknown_fields : ℕ
   pub element_memory : ℕ
+  pub unknown_bytes : ℕ
 
 -- how much of each may still be taken; none is no limit
 pub record Budgets : Type 0 where
   pub unknown_fields : Option ℕ
   pub element_memory : Option ℕ
+  pub unknown_bytes : Option ℕ
 
 -- a budget that has so much left
 abbrev pub HasRoom : Option ℕ → ℕ → Type 0
@@ -36,31 +38,35 @@ IsNoMore (Some new) (Some old) = new ≤ old
 pub record HaveRoom (left : Budgets) (taken : Counts) : Type 0 where
   pub unknown_fields : HasRoom left.unknown_fields taken.unknown_fields
   pub element_memory : HasRoom left.element_memory taken.element_memory
+  pub unknown_bytes : HasRoom left.unknown_bytes taken.unknown_bytes
 
 -- what is left of each budget
 abbrev pub each_less : Budgets → Counts → Budgets
 each_less left taken = record {
   unknown_fields = less left.unknown_fields taken.unknown_fields;
   element_memory = less left.element_memory taken.element_memory;
+  unknown_bytes = less left.unknown_bytes taken.unknown_bytes;
 }
 
 -- no budget is greater than it was
 pub record AreNoMore (new old : Budgets) : Type 0 where
   pub unknown_fields : IsNoMore new.unknown_fields old.unknown_fields
   pub element_memory : IsNoMore new.element_memory old.element_memory
+  pub unknown_bytes : IsNoMore new.unknown_bytes old.unknown_bytes
 
 -- each count of two things together
 abbrev pub sums : Counts → Counts → Counts
 sums a b = record {
   unknown_fields = a.unknown_fields + b.unknown_fields;
   element_memory = a.element_memory + b.element_memory;
+  unknown_bytes = a.unknown_bytes + b.unknown_bytes;
 }
 
 abbrev pub no_counts : Counts
-no_counts = record { unknown_fields = 0; element_memory = 0 }
+no_counts = record { unknown_fields = 0; element_memory = 0; unknown_bytes = 0 }
 
 abbrev pub no_budgets : Budgets
-no_budgets = record { unknown_fields = None; element_memory = None }
+no_budgets = record { unknown_fields = None; element_memory = None; unknown_bytes = None }
 
 -- ---- limits and charges
 
@@ -90,14 +96,26 @@ both a b = record { depth = max a.depth b.depth; counts = sums a.counts b.counts
 abbrev pub no_charge : Charge
 no_charge = record { depth = 0; counts = no_counts }
 
--- the charge of one unknown field, apart from what stands inside it
+-- the charge of one unknown field, apart from its bytes and from what stands inside it
 abbrev pub one_field : Charge
-one_field = record { depth = 0; counts = record { unknown_fields = 1; element_memory = 0 } }
+one_field = record {
+  depth = 0;
+  counts = record { unknown_fields = 1; element_memory = 0; unknown_bytes = 0 };
+}
+
+-- the charge of so many bytes, which are the payload of an unknown field
+abbrev pub bytes_charge : ℕ → Charge
+bytes_charge bytes = record {
+  depth = 0;
+  counts = record { unknown_fields = 0; element_memory = 0; unknown_bytes = bytes };
+}
 
 -- the charge of an element of so many bytes
 abbrev pub element_of : ℕ → Charge
-element_of bytes =
-    record { depth = 0; counts = record { unknown_fields = 0; element_memory = bytes } }
+element_of bytes = record {
+  depth = 0;
+  counts = record { unknown_fields = 0; element_memory = bytes; unknown_bytes = 0 };
+}
 
 -- the charge of what stands one level down, in a group or a message
 abbrev pub nested : Charge → Charge
@@ -125,12 +143,31 @@ uncounted levels = record { depth = levels; counts = no_budgets }
 abbrev pub counted : ℕ → ℕ → Limits
 counted levels fields = record {
   depth = levels;
-  counts = record { unknown_fields = Some fields; element_memory = None };
+  counts = record {
+    unknown_fields = Some fields;
+    element_memory = None;
+    unknown_bytes = None;
+  };
 }
 
 -- the same limits, with so many bytes for elements
 abbrev pub with_elements : Limits → ℕ → Limits
 with_elements l bytes = record {
   depth = l.depth;
-  counts = record { unknown_fields = l.counts.unknown_fields; element_memory = Some bytes };
+  counts = record {
+    unknown_fields = l.counts.unknown_fields;
+    element_memory = Some bytes;
+    unknown_bytes = l.counts.unknown_bytes;
+  };
+}
+
+-- the same limits, with so many bytes for the payloads of unknown fields
+abbrev pub with_unknown_bytes : Limits → ℕ → Limits
+with_unknown_bytes l bytes = record {
+  depth = l.depth;
+  counts = record {
+    unknown_fields = l.counts.unknown_fields;
+    element_memory = l.counts.element_memory;
+    unknown_bytes = Some bytes;
+  };
 }

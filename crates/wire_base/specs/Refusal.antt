@@ -5,11 +5,11 @@ use Rattle.wire_base.specs.declared.error.DecodeError.{DecodeError}
 use Rattle.wire_base.specs.declared.error.DecodeError.TheVariants.{OutOfMemory}
 use Rattle.wire_base.specs.declared.tag.WireType.{WireType}
 use Rattle.wire_base.specs.declared.tag.WireType.TheVariants as types
-use Rattle.wire_base.specs.Charge.{charge}
+use Rattle.wire_base.specs.Charge.{payload_charge, charge}
 use Rattle.wire_base.specs.Delimited.{IsDelimited}
 use Rattle.wire_base.specs.Ending.{Ending}
 use Rattle.wire_base.specs.Fault.{PayloadFault, ListFault}
-use Rattle.wire_base.specs.Field.{Fields, none}
+use Rattle.wire_base.specs.Field.{Payload, Fields, none}
 use Rattle.wire_base.specs.Limits.{Limits, Fits, one_field, left_after, inner}
 use Rattle.wire_base.specs.Read.{Reads}
 use Rattle.wire_base.specs.Tag.{IsTagSpelling}
@@ -18,9 +18,9 @@ use Rattle.wire_base.specs.Taken.{TakesFields}
 mutual
   -- Memory is wanted behind a tag of this wire type, within the limits.
   pub data PayloadWantsMemory : Limits → WireType → List ℕ → Type 0 where
-    -- a payload that is copied stands there
+    -- a payload that is copied stands there, within the limits
     for_bytes : {l : Limits} {bytes : List ℕ} (payload rest : List ℕ)
-        → Fits one_field l → Reads bytes (IsDelimited payload) rest
+        → Fits (payload_charge (Payload.bytes payload)) l → Reads bytes (IsDelimited payload) rest
         → PayloadWantsMemory l types.LengthDelimited bytes
     in_group : {l : Limits} {bytes : List ℕ}
         → Fits one_field l → 0 < l.depth → FieldsWantMemory (inner (left_after l one_field)) bytes

@@ -6,7 +6,7 @@ use Rattle.wire_base.specs.Charge.{charge}
 use Rattle.wire_base.specs.Ending.{by_input}
 use Rattle.wire_base.specs.Field.{Fields, none, joined}
 use Rattle.wire_base.specs.Items.{Item, SpellsItems, TakesItems, SpanFault, flat_charge}
-use Rattle.wire_base.specs.Limits.{Limits, Charge, Fits, both, counted, left_after, no_charge}
+use Rattle.wire_base.specs.Limits.{Limits, Charge, Counts, Fits, both, counted, left_after, no_charge, with_unknown_bytes}
 use Rattle.wire_base.specs.Refusal.{ListRefusal}
 use Rattle.wire_base.specs.Spells.{Spells}
 
@@ -20,26 +20,31 @@ AreCharged (s ∷ spans) c =
     (items : List Item) × (behind : Charge) × SpellsItems items s × AreCharged spans behind
     × (c ≡ both (flat_charge items) behind)
 
--- the charge of so many unknown fields, which nest so deep
-abbrev pub fields_charge : ℕ → ℕ → Charge
-fields_charge depth fields = record {
+-- the charge of so many unknown fields, which nest so deep and have payloads of so many bytes
+abbrev pub fields_charge : ℕ → ℕ → ℕ → Charge
+fields_charge depth fields bytes = record {
   depth = depth;
-  counts = record { unknown_fields = fields; element_memory = 0 };
+  counts = record { unknown_fields = fields; element_memory = 0; unknown_bytes = bytes };
 }
 
 -- limits that leave nothing behind this charge
 abbrev pub exact_limits : Charge → Limits
-exact_limits c = counted c.depth c.counts.unknown_fields
+exact_limits c =
+    with_unknown_bytes (counted c.depth c.counts.unknown_fields) c.counts.unknown_bytes
 
--- a span is items for which there are slots, and its slots and those of other spans are more than
--- `usize::MAX`
+-- one of the counts that a flat walk takes is more than `usize::MAX`
+abbrev pub PassUsize : Counts → Type 0
+PassUsize c = (2 ^ 64 ≤ c.unknown_fields) ⊎ (2 ^ 64 ≤ c.unknown_bytes)
+
+-- a span is items for which there is room, and its slots and those of other spans, or its bytes and
+-- theirs, are more than `usize::MAX`
 abbrev pub TooMany : Limits → List (List ℕ) → List ℕ → Type 0
 TooMany l spans span =
     (items : List Item) × (before : Charge) × TakesItems items l span [] × AreCharged spans before
-    × (2 ^ 64 ≤ (both before (flat_charge items)).counts.unknown_fields)
+    × PassUsize (both before (flat_charge items)).counts
 
--- A span is not added to others: it has a fault, its slots and theirs are too many to be counted,
--- or memory is wanted for one span more.
+-- A span is not added to others: it has a fault, its slots and theirs or its bytes and theirs are
+-- too many to be counted, or memory is wanted for one span more.
 abbrev pub PushRefusal : Limits → List (List ℕ) → List ℕ → DecodeError → Type 0
 PushRefusal l spans span e =
     SpanFault l span e

@@ -1,7 +1,8 @@
-//! What a decoder may still take: levels of nesting, unknown fields, and bytes for elements.
+//! What a decoder may still take: levels of nesting, unknown fields and their bytes, and bytes for
+//! elements.
 ghost use Rattle.std.specs.Prelude.{◌≡◌, ℕ, ◌-◌, ◌^◌, ◌<◌, Some, OnOk, OnErr, IfErr};
 ghost use Rattle.wire_base.specs.declared.error.DecodeError.TheVariants.{RecursionLimitExceeded, UnknownFieldLimitExceeded, ElementMemoryLimitExceeded};
-ghost use Rattle.wire_base.specs.Limits.{Fits, counted, with_elements, one_field, element_of, left_after, inner, outer};
+ghost use Rattle.wire_base.specs.Limits.{Fits, counted, with_elements, with_unknown_bytes, one_field, bytes_charge, element_of, left_after, inner, outer};
 
 use crate::error::DecodeError;
 use std::marker::Model;
@@ -20,6 +21,7 @@ pub struct DecodeContext {
     depth: u32,
     unknown_fields: usize,
     element_memory: Option<usize>,
+    unknown_bytes: Option<usize>,
 }
 
 impl Model for DecodeContext {
@@ -33,12 +35,14 @@ impl Model for DecodeContext {
       counts = record {
         unknown_fields = Some c.unknown_fields;
         element_memory = c.element_memory;
+        unknown_bytes = c.unknown_bytes;
       };
     } };
 }
 
 impl DecodeContext {
-    /// So many levels of nesting and so many unknown fields, and no limit on bytes for elements.
+    /// So many levels of nesting and so many unknown fields, and no limit on bytes for elements or
+    /// on the bytes of unknown fields.
     pub fn new(depth: u32, unknown_fields: usize) -> DecodeContext
         ensures { result ≡ counted depth unknown_fields }
     {
@@ -46,6 +50,7 @@ impl DecodeContext {
             depth,
             unknown_fields,
             element_memory: None,
+            unknown_bytes: None,
         }
     }
 
@@ -55,6 +60,17 @@ impl DecodeContext {
     {
         DecodeContext {
             element_memory: Some(bytes),
+            ..self
+        }
+    }
+
+    /// The same limits, with so many bytes for the length-delimited payloads of unknown fields,
+    /// those in groups too. Their lengths and tags count nothing.
+    pub fn with_unknown_bytes(self, bytes: usize) -> DecodeContext
+        ensures { result ≡ with_unknown_bytes self bytes }
+    {
+        DecodeContext {
+            unknown_bytes: Some(bytes),
             ..self
         }
     }
@@ -78,6 +94,13 @@ impl DecodeContext {
         ensures { result ≡ self.now.counts.element_memory }
     {
         self.element_memory
+    }
+
+    /// The bytes that the payloads of unknown fields may still be, where there is a limit.
+    pub fn remaining_unknown_bytes(&self) -> Option<usize>
+        ensures { result ≡ self.now.counts.unknown_bytes }
+    {
+        self.unknown_bytes
     }
 
     /// Takes one level, or answers `RecursionLimitExceeded` where none is left.
@@ -117,6 +140,25 @@ impl DecodeContext {
             return Err(DecodeError::UnknownFieldLimitExceeded);
         }
         self.unknown_fields -= 1;
+        Ok(())
+    }
+
+    /// Takes so many bytes for the payload of an unknown field, or answers
+    /// `UnknownFieldLimitExceeded` where fewer are left. Without a limit nothing changes.
+    #[inline(always)]
+    pub fn register_unknown_bytes(&mut self, bytes: usize) -> Result<(), DecodeError>
+        ensures ok { OnOk result (self.new ≡ left_after self.old (bytes_charge bytes)) }
+        ensures taken { OnOk result (Fits (bytes_charge bytes) self.old) }
+        ensures err { IfErr result (λ e. e ≡ UnknownFieldLimitExceeded) }
+        ensures none_left { OnErr result (¬ Fits (bytes_charge bytes) self.old) }
+        ensures unchanged { OnErr result (self.new ≡ self.old) }
+    {
+        if let Some(left) = self.unknown_bytes {
+            if left < bytes {
+                return Err(DecodeError::UnknownFieldLimitExceeded);
+            }
+            self.unknown_bytes = Some(left - bytes);
+        }
         Ok(())
     }
 

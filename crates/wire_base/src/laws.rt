@@ -4,8 +4,8 @@ ghost use Rattle.wire_base.specs.TagLaws.{TagTextReadsBack, OneTag, NoTagBesideF
 ghost use Rattle.wire_base.specs.LimitsLaws.{ChargesAddUp, LimitsAddUp, LevelsAddUp, CountsFall};
 ghost use Rattle.wire_base.specs.RecordLaws.{PayloadIsField, OnePayload, OneSpelled, OneList, WholeInput, GroupIsList, JoinedTextsSpell, JoinedAddsUp, RecordsOneByOne, RecordsFromTheFront, ShortestTextSpells, NoTextIsShorter, NoOtherTextIsAsShort, TextSpellsOneList, SpelledAreNumbered, NumberedTogether};
 ghost use Rattle.wire_base.specs.FaultLaws.{NoPayloadBesideFault, NoListBesideFault, OnePayloadFault, OneListFault, PayloadOrFaultStands, ListOrFaultStands};
-ghost use Rattle.wire_base.specs.AgreementLaws.{SkippedWhereDecoded, RefusedAlike, SlotsSuffice, BodyWhereDecoded, FaultsStay, CutIsShort};
-ghost use Rattle.wire_base.specs.ItemLaws.{RecordsAreItems, OneWalk, NoWalkBesideFault, OneSpanFault};
+ghost use Rattle.wire_base.specs.AgreementLaws.{SkippedWhereDecoded, RefusedAlike, RoomSuffices, BodyWhereDecoded, FaultsStay, CutIsShort};
+ghost use Rattle.wire_base.specs.ItemLaws.{RecordsAreItems, OneWalk, NoWalkBesideFault, OneSpanFault, PayloadsInside};
 ghost use Rattle.wire_base.specs.SpanLaws.{OneSpansCharge, SpansChargeRecords, JoinedSpansSpell};
 ghost use Rattle.wire_base.specs.WriteLaws.{TwoParts, PutIsWrite};
 
@@ -240,15 +240,16 @@ pub fn skipped_where_decoded()
     ensures { SkippedWhereDecoded }
 {}
 
-/// What decoding refuses for another cause than slots, skipping refuses with the same error.
+/// What decoding refuses for another cause than slots and bytes, skipping refuses with the same
+/// error.
 pub fn refused_alike()
     ensures { RefusedAlike }
 {}
 
-/// With more slots than bytes decoding never wants for a slot, takes what skipping takes, and
-/// refuses what skipping refuses.
-pub fn slots_suffice()
-    ensures { SlotsSuffice }
+/// With more slots than bytes, and as many bytes that may be kept, decoding never wants for room,
+/// takes what skipping takes, and refuses what skipping refuses.
+pub fn room_suffices()
+    ensures { RoomSuffices }
 {}
 
 /// Of a group that is decoded, the body and its end tag are a list with one level less.
@@ -272,12 +273,17 @@ pub fn records_are_items()
     ensures { RecordsAreItems }
 {}
 
+/// The length-delimited payloads of items are no longer than their text.
+pub fn payloads_inside()
+    ensures { PayloadsInside }
+{}
+
 /// A text spells one list of items at most.
 pub fn one_walk()
     ensures { OneWalk }
 {}
 
-/// Where the grammar names a fault, the span is no list of items for which there are slots.
+/// Where the grammar names a fault, the span is no list of items for which there is room.
 pub fn no_walk_beside_fault()
     ensures { NoWalkBesideFault }
 {}

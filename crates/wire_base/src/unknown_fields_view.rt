@@ -9,7 +9,7 @@ ghost use Rattle.wire_base.specs.Charge.{charge};
 ghost use Rattle.wire_base.specs.Field.{Fields};
 ghost use Rattle.wire_base.specs.InRange.{AreFitting, AreNumbered};
 ghost use Rattle.wire_base.specs.Items.{Item, TakesItems, flat_charge};
-ghost use Rattle.wire_base.specs.Limits.{Charge, Fits, HaveRoom, NoCountGrew, left_after};
+ghost use Rattle.wire_base.specs.Limits.{Charge, Fits, HasRoom, HaveRoom, NoCountGrew, left_after};
 ghost use Rattle.wire_base.specs.Sink.{KeepsFront, WriteAnswers};
 ghost use Rattle.wire_base.specs.Spans.{AreCharged, PushRefusal, SpellEach, SpansRefusal, TooMany, exact_limits};
 ghost use Rattle.wire_base.specs.Spells.{Spells};
@@ -34,6 +34,7 @@ pub struct UnknownFieldsView<'a> {
     spans: Vec<&'a [u8]>,
     fields: usize,
     depth: u32,
+    bytes: usize,
 }
 
 impl<'a> Model for UnknownFieldsView<'a> {
@@ -45,7 +46,7 @@ impl<'a> Model for UnknownFieldsView<'a> {
     ghost view = { λ v. map (λ s. s.now) v.spans.items };
 
     ghost invariant = { λ v. AreCharged (map (λ s. s.now) v.spans.items)
-        (fields_charge v.depth v.fields) };
+        (fields_charge v.depth v.fields v.bytes) };
 }
 
 impl<'a> UnknownFieldsView<'a> {
@@ -57,6 +58,7 @@ impl<'a> UnknownFieldsView<'a> {
             spans: Vec::new(alloc),
             fields: 0,
             depth: 0,
+            bytes: 0,
         }
     }
 
@@ -67,6 +69,7 @@ impl<'a> UnknownFieldsView<'a> {
         self.spans.clear();
         self.fields = 0;
         self.depth = 0;
+        self.bytes = 0;
     }
 
     /// Whether there is no span.
@@ -83,11 +86,11 @@ impl<'a> UnknownFieldsView<'a> {
         self.spans.len()
     }
 
-    /// Adds a span at the end, and takes its slots from the context. No byte is copied: memory is
+    /// Adds a span at the end, and takes its slots and bytes from the context. No byte is copied: memory is
     /// wanted for the list of spans alone, and before all else, so that `OutOfMemory` changes
     /// nothing. Else refused as `register_unknown_record`, and the spans are as they were.
-    /// `UnknownFieldLimitExceeded` also comes where the slots of all spans would be more than
-    /// `usize::MAX`; those of this one are then gone from the context.
+    /// `UnknownFieldLimitExceeded` also comes where the slots or the bytes of all spans would be
+    /// more than `usize::MAX`; those of this one are then gone from the context.
     ///
     /// No level of the context is taken: the groups of a span may nest as deep as there are slots,
     /// as `depth` tells, and `to_owned_fields` recurses as deep.
@@ -118,9 +121,13 @@ impl<'a> UnknownFieldsView<'a> {
         let Some(fields) = self.fields.checked_add(charge.fields) else {
             return Err(DecodeError::UnknownFieldLimitExceeded);
         };
+        let Some(bytes) = self.bytes.checked_add(charge.bytes) else {
+            return Err(DecodeError::UnknownFieldLimitExceeded);
+        };
         self.spans.push(span)?;
         self.fields = fields;
         self.depth = self.depth.max(charge.depth);
+        self.bytes = bytes;
         Ok(())
     }
 
@@ -136,6 +143,13 @@ impl<'a> UnknownFieldsView<'a> {
         ensures { (c : Charge) × AreCharged self.now c × (result ≡ c.depth) }
     {
         self.depth
+    }
+
+    /// How many bytes the length-delimited payloads of the spans are.
+    pub fn bytes(&self) -> usize
+        ensures { (c : Charge) × AreCharged self.now c × (result ≡ c.counts.unknown_bytes) }
+    {
+        self.bytes
     }
 
     /// The spans in order. They live as long as the input, also when the view is gone.
@@ -192,13 +206,17 @@ impl<'a> UnknownFieldsView<'a> {
         ensures only { (fs : Fields) → SpellEach self.now fs → Fits (charge fs) context.old
             → MatchResult result (λ read. read ≡ fs) (λ e. e ≡ OutOfMemory) }
 
-        // Under just the levels and slots that the spans were charged, the records that they spell
-        // are read, unless memory runs out, and no slot is left.
+        // Under just the levels and slots that the spans were charged, and as many bytes at least,
+        // the records that they spell are read, unless memory runs out, and no slot is left. Of just
+        // as many bytes none is left.
         ensures exact { (fs : Fields) (c : Charge) → SpellEach self.now fs
             → (charge fs).depth < 2 ^ 32 → AreCharged self.now c → context.old.depth ≡ c.depth
             → context.old.counts.unknown_fields ≡ Some c.counts.unknown_fields
+            → HasRoom context.old.counts.unknown_bytes c.counts.unknown_bytes
             → MatchResult result
-            (λ read. (read ≡ fs) × (context.new.counts.unknown_fields ≡ Some 0))
+            (λ read. (read ≡ fs) × (context.new.counts.unknown_fields ≡ Some 0)
+            × (context.old.counts.unknown_bytes ≡ Some c.counts.unknown_bytes
+            → context.new.counts.unknown_bytes ≡ Some 0))
             (λ e. e ≡ OutOfMemory) }
     {
         self.read_spans(context)
@@ -222,7 +240,7 @@ impl<'a> UnknownFieldsView<'a> {
         Ok(fields)
     }
 
-    /// Reads the spans as records under just the levels and slots that they were charged, which
+    /// Reads the spans as records under just the levels, slots and bytes that they were charged, which
     /// suffice where they spell records whose groups nest less than 2^32 deep. Refused as `replay`.
     ///
     /// It recurses as deep as `depth` says, which no limit bounds but the slots: 33,000 start tags,
@@ -241,7 +259,7 @@ impl<'a> UnknownFieldsView<'a> {
         ensures only { (fs : Fields) → SpellEach self.now fs → (charge fs).depth < 2 ^ 32
             → MatchResult result (λ read. read ≡ fs) (λ e. e ≡ OutOfMemory) }
     {
-        let mut context = DecodeContext::new(self.depth, self.fields);
-        self.replay(&mut context)
+        let context = DecodeContext::new(self.depth, self.fields);
+        self.replay(&mut context.with_unknown_bytes(self.bytes))
     }
 }

@@ -99,7 +99,7 @@ module _ (l : Limits) (n : ℕ) (w : WireType) (m : Counter) (old : List ℕ) wh
             read = h.read.read;
             fits = record {
               depth = omega (arith, fits.fits.depth, all);
-              counts = record { unknown_fields = tt; element_memory = tt };
+              counts = record { unknown_fields = tt; element_memory = tt; unknown_bytes = tt };
             };
           })
 

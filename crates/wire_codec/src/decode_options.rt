@@ -7,6 +7,7 @@ ghost use Rattle.wire_codec.specs.Nested.{TakesDelimited};
 ghost use Rattle.wire_codec.specs.Options.{default_options, limits_of};
 ghost use Rattle.wire_codec.specs.Options.{with_recursion, with_message_size};
 ghost use Rattle.wire_codec.specs.Options.{with_unknown_fields, with_element_memory};
+ghost use Rattle.wire_codec.specs.Options.{with_payload_bytes};
 ghost use Rattle.wire_codec.specs.Taking.{Decodes, NotTaken, NotDecoded};
 
 use crate::message::Message;
@@ -20,14 +21,15 @@ use wire_base::{DEFAULT_UNKNOWN_FIELD_LIMIT, DecodeContext, DecodeError, RECURSI
 /// `DecodeOptions` that name no limit.
 pub const DEFAULT_ELEMENT_MEMORY_LIMIT: usize = 33_554_432;
 
-/// Limits for decoding: levels of nesting, bytes of an input, unknown fields, and bytes for the
-/// elements that message types charge.
+/// Limits for decoding: levels of nesting, bytes of an input, unknown fields, bytes for the elements
+/// that message types charge, and bytes of the payloads of unknown fields.
 #[derive(Clone, Debug, Drop)]
 pub struct DecodeOptions {
     recursion_limit: u32,
     max_message_size: usize,
     unknown_field_limit: usize,
     element_memory_limit: usize,
+    unknown_byte_limit: usize,
 }
 
 impl Model for DecodeOptions {
@@ -41,14 +43,15 @@ impl Model for DecodeOptions {
       max_message_size = options.max_message_size;
       unknown_field_limit = options.unknown_field_limit;
       element_memory_limit = options.element_memory_limit;
+      unknown_byte_limit = options.unknown_byte_limit;
     } };
 
     ghost invariant = { λ options. options.max_message_size ≤ 2147483647 };
 }
 
 impl DecodeOptions {
-    /// 100 levels, 2,147,483,647 bytes, 1,000,000 unknown fields, and 33,554,432 bytes for
-    /// elements.
+    /// 100 levels, 2,147,483,647 bytes, 1,000,000 unknown fields, 33,554,432 bytes for elements, and
+    /// `usize::MAX` bytes of unknown fields.
     pub fn new() -> DecodeOptions
         ensures { result ≡ default_options }
     {
@@ -57,6 +60,7 @@ impl DecodeOptions {
             max_message_size: MAX_MESSAGE_BYTES as usize,
             unknown_field_limit: DEFAULT_UNKNOWN_FIELD_LIMIT,
             element_memory_limit: DEFAULT_ELEMENT_MEMORY_LIMIT,
+            unknown_byte_limit: usize::MAX,
         }
     }
 
@@ -100,6 +104,16 @@ impl DecodeOptions {
         }
     }
 
+    /// How many bytes the length-delimited payloads of unknown fields may be, those in groups too.
+    pub fn with_unknown_byte_limit(self, limit: usize) -> DecodeOptions
+        ensures { result ≡ with_payload_bytes self limit }
+    {
+        DecodeOptions {
+            unknown_byte_limit: limit,
+            ..self
+        }
+    }
+
     /// How many groups and messages may stand in one another.
     pub fn recursion_limit(&self) -> u32
         ensures { result ≡ self.now.recursion_limit }
@@ -127,6 +141,13 @@ impl DecodeOptions {
         ensures { result ≡ self.now.element_memory_limit }
     {
         self.element_memory_limit
+    }
+
+    /// How many bytes the payloads of unknown fields may be.
+    pub fn unknown_byte_limit(&self) -> usize
+        ensures { result ≡ self.now.unknown_byte_limit }
+    {
+        self.unknown_byte_limit
     }
 
     /// The value of the records of the whole buffer. An input of too many bytes is
@@ -246,9 +267,9 @@ impl DecodeOptions {
     fn context(&self) -> DecodeContext
         ensures { result ≡ limits_of self.now }
     {
-        DecodeContext::new(self.recursion_limit, self.unknown_field_limit).with_element_memory(
-            self.element_memory_limit,
-        )
+        DecodeContext::new(self.recursion_limit, self.unknown_field_limit)
+            .with_element_memory(self.element_memory_limit)
+            .with_unknown_bytes(self.unknown_byte_limit)
     }
 }
 

@@ -33,9 +33,10 @@ no_room_wanted (Some left) taken is = omega (arith, is)
 -- what decodes has its others, and keeps just these
 pub decodes_others : RecordsInOrder → WholeInput → (k l : Limits) (bytes : List ℕ) (z : PersonValue)
     → l.depth ≡ k.depth → l.counts.unknown_fields ≡ k.counts.unknown_fields
+    → ((b : ℕ) → HasRoom l.counts.unknown_bytes b → HasRoom k.counts.unknown_bytes b)
     → Decodes PersonTakes l default_person bytes z
     → (fs : Fields) × HasOthers k bytes fs × (z.unknown ≡ others_of fs)
-decodes_others laws whole k l bytes z levels counts (c, taken) =
+decodes_others laws whole k l bytes z levels counts room (c, taken) =
     let fs = taken.fields in
     let kept = keeps_others laws.charges default_person z fs c taken.folded in
     let read = taken.read in
@@ -50,24 +51,26 @@ decodes_others laws whole k l bytes z levels counts (c, taken) =
               within.counts.unknown_fields;
           element_memory = no_room_wanted k.counts.element_memory _
               (no_elements (others_of fs));
+          unknown_bytes = room _ within.counts.unknown_bytes;
         };
       },
       kept.unknown,
     )
 
--- where a `Person` decodes within as many levels and slots, a reader of the others gives just those
--- that it keeps
+-- where a `Person` decodes within as many levels and slots and no more bytes, a reader of the others
+-- gives just those that it keeps
 pub as_decoded : RecordsInOrder → WholeInput → (k : Limits) (bytes : List ℕ)
     (r : Result (List (List ℕ)) DecodeError)
     → ((fs : Fields) → HasOthers k bytes fs
     → MatchResult r (λ view. SpellEach view (others_of fs)) (λ e. e ≡ OutOfMemory))
     → (l : Limits) (z : PersonValue) → l.depth ≡ k.depth
     → l.counts.unknown_fields ≡ k.counts.unknown_fields
+    → ((b : ℕ) → HasRoom l.counts.unknown_bytes b → HasRoom k.counts.unknown_bytes b)
     → Decodes PersonTakes l default_person bytes z
     → MatchResult r (λ view. SpellEach view z.unknown × ((charge z.unknown).depth ≤ l.depth))
     (λ e. e ≡ OutOfMemory)
-as_decoded laws whole k bytes r only l z levels counts decoded =
-    let (fs, has, unknown) = decodes_others laws whole k l bytes z levels counts decoded in
+as_decoded laws whole k bytes r only l z levels counts room decoded =
+    let (fs, has, unknown) = decodes_others laws whole k l bytes z levels counts room decoded in
     let shallow : (charge z.unknown).depth ≤ l.depth = omega (
       arith,
       ap (λ (gs : Fields). (charge gs).depth) unknown,

@@ -1,3 +1,4 @@
+pub mod Countable
 pub mod DecodedOthers
 pub mod DecodedNodes
 pub mod DecodedPersons

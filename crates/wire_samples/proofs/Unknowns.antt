@@ -238,7 +238,7 @@ module _ (laws : RecordsInOrder) (adds : JoinedAddsUp) where
       given.fits.depth,
     )
 
-    -- its slots are there, where the bytes spell records for which there are slots
+    -- there is room for it, where the bytes spell records for which there is room
     pub slots_there : is_known_number n ≡ false → (gs : Fields) → HasOthers l bytes gs
         → HaveRoom now.counts (charge (field n p none)).counts
     slots_there other gs has =
@@ -307,38 +307,9 @@ module _ (laws : RecordsInOrder) (adds : JoinedAddsUp) where
                 has.depth,
                 level ∙ ap (λ (m : Limits). m.depth) h.left,
               );
-              counts = record { unknown_fields = tt; element_memory = tt };
+              counts = record { unknown_fields = tt; element_memory = tt; unknown_bytes = tt };
             };
           })
-
--- ---- counts
-
--- what is left of a budget has room for what both together do not exceed
-sum_within : (left : Option ℕ) (most first second : ℕ) → left ≡ Some most → HasRoom left first
-    → HasRoom (less left first) second → first + second ≤ most
-sum_within left most first second is h k =
-    let a : first ≤ most = subst (λ x. HasRoom x first) is h in
-    let b : second ≤ most - first = subst (λ x. HasRoom (less x first) second) is k in
-    omega (arith, a, b)
-
--- the slots of the spans so far and of one more can be counted, since they are of one budget
-pub can_count : OneSpansCharge → SpansChargeRecords → (l now : Limits) (bytes mid : List ℕ)
-    (spans : List (List ℕ)) (span : List ℕ) (most : ℕ) → Passed l bytes mid spans now
-    → l.counts.unknown_fields ≡ Some most → most < 2 ^ 64 → (levels : ℕ) → levels ≡ now.depth
-    → levels < 2 ^ 32 → ¬ TooMany now spans span
-can_count one_charge charges l now bytes mid spans span most h budget few levels level shallow
-    (items, others, taken, charged, much) =
-    let each = others_each h.fs spans h.text h.others in
-    let levels_are = level ∙ ap (λ (m : Limits). m.depth) h.left in
-    let same : others ≡ charge (others_of h.fs) =
-    one_charge spans others (charge (others_of h.fs)) charged
-    (charges spans (others_of h.fs) each
-    (omega (arith, others_depth h.fs, h.depth, shallow, levels_are))) in
-    let room = subst (λ (m : Limits). HasRoom m.counts.unknown_fields (slots items)) h.left
-    taken.room.unknown_fields in
-    let within = sum_within l.counts.unknown_fields most (count (others_of h.fs)) (slots items)
-    budget h.fits.counts.unknown_fields room in
-    omega (arith, much, within, few, ap (λ (c : Charge). c.counts.unknown_fields) same)
 
 -- ---- the whole text
 

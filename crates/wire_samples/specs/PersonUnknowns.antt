@@ -24,8 +24,8 @@ OthersAre (field n p rest) spans text =
     × Spells (field n p none) own × (text ≡ own ++ behind) × OthersAre rest others behind
     × (spans ≡ (if is_known_number n then others else own ∷ others))
 
--- the bytes spell these records, of which none nests too deep, and there are slots for those that
--- the type does not know
+-- the bytes spell these records, of which none nests too deep, and there is room for those that the
+-- type does not know
 pub record HasOthers (l : Limits) (bytes : List ℕ) (fs : Fields) : Type 0 where
   pub spelled : Spells fs bytes
   pub depth : (charge fs).depth ≤ l.depth

@@ -115,7 +115,7 @@ fault_outside depth n old e fault =
     let same : depth ≡ depth + 1 - 1 = omega arith in
     PayloadFault.in_group (record {
       depth = omega arith;
-      counts = record { unknown_fields = tt; element_memory = tt };
+      counts = record { unknown_fields = tt; element_memory = tt; unknown_bytes = tt };
     }) (omega arith) (subst (λ d. ListFault (uncounted d) (by_tag n) old e) same fault)
 
 module _ (depth n : ℕ) (old : List ℕ) (fs : Fields) where
@@ -158,7 +158,7 @@ module _ (depth n : ℕ) (old : List ℕ) (fs : Fields) where
           read = payload_borrowed (uncounted depth) n body old new b;
           fits = record {
             depth = omega (arith, fits.depth);
-            counts = record { unknown_fields = tt; element_memory = tt };
+            counts = record { unknown_fields = tt; element_memory = tt; unknown_bytes = tt };
           };
         })
 

@@ -1,7 +1,7 @@
 //! Unknown fields from bytes.
 ghost use Rattle.std.specs.Prelude.{◌≡◌, [], OnOk, OnErr, IfOk, IfErr, MatchResult};
 ghost use Rattle.wire_base.specs.declared.error.DecodeError.TheVariants.{OutOfMemory};
-ghost use Rattle.wire_base.specs.Agreement.{NeverWantsSlots, KeepsWhatIsSkipped, RefusesAsSkipping, IsShortOrWantsMemory, StaysRefused, FaultOrMemory};
+ghost use Rattle.wire_base.specs.Agreement.{NeverWantsRoom, KeepsWhatIsSkipped, RefusesAsSkipping, IsShortOrWantsMemory, StaysRefused, FaultOrMemory};
 ghost use Rattle.wire_base.specs.Charge.{charge, payload_charge};
 ghost use Rattle.wire_base.specs.Ending.{by_input, by_tag};
 ghost use Rattle.wire_base.specs.Field.{Fields};
@@ -109,7 +109,7 @@ pub fn decode_unknown_field<B: Buf>(
     ensures fault { IfErr result
         (PayloadRefusal context.old (tag_number tag) (tag_type tag) (B.unread buf.old)) }
     ensures counts { OnErr result (NoCountGrew context.old context.new) }
-    ensures enough { NeverWantsSlots context.old (B.unread buf.old) result }
+    ensures enough { NeverWantsRoom context.old (B.unread buf.old) result }
     ensures skipped { KeepsWhatIsSkipped (λ field. payload_of field.value) context.old
         (tag_number tag) (tag_type tag) (B.unread buf.old) (B.unread buf.new) result }
     ensures refused { RefusesAsSkipping context.old (tag_number tag) (tag_type tag)
@@ -178,6 +178,7 @@ fn decode_value<B: Buf>(
         WireType::Fixed64 => Ok(UnknownFieldData::Fixed64(buf.try_get_u64_le()?)),
         WireType::LengthDelimited => {
             let len = decode_length(buf, None)?;
+            context.register_unknown_bytes(len)?;
             Ok(UnknownFieldData::LengthDelimited(take_bytes(alloc, buf, len)?))
         }
         WireType::StartGroup => {

@@ -1,6 +1,6 @@
 //! Callers of message types: one under limits, and one that is stored and read again.
-ghost use Rattle.std.specs.Prelude.{◌≡◌, ◌≤◌, length, OnOk, IfOk};
-ghost use Rattle.wire_codec.specs.Limits.{counted, with_elements};
+ghost use Rattle.std.specs.Prelude.{◌≡◌, ◌-◌, ◌^◌, ◌≤◌, length, OnOk, IfOk};
+ghost use Rattle.wire_codec.specs.Limits.{counted, with_elements, with_unknown_bytes};
 ghost use Rattle.wire_codec.specs.Taking.{Decodes};
 ghost use Rattle.wire_samples.specs.Person.{PersonTakes, default_person, person_value};
 
@@ -14,7 +14,8 @@ use wire_samples::{Person, laws};
 pub fn person_of(alloc: Global, bytes: &[u8]) -> Result<Person, DecodeError>
     ensures short { OnOk result (length bytes.now ≤ 4096) }
     ensures ok { IfOk result (λ person. Decodes PersonTakes
-        (with_elements (counted 100 10) 33554432) default_person bytes.now (person_value person)) }
+        (with_unknown_bytes (with_elements (counted 100 10) 33554432) (2 ^ 64 - 1))
+        default_person bytes.now (person_value person)) }
 {
     DecodeOptions::new()
         .with_max_message_size(4096)

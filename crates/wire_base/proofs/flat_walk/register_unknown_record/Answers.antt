@@ -1,4 +1,4 @@
-use Rattle.wire_base.proofs.WalkLaws.{charges_records}
+use Rattle.wire_base.proofs.RecordWalks.{charges_records}
 use Rattle.wire_base.proofs.flat_walk.register_unknown_record.Goals as goal
 
 pub returns-clause-records : goal.returns-clause-records

@@ -2,7 +2,7 @@ use Rattle.std.proofs.Common.{sym, ◌∙◌, arith, refl}
 use Rattle.std.proofs.lemmas.Result.{err_from_is_err_and}
 use Rattle.wire_base.specs.Fault.{no_varint, no_bytes, no_level, end_outside, no_tag, bad_payload, past}
 use Rattle.wire_base.specs.Field.{none, push}
-use Rattle.wire_base.proofs.LimitsLaws.{uncounted_slot}
+use Rattle.wire_base.proofs.LimitsLaws.{uncounted_slot, uncounted_bytes}
 use Rattle.wire_base.proofs.Payloads.{takes_until}
 use Rattle.wire_base.proofs.Results.{at_none}
 use Rattle.wire_base.proofs.Skips.{skips_varint, skips_fixed64, stops_fixed64, skips_fixed32, stops_fixed32, skips_bytes, skips_group, stops_group}
@@ -64,7 +64,7 @@ skip_payload-returns-in_err-len-in-LengthDelimited-clause-fault g t c =
 pub skip_payload-returns-in_ok-len-in-LengthDelimited-clause-ok : goal.skip_payload-returns-in_ok-len-in-LengthDelimited-clause-ok
 skip_payload-returns-in_ok-len-in-LengthDelimited-clause-ok g t c =
     let length = c.in_ok-len-in-LengthDelimited in
-    skips_bytes _ _ _ (uncounted_slot _) _ _ _ _ (sym c.wire_type.ensures
+    skips_bytes _ _ _ (uncounted_slot _) _ _ _ _ (uncounted_bytes _) (sym c.wire_type.ensures
     ∙ c.in-LengthDelimited.is) length.ensures.ok length.ensures.there c.advance.ensures.value
 
 pub skip_payload-returns-then-depth-eq0-clause-fault : goal.skip_payload-returns-then-depth-eq0-clause-fault

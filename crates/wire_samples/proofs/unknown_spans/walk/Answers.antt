@@ -1,8 +1,9 @@
-use Rattle.std.proofs.Common.{◌≡◌, ◌≢◌, ◌^◌, ◌<◌, false, [], rules, sym, ◌∙◌}
+use Rattle.std.proofs.Common.{◌≡◌, ◌≢◌, ◌^◌, ◌<◌, false, [], length, rules, sym, ◌∙◌}
 use Rattle.std.proofs.lemmas.Bool.{eqb-true}
 use Rattle.std.proofs.lemmas.Result.{err_from_is_err_and}
 use Rattle.wire_codec.specs.Field.{field, none}
-use Rattle.wire_samples.proofs.Unknowns.{passed_none, passed_known, passed_other, span_spells, span_shallow, slots_there, no_tag_here, no_payload_here, nothing_left, can_count, all_passed, each_passed}
+use Rattle.wire_samples.proofs.Countable.{can_count}
+use Rattle.wire_samples.proofs.Unknowns.{passed_none, passed_known, passed_other, span_spells, span_shallow, slots_there, no_tag_here, no_payload_here, nothing_left, all_passed, each_passed}
 use Rattle.wire_samples.specs.PersonUnknowns.{is_known_number}
 use Rattle.wire_samples.proofs.unknown_spans.walk.Goals as goal
 
@@ -55,13 +56,15 @@ returns-in_err-push_span-clause-only c =
     let level = c.depth.ensures in
     let few : c.depth.result < 2 ^ 32 = search rules in
     let countable : c.remaining_unknown_fields-slots.result < 2 ^ 64 = search rules in
+    let whole : length c.args.bytes.now < 2 ^ 64 = search rules in
     let other : is_known_number n ≡ false = search rules in
     let spelled = span_spells laws adds _ _ _ _ _ _ _ loop n _ p tag _ level taken in
     rw (q.1, q.2) (λ fs has. c.in_err-push_span.ensures.records (field n p none) spelled
     (span_shallow laws adds _ _ _ _ _ _ _ loop n _ p tag _ level taken few)
     (slots_there laws adds _ _ _ _ _ _ _ loop n _ p tag _ level taken other fs has)
-    (can_count c.one_spans_charge.ensures c.spans_charge_records.ensures _ _ _ _ _ _ _ loop
-    c.remaining_unknown_fields-slots.ensures countable _ level few))
+    (can_count c.one_spans_charge.ensures c.spans_charge_records.ensures
+    c.payloads_inside.ensures _ _ _ _ _ _ _ loop c.remaining_unknown_fields-slots.ensures
+    countable whole _ level few))
 
 pub loop-rest-preserved : goal.loop-rest-preserved
 loop-rest-preserved c =

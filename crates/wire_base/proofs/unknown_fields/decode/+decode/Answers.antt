@@ -5,10 +5,9 @@ use Rattle.wire_base.specs.Ending.{by_tag}
 use Rattle.wire_base.specs.Fault.{no_slot, no_varint, short_fixed64, short_fixed32, no_bytes, no_level, end_outside}
 use Rattle.wire_base.specs.Limits.{Limits, inner, left_after}
 use Rattle.wire_base.specs.UnknownFields.{payload_of}
-use Rattle.wire_base.proofs.Decoded.{no_memory_for_bytes, refused_in_group, refused_tag, refused_payload, refused_push}
-use Rattle.wire_base.proofs.DelimitedLaws.{delimited_at}
+use Rattle.wire_base.proofs.Decoded.{no_memory_for_bytes, no_room_for_bytes, left_after-bytes, refused_in_group, refused_tag, refused_payload, refused_push}
 use Rattle.wire_base.proofs.FieldLaws.{payload_numbered}
-use Rattle.wire_base.proofs.Payloads.{takes_delimited, takes_group, takes_until}
+use Rattle.wire_base.proofs.Payloads.{takes_bytes, takes_group, takes_until}
 use Rattle.wire_base.proofs.Results.{at_ok, at_none}
 use Rattle.wire_base.proofs.Takes.{takes_field, left_after-push}
 use Rattle.wire_base.proofs.unknown_fields.decode.+decode.Goals as goal
@@ -72,30 +71,58 @@ decode_value-returns-in_err-len-in-LengthDelimited-clause-fault g t c =
     )
     (inl (no_bytes slot (c.in_err-len-in-LengthDelimited).ensures.fault))
 
+pub decode_value-returns-in_err-register_unknown_bytes-in-LengthDelimited-clause-fault : goal.decode_value-returns-in_err-register_unknown_bytes-in-LengthDelimited-clause-fault
+decode_value-returns-in_err-register_unknown_bytes-in-LengthDelimited-clause-fault g t c =
+    let r = c.from_residual-in_err-register_unknown_bytes-in-LengthDelimited in
+    let p = err_from_is_err_and r.result r.ensures.1 in
+    let slot = c.in_ok-register_unknown_field.ensures in
+    let len = (c.in_ok-len-in-LengthDelimited).ensures in
+    let refused = (c.in_err-register_unknown_bytes-in-LengthDelimited).ensures in
+    let full = rw slot.ok at refused.none_left in
+    rw (
+      p.1,
+      p.2,
+      refused.err,
+      sym c.wire_type.ensures
+          ∙ c.in-LengthDelimited.is,
+    ) (inl (no_room_for_bytes _ _ _ _ _ slot.taken len.ok len.there full))
+
 pub decode_value-returns-in_err-take_bytes-in-LengthDelimited-clause-fault : goal.decode_value-returns-in_err-take_bytes-in-LengthDelimited-clause-fault
 decode_value-returns-in_err-take_bytes-in-LengthDelimited-clause-fault g t c =
     let r = c.from_residual-in_err-take_bytes-in-LengthDelimited in
     let p = err_from_is_err_and r.result r.ensures.1 in
-    let slot = c.in_ok-register_unknown_field.ensures.taken in
+    let slot = c.in_ok-register_unknown_field.ensures in
     let len = (c.in_ok-len-in-LengthDelimited).ensures in
+    let room = (c.in_ok-register_unknown_bytes-in-LengthDelimited).ensures in
+    let taken = rw slot.ok at room.taken in
     rw (
       p.1,
       p.2,
       sym c.wire_type.ensures
           ∙ c.in-LengthDelimited.is,
-    ) (no_memory_for_bytes _ _ _ _ _ slot len.ok len.there)
+    ) (no_memory_for_bytes _ _ _ _ _ slot.taken len.ok len.there taken)
 
 pub decode_value-returns-in_ok-take_bytes-in-LengthDelimited-clause-ok : goal.decode_value-returns-in_ok-take_bytes-in-LengthDelimited-clause-ok
 decode_value-returns-in_ok-take_bytes-in-LengthDelimited-clause-ok g t c =
-    let slot = c.in_ok-register_unknown_field.ensures.taken in
+    let slot = c.in_ok-register_unknown_field.ensures in
     let len = (c.in_ok-len-in-LengthDelimited).ensures in
+    let room = (c.in_ok-register_unknown_bytes-in-LengthDelimited).ensures in
+    let taken = rw slot.ok at room.taken in
     let b = (c.in_ok-take_bytes-in-LengthDelimited).ensures in
     rw (
       sym c.wire_type.ensures
           ∙ c.in-LengthDelimited.is,
       b.ok,
     )
-    (takes_delimited _ _ slot _ _ _ (delimited_at _ _ _ _ len.ok len.there b.rest))
+    (takes_bytes _ _ slot.taken _ _ _ _ len.ok len.there b.rest taken)
+
+pub decode_value-returns-in_ok-take_bytes-in-LengthDelimited-clause-charged : goal.decode_value-returns-in_ok-take_bytes-in-LengthDelimited-clause-charged
+decode_value-returns-in_ok-take_bytes-in-LengthDelimited-clause-charged g t c =
+    let slot = c.in_ok-register_unknown_field.ensures in
+    let len = (c.in_ok-len-in-LengthDelimited).ensures in
+    let room = (c.in_ok-register_unknown_bytes-in-LengthDelimited).ensures in
+    let b = (c.in_ok-take_bytes-in-LengthDelimited).ensures in
+    left_after-bytes _ _ _ _ _ _ slot.ok room.ok b.ok len.there
 
 pub decode_value-returns-in_err-descend-in-StartGroup-clause-fault : goal.decode_value-returns-in_err-descend-in-StartGroup-clause-fault
 decode_value-returns-in_err-descend-in-StartGroup-clause-fault g t c =

@@ -1,10 +1,10 @@
 use Rattle.wire_base.specs.UnknownFields.{payload_of}
-use Rattle.wire_base.proofs.Agreeing.{never_wants_slots, keeps_what_is_skipped, refuses_as_skipping, keep_is_short, keep_stays}
+use Rattle.wire_base.proofs.Agreeing.{never_wants_room, keeps_what_is_skipped, refuses_as_skipping, keep_is_short, keep_stays}
 use Rattle.wire_base.proofs.unknown_fields.decode.decode_unknown_field.Goals as goal
 
 pub returns-clause-enough : goal.returns-clause-enough
 returns-clause-enough g c =
-    never_wants_slots (λ field. payload_of field.value) _ _ _ _
+    never_wants_room (λ field. payload_of field.value) _ _ _ _
     (g.B.Buf.unread c.decode_field.new.buf)
     c.decode_field.result
     c.decode_field.ensures.fault

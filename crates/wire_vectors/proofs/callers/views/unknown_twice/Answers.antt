@@ -9,6 +9,7 @@ returns-in_err-view-clause-err c =
     let p = err_from_is_err_and r.result r.ensures.1 in
     rw (p.1, p.2) (λ other. absurd (other (c.in_err-view.ensures.decoded
     (with_elements (counted 100 1000000) 33554432) _ (search rules) (search rules)
+    (λ b room. rw c.new-context.ensures tt)
     c.in_ok-person.ensures.ok)))
 
 pub returns-in_err-to_owned_fields-clause-err : goal.returns-in_err-to_owned_fields-clause-err
@@ -17,6 +18,7 @@ returns-in_err-to_owned_fields-clause-err c =
     let p = err_from_is_err_and r.result r.ensures.1 in
     let (spelled, depth) = c.in_ok-view.ensures.decoded
     (with_elements (counted 100 1000000) 33554432) _ (search rules) (search rules)
+    (λ b room. rw c.new-context.ensures tt)
     c.in_ok-person.ensures.ok in
     rw (p.1, p.2) (λ other. absurd (other (c.in_err-to_owned_fields.ensures.only _ spelled
     (search rules))))
@@ -25,5 +27,6 @@ pub returns-clause-same : goal.returns-clause-same
 returns-clause-same c =
     let (spelled, depth) = c.in_ok-view.ensures.decoded
     (with_elements (counted 100 1000000) 33554432) _ (search rules) (search rules)
+    (λ b room. rw c.new-context.ensures tt)
     c.in_ok-person.ensures.ok in
     c.in_ok-to_owned_fields.ensures.only _ spelled (search rules) ∙ search rules
