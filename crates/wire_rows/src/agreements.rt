@@ -64,10 +64,12 @@ fn skips_alike(alloc: Global, case: &Case) -> Result<bool, Stop> {
     )
 }
 
-// With more slots than bytes decoding agrees with skipping in all, and wants for no slot.
+// With more slots than bytes, and as many bytes for payloads, decoding agrees with skipping in all,
+// and wants for neither.
 fn slots_suffice(alloc: Global, case: &Case) -> Result<bool, Stop> {
-    let slots = case.behind.len().saturating_add(1);
-    let decoded = case.decoded_within(alloc, case.levels, slots)?;
+    let len = case.behind.len();
+    let enough = DecodeContext::new(case.levels, len.saturating_add(1)).with_unknown_bytes(len);
+    let decoded = case.decoded_within(alloc, enough)?;
     Ok(
         decoded != Err(DecodeError::UnknownFieldLimitExceeded)
             && decoded.map(|left| left.bytes) == case.skipped(),
@@ -86,16 +88,19 @@ fn borrows_alike(alloc: Global, case: &Case) -> Result<bool, Stop> {
     Ok(rest.len() == left.bytes && case.behind.starts_with(body))
 }
 
-// A walk over a tag and its payload takes the slots that decoding takes.
+// A walk over a tag and its payload takes the slots and the bytes that decoding takes.
 fn walks_alike(alloc: Global, case: &Case) -> Result<bool, Stop> {
     let Ok(left) = case.decoded(alloc)? else {
         return Ok(true);
     };
-    let mut context = DecodeContext::new(0, case.slots);
+    let mut context = case.context();
     let charge = register_unknown_record(&case.taken(alloc, left)?, &mut context)?;
+    let payloads = left.payloads.unwrap_or(0);
     Ok(
         context.remaining_unknown_fields() == left.slots
-            && case.slots.checked_sub(left.slots) == Some(charge.fields),
+            && context.remaining_unknown_bytes() == left.payloads
+            && case.slots.checked_sub(left.slots) == Some(charge.fields)
+            && case.payloads.checked_sub(payloads) == Some(charge.bytes),
     )
 }
 
@@ -104,14 +109,20 @@ fn walk_is_exact(alloc: Global, case: &Case) -> Result<bool, Stop> {
     let Ok(left) = case.decoded(alloc)? else {
         return Ok(true);
     };
-    let mut context = DecodeContext::new(0, case.slots);
+    let mut context = case.context();
     let charge = register_unknown_record(&case.taken(alloc, left)?, &mut context)?;
-    let (depth, fields) = (charge.depth, charge.fields);
-    let one_slot_less = case.decoded_within(alloc, depth, fields.saturating_sub(1))?;
-    let one_level_less = case.decoded_within(alloc, depth.saturating_sub(1), fields)?;
+    let (depth, fields, bytes) = (charge.depth, charge.fields, charge.bytes);
+    let within = |depth: u32, fields: usize, bytes: usize| {
+        let context = DecodeContext::new(depth, fields).with_unknown_bytes(bytes);
+        case.decoded_within(alloc, context)
+    };
+    let one_slot_less = within(depth, fields.saturating_sub(1), bytes)?;
+    let one_level_less = within(depth.saturating_sub(1), fields, bytes)?;
+    let one_byte_less = within(depth, fields, bytes.saturating_sub(1))?;
     Ok(
-        case.decoded_within(alloc, depth, fields)?.is_ok()
+        within(depth, fields, bytes)?.is_ok()
             && one_slot_less == Err(DecodeError::UnknownFieldLimitExceeded)
+            && (bytes == 0 || one_byte_less == Err(DecodeError::UnknownFieldLimitExceeded))
             && (depth == 0 || one_level_less == Err(DecodeError::RecursionLimitExceeded)),
     )
 }

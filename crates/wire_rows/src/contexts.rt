@@ -36,13 +36,21 @@ fn context(row: &Row<'_>, said: &mut String) -> Result<(), Stop> {
     }
     let (depth, slots) = (context.depth(), context.remaining_unknown_fields());
     let elements = context.remaining_element_memory();
-    Ok(write!(said, "{depth} {slots} {elements:?}")?)
+    write!(said, "{depth} {slots} {elements:?}")?;
+    match context.remaining_unknown_bytes() {
+        Some(bytes) => Ok(write!(said, ", {bytes} for payloads")?),
+        None => Ok(()),
+    }
 }
 
 fn step(context: &mut DecodeContext, word: &str) -> Result<Option<Result<(), DecodeError>>, Stop> {
     if let Some(bytes) = word.strip_prefix("take:") {
         let bytes = bytes.parse().or(Err(Stop::NoRow))?;
         return Ok(Some(context.register_element_memory(bytes)));
+    }
+    if let Some(bytes) = word.strip_prefix("payload:") {
+        let bytes = bytes.parse().or(Err(Stop::NoRow))?;
+        return Ok(Some(context.register_unknown_bytes(bytes)));
     }
     Ok(match word {
         "descend" => Some(context.descend()),
@@ -61,7 +69,8 @@ fn options(options: DecodeOptions, said: &mut String) -> Result<(), Stop> {
     let copy = options.clone()?;
     let (depth, size) = (copy.recursion_limit(), options.max_message_size());
     let (slots, elements) = (copy.unknown_field_limit(), options.element_memory_limit());
-    Ok(write!(said, "{depth} {size} {slots} {elements}")?)
+    let payloads = copy.unknown_byte_limit();
+    Ok(write!(said, "{depth} {size} {slots} {elements} {payloads}")?)
 }
 
 fn constants(said: &mut String) -> Result<(), Stop> {

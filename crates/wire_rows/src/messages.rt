@@ -9,7 +9,7 @@ use crate::say;
 use bytes::Buf;
 use std::alloc::Global;
 use std::fmt::Write;
-use wire_codec::{DecodeContext, DecodeError, DecodeOptions, Message, Tag};
+use wire_codec::{DecodeError, DecodeOptions, Message, Tag};
 use wire_samples::{Node, Person, Repeat};
 
 // A row's call is `TYPE.CALL`, and `TYPE` alone where the type is decoded.
@@ -124,7 +124,7 @@ fn merge_as<M: Sample, B: Buf>(
     expect(context.depth() == depth, "another depth")?;
     say_message(alloc, &message, row.bytes, said)?;
     say::left(said, buf)?;
-    say_context(row, &context, said)?;
+    say::limits(said, row, &context)?;
     Ok(true)
 }
 
@@ -135,18 +135,6 @@ fn is_a_value<M: Message>(alloc: Global, message: &M) -> Result<(), Stop> {
         M::decode_from_slice(alloc, &text)? == *message,
         "no value is left",
     )
-}
-
-// What is left of the limits that the row names.
-fn say_context(row: &Row<'_>, context: &DecodeContext, said: &mut String) -> Result<(), Stop> {
-    if row.word("slots").is_some() {
-        let slots = context.remaining_unknown_fields();
-        write!(said, ", {slots} slots")?;
-    }
-    if let Some(elements) = context.remaining_element_memory() {
-        write!(said, ", {elements} for elements")?;
-    }
-    Ok(())
 }
 
 // ---- from a slice, and all else

@@ -106,6 +106,10 @@ impl<'a> Row<'a> {
     pub fn context(&self) -> DecodeContext {
         let depth = self.number("depth").unwrap_or(100);
         let context = DecodeContext::new(depth, self.number("slots").unwrap_or(1_000_000));
+        let context = match self.number("payloads") {
+            Some(bytes) => context.with_unknown_bytes(bytes),
+            None => context,
+        };
         match self.number("elements") {
             Some(bytes) => context.with_element_memory(bytes),
             None => context,
@@ -116,7 +120,9 @@ impl<'a> Row<'a> {
     pub fn options(&self) -> Option<DecodeOptions> {
         let (depth, size) = (self.number("depth"), self.number("size"));
         let (slots, elements) = (self.number("slots"), self.number("elements"));
-        if depth.is_none() && size.is_none() && slots.is_none() && elements.is_none() {
+        let payloads = self.number("payloads");
+        let is_named = depth.is_some() || size.is_some() || payloads.is_some();
+        if !is_named && slots.is_none() && elements.is_none() {
             return None;
         }
         Some(
@@ -124,6 +130,7 @@ impl<'a> Row<'a> {
                 .with_recursion_limit(depth.unwrap_or(100))
                 .with_max_message_size(size.unwrap_or(usize::MAX))
                 .with_unknown_field_limit(slots.unwrap_or(1_000_000))
+                .with_unknown_byte_limit(payloads.unwrap_or(usize::MAX))
                 .with_element_memory_limit(elements.unwrap_or(33_554_432)),
         )
     }

@@ -1,9 +1,10 @@
 //! Answers in the words of the table.
 use crate::found::Stop;
+use crate::row::Row;
 use bytes::Buf;
 use std::fmt;
 use std::fmt::{Debug, Write};
-use wire_codec::{DecodeError, EncodeError};
+use wire_codec::{DecodeContext, DecodeError, EncodeError};
 
 /// Bytes, two digits each.
 #[derive(Clone, Copy)]
@@ -41,6 +42,21 @@ pub fn left<B: Buf>(said: &mut String, buf: &B) -> Result<(), Stop> {
         0 => Ok(()),
         left => Ok(write!(said, ", {left} left")?),
     }
+}
+
+/// What is left of the limits that a row names.
+pub fn limits(said: &mut String, row: &Row<'_>, context: &DecodeContext) -> Result<(), Stop> {
+    if row.word("slots").is_some() {
+        let slots = context.remaining_unknown_fields();
+        write!(said, ", {slots} slots")?;
+    }
+    if let Some(bytes) = context.remaining_unknown_bytes() {
+        write!(said, ", {bytes} for payloads")?;
+    }
+    if let Some(bytes) = context.remaining_element_memory() {
+        write!(said, ", {bytes} for elements")?;
+    }
+    Ok(())
 }
 
 /// What a call read and how many bytes it left, or why it refused.

@@ -54,11 +54,7 @@ fn decode<B: Buf>(
     field.write_to(&mut text)?;
     say::written(said, &text, row.bytes)?;
     say::left(said, buf)?;
-    if row.word("slots").is_some() {
-        let slots = context.remaining_unknown_fields();
-        write!(said, ", {slots} slots")?;
-    }
-    Ok(())
+    say::limits(said, row, &context)
 }
 
 // ---- lists of fields

@@ -26,10 +26,10 @@ fn walk(row: &Row<'_>, said: &mut String) -> Result<(), Stop> {
     let depth = context.depth();
     match register_unknown_record(row.bytes, &mut context) {
         Ok(charge) => {
-            let (fields, deepest) = (charge.fields, charge.depth);
-            let left = context.remaining_unknown_fields();
+            let (fields, deepest, bytes) = (charge.fields, charge.depth, charge.bytes);
             expect(context.depth() == depth, "another depth")?;
-            Ok(write!(said, "fields {fields}, depth {deepest}, {left} slots")?)
+            write!(said, "fields {fields}, depth {deepest}, bytes {bytes}")?;
+            say::limits(said, row, &context)
         }
         Err(error) => say::refusal(said, error),
     }
@@ -56,12 +56,11 @@ fn view(alloc: Global, row: &Row<'_>, said: &mut String) -> Result<(), Stop> {
             return say::refusal(said, error);
         }
     }
-    let slots = context.remaining_unknown_fields();
     say_view(alloc, row, &view, said)?;
-    write!(said, ", {slots} slots")?;
+    say::limits(said, row, &context)?;
     view.clear();
     expect(
-        view.is_empty() && view.fields() == 0 && view.depth() == 0,
+        view.is_empty() && (view.fields(), view.depth(), view.bytes()) == (0, 0, 0),
         "not cleared",
     )
 }
@@ -73,8 +72,8 @@ fn say_view(
     view: &UnknownFieldsView<'_>,
     said: &mut String,
 ) -> Result<(), Stop> {
-    let (fields, depth) = (view.fields(), view.depth());
-    write!(said, "fields {fields}, depth {depth}, ")?;
+    let (fields, depth, bytes) = (view.fields(), view.depth(), view.bytes());
+    write!(said, "fields {fields}, depth {depth}, bytes {bytes}, ")?;
     let mut text = Vec::new(alloc);
     view.write_to(&mut text)?;
     expect(view.encoded_len()? == text.len(), "another length")?;
@@ -89,10 +88,12 @@ fn say_view(
         Ok(owned) => owned,
         Err(error) => return say::refusal(said, error),
     };
-    let mut context = DecodeContext::new(depth, fields);
+    let mut context = DecodeContext::new(depth, fields).with_unknown_bytes(bytes);
     expect(view.replay(&mut context)? == owned, "another replay")?;
     expect(
-        context.remaining_unknown_fields() == 0 && context.depth() == depth,
+        context.remaining_unknown_fields() == 0
+            && context.remaining_unknown_bytes() == Some(0)
+            && context.depth() == depth,
         "a charge",
     )?;
     say_owned(alloc, &owned, &text, said)
@@ -123,8 +124,7 @@ fn unknowns(alloc: Global, row: &Row<'_>, said: &mut String) -> Result<(), Stop>
         write!(said, "{span:?} / ")?;
     }
     say_view(alloc, row, &view, said)?;
-    let slots = context.remaining_unknown_fields();
-    write!(said, ", {slots} slots")?;
+    say::limits(said, row, &context)?;
     if let Ok(person) = Person::decode_from_slice(alloc, row.bytes) {
         expect(
             view.to_owned_fields()? == *person.unknown(),

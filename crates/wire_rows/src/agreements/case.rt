@@ -14,13 +14,16 @@ pub(super) struct Case {
     pub behind: Vec<u8>,
     pub levels: u32,
     pub slots: usize,
+    /// How many bytes there are for payloads.
+    pub payloads: usize,
 }
 
-/// What decoding leaves: bytes behind the payload, and slots.
+/// What decoding leaves: bytes behind the payload, slots, and bytes for payloads.
 #[derive(Clone, Copy, Debug, PartialEq)]
 pub(super) struct Left {
     pub bytes: usize,
     pub slots: usize,
+    pub payloads: Option<usize>,
 }
 
 // What decoding leaves of bytes behind a tag and of the limits, or why it refuses.
@@ -35,6 +38,7 @@ fn decoded(
     Ok(found.map(|_| Left {
         bytes: rest.len(),
         slots: context.remaining_unknown_fields(),
+        payloads: context.remaining_unknown_bytes(),
     }))
 }
 
@@ -47,22 +51,26 @@ impl Case {
             behind: Vec::from_slice(alloc, behind)?,
             levels,
             slots,
+            payloads: usize::MAX,
         })
+    }
+
+    /// The limits.
+    pub fn context(&self) -> DecodeContext {
+        DecodeContext::new(self.levels, self.slots).with_unknown_bytes(self.payloads)
     }
 
     /// What decoding answers.
     pub fn decoded(&self, alloc: Global) -> Result<Result<Left, DecodeError>, Stop> {
-        self.decoded_within(alloc, self.levels, self.slots)
+        self.decoded_within(alloc, self.context())
     }
 
     /// What it answers under other limits.
     pub fn decoded_within(
         &self,
         alloc: Global,
-        levels: u32,
-        slots: usize,
+        context: DecodeContext,
     ) -> Result<Result<Left, DecodeError>, Stop> {
-        let context = DecodeContext::new(levels, slots);
         decoded(alloc, self.tag, &self.behind, context)
     }
 
@@ -73,8 +81,7 @@ impl Case {
         len: usize,
     ) -> Result<Result<Left, DecodeError>, Stop> {
         let front = &self.behind[..len.min(self.behind.len())];
-        let context = DecodeContext::new(self.levels, self.slots);
-        decoded(alloc, self.tag, front, context)
+        decoded(alloc, self.tag, front, self.context())
     }
 
     /// What it answers where these bytes follow.
@@ -85,8 +92,7 @@ impl Case {
     ) -> Result<Result<Left, DecodeError>, Stop> {
         let mut longer = self.behind.clone()?;
         longer.extend_from_slice(more)?;
-        let context = DecodeContext::new(self.levels, self.slots);
-        decoded(alloc, self.tag, &longer, context)
+        decoded(alloc, self.tag, &longer, self.context())
     }
 
     /// How many bytes skipping leaves, or why it refuses.

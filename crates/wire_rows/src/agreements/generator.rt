@@ -40,6 +40,7 @@ impl Generator {
             behind,
             levels: self.below(6),
             slots: self.below(16) as usize,
+            payloads: self.below(40) as usize,
         })
     }
 
