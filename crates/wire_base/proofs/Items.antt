@@ -148,8 +148,8 @@ whole_fits l n (Payload.bytes b) flat room = record {
 }
 whole_fits l n (group fs) flat room = absurd (flat refl)
 
--- the items of a span up to what is left, the level behind them and the greatest one, how many bytes
--- their payloads are, and what they leave
+-- the items of a span up to what is left, the level behind them and the greatest one, how many
+-- bytes their payloads are, and what they leave
 pub record Walked (l : Limits) (span rest : List ℕ) (at deepest bytes : ℕ) (now : Limits)
     : Type 0 where
   pub items : List Item

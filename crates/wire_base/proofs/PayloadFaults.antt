@@ -1,28 +1,22 @@
 -- Faults of one payload: none beside a reading within the limits, and one at most.
-use Rattle.std.proofs.Common.{◌≡◌, ℕ, ◌<◌, List, ◌++◌, length, None, refl, sym, ap, ◌∙◌, subst, arith, ⊎_elim, length-append}
+use Rattle.std.proofs.Common.{◌≡◌, ℕ, ◌<◌, List, ◌++◌, length, None, refl, ap, ◌∙◌, subst, arith, length-append}
 use Rattle.wire_base.specs.declared.error.DecodeError.{DecodeError}
-use Rattle.wire_base.specs.declared.error.DecodeError.TheVariants.{UnexpectedEof, InvalidWireType, RecursionLimitExceeded, InvalidEndGroup, UnknownFieldLimitExceeded}
+use Rattle.wire_base.specs.declared.error.DecodeError.TheVariants.{UnexpectedEof, InvalidWireType, RecursionLimitExceeded, UnknownFieldLimitExceeded}
 use Rattle.wire_base.specs.declared.tag.WireType.{WireType}
 use Rattle.wire_base.specs.declared.tag.WireType.TheVariants as types
-use Rattle.wire_base.specs.Charge.{payload_charge, charge}
+use Rattle.wire_base.specs.Charge.{payload_charge}
 use Rattle.wire_base.specs.Delimited.{IsDelimited, DelimitedFault}
-use Rattle.wire_base.specs.Ending.{Ending, by_limit, by_tag, GoesOn, Ends, IsRecordTag}
-use Rattle.wire_base.specs.Fault.{NextTagFault, bad_tag, other_end, PayloadFault, RecordFault, ListFault}
-use Rattle.wire_base.specs.FaultLaws.{NoPayloadBesideFault, NoListBesideFault, OnePayloadFault, OneListFault}
-use Rattle.wire_base.specs.Field.{Payload, varint, fixed64, fixed32, bytes, group, Fields, none, field, type_of, joined}
+use Rattle.wire_base.specs.Ending.{by_tag}
+use Rattle.wire_base.specs.Fault.{PayloadFault, ListFault}
+use Rattle.wire_base.specs.Field.{Payload, varint, fixed64, fixed32, bytes, group, Fields}
 use Rattle.wire_base.specs.Limits.{Limits, Fits, one_field, bytes_charge, left_after, inner}
 use Rattle.wire_base.specs.Read.{Reads}
-use Rattle.wire_base.specs.Spells.{SpellsPayload, Spells, IsPayload}
-use Rattle.wire_base.specs.Tag.{IsTagSpelling, TagFault}
-use Rattle.wire_base.specs.Taken.{TakesFields}
+use Rattle.wire_base.specs.Spells.{SpellsPayload, IsPayload}
 use Rattle.wire_base.specs.Varint.{VarintFault}
 use Rattle.wire_base.proofs.DelimitedLaws.{beside_fault, one_fault, same_delimited}
-use Rattle.wire_base.proofs.FieldLaws.{either_front, not_end_group, record_not_end, head_of, none_takes_nothing, body_of, joined-none}
-use Rattle.wire_base.proofs.LimitsLaws.{Fits-first, Fits-second, Fits-one_field, level_of_group, Fits-inside, charge-joined}
-use Rattle.wire_base.proofs.ReadLaws.{Reads-as, Reads-shorter}
-use Rattle.wire_base.proofs.TagLaws.{same_tag, no_tag_beside_fault_lemma, one_tag_fault_lemma}
-use Rattle.wire_base.proofs.Takes.{not_both, goes_on_before}
-use Rattle.wire_base.proofs.VarintLaws.{no_varint_beside_fault_lemma, one_varint_fault_lemma}
+use Rattle.wire_base.proofs.LimitsLaws.{Fits-second}
+use Rattle.wire_base.proofs.ReadLaws.{Reads-as}
+use Rattle.wire_base.proofs.VarintLaws.{no_varint_beside_fault_lemma}
 
 -- ---- one payload
 

@@ -1,27 +1,13 @@
 -- What a flat walk takes where a span spells records.
-use Rattle.std.proofs.Common.{◌≡◌, ◌≢◌, ◌⊎◌, ℕ, ◌^◌, ◌<◌, ◌≤◌, List, [], ◌∷◌, ◌++◌, length, Result, Ok, Err, inl, inr, refl, sym, ap, ap₂, ◌∙◌, subst, ⊎_elim, arith, append-nil}
+use Rattle.std.proofs.Common.{◌≡◌, ℕ, ◌^◌, ◌<◌, List, [], Result, Ok, Err, sym, ap, ◌∙◌, subst, append-nil}
 use Rattle.std.specs.Prelude.{IfOk, IfErr, MatchResult}
 use Rattle.wire_base.specs.declared.error.DecodeError.{DecodeError}
-use Rattle.wire_base.specs.declared.tag.WireType.{WireType}
-use Rattle.wire_base.specs.declared.tag.WireType.TheVariants.{StartGroup, EndGroup}
 use Rattle.wire_base.specs.declared.flat_walk.UnknownSpanCharge.{UnknownSpanCharge}
-use Rattle.wire_base.specs.Charge.{payload_charge, charge, count}
+use Rattle.wire_base.specs.Charge.{charge, count}
 use Rattle.wire_base.specs.Field.{Fields}
-use Rattle.wire_base.specs.Fault.{PayloadFault}
-use Rattle.wire_base.specs.ItemLaws.{OneWalk, NoWalkBesideFault, OneSpanFault}
-use Rattle.wire_base.specs.Items.{Item, start, end, whole, IsItem, SpellsItems, TakesItems, slots, item_bytes, greatest_level, flat_charge, ItemFault, SpanFault}
-use Rattle.wire_base.specs.Limits.{Limits, Charge, HaveRoom, Fits, one_field, left_after}
-use Rattle.wire_base.specs.Read.{Reads}
+use Rattle.wire_base.specs.Items.{Item, TakesItems, slots, item_bytes, greatest_level, flat_charge, SpanFault}
+use Rattle.wire_base.specs.Limits.{Limits, Charge, HaveRoom, left_after}
 use Rattle.wire_base.specs.Spells.{Spells}
-use Rattle.wire_base.specs.Tag.{IsTagSpelling}
-use Rattle.wire_base.proofs.Agreement.{room_for_less}
-use Rattle.wire_base.proofs.FaultLaws.{no_payload_beside_fault_lemma, one_payload_fault_lemma}
-use Rattle.wire_base.proofs.FieldLaws.{either_front, head_of, none_takes_nothing, not_end_group, rest_below, Reads-here}
-use Rattle.wire_base.proofs.JoinedLaws.{payload_as}
-use Rattle.wire_base.proofs.LimitsLaws.{HaveRoom-second}
-use Rattle.wire_base.proofs.PayloadFaults.{no_slot_only}
-use Rattle.wire_base.proofs.ReadLaws.{Reads-as, Reads-inside}
-use Rattle.wire_base.proofs.TagLaws.{same_tag, no_tag_beside_fault_lemma, one_tag_fault_lemma}
 use Rattle.wire_base.proofs.WalkLaws.{one_walk_lemma, no_walk_beside_fault_lemma, walk_all}
 use Rattle.wire_base.proofs.Walks.{records_are_items_lemma}
 
@@ -55,7 +41,8 @@ pub charges_records : (l new : Limits) (span : List ℕ) (r : Result UnknownSpan
     → MatchResult r
     (λ taken. (taken.fields ≡ count fs) × (taken.depth ≡ (charge fs).depth)
     × (taken.bytes ≡ (charge fs).counts.unknown_bytes) × (new ≡ left_after l (charge fs))) (λ e. ⊥)
-charges_records l new span (Ok taken) (items, h, fields, depth, bytes, left) fault fs spelled few room =
+charges_records l new span (Ok taken) (items, h, fields, depth, bytes, left) fault fs spelled few
+    room =
     let charged : flat_charge items ≡ charge fs = charges_walk items l span h fs spelled few in (
       fields ∙ ap (λ (c : Charge). c.counts.unknown_fields) charged,
       depth ∙ ap (λ (c : Charge). c.depth) charged,

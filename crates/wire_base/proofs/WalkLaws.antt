@@ -1,20 +1,16 @@
 -- One walk over the same bytes, and none beside a fault.
-use Rattle.std.proofs.Common.{◌≡◌, ◌≢◌, ◌⊎◌, ℕ, ◌^◌, ◌<◌, ◌≤◌, List, [], ◌∷◌, ◌++◌, length, Result, Ok, Err, inl, inr, refl, sym, ap, ap₂, ◌∙◌, subst, ⊎_elim, arith, append-nil}
-use Rattle.std.specs.Prelude.{IfOk, IfErr, MatchResult}
+use Rattle.std.proofs.Common.{◌≡◌, ◌≢◌, ◌⊎◌, ℕ, List, [], ◌∷◌, ◌++◌, length, inl, inr, refl, sym, ap, ap₂, ◌∙◌, subst, ⊎_elim, arith, append-nil}
 use Rattle.wire_base.specs.declared.error.DecodeError.{DecodeError}
 use Rattle.wire_base.specs.declared.tag.WireType.{WireType}
 use Rattle.wire_base.specs.declared.tag.WireType.TheVariants.{StartGroup, EndGroup}
-use Rattle.wire_base.specs.declared.flat_walk.UnknownSpanCharge.{UnknownSpanCharge}
-use Rattle.wire_base.specs.Charge.{payload_charge, charge, count}
-use Rattle.wire_base.specs.Field.{Payload, varint, fixed64, fixed32, bytes, group, Fields, none, field, type_of}
+use Rattle.wire_base.specs.Field.{Payload, Fields, none, field, type_of}
 use Rattle.wire_base.specs.Fault.{PayloadFault}
 use Rattle.wire_base.specs.ItemLaws.{OneWalk, NoWalkBesideFault, OneSpanFault}
-use Rattle.wire_base.specs.Items.{Item, start, end, whole, IsItem, SpellsItems, TakesItems, slots, greatest_level, flat_charge, ItemFault, SpanFault}
-use Rattle.wire_base.specs.Limits.{Limits, Charge, HaveRoom, Fits, one_field, left_after}
+use Rattle.wire_base.specs.Items.{Item, start, end, whole, IsItem, SpellsItems, flat_charge, ItemFault, SpanFault}
+use Rattle.wire_base.specs.Limits.{Limits, HaveRoom, Fits, one_field, left_after}
 use Rattle.wire_base.specs.Read.{Reads}
 use Rattle.wire_base.specs.Spells.{Spells}
 use Rattle.wire_base.specs.Tag.{IsTagSpelling}
-use Rattle.wire_base.proofs.Agreement.{room_for_less}
 use Rattle.wire_base.proofs.FaultLaws.{no_payload_beside_fault_lemma, one_payload_fault_lemma}
 use Rattle.wire_base.proofs.FieldLaws.{either_front, head_of, none_takes_nothing, not_end_group, rest_below, Reads-here}
 use Rattle.wire_base.proofs.JoinedLaws.{payload_as}

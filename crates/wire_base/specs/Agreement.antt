@@ -20,7 +20,8 @@ FollowsDecoding levels n w old new result =
     (l : Limits) (p : Payload) (rest : List ℕ) → l.depth ≡ levels
     → TakesPayload (payload_charge p) l n w p old rest → IsOk result × (new ≡ rest)
 
--- where decoding refuses for another cause than slots and bytes, the call refuses with the same error
+-- where decoding refuses for another cause than slots and bytes, the call refuses with the same
+-- error
 abbrev pub RefusesAsDecoding : ℕ → ℕ → WireType → List ℕ → Result (Unit {0}) DecodeError → Type 0
 RefusesAsDecoding levels n w old result =
     (l : Limits) (e : DecodeError) → l.depth ≡ levels → PayloadFault l n w old e

@@ -53,7 +53,7 @@ pub enum DecodeError {
     #[error("invalid MessageSet item: {0}")]
     InvalidMessageSet(&'static str),
 
-    /// There are more unknown fields than the limit.
+    /// There are more unknown fields than the limit, or more bytes in their payloads.
     #[error("unknown field limit exceeded")]
     UnknownFieldLimitExceeded,
 

@@ -31,12 +31,12 @@ pub struct UnknownSpanCharge {
 }
 
 /// Takes the slots and bytes of the records in a span from the context, as decoding them would, and
-/// keeps nothing. It walks from tag to tag: an end tag is not compared with the start tag of its group
-/// and changes nothing where no group is open, groups may be left open, and no level is taken.
-/// Refused with the first fault from the left: of a tag as `Tag::decode`, with
+/// keeps nothing. It walks from tag to tag: an end tag is not compared with the start tag of its
+/// group and changes nothing where no group is open, groups may be left open, and no level is
+/// taken. Refused with the first fault from the left: of a tag as `Tag::decode`, with
 /// `UnknownFieldLimitExceeded` where its record has no slot, or of a payload, which is never that
-/// of a group, as `skip_field_depth`, and then with `UnknownFieldLimitExceeded` where the payload is
-/// more than the bytes that are left. A refused walk may have used up slots and bytes.
+/// of a group, as `skip_field_depth`, and then with `UnknownFieldLimitExceeded` where the payload
+/// is more than the bytes that are left. A refused walk may have used up slots and bytes.
 pub fn register_unknown_record(
     span: &[u8],
     context: &mut DecodeContext,

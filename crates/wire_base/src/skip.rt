@@ -41,9 +41,9 @@ pub fn skip_field<B: Buf>(tag: Tag, buf: &mut B) -> Result<(), DecodeError>
 /// `depth` deep. Refused with the first fault from the left: as `decode_varint`, as `decode_length`
 /// without a maximum, as `Tag::decode_in_group`, with `UnexpectedEof` where a payload of a fixed
 /// width is cut short, with `RecursionLimitExceeded` at a group too deep, and with
-/// `InvalidWireType` where the tag itself is an end tag. But for slots and memory it agrees with
-/// `decode_unknown_field` under as many levels. See "Message Structure" and "Groups" of the
-/// encoding document.
+/// `InvalidWireType` where the tag itself is an end tag. But for slots, unknown bytes and memory it
+/// agrees with `decode_unknown_field` under as many levels. See "Message Structure" and "Groups" of
+/// the encoding document.
 #[inline(always)]
 pub fn skip_field_depth<B: Buf>(tag: Tag, buf: &mut B, depth: u32) -> Result<(), DecodeError>
     ensures ok { OnOk result ((p : Payload) × TakesPayload (payload_charge p) (uncounted depth)

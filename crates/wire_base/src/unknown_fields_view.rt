@@ -86,9 +86,9 @@ impl<'a> UnknownFieldsView<'a> {
         self.spans.len()
     }
 
-    /// Adds a span at the end, and takes its slots and bytes from the context. No byte is copied: memory is
-    /// wanted for the list of spans alone, and before all else, so that `OutOfMemory` changes
-    /// nothing. Else refused as `register_unknown_record`, and the spans are as they were.
+    /// Adds a span at the end, and takes its slots and bytes from the context. No byte is copied:
+    /// memory is wanted for the list of spans alone, and before all else, so that `OutOfMemory`
+    /// changes nothing. Else refused as `register_unknown_record`, and the spans are as they were.
     /// `UnknownFieldLimitExceeded` also comes where the slots or the bytes of all spans would be
     /// more than `usize::MAX`; those of this one are then gone from the context.
     ///
@@ -207,8 +207,8 @@ impl<'a> UnknownFieldsView<'a> {
             → MatchResult result (λ read. read ≡ fs) (λ e. e ≡ OutOfMemory) }
 
         // Under just the levels and slots that the spans were charged, and as many bytes at least,
-        // the records that they spell are read, unless memory runs out, and no slot is left. Of just
-        // as many bytes none is left.
+        // the records that they spell are read, unless memory runs out, and no slot is left. Of
+        // just as many bytes none is left.
         ensures exact { (fs : Fields) (c : Charge) → SpellEach self.now fs
             → (charge fs).depth < 2 ^ 32 → AreCharged self.now c → context.old.depth ≡ c.depth
             → context.old.counts.unknown_fields ≡ Some c.counts.unknown_fields
@@ -240,8 +240,9 @@ impl<'a> UnknownFieldsView<'a> {
         Ok(fields)
     }
 
-    /// Reads the spans as records under just the levels, slots and bytes that they were charged, which
-    /// suffice where they spell records whose groups nest less than 2^32 deep. Refused as `replay`.
+    /// Reads the spans as records under just the levels, slots and bytes that they were charged,
+    /// which suffice where they spell records whose groups nest less than 2^32 deep. Refused as
+    /// `replay`.
     ///
     /// It recurses as deep as `depth` says, which no limit bounds but the slots: 33,000 start tags,
     /// a byte each, overflow a stack of 8 MiB. Where the spans are not trusted look at `depth`

@@ -21,8 +21,8 @@ use wire_base::{DEFAULT_UNKNOWN_FIELD_LIMIT, DecodeContext, DecodeError, RECURSI
 /// `DecodeOptions` that name no limit.
 pub const DEFAULT_ELEMENT_MEMORY_LIMIT: usize = 33_554_432;
 
-/// Limits for decoding: levels of nesting, bytes of an input, unknown fields, bytes for the elements
-/// that message types charge, and bytes of the payloads of unknown fields.
+/// Limits for decoding: levels of nesting, bytes of an input, unknown fields, bytes for the
+/// elements that message types charge, and bytes of the payloads of unknown fields.
 #[derive(Clone, Debug, Drop)]
 pub struct DecodeOptions {
     recursion_limit: u32,
@@ -50,8 +50,8 @@ impl Model for DecodeOptions {
 }
 
 impl DecodeOptions {
-    /// 100 levels, 2,147,483,647 bytes, 1,000,000 unknown fields, 33,554,432 bytes for elements, and
-    /// `usize::MAX` bytes of unknown fields.
+    /// 100 levels, 2,147,483,647 bytes, 1,000,000 unknown fields, 33,554,432 bytes for elements,
+    /// and `usize::MAX` bytes of unknown fields.
     pub fn new() -> DecodeOptions
         ensures { result ≡ default_options }
     {

@@ -86,11 +86,14 @@ impl UnknownFields {
 }
 
 /// Reads the payload of a tag that was read, and keeps it as a field. It takes a slot for itself
-/// and one for each field in its groups, and a level for each group while that is read.
+/// and one for each field in its groups, a level for each group while that is read, and the bytes
+/// of each length-delimited payload.
 /// `UnknownFieldLimitExceeded`, where no slot is left, comes before any fault of the payload; else
-/// refused as `skip_field_depth` at the levels of the context, or with `OutOfMemory`, only for
-/// bytes that are there. A refused attempt may have used up slots and levels. With more slots left
-/// than bytes it agrees with `skip_field_depth` at as many levels, but for memory.
+/// refused as `skip_field_depth` at the levels of the context, with `UnknownFieldLimitExceeded` for
+/// a length-delimited payload that is there and is more than the bytes that are left, or with
+/// `OutOfMemory`, only for bytes that are there and are no more. A refused attempt may have used up
+/// slots, bytes and levels. With more slots left than bytes, and no fewer unknown bytes where these
+/// have a limit, it agrees with `skip_field_depth` at as many levels, but for memory.
 #[inline(always)]
 pub fn decode_unknown_field<B: Buf>(
     alloc: Global,
