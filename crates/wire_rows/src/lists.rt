@@ -29,8 +29,8 @@ fn one<T: Copy + Drop>(alloc: Global, element: T) -> Result<Vec<T>, Stop> {
     Ok(list)
 }
 
-// What is appended behind the first element, and why no more. Where memory is refused a front of the
-// wanted elements stands there, and none where room for all of them was asked for.
+// What is appended behind the first element, and why no more. Where memory is refused a front of
+// the wanted elements stands there, and none where room for all of them was asked for.
 fn say_list<T: Copy + Debug + Drop>(
     row: &Row<'_>,
     said: &mut String,

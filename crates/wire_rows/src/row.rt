@@ -196,7 +196,7 @@ impl Bytes {
         Ok(())
     }
 
-    // Puts the bytes into so many records of number 2, one in the other. They are made from the end.
+    // Puts the bytes into so many records of number 2, one in the other, made from the end.
     fn wrap(&mut self, levels: usize) -> Result<(), Stop> {
         let mut head = Vec::new(*self.bytes.allocator());
         self.bytes.reverse();

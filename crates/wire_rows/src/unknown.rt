@@ -174,7 +174,7 @@ fn value_of(alloc: Global, row: &Row<'_>) -> Result<UnknownFieldData, Stop> {
     Ok(UnknownFieldData::Group(fields))
 }
 
-// How long a field is that no decoding made, what its first bytes are, and whether it is read again.
+// How long a field is that no decoding made, its first bytes, and whether it is read again.
 fn measure(alloc: Global, row: &Row<'_>, said: &mut String) -> Result<(), Stop> {
     let number = row.number("n").ok_or(Stop::NoRow)?;
     let value = value_of(alloc, row)?;

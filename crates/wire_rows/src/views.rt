@@ -35,7 +35,7 @@ fn walk(row: &Row<'_>, said: &mut String) -> Result<(), Stop> {
     }
 }
 
-// Spans are pushed one by one. One that is refused is not kept, and takes no slot for want of memory.
+// Spans are pushed one by one. One that is refused is not kept, and want of memory takes no slot.
 fn view(alloc: Global, row: &Row<'_>, said: &mut String) -> Result<(), Stop> {
     let mut context = row.context();
     let mut view = UnknownFieldsView::new(alloc);

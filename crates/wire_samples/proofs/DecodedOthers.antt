@@ -57,8 +57,8 @@ decodes_others laws whole k l bytes z levels counts room (c, taken) =
       kept.unknown,
     )
 
--- where a `Person` decodes within as many levels and slots and no more bytes, a reader of the others
--- gives just those that it keeps
+-- where a `Person` decodes within as many levels and slots and no more bytes, a reader of the
+-- others gives just those that it keeps
 pub as_decoded : RecordsInOrder → WholeInput → (k : Limits) (bytes : List ℕ)
     (r : Result (List (List ℕ)) DecodeError)
     → ((fs : Fields) → HasOthers k bytes fs
