@@ -15,7 +15,7 @@ returns c =
     let taken = charge person.unknown in
     let room : Limits = record {
       depth = taken.depth;
-      counts = record { unknown_fields = None; element_memory = None };
+      counts = record { unknown_fields = None; element_memory = None; unknown_bytes = None };
     } in
     let decoded = c.text_decodes.ensures room person taken back.fitting back.numbered back.folded
     (search rules) in
