@@ -5,184 +5,149 @@ mod generator;
 
 use self::case::{Case, Left};
 use self::generator::Generator;
-use crate::found::Stop;
 use crate::row::Row;
-use std::alloc::Global;
-use std::fmt::Write;
+use crate::said::Said;
 use wire_codec::{
     DecodeContext, DecodeError, UnknownFields, WireType, borrow_group, register_unknown_record,
 };
 
-/// The first agreement that does not hold, and else how a payload behind a start tag is answered.
-pub fn tell(alloc: Global, row: &Row<'_>, said: &mut String) -> Result<bool, Stop> {
+/// Each agreement that does not hold is told, and how a payload behind a start tag is answered.
+pub fn tell(row: &Row<'_>, said: &mut Said) -> bool {
     match row.call {
         "agreement" => {
-            let levels = row.number("depth").ok_or(Stop::NoRow)?;
-            let slots = row.number("slots").ok_or(Stop::NoRow)?;
-            let case = Case::group(alloc, row.bytes, levels, slots)?;
-            match disagreement(alloc, &case)? {
-                Some(astray) => write!(said, "not so: {astray}")?,
-                None => {
-                    let answer = case.decoded(alloc)?.map(|left| left.bytes);
-                    write!(said, "{answer:?}")?
-                }
-            }
+            let levels = row.number("depth").unwrap_or(0);
+            let slots = row.number("slots").unwrap_or(0);
+            let case = Case::group(row.bytes, levels, slots, said);
+            let answer = agree(&case, said);
+            said.show(&bytes_of(&answer))
         }
-        "agreements" => many(alloc, row, said)?,
-        _ => return Ok(false),
+        "agreements" => many(row, said),
+        _ => return false,
     }
-    Ok(true)
+    true
 }
 
-// Cases from a seed: the first agreement that does not hold of one, and whether each answer comes a
-// hundred times.
-fn many(alloc: Global, row: &Row<'_>, said: &mut String) -> Result<(), Stop> {
-    let mut generator = Generator::new(alloc, row.number("seed").ok_or(Stop::NoRow)?);
+// Cases from a seed, and whether each answer comes a hundred times.
+fn many(row: &Row<'_>, said: &mut Said) {
+    let mut generator = Generator::new(row.number("seed").unwrap_or(0));
     let mut counts = [0u32; 8];
-    for _ in 0..row.number::<u32>("cases").ok_or(Stop::NoRow)? {
-        let case = generator.case()?;
-        if let Some(astray) = disagreement(alloc, &case)? {
-            return Ok(write!(said, "not so: {astray}: {case:?}")?);
-        }
-        if let Some(count) = counts.get_mut(kind(&case.decoded(alloc)?)) {
+    for _ in 0..row.number::<u32>("cases").unwrap_or(0) {
+        let case = generator.case(said);
+        let answer = agree(&case, said);
+        if let Some(count) = counts.get_mut(kind(&answer)) {
             *count = count.saturating_add(1);
         }
     }
-    if counts.iter().all(|count| *count >= 100) {
-        Ok(write!(said, "each answer a hundred times")?)
-    } else {
-        Ok(write!(said, "{counts:?}")?)
+    let mut least = u32::MAX;
+    for count in counts {
+        least = least.min(count);
+    }
+    said.show(&(least >= 100));
+}
+
+// The answer of decoding, with which all others have to agree.
+fn agree(case: &Case, said: &mut Said) -> Result<Left, DecodeError> {
+    let decoded = case.decoded(&case.behind, case.context(), said);
+    match &decoded {
+        Ok(left) => agrees_where_decoded(case, *left, said),
+        Err(DecodeError::UnexpectedEof) => {}
+        Err(_) => stays_refused(case, &decoded, said),
+    }
+    let skipped = case.skipped();
+    let is_alike = decoded == Err(DecodeError::UnknownFieldLimitExceeded)
+        || bytes_of(&decoded) == skipped;
+    said.expect(is_alike, "skips alike");
+
+    // With more slots than bytes, and as many bytes for payloads, it wants for neither.
+    let len = case.behind.len();
+    let enough = DecodeContext::new(case.levels, len.saturating_add(1)).with_unknown_bytes(len);
+    let answer = case.decoded(&case.behind, enough, said);
+    said.expect(bytes_of(&answer) == skipped, "slots suffice");
+    decoded
+}
+
+fn bytes_of(answer: &Result<Left, DecodeError>) -> Result<usize, DecodeError> {
+    match answer {
+        Ok(left) => Ok(left.bytes),
+        Err(error) => Err(error.clone().unwrap_or(DecodeError::OutOfMemory)),
     }
 }
 
-// What is decoded is skipped, and what is refused for another cause than slots is refused alike.
-fn skips_alike(alloc: Global, case: &Case) -> Result<bool, Stop> {
-    let decoded = case.decoded(alloc)?;
-    Ok(
-        decoded == Err(DecodeError::UnknownFieldLimitExceeded)
-            || decoded.map(|left| left.bytes) == case.skipped(),
-    )
-}
-
-// With more slots than bytes, and as many bytes for payloads, decoding agrees with skipping in all,
-// and wants for neither.
-fn slots_suffice(alloc: Global, case: &Case) -> Result<bool, Stop> {
-    let len = case.behind.len();
-    let enough = DecodeContext::new(case.levels, len.saturating_add(1)).with_unknown_bytes(len);
-    let decoded = case.decoded_within(alloc, enough)?;
-    Ok(
-        decoded != Err(DecodeError::UnknownFieldLimitExceeded)
-            && decoded.map(|left| left.bytes) == case.skipped(),
-    )
+fn agrees_where_decoded(case: &Case, left: Left, said: &mut Said) {
+    borrows_alike(case, left, said);
+    let span = case.taken(left, said);
+    walks_alike(case, left, &span, said);
+    writes_no_more(&span, said);
+    for len in 0..case.behind.len().saturating_sub(left.bytes) {
+        let front = case.behind.get(..len).unwrap_or(&[]);
+        let answer = case.decoded(front, case.context(), said);
+        said.expect(
+            answer == Err(DecodeError::UnexpectedEof),
+            "fronts are short",
+        );
+    }
 }
 
 // The body of a group that is decoded can be borrowed, and as many bytes are left.
-fn borrows_alike(alloc: Global, case: &Case) -> Result<bool, Stop> {
-    let decoded = case.decoded(alloc)?;
-    let (Ok(left), WireType::StartGroup) = (decoded, case.tag.wire_type()) else {
-        return Ok(true);
-    };
+fn borrows_alike(case: &Case, left: Left, said: &mut Said) {
+    if case.tag.wire_type() != WireType::StartGroup {
+        return;
+    }
     let mut rest = case.behind.as_slice();
     let inner_levels = case.levels.saturating_sub(1);
-    let body = borrow_group(&mut rest, case.tag.field_number(), inner_levels)?;
-    Ok(rest.len() == left.bytes && case.behind.starts_with(body))
+    let answer = borrow_group(&mut rest, case.tag.field_number(), inner_levels);
+    let is_front = match answer {
+        Ok(body) => case.behind.starts_with(body),
+        Err(_) => false,
+    };
+    said.expect(is_front && rest.len() == left.bytes, "borrows alike");
 }
 
-// A walk over a tag and its payload takes the slots and the bytes that decoding takes.
-fn walks_alike(alloc: Global, case: &Case) -> Result<bool, Stop> {
-    let Ok(left) = case.decoded(alloc)? else {
-        return Ok(true);
-    };
+// A walk over a tag and its payload takes the slots and the bytes that decoding takes; what it
+// counts is what decoding needs, and no less will do.
+fn walks_alike(case: &Case, left: Left, span: &[u8], said: &mut Said) {
     let mut context = case.context();
-    let charge = register_unknown_record(&case.taken(alloc, left)?, &mut context)?;
-    let payloads = left.payloads.unwrap_or(0);
-    Ok(
-        context.remaining_unknown_fields() == left.slots
-            && context.remaining_unknown_bytes() == left.payloads
-            && case.slots.checked_sub(left.slots) == Some(charge.fields)
-            && case.payloads.checked_sub(payloads) == Some(charge.bytes),
-    )
-}
-
-// What a walk counts is what decoding needs, and no less will do.
-fn walk_is_exact(alloc: Global, case: &Case) -> Result<bool, Stop> {
-    let Ok(left) = case.decoded(alloc)? else {
-        return Ok(true);
+    let answer = register_unknown_record(span, &mut context);
+    let Some(charge) = said.decoded(answer) else {
+        return said.expect(false, "walks alike");
     };
-    let mut context = case.context();
-    let charge = register_unknown_record(&case.taken(alloc, left)?, &mut context)?;
     let (depth, fields, bytes) = (charge.depth, charge.fields, charge.bytes);
-    let within = |depth: u32, fields: usize, bytes: usize| {
-        let context = DecodeContext::new(depth, fields).with_unknown_bytes(bytes);
-        case.decoded_within(alloc, context)
-    };
-    let one_slot_less = within(depth, fields.saturating_sub(1), bytes)?;
-    let one_level_less = within(depth.saturating_sub(1), fields, bytes)?;
-    let one_byte_less = within(depth, fields, bytes.saturating_sub(1))?;
-    Ok(
-        within(depth, fields, bytes)?.is_ok()
-            && one_slot_less == Err(DecodeError::UnknownFieldLimitExceeded)
-            && (bytes == 0 || one_byte_less == Err(DecodeError::UnknownFieldLimitExceeded))
-            && (depth == 0 || one_level_less == Err(DecodeError::RecursionLimitExceeded)),
-    )
+    let is_alike = context.remaining_unknown_fields() == left.slots
+        && context.remaining_unknown_bytes() == left.payloads
+        && case.slots.checked_sub(left.slots) == Some(fields)
+        && case.payloads.checked_sub(left.payloads.unwrap_or(0)) == Some(bytes);
+    said.expect(is_alike, "walks alike");
+    let exact = case.decoded_within(depth, fields, bytes, said);
+    said.expect(exact.is_ok(), "a walk suffices");
+    let no_slot = Err(DecodeError::UnknownFieldLimitExceeded);
+    let one_less = case.decoded_within(depth, fields.saturating_sub(1), bytes, said);
+    said.expect(one_less == no_slot, "a walk counts slots");
+    let one_less = case.decoded_within(depth, fields, bytes.saturating_sub(1), said);
+    said.expect(bytes == 0 || one_less == no_slot, "a walk counts bytes");
+    let one_less = case.decoded_within(depth.saturating_sub(1), fields, bytes, said);
+    let is_exact = depth == 0 || one_less == Err(DecodeError::RecursionLimitExceeded);
+    said.expect(is_exact, "a walk counts levels");
 }
 
 // What is decoded is written in no more bytes, and in as many only where they are the same.
-fn writes_no_more(alloc: Global, case: &Case) -> Result<bool, Stop> {
-    let Ok(left) = case.decoded(alloc)? else {
-        return Ok(true);
-    };
-    let span = case.taken(alloc, left)?;
-    let mut text = Vec::new(alloc);
-    UnknownFields::decode_from_slice(alloc, &span)?.write_to(&mut text)?;
-    Ok(text.len() < span.len() || text == span)
-}
-
-// Each proper front of a payload is short.
-fn fronts_are_short(alloc: Global, case: &Case) -> Result<bool, Stop> {
-    let Ok(left) = case.decoded(alloc)? else {
-        return Ok(true);
-    };
-    for len in 0..case.behind.len().saturating_sub(left.bytes) {
-        if case.decoded_front(alloc, len)? != Err(DecodeError::UnexpectedEof) {
-            return Ok(false);
-        }
+fn writes_no_more(span: &[u8], said: &mut Said) {
+    let mut text = Vec::new(said.alloc);
+    let answer = UnknownFields::decode_from_slice(said.alloc, span);
+    if let Some(fields) = said.decoded(answer) {
+        said.encoded(fields.write_to(&mut text));
     }
-    Ok(true)
+    let is_less = text.len() < span.len() || text.as_slice() == span;
+    said.expect(is_less, "writes no more");
 }
 
 // A refusal for another cause than missing bytes stays the same whatever bytes follow.
-fn faults_stay(alloc: Global, case: &Case) -> Result<bool, Stop> {
-    let decoded = case.decoded(alloc)?;
-    if decoded.is_ok() || decoded == Err(DecodeError::UnexpectedEof) {
-        return Ok(true);
-    }
+fn stays_refused(case: &Case, decoded: &Result<Left, DecodeError>, said: &mut Said) {
     for more in [b"\x00".as_slice(), b"\x0c\x14", b"\xff\x01\x08"] {
-        if case.decoded_before(alloc, more)? != decoded {
-            return Ok(false);
-        }
+        let mut longer = said.copied(&case.behind);
+        said.made(longer.extend_from_slice(more));
+        let answer = case.decoded(&longer, case.context(), said);
+        said.expect(answer == *decoded, "faults stay");
     }
-    Ok(true)
-}
-
-// The first agreement that does not hold.
-fn disagreement(alloc: Global, case: &Case) -> Result<Option<&'static str>, Stop> {
-    let agreements = [
-        ("skips alike", skips_alike(alloc, case)?),
-        ("slots suffice", slots_suffice(alloc, case)?),
-        ("borrows alike", borrows_alike(alloc, case)?),
-        ("walks alike", walks_alike(alloc, case)?),
-        ("a walk is exact", walk_is_exact(alloc, case)?),
-        ("writes no more", writes_no_more(alloc, case)?),
-        ("fronts are short", fronts_are_short(alloc, case)?),
-        ("faults stay", faults_stay(alloc, case)?),
-    ];
-    Ok(
-        agreements
-            .iter()
-            .find(|(_, holds)| !*holds)
-            .map(|(agreement, _)| *agreement),
-    )
 }
 
 // Which of the answers that the cases are to have this one is.

@@ -1,128 +1,137 @@
 //! The callers that the documents show.
-use crate::found::Stop;
 use crate::row::Row;
-use crate::say;
-use crate::say::Hex;
+use crate::said::{Hex, Said};
 use bytes::{Buf, Bytes};
-use std::alloc::Global;
-use std::fmt::Write;
 use wire_callers::counter::Counter;
 use wire_callers::{first, log, messages as written, sinks};
-use wire_codec::{DecodeError, EncodeSink, ProtoString};
+use wire_codec::{EncodeError, ProtoString, Rope};
 use wire_vectors::callers::texts::ShortText;
 use wire_vectors::callers::{messages, records, scalars, texts, views};
 
-pub fn read<B: Buf>(
-    alloc: Global,
-    row: &Row<'_>,
-    buf: &mut B,
-    said: &mut String,
-) -> Result<bool, Stop> {
+pub fn read<B: Buf>(row: &Row<'_>, buf: &mut B, said: &mut Said) -> bool {
     match row.call {
-        "counters_of" => match log::counters_of(alloc, buf) {
-            Ok(counters) => {
-                let sum = counters
-                    .iter()
-                    .fold(0u64, |sum, it| sum.saturating_add(it.value));
-                let len = counters.len();
-                write!(said, "{len} of {sum}")?
+        "counters_of" => {
+            let answer = log::counters_of(said.alloc, buf);
+            if let Some(counters) = said.decoded(answer) {
+                said.show(&counters.len());
+                said.also(" of ", &sum_of(&counters));
             }
-            Err(error) => say::refusal(said, error)?,
-        },
-        "name_of" => say::read(said, texts::name_of(alloc, buf), buf)?,
-        "short_text_of" => {
-            let answer = texts::short_text_of(alloc, buf).map(|short| short.text);
-            say::read(said, answer, buf)?
         }
-        _ => return Ok(false),
+        "name_of" => said.read(texts::name_of(said.alloc, buf), buf),
+        "short_text_of" => {
+            let answer = texts::short_text_of(said.alloc, buf);
+            if let Some(short) = said.decoded(answer) {
+                said.read(Ok(short.as_str()), buf)
+            }
+        }
+        _ => return false,
     }
-    Ok(true)
+    true
 }
 
-pub fn tell(alloc: Global, row: &Row<'_>, said: &mut String) -> Result<bool, Stop> {
+fn sum_of(counters: &[Counter]) -> u64 {
+    let mut sum = 0u64;
+    for counter in counters {
+        sum = sum.saturating_add(counter.value);
+    }
+    sum
+}
+
+pub fn tell(row: &Row<'_>, said: &mut Said) -> bool {
+    let (alloc, bytes) = (said.alloc, row.bytes);
     match row.call {
-        "raised" => match first::raised(alloc, row.bytes) {
-            Ok(bytes) => say::written(said, &bytes, row.bytes)?,
-            Err(error) => say::refusal(said, error)?,
-        },
-        "copied" => {
-            let counter = Counter {
-                value: row.value()?,
-            };
-            let value = written::copied(alloc, &counter)?.value;
-            write!(said, "{value}")?
+        "raised" => {
+            if let Some(text) = said.decoded(first::raised(alloc, bytes)) {
+                said.written(&text, bytes)
+            }
         }
         "person_of" => {
-            let person = messages::person_of(alloc, row.bytes)?;
-            let (id, unknown) = (person.id, person.unknown().len());
-            write!(said, "{id} {unknown}")?
+            if let Some(person) = said.decoded(messages::person_of(alloc, bytes)) {
+                said.show(&person.id);
+                said.also(" ", &person.unknown().len())
+            }
         }
         "stored" => {
-            let (person, again) = messages::stored(alloc, row.bytes)?;
-            let is_same = person == again;
-            write!(said, "{is_same}")?
+            if let Some((person, again)) = said.decoded(messages::stored(alloc, bytes)) {
+                said.show(&(person == again))
+            }
         }
-        "first_number" => {
-            let answer = records::first_number(row.bytes);
-            write!(said, "{answer:?}")?
-        }
+        "first_number" => said.show(&records::first_number(bytes)),
         "body_of" => {
-            let body = scalars::body_of(row.bytes, row.number("n").ok_or(Stop::NoRow)?);
-            let body = body.map(Hex);
-            write!(said, "{body:?}")?
+            let body = scalars::body_of(bytes, row.number("n").unwrap_or(0));
+            if let Some(body) = said.decoded(body) {
+                said.show(&Hex(body))
+            }
         }
-        _ => return tell_more(alloc, row, said),
-    }
-    Ok(true)
-}
-
-fn tell_more(alloc: Global, row: &Row<'_>, said: &mut String) -> Result<bool, Stop> {
-    match row.call {
         "without" => {
-            let number = row.number("n").ok_or(Stop::NoRow)?;
-            let (again, fields) = records::without(alloc, row.bytes, number)?;
-            let (is_same, len) = (again == fields, fields.len());
-            write!(said, "{is_same} {len}")?
+            let answer = records::without(alloc, bytes, row.number("n").unwrap_or(0));
+            if let Some((again, fields)) = said.decoded(answer) {
+                said.show(&(again == fields));
+                said.also(" ", &fields.len())
+            }
         }
         "unknown_twice" => {
-            let (spans, kept) = views::unknown_twice(alloc, row.bytes)?;
-            let (is_same, len) = (spans == kept, kept.len());
-            write!(said, "{is_same} {len}")?
-        }
-        "attached" => {
-            let rope = records::attached(alloc, Bytes::copy_from_slice(alloc, row.bytes)?)?;
-            say::written(said, rope.to_contiguous_bytes()?.as_slice(), row.bytes)?
+            if let Some((spans, kept)) = said.decoded(views::unknown_twice(alloc, bytes)) {
+                said.show(&(spans == kept));
+                said.also(" ", &kept.len())
+            }
         }
         "scores_of" => {
-            let scores = scalars::scores_of(alloc, row.bytes)?;
-            write!(said, "{scores:?}")?
+            if let Some(scores) = said.decoded(scalars::scores_of(alloc, bytes)) {
+                said.show(&scores)
+            }
+        }
+        _ => return tell_written(row, said),
+    }
+    true
+}
+
+// What a caller writes.
+fn tell_written(row: &Row<'_>, said: &mut Said) -> bool {
+    let alloc = said.alloc;
+    let counter = Counter { value: row.value() };
+    match row.call {
+        "copied" => {
+            if let Some(copy) = said.decoded(written::copied(alloc, &counter)) {
+                said.show(&copy.value)
+            }
+        }
+        "ShortText" => {
+            if let Some(short) = said.decoded(ShortText::from_text(alloc, "hi")) {
+                said.show(&short.as_str());
+                said.also(" ", &ShortText::empty(alloc).as_str())
+            }
+        }
+        "attached" => {
+            if let Some(bytes) = said.made(Bytes::copy_from_slice(alloc, row.bytes)) {
+                say_rope(records::attached(alloc, bytes), row, said)
+            }
+        }
+        "in_rope" => say_rope(sinks::in_rope(alloc, &counter), row, said),
+        "shortened" => {
+            if let Some(text) = said.decoded(sinks::shortened(alloc, row.bytes)) {
+                said.written(&text, row.bytes)
+            }
         }
         "pair" => {
             let mut sink = Vec::new(alloc);
-            records::put_pair(5, row.value()?, &mut sink)?;
-            say::written(said, &sink, row.bytes)?
+            said.encoded(records::put_pair(5, row.value(), &mut sink));
+            said.written(&sink, row.bytes)
         }
         "balance" => {
             let mut sink = Vec::new(alloc);
-            scalars::put_balance(row.value()?, &mut sink)?;
-            say::written(said, &sink, row.bytes)?
+            said.encoded(scalars::put_balance(row.value(), &mut sink));
+            said.written(&sink, row.bytes)
         }
-        "in_rope" => {
-            let rope = sinks::in_rope(
-                alloc,
-                &Counter {
-                    value: row.value()?,
-                },
-            )?;
-            say::written(said, rope.to_contiguous_bytes()?.as_slice(), row.bytes)?
-        }
-        "shortened" => say::written(said, &sinks::shortened(alloc, row.bytes)?, row.bytes)?,
-        "ShortText" => {
-            let (short, empty) = (ShortText::from_text(alloc, "hi")?, ShortText::empty(alloc));
-            let (short, empty) = (short.as_str(), empty.as_str());
-            write!(said, "{short:?} {empty:?}")?
-        }
-        _ => return Ok(false),
+        _ => return false,
     }
-    Ok(true)
+    true
+}
+
+fn say_rope(answer: Result<Rope, EncodeError>, row: &Row<'_>, said: &mut Said) {
+    if let Some(rope) = said.encoded(answer) {
+        if let Some(bytes) = said.made(rope.to_contiguous_bytes()) {
+            said.written(bytes.as_slice(), row.bytes);
+        }
+    }
 }

@@ -1,7 +1,6 @@
 //! What a decoder may still take, and the limits that a caller names.
-use crate::found::Stop;
-use crate::row::Row;
-use std::fmt::Write;
+use crate::row::{Row, Step};
+use crate::said::Said;
 use wire_codec::{
     BOOL_ENCODED_LEN, DEFAULT_ELEMENT_MEMORY_LIMIT, DEFAULT_MIN_SEGMENT,
     DEFAULT_UNKNOWN_FIELD_LIMIT, DecodeContext, DecodeError, DecodeOptions,
@@ -10,49 +9,46 @@ use wire_codec::{
 };
 use wire_samples::{Node, Person};
 
-pub fn tell(row: &Row<'_>, said: &mut String) -> Result<bool, Stop> {
+pub fn tell(row: &Row<'_>, said: &mut Said) -> bool {
     match row.call {
-        "DecodeContext" => context(row, said)?,
-        "DecodeOptions" => options(row.options().unwrap_or(DecodeOptions::new()), said)?,
-        "DecodeOptions::default" => options(DecodeOptions::default(), said)?,
-        "constants" => constants(said)?,
-        "names<Person>" => names::<Person>(said)?,
-        "names<Node>" => names::<Node>(said)?,
-        _ => return Ok(false),
+        "DecodeContext" => context(row, said),
+        "DecodeContext::fmt" => said.show(&row.context()),
+        "DecodeOptions" => options(row.options().unwrap_or(DecodeOptions::new()), said),
+        "DecodeOptions::default" => options(DecodeOptions::default(), said),
+        "constants" => constants(said),
+        "names<Person>" => names::<Person>(said),
+        "names<Node>" => names::<Node>(said),
+        _ => return false,
     }
-    Ok(true)
+    true
 }
 
 // The words of a row in turn, each with its answer, and what is left then.
-fn context(row: &Row<'_>, said: &mut String) -> Result<(), Stop> {
+fn context(row: &Row<'_>, said: &mut Said) {
     let mut context = row.context();
-    for word in row.words().split_whitespace() {
-        if let Some(answer) = step(&mut context, word)? {
-            match answer {
-                Ok(()) => write!(said, "Ok ")?,
-                Err(error) => write!(said, "{error:?} ")?,
+    for word in row.words.split(' ') {
+        match step(&mut context, Step::parse(word)) {
+            Some(Ok(())) => said.word("Ok "),
+            Some(Err(error)) => {
+                said.refuse(error);
+                said.word(" ");
             }
+            None => {}
         }
     }
-    let (depth, slots) = (context.depth(), context.remaining_unknown_fields());
-    let elements = context.remaining_element_memory();
-    write!(said, "{depth} {slots} {elements:?}")?;
-    match context.remaining_unknown_bytes() {
-        Some(bytes) => Ok(write!(said, ", {bytes} for payloads")?),
-        None => Ok(()),
+    said.show(&context.depth());
+    said.also(" ", &context.remaining_unknown_fields());
+    said.also(" ", &context.remaining_element_memory());
+    if let Some(bytes) = context.remaining_unknown_bytes() {
+        said.also(", ", &bytes);
+        said.word(" for payloads");
     }
 }
 
-fn step(context: &mut DecodeContext, word: &str) -> Result<Option<Result<(), DecodeError>>, Stop> {
-    if let Some(bytes) = word.strip_prefix("take:") {
-        let bytes = bytes.parse().or(Err(Stop::NoRow))?;
-        return Ok(Some(context.register_element_memory(bytes)));
-    }
-    if let Some(bytes) = word.strip_prefix("payload:") {
-        let bytes = bytes.parse().or(Err(Stop::NoRow))?;
-        return Ok(Some(context.register_unknown_bytes(bytes)));
-    }
-    Ok(match word {
+fn step(context: &mut DecodeContext, step: Step<'_>) -> Option<Result<(), DecodeError>> {
+    match step.kind {
+        "take" => Some(context.register_element_memory(step.number())),
+        "payload" => Some(context.register_unknown_bytes(step.number())),
         "descend" => Some(context.descend()),
         "field" => Some(context.register_unknown_field()),
         "ascend" => {
@@ -62,35 +58,39 @@ fn step(context: &mut DecodeContext, word: &str) -> Result<Option<Result<(), Dec
             None
         }
         _ => None,
-    })
+    }
 }
 
-fn options(options: DecodeOptions, said: &mut String) -> Result<(), Stop> {
-    let copy = options.clone()?;
-    let (depth, size) = (copy.recursion_limit(), options.max_message_size());
-    let (slots, elements) = (copy.unknown_field_limit(), options.element_memory_limit());
-    let payloads = copy.unknown_byte_limit();
-    Ok(write!(said, "{depth} {size} {slots} {elements} {payloads}")?)
+fn options(options: DecodeOptions, said: &mut Said) {
+    let Some(copy) = said.made(options.clone()) else {
+        return;
+    };
+    said.show(&copy.recursion_limit());
+    said.also(" ", &options.max_message_size());
+    said.also(" ", &copy.unknown_field_limit());
+    said.also(" ", &options.element_memory_limit());
+    said.also(" ", &copy.unknown_byte_limit());
 }
 
-fn constants(said: &mut String) -> Result<(), Stop> {
-    let numbers = [
-        FIRST_RESERVED_FIELD_NUMBER,
-        LAST_RESERVED_FIELD_NUMBER,
-        MAX_FIELD_NUMBER,
-    ];
-    let limits = (
-        RECURSION_LIMIT,
-        DEFAULT_UNKNOWN_FIELD_LIMIT,
-        DEFAULT_ELEMENT_MEMORY_LIMIT,
+fn constants(said: &mut Said) {
+    let reserved = [FIRST_RESERVED_FIELD_NUMBER, LAST_RESERVED_FIELD_NUMBER];
+    said.show(&reserved);
+    said.also(" ", &MAX_FIELD_NUMBER);
+    said.also(" ", &RECURSION_LIMIT);
+    said.also(" ", &DEFAULT_UNKNOWN_FIELD_LIMIT);
+    said.also(" ", &DEFAULT_ELEMENT_MEMORY_LIMIT);
+    said.also(" ", &MAX_MESSAGE_BYTES);
+    said.also(" ", &DEFAULT_MIN_SEGMENT);
+    said.also(
+        " ",
+        &[BOOL_ENCODED_LEN, FIXED32_ENCODED_LEN, FIXED64_ENCODED_LEN],
     );
-    let sizes = (MAX_MESSAGE_BYTES, DEFAULT_MIN_SEGMENT);
-    let lens = [BOOL_ENCODED_LEN, FIXED32_ENCODED_LEN, FIXED64_ENCODED_LEN];
-    Ok(write!(said, "{numbers:?} {limits:?} {sizes:?} {lens:?}")?)
 }
 
-fn names<M: MessageName>(said: &mut String) -> Result<(), Stop> {
-    let (package, name) = (M::PACKAGE, M::NAME);
-    let (full, url) = (M::FULL_NAME, M::TYPE_URL);
-    Ok(write!(said, "{package} {name} {full} {url}")?)
+fn names<M: MessageName>(said: &mut Said) {
+    said.word(M::PACKAGE);
+    for name in [M::NAME, M::FULL_NAME, M::TYPE_URL] {
+        said.word(" ");
+        said.word(name);
+    }
 }

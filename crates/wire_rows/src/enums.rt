@@ -4,72 +4,70 @@ ghost use Rattle.wire_text.specs.declared.enumeration.EnumValue.TheVariants.{Kno
 ghost use Rattle.wire_rows.specs.declared.enums.Color.TheVariants.{Green};
 ghost use Rattle.wire_codec.specs.EnumNumbers.{first_numbered, first_numbered_keeps};
 
-use crate::found::{Stop, expect};
 use crate::row::Row;
-use std::fmt::{Debug, Write};
+use crate::said::Said;
+use std::fmt::Debug;
 use std::hash::{DefaultHasher, Hash, Hasher};
 use wire_codec::{EnumValue, Enumeration};
 
-pub fn tell(row: &Row<'_>, said: &mut String) -> Result<bool, Stop> {
+pub fn tell(row: &Row<'_>, said: &mut Said) -> bool {
     match row.call {
-        "EnumValue<Color>" => say_number::<Color>(row.value()?, said)?,
-        "EnumValue<Status>" => say_number::<Status>(row.value()?, said)?,
-        "Enumeration<Color>" => say_name::<Color>(row, said)?,
-        "Enumeration<Status>" => say_name::<Status>(row, said)?,
-        "EnumValue" => say_values(said)?,
-        _ => return Ok(false),
+        "EnumValue<Color>" => say_number::<Color>(row.value(), said),
+        "EnumValue<Status>" => say_number::<Status>(row.value(), said),
+        "Enumeration<Color>" => say_name::<Color>(row, said),
+        "Enumeration<Status>" => say_name::<Status>(row, said),
+        "EnumValue" => say_values(said),
+        _ => return false,
     }
-    Ok(true)
+    true
 }
 
 // A number as an enum sees it: what it shows, and that the other calls say the same.
-fn say_number<E: Enumeration + Drop>(number: i32, said: &mut String) -> Result<(), Stop> {
+fn say_number<E: Enumeration + Drop>(number: i32, said: &mut Said) {
     let value = EnumValue::<E>::from(number);
     let known = value.as_known();
-    expect(value.to_i32() == number, "another number")?;
-    expect(value.is_known() == known.is_some(), "known")?;
-    expect(value.is_unknown() == known.is_none(), "unknown")?;
+    said.expect(value.to_i32() == number, "another number");
+    said.expect(value.is_known() == known.is_some(), "known");
+    said.expect(value.is_unknown() == known.is_none(), "unknown");
     if let Some(known) = known {
-        expect(
-            value.is(known) && value == EnumValue::from_known(known),
-            "not the known one",
-        )?;
+        let is_own = value.is(known) && value == EnumValue::from_known(known);
+        said.expect(is_own, "not the known one");
         let one = EnumValue::Unknown(number);
-        expect(
-            one != value && !one.is(known),
-            "an unknown number is a known one",
-        )?;
+        let is_other = one != value && !one.is(known);
+        said.expect(is_other, "an unknown number is a known one");
     }
-    let default = EnumValue::<E>::default().to_i32();
-    Ok(write!(said, "{value} {value:?}, default {default}")?)
+    if let Some(text) = said.made(value.to_string(said.alloc)) {
+        said.word(&text);
+    }
+    said.also(" ", &value);
+    said.also(", default ", &EnumValue::<E>::default().to_i32());
 }
 
-fn say_name<E: Enumeration + Debug + 'static>(
-    row: &Row<'_>,
-    said: &mut String,
-) -> Result<(), Stop> {
-    let name = row.word("name").ok_or(Stop::NoRow)?;
-    let (found, count) = (E::from_proto_name(name), E::values().len());
-    write!(said, "{found:?} of {count}")?;
+fn say_name<E: Enumeration + Debug + 'static>(row: &Row<'_>, said: &mut Said) {
+    let name = row.word("name").unwrap_or("");
+    let found = E::from_proto_name(name);
+    said.show(&found);
+    said.also(" of ", &E::values().len());
     if let Some(found) = found {
-        expect(found.proto_name() == name, "another name")?;
+        said.expect(found.proto_name() == name, "another name");
     }
-    Ok(())
 }
 
 // Equal values hash equally, and a known value equals no number.
-fn say_values(said: &mut String) -> Result<(), Stop> {
+fn say_values(said: &mut Said) {
     let (green, one) = (green(), EnumValue::Unknown(1));
-    expect(hash_of(green) == hash_of(EnumValue::from(1)), "a hash")?;
-    expect(
-        hash_of(green) != hash_of(one) && green != one,
-        "the same hash",
-    )?;
-    expect(green.is(Color::Green) && !green.is(Color::Blue), "another")?;
-    let status = no_status();
-    let names = (Color::Blue.proto_name(), Status::Inactive.proto_name());
-    let values = Color::values();
-    Ok(write!(said, "{green} {status:?} {names:?} {values:?}")?)
+    said.expect(hash_of(green) == hash_of(EnumValue::from(1)), "a hash");
+    let is_other = hash_of(green) != hash_of(one) && green != one;
+    said.expect(is_other, "the same hash");
+    let is_green = green.is(Color::Green) && !green.is(Color::Blue);
+    said.expect(is_green, "another");
+    said.show(&green);
+    said.also(" ", &no_status());
+    said.also(
+        " ",
+        &[Color::Blue.proto_name(), Status::Inactive.proto_name()],
+    );
+    said.also(" ", &Color::values());
 }
 
 #[derive(Clone, Copy, Debug, PartialEq, Eq, Hash)]

@@ -1,32 +1,33 @@
 //! The texts of the errors.
-use crate::found::{Stop, expect};
 use crate::row::Row;
-use std::alloc::Global;
-use std::fmt::Write;
+use crate::said::Said;
 use wire_codec::{DecodeError, EncodeError};
 
-pub fn tell(alloc: Global, row: &Row<'_>, said: &mut String) -> Result<bool, Stop> {
-    let name = row.words().trim();
+pub fn tell(row: &Row<'_>, said: &mut Said) -> bool {
     match row.call {
         "DecodeError" => {
-            let error = decode_error(name).ok_or(Stop::NoRow)?;
-            expect(error.clone()? == error, "a clone")?;
-            let text = error.to_string(alloc)?;
-            write!(said, "{text}")?;
+            let error = decode_error(row.words.trim());
+            let copy = said.made(error.clone());
+            said.expect(copy.as_ref() == Some(&error), "a clone");
+            if let Some(text) = said.made(error.to_string(said.alloc)) {
+                said.word(&text);
+            }
         }
         "EncodeError" => {
-            let error = encode_error(name).ok_or(Stop::NoRow)?;
-            expect(error.clone()? == error, "a clone")?;
-            let text = error.to_string(alloc)?;
-            write!(said, "{text}")?;
+            let error = encode_error(row.words.trim());
+            let copy = said.made(error.clone());
+            said.expect(copy.as_ref() == Some(&error), "a clone");
+            if let Some(text) = said.made(error.to_string(said.alloc)) {
+                said.word(&text);
+            }
         }
-        _ => return Ok(false),
+        _ => return false,
     }
-    Ok(true)
+    true
 }
 
-fn decode_error(name: &str) -> Option<DecodeError> {
-    Some(match name {
+fn decode_error(name: &str) -> DecodeError {
+    match name {
         "UnexpectedEof" => DecodeError::UnexpectedEof,
         "VarintTooLong" => DecodeError::VarintTooLong,
         "InvalidWireType(7)" => DecodeError::InvalidWireType(7),
@@ -44,20 +45,18 @@ fn decode_error(name: &str) -> Option<DecodeError> {
         "UnknownFieldLimitExceeded" => DecodeError::UnknownFieldLimitExceeded,
         "ElementMemoryLimitExceeded" => DecodeError::ElementMemoryLimitExceeded,
         "Custom(x)" => DecodeError::Custom("x"),
-        "OutOfMemory" => DecodeError::OutOfMemory,
-        _ => return None,
-    })
+        _ => DecodeError::OutOfMemory,
+    }
 }
 
-fn encode_error(name: &str) -> Option<EncodeError> {
-    Some(match name {
+fn encode_error(name: &str) -> EncodeError {
+    match name {
         "MessageTooLarge" => EncodeError::MessageTooLarge,
         "ExceedsBudget(2,1)" => EncodeError::ExceedsBudget {
             len: 2,
             max_bytes: 1,
         },
         "OutOfMemory" => EncodeError::OutOfMemory,
-        "LengthOverflow" => EncodeError::LengthOverflow,
-        _ => return None,
-    })
+        _ => EncodeError::LengthOverflow,
+    }
 }

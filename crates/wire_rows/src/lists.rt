@@ -1,11 +1,10 @@
 //! Packed lists of scalars, and lists of a type that a user plugs in.
 ghost use Rattle.std.specs.Prelude.{◌≡◌};
 
-use crate::found::{Stop, expect};
 use crate::row::Row;
-use crate::say;
+use crate::said::Said;
 use std::alloc::Global;
-use std::fmt::{Debug, Write};
+use std::fmt::Debug;
 use wire_codec::{
     DecodeError, ProtoList, count_varints, extend_packed_bool, extend_packed_fixed32,
     extend_packed_fixed64, extend_packed_int32, extend_packed_int64, extend_packed_sfixed32,
@@ -14,162 +13,119 @@ use wire_codec::{
 };
 
 /// Says which elements are appended behind one, and why no more.
-pub fn tell(alloc: Global, row: &Row<'_>, said: &mut String) -> Result<bool, Stop> {
-    Ok(
-        tell_varints(alloc, row, said)?
-            || tell_fixed(alloc, row, said)?
-            || tell_plugged(alloc, row, said)?,
-    )
+pub fn tell(row: &Row<'_>, said: &mut Said) -> bool {
+    match row.call {
+        "ProtoList<Vec>" => say_plugged::<Vec<u32>>(said),
+        "ProtoList<Unreserved>" => say_plugged::<Unreserved>(said),
+        _ => return tell_varints(row, said) || tell_fixed(row, said),
+    }
+    true
 }
 
 // A list of one element, for which a reservation asks.
-fn one<T: Copy + Drop>(alloc: Global, element: T) -> Result<Vec<T>, Stop> {
-    let mut list = Vec::new(alloc);
-    list.push(element)?;
-    Ok(list)
+fn one<T: Copy + Drop>(said: &mut Said, element: T) -> Vec<T> {
+    let mut list = Vec::new(said.alloc);
+    said.made(list.push(element));
+    list
 }
 
 // What is appended behind the first element, and why no more. Where memory is refused a front of
 // the wanted elements stands there, and none where room for all of them was asked for.
 fn say_list<T: Copy + Debug + Drop>(
     row: &Row<'_>,
-    said: &mut String,
+    said: &mut Said,
     answer: Result<(), DecodeError>,
-    list: Vec<T>,
-) -> Result<(), Stop> {
-    expect(!list.is_empty(), "the first element is gone")?;
+    list: &[T],
+) {
+    said.expect(!list.is_empty(), "the first element is gone");
     let appended = list.get(1..).unwrap_or(&[]);
     if answer == Err(DecodeError::OutOfMemory) {
-        expect(
-            row.word("reserve").is_some() || appended.is_empty(),
-            "not as it was",
-        )?;
-        write!(said, "{appended:?}")?;
-        let front = said.strip_suffix("]").unwrap_or(said.as_str());
-        expect(row.answer.contains(front), "no front")?;
-        return Err(Stop::Memory);
+        let is_front = row.word("reserve").is_some() || appended.is_empty();
+        said.expect(is_front, "not as it was");
+        said.show(&appended);
+        let (front, _) = said.told();
+        let is_front = row
+            .answer
+            .contains(front.strip_suffix("]").unwrap_or(front));
+        said.expect(is_front, "no front");
     }
     if let Err(error) = answer {
-        say::refusal(said, error)?;
-        write!(said, " ")?;
+        said.refuse(error);
+        said.word(" ");
     }
-    Ok(write!(said, "{appended:?}")?)
+    said.show(&appended);
 }
 
-fn tell_varints(alloc: Global, row: &Row<'_>, said: &mut String) -> Result<bool, Stop> {
-    let bytes = row.bytes;
+fn tell_varints(row: &Row<'_>, said: &mut Said) -> bool {
+    let (alloc, bytes) = (said.alloc, row.bytes);
     let room = row.number("reserve").unwrap_or(count_varints(bytes));
     match row.call {
         "extend_packed_int32" => {
-            let mut list = one(alloc, 4)?;
-            say_list(
-                row,
-                said,
-                extend_packed_int32(alloc, bytes, &mut list, room),
-                list,
-            )?
+            let mut list = one(said, 4);
+            let answer = extend_packed_int32(alloc, bytes, &mut list, room);
+            say_list(row, said, answer, &list)
         }
         "extend_packed_int64" => {
-            let mut list = one(alloc, 4)?;
-            say_list(
-                row,
-                said,
-                extend_packed_int64(alloc, bytes, &mut list, room),
-                list,
-            )?
+            let mut list = one(said, 4);
+            let answer = extend_packed_int64(alloc, bytes, &mut list, room);
+            say_list(row, said, answer, &list)
         }
         "extend_packed_uint32" => {
-            let mut list = one(alloc, 4)?;
-            say_list(
-                row,
-                said,
-                extend_packed_uint32(alloc, bytes, &mut list, room),
-                list,
-            )?
+            let mut list = one(said, 4);
+            let answer = extend_packed_uint32(alloc, bytes, &mut list, room);
+            say_list(row, said, answer, &list)
         }
         "extend_packed_uint64" => {
-            let mut list = one(alloc, 4)?;
-            say_list(
-                row,
-                said,
-                extend_packed_uint64(alloc, bytes, &mut list, room),
-                list,
-            )?
+            let mut list = one(said, 4);
+            let answer = extend_packed_uint64(alloc, bytes, &mut list, room);
+            say_list(row, said, answer, &list)
         }
         "extend_packed_sint32" => {
-            let mut list = one(alloc, 4)?;
-            say_list(
-                row,
-                said,
-                extend_packed_sint32(alloc, bytes, &mut list, room),
-                list,
-            )?
+            let mut list = one(said, 4);
+            let answer = extend_packed_sint32(alloc, bytes, &mut list, room);
+            say_list(row, said, answer, &list)
         }
         "extend_packed_sint64" => {
-            let mut list = one(alloc, 4)?;
-            say_list(
-                row,
-                said,
-                extend_packed_sint64(alloc, bytes, &mut list, room),
-                list,
-            )?
+            let mut list = one(said, 4);
+            let answer = extend_packed_sint64(alloc, bytes, &mut list, room);
+            say_list(row, said, answer, &list)
         }
         "extend_packed_bool" => {
-            let mut list = one(alloc, true)?;
-            say_list(
-                row,
-                said,
-                extend_packed_bool(alloc, bytes, &mut list, room),
-                list,
-            )?
+            let mut list = one(said, true);
+            let answer = extend_packed_bool(alloc, bytes, &mut list, room);
+            say_list(row, said, answer, &list)
         }
-        _ => return Ok(false),
+        _ => return false,
     }
-    Ok(true)
+    true
 }
 
-fn tell_fixed(alloc: Global, row: &Row<'_>, said: &mut String) -> Result<bool, Stop> {
-    let bytes = row.bytes;
+fn tell_fixed(row: &Row<'_>, said: &mut Said) -> bool {
+    let (alloc, bytes) = (said.alloc, row.bytes);
     match row.call {
         "extend_packed_fixed32" => {
-            let mut list = one(alloc, 4)?;
-            say_list(
-                row,
-                said,
-                extend_packed_fixed32(alloc, bytes, &mut list),
-                list,
-            )?
+            let mut list = one(said, 4);
+            let answer = extend_packed_fixed32(alloc, bytes, &mut list);
+            say_list(row, said, answer, &list)
         }
         "extend_packed_fixed64" => {
-            let mut list = one(alloc, 4)?;
-            say_list(
-                row,
-                said,
-                extend_packed_fixed64(alloc, bytes, &mut list),
-                list,
-            )?
+            let mut list = one(said, 4);
+            let answer = extend_packed_fixed64(alloc, bytes, &mut list);
+            say_list(row, said, answer, &list)
         }
         "extend_packed_sfixed32" => {
-            let mut list = one(alloc, 4)?;
-            say_list(
-                row,
-                said,
-                extend_packed_sfixed32(alloc, bytes, &mut list),
-                list,
-            )?
+            let mut list = one(said, 4);
+            let answer = extend_packed_sfixed32(alloc, bytes, &mut list);
+            say_list(row, said, answer, &list)
         }
         "extend_packed_sfixed64" => {
-            let mut list = one(alloc, 4)?;
-            say_list(
-                row,
-                said,
-                extend_packed_sfixed64(alloc, bytes, &mut list),
-                list,
-            )?
+            let mut list = one(said, 4);
+            let answer = extend_packed_sfixed64(alloc, bytes, &mut list);
+            say_list(row, said, answer, &list)
         }
-        _ => return Ok(false),
+        _ => return false,
     }
-    Ok(true)
+    true
 }
 
 // ---- lists that a user plugs in
@@ -184,7 +140,10 @@ impl ProtoList<u32> for Unreserved {
     ghost items = { λ list. list.elements.items };
 
     fn push(&mut self, value: u32) -> Result<(), u32> {
-        self.elements.push(value).map_err(|refused| refused.value)
+        match self.elements.push(value) {
+            Ok(()) => Ok(()),
+            Err(refused) => Err(refused.value),
+        }
     }
 
     fn clear(&mut self) {
@@ -202,34 +161,24 @@ impl ProtoList<u32> for Unreserved {
     }
 }
 
-fn tell_plugged(alloc: Global, row: &Row<'_>, said: &mut String) -> Result<bool, Stop> {
-    match row.call {
-        "ProtoList<Vec>" => say_plugged::<Vec<u32>>(alloc, said)?,
-        "ProtoList<Unreserved>" => say_plugged::<Unreserved>(alloc, said)?,
-        _ => return Ok(false),
-    }
-    Ok(true)
-}
-
 // A push that is refused hands its value back, and a reservation that is refused changes nothing.
-fn say_plugged<L: ProtoList<u32>>(alloc: Global, said: &mut String) -> Result<(), Stop> {
-    let mut list = L::empty(alloc);
+fn say_plugged<L: ProtoList<u32>>(said: &mut Said) {
+    let mut list = L::empty(said.alloc);
     for value in 1..=9 {
         if let Err(back) = list.push(value) {
-            expect(back == value, "another value is handed back")?;
-            expect(
-                list.as_slice().iter().copied().eq(1..value),
-                "a refused push",
-            )?;
-            return Err(Stop::Memory);
+            said.expect(back == value, "another value is handed back");
+            let is_left = list.as_slice().iter().copied().eq(1..value);
+            said.expect(is_left, "a refused push");
+            return said.refuse(DecodeError::OutOfMemory);
         }
     }
     let answer = list.reserve(100);
-    expect(list.as_slice().iter().copied().eq(1..=9), "a reservation")?;
-    answer?;
-    let copy = list.clone()?;
+    let is_left = list.as_slice().iter().copied().eq(1..=9);
+    said.expect(is_left, "a reservation");
+    said.made(answer);
+    if let Some(copy) = said.made(list.clone()) {
+        said.show(&copy.as_slice());
+    }
     list.clear();
-    expect(list == L::empty(alloc), "not cleared")?;
-    let elements = copy.as_slice();
-    Ok(write!(said, "{elements:?}")?)
+    said.expect(list == L::empty(said.alloc), "not cleared");
 }

@@ -1,71 +1,53 @@
 //! A row of the table, `call words | bytes | answer`, and what it gives its call.
-use crate::found::Stop;
+use crate::said::Said;
 use std::alloc::Global;
 use std::str::FromStr;
 use wire_codec::{DecodeContext, DecodeOptions, encode_varint};
-
-/// A row as it stands in the table.
-#[derive(Clone, Copy)]
-pub struct Line<'a> {
-    pub call: &'a str,
-    pub words: &'a str,
-    pub bytes: &'a str,
-    pub answer: &'a str,
-}
-
-impl<'a> Line<'a> {
-    /// Nothing where the text is no row.
-    pub fn parse(text: &'a str) -> Option<Line<'a>> {
-        let (given, rest) = text.split_once('|')?;
-        let (bytes, answer) = rest.split_once('|')?;
-        let given = given.trim();
-        let (call, words) = given.split_once(' ').unwrap_or((given, ""));
-        Some(Line {
-            call,
-            words,
-            bytes,
-            answer: answer.trim(),
-        })
-    }
-}
 
 /// What a row gives its call.
 #[derive(Clone, Copy)]
 pub struct Row<'a> {
     pub call: &'a str,
-    words: &'a str,
+    /// The words before the bytes, in their order.
+    pub words: &'a str,
     pub bytes: &'a [u8],
     ends: &'a [usize],
     /// What is wanted.
     pub answer: &'a str,
 }
 
+/// A word `KIND:TEXT*N`; without `*N` it stands once.
+#[derive(Clone, Copy)]
+pub struct Step<'a> {
+    pub kind: &'a str,
+    pub text: &'a str,
+    pub times: u32,
+}
+
+impl<'a> Step<'a> {
+    pub fn parse(word: &'a str) -> Step<'a> {
+        let (word, times) = word.split_once('*').unwrap_or((word, "1"));
+        let (kind, text) = word.split_once(':').unwrap_or((word, ""));
+        let times = times.parse().unwrap_or(1);
+        Step { kind, text, times }
+    }
+
+    pub fn number<T: FromStr<Err: Drop> + Default + Drop>(&self) -> T {
+        self.text.parse().unwrap_or(T::default())
+    }
+}
+
 impl<'a> Row<'a> {
-    pub fn new(line: Line<'a>, bytes: &'a Bytes) -> Row<'a> {
-        Row {
-            call: line.call,
-            words: line.words,
-            bytes: &bytes.bytes,
-            ends: &bytes.ends,
-            answer: line.answer,
-        }
-    }
-
-    /// The words before the bytes, in their order.
-    pub fn words(&self) -> &'a str {
-        self.words
-    }
-
     /// What stands behind `name=`.
     pub fn word(&self, name: &str) -> Option<&'a str> {
-        self.words
-            .split_whitespace()
-            .find_map(|word| word.strip_prefix(name)?.strip_prefix("="))
-    }
-
-    /// Whether the word stands there alone.
-    pub fn has(&self, name: &str) -> bool {
-        self.words.split_whitespace().any(|word| word == name)
+        for word in self.words.split(' ') {
+            if let Some((given, text)) = word.split_once('=') {
+                if given == name {
+                    return Some(text);
+                }
+            }
+        }
+        None
     }
 
     /// The number behind `name=`.
@@ -73,18 +55,18 @@ impl<'a> Row<'a> {
         self.word(name)?.parse().ok()
     }
 
-    /// The value of a scalar, behind `value=`.
-    pub fn value<T: FromStr<Err: Drop>>(&self) -> Result<T, Stop> {
-        self.number("value").ok_or(Stop::NoRow)
+    /// The value of a scalar, behind `value=`; its default without one.
+    pub fn value<T: FromStr<Err: Drop> + Default + Drop>(&self) -> T {
+        self.number("value").unwrap_or(T::default())
     }
 
-    /// The bytes behind `name=`, two digits each and eight bytes at most; none without the word.
-    pub fn hex(&self, alloc: Global, name: &str) -> Result<Vec<u8>, Stop> {
-        let word = self.word(name).unwrap_or("");
+    /// The bytes behind `onto=`, two digits each and eight bytes at most.
+    pub fn onto(&self, said: &mut Said) -> Vec<u8> {
+        let word = self.word("onto").unwrap_or("");
         let number = u64::from_str_radix(word, 16).unwrap_or(0);
         let unused = 8usize.saturating_sub(word.len() / 2);
         let bytes = number.to_be_bytes();
-        Ok(Vec::from_slice(alloc, bytes.get(unused..).unwrap_or(&[]))?)
+        said.copied(bytes.get(unused..).unwrap_or(&[]))
     }
 
     /// How many spans there are.
@@ -93,27 +75,26 @@ impl<'a> Row<'a> {
     }
 
     /// The bytes up to each `/`, and behind the last.
-    pub fn span(&self, index: usize) -> Option<&'a [u8]> {
-        let end = *self.ends.get(index)?;
+    pub fn span(&self, index: usize) -> &'a [u8] {
+        let end = self.ends.get(index).copied().unwrap_or(0);
         let start = match index.checked_sub(1) {
-            Some(before) => *self.ends.get(before)?,
+            Some(before) => self.ends.get(before).copied().unwrap_or(0),
             None => 0,
         };
-        self.bytes.get(start..end)
+        self.bytes.get(start..end).unwrap_or(&[])
     }
 
     /// A context of the limits that the row names, with 100 levels and 1,000,000 slots otherwise.
     pub fn context(&self) -> DecodeContext {
         let depth = self.number("depth").unwrap_or(100);
-        let context = DecodeContext::new(depth, self.number("slots").unwrap_or(1_000_000));
-        let context = match self.number("payloads") {
-            Some(bytes) => context.with_unknown_bytes(bytes),
-            None => context,
-        };
-        match self.number("elements") {
-            Some(bytes) => context.with_element_memory(bytes),
-            None => context,
+        let mut context = DecodeContext::new(depth, self.number("slots").unwrap_or(1_000_000));
+        if let Some(bytes) = self.number("payloads") {
+            context = context.with_unknown_bytes(bytes);
         }
+        if let Some(bytes) = self.number("elements") {
+            context = context.with_element_memory(bytes);
+        }
+        context
     }
 
     /// Options with the limits that the row names, where it names one.
@@ -146,68 +127,73 @@ pub struct Bytes {
 }
 
 impl Bytes {
-    pub fn new(alloc: Global) -> Result<Bytes, Stop> {
-        Ok(Bytes {
-            bytes: Vec::with_capacity(alloc, 1024)?,
-            ends: Vec::with_capacity(alloc, 8)?,
+    pub fn new(alloc: Global) -> Bytes {
+        Bytes {
+            bytes: Vec::new(alloc),
+            ends: Vec::new(alloc),
             start: 0,
-        })
+        }
     }
 
-    /// Takes the bytes of a line. `xN` repeats what stands in front of it, back to the last `xN`.
-    pub fn read(&mut self, line: Line<'_>) -> Result<(), Stop> {
+    /// The row of a line, with its bytes here; nothing where the line is no row or memory is
+    /// wanting. `xN` repeats what stands in front of it, back to the last `xN`.
+    pub fn row<'a>(&'a mut self, line: &'a str, said: &mut Said) -> Option<Row<'a>> {
+        let (given, rest) = line.split_once('|')?;
+        let (bytes, answer) = rest.split_once('|')?;
+        let (call, words) = given.split_once(' ')?;
         self.bytes.clear();
         self.ends.clear();
         self.start = 0;
-        for word in line.bytes.split_whitespace() {
-            self.take(word)?;
+        for word in bytes.split(' ') {
+            self.take(word, said)?;
         }
-        self.ends.push(self.bytes.len())?;
-        let levels = line
-            .words
-            .split_whitespace()
-            .find_map(|word| word.strip_prefix("levels="));
-        match levels {
-            Some(levels) => self.wrap(levels.parse().or(Err(Stop::NoRow))?),
-            None => Ok(()),
+        for word in words.split(' ') {
+            if let Some(levels) = word.strip_prefix("levels=") {
+                self.wrap(levels.parse().ok()?, said)?;
+            }
+        }
+        said.made(self.ends.push(self.bytes.len()))?;
+        Some(Row {
+            call,
+            words,
+            bytes: &self.bytes,
+            ends: &self.ends,
+            answer: answer.trim(),
+        })
+    }
+
+    fn take(&mut self, word: &str, said: &mut Said) -> Option<()> {
+        match word {
+            "" => Some(()),
+            "/" => said.made(self.ends.push(self.bytes.len())),
+            _ => match word.strip_prefix("x") {
+                Some(times) => self.repeat(times.parse().ok()?, said),
+                None => said.made(self.bytes.push(u8::from_str_radix(word, 16).ok()?)),
+            },
         }
     }
 
-    fn take(&mut self, word: &str) -> Result<(), Stop> {
-        if word == "/" {
-            return Ok(self.ends.push(self.bytes.len())?);
-        }
-        if let Some(times) = word.strip_prefix("x") {
-            return self.repeat(times.parse().or(Err(Stop::NoRow))?);
-        }
-        let byte = u8::from_str_radix(word, 16).or(Err(Stop::NoRow))?;
-        Ok(self.bytes.push(byte)?)
-    }
-
-    fn repeat(&mut self, times: usize) -> Result<(), Stop> {
-        let alloc = *self.bytes.allocator();
-        let part = Vec::from_slice(alloc, self.bytes.get(self.start..).unwrap_or(&[]))?;
+    fn repeat(&mut self, times: usize, said: &mut Said) -> Option<()> {
+        let part = said.copied(self.bytes.get(self.start..).unwrap_or(&[]));
         let more = times.saturating_sub(1);
-        self.bytes.reserve(part.len().saturating_mul(more))?;
+        said.made(self.bytes.reserve(part.len().saturating_mul(more)))?;
         for _ in 0..more {
-            self.bytes.extend_from_slice(&part)?;
+            said.made(self.bytes.extend_from_slice(&part))?;
         }
         self.start = self.bytes.len();
-        Ok(())
+        Some(())
     }
 
     // Puts the bytes into so many records of number 2, one in the other, made from the end.
-    fn wrap(&mut self, levels: usize) -> Result<(), Stop> {
-        let mut head = Vec::new(*self.bytes.allocator());
+    fn wrap(&mut self, levels: usize, said: &mut Said) -> Option<()> {
         self.bytes.reverse();
         for _ in 0..levels {
-            head.clear();
-            head.push(0x12)?;
-            encode_varint(self.bytes.len() as u64, &mut head)?;
+            let mut head = said.copied(b"\x12");
+            said.encoded(encode_varint(self.bytes.len() as u64, &mut head))?;
             head.reverse();
-            self.bytes.extend_from_slice(&head)?;
+            said.made(self.bytes.extend_from_slice(&head))?;
         }
         self.bytes.reverse();
-        Ok(())
+        Some(())
     }
 }

@@ -1,172 +1,136 @@
 //! What is written into each kind of sink, which has to grow.
-use crate::found::{Stop, expect};
-use crate::row::Row;
-use crate::{say, scalars, texts};
+use crate::row::{Row, Step};
+use crate::said::Said;
+use crate::{scalars, texts};
 use bytes::{Bytes, BytesMut};
-use std::alloc::Global;
-use std::fmt::Write;
 use wire_codec::{EncodeError, EncodeSink, Rope};
 
-/// A sink whose bytes can be looked at.
-pub trait Shown: EncodeSink + Drop {
-    fn shown(&self, alloc: Global) -> Result<Vec<u8>, Stop>;
-}
-
-impl Shown for Vec<u8> {
-    fn shown(&self, _alloc: Global) -> Result<Vec<u8>, Stop> {
-        Ok(self.clone()?)
-    }
-}
-
-impl Shown for BytesMut {
-    fn shown(&self, alloc: Global) -> Result<Vec<u8>, Stop> {
-        Ok(Vec::from_slice(alloc, self.as_slice())?)
-    }
-}
-
-impl Shown for Rope {
-    fn shown(&self, alloc: Global) -> Result<Vec<u8>, Stop> {
-        Ok(Vec::from_slice(alloc, self.to_contiguous_bytes()?.as_slice())?)
-    }
-}
-
-/// Says what a call writes; it has to be the same in each kind of sink.
-pub fn tell(alloc: Global, row: &Row<'_>, said: &mut String) -> Result<bool, Stop> {
-    if row.call == "IS_SEGMENTED" {
-        let all = (
-            Rope::IS_SEGMENTED,
-            Vec::<u8>::IS_SEGMENTED,
-            BytesMut::IS_SEGMENTED,
-        );
-        write!(said, "{all:?}")?;
-        return Ok(true);
-    }
-    if row.call == "puts" {
-        puts_into_each(alloc, row)?;
-        write!(said, "as put")?;
-        return Ok(true);
-    }
-    let mut room = Vec::with_capacity(alloc, 1)?;
-    room.push(7)?;
-    let Some(text) = written(alloc, row, room)? else {
-        return Ok(false);
-    };
-    for other in [
-        written(alloc, row, seven(BytesMut::new(alloc))?)?,
-        written(alloc, row, seven(Rope::with_min_segment(alloc, 1))?)?,
-        written(alloc, row, seven(Rope::new(alloc))?)?,
-    ] {
-        expect(other.as_ref() == Some(&text), "another sink")?;
-    }
-    say::written(said, text.get(1..).unwrap_or(&[]), row.bytes)?;
-    Ok(true)
-}
-
-fn seven<S: EncodeSink + Drop>(mut sink: S) -> Result<S, Stop> {
-    sink.put_u8(7)?;
-    Ok(sink)
-}
-
-// What a sink holds once a row was written behind the byte 7. A write that is refused leaves that
-// byte, and what fits behind it: a front of what is written when it is not.
-fn written<S: Shown>(alloc: Global, row: &Row<'_>, mut sink: S) -> Result<Option<Vec<u8>>, Stop> {
-    let answer = match scalars::put(row, &mut sink)? {
-        Some(answer) => answer,
-        None => match texts::put(alloc, row, &mut sink)? {
-            Some(answer) => answer,
-            None => return Ok(None),
-        },
-    };
-    let shown = sink.shown(alloc)?;
-    if answer.is_err() {
-        let mut whole = vec![in alloc; 7]?;
-        if scalars::put(row, &mut whole)?.is_none() {
-            texts::put(alloc, row, &mut whole)?;
+pub fn tell(row: &Row<'_>, said: &mut Said) -> bool {
+    match row.call {
+        "IS_SEGMENTED" => {
+            let of_others = (Vec::<u8>::IS_SEGMENTED, BytesMut::IS_SEGMENTED);
+            said.show(&(Rope::IS_SEGMENTED, of_others.0, of_others.1));
         }
-        expect(!shown.is_empty() && whole.starts_with(&shown), "no front")?;
+        "puts" => puts_into_each(row, said),
+        _ => return written(row, said),
     }
-    answer?;
-    Ok(Some(shown))
+    true
+}
+
+// ---- calls that write
+
+// Says what a call writes; it has to be the same in each kind of sink.
+fn written(row: &Row<'_>, said: &mut Said) -> bool {
+    let mut whole = said.copied(b"\x07");
+    let Some(answer) = put(row, &mut whole) else {
+        return false;
+    };
+    said.encoded(answer);
+    let mut vector = Vec::new(said.alloc);
+    let answer = put_behind(row, &mut vector);
+    is_front(answer, &vector, &whole, said);
+    let mut buffer = BytesMut::new(said.alloc);
+    let answer = put_behind(row, &mut buffer);
+    is_front(answer, buffer.as_slice(), &whole, said);
+    for mut rope in [Rope::with_min_segment(said.alloc, 1), Rope::new(said.alloc)] {
+        let answer = put_behind(row, &mut rope);
+        if let Some(bytes) = said.made(rope.to_contiguous_bytes()) {
+            is_front(answer, bytes.as_slice(), &whole, said);
+        }
+    }
+    said.written(whole.get(1..).unwrap_or(&[]), row.bytes);
+    true
+}
+
+fn put<S: EncodeSink>(row: &Row<'_>, sink: &mut S) -> Option<Result<(), EncodeError>> {
+    match scalars::put(row, sink) {
+        Some(answer) => Some(answer),
+        None => texts::put(row, sink),
+    }
+}
+
+// Behind the byte 7.
+fn put_behind<S: EncodeSink>(row: &Row<'_>, sink: &mut S) -> Result<(), EncodeError> {
+    sink.put_u8(7)?;
+    put(row, sink).unwrap_or(Ok(()))
+}
+
+// A write that is refused leaves a front of what is written when it is not.
+fn is_front(answer: Result<(), EncodeError>, written: &[u8], whole: &[u8], said: &mut Said) {
+    said.expect(whole.starts_with(written), "no front");
+    if said.encoded(answer).is_some() {
+        said.expect(written == whole, "another sink");
+    }
 }
 
 // ---- single puts
 
-#[derive(Clone, Copy)]
-enum Put {
-    Byte,
-    Slice,
-    U32,
-    U64,
-    I32,
-    I64,
-    Shared,
-}
-
-impl Put {
-    fn parse(name: &str) -> Option<Put> {
-        match name {
-            "u8" => Some(Put::Byte),
-            "slice" => Some(Put::Slice),
-            "u32" => Some(Put::U32),
-            "u64" => Some(Put::U64),
-            "i32" => Some(Put::I32),
-            "i64" => Some(Put::I64),
-            "shared" => Some(Put::Shared),
-            _ => None,
-        }
-    }
-
-    fn text(self) -> &'static [u8] {
-        match self {
-            Put::Byte => b"\x01",
-            Put::Slice => b"ab",
-            Put::U32 => b"\x07\x00\x00\x00",
-            Put::U64 => b"\x09\x00\x00\x00\x00\x00\x00\x00",
-            Put::I32 => b"\xff\xff\xff\xff",
-            Put::I64 => b"\xfe\xff\xff\xff\xff\xff\xff\xff",
-            Put::Shared => b"cd",
-        }
-    }
-
-    fn put<S: EncodeSink>(self, sink: &mut S) -> Result<(), EncodeError> {
-        match self {
-            Put::Byte => sink.put_u8(1),
-            Put::Slice => sink.put_slice(b"ab"),
-            Put::U32 => sink.put_u32_le(7),
-            Put::U64 => sink.put_u64_le(9),
-            Put::I32 => sink.put_i32_le(-1),
-            Put::I64 => sink.put_i64_le(-2),
-            Put::Shared => sink.put_shared(Bytes::from_static(b"cd")),
-        }
-    }
-}
-
-fn puts_into_each(alloc: Global, row: &Row<'_>) -> Result<(), Stop> {
+// The puts of a row behind a byte, again and again.
+fn puts_into_each(row: &Row<'_>, said: &mut Said) {
+    let alloc = said.alloc;
+    let mut text = said.copied(&[0; 1024]);
+    text.clear();
     match row.word("into") {
-        Some("Vec") => puts_again(alloc, Vec::new(alloc), row),
-        Some("BytesMut") => puts_again(alloc, BytesMut::new(alloc), row),
-        // Shared runs are segments of their own.
-        Some("Rope1") => puts_again(alloc, Rope::with_min_segment(alloc, 1), row),
-        // Shared runs are copied.
-        Some("Rope") => puts_again(alloc, Rope::new(alloc), row),
-        _ => Err(Stop::NoRow),
+        Some("Vec") => {
+            let mut sink = Vec::new(alloc);
+            let answer = puts(row, &mut sink, &mut text);
+            is_left(answer, &sink, &text, said)
+        }
+        Some("BytesMut") => {
+            let mut sink = BytesMut::new(alloc);
+            let answer = puts(row, &mut sink, &mut text);
+            is_left(answer, sink.as_slice(), &text, said)
+        }
+        _ => {
+            let least = row.number("min").unwrap_or(4096);
+            let mut sink = Rope::with_min_segment(alloc, least);
+            let answer = puts(row, &mut sink, &mut text);
+            if let Some(bytes) = said.made(sink.to_contiguous_bytes()) {
+                is_left(answer, bytes.as_slice(), &text, said)
+            }
+        }
     }
 }
 
-// The puts of a row behind a byte, again and again. One that is refused leaves the sink as it was.
-fn puts_again<S: Shown>(alloc: Global, mut sink: S, row: &Row<'_>) -> Result<(), Stop> {
-    let mut text = vec![in alloc; 7]?;
-    sink.put_u8(7)?;
+// A put that is refused leaves the sink as it was.
+fn is_left(answer: Result<(), EncodeError>, written: &[u8], text: &[u8], said: &mut Said) {
+    said.expect(written == text, "other bytes");
+    if said.encoded(answer).is_some() {
+        said.word("as put");
+    }
+}
+
+fn puts<S: EncodeSink>(row: &Row<'_>, sink: &mut S, text: &mut Vec<u8>) -> Result<(), EncodeError> {
     for _ in 0..18 {
-        for name in row.word("kinds").unwrap_or("").split(',') {
-            let put = Put::parse(name).ok_or(Stop::NoRow)?;
-            let answer = put.put(&mut sink);
-            if answer.is_err() {
-                expect(sink.shown(alloc)? == text, "a refused put changed the sink")?;
-            }
-            answer?;
-            text.extend_from_slice(put.text())?;
+        for word in row.words.split(' ') {
+            let step = Step::parse(word);
+            let bytes = put_one(step.kind, sink)?;
+            text.extend_from_slice(bytes)?;
         }
     }
-    expect(sink.shown(alloc)? == text, "other bytes")
+    Ok(())
+}
+
+// What is put by the call of this kind, if there is one.
+fn put_one<S: EncodeSink>(kind: &str, sink: &mut S) -> Result<&'static [u8], EncodeError> {
+    match kind {
+        "u8" => sink.put_u8(1)?,
+        "slice" => sink.put_slice(b"ab")?,
+        "u32" => sink.put_u32_le(7)?,
+        "u64" => sink.put_u64_le(9)?,
+        "i32" => sink.put_i32_le(-1)?,
+        "i64" => sink.put_i64_le(-2)?,
+        "shared" => sink.put_shared(Bytes::from_static(b"cd"))?,
+        _ => {}
+    }
+    Ok(match kind {
+        "u8" => b"\x01",
+        "slice" => b"ab",
+        "u32" => b"\x07\x00\x00\x00",
+        "u64" => b"\x09\x00\x00\x00\x00\x00\x00\x00",
+        "i32" => b"\xff\xff\xff\xff",
+        "i64" => b"\xfe\xff\xff\xff\xff\xff\xff\xff",
+        "shared" => b"cd",
+        _ => b"",
+    })
 }

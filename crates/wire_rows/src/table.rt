@@ -1,7 +1,7 @@
 //! The table as a whole: its rows one after another, each whole and cut.
 use crate::calls;
-use crate::found::{Found, Stop};
-use crate::row::{Bytes, Line, Row};
+use crate::row::{Bytes, Row};
+use crate::said::{Found, Said};
 use bytes::Buf;
 use std::alloc::Global;
 use std::io;
@@ -14,23 +14,17 @@ const SHORT: usize = 1000;
 /// Tries each row of a table, tells which are astray, and how many there are. Behind a line `half`
 /// rows are cut in the middle alone.
 pub fn run<R: Print + AllocGlobal>(rt: &R, text: &str) -> io::Result<ExitCode> {
-    let mut table = match Table::new(rt.alloc()) {
-        Ok(table) => table,
-        Err(_) => return Ok(ExitCode::from(3)),
-    };
+    let mut table = Table::new(rt.alloc());
     for (index, line) in text.lines().enumerate() {
-        let line = line.trim();
-        if line.is_empty() || line.starts_with('#') {
+        if line.is_empty() || line.starts_with("#") {
             continue;
         }
         if line == "half" {
             table.is_halving = true;
-        } else {
-            let found = table.found(line);
-            if found != Found::Own {
-                let (line, said) = (index.saturating_add(1), table.said.as_str());
-                println!(rt; "line {line}: {found:?}: {said}")?;
-            }
+        } else if table.is_astray(line) {
+            let line = index.saturating_add(1);
+            let (said, astray) = table.said.told();
+            println!(rt; "line {line}: {said:?} {astray:?}")?;
         }
     }
     let (rows, astray) = (table.rows, table.astray);
@@ -40,9 +34,8 @@ pub fn run<R: Print + AllocGlobal>(rt: &R, text: &str) -> io::Result<ExitCode> {
 
 #[derive(Drop)]
 struct Table {
-    alloc: Global,
     bytes: Bytes,
-    said: String,
+    said: Said,
     rows: usize,
     astray: usize,
     // 0 where each row found its own answer, 1 where one found another, else 2.
@@ -51,57 +44,42 @@ struct Table {
 }
 
 impl Table {
-    fn new(alloc: Global) -> Result<Table, Stop> {
-        Ok(Table {
-            alloc,
-            bytes: Bytes::new(alloc)?,
-            said: String::with_capacity(alloc, 1024)?,
+    fn new(alloc: Global) -> Table {
+        Table {
+            bytes: Bytes::new(alloc),
+            said: Said::new(alloc),
             rows: 0,
             astray: 0,
             status: 0,
             is_halving: false,
-        })
+        }
     }
 
-    fn found(&mut self, line: &str) -> Found {
+    fn is_astray(&mut self, line: &str) -> bool {
         self.rows = self.rows.saturating_add(1);
-        let found = match self.is_as_wanted(line) {
-            Ok(true) => Found::Own,
-            Err(stop) if stop.is_memory() => Found::OutOfMemory,
-            Ok(false) => Found::Other,
-            Err(stop) => {
-                let _ = self.tell(&stop);
-                Found::Other
-            }
-        };
+        let found = self.found(line);
         match found {
-            Found::Own => return found,
+            Found::Own => return false,
             Found::OutOfMemory if self.status != 1 => self.status = 2,
             _ => self.status = 1,
         }
         self.astray = self.astray.saturating_add(1);
-        found
+        true
     }
 
-    fn tell(&mut self, stop: &Stop) -> Result<(), Stop> {
-        use std::fmt::Write;
+    fn found(&mut self, line: &str) -> Found {
         let said = &mut self.said;
-        Ok(write!(said, " {stop:?}")?)
-    }
-
-    fn is_as_wanted(&mut self, line: &str) -> Result<bool, Stop> {
-        self.said.clear();
-        let line = Line::parse(line).ok_or(Stop::NoRow)?;
-        self.bytes.read(line)?;
-        let row = Row::new(line, &self.bytes);
-        let said = &mut self.said;
-        if calls::tell(self.alloc, &row, said)? {
-            return Ok(said.as_str() == line.answer);
+        said.clear();
+        let Some(row) = self.bytes.row(line, said) else {
+            said.expect(false, "no row");
+            return said.found("");
+        };
+        if calls::tell(&row, said) {
+            return said.found(row.answer);
         }
         let mut whole = row.bytes;
-        if !is_read(self.alloc, &row, &mut whole, said, line.answer)? {
-            return Ok(false);
-        }
+        let is_read = calls::read(&row, &mut whole, said);
+        said.expect(is_read, "no call");
         let len = row.bytes.len();
         let is_long = self.is_halving || len > SHORT;
         let (first, last) = if is_long {
@@ -110,34 +88,27 @@ impl Table {
             (0, len)
         };
         for place in first..=last {
-            let mut pieces = cut(self.alloc, row.bytes, place)?;
+            let found = said.found(row.answer);
+            if !matches!(found, Found::Own) {
+                return found;
+            }
             said.clear();
-            if !is_read(self.alloc, &row, &mut pieces, said, line.answer)? {
-                return Ok(false);
+            if let Some(mut pieces) = cut(row.bytes, place, said) {
+                calls::read(&row, &mut pieces, said);
             }
         }
-        Ok(true)
+        said.found(row.answer)
     }
 }
 
-fn is_read<B: Buf>(
-    alloc: Global,
-    row: &Row<'_>,
-    buf: &mut B,
-    said: &mut String,
-    answer: &str,
-) -> Result<bool, Stop> {
-    if !calls::read(alloc, row, buf, said)? {
-        return Err(Stop::NoRow);
-    }
-    Ok(said.as_str() == answer)
-}
-
-/// A buffer whose chunks are two pieces of the bytes, or one where the other has no byte.
-pub fn cut(alloc: Global, bytes: &[u8], place: usize) -> Result<RopeBuf, Stop> {
+/// A buffer whose chunks are two pieces of the bytes, or one where the other has no byte; none
+/// where memory is wanting.
+pub fn cut(bytes: &[u8], place: usize, said: &mut Said) -> Option<RopeBuf> {
     let (front, rest) = bytes.split_at_checked(place).unwrap_or((bytes, &[]));
-    let mut rope = Rope::with_min_segment(alloc, 1);
-    rope.put_shared(bytes::Bytes::copy_from_slice(alloc, front)?)?;
-    rope.put_shared(bytes::Bytes::copy_from_slice(alloc, rest)?)?;
-    RopeBuf::from_rope(rope).or(Err(Stop::Memory))
+    let mut rope = Rope::with_min_segment(said.alloc, 1);
+    let front = said.made(bytes::Bytes::copy_from_slice(said.alloc, front))?;
+    let rest = said.made(bytes::Bytes::copy_from_slice(said.alloc, rest))?;
+    said.made(rope.put_shared(front))?;
+    said.made(rope.put_shared(rest))?;
+    said.made(RopeBuf::from_rope(rope))
 }

@@ -1,139 +1,135 @@
 //! Strings, bytes and payloads: read, written, merged, borrowed and plugged in.
 mod plugged;
 
-use crate::found::{Stop, expect};
 use crate::row::Row;
-use crate::say;
-use crate::say::Hex;
+use crate::said::{Hex, Said};
 use crate::scalars::field_number;
 use bytes::{Buf, Bytes};
-use std::alloc::Global;
-use std::fmt::Write;
 use wire_codec::{
     DecodeError, EncodeError, EncodeSink, WirePayload, borrow_bytes, borrow_str, bytes_encoded_len,
     decode_bytes, decode_bytes_to_bytes, decode_length, decode_string, encode_bytes, encode_string,
     merge_bytes, merge_string, put_bytes_field, put_string_field, string_encoded_len,
 };
 
-pub fn read<B: Buf>(
-    alloc: Global,
-    row: &Row<'_>,
-    buf: &mut B,
-    said: &mut String,
-) -> Result<bool, Stop> {
+pub fn read<B: Buf>(row: &Row<'_>, buf: &mut B, said: &mut Said) -> bool {
     match row.call {
-        "decode_length" => say::read(said, decode_length(buf, row.number("max")), buf)?,
-        "decode_string" => say::read(said, decode_string(alloc, buf), buf)?,
-        "decode_bytes" => say_bytes(said, decode_bytes(alloc, buf), buf)?,
-        "decode_bytes_to_bytes" => {
-            let answer = decode_bytes_to_bytes(alloc, buf);
-            say_bytes(
-                said,
-                answer.and_then(|bytes| Ok(bytes.as_slice().to_vec(alloc)?)),
-                buf,
-            )?
+        "decode_length" => said.read(decode_length(buf, row.number("max")), buf),
+        "decode_string" => said.read(decode_string(said.alloc, buf), buf),
+        "decode_bytes" => {
+            if let Some(bytes) = said.decoded(decode_bytes(said.alloc, buf)) {
+                said.read(Ok(Hex(&bytes)), buf)
+            }
         }
-        "merge_string" => merged_string(alloc, buf, said)?,
-        "merge_bytes" => merged_bytes(alloc, buf, said)?,
-        _ => return plugged::read(alloc, row, buf, said),
+        "decode_bytes_to_bytes" => {
+            if let Some(bytes) = said.decoded(decode_bytes_to_bytes(said.alloc, buf)) {
+                said.read(Ok(Hex(bytes.as_slice())), buf)
+            }
+        }
+        "merge_string" => merged_string(buf, said),
+        "merge_bytes" => merged_bytes(buf, said),
+        _ => return plugged::read(row, buf, said),
     }
-    Ok(true)
-}
-
-/// Bytes that were read, and how many are left.
-pub fn say_bytes<B: Buf>(
-    said: &mut String,
-    answer: Result<Vec<u8>, DecodeError>,
-    buf: &B,
-) -> Result<(), Stop> {
-    match answer {
-        Ok(bytes) => say::read(said, Ok(Hex(&bytes)), buf),
-        Err(error) => say::refusal(said, error),
-    }
+    true
 }
 
 // A string that is merged into `old`, and the value then. Want of memory leaves it.
-fn merged_string<B: Buf>(alloc: Global, buf: &mut B, said: &mut String) -> Result<(), Stop> {
-    let mut value = String::from_str(alloc, "old")?;
-    let answer = merge_string(alloc, &mut value, buf);
-    if answer == Err(DecodeError::OutOfMemory) {
-        expect(value.as_str() == "old", "a refused merge")?;
+fn merged_string<B: Buf>(buf: &mut B, said: &mut Said) {
+    let Some(mut value) = said.made(String::from_str(said.alloc, "old")) else {
+        return;
+    };
+    if let Err(error) = merge_string(said.alloc, &mut value, buf) {
+        let is_left = value.as_str() == "old" || error != DecodeError::OutOfMemory;
+        said.expect(is_left, "a refused merge");
+        said.refuse(error);
+        said.word(" ");
     }
-    if let Err(error) = answer {
-        say::refusal(said, error)?;
-        write!(said, " ")?;
-    }
-    write!(said, "{value:?}")?;
-    say::left(said, buf)
+    said.show(&value);
+    said.left(buf.remaining());
 }
 
 // Bytes that are merged into `old`, and the value then. Each refusal leaves it.
-fn merged_bytes<B: Buf>(alloc: Global, buf: &mut B, said: &mut String) -> Result<(), Stop> {
-    let mut value = Vec::from_slice(alloc, b"old")?;
-    let answer = merge_bytes(alloc, &mut value, buf);
-    if answer.is_err() {
-        expect(value.as_slice() == b"old".as_slice(), "a refused merge")?;
+fn merged_bytes<B: Buf>(buf: &mut B, said: &mut Said) {
+    let mut value = said.copied(b"old");
+    if let Err(error) = merge_bytes(said.alloc, &mut value, buf) {
+        said.expect(value.as_slice() == b"old".as_slice(), "a refused merge");
+        said.refuse(error);
+        said.word(" ");
     }
-    if let Err(error) = answer {
-        say::refusal(said, error)?;
-        write!(said, " ")?;
-    }
-    let bytes = Hex(&value);
-    Ok(write!(said, "{bytes:?}")?)
+    said.show(&Hex(&value));
 }
 
 /// Writes by the call of this name, and answers how; nothing where none writes.
-pub fn put<S: EncodeSink>(
-    alloc: Global,
-    row: &Row<'_>,
-    sink: &mut S,
-) -> Result<Option<Result<(), EncodeError>>, Stop> {
-    Ok(Some(match row.call {
-        "encode_bytes" => encode_bytes(row.bytes, sink),
-        "put_bytes_field" => put_bytes_field(field_number(row)?, row.bytes, sink),
-        "encode_string" => encode_string(&text_of(alloc, row)?, sink),
-        "put_string_field" => put_string_field(field_number(row)?, &text_of(alloc, row)?, sink),
-        _ => return Ok(None),
-    }))
+pub fn put<S: EncodeSink>(row: &Row<'_>, sink: &mut S) -> Option<Result<(), EncodeError>> {
+    match row.call {
+        "encode_bytes" => Some(encode_bytes(row.bytes, sink)),
+        "put_bytes_field" => Some(put_bytes_field(field_number(row), row.bytes, sink)),
+        "encode_string" => Some(encode_string(text_of(row), sink)),
+        "put_string_field" => { Some(put_string_field(field_number(row), text_of(row), sink)) }
+        _ => None,
+    }
 }
 
-fn text_of(alloc: Global, row: &Row<'_>) -> Result<String, Stop> {
-    String::from_utf8(Vec::from_slice(alloc, row.bytes)?).or(Err(Stop::NoRow))
+// The bytes of a row as a text; none where they are none.
+fn text_of<'a>(row: &Row<'a>) -> &'a str {
+    std::str::from_utf8(row.bytes).unwrap_or("")
 }
 
-pub fn tell(alloc: Global, row: &Row<'_>, said: &mut String) -> Result<bool, Stop> {
+pub fn tell(row: &Row<'_>, said: &mut Said) -> bool {
     let mut rest = row.bytes;
     match row.call {
-        "borrow_str" => say::lent(said, borrow_str(&mut rest), rest)?,
-        "borrow_bytes" => say::lent(said, borrow_bytes(&mut rest).map(Hex), rest)?,
+        "borrow_str" => {
+            if let Some(text) = said.decoded(borrow_str(&mut rest)) {
+                said.show(&text);
+            }
+            said.left(rest.len());
+        }
+        "borrow_bytes" => {
+            if let Some(bytes) = said.decoded(borrow_bytes(&mut rest)) {
+                said.show(&Hex(bytes));
+            }
+            said.left(rest.len());
+        }
         "bytes_encoded_len" => {
-            let len = bytes_encoded_len(row.bytes)?;
-            write!(said, "{len}")?
+            if let Some(len) = said.encoded(bytes_encoded_len(row.bytes)) {
+                said.show(&len)
+            }
         }
         "string_encoded_len" => {
-            let len = string_encoded_len(&text_of(alloc, row)?)?;
-            write!(said, "{len}")?
+            if let Some(len) = said.encoded(string_encoded_len(text_of(row))) {
+                said.show(&len)
+            }
         }
-        "WirePayload" => payload(alloc, row.bytes, said)?,
-        _ => return plugged::tell(alloc, row, said),
+        "WirePayload" => payload(row.bytes, said),
+        _ => return plugged::tell(row, said),
     }
-    Ok(true)
+    true
 }
 
 // A payload that is lent, a copy of it that is owned, and one that shares with the copy.
-fn payload(alloc: Global, bytes: &[u8], said: &mut String) -> Result<(), Stop> {
+fn payload(bytes: &[u8], said: &mut Said) {
     let lent = WirePayload::borrowed(bytes);
-    let owned = WirePayload::owned(Bytes::copy_from_slice(alloc, bytes)?);
-    let again = owned.clone()?;
+    let Some(copy) = said.made(Bytes::copy_from_slice(said.alloc, bytes)) else {
+        return;
+    };
+    let owned = WirePayload::owned(copy);
+    let Some(again) = said.made(owned.clone()) else {
+        return;
+    };
     let (text, len) = (lent.to_str(), lent.len());
-    expect(
-        !lent.is_owned() && owned.is_owned() && again.is_owned(),
-        "owned",
-    )?;
-    expect(owned.to_str() == text && owned.len() == len, "another text")?;
-    expect(owned.is_empty() == (len == 0), "another length")?;
-    expect(again.as_slice() == bytes, "another copy")?;
-    write!(said, "{len} {text:?}")?;
-    expect(lent.into_bytes(alloc)?.as_slice() == bytes, "lent")?;
-    expect(owned.into_bytes(alloc)?.as_slice() == bytes, "owned")
+    let is_owned = !lent.is_owned() && owned.is_owned() && again.is_owned();
+    said.expect(is_owned, "owned");
+    said.expect(owned.to_str() == text && owned.len() == len, "another text");
+    said.expect(owned.is_empty() == (len == 0), "another length");
+    said.expect(again.as_slice() == bytes, "another copy");
+    said.show(&len);
+    said.word(" ");
+    if let Some(text) = said.decoded(text) {
+        said.show(&text);
+    }
+    if let Some(made) = said.made(lent.into_bytes(said.alloc)) {
+        said.expect(made.as_slice() == bytes, "lent");
+    }
+    if let Some(made) = said.made(owned.into_bytes(said.alloc)) {
+        said.expect(made.as_slice() == bytes, "owned");
+    }
 }

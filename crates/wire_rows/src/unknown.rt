@@ -1,11 +1,8 @@
 //! Payloads that are skipped, and unknown fields: decoded, written, measured and borrowed.
-use crate::found::{Stop, expect};
 use crate::row::Row;
-use crate::say;
-use crate::say::Hex;
+use crate::said::{Hex, Said};
+use crate::scalars::field_number;
 use bytes::Buf;
-use std::alloc::Global;
-use std::fmt::Write;
 use std::hash::{DefaultHasher, Hash, Hasher};
 use wire_codec::{
     Tag, UnknownField, UnknownFieldData, UnknownFields, borrow_group, decode_unknown_field,
@@ -14,100 +11,87 @@ use wire_codec::{
 
 // ---- a tag and its payload
 
-pub fn read<B: Buf>(
-    alloc: Global,
-    row: &Row<'_>,
-    buf: &mut B,
-    said: &mut String,
-) -> Result<bool, Stop> {
+pub fn read<B: Buf>(row: &Row<'_>, buf: &mut B, said: &mut Said) -> bool {
     match row.call {
         "skip_field" => {
-            let answer = Tag::decode(buf).and_then(|tag| skip_field(tag, buf));
-            say::read(said, answer, buf)?
+            if let Some(tag) = said.decoded(Tag::decode(buf)) {
+                said.read(skip_field(tag, buf), buf)
+            }
         }
         "skip_field_depth" => {
-            let depth = row.number("depth").ok_or(Stop::NoRow)?;
-            let answer = Tag::decode(buf).and_then(|tag| skip_field_depth(tag, buf, depth));
-            say::read(said, answer, buf)?
+            let depth = row.number("depth").unwrap_or(0);
+            if let Some(tag) = said.decoded(Tag::decode(buf)) {
+                said.read(skip_field_depth(tag, buf, depth), buf)
+            }
         }
-        "decode_unknown_field" => decode(alloc, row, buf, said)?,
-        _ => return Ok(false),
+        "decode_unknown_field" => decode(row, buf, said),
+        _ => return false,
     }
-    Ok(true)
+    true
 }
 
-fn decode<B: Buf>(
-    alloc: Global,
-    row: &Row<'_>,
-    buf: &mut B,
-    said: &mut String,
-) -> Result<(), Stop> {
+fn decode<B: Buf>(row: &Row<'_>, buf: &mut B, said: &mut Said) {
     let mut context = row.context();
     let depth = context.depth();
-    let tag = Tag::decode(buf)?;
-    let field = match decode_unknown_field(alloc, tag, buf, &mut context) {
-        Ok(field) => field,
-        Err(error) => return say::refusal(said, error),
+    let Some(tag) = said.decoded(Tag::decode(buf)) else {
+        return;
     };
-    expect(context.depth() == depth, "another depth")?;
-    let mut text = Vec::new(alloc);
-    field.write_to(&mut text)?;
-    say::written(said, &text, row.bytes)?;
-    say::left(said, buf)?;
-    say::limits(said, row, &context)
+    let answer = decode_unknown_field(said.alloc, tag, buf, &mut context);
+    let Some(field) = said.decoded(answer) else {
+        return;
+    };
+    said.expect(context.depth() == depth, "another depth");
+    let mut text = Vec::new(said.alloc);
+    said.encoded(field.write_to(&mut text));
+    said.written(&text, row.bytes);
+    said.left(buf.remaining());
+    said.limits(row, &context);
 }
 
 // ---- lists of fields
 
-pub fn tell(alloc: Global, row: &Row<'_>, said: &mut String) -> Result<bool, Stop> {
+pub fn tell(row: &Row<'_>, said: &mut Said) -> bool {
     match row.call {
-        "UnknownFields" => decode_list(alloc, row, said)?,
-        "decode_from_slice_within" => decode_within(alloc, row, said)?,
-        "UnknownFields::push" => push(alloc, said)?,
-        "UnknownFields::retain" => retain(alloc, row, said)?,
-        "UnknownField" => measure(alloc, row, said)?,
-        "borrow_group" => borrow(row, said)?,
-        _ => return Ok(false),
+        "UnknownFields" => {
+            let answer = UnknownFields::decode_from_slice(said.alloc, row.bytes);
+            if let Some(fields) = said.decoded(answer) {
+                say_fields(&fields, row.bytes, said)
+            }
+        }
+        "decode_from_slice_within" => decode_within(row, said),
+        "UnknownFields::push" => push(said),
+        "UnknownFields::retain" => retain(row, said),
+        "UnknownField" => measure(row, said),
+        "borrow_group" => borrow(row, said),
+        _ => return false,
     }
-    Ok(true)
-}
-
-fn decode_list(alloc: Global, row: &Row<'_>, said: &mut String) -> Result<(), Stop> {
-    match UnknownFields::decode_from_slice(alloc, row.bytes) {
-        Ok(fields) => say_fields(alloc, &fields, row.bytes, said),
-        Err(error) => say::refusal(said, error),
-    }
+    true
 }
 
 // How many fields there are, and what they are written as, all at once and one by one. A clone is
 // equal, and hashes equally.
-fn say_fields(
-    alloc: Global,
-    fields: &UnknownFields,
-    given: &[u8],
-    said: &mut String,
-) -> Result<(), Stop> {
-    let mut text = vec![in alloc; 7]?;
-    let answer = fields.write_to(&mut text);
-    let (mut pieces, mut numbers) = (vec![in alloc; 7]?, 0usize);
+fn say_fields(fields: &UnknownFields, given: &[u8], said: &mut Said) {
+    let mut text = said.copied(b"\x07");
+    let mut pieces = said.copied(b"\x07");
+    let mut numbers = 0usize;
     for field in fields {
-        field.write_to(&mut pieces)?;
+        said.encoded(field.write_to(&mut pieces));
         numbers = numbers.saturating_add(1);
     }
-    expect(pieces.starts_with(&text), "no front")?;
-    answer?;
-    expect(pieces == text && numbers == fields.len(), "other fields")?;
+    let answer = fields.write_to(&mut text);
+    said.expect(pieces.starts_with(&text), "no front");
+    said.encoded(answer);
+    said.expect(pieces == text && numbers == fields.len(), "other fields");
     let text = text.get(1..).unwrap_or(&[]);
-    expect(fields.encoded_len()? == text.len(), "another length")?;
-    expect(fields.is_empty() == text.is_empty(), "empty")?;
-    let copy = fields.clone()?;
-    expect(
-        copy == *fields && hash_of(&copy) == hash_of(fields),
-        "a clone",
-    )?;
-    let owned = copy.into_iter().count();
-    write!(said, "{owned}: ")?;
-    say::written(said, text, given)
+    said.expect(fields.encoded_len() == Ok(text.len()), "another length");
+    said.expect(fields.is_empty() == text.is_empty(), "empty");
+    if let Some(copy) = said.made(fields.clone()) {
+        let is_equal = copy == *fields && hash_of(&copy) == hash_of(fields);
+        said.expect(is_equal, "a clone");
+        said.show(&copy.into_iter().count());
+    }
+    said.word(": ");
+    said.written(text, given);
 }
 
 fn hash_of(fields: &UnknownFields) -> u64 {
@@ -117,91 +101,107 @@ fn hash_of(fields: &UnknownFields) -> u64 {
 }
 
 // A list under the limits of the row, and another of one field under what is left.
-fn decode_within(alloc: Global, row: &Row<'_>, said: &mut String) -> Result<(), Stop> {
+fn decode_within(row: &Row<'_>, said: &mut Said) {
+    let alloc = said.alloc;
     let mut context = row.context();
-    match UnknownFields::decode_from_slice_within(alloc, row.bytes, &mut context) {
-        Ok(fields) => say_fields(alloc, &fields, row.bytes, said)?,
-        Err(error) => return say::refusal(said, error),
-    }
-    let slots = context.remaining_unknown_fields();
-    write!(said, ", {slots} slots, then ")?;
-    match UnknownFields::decode_from_slice_within(alloc, b"\x08\x00", &mut context) {
-        Ok(_) => Ok(write!(said, "one more")?),
-        Err(error) => say::refusal(said, error),
+    let answer = UnknownFields::decode_from_slice_within(alloc, row.bytes, &mut context);
+    let Some(fields) = said.decoded(answer) else {
+        return;
+    };
+    say_fields(&fields, row.bytes, said);
+    said.also(", ", &context.remaining_unknown_fields());
+    said.word(" slots, then ");
+    let answer = UnknownFields::decode_from_slice_within(alloc, b"\x08\x00", &mut context);
+    if said.decoded(answer).is_some() {
+        said.word("one more");
     }
 }
 
 // A push that is refused hands the very field back, and leaves the others.
-fn push(alloc: Global, said: &mut String) -> Result<(), Stop> {
-    let mut fields = UnknownFields::new(alloc);
+fn push(said: &mut Said) {
+    let mut fields = UnknownFields::new(said.alloc);
     for number in 1..=9 {
         let value = UnknownFieldData::Fixed32(number);
         if let Err(back) = fields.push(UnknownField { number, value }) {
             let is_own = back.number == number && back.value == UnknownFieldData::Fixed32(number);
-            expect(is_own, "another field is handed back")?;
-            expect(
-                fields.iter().map(|field| field.number).eq(1..number),
-                "a refused push",
-            )?;
-            return Err(Stop::Memory);
+            said.expect(is_own, "another field is handed back");
+            said.expect(are_up_to(&fields, number), "a refused push");
+            return said.refuse(wire_codec::DecodeError::OutOfMemory);
         }
     }
-    expect(
-        fields.iter().map(|field| field.number).eq(1..=9),
-        "other fields",
-    )?;
-    expect(fields != UnknownFields::new(alloc), "equal to none")?;
+    said.expect(are_up_to(&fields, 10), "other fields");
+    let none = UnknownFields::new(said.alloc);
+    said.expect(fields != none, "equal to none");
     fields.clear();
-    expect(fields == UnknownFields::new(alloc), "not cleared")?;
-    Ok(write!(said, "pushed")?)
+    said.expect(fields == none, "not cleared");
+    said.word("pushed");
+}
+
+// Whether the fields are those of the numbers from 1 up to this one.
+fn are_up_to(fields: &UnknownFields, end: u32) -> bool {
+    let mut next = 1u32;
+    for field in fields {
+        if field.number != next {
+            return false;
+        }
+        next = next.saturating_add(1);
+    }
+    next == end
 }
 
 // The fields of even numbers are kept, in order.
-fn retain(alloc: Global, row: &Row<'_>, said: &mut String) -> Result<(), Stop> {
-    let mut fields = UnknownFields::decode_from_slice(alloc, row.bytes)?;
-    fields.retain(|field| field.number % 2 == 0);
-    say_fields(alloc, &fields, row.bytes, said)
+fn retain(row: &Row<'_>, said: &mut Said) {
+    let answer = UnknownFields::decode_from_slice(said.alloc, row.bytes);
+    if let Some(mut fields) = said.decoded(answer) {
+        fields.retain(|field| field.number % 2 == 0);
+        say_fields(&fields, row.bytes, said);
+    }
 }
 
-fn value_of(alloc: Global, row: &Row<'_>) -> Result<UnknownFieldData, Stop> {
+fn value_of(row: &Row<'_>, said: &mut Said) -> Option<UnknownFieldData> {
     if let Some(value) = row.number("varint") {
-        return Ok(UnknownFieldData::Varint(value));
+        return Some(UnknownFieldData::Varint(value));
     }
-    if let Some(len) = row.number::<usize>("bytes") {
-        return Ok(UnknownFieldData::LengthDelimited(vec![in alloc; 7; len]?));
+    if row.word("payload").is_some() {
+        return Some(UnknownFieldData::LengthDelimited(said.copied(row.bytes)));
     }
-    let fields = UnknownFields::decode_from_slice(alloc, row.bytes)?;
-    Ok(UnknownFieldData::Group(fields))
+    let fields = said.decoded(UnknownFields::decode_from_slice(said.alloc, row.bytes))?;
+    Some(UnknownFieldData::Group(fields))
 }
 
 // How long a field is that no decoding made, its first bytes, and whether it is read again.
-fn measure(alloc: Global, row: &Row<'_>, said: &mut String) -> Result<(), Stop> {
-    let number = row.number("n").ok_or(Stop::NoRow)?;
-    let value = value_of(alloc, row)?;
+fn measure(row: &Row<'_>, said: &mut Said) {
+    let number = row.number("n").unwrap_or(0);
+    let Some(value) = value_of(row, said) else {
+        return;
+    };
     let field = UnknownField { number, value };
-    let mut text = Vec::new(alloc);
-    field.write_to(&mut text)?;
-    let len = field.encoded_len()?;
-    expect(len == text.len(), "another length")?;
-    let front = Hex(text.get(..7).unwrap_or(&text));
-    write!(said, "{len}: {front:?}; ")?;
-    match UnknownFields::decode_from_slice(alloc, &text) {
-        Ok(fields) => {
-            expect(fields.iter().eq([&field].iter().copied()), "another field")?;
-            Ok(write!(said, "read again")?)
-        }
-        Err(error) => say::refusal(said, error),
+    let mut text = Vec::new(said.alloc);
+    said.encoded(field.write_to(&mut text));
+    said.expect(field.encoded_len() == Ok(text.len()), "another length");
+    said.show(&text.len());
+    said.also(": ", &Hex(text.get(..7).unwrap_or(&text)));
+    said.word("; ");
+    let answer = UnknownFields::decode_from_slice(said.alloc, &text);
+    if let Some(fields) = said.decoded(answer) {
+        let is_own = fields.len() == 1 && fields.iter().next() == Some(&field);
+        said.expect(is_own, "another field");
+        said.word("read again");
     }
 }
 
 // The body of a group and what is left; a refusal leaves the slice.
-fn borrow(row: &Row<'_>, said: &mut String) -> Result<(), Stop> {
+fn borrow(row: &Row<'_>, said: &mut Said) {
     let mut rest = row.bytes;
-    let number = crate::scalars::field_number(row)?;
-    let depth = row.number("depth").ok_or(Stop::NoRow)?;
-    let answer = borrow_group(&mut rest, number, depth);
-    if answer.is_err() {
-        expect(rest == row.bytes, "a refused group")?;
+    let depth = row.number("depth").unwrap_or(0);
+    match borrow_group(&mut rest, field_number(row), depth) {
+        Ok(body) => {
+            said.show(&Hex(body));
+            said.left(rest.len());
+        }
+        Err(error) => {
+            said.expect(rest == row.bytes, "a refused group");
+            said.refuse(error);
+        }
     }
-    say::read(said, answer.map(Hex), &rest)
 }

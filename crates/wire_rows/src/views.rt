@@ -1,135 +1,113 @@
 //! Flat walks over spans, views of unknown fields, and the unknown fields of a person as a view.
-use crate::found::{Stop, expect};
 use crate::row::Row;
-use crate::say;
-use crate::say::Hex;
-use std::alloc::Global;
-use std::fmt::Write;
-use wire_codec::{
-    DecodeContext, DecodeError, Message, UnknownFields, UnknownFieldsView, register_unknown_record,
-};
+use crate::said::{Hex, Said};
+use wire_codec::{DecodeContext, DecodeError, Message, UnknownFieldsView, register_unknown_record};
 use wire_samples::{Person, person_unknowns};
 
-pub fn tell(alloc: Global, row: &Row<'_>, said: &mut String) -> Result<bool, Stop> {
+pub fn tell(row: &Row<'_>, said: &mut Said) -> bool {
     match row.call {
-        "register_unknown_record" => walk(row, said)?,
-        "UnknownFieldsView" => view(alloc, row, said)?,
-        "person_unknowns" => unknowns(alloc, row, said)?,
-        _ => return Ok(false),
+        "register_unknown_record" => walk(row, said),
+        "UnknownFieldsView" => view(row, said),
+        "person_unknowns" => unknowns(row, said),
+        _ => return false,
     }
-    Ok(true)
+    true
 }
 
 // What a flat walk charges, and what it leaves.
-fn walk(row: &Row<'_>, said: &mut String) -> Result<(), Stop> {
+fn walk(row: &Row<'_>, said: &mut Said) {
     let mut context = row.context();
     let depth = context.depth();
-    match register_unknown_record(row.bytes, &mut context) {
-        Ok(charge) => {
-            let (fields, deepest, bytes) = (charge.fields, charge.depth, charge.bytes);
-            expect(context.depth() == depth, "another depth")?;
-            write!(said, "fields {fields}, depth {deepest}, bytes {bytes}")?;
-            say::limits(said, row, &context)
-        }
-        Err(error) => say::refusal(said, error),
+    let answer = register_unknown_record(row.bytes, &mut context);
+    if let Some(charge) = said.decoded(answer) {
+        said.expect(context.depth() == depth, "another depth");
+        say_charge(charge.fields, charge.depth, charge.bytes, said);
+        said.limits(row, &context);
     }
+}
+
+fn say_charge(fields: usize, depth: u32, bytes: usize, said: &mut Said) {
+    said.also("fields ", &fields);
+    said.also(", depth ", &depth);
+    said.also(", bytes ", &bytes);
 }
 
 // Spans are pushed one by one. One that is refused is not kept, and want of memory takes no slot.
-fn view(alloc: Global, row: &Row<'_>, said: &mut String) -> Result<(), Stop> {
+fn view(row: &Row<'_>, said: &mut Said) {
     let mut context = row.context();
-    let mut view = UnknownFieldsView::new(alloc);
+    let mut view = UnknownFieldsView::new(said.alloc);
     for pushed in 0..row.span_count() {
-        let span = row.span(pushed).ok_or(Stop::NoRow)?;
         let (fields, slots) = (view.fields(), context.remaining_unknown_fields());
-        if let Err(error) = view.push_span(span, &mut context) {
-            expect(
-                view.len() == pushed && view.fields() == fields,
-                "a refused span",
-            )?;
+        if let Err(error) = view.push_span(row.span(pushed), &mut context) {
+            let is_left = view.len() == pushed && view.fields() == fields;
+            said.expect(is_left, "a refused span");
             let is_memory = error == DecodeError::OutOfMemory;
-            expect(
-                !is_memory || context.remaining_unknown_fields() == slots,
-                "a slot is gone",
-            )?;
-            write!(said, "{pushed} kept, then ")?;
-            return say::refusal(said, error);
+            let is_left = !is_memory || context.remaining_unknown_fields() == slots;
+            said.expect(is_left, "a slot is gone");
+            said.show(&pushed);
+            said.word(" kept, then ");
+            return said.refuse(error);
         }
     }
-    say_view(alloc, row, &view, said)?;
-    say::limits(said, row, &context)?;
+    say_view(row, &view, said);
+    said.limits(row, &context);
     view.clear();
-    expect(
-        view.is_empty() && (view.fields(), view.depth(), view.bytes()) == (0, 0, 0),
-        "not cleared",
-    )
+    let is_cleared = (view.fields(), view.depth(), view.bytes()) == (0, 0, 0);
+    said.expect(view.is_empty() && is_cleared, "not cleared");
 }
 
 // What a view is charged, what it writes, and what its spans spell under just that charge.
-fn say_view(
-    alloc: Global,
-    row: &Row<'_>,
-    view: &UnknownFieldsView<'_>,
-    said: &mut String,
-) -> Result<(), Stop> {
+fn say_view(row: &Row<'_>, view: &UnknownFieldsView<'_>, said: &mut Said) {
     let (fields, depth, bytes) = (view.fields(), view.depth(), view.bytes());
-    write!(said, "fields {fields}, depth {depth}, bytes {bytes}, ")?;
-    let mut text = Vec::new(alloc);
-    view.write_to(&mut text)?;
-    expect(view.encoded_len()? == text.len(), "another length")?;
-    let len = view
-        .iter()
-        .fold(0usize, |len, span| len.saturating_add(span.len()));
-    expect(len == text.len(), "other spans")?;
-    expect(view.is_empty() == (view.len() == 0), "empty")?;
-    say::written(said, &text, row.bytes)?;
-    write!(said, "; ")?;
-    let owned = match view.to_owned_fields() {
-        Ok(owned) => owned,
-        Err(error) => return say::refusal(said, error),
+    say_charge(fields, depth, bytes, said);
+    said.word(", ");
+    let mut text = Vec::new(said.alloc);
+    said.encoded(view.write_to(&mut text));
+    said.expect(view.encoded_len() == Ok(text.len()), "another length");
+    let mut len = 0usize;
+    for span in view.iter() {
+        len = len.saturating_add(span.len());
+    }
+    said.expect(len == text.len(), "other spans");
+    said.expect(view.is_empty() == (view.len() == 0), "empty");
+    said.written(&text, row.bytes);
+    said.word("; ");
+    let Some(owned) = said.decoded(view.to_owned_fields()) else {
+        return;
     };
     let mut context = DecodeContext::new(depth, fields).with_unknown_bytes(bytes);
-    expect(view.replay(&mut context)? == owned, "another replay")?;
-    expect(
-        context.remaining_unknown_fields() == 0
-            && context.remaining_unknown_bytes() == Some(0)
-            && context.depth() == depth,
-        "a charge",
-    )?;
-    say_owned(alloc, &owned, &text, said)
-}
-
-fn say_owned(
-    alloc: Global,
-    owned: &UnknownFields,
-    text: &[u8],
-    said: &mut String,
-) -> Result<(), Stop> {
-    let mut shortest = Vec::new(alloc);
-    owned.write_to(&mut shortest)?;
-    let len = owned.len();
-    write!(said, "{len}: ")?;
-    say::written(said, &shortest, text)
+    let replayed = said.decoded(view.replay(&mut context));
+    said.expect(replayed.as_ref() == Some(&owned), "another replay");
+    let left = (
+        context.remaining_unknown_fields(),
+        context.remaining_unknown_bytes(),
+    );
+    said.expect(left == (0, Some(0)) && context.depth() == depth, "a charge");
+    let mut shortest = Vec::new(said.alloc);
+    said.encoded(owned.write_to(&mut shortest));
+    said.show(&owned.len());
+    said.word(": ");
+    said.written(&shortest, &text);
 }
 
 // The spans outlive the view, and spell what a decoded person keeps.
-fn unknowns(alloc: Global, row: &Row<'_>, said: &mut String) -> Result<(), Stop> {
+fn unknowns(row: &Row<'_>, said: &mut Said) {
     let mut context = row.context();
-    let view = match person_unknowns(alloc, row.bytes, &mut context) {
-        Ok(view) => view,
-        Err(error) => return say::refusal(said, error),
+    let answer = person_unknowns(said.alloc, row.bytes, &mut context);
+    let Some(view) = said.decoded(answer) else {
+        return;
     };
     for span in view.iter() {
-        let span = Hex(span);
-        write!(said, "{span:?} / ")?;
+        said.show(&Hex(span));
+        said.word(" / ");
     }
-    say_view(alloc, row, &view, said)?;
-    say::limits(said, row, &context)?;
-    if let Ok(person) = Person::decode_from_slice(alloc, row.bytes) {
-        expect(
-            view.to_owned_fields()? == *person.unknown(),
+    say_view(row, &view, said);
+    said.limits(row, &context);
+    if let Ok(person) = Person::decode_from_slice(said.alloc, row.bytes) {
+        let owned = said.decoded(view.to_owned_fields());
+        said.expect(
+            owned.as_ref() == Some(person.unknown()),
             "other fields are kept",
-        )?;
+        );
     }
-    Ok(())
 }

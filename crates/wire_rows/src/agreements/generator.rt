@@ -1,78 +1,64 @@
 //! Cases by chance, the same at each run.
 use super::case::Case;
-use crate::found::Stop;
-use std::alloc::Global;
-use wire_codec::{MAX_FIELD_NUMBER, Tag, WireType, encode_varint};
+use crate::said::Said;
+use wire_codec::{EncodeError, EncodeSink, MAX_FIELD_NUMBER, Tag, WireType, encode_varint};
 
 /// A source of cases, which follow from the seed alone.
 #[derive(Drop)]
 pub(super) struct Generator {
-    alloc: Global,
     state: u64,
     // Whether a tag, a length or an end may be another than it should be.
     is_hostile: bool,
 }
 
 impl Generator {
-    pub fn new(alloc: Global, seed: u64) -> Generator {
+    pub fn new(seed: u64) -> Generator {
         Generator {
-            alloc,
             state: seed,
             is_hostile: false,
         }
     }
 
     /// A payload behind its tag, lawful one time in two, and limits near to what it takes.
-    pub fn case(&mut self) -> Result<Case, Stop> {
-        self.is_hostile = self.happens(2);
+    pub fn case(&mut self, said: &mut Said) -> Case {
+        self.is_hostile = self.below(2) == 0;
         let tag = self.first_tag();
-        let mut head = Vec::new(self.alloc);
-        tag.encode(&mut head)?;
-        self.pad(&mut head)?;
-        let mut behind = Vec::new(self.alloc);
-        self.put_payload(tag, &mut behind)?;
+        let (mut head, mut behind) = (Vec::new(said.alloc), Vec::new(said.alloc));
+        said.encoded(self.put_varint(varint_of(tag), &mut head));
+        said.encoded(self.put_payload(tag, &mut behind));
         if self.is_hostile {
-            self.spoil(&mut behind)?;
+            said.encoded(self.spoil(&mut behind));
         }
-        Ok(Case {
+        Case {
             tag,
             head,
             behind,
             levels: self.below(6),
             slots: self.below(16) as usize,
             payloads: self.below(40) as usize,
-        })
+        }
     }
 
     // ---- chance
 
-    // The better half of the next state of a linear congruence.
-    fn next(&mut self) -> u32 {
+    // The better half of the next state of a linear congruence, below a bound.
+    fn below(&mut self, bound: u32) -> u32 {
         self.state = self
             .state
             .wrapping_mul(6_364_136_223_846_793_005)
             .wrapping_add(1_442_695_040_888_963_407);
-        (self.state >> 32) as u32
-    }
-
-    fn below(&mut self, bound: u32) -> u32 {
-        self.next() % bound.max(1)
-    }
-
-    // One time in so many.
-    fn happens(&mut self, times: u32) -> bool {
-        self.below(times) == 0
+        (self.state >> 32) as u32 % bound.max(1)
     }
 
     fn lies(&mut self) -> bool {
-        self.is_hostile && self.happens(12)
+        self.is_hostile && self.below(12) == 0
     }
 
     // A number of few bits or many.
     fn value(&mut self) -> u64 {
         match self.below(4) {
             0 => self.state,
-            1 => u64::from(self.next()),
+            1 => self.state >> 32,
             2 => u64::from(self.below(1000)),
             _ => u64::from(self.below(8)),
         }
@@ -103,7 +89,7 @@ impl Generator {
     fn first_tag(&mut self) -> Tag {
         if self.lies() {
             self.tag(WireType::EndGroup)
-        } else if self.happens(4) {
+        } else if self.below(4) == 0 {
             self.leaf_tag()
         } else {
             self.tag(WireType::StartGroup)
@@ -112,64 +98,39 @@ impl Generator {
 
     // ---- texts
 
-    // One time in six, up to three bytes more, with which the varint at the end is the same.
-    fn pad(&mut self, text: &mut Vec<u8>) -> Result<(), Stop> {
-        if !self.happens(6) {
-            return Ok(());
-        }
-        if let Some(last) = text.last_mut() {
-            *last |= 0x80;
-        }
-        for _ in 0..self.below(3) {
-            text.push(0x80)?;
-        }
-        text.push(0)?;
-        Ok(())
-    }
-
-    fn put_varint(&mut self, value: u64, text: &mut Vec<u8>) -> Result<(), Stop> {
+    // One time in six with up to three bytes more than it needs.
+    fn put_varint(&mut self, value: u64, text: &mut Vec<u8>) -> Result<(), EncodeError> {
         encode_varint(value, text)?;
-        self.pad(text)
-    }
-
-    fn put_tag(&mut self, tag: Tag, text: &mut Vec<u8>) -> Result<(), Stop> {
-        if self.lies() {
-            let value = self.value();
-            return self.put_varint(value, text);
-        }
-        tag.encode(text)?;
-        self.pad(text)
-    }
-
-    fn put_end(&mut self, end: Tag, text: &mut Vec<u8>) -> Result<(), Stop> {
-        let end = if self.lies() {
-            self.tag(WireType::EndGroup)
-        } else {
-            end
-        };
-        self.put_tag(end, text)
-    }
-
-    fn put_bytes(&mut self, count: u32, text: &mut Vec<u8>) -> Result<(), Stop> {
-        for _ in 0..count {
-            text.push((self.next() % 256) as u8)?;
+        if self.below(6) == 0 {
+            if let Some(last) = text.last_mut() {
+                *last |= 0x80;
+            }
+            for _ in 0..self.below(3) {
+                text.put_u8(0x80)?;
+            }
+            text.put_u8(0)?;
         }
         Ok(())
     }
 
-    fn put_delimited(&mut self, text: &mut Vec<u8>) -> Result<(), Stop> {
-        let len = self.below(6);
-        let told = if self.lies() {
+    fn put_tag(&mut self, tag: Tag, text: &mut Vec<u8>) -> Result<(), EncodeError> {
+        let value = if self.lies() {
             self.value()
         } else {
-            u64::from(len)
+            varint_of(tag)
         };
-        self.put_varint(told, text)?;
-        self.put_bytes(len, text)
+        self.put_varint(value, text)
+    }
+
+    fn put_bytes(&mut self, count: u32, text: &mut Vec<u8>) -> Result<(), EncodeError> {
+        for _ in 0..count {
+            text.put_u8(self.below(256) as u8)?;
+        }
+        Ok(())
     }
 
     // A payload that is no group.
-    fn put_leaf(&mut self, wire_type: WireType, text: &mut Vec<u8>) -> Result<(), Stop> {
+    fn put_leaf(&mut self, wire_type: WireType, text: &mut Vec<u8>) -> Result<(), EncodeError> {
         match wire_type {
             WireType::Varint => {
                 let value = self.value();
@@ -177,33 +138,45 @@ impl Generator {
             }
             WireType::Fixed64 => self.put_bytes(8, text),
             WireType::Fixed32 => self.put_bytes(4, text),
-            _ => self.put_delimited(text),
-        }
-    }
-
-    fn put_payload(&mut self, tag: Tag, text: &mut Vec<u8>) -> Result<(), Stop> {
-        match tag.wire_type() {
-            WireType::StartGroup | WireType::EndGroup => {
-                self.put_group(Tag::new(tag.field_number(), WireType::EndGroup), text)
+            _ => {
+                let len = self.below(6);
+                let told = if self.lies() {
+                    self.value()
+                } else {
+                    u64::from(len)
+                };
+                self.put_varint(told, text)?;
+                self.put_bytes(len, text)
             }
-            wire_type => self.put_leaf(wire_type, text),
         }
     }
 
-    // Records, in groups and outside, and the end tag of all.
-    fn put_group(&mut self, end: Tag, text: &mut Vec<u8>) -> Result<(), Stop> {
-        let mut ends = vec![in self.alloc; end]?;
+    // A payload; of a group its records, in groups and outside, and its end tag.
+    fn put_payload(&mut self, tag: Tag, text: &mut Vec<u8>) -> Result<(), EncodeError> {
+        if !matches!(tag.wire_type(), WireType::StartGroup | WireType::EndGroup) {
+            return self.put_leaf(tag.wire_type(), text);
+        }
+        let mut ends = Vec::new(*text.allocator());
+        ends.push(Tag::new(tag.field_number(), WireType::EndGroup))?;
         for _ in 0..self.below(12) {
             self.put_item(&mut ends, text)?;
         }
-        for end in ends.iter().rev() {
-            self.put_end(*end, text)?;
+        while let Some(end) = ends.pop() {
+            self.put_end(end, text)?;
         }
         Ok(())
     }
 
+    fn put_end(&mut self, end: Tag, text: &mut Vec<u8>) -> Result<(), EncodeError> {
+        if self.lies() {
+            let other = self.tag(WireType::EndGroup);
+            return self.put_tag(other, text);
+        }
+        self.put_tag(end, text)
+    }
+
     // A record, a start tag, or the last of the end tags that are due.
-    fn put_item(&mut self, ends: &mut Vec<Tag>, text: &mut Vec<u8>) -> Result<(), Stop> {
+    fn put_item(&mut self, ends: &mut Vec<Tag>, text: &mut Vec<u8>) -> Result<(), EncodeError> {
         match self.below(5) {
             0 | 1 => {
                 let start = self.tag(WireType::StartGroup);
@@ -223,8 +196,8 @@ impl Generator {
     }
 
     // The bytes cut off, changed in one place, or with others behind them.
-    fn spoil(&mut self, bytes: &mut Vec<u8>) -> Result<(), Stop> {
-        let place = self.next() as usize % bytes.len().max(1);
+    fn spoil(&mut self, bytes: &mut Vec<u8>) -> Result<(), EncodeError> {
+        let place = self.below(u32::MAX) as usize % bytes.len().max(1);
         match self.below(6) {
             0 => bytes.truncate(place),
             1 => {
@@ -240,4 +213,9 @@ impl Generator {
         }
         Ok(())
     }
+}
+
+// The number that stands for a tag on the wire.
+fn varint_of(tag: Tag) -> u64 {
+    u64::from(tag.field_number()) * 8 + u64::from(tag.wire_type() as u8)
 }

@@ -1,54 +1,56 @@
 //! The types of the rows: how a row names a value, and how it is shown.
-use crate::found::Stop;
 use crate::row::Row;
-use std::alloc::Global;
-use std::fmt::Write;
+use crate::said::Said;
 use wire_codec::Message;
 use wire_samples::{Node, Person, Repeat};
 
 /// A message type of the rows.
 pub trait Sample: Message {
-    /// The value that a row names, by its encoding or by its words.
-    fn given(alloc: Global, _row: &Row<'_>, bytes: &[u8]) -> Result<Self, Stop> {
-        Ok(Self::decode_from_slice(alloc, bytes)?)
+    /// The value that a row names by its words, where it does.
+    fn named(_row: &Row<'_>) -> Option<Self> {
+        None
     }
 
     /// Says what it holds, of what it holds in turn the count.
-    fn say(&self, said: &mut String) -> Result<(), Stop>;
+    fn say(&self, said: &mut Said);
+}
+
+/// The value that a row names, by its words or by an encoding.
+pub fn given<M: Sample>(row: &Row<'_>, bytes: &[u8], said: &mut Said) -> Option<M> {
+    match M::named(row) {
+        Some(message) => Some(message),
+        None => said.decoded(M::decode_from_slice(said.alloc, bytes)),
+    }
 }
 
 impl Sample for Person {
-    fn say(&self, said: &mut String) -> Result<(), Stop> {
-        let (id, name, scores) = (self.id, &self.name, &self.scores);
-        write!(said, "{id} {name:?} {scores:?}")?;
-        let unknown = self.unknown().len();
-        Ok(write!(said, " {unknown}")?)
+    fn say(&self, said: &mut Said) {
+        said.show(&self.id);
+        said.also(" ", &self.name);
+        said.also(" ", &self.scores);
+        said.also(" ", &self.unknown().len());
     }
 }
 
 impl Sample for Node {
-    fn say(&self, said: &mut String) -> Result<(), Stop> {
-        let (value, children) = (self.value, self.children.len());
-        let (child, group) = (self.child.is_some(), self.group.is_some());
-        write!(said, "{value} {child} {children} {group}")?;
-        let unknown = self.unknown().len();
-        Ok(write!(said, " {unknown}")?)
+    fn say(&self, said: &mut Said) {
+        said.show(&self.value);
+        said.also(" ", &self.child.is_some());
+        said.also(" ", &self.children.len());
+        said.also(" ", &self.group.is_some());
+        said.also(" ", &self.unknown().len());
     }
 }
 
 impl Sample for Repeat {
-    fn given(alloc: Global, row: &Row<'_>, bytes: &[u8]) -> Result<Repeat, Stop> {
-        match row.number("times") {
-            Some(times) => Ok(Repeat {
-                times,
-                extra: row.has("extra"),
-            }),
-            None => Ok(Repeat::decode_from_slice(alloc, bytes)?),
-        }
+    fn named(row: &Row<'_>) -> Option<Repeat> {
+        let times = row.number("times")?;
+        let extra = row.number("extra").unwrap_or(false);
+        Some(Repeat { times, extra })
     }
 
-    fn say(&self, said: &mut String) -> Result<(), Stop> {
-        let (times, extra) = (self.times, self.extra);
-        Ok(write!(said, "{times} {extra}")?)
+    fn say(&self, said: &mut Said) {
+        said.show(&self.times);
+        said.also(" ", &self.extra);
     }
 }

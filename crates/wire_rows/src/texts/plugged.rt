@@ -2,15 +2,11 @@
 ghost use Rattle.std.specs.Prelude.{string_bytes};
 ghost use Rattle.wire_rows.specs.NoX.{answers_no_x, answers_no_x_by_bytes};
 
-use super::say_bytes;
-use crate::found::{Stop, expect};
 use crate::row::Row;
-use crate::say;
-use crate::say::Hex;
+use crate::said::{Hex, Said};
 use crate::table::cut;
 use bytes::{Buf, Bytes};
 use std::alloc::Global;
-use std::fmt::Write;
 use wire_codec::{
     DecodeError, ProtoBytes, ProtoString, WirePayload, decode_bytes_to, decode_string_to,
 };
@@ -52,100 +48,96 @@ impl ProtoString for NoX {
     }
 }
 
-pub fn read<B: Buf>(
-    alloc: Global,
-    row: &Row<'_>,
-    buf: &mut B,
-    said: &mut String,
-) -> Result<bool, Stop> {
+pub fn read<B: Buf>(row: &Row<'_>, buf: &mut B, said: &mut Said) -> bool {
+    let alloc = said.alloc;
     match row.call {
-        "decode_string_to<String>" => {
-            let answer: Result<String, DecodeError> = decode_string_to(alloc, buf);
-            say::read(said, answer, buf)?
-        }
+        "decode_string_to<String>" => said.read(decode_string_to::<String, B>(alloc, buf), buf),
         "decode_string_to<NoX>" => {
-            let answer: Result<NoX, DecodeError> = decode_string_to(alloc, buf);
-            say::read(said, answer.map(|value| value.text), buf)?
+            let answer = decode_string_to::<NoX, B>(alloc, buf);
+            if let Some(value) = said.decoded(answer) {
+                said.read(Ok(value.as_str()), buf)
+            }
         }
         "decode_bytes_to<Vec>" => {
-            let answer: Result<Vec<u8>, DecodeError> = decode_bytes_to(alloc, buf);
-            say_bytes(said, answer, buf)?
+            if let Some(bytes) = said.decoded(decode_bytes_to::<Vec<u8>, B>(alloc, buf)) {
+                said.read(Ok(Hex(&bytes)), buf)
+            }
         }
         "decode_bytes_to<Bytes>" => {
-            let answer: Result<Bytes, DecodeError> = decode_bytes_to(alloc, buf);
-            say_bytes(
-                said,
-                answer.and_then(|bytes| Ok(bytes.as_slice().to_vec(alloc)?)),
-                buf,
-            )?
+            if let Some(bytes) = said.decoded(decode_bytes_to::<Bytes, B>(alloc, buf)) {
+                said.read(Ok(Hex(bytes.as_slice())), buf)
+            }
         }
-        _ => return Ok(false),
+        _ => return false,
     }
-    Ok(true)
+    true
 }
 
-pub fn tell(alloc: Global, row: &Row<'_>, said: &mut String) -> Result<bool, Stop> {
+pub fn tell(row: &Row<'_>, said: &mut Said) -> bool {
     match row.call {
-        "refused_payload" => refused_payload(alloc, row, said)?,
-        "ProtoString<String>" => made::<String>(alloc, said)?,
-        "ProtoString<NoX>" => made::<NoX>(alloc, said)?,
-        "ProtoBytes<Vec>" => made_bytes::<Vec<u8>>(alloc, said)?,
-        "ProtoBytes<Bytes>" => made_bytes::<Bytes>(alloc, said)?,
-        _ => return Ok(false),
+        "refused_payload" => refused_payload(row, said),
+        "ProtoString<String>" => made::<String>(said),
+        "ProtoString<NoX>" => made::<NoX>(said),
+        "ProtoBytes<Vec>" => made_bytes::<Vec<u8>>(said),
+        "ProtoBytes<Bytes>" => made_bytes::<Bytes>(said),
+        _ => return false,
     }
-    Ok(true)
+    true
 }
 
 // What is left of a payload that its type refuses: it is lent where it stands in one piece.
-fn refused_payload(alloc: Global, row: &Row<'_>, said: &mut String) -> Result<(), Stop> {
+fn refused_payload(row: &Row<'_>, said: &mut Said) {
     let Some(place) = row.number("cut") else {
         let mut rest = row.bytes;
-        let answer = decode_string_to::<NoX, _>(alloc, &mut rest).map(|value| value.text);
-        say::read(said, answer, &rest)?;
-        let rest = Hex(rest);
-        return Ok(write!(said, " {rest:?}")?);
+        say_refused(&mut rest, said);
+        return;
     };
-    let mut buf = cut(alloc, row.bytes, place)?;
-    let answer = decode_string_to::<NoX, _>(alloc, &mut buf).map(|value| value.text);
-    say::read(said, answer, &buf)?;
-    let rest = Hex(buf.chunk());
-    Ok(write!(said, " {rest:?}")?)
+    if let Some(mut buf) = cut(row.bytes, place, said) {
+        say_refused(&mut buf, said);
+    }
+}
+
+fn say_refused<B: Buf>(buf: &mut B, said: &mut Said) {
+    let answer = decode_string_to::<NoX, B>(said.alloc, buf);
+    said.decoded(answer);
+    said.also(" ", &Hex(buf.chunk()));
 }
 
 // A text, made in each of the ways that a type has.
-fn made<P: ProtoString>(alloc: Global, said: &mut String) -> Result<(), Stop> {
-    let lent = P::from_wire(alloc, WirePayload::borrowed(b"hi"))?;
-    let payload = Bytes::copy_from_slice(alloc, b"hi")?;
-    let shared = P::from_wire(alloc, WirePayload::owned(payload.clone()?))?;
-    let own = P::from_wire(alloc, WirePayload::owned(payload))?;
-    let copy = P::from_text(alloc, "hi")?;
-    expect(
-        shared == lent && own == lent && copy == lent,
-        "another text",
-    )?;
-    expect(
-        copy.clone()? == copy && P::empty(alloc).as_str() == "",
-        "a clone",
-    )?;
-    let text = lent.as_str();
-    Ok(write!(said, "{text:?}")?)
+fn made<P: ProtoString>(said: &mut Said) {
+    let alloc = said.alloc;
+    let Some(lent) = said.decoded(P::from_wire(alloc, WirePayload::borrowed(b"hi"))) else {
+        return;
+    };
+    if let Some(payload) = said.made(Bytes::copy_from_slice(alloc, b"hi")) {
+        let own = said.decoded(P::from_wire(alloc, WirePayload::owned(payload)));
+        said.expect(own.as_ref() == Some(&lent), "another text of one's own");
+    }
+    if let Some(copy) = said.decoded(P::from_text(alloc, "hi")) {
+        said.expect(copy == lent, "another text");
+        let again = said.made(copy.clone());
+        said.expect(again.as_ref() == Some(&copy), "a clone");
+    }
+    said.expect(P::empty(alloc).as_str() == "", "empty");
+    said.show(&lent.as_str());
 }
 
 // Bytes, made in each of the ways that a type has.
-fn made_bytes<P: ProtoBytes>(alloc: Global, said: &mut String) -> Result<(), Stop> {
-    let lent = P::from_wire(alloc, WirePayload::borrowed(b"\xc3"))?;
-    let payload = Bytes::copy_from_slice(alloc, b"\xc3")?;
-    let shared = P::from_wire(alloc, WirePayload::owned(payload.clone()?))?;
-    let own = P::from_wire(alloc, WirePayload::owned(payload))?;
-    let vector = P::from_vec(alloc, Vec::from_slice(alloc, b"\xc3")?)?;
-    expect(
-        shared == lent && own == lent && vector == lent,
-        "other bytes",
-    )?;
-    expect(
-        own.clone()? == own && P::empty(alloc).as_slice().is_empty(),
-        "a clone",
-    )?;
-    let bytes = Hex(lent.as_slice());
-    Ok(write!(said, "{bytes:?}")?)
+fn made_bytes<P: ProtoBytes>(said: &mut Said) {
+    let alloc = said.alloc;
+    let Some(lent) = said.decoded(P::from_wire(alloc, WirePayload::borrowed(b"\xc3"))) else {
+        return;
+    };
+    if let Some(payload) = said.made(Bytes::copy_from_slice(alloc, b"\xc3")) {
+        let own = said.decoded(P::from_wire(alloc, WirePayload::owned(payload)));
+        said.expect(own.as_ref() == Some(&lent), "other bytes of one's own");
+    }
+    let copy = said.copied(b"\xc3");
+    if let Some(copy) = said.decoded(P::from_vec(alloc, copy)) {
+        said.expect(copy == lent, "other bytes");
+        let again = said.made(copy.clone());
+        said.expect(again.as_ref() == Some(&copy), "a clone");
+    }
+    said.expect(P::empty(alloc).as_slice().is_empty(), "empty");
+    said.show(&Hex(lent.as_slice()));
 }
