@@ -1,6 +1,7 @@
 //! Unknown fields from bytes.
-ghost use Rattle.std.specs.Prelude.{◌≡◌, [], OnOk, OnErr, IfOk, IfErr, MatchResult};
+ghost use Rattle.std.specs.Prelude.{◌≡◌, ◌≢◌, [], OnOk, OnErr, IfOk, IfErr, MatchResult};
 ghost use Rattle.wire_base.specs.declared.error.DecodeError.TheVariants.{OutOfMemory};
+ghost use Rattle.wire_base.specs.declared.tag.WireType.TheVariants.{StartGroup};
 ghost use Rattle.wire_base.specs.Agreement.{NeverWantsRoom, KeepsWhatIsSkipped, RefusesAsSkipping, IsShortOrWantsMemory, StaysRefused, FaultOrMemory};
 ghost use Rattle.wire_base.specs.Charge.{charge, payload_charge};
 ghost use Rattle.wire_base.specs.Ending.{by_input, by_tag};
@@ -175,6 +176,37 @@ fn decode_value<B: Buf>(
     ensures counts { OnErr result (NoCountGrew context.old context.new) }
     ensures kept { B.kept buf.new ≡ B.kept buf.old }
 {
+    match tag.wire_type() {
+        WireType::StartGroup => {
+            context.register_unknown_field()?;
+            context.descend()?;
+            let fields = decode_group(alloc, tag.field_number(), buf, context)?;
+            context.ascend();
+            Ok(UnknownFieldData::Group(fields))
+        }
+        _ => decode_flat(alloc, tag, buf, context),
+    }
+}
+
+// Reads a payload that is no group.
+#[inline(always)]
+fn decode_flat<B: Buf>(
+    alloc: Global,
+    tag: Tag,
+    buf: &mut B,
+    context: &mut DecodeContext,
+) -> Result<UnknownFieldData, DecodeError>
+    requires { tag_type tag ≢ StartGroup }
+    ensures ok { IfOk result (λ value. TakesPayload (payload_charge (payload_of value))
+        context.old (tag_number tag) (tag_type tag) (payload_of value)
+        (B.unread buf.old) (B.unread buf.new)) }
+    ensures charged { IfOk result (λ value. context.new
+        ≡ left_after context.old (payload_charge (payload_of value))) }
+    ensures fault { IfErr result
+        (PayloadRefusal context.old (tag_number tag) (tag_type tag) (B.unread buf.old)) }
+    ensures counts { OnErr result (NoCountGrew context.old context.new) }
+    ensures kept { B.kept buf.new ≡ B.kept buf.old }
+{
     context.register_unknown_field()?;
     match tag.wire_type() {
         WireType::Varint => Ok(UnknownFieldData::Varint(decode_varint(buf)?)),
@@ -184,14 +216,8 @@ fn decode_value<B: Buf>(
             context.register_unknown_bytes(len)?;
             Ok(UnknownFieldData::LengthDelimited(take_bytes(alloc, buf, len)?))
         }
-        WireType::StartGroup => {
-            context.descend()?;
-            let fields = decode_group(alloc, tag.field_number(), buf, context)?;
-            context.ascend();
-            Ok(UnknownFieldData::Group(fields))
-        }
-        WireType::EndGroup => Err(DecodeError::InvalidWireType(4)),
         WireType::Fixed32 => Ok(UnknownFieldData::Fixed32(buf.try_get_u32_le()?)),
+        WireType::StartGroup | WireType::EndGroup => Err(DecodeError::InvalidWireType(4)),
     }
 }
 
