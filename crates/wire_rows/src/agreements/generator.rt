@@ -124,7 +124,8 @@ impl Generator {
 
     fn put_bytes(&mut self, count: u32, text: &mut Vec<u8>) -> Result<(), EncodeError> {
         for _ in 0..count {
-            text.put_u8(self.below(256) as u8)?;
+            let chance = self.below(u32::MAX);
+            text.put_u8((chance % 256) as u8)?;
         }
         Ok(())
     }
@@ -161,8 +162,10 @@ impl Generator {
         for _ in 0..self.below(12) {
             self.put_item(&mut ends, text)?;
         }
-        while let Some(end) = ends.pop() {
-            self.put_end(end, text)?;
+        for _ in 0..ends.len() {
+            if let Some(end) = ends.pop() {
+                self.put_end(end, text)?;
+            }
         }
         Ok(())
     }
