@@ -1,10 +1,16 @@
 //! Where encoded bytes go.
-ghost use Rattle.std.specs.Prelude.{ℕ, List, [], ◌∷◌, Option, None};
+ghost use Rattle.std.specs.Prelude.{◌≡◌, ℕ, ◌+◌, ◌≤◌, List, [], ◌∷◌, ◌++◌, length, Option, None, OnOk, OnErr};
 ghost use Rattle.std.specs.Int.{w32, w64, cast_unsigned, to_le_bytes};
-ghost use Rattle.wire_base.specs.Sink.{Puts};
+ghost use Rattle.std.specs.Vec.{vec_len, vec_capacity};
+ghost use Rattle.wire_base.specs.Delimited.{delimited_text};
+ghost use Rattle.wire_base.specs.Sink.{KeepsFront, Puts, WriteAnswers};
+ghost use Rattle.wire_base.specs.Varint.{shortest_varint};
 
 use crate::error::EncodeError;
+use crate::laws;
 use bytes::{BufMut, Bytes, BytesMut};
+use std::alloc::AllocError;
+use std::mem;
 
 /// A growing list of bytes. A put appends all of its bytes or none: it answers `LengthOverflow`
 /// exactly where all bytes of the sink would then be more than it can count, and else `OutOfMemory`
@@ -54,6 +60,58 @@ pub trait EncodeSink {
         self.put_u64_le(value.cast_unsigned())
     }
 
+    /// Appends the shortest varint of a number, at most ten bytes. Refused where one of them is,
+    /// and then leaves those before it.
+    fn put_varint(&mut self, value: u64) -> Result<(), EncodeError>
+        ensures ok { OnOk result
+            (bytes_of self.new ≡ bytes_of self.old ++ shortest_varint value) }
+        ensures err { OnErr result (KeepsFront (bytes_of self.old)
+            (shortest_varint value) (bytes_of self.new)) }
+        ensures cause { WriteAnswers most (bytes_of self.old) (shortest_varint value) result }
+    {
+        let mut rest = value;
+        while rest >= 0x80 {
+            self.put_u8((rest % 0x80) as u8 + 0x80)?;
+            rest /= 0x80;
+        }
+        self.put_u8(rest as u8)
+    }
+
+    /// Appends the shortest varints of two numbers, as a tag and the length behind it. Refused
+    /// where one of their bytes is, and then leaves those before it.
+    #[inline(always)]
+    fn put_varints(&mut self, first: u64, second: u64) -> Result<(), EncodeError>
+        ensures ok { OnOk result (bytes_of self.new
+            ≡ bytes_of self.old ++ shortest_varint first ++ shortest_varint second) }
+        ensures err { OnErr result (KeepsFront (bytes_of self.old)
+            (shortest_varint first ++ shortest_varint second) (bytes_of self.new)) }
+        ensures cause { WriteAnswers most (bytes_of self.old)
+            (shortest_varint first ++ shortest_varint second) result }
+    {
+        laws::two_parts();
+        self.put_varint(first)?;
+        self.put_varint(second)
+    }
+
+    /// Appends the shortest varint of a number, as a tag, that of the length of the bytes, and the
+    /// bytes. Refused where a byte of the varints is, or the bytes are, and then leaves what stands
+    /// before.
+    #[inline(always)]
+    fn put_delimited(&mut self, first: u64, bytes: &[u8]) -> Result<(), EncodeError>
+        ensures ok { OnOk result (bytes_of self.new
+            ≡ bytes_of self.old ++ shortest_varint first ++ delimited_text bytes.now) }
+        ensures err { OnErr result (KeepsFront (bytes_of self.old)
+            (shortest_varint first ++ delimited_text bytes.now) (bytes_of self.new)) }
+        ensures cause { WriteAnswers most (bytes_of self.old)
+            (shortest_varint first ++ delimited_text bytes.now) result }
+    {
+        laws::two_parts();
+        laws::put_is_a_write();
+        self.put_varint(first)?;
+        self.put_varint(bytes.len() as u64)?;
+        self.put_slice(bytes)
+    }
+
     /// The bytes may be kept as they are, with no copy. They are given up where the put is refused.
     fn put_shared(&mut self, bytes: Bytes) -> Result<(), EncodeError>
         ensures { Puts most bytes (bytes_of self.old) (bytes_of self.new) result }
@@ -86,6 +144,117 @@ impl EncodeSink for Vec<u8> {
         self.extend_from_slice(&u64::to_le_bytes(value))?;
         Ok(())
     }
+
+    #[inline(always)]
+    fn put_varint(&mut self, value: u64) -> Result<(), EncodeError> {
+        if value < 0x80 {
+            self.push(value as u8)?;
+            return Ok(());
+        }
+        if self.capacity() - self.len() < MOST_DIGITS {
+            push_varint(value, self)?;
+            return Ok(());
+        }
+        let empty = Vec::new(*self.allocator());
+        let mut bytes = mem::replace(self, empty);
+        push_digits(value, &mut bytes);
+        mem::forget(mem::replace(self, bytes));
+        Ok(())
+    }
+
+    #[inline(always)]
+    fn put_varints(&mut self, first: u64, second: u64) -> Result<(), EncodeError> {
+        if self.capacity() - self.len() < 2 * MOST_DIGITS {
+            laws::two_parts();
+            push_varint(first, self)?;
+            push_varint(second, self)?;
+            return Ok(());
+        }
+        let empty = Vec::new(*self.allocator());
+        let mut bytes = mem::replace(self, empty);
+        push_digits(first, &mut bytes);
+        push_digits(second, &mut bytes);
+        mem::forget(mem::replace(self, bytes));
+        Ok(())
+    }
+
+    #[inline(always)]
+    fn put_delimited(&mut self, first: u64, bytes: &[u8]) -> Result<(), EncodeError> {
+        let room = self.capacity() - self.len();
+        if room < 2 * MOST_DIGITS || room - 2 * MOST_DIGITS < bytes.len() {
+            push_delimited(first, bytes, self)?;
+            return Ok(());
+        }
+        let empty = Vec::new(*self.allocator());
+        let mut held = mem::replace(self, empty);
+        push_digits(first, &mut held);
+        push_digits(bytes.len() as u64, &mut held);
+        push_reserved(bytes, &mut held);
+        mem::forget(mem::replace(self, held));
+        Ok(())
+    }
+}
+
+// How many bytes a varint has at most.
+const MOST_DIGITS: usize = 10;
+
+// Appends the shortest varint of a number to bytes with room for it.
+#[inline(always)]
+fn push_digits(value: u64, bytes: &mut Vec<u8>)
+    requires { vec_len bytes.old + 10 ≤ vec_capacity bytes.old }
+    ensures items { bytes.new.items ≡ bytes.old.items ++ shortest_varint value }
+    ensures len { vec_len bytes.new ≤ vec_len bytes.old + 10 }
+    ensures capacity { vec_capacity bytes.new ≡ vec_capacity bytes.old }
+{
+    let mut rest = value;
+    while rest >= 0x80 {
+        bytes.push_reserved((rest % 0x80) as u8 + 0x80);
+        rest /= 0x80;
+    }
+    bytes.push_reserved(rest as u8);
+}
+
+// Appends bytes to those of a vector with room for them. The test tells the compiler of the room.
+#[inline(always)]
+fn push_reserved(bytes: &[u8], held: &mut Vec<u8>)
+    requires { vec_len held.old + length bytes.now ≤ vec_capacity held.old }
+    ensures { held.new.items ≡ held.old.items ++ bytes.now }
+{
+    if held.capacity() - held.len() < bytes.len() {
+        unreachable!();
+    }
+    held.extend_from_slice(bytes).unwrap();
+}
+
+// Appends the shortest varint of a number, and bytes behind their length.
+#[inline(never)]
+fn push_delimited(first: u64, bytes: &[u8], held: &mut Vec<u8>) -> Result<(), AllocError>
+    ensures ok { OnOk result (held.new.items
+        ≡ held.old.items ++ shortest_varint first ++ delimited_text bytes.now) }
+    ensures err { OnErr result (KeepsFront held.old.items
+        (shortest_varint first ++ delimited_text bytes.now) held.new.items) }
+{
+    laws::two_parts();
+    laws::put_is_a_write();
+    push_varint(first, held)?;
+    push_varint(bytes.len() as u64, held)?;
+    held.extend_from_slice(bytes)
+}
+
+// Appends the shortest varint of a number byte by byte.
+#[inline(never)]
+fn push_varint(value: u64, bytes: &mut Vec<u8>) -> Result<(), AllocError>
+    ensures ok { OnOk result (bytes.new.items ≡ bytes.old.items ++ shortest_varint value) }
+    ensures err { OnErr result (KeepsFront bytes.old.items
+        (shortest_varint value) bytes.new.items) }
+{
+    let mut rest = value;
+    while rest >= 0x80 {
+        bytes.push((rest % 0x80) as u8 + 0x80)?;
+        rest /= 0x80;
+    }
+    bytes.push(rest as u8)?;
+    Ok(())
 }
 
 impl EncodeSink for BytesMut {
