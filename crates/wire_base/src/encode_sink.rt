@@ -82,7 +82,7 @@ pub trait EncodeSink {
     #[inline(always)]
     fn put_varints(&mut self, first: u64, second: u64) -> Result<(), EncodeError>
         ensures ok { OnOk result (bytes_of self.new
-            ≡ bytes_of self.old ++ shortest_varint first ++ shortest_varint second) }
+            ≡ bytes_of self.old ++ (shortest_varint first ++ shortest_varint second)) }
         ensures err { OnErr result (KeepsFront (bytes_of self.old)
             (shortest_varint first ++ shortest_varint second) (bytes_of self.new)) }
         ensures cause { WriteAnswers most (bytes_of self.old)
@@ -99,7 +99,7 @@ pub trait EncodeSink {
     #[inline(always)]
     fn put_delimited(&mut self, first: u64, bytes: &[u8]) -> Result<(), EncodeError>
         ensures ok { OnOk result (bytes_of self.new
-            ≡ bytes_of self.old ++ shortest_varint first ++ delimited_text bytes.now) }
+            ≡ bytes_of self.old ++ (shortest_varint first ++ delimited_text bytes.now)) }
         ensures err { OnErr result (KeepsFront (bytes_of self.old)
             (shortest_varint first ++ delimited_text bytes.now) (bytes_of self.new)) }
         ensures cause { WriteAnswers most (bytes_of self.old)
@@ -164,33 +164,14 @@ impl EncodeSink for Vec<u8> {
 
     #[inline(always)]
     fn put_varints(&mut self, first: u64, second: u64) -> Result<(), EncodeError> {
-        if self.capacity() - self.len() < 2 * MOST_DIGITS {
-            laws::two_parts();
-            push_varint(first, self)?;
-            push_varint(second, self)?;
-            return Ok(());
-        }
-        let empty = Vec::new(*self.allocator());
-        let mut bytes = mem::replace(self, empty);
-        push_digits(first, &mut bytes);
-        push_digits(second, &mut bytes);
-        mem::forget(mem::replace(self, bytes));
+        push_two(first, second, self)?;
         Ok(())
     }
 
     #[inline(always)]
     fn put_delimited(&mut self, first: u64, bytes: &[u8]) -> Result<(), EncodeError> {
-        let room = self.capacity() - self.len();
-        if room < 2 * MOST_DIGITS || room - 2 * MOST_DIGITS < bytes.len() {
-            push_delimited(first, bytes, self)?;
-            return Ok(());
-        }
-        let empty = Vec::new(*self.allocator());
-        let mut held = mem::replace(self, empty);
-        push_digits(first, &mut held);
-        push_digits(bytes.len() as u64, &mut held);
-        push_reserved(bytes, &mut held);
-        mem::forget(mem::replace(self, held));
+        push_header(first, bytes.len() as u64, self)?;
+        self.extend_from_slice(bytes)?;
         Ok(())
     }
 }
@@ -214,31 +195,42 @@ fn push_digits(value: u64, bytes: &mut Vec<u8>)
     bytes.push_reserved(rest as u8);
 }
 
-// Appends bytes to those of a vector with room for them. The test tells the compiler of the room.
+// Appends the shortest varints of two numbers. With room for both, the vector is a local of the
+// compiled code, so that its length stays in a register.
 #[inline(always)]
-fn push_reserved(bytes: &[u8], held: &mut Vec<u8>)
-    requires { vec_len held.old + length bytes.now ≤ vec_capacity held.old }
-    ensures { held.new.items ≡ held.old.items ++ bytes.now }
+fn push_two(first: u64, second: u64, bytes: &mut Vec<u8>) -> Result<(), AllocError>
+    ensures ok { OnOk result (bytes.new.items
+        ≡ bytes.old.items ++ shortest_varint first ++ shortest_varint second) }
+    ensures err { OnErr result (KeepsFront bytes.old.items
+        (shortest_varint first ++ shortest_varint second) bytes.new.items) }
 {
-    if held.capacity() - held.len() < bytes.len() {
-        unreachable!();
+    if bytes.capacity() - bytes.len() < 2 * MOST_DIGITS {
+        laws::two_parts();
+        push_varint(first, bytes)?;
+        return push_varint(second, bytes);
     }
-    held.extend_from_slice(bytes).unwrap();
+    let empty = Vec::new(*bytes.allocator());
+    let mut held = mem::replace(bytes, empty);
+    push_digits(first, &mut held);
+    push_digits(second, &mut held);
+    mem::forget(mem::replace(bytes, held));
+    Ok(())
 }
 
-// Appends the shortest varint of a number, and bytes behind their length.
-#[inline(never)]
-fn push_delimited(first: u64, bytes: &[u8], held: &mut Vec<u8>) -> Result<(), AllocError>
-    ensures ok { OnOk result (held.new.items
-        ≡ held.old.items ++ shortest_varint first ++ delimited_text bytes.now) }
-    ensures err { OnErr result (KeepsFront held.old.items
-        (shortest_varint first ++ delimited_text bytes.now) held.new.items) }
+// The same. Two of one byte, as a tag and a length mostly are, are put at once.
+#[inline(always)]
+fn push_header(first: u64, second: u64, bytes: &mut Vec<u8>) -> Result<(), AllocError>
+    ensures ok { OnOk result (bytes.new.items
+        ≡ bytes.old.items ++ shortest_varint first ++ shortest_varint second) }
+    ensures err { OnErr result (KeepsFront bytes.old.items
+        (shortest_varint first ++ shortest_varint second) bytes.new.items) }
 {
-    laws::two_parts();
-    laws::put_is_a_write();
-    push_varint(first, held)?;
-    push_varint(bytes.len() as u64, held)?;
-    held.extend_from_slice(bytes)
+    if first < 0x80 && second < 0x80 && bytes.capacity() - bytes.len() >= 2 {
+        bytes.push_reserved(first as u8);
+        bytes.push_reserved(second as u8);
+        return Ok(());
+    }
+    push_two(first, second, bytes)
 }
 
 // Appends the shortest varint of a number byte by byte.
