@@ -1,5 +1,5 @@
 -- Varints that stand in a slice.
-use Rattle.std.proofs.Common.{◌≡◌, ℕ, zero, suc, ◌+◌, ◌*◌, ◌-◌, ◌%◌, ◌^◌, ◌<◌, ◌≤◌, inl, inr, List, [], ◌∷◌, ◌++◌, length, drop, get_or, sym, ap, ◌∙◌, subst, arith, append_assoc}
+use Rattle.std.proofs.Common.{◌≡◌, ℕ, zero, suc, ◌+◌, ◌*◌, ◌-◌, ◌%◌, ◌^◌, ◌<◌, ◌≤◌, inl, inr, List, [], ◌∷◌, ◌++◌, length, drop, get_or, refl, sym, ap, ◌∙◌, subst, arith, append_assoc}
 use Rattle.std.proofs.lemmas.List.{append-nil, length-append, drop-append-le}
 use Rattle.std.proofs.lemmas.Nat.{pow-add}
 use Rattle.std.proofs.Math.Nat.{mod-lt, mul_assoc, add-mul}
@@ -8,10 +8,10 @@ use Rattle.std.proofs.Common.{add-one, drop-cons, take, take-append-drop}
 use Rattle.wire_base.proofs.ReadLaws.{Reads-inside}
 use Rattle.wire_base.specs.InPlace.{HoldsVarint}
 use Rattle.wire_base.specs.declared.error.DecodeError.{DecodeError}
-use Rattle.wire_base.specs.declared.error.DecodeError.TheVariants.{VarintTooLong}
-use Rattle.wire_base.specs.Varint.{AllContinue, IsSpelling, VarintFault, too_long}
+use Rattle.wire_base.specs.declared.error.DecodeError.TheVariants.{UnexpectedEof, VarintTooLong}
+use Rattle.wire_base.specs.Varint.{AllContinue, IsSpelling, VarintFault, cut_short, too_long}
 use Rattle.wire_base.specs.Read.{Reads}
-use Rattle.wire_base.proofs.Varints.{ReadSoFar, ReadSoFar-more, ReadSoFar-ends, ReadSoFar-fits}
+use Rattle.wire_base.proofs.Varints.{ReadSoFar, ReadSoFar-none, ReadSoFar-more, ReadSoFar-ends, ReadSoFar-fits}
 use Rattle.wire_base.proofs.Varints.{digit_below, varint_value-below, ReadSoFar-tenth}
 
 all_above : (bytes : List ℕ) (i : ℕ) → AllContinue bytes → i < length bytes → 128 ≤ get_or bytes i 0
@@ -124,6 +124,22 @@ low_fits bytes now v count h few =
     let most : 2 ^ (7 * count) ≤ 2 ^ 28 = pow_mono {i = 7 * count} {j = 28} (omega arith) in
     omega (arith, below, most)
 
+-- four digits at most
+pub four_digits : (v i : ℕ) → v < 2 ^ (7 * (i - 4)) → i ≤ 8 → v < 2 ^ 28
+four_digits v i below few =
+    let most : 2 ^ (7 * (i - 4)) ≤ 2 ^ 28 = pow_mono {i = 7 * (i - 4)} {j = 28}
+    (omega (arith, few)) in
+    omega (arith, below, most)
+
+-- two bytes that continue
+pub two_so_far : (bytes : List ℕ) (a b low : ℕ) → 1 < length bytes → a ≡ get_or bytes 0 0
+    → b ≡ get_or bytes 1 0 → 128 ≤ a → 128 ≤ b → low ≡ a % 128 + b % 128 * 128
+    → ReadSoFar bytes (drop 2 bytes) low 2
+two_so_far bytes a b low there first second high_a high_b is =
+    let one = low_more bytes a 0 0 (a % 128) (ReadSoFar-none bytes) (omega (arith, there)) first
+    high_a (omega arith) in
+    low_more bytes b (a % 128) 1 low one there second high_b (omega (arith, is))
+
 -- ---- the ninth byte and the tenth
 
 module _ (bytes : List ℕ) (v ninth : ℕ) (h : ReadSoFar bytes (drop 8 bytes) v 8)
@@ -200,3 +216,32 @@ two_bytes chunk a b there first second high low = record {
     fits = omega (arith, low);
   };
 }
+
+-- ---- bytes behind which no others stand
+
+no_more : (bytes : List ℕ) → length bytes ≤ 0 → bytes ≡ []
+no_more [] few = refl
+no_more (b ∷ bytes) few = absurd (omega (arith, few))
+
+pub fault_in_whole : (chunk unread : List ℕ) (e : DecodeError)
+    → take (length chunk) unread ≡ chunk → length unread ≤ length chunk
+    → VarintFault chunk e → VarintFault unread e
+fault_in_whole chunk unread e front all fault =
+    let parts = chunk_first chunk unread front in
+    let rest = no_more (drop (length chunk) unread)
+    (omega (arith, all, ap length parts, length-append chunk (drop (length chunk) unread))) in
+    subst (λ (t : List ℕ). VarintFault t e)
+    (sym (parts ∙ ap (λ (t : List ℕ). chunk ++ t) rest ∙ append-nil chunk)) fault
+
+-- fewer than ten bytes that begin with no varint are cut short, and others are too long
+pub cut_if_few : (bytes : List ℕ) (e : DecodeError) → VarintFault bytes e → length bytes < 10
+    → VarintFault bytes UnexpectedEof
+cut_if_few bytes e (cut_short all short) few = cut_short all short
+cut_if_few bytes e (too_long front tenth rest parts all nine big) few =
+    absurd (omega (arith, ap length parts, length-append front (tenth ∷ rest), nine, few))
+
+pub long_if_many : (bytes : List ℕ) (e : DecodeError) → VarintFault bytes e → 10 ≤ length bytes
+    → VarintFault bytes VarintTooLong
+long_if_many bytes e (cut_short all short) many = absurd (omega (arith, short, many))
+long_if_many bytes e (too_long front tenth rest parts all nine big) many =
+    too_long front tenth rest parts all nine big

@@ -129,6 +129,10 @@ pub record ReadSoFar (old now : List ℕ) (v count : ℕ) : Type 0 where
   pub len : length front ≡ count
   pub value : varint_value front ≡ v
 
+pub ReadSoFar-none : (old : List ℕ) → ReadSoFar old old 0 0
+ReadSoFar-none old =
+    record { front = []; parts = refl; continue = tt; len = refl; value = refl }
+
 -- the number with one byte more, as the code joins it
 pub joined_value : (old now : List ℕ) (v count b : ℕ) → ReadSoFar old now v count → count ≤ 8
     → bit_or v (b % 128 * 2 ^ (7 * count) % 2 ^ 64) ≡ v + b % 128 * 2 ^ (7 * count)

@@ -1,10 +1,16 @@
 //! Where encoded bytes go.
-ghost use Rattle.std.specs.Prelude.{ℕ, List, [], ◌∷◌, Option, None};
+ghost use Rattle.std.specs.Prelude.{◌≡◌, ℕ, ◌+◌, ◌≤◌, List, [], ◌∷◌, ◌++◌, length, Option, None, OnOk, OnErr};
 ghost use Rattle.std.specs.Int.{w32, w64, cast_unsigned, to_le_bytes};
-ghost use Rattle.wire_base.specs.Sink.{Puts};
+ghost use Rattle.std.specs.Vec.{vec_len, vec_capacity};
+ghost use Rattle.wire_base.specs.Delimited.{delimited_text};
+ghost use Rattle.wire_base.specs.Sink.{KeepsFront, Puts, WriteAnswers};
+ghost use Rattle.wire_base.specs.Varint.{shortest_varint};
 
 use crate::error::EncodeError;
+use crate::laws;
 use bytes::{BufMut, Bytes, BytesMut};
+use std::alloc::AllocError;
+use std::mem;
 
 /// A growing list of bytes. A put appends all of its bytes or none: it answers `LengthOverflow`
 /// exactly where all bytes of the sink would then be more than it can count, and else `OutOfMemory`
@@ -54,6 +60,58 @@ pub trait EncodeSink {
         self.put_u64_le(value.cast_unsigned())
     }
 
+    /// Appends the shortest varint of a number, at most ten bytes. Refused where one of them is,
+    /// and then leaves those before it.
+    fn put_varint(&mut self, value: u64) -> Result<(), EncodeError>
+        ensures ok { OnOk result
+            (bytes_of self.new ≡ bytes_of self.old ++ shortest_varint value) }
+        ensures err { OnErr result (KeepsFront (bytes_of self.old)
+            (shortest_varint value) (bytes_of self.new)) }
+        ensures cause { WriteAnswers most (bytes_of self.old) (shortest_varint value) result }
+    {
+        let mut rest = value;
+        while rest >= 0x80 {
+            self.put_u8((rest % 0x80) as u8 + 0x80)?;
+            rest /= 0x80;
+        }
+        self.put_u8(rest as u8)
+    }
+
+    /// Appends the shortest varints of two numbers, as a tag and the length behind it. Refused
+    /// where one of their bytes is, and then leaves those before it.
+    #[inline(always)]
+    fn put_varints(&mut self, first: u64, second: u64) -> Result<(), EncodeError>
+        ensures ok { OnOk result (bytes_of self.new
+            ≡ bytes_of self.old ++ (shortest_varint first ++ shortest_varint second)) }
+        ensures err { OnErr result (KeepsFront (bytes_of self.old)
+            (shortest_varint first ++ shortest_varint second) (bytes_of self.new)) }
+        ensures cause { WriteAnswers most (bytes_of self.old)
+            (shortest_varint first ++ shortest_varint second) result }
+    {
+        laws::two_parts();
+        self.put_varint(first)?;
+        self.put_varint(second)
+    }
+
+    /// Appends the shortest varint of a number, as a tag, that of the length of the bytes, and the
+    /// bytes. Refused where a byte of the varints is, or the bytes are, and then leaves what stands
+    /// before.
+    #[inline(always)]
+    fn put_delimited(&mut self, first: u64, bytes: &[u8]) -> Result<(), EncodeError>
+        ensures ok { OnOk result (bytes_of self.new
+            ≡ bytes_of self.old ++ (shortest_varint first ++ delimited_text bytes.now)) }
+        ensures err { OnErr result (KeepsFront (bytes_of self.old)
+            (shortest_varint first ++ delimited_text bytes.now) (bytes_of self.new)) }
+        ensures cause { WriteAnswers most (bytes_of self.old)
+            (shortest_varint first ++ delimited_text bytes.now) result }
+    {
+        laws::two_parts();
+        laws::put_is_a_write();
+        self.put_varint(first)?;
+        self.put_varint(bytes.len() as u64)?;
+        self.put_slice(bytes)
+    }
+
     /// The bytes may be kept as they are, with no copy. They are given up where the put is refused.
     fn put_shared(&mut self, bytes: Bytes) -> Result<(), EncodeError>
         ensures { Puts most bytes (bytes_of self.old) (bytes_of self.new) result }
@@ -86,6 +144,109 @@ impl EncodeSink for Vec<u8> {
         self.extend_from_slice(&u64::to_le_bytes(value))?;
         Ok(())
     }
+
+    #[inline(always)]
+    fn put_varint(&mut self, value: u64) -> Result<(), EncodeError> {
+        if value < 0x80 {
+            self.push(value as u8)?;
+            return Ok(());
+        }
+        if self.capacity() - self.len() < MOST_DIGITS {
+            push_varint(value, self)?;
+            return Ok(());
+        }
+        let empty = Vec::new(*self.allocator());
+        let mut bytes = mem::replace(self, empty);
+        push_digits(value, &mut bytes);
+        mem::forget(mem::replace(self, bytes));
+        Ok(())
+    }
+
+    #[inline(always)]
+    fn put_varints(&mut self, first: u64, second: u64) -> Result<(), EncodeError> {
+        push_two(first, second, self)?;
+        Ok(())
+    }
+
+    #[inline(always)]
+    fn put_delimited(&mut self, first: u64, bytes: &[u8]) -> Result<(), EncodeError> {
+        push_header(first, bytes.len() as u64, self)?;
+        self.extend_from_slice(bytes)?;
+        Ok(())
+    }
+}
+
+// How many bytes a varint has at most.
+const MOST_DIGITS: usize = 10;
+
+// Appends the shortest varint of a number to bytes with room for it.
+#[inline(always)]
+fn push_digits(value: u64, bytes: &mut Vec<u8>)
+    requires { vec_len bytes.old + 10 ≤ vec_capacity bytes.old }
+    ensures items { bytes.new.items ≡ bytes.old.items ++ shortest_varint value }
+    ensures len { vec_len bytes.new ≤ vec_len bytes.old + 10 }
+    ensures capacity { vec_capacity bytes.new ≡ vec_capacity bytes.old }
+{
+    let mut rest = value;
+    while rest >= 0x80 {
+        bytes.push_reserved((rest % 0x80) as u8 + 0x80);
+        rest /= 0x80;
+    }
+    bytes.push_reserved(rest as u8);
+}
+
+// Appends the shortest varints of two numbers. With room for both, the vector is a local of the
+// compiled code, so that its length stays in a register.
+#[inline(always)]
+fn push_two(first: u64, second: u64, bytes: &mut Vec<u8>) -> Result<(), AllocError>
+    ensures ok { OnOk result (bytes.new.items
+        ≡ bytes.old.items ++ shortest_varint first ++ shortest_varint second) }
+    ensures err { OnErr result (KeepsFront bytes.old.items
+        (shortest_varint first ++ shortest_varint second) bytes.new.items) }
+{
+    if bytes.capacity() - bytes.len() < 2 * MOST_DIGITS {
+        laws::two_parts();
+        push_varint(first, bytes)?;
+        return push_varint(second, bytes);
+    }
+    let empty = Vec::new(*bytes.allocator());
+    let mut held = mem::replace(bytes, empty);
+    push_digits(first, &mut held);
+    push_digits(second, &mut held);
+    mem::forget(mem::replace(bytes, held));
+    Ok(())
+}
+
+// The same. Two of one byte, as a tag and a length mostly are, are put at once.
+#[inline(always)]
+fn push_header(first: u64, second: u64, bytes: &mut Vec<u8>) -> Result<(), AllocError>
+    ensures ok { OnOk result (bytes.new.items
+        ≡ bytes.old.items ++ shortest_varint first ++ shortest_varint second) }
+    ensures err { OnErr result (KeepsFront bytes.old.items
+        (shortest_varint first ++ shortest_varint second) bytes.new.items) }
+{
+    if first < 0x80 && second < 0x80 && bytes.capacity() - bytes.len() >= 2 {
+        bytes.push_reserved(first as u8);
+        bytes.push_reserved(second as u8);
+        return Ok(());
+    }
+    push_two(first, second, bytes)
+}
+
+// Appends the shortest varint of a number byte by byte.
+#[inline(never)]
+fn push_varint(value: u64, bytes: &mut Vec<u8>) -> Result<(), AllocError>
+    ensures ok { OnOk result (bytes.new.items ≡ bytes.old.items ++ shortest_varint value) }
+    ensures err { OnErr result (KeepsFront bytes.old.items
+        (shortest_varint value) bytes.new.items) }
+{
+    let mut rest = value;
+    while rest >= 0x80 {
+        bytes.push((rest % 0x80) as u8 + 0x80)?;
+        rest /= 0x80;
+    }
+    bytes.push(rest as u8)?;
+    Ok(())
 }
 
 impl EncodeSink for BytesMut {

@@ -16,6 +16,7 @@ use std::alloc::{AllocError, Global};
 /// is a maximum. The fault of its varint comes first, then `MessageTooLarge` for a length above
 /// `max`, then `UnexpectedEof` where fewer bytes remain. See "Length-Delimited Records" of the
 /// encoding document.
+#[inline(always)]
 pub fn decode_length<B: Buf>(buf: &mut B, max: Option<usize>) -> Result<usize, DecodeError>
     ensures ok { IfOk result (λ len. Reads (B.unread buf.old) (IsSpelling len) (B.unread buf.new)) }
     ensures within { IfOk result (λ len. HasRoom max len) }

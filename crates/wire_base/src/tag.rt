@@ -11,7 +11,7 @@ mod check;
 mod put;
 
 pub use check::{check_wire_type, wire_type_mismatch};
-pub(crate) use put::{put_tag, tag_len};
+pub(crate) use put::{put_tag, tag_as_number, tag_len};
 
 /// The greatest field number.
 pub const MAX_FIELD_NUMBER: u32 = (1 << 29) - 1;
@@ -116,6 +116,7 @@ impl Tag {
     /// Reads a tag, padded or not, from the front of the buffer. A number of 2^32 or more is
     /// `InvalidFieldNumber`, wire types 6 and 7 are `InvalidWireType`, and field number 0 is
     /// `InvalidFieldNumber`; a varint's own fault comes first.
+    #[inline(always)]
     pub fn decode<B: Buf>(buf: &mut B) -> Result<Tag, DecodeError>
         ensures ok { IfOk result (λ tag. Reads (B.unread buf.old)
             (IsTagSpelling (tag_number tag) (tag_type tag)) (B.unread buf.new)) }
@@ -141,6 +142,7 @@ impl Tag {
     /// tag stands, which is taken. The end tag of another number is `InvalidEndGroup`. Refused else
     /// as `Tag::decode`, so with `UnexpectedEof` where the bytes end before the group does. See
     /// "Groups" of the encoding document.
+    #[inline(always)]
     pub fn decode_in_group<B: Buf>(buf: &mut B, number: u32) -> Result<Option<Tag>, DecodeError>
         ensures record { IfOk result (λ next. IfSome next (λ tag. Reads (B.unread buf.old)
             (IsTagSpelling (tag_number tag) (tag_type tag)) (B.unread buf.new))) }

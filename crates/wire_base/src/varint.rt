@@ -1,6 +1,6 @@
 //! Numbers to the base 128, in one to ten bytes.
-ghost use Rattle.std.specs.Prelude.{◌≡◌, [], ◌∷◌, ◌++◌, length, ◌^◌, ◌<◌, count_by, nat_lt, OnOk, OnErr, IfOk, IfErr};
-ghost use Rattle.wire_base.specs.declared.error.DecodeError.TheVariants.{UnexpectedEof};
+ghost use Rattle.std.specs.Prelude.{◌≡◌, [], ◌∷◌, ◌++◌, length, ◌^◌, ◌<◌, ◌≤◌, drop, count_by, nat_lt, OnOk, OnErr, IfOk, IfErr};
+ghost use Rattle.wire_base.specs.declared.error.DecodeError.TheVariants.{UnexpectedEof, VarintTooLong};
 ghost use Rattle.wire_base.specs.Read.{Reads};
 ghost use Rattle.wire_base.specs.Sink.{KeepsFront, WriteAnswers};
 ghost use Rattle.wire_base.specs.Varint.{IsSpelling, VarintFault, shortest_varint};
@@ -21,18 +21,14 @@ pub fn varint_len(value: u64) -> usize
 
 /// Writes the shortest varint of a number. See "Base 128 Varints" of the encoding document. Refused
 /// where the sink refuses a byte.
+#[inline(always)]
 pub fn encode_varint<S: EncodeSink>(value: u64, sink: &mut S) -> Result<(), EncodeError>
     ensures ok { OnOk result (S.bytes_of sink.new ≡ S.bytes_of sink.old ++ shortest_varint value) }
     ensures err { OnErr result (KeepsFront (S.bytes_of sink.old)
         (shortest_varint value) (S.bytes_of sink.new)) }
     ensures cause { WriteAnswers S.most (S.bytes_of sink.old) (shortest_varint value) result }
 {
-    let mut rest = value;
-    while rest >= 0x80 {
-        sink.put_u8((rest % 0x80) as u8 + 0x80)?;
-        rest /= 0x80;
-    }
-    sink.put_u8(rest as u8)
+    sink.put_varint(value)
 }
 
 /// Reads a varint, padded with zeros or not, from the front of the buffer. Nine bytes of 0x80 or
@@ -50,29 +46,52 @@ pub fn decode_varint<B: Buf>(buf: &mut B) -> Result<u64, DecodeError>
             buf.advance(1);
             return Ok(u64::from(byte));
         }
-        if chunk.len() > 1 && chunk[1] < 0x80 {
-            let value = u64::from(byte % 0x80) + u64::from(chunk[1]) * 0x80;
-            buf.advance(2);
+        if holds_varint(chunk) {
+            let second = chunk[1];
+            if second < 0x80 {
+                let value = u64::from(byte % 0x80) + u64::from(second) * 0x80;
+                buf.advance(2);
+                return Ok(value);
+            }
+            let (value, len) = varint_at_front(chunk);
+            if len == 0 {
+                return Err(DecodeError::VarintTooLong);
+            }
+            buf.advance(len);
             return Ok(value);
         }
     }
-    decode_long_varint(buf)
-}
-
-// Reads a varint at once where the first chunk has all of it, as its length or its last byte tells.
-#[inline(never)]
-fn decode_long_varint<B: Buf>(buf: &mut B) -> Result<u64, DecodeError>
-    ensures ok { IfOk result (λ v. Reads (B.unread buf.old) (IsSpelling v) (B.unread buf.new)) }
-    ensures fault { IfErr result (VarintFault (B.unread buf.old)) }
-    ensures kept { B.kept buf.new ≡ B.kept buf.old }
-{
-    let chunk = buf.chunk();
-    if !holds_varint(chunk) {
+    if chunk.len() < buf.remaining() {
         return decode_varint_slow(buf);
     }
-    let (value, len) = varint_at_front(chunk)?;
-    buf.advance(len);
-    Ok(value)
+    let (value, len) = varint_in_whole(chunk);
+    if len > 0 {
+        buf.advance(len);
+        return Ok(value);
+    }
+    if chunk.len() < MAX_BYTES {
+        return Err(DecodeError::UnexpectedEof);
+    }
+    Err(DecodeError::VarintTooLong)
+}
+
+// How many bytes a varint has at most.
+const MAX_BYTES: usize = 10;
+
+// Reads a varint byte by byte from bytes behind which no others stand, and answers how many it has:
+// 0 where none is at their front.
+#[inline(never)]
+fn varint_in_whole(bytes: &[u8]) -> (u64, usize)
+    ensures ok { 0 < result.1 → Reads bytes.now (IsSpelling result.0) (drop result.1 bytes.now) }
+    ensures there { result.1 ≤ length bytes.now }
+    ensures cut { result.1 ≡ 0 → length bytes.now < 10 → VarintFault bytes.now UnexpectedEof }
+    ensures long { result.1 ≡ 0 → 10 ≤ length bytes.now → VarintFault bytes.now VarintTooLong }
+{
+    let mut rest = bytes;
+    match decode_varint_slow(&mut rest) {
+        Ok(value) => (value, bytes.len() - rest.len()),
+        Err(_) => (0, 0),
+    }
 }
 
 // Reads a varint byte by byte.

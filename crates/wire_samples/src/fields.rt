@@ -1,8 +1,10 @@
 //! Fields that are left out where they have their default value.
-ghost use Rattle.std.specs.Prelude.{◌≡◌, ◌^◌, ◌<◌, length};
+ghost use Rattle.std.specs.Prelude.{◌≡◌, ◌+◌, ◌^◌, ◌<◌, length};
 ghost use Rattle.wire_codec.specs.FieldNumber.{IsFieldNumber};
 ghost use Rattle.wire_codec.specs.Records.{text, text_size};
 ghost use Rattle.wire_codec.specs.Text.{text_of};
+ghost use Rattle.wire_codec.specs.ValueMap.{int32};
+ghost use Rattle.wire_codec.specs.Varint.{shortest_varint};
 ghost use Rattle.wire_codec.specs.Writes.{Writes};
 ghost use Rattle.wire_samples.specs.FieldRecords.{int32_field, sint64_field, bytes_field};
 ghost use Rattle.wire_samples.specs.FieldRecords.{packed_int32};
@@ -147,13 +149,30 @@ pub(crate) fn put_packed_int32<S: EncodeSink>(
     Ok(())
 }
 
-// How many bytes the varints of the values take.
+// How many bytes the varints of the values take: one each, and those beyond it.
 fn payload_len(values: &[i32]) -> u64
     ensures { result ≡ in_64_bits (length (packed_int32 values.now)) }
 {
-    let mut len = 0u64;
+    let mut len = values.len() as u64;
     for value in values {
-        len = len.saturating_add(int32_encoded_len(*value) as u64);
+        len = len.saturating_add(len_beyond_first(number_of(*value)));
     }
     len
+}
+
+// How many bytes the varint of a number has beyond its first.
+fn len_beyond_first(number: u64) -> u64
+    ensures { result + 1 ≡ length (shortest_varint number) }
+{
+    if number < 0x80 {
+        return 0;
+    }
+    varint_len(number) as u64 - 1
+}
+
+// The number whose varint stands for a value.
+fn number_of(value: i32) -> u64
+    ensures { result ≡ int32.enc value }
+{
+    i64::from(value).cast_unsigned()
 }

@@ -78,7 +78,7 @@ impl Message for Node {
     }
 
     fn compute_size(&self, cache: &mut SizeCache) -> Result<u32, EncodeError> {
-        node_size(self, cache)
+        Ok(node_size(self, cache)?)
     }
 
     fn write_to<S: EncodeSink>(

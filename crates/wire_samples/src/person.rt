@@ -73,6 +73,7 @@ impl Message for Person {
         }
     }
 
+    #[inline(always)]
     fn compute_size(&self, _cache: &mut SizeCache) -> Result<u32, EncodeError> {
         laws::flat_messages_have_no_sizes();
         laws::joined_records_add_up();

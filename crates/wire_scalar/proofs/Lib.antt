@@ -3,3 +3,4 @@ pub mod Counting
 pub mod FixedTexts
 pub mod PackedLaws
 pub mod Packing
+pub mod Tagging

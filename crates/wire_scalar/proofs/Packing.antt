@@ -30,34 +30,6 @@ map-push : {T : Type 0} (f : ℕ → T) (xs : List ℕ) (x : ℕ)
 map-push f [] x = refl
 map-push f (y ∷ ys) x = ap (λ (t : List _). f y ∷ t) (map-push f ys x)
 
--- ---- varints of one byte and of two
-
-pub one_byte : (bytes rest : List ℕ) (b : ℕ) → bytes ≡ b ∷ rest → b < 128
-    → Reads bytes (IsSpelling b) rest
-one_byte bytes rest b parts last = record {
-  text = b ∷ [];
-  parts = parts;
-  spelled = record {
-    ended = last;
-    at_most_ten = omega arith;
-    value = omega (arith, last);
-    fits = omega (arith, last);
-  };
-}
-
-pub two_bytes : (bytes rest : List ℕ) (a b : ℕ) → bytes ≡ a ∷ b ∷ rest → 128 ≤ a → b < 128
-    → Reads bytes (IsSpelling (a % 128 + b * 128)) rest
-two_bytes bytes rest a b parts high low = record {
-  text = a ∷ b ∷ [];
-  parts = parts;
-  spelled = record {
-    ended = (high, low);
-    at_most_ten = omega arith;
-    value = omega (arith, low);
-    fits = omega (arith, low);
-  };
-}
-
 -- the elements of the payload up to what is left stand in now behind before
 pub record Appended {T : Type 0} (IsText : ℕ → List ℕ
     → Type 0) (values : ValueMap T) (payload left : List ℕ) (before now : List T) : Type 0 where
@@ -89,6 +61,19 @@ module _ {T : Type 0} (IsText : ℕ → List ℕ
               ∙ sym (map-push values.dec so_far.numbers r.number));
         };
       }
+
+-- nothing is read yet
+pub Appended-none : {T : Type 0} (IsText : ℕ → List ℕ → Type 0) (values : ValueMap T)
+    (payload : List ℕ) (before : List T) → Appended IsText values payload payload before before
+Appended-none IsText values payload before = record {
+  front = [];
+  parts = refl;
+  appended = record {
+    numbers = [];
+    spelled = refl;
+    appended = sym (append-nil before);
+  };
+}
 
 -- one element less is still a multiple of the width
 pub whole_rest : {T : Type 0} (width : Width) (values : ValueMap T) (left next : List ℕ) (value : T)

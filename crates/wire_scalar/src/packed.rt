@@ -1,5 +1,5 @@
 //! Lists of scalars in one payload.
-ghost use Rattle.std.specs.Prelude.{◌≡◌, ◌%◌, ◌++◌, ◌⊎◌, List, length, OnOk, OnErr, IfOk, IfErr};
+ghost use Rattle.std.specs.Prelude.{◌≡◌, ◌%◌, ◌++◌, ◌⊎◌, ℕ, List, length, OnOk, OnErr, IfOk, IfErr};
 ghost use Rattle.std.specs.Int.{byte_len, w32, w64};
 ghost use Rattle.wire_base.specs.declared.error.DecodeError.TheVariants.{OutOfMemory};
 ghost use Rattle.wire_base.specs.Read.{Reads};
@@ -11,6 +11,7 @@ ghost use Rattle.wire_scalar.specs.ValueMap.{int32, int64, uint32, uint64, sint3
 use crate::fixed::{Fixed32, Fixed64, FixedScalar, Sfixed32, Sfixed64};
 use crate::scalar::{Bool, Int32, Int64, Sint32, Sint64, Uint32, Uint64, VarintScalar};
 use std::alloc::Global;
+use std::mem;
 use wire_base::{DecodeError, decode_varint};
 
 /// Appends the elements of a packed list of `int32`, whose payload this is, after making room for
@@ -215,37 +216,42 @@ fn extend_as<T: VarintScalar>(
         ⊎ StopsAtFault T.map payload.now out.old.items out.new.items e) }
 {
     out.reserve(reserve)?;
-    let mut rest = payload;
-    while let Some((&first, others)) = rest.split_first() {
-        if first < 0x80 {
-            out.push(T::value_of(u64::from(first)))?;
-            rest = others;
-        } else {
-            let (number, behind) = split_varint(rest)?;
-            out.push(T::value_of(number))?;
-            rest = behind;
-        }
+    let empty = Vec::new(*out.allocator());
+    let mut values = mem::replace(out, empty);
+    let mut rest = push_while_room::<T>(payload, &mut values);
+    mem::forget(mem::replace(out, values));
+    while !rest.is_empty() {
+        let (number, behind) = split_varint(rest)?;
+        out.push(T::value_of(number))?;
+        rest = behind;
     }
     Ok(())
 }
 
-// The number of the varint at the front, and the bytes behind it. One of one byte or two is read at
-// once.
+// Appends elements one by one, up to the first that finds no room or is no varint: answers what is
+// left of the payload.
+#[inline(always)]
+fn push_while_room<'a, T: VarintScalar>(payload: &'a [u8], values: &mut Vec<T::Value>) -> &'a [u8]
+    ensures { (front : List ℕ) × (payload.now ≡ front ++ result.now)
+        × Appends IsSpelling T.map front values.old.items values.new.items }
+{
+    let mut rest = payload;
+    while !rest.is_empty() && values.len() < values.capacity() {
+        let Ok((number, behind)) = split_varint(rest) else {
+            return rest;
+        };
+        values.push_reserved(T::value_of(number));
+        rest = behind;
+    }
+    rest
+}
+
+// The number of the varint at the front, and the bytes behind it.
 #[inline(always)]
 fn split_varint(bytes: &[u8]) -> Result<(u64, &[u8]), DecodeError>
     ensures ok { IfOk result (λ read. Reads bytes.now (IsSpelling read.0) read.1.now) }
     ensures fault { IfErr result (VarintFault bytes.now) }
 {
-    if let Some((&first, others)) = bytes.split_first() {
-        if first < 0x80 {
-            return Ok((u64::from(first), others));
-        }
-        if let Some((&second, behind)) = others.split_first() {
-            if second < 0x80 {
-                return Ok((u64::from(first % 0x80) + u64::from(second) * 0x80, behind));
-            }
-        }
-    }
     let mut rest = bytes;
     let number = decode_varint(&mut rest)?;
     Ok((number, rest))

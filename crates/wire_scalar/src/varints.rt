@@ -13,6 +13,7 @@ use wire_base::{DecodeError, EncodeError, EncodeSink, decode_varint, encode_vari
 pub const BOOL_ENCODED_LEN: usize = 1;
 
 // Reads a varint as a value of the type.
+#[inline(always)]
 pub(crate) fn decode_as<T: VarintScalar, B: Buf>(buf: &mut B) -> Result<T::Value, DecodeError>
     ensures ok { IfOk result (λ value.
         ReadsValue IsSpelling T.map (B.unread buf.old) value (B.unread buf.new)) }
@@ -33,6 +34,7 @@ pub fn encode_int32<S: EncodeSink>(value: i32, sink: &mut S) -> Result<(), Encod
 }
 
 /// Reads an `int32`: the low 32 bits of a varint. Refused as `decode_varint`.
+#[inline(always)]
 pub fn decode_int32<B: Buf>(buf: &mut B) -> Result<i32, DecodeError>
     ensures ok { IfOk result (λ value.
         ReadsValue IsSpelling int32 (B.unread buf.old) value (B.unread buf.new)) }
@@ -43,6 +45,7 @@ pub fn decode_int32<B: Buf>(buf: &mut B) -> Result<i32, DecodeError>
 }
 
 /// Reads an element of a packed list, as `decode_int32` does.
+#[inline(always)]
 pub fn decode_int32_packed<B: Buf>(buf: &mut B) -> Result<i32, DecodeError>
     ensures ok { IfOk result (λ value.
         ReadsValue IsSpelling int32 (B.unread buf.old) value (B.unread buf.new)) }
@@ -70,6 +73,7 @@ pub fn encode_int64<S: EncodeSink>(value: i64, sink: &mut S) -> Result<(), Encod
 }
 
 /// Reads an `int64`: the 64 bits of a varint. Refused as `decode_varint`.
+#[inline(always)]
 pub fn decode_int64<B: Buf>(buf: &mut B) -> Result<i64, DecodeError>
     ensures ok { IfOk result (λ value.
         ReadsValue IsSpelling int64 (B.unread buf.old) value (B.unread buf.new)) }
@@ -80,6 +84,7 @@ pub fn decode_int64<B: Buf>(buf: &mut B) -> Result<i64, DecodeError>
 }
 
 /// Reads an element of a packed list, as `decode_int64` does.
+#[inline(always)]
 pub fn decode_int64_packed<B: Buf>(buf: &mut B) -> Result<i64, DecodeError>
     ensures ok { IfOk result (λ value.
         ReadsValue IsSpelling int64 (B.unread buf.old) value (B.unread buf.new)) }
@@ -106,6 +111,7 @@ pub fn encode_uint32<S: EncodeSink>(value: u32, sink: &mut S) -> Result<(), Enco
 }
 
 /// Reads a `uint32`: the low 32 bits of a varint. Refused as `decode_varint`.
+#[inline(always)]
 pub fn decode_uint32<B: Buf>(buf: &mut B) -> Result<u32, DecodeError>
     ensures ok { IfOk result (λ value.
         ReadsValue IsSpelling uint32 (B.unread buf.old) value (B.unread buf.new)) }
@@ -116,6 +122,7 @@ pub fn decode_uint32<B: Buf>(buf: &mut B) -> Result<u32, DecodeError>
 }
 
 /// Reads an element of a packed list, as `decode_uint32` does.
+#[inline(always)]
 pub fn decode_uint32_packed<B: Buf>(buf: &mut B) -> Result<u32, DecodeError>
     ensures ok { IfOk result (λ value.
         ReadsValue IsSpelling uint32 (B.unread buf.old) value (B.unread buf.new)) }
@@ -142,6 +149,7 @@ pub fn encode_uint64<S: EncodeSink>(value: u64, sink: &mut S) -> Result<(), Enco
 }
 
 /// Reads a `uint64`: the number of a varint. Refused as `decode_varint`.
+#[inline(always)]
 pub fn decode_uint64<B: Buf>(buf: &mut B) -> Result<u64, DecodeError>
     ensures ok { IfOk result (λ value.
         ReadsValue IsSpelling uint64 (B.unread buf.old) value (B.unread buf.new)) }
@@ -152,6 +160,7 @@ pub fn decode_uint64<B: Buf>(buf: &mut B) -> Result<u64, DecodeError>
 }
 
 /// Reads an element of a packed list, as `decode_uint64` does.
+#[inline(always)]
 pub fn decode_uint64_packed<B: Buf>(buf: &mut B) -> Result<u64, DecodeError>
     ensures ok { IfOk result (λ value.
         ReadsValue IsSpelling uint64 (B.unread buf.old) value (B.unread buf.new)) }
@@ -178,6 +187,7 @@ pub fn encode_sint32<S: EncodeSink>(value: i32, sink: &mut S) -> Result<(), Enco
 }
 
 /// Reads a `sint32`: the low 32 bits of a varint, taken as zigzag. Refused as `decode_varint`.
+#[inline(always)]
 pub fn decode_sint32<B: Buf>(buf: &mut B) -> Result<i32, DecodeError>
     ensures ok { IfOk result (λ value.
         ReadsValue IsSpelling sint32 (B.unread buf.old) value (B.unread buf.new)) }
@@ -188,6 +198,7 @@ pub fn decode_sint32<B: Buf>(buf: &mut B) -> Result<i32, DecodeError>
 }
 
 /// Reads an element of a packed list, as `decode_sint32` does.
+#[inline(always)]
 pub fn decode_sint32_packed<B: Buf>(buf: &mut B) -> Result<i32, DecodeError>
     ensures ok { IfOk result (λ value.
         ReadsValue IsSpelling sint32 (B.unread buf.old) value (B.unread buf.new)) }
@@ -214,6 +225,7 @@ pub fn encode_sint64<S: EncodeSink>(value: i64, sink: &mut S) -> Result<(), Enco
 }
 
 /// Reads a `sint64`: a varint, taken as zigzag. Refused as `decode_varint`.
+#[inline(always)]
 pub fn decode_sint64<B: Buf>(buf: &mut B) -> Result<i64, DecodeError>
     ensures ok { IfOk result (λ value.
         ReadsValue IsSpelling sint64 (B.unread buf.old) value (B.unread buf.new)) }
@@ -224,6 +236,7 @@ pub fn decode_sint64<B: Buf>(buf: &mut B) -> Result<i64, DecodeError>
 }
 
 /// Reads an element of a packed list, as `decode_sint64` does.
+#[inline(always)]
 pub fn decode_sint64_packed<B: Buf>(buf: &mut B) -> Result<i64, DecodeError>
     ensures ok { IfOk result (λ value.
         ReadsValue IsSpelling sint64 (B.unread buf.old) value (B.unread buf.new)) }
@@ -250,6 +263,7 @@ pub fn encode_bool<S: EncodeSink>(value: bool, sink: &mut S) -> Result<(), Encod
 }
 
 /// Reads a `bool`: each varint but 0 is true. Refused as `decode_varint`.
+#[inline(always)]
 pub fn decode_bool<B: Buf>(buf: &mut B) -> Result<bool, DecodeError>
     ensures ok { IfOk result (λ value.
         ReadsValue IsSpelling bool (B.unread buf.old) value (B.unread buf.new)) }
@@ -260,6 +274,7 @@ pub fn decode_bool<B: Buf>(buf: &mut B) -> Result<bool, DecodeError>
 }
 
 /// Reads an element of a packed list, as `decode_bool` does.
+#[inline(always)]
 pub fn decode_bool_packed<B: Buf>(buf: &mut B) -> Result<bool, DecodeError>
     ensures ok { IfOk result (λ value.
         ReadsValue IsSpelling bool (B.unread buf.old) value (B.unread buf.new)) }

@@ -6,7 +6,7 @@ ghost use Rattle.wire_base.specs.Read.{Reads};
 ghost use Rattle.wire_text.specs.BytesPayload.{PassesPayload, BytesRefusal};
 ghost use Rattle.wire_text.specs.StringPayload.{IsString, StringRefusal};
 
-use crate::payload::{into_text, make_room, take_room};
+use crate::payload::{into_text, make_room, put_text, take_room};
 use bytes::{Buf, Bytes};
 use std::alloc::Global;
 use wire_base::{DecodeError, copy_bytes, decode_length, take_bytes};
@@ -89,8 +89,23 @@ pub fn merge_string<B: Buf>(
         → string_bytes value.new ≡ string_bytes value.old) }
 {
     let len = decode_length(buf, None)?;
-    let mut payload = take_room(alloc, value, len)?;
-    copy_bytes(buf, len, &mut payload);
-    *value = into_text(payload)?;
-    Ok(())
+    let chunk = buf.chunk();
+    if chunk.len() < len {
+        let mut payload = take_room(alloc, value, len)?;
+        copy_bytes(buf, len, &mut payload);
+        *value = into_text(payload)?;
+        return Ok(());
+    }
+    match simdutf8::basic::from_utf8(&chunk[..len]) {
+        Ok(text) => {
+            put_text(alloc, value, text)?;
+            buf.advance(len);
+            Ok(())
+        }
+        Err(_) => {
+            value.clear();
+            buf.advance(len);
+            Err(DecodeError::InvalidUtf8)
+        }
+    }
 }

@@ -7,7 +7,7 @@ ghost use Rattle.wire_base.specs.FieldNumber.{IsFieldNumber};
 ghost use Rattle.wire_base.specs.Sink.{KeepsFront, WriteAnswers};
 ghost use Rattle.wire_base.specs.Text.{record_text};
 
-use wire_base::{EncodeError, EncodeSink, Tag, WireType, encode_varint, laws, varint_len};
+use wire_base::{EncodeError, EncodeSink, WireType, encode_varint, laws, varint_len};
 
 /// How many bytes `encode_string` writes. `LengthOverflow` comes exactly where these are more than
 /// `usize::MAX`.
@@ -97,7 +97,8 @@ pub fn put_bytes_field<S: EncodeSink>(
     ensures cause { WriteAnswers S.most (S.bytes_of sink.old)
         (record_text number (bytes value.now)) result }
 {
-    laws::two_parts();
-    Tag::new(number, WireType::LengthDelimited).encode(sink)?;
-    encode_bytes(value, sink)
+    sink.put_delimited(
+        8 * u64::from(number) + WireType::LengthDelimited as u64,
+        value,
+    )
 }

@@ -42,6 +42,21 @@ pub(crate) fn take_room(
     Ok(room)
 }
 
+/// Puts a text in the place of the one that a string has, and keeps its room where it fits.
+#[inline(always)]
+pub(crate) fn put_text(alloc: Global, value: &mut String, text: &str) -> Result<(), AllocError>
+    ensures ok { OnOk result (string_bytes value.new ≡ text.now) }
+    ensures unchanged { OnErr result (string_bytes value.new ≡ string_bytes value.old) }
+{
+    if value.capacity() < text.len() {
+        *value = String::from_str(alloc, text)?;
+        return Ok(());
+    }
+    value.clear();
+    value.push_str(text).unwrap();
+    Ok(())
+}
+
 /// The text of these bytes, which are not copied.
 pub(crate) fn into_text(payload: Vec<u8>) -> Result<String, DecodeError>
     ensures ok { IfOk result (λ text. string_bytes text ≡ payload.items) }

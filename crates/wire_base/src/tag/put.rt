@@ -1,12 +1,12 @@
 //! Tags as bytes.
-ghost use Rattle.std.specs.Prelude.{◌≡◌, ◌+◌, ◌*◌, ◌++◌, length, OnOk, OnErr};
+ghost use Rattle.std.specs.Prelude.{◌≡◌, ◌++◌, length, OnOk, OnErr};
 ghost use Rattle.wire_base.specs.Sink.{KeepsFront, WriteAnswers};
-ghost use Rattle.wire_base.specs.Tag.{wire_number, tag_text};
+ghost use Rattle.wire_base.specs.Tag.{wire_number, tag_text, tag_value};
 
 use super::WireType;
 use crate::encode_sink::EncodeSink;
 use crate::error::EncodeError;
-use crate::varint::{encode_varint, varint_len};
+use crate::varint::varint_len;
 
 /// Writes the shortest text of a tag, also of a number that no field may have.
 #[inline(always)]
@@ -21,7 +21,7 @@ pub(crate) fn put_tag<S: EncodeSink>(
         (tag_text number wire_type) (S.bytes_of sink.new)) }
     ensures cause { WriteAnswers S.most (S.bytes_of sink.old) (tag_text number wire_type) result }
 {
-    encode_varint(8 * u64::from(number) + low_bits(wire_type), sink)
+    sink.put_varint(tag_as_number(number, wire_type))
 }
 
 /// How many bytes the shortest text of a tag has: 1 to 5, and 5 for a number that no field may
@@ -29,7 +29,15 @@ pub(crate) fn put_tag<S: EncodeSink>(
 pub(crate) fn tag_len(number: u32, wire_type: WireType) -> usize
     ensures { result ≡ length (tag_text number wire_type) }
 {
-    varint_len(8 * u64::from(number) + low_bits(wire_type))
+    varint_len(tag_as_number(number, wire_type))
+}
+
+/// A field number and a wire type as one number.
+#[inline(always)]
+pub(crate) fn tag_as_number(number: u32, wire_type: WireType) -> u64
+    ensures { result ≡ tag_value number wire_type }
+{
+    8 * u64::from(number) + low_bits(wire_type)
 }
 
 // A wire type as it stands in the low three bits of a tag.

@@ -9,8 +9,7 @@ ghost use Rattle.wire_base.specs.UnknownFields.{one_record, payload_of};
 use super::{UnknownField, UnknownFieldData, UnknownFields};
 use crate::encode_sink::EncodeSink;
 use crate::error::EncodeError;
-use crate::tag::{WireType, put_tag};
-use crate::varint::encode_varint;
+use crate::tag::{WireType, put_tag, tag_as_number};
 
 impl UnknownFields {
     /// Writes the shortest text of the records. Padding that they came with is gone. Refused where
@@ -76,8 +75,7 @@ impl UnknownField {
         let number = self.number;
         match &self.value {
             UnknownFieldData::Varint(value) => {
-                put_tag(number, WireType::Varint, sink)?;
-                encode_varint(*value, sink)
+                sink.put_varints(tag_as_number(number, WireType::Varint), *value)
             }
             UnknownFieldData::Fixed64(value) => {
                 put_tag(number, WireType::Fixed64, sink)?;
@@ -88,9 +86,7 @@ impl UnknownField {
                 sink.put_u32_le(*value)
             }
             UnknownFieldData::LengthDelimited(bytes) => {
-                put_tag(number, WireType::LengthDelimited, sink)?;
-                encode_varint(bytes.len() as u64, sink)?;
-                sink.put_slice(bytes)
+                sink.put_delimited(tag_as_number(number, WireType::LengthDelimited), bytes)
             }
             UnknownFieldData::Group(fields) => {
                 put_tag(number, WireType::StartGroup, sink)?;

@@ -24,6 +24,7 @@ const CHILD_BYTES: usize = 64;
 
 /// Takes the record of a tag that was read.
 #[cycle(merge)]
+#[inline(always)]
 pub(super) fn merge_record<B: Buf>(
     node: &mut Node,
     alloc: Global,
@@ -160,6 +161,7 @@ fn merge_grouped<B: Buf>(
 
 // Takes a level, and reads the length of an embedded message: answers how many bytes stand behind
 // its payload.
+#[inline(always)]
 fn enter_payload<B: Buf>(buf: &mut B, context: &mut DecodeContext) -> Result<usize, DecodeError>
     ensures ok { IfOk result (Enters context.old context.new (B.unread buf.old)
         (B.unread buf.new)) }

@@ -1,6 +1,5 @@
 //! A node to bytes: its sizes first, and then its encoding.
-ghost use Rattle.std.specs.Prelude.{◌≡◌, ◌≤◌, map, length, OnOk, IfOk, IfErr};
-ghost use Rattle.wire_codec.specs.EncodeError.TheVariants.{OutOfMemory};
+ghost use Rattle.std.specs.Prelude.{◌≡◌, ◌≤◌, map, length, OnOk, IfOk};
 ghost use Rattle.wire_codec.specs.FieldNumber.{IsFieldNumber};
 ghost use Rattle.wire_codec.specs.Records.{none, field, embedded, text, text_size};
 ghost use Rattle.wire_codec.specs.Sizes.{cut, cut_sizes, sizes};
@@ -12,6 +11,7 @@ ghost use Rattle.wire_samples.specs.Node.{child_record, children_records, group_
 
 use super::Node;
 use crate::fields::{delimited_len, put_sint64, sint64_len, unknown_len};
+use std::alloc::AllocError;
 use wire_codec::{
     EncodeError, EncodeSink, SizeCache, laws, put_group_end, put_group_start,
     put_len_delimited_header, saturate_size,
@@ -20,14 +20,14 @@ use wire_codec::{
 // How many bytes the two tags of a group take.
 const GROUP_TAGS_LEN: u64 = 2;
 
-/// Records the sizes of the embedded messages, and answers the size of the encoding.
+/// Records the sizes of the embedded messages, and answers the size of the encoding. What is refused
+/// is memory alone, so that the answers fit registers.
 #[cycle(size)]
-pub(super) fn node_size(node: &Node, cache: &mut SizeCache) -> Result<u32, EncodeError>
+pub(super) fn node_size(node: &Node, cache: &mut SizeCache) -> Result<u32, AllocError>
     ensures size { IfOk result (λ answer. answer
         ≡ cut (text_size (node_records (node_value node.now)))) }
     ensures sizes { OnOk result (cache.new
         ≡ recorded cache.old (cut_sizes (node_records (node_value node.now)))) }
-    ensures err { IfErr result (λ e. e ≡ OutOfMemory) }
 {
     laws::joined_records_add_up();
     laws::fields_are_plain();
@@ -44,10 +44,9 @@ pub(super) fn node_size(node: &Node, cache: &mut SizeCache) -> Result<u32, Encod
 
 // How many bytes the child takes, where there is one.
 #[cycle(size)]
-fn child_len(node: &Node, cache: &mut SizeCache) -> Result<u64, EncodeError>
+fn child_len(node: &Node, cache: &mut SizeCache) -> Result<u64, AllocError>
     ensures ok { IfOk result (λ len. Measures (child_record (child_of (node_value node.now)))
         cache.old cache.new len) }
-    ensures err { IfErr result (λ e. e ≡ OutOfMemory) }
 {
     match &node.child {
         Some(child) => embedded_len(2, child, cache),
@@ -57,10 +56,9 @@ fn child_len(node: &Node, cache: &mut SizeCache) -> Result<u64, EncodeError>
 
 // How many bytes the children take.
 #[cycle(size)]
-fn children_len(children: &[Node], cache: &mut SizeCache) -> Result<u64, EncodeError>
+fn children_len(children: &[Node], cache: &mut SizeCache) -> Result<u64, AllocError>
     ensures ok { IfOk result (λ len. Measures
         (children_records (listed (map node_value children.now))) cache.old cache.new len) }
-    ensures err { IfErr result (λ e. e ≡ OutOfMemory) }
 {
     laws::joined_records_add_up();
     let mut size = 0u64;
@@ -72,10 +70,9 @@ fn children_len(children: &[Node], cache: &mut SizeCache) -> Result<u64, EncodeE
 
 // How many bytes the group takes, where there is one.
 #[cycle(size)]
-fn group_len(node: &Node, cache: &mut SizeCache) -> Result<u64, EncodeError>
+fn group_len(node: &Node, cache: &mut SizeCache) -> Result<u64, AllocError>
     ensures ok { IfOk result (λ len. Measures (group_record (group_of (node_value node.now)))
         cache.old cache.new len) }
-    ensures err { IfErr result (λ e. e ≡ OutOfMemory) }
 {
     match &node.group {
         Some(group) => Ok(u64::from(node_size(group, cache)?) + GROUP_TAGS_LEN),
@@ -85,14 +82,15 @@ fn group_len(node: &Node, cache: &mut SizeCache) -> Result<u64, EncodeError>
 
 // How many bytes an embedded message takes. Its slot stands before those of the messages in it.
 #[cycle(size)]
-fn embedded_len(number: u32, node: &Node, cache: &mut SizeCache) -> Result<u64, EncodeError>
+fn embedded_len(number: u32, node: &Node, cache: &mut SizeCache) -> Result<u64, AllocError>
     requires { IsFieldNumber number }
     ensures ok { IfOk result (λ len. Measures
         (field number (embedded (node_records (node_value node.now))) none)
         cache.old cache.new len) }
-    ensures err { IfErr result (λ e. e ≡ OutOfMemory) }
 {
-    let slot = cache.reserve()?;
+    let Ok(slot) = cache.reserve() else {
+        return Err(AllocError);
+    };
     let len = node_size(node, cache)?;
     cache.set(slot, len);
     Ok(delimited_len(number, u64::from(len)))
@@ -193,6 +191,7 @@ fn write_group<S: EncodeSink>(
 
 // Writes an embedded message: its size, which the cache has next, and its encoding.
 #[cycle(write)]
+#[inline(always)]
 fn write_embedded<S: EncodeSink>(
     number: u32,
     node: &Node,

@@ -7,16 +7,9 @@ use Rattle.wire_base.proofs.Sinks.{KeepsFront-longer, KeepsFront-behind, Written
 use Rattle.wire_base.proofs.UnknownFieldsLemmas.{text_of-at}
 use Rattle.wire_base.proofs.unknown_fields.+write.Goals as goal
 
-pub UnknownField::write_record-returns-in_err-put_tag-in-Varint-clause-err : goal.UnknownField::write_record-returns-in_err-put_tag-in-Varint-clause-err
-UnknownField::write_record-returns-in_err-put_tag-in-Varint-clause-err g t c =
-    let p = err_from_is_err_and c.from_residual.result c.from_residual.ensures.1 in
-    rw (p.1, c.in-Varint.is)
-    (KeepsFront-longer _ _ _ _ _ refl (c.in_err-put_tag-in-Varint).ensures.err)
-
 pub UnknownField::write_record-returns-in_err-put_tag-in-Fixed64-clause-err : goal.UnknownField::write_record-returns-in_err-put_tag-in-Fixed64-clause-err
 UnknownField::write_record-returns-in_err-put_tag-in-Fixed64-clause-err g t c =
-    let p = err_from_is_err_and c.from_residual-in_err-put_tag-in-Fixed64.result
-    c.from_residual-in_err-put_tag-in-Fixed64.ensures.1 in
+    let p = err_from_is_err_and c.from_residual.result c.from_residual.ensures.1 in
     rw (p.1, c.in-Fixed64.is)
     (KeepsFront-longer _ _ _ _ _ refl (c.in_err-put_tag-in-Fixed64).ensures.err)
 
@@ -27,31 +20,12 @@ UnknownField::write_record-returns-in_err-put_tag-in-Fixed32-clause-err g t c =
     rw (p.1, c.in-Fixed32.is)
     (KeepsFront-longer _ _ _ _ _ refl (c.in_err-put_tag-in-Fixed32).ensures.err)
 
-pub UnknownField::write_record-returns-in_err-put_tag-in-LengthDelimited-clause-err : goal.UnknownField::write_record-returns-in_err-put_tag-in-LengthDelimited-clause-err
-UnknownField::write_record-returns-in_err-put_tag-in-LengthDelimited-clause-err g t c =
-    let p = err_from_is_err_and c.from_residual-in_err-put_tag-in-LengthDelimited.result
-    c.from_residual-in_err-put_tag-in-LengthDelimited.ensures.1 in
-    rw (p.1, c.in-LengthDelimited.is)
-    (KeepsFront-longer _ _ _ _ _ refl (c.in_err-put_tag-in-LengthDelimited).ensures.err)
-
 pub UnknownField::write_record-returns-in_err-put_tag-in-Group-clause-err : goal.UnknownField::write_record-returns-in_err-put_tag-in-Group-clause-err
 UnknownField::write_record-returns-in_err-put_tag-in-Group-clause-err g t c =
     let p = err_from_is_err_and c.from_residual-in_err-put_tag-in-Group.result
     c.from_residual-in_err-put_tag-in-Group.ensures.1 in
     rw (p.1, c.in-Group.is)
     (KeepsFront-longer _ _ _ _ _ refl (c.in_err-put_tag-in-Group).ensures.err)
-
-pub UnknownField::write_record-returns-in_err-encode_varint-in-LengthDelimited-clause-err : goal.UnknownField::write_record-returns-in_err-encode_varint-in-LengthDelimited-clause-err
-UnknownField::write_record-returns-in_err-encode_varint-in-LengthDelimited-clause-err g t c =
-    let r = c.from_residual-in_err-encode_varint-in-LengthDelimited in
-    let p = err_from_is_err_and r.result r.ensures.1 in
-    let b = c.in-LengthDelimited.bytes in
-    let len : length b.items ≡ c.len.result = sym (c.len.ensures ∙ b.ok.0) in
-    rw (p.1, c.in-LengthDelimited.is)
-    (KeepsFront-behind _ _ _ _ (tag_text c.args.self.now.number LengthDelimited) _ refl
-    (c.in_ok-put_tag-in-LengthDelimited).ensures.ok
-    (KeepsFront-longer _ _ _ _ b.items (ap (λ (n : ℕ). shortest_varint n ++ b.items) len)
-    (c.in_err-encode_varint-in-LengthDelimited).ensures.err))
 
 pub UnknownField::write_record-returns-in_err-write_fields-in-Group-clause-err : goal.UnknownField::write_record-returns-in_err-write_fields-in-Group-clause-err
 UnknownField::write_record-returns-in_err-write_fields-in-Group-clause-err g t c =
@@ -62,12 +36,6 @@ UnknownField::write_record-returns-in_err-write_fields-in-Group-clause-err g t c
     (c.in_ok-put_tag-in-Group).ensures.ok
     (KeepsFront-longer _ _ _ _ (tag_text c.args.self.now.number EndGroup) refl
     (c.in_err-write_fields-in-Group).ensures.err))
-
-pub UnknownField::write_record-returns-in_ok-put_tag-in-Varint-clause-err : goal.UnknownField::write_record-returns-in_ok-put_tag-in-Varint-clause-err
-UnknownField::write_record-returns-in_ok-put_tag-in-Varint-clause-err g t c =
-    rw c.in-Varint.is (on_err_weaker c.encode_varint.result
-    (KeepsFront-behind _ _ _ _ (tag_text c.args.self.now.number Varint) _ refl
-    (c.in_ok-put_tag-in-Varint).ensures.ok) c.encode_varint.ensures.err)
 
 pub UnknownField::write_record-returns-in_ok-write_fields-in-Group-clause-err : goal.UnknownField::write_record-returns-in_ok-write_fields-in-Group-clause-err
 UnknownField::write_record-returns-in_ok-write_fields-in-Group-clause-err g t c =

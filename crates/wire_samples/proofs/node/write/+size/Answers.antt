@@ -24,15 +24,17 @@ node_size-returns-clause-sizes t c =
     c.saturating_add-2.ensures c.saturating_add-3.ensures c.saturating_add-size.ensures in
     measured.sizes
 
-pub embedded_len-returns-clause-ok : goal.embedded_len-returns-clause-ok
-embedded_len-returns-clause-ok t c =
-    embedded_measured c.args.number _ _ _ _ _ _ _ _ _ c.in_ok-slot.ensures.index
-    c.in_ok-slot.ensures.slot c.in_ok-len.ensures.sizes c.in_ok-len.ensures.size c.set.ensures
-    c.from.ensures c.delimited_len.ensures
+pub embedded_len-returns : goal.embedded_len-returns
+embedded_len-returns t c = record {
+  ok = embedded_measured c.args.number _ _ _ _ _ _ _ _ _ (rw c.in-Ok.is at c.reserve.ensures.index)
+      (rw c.in-Ok.is at c.reserve.ensures.slot) c.in_ok-len.ensures.sizes c.in_ok-len.ensures.size
+      c.set.ensures c.from.ensures c.delimited_len.ensures;
+}
 
-pub group_len-returns-in_ok-node_size-in-Some-clause-ok
-    : goal.group_len-returns-in_ok-node_size-in-Some-clause-ok
-group_len-returns-in_ok-node_size-in-Some-clause-ok t c =
+pub group_len-returns-in_ok-node_size-in-Some : goal.group_len-returns-in_ok-node_size-in-Some
+group_len-returns-in_ok-node_size-in-Some t c =
     let read = c.in_ok-node_size-in-Some.ensures in
-    group_len_measured c.args.node.now _ c.in-Some.group _ _ _ _ c.in-Some.is c.deref.ensures
-    read.size read.sizes c.from.ensures
+    record {
+      ok = group_len_measured c.args.node.now _ c.in-Some.group _ _ _ _ c.in-Some.is
+          c.deref.ensures read.size read.sizes c.from.ensures;
+    }

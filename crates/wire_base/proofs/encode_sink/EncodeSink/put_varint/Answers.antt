@@ -2,7 +2,7 @@ use Rattle.std.proofs.Common.{◌+◌, ◌%◌, [], ◌∷◌, length, ap, arith
 use Rattle.std.proofs.lemmas.Result.{err_from_is_err_and}
 use Rattle.wire_base.proofs.Sinks.{Written-more, Written-ok, Written-total, refused_put, last_put}
 use Rattle.wire_base.proofs.Varints.{shortest_varint-last, shortest_varint-more}
-use Rattle.wire_base.proofs.varint.encode_varint.Goals as goal
+use Rattle.wire_base.proofs.encode_sink.EncodeSink.put_varint.Goals as goal
 
 pub returns-in_err-put_u8-clause-cause : goal.returns-in_err-put_u8-clause-cause
 returns-in_err-put_u8-clause-cause g c =
