@@ -41,7 +41,7 @@ fn merged_string<B: Buf>(buf: &mut B, said: &mut Said) {
         let is_left = value.as_str() == "old" || error != DecodeError::OutOfMemory;
         said.expect(is_left, "a refused merge");
         said.refuse(error);
-        said.word(" ");
+        return said.also(" ", &value);
     }
     said.show(&value);
     said.left(buf.remaining());
@@ -61,6 +61,9 @@ fn merged_bytes<B: Buf>(buf: &mut B, said: &mut Said) {
 /// Writes by the call of this name, and answers how; nothing where none writes.
 pub fn put<S: EncodeSink>(row: &Row<'_>, sink: &mut S) -> Option<Result<(), EncodeError>> {
     match row.call {
+        "put_varint" => Some(sink.put_varint(row.value())),
+        "put_varints" => Some(sink.put_varints(row.number("first").unwrap_or(0), row.value())),
+        "put_delimited" => Some(sink.put_delimited(row.value(), row.bytes)),
         "encode_bytes" => Some(encode_bytes(row.bytes, sink)),
         "put_bytes_field" => Some(put_bytes_field(field_number(row), row.bytes, sink)),
         "encode_string" => Some(encode_string(text_of(row), sink)),
