@@ -1,5 +1,5 @@
 //! Where encoded bytes go.
-ghost use Rattle.std.specs.Prelude.{◌≡◌, ℕ, ◌+◌, ◌≤◌, List, [], ◌∷◌, ◌++◌, length, Option, None, OnOk, OnErr};
+ghost use Rattle.std.specs.Prelude.{◌≡◌, ℕ, ◌+◌, ◌<◌, ◌≤◌, List, [], ◌∷◌, ◌++◌, Option, None, OnOk, OnErr};
 ghost use Rattle.std.specs.Int.{w32, w64, cast_unsigned, to_le_bytes};
 ghost use Rattle.std.specs.Vec.{vec_len, vec_capacity};
 ghost use Rattle.wire_base.specs.Delimited.{delimited_text};
@@ -170,8 +170,12 @@ impl EncodeSink for Vec<u8> {
 
     #[inline(always)]
     fn put_delimited(&mut self, first: u64, bytes: &[u8]) -> Result<(), EncodeError> {
-        push_header(first, bytes.len() as u64, self)?;
-        self.extend_from_slice(bytes)?;
+        if first < 0x80 && bytes.len() < 0x80 && self.capacity() - self.len() >= 2 {
+            push_pair(first as u8, bytes.len() as u8, self);
+            push_bytes(bytes, self)?;
+            return Ok(());
+        }
+        push_delimited(first, bytes, self)?;
         Ok(())
     }
 }
@@ -217,20 +221,51 @@ fn push_two(first: u64, second: u64, bytes: &mut Vec<u8>) -> Result<(), AllocErr
     Ok(())
 }
 
-// The same. Two of one byte, as a tag and a length mostly are, are put at once.
+// Appends two varints of one byte, as a tag and a length mostly are, to bytes with room for them.
 #[inline(always)]
-fn push_header(first: u64, second: u64, bytes: &mut Vec<u8>) -> Result<(), AllocError>
-    ensures ok { OnOk result (bytes.new.items
-        ≡ bytes.old.items ++ shortest_varint first ++ shortest_varint second) }
-    ensures err { OnErr result (KeepsFront bytes.old.items
-        (shortest_varint first ++ shortest_varint second) bytes.new.items) }
+fn push_pair(first: u8, second: u8, bytes: &mut Vec<u8>)
+    requires room { vec_len bytes.old + 2 ≤ vec_capacity bytes.old }
+    requires first { first < 128 }
+    requires second { second < 128 }
+    ensures { bytes.new.items
+        ≡ bytes.old.items ++ shortest_varint first ++ shortest_varint second }
 {
-    if first < 0x80 && second < 0x80 && bytes.capacity() - bytes.len() >= 2 {
-        bytes.push_reserved(first as u8);
-        bytes.push_reserved(second as u8);
-        return Ok(());
+    bytes.push_reserved(first);
+    bytes.push_reserved(second);
+}
+
+// Appends bytes. The test is that of the list, which then has no growth in line.
+#[inline(always)]
+fn push_bytes(more: &[u8], bytes: &mut Vec<u8>) -> Result<(), AllocError>
+    ensures ok { OnOk result (bytes.new.items ≡ bytes.old.items ++ more.now) }
+    ensures err { OnErr result (bytes.new.items ≡ bytes.old.items) }
+{
+    if bytes.capacity() - bytes.len() < more.len() {
+        return push_growing(more, bytes);
     }
-    push_two(first, second, bytes)
+    bytes.extend_from_slice(more)
+}
+
+// Appends bytes for which there is no room.
+#[inline(never)]
+fn push_growing(more: &[u8], bytes: &mut Vec<u8>) -> Result<(), AllocError>
+    ensures ok { OnOk result (bytes.new.items ≡ bytes.old.items ++ more.now) }
+    ensures err { OnErr result (bytes.new.items ≡ bytes.old.items) }
+{
+    bytes.extend_from_slice(more)
+}
+
+// Appends the shortest varint of a number, and bytes behind their length.
+#[inline(never)]
+fn push_delimited(first: u64, more: &[u8], bytes: &mut Vec<u8>) -> Result<(), AllocError>
+    ensures ok { OnOk result (bytes.new.items
+        ≡ bytes.old.items ++ (shortest_varint first ++ delimited_text more.now)) }
+    ensures err { OnErr result (KeepsFront bytes.old.items
+        (shortest_varint first ++ delimited_text more.now) bytes.new.items) }
+{
+    push_two(first, more.len() as u64, bytes)?;
+    bytes.extend_from_slice(more)?;
+    Ok(())
 }
 
 // Appends the shortest varint of a number byte by byte.

@@ -25,6 +25,7 @@ use wire_codec::{
 const MAX_VARINT_BYTES: usize = 10;
 
 /// Sets a field of type `int32`.
+#[inline(always)]
 pub(crate) fn merge_int32<B: Buf>(tag: Tag, value: &mut i32, buf: &mut B) -> Result<(), DecodeError>
     ensures ok { OnOk result (ReadsField (tag_number tag) (tag_type tag)
         (λ p. SetsInt32 p value.new) (B.unread buf.old) (B.unread buf.new)) }
@@ -39,6 +40,7 @@ pub(crate) fn merge_int32<B: Buf>(tag: Tag, value: &mut i32, buf: &mut B) -> Res
 }
 
 /// Sets a field of type `sint64`.
+#[inline(always)]
 pub(crate) fn merge_sint64<B: Buf>(
     tag: Tag,
     value: &mut i64,

@@ -7,23 +7,9 @@ use Rattle.wire_base.proofs.Sinks.{KeepsFront-longer, KeepsFront-behind, Written
 use Rattle.wire_base.proofs.UnknownFieldsLemmas.{text_of-at}
 use Rattle.wire_base.proofs.unknown_fields.+write.Goals as goal
 
-pub UnknownField::write_record-returns-in_err-put_tag-in-Fixed64-clause-err : goal.UnknownField::write_record-returns-in_err-put_tag-in-Fixed64-clause-err
-UnknownField::write_record-returns-in_err-put_tag-in-Fixed64-clause-err g t c =
-    let p = err_from_is_err_and c.from_residual.result c.from_residual.ensures.1 in
-    rw (p.1, c.in-Fixed64.is)
-    (KeepsFront-longer _ _ _ _ _ refl (c.in_err-put_tag-in-Fixed64).ensures.err)
-
-pub UnknownField::write_record-returns-in_err-put_tag-in-Fixed32-clause-err : goal.UnknownField::write_record-returns-in_err-put_tag-in-Fixed32-clause-err
-UnknownField::write_record-returns-in_err-put_tag-in-Fixed32-clause-err g t c =
-    let p = err_from_is_err_and c.from_residual-in_err-put_tag-in-Fixed32.result
-    c.from_residual-in_err-put_tag-in-Fixed32.ensures.1 in
-    rw (p.1, c.in-Fixed32.is)
-    (KeepsFront-longer _ _ _ _ _ refl (c.in_err-put_tag-in-Fixed32).ensures.err)
-
 pub UnknownField::write_record-returns-in_err-put_tag-in-Group-clause-err : goal.UnknownField::write_record-returns-in_err-put_tag-in-Group-clause-err
 UnknownField::write_record-returns-in_err-put_tag-in-Group-clause-err g t c =
-    let p = err_from_is_err_and c.from_residual-in_err-put_tag-in-Group.result
-    c.from_residual-in_err-put_tag-in-Group.ensures.1 in
+    let p = err_from_is_err_and c.from_residual.result c.from_residual.ensures.1 in
     rw (p.1, c.in-Group.is)
     (KeepsFront-longer _ _ _ _ _ refl (c.in_err-put_tag-in-Group).ensures.err)
 
@@ -40,11 +26,11 @@ UnknownField::write_record-returns-in_err-write_fields-in-Group-clause-err g t c
 pub UnknownField::write_record-returns-in_ok-write_fields-in-Group-clause-err : goal.UnknownField::write_record-returns-in_ok-write_fields-in-Group-clause-err
 UnknownField::write_record-returns-in_ok-write_fields-in-Group-clause-err g t c =
     let n = c.args.self.now.number in
-    rw c.in-Group.is (on_err_weaker c.put_tag-in-Group-2.result
+    rw c.in-Group.is (on_err_weaker c.put_tag-in-Group.result
     (λ k. KeepsFront-behind _ _ _ _ (tag_text n StartGroup) _ refl
     (c.in_ok-put_tag-in-Group).ensures.ok
     (KeepsFront-behind _ _ _ _ _ (tag_text n EndGroup) refl
-    (c.in_ok-write_fields-in-Group).ensures.ok k)) c.put_tag-in-Group-2.ensures.err)
+    (c.in_ok-write_fields-in-Group).ensures.ok k)) c.put_tag-in-Group.ensures.err)
 
 pub UnknownFields::write_fields-returns-in_err-write_record-clause-err : goal.UnknownFields::write_fields-returns-in_err-write_record-clause-err
 UnknownFields::write_fields-returns-in_err-write_record-clause-err g t c =

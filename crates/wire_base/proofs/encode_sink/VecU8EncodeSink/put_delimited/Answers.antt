@@ -1,21 +1,11 @@
 use Rattle.std.proofs.Common.{◌++◌, List, ℕ, ◌∙◌, sym, ap, length, append_assoc}
 use Rattle.std.proofs.lemmas.Result.{err_from_is_err_and}
 use Rattle.wire_base.specs.Varint.{shortest_varint}
-use Rattle.wire_base.proofs.Sinks.{KeepsFront-longer}
 use Rattle.wire_base.proofs.encode_sink.VecU8EncodeSink.put_delimited.Goals as goal
 
-pub returns-in_err-push_header-clause-err : goal.returns-in_err-push_header-clause-err
-returns-in_err-push_header-clause-err c =
+pub returns-in_err-push_bytes-clause-err : goal.returns-in_err-push_bytes-clause-err
+returns-in_err-push_bytes-clause-err c =
     let p = err_from_is_err_and c.from_residual.result c.from_residual.ensures.1 in
-    let bytes = c.args.bytes.now in
-    rw p.1 (KeepsFront-longer _ _ _ _ bytes
-    (sym (append_assoc (shortest_varint c.args.first) (shortest_varint (length bytes)) bytes))
-    c.in_err-push_header.ensures.err)
-
-pub returns-in_err-extend_from_slice-clause-err : goal.returns-in_err-extend_from_slice-clause-err
-returns-in_err-extend_from_slice-clause-err c =
-    let p = err_from_is_err_and c.from_residual-in_err-extend_from_slice.result
-    c.from_residual-in_err-extend_from_slice.ensures.1 in
     let bytes = c.args.bytes.now in
     let first = shortest_varint c.args.first in
     let len = shortest_varint (length bytes) in
@@ -23,16 +13,16 @@ returns-in_err-extend_from_slice-clause-err c =
       front = first ++ len;
       rest = bytes;
       parts = sym (append_assoc first len bytes);
-      held = c.in_err-extend_from_slice.ensures.items ∙ c.in_ok-push_header.ensures.ok
+      held = c.in_err-push_bytes.ensures.err ∙ c.push_pair.ensures
           ∙ append_assoc c.args.self.now.items first len;
     })
 
-pub returns-clause-ok : goal.returns-clause-ok
-returns-clause-ok c =
+pub returns-then-capacity-len-ge2-clause-ok : goal.returns-then-capacity-len-ge2-clause-ok
+returns-then-capacity-len-ge2-clause-ok c =
     let old = c.args.self.now.items in
     let bytes = c.args.bytes.now in
     let first = shortest_varint c.args.first in
     let len = shortest_varint (length bytes) in
-    c.in_ok-extend_from_slice.ensures.items
-    ∙ ap (λ (t : List ℕ). t ++ bytes) c.in_ok-push_header.ensures.ok
+    c.in_ok-push_bytes.ensures.ok
+    ∙ ap (λ (t : List ℕ). t ++ bytes) c.push_pair.ensures
     ∙ append_assoc (old ++ first) len bytes ∙ append_assoc old first (len ++ bytes)
