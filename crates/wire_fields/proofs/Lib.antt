@@ -1,0 +1,6 @@
+pub mod Keeping
+pub mod Measuring
+pub mod Messages
+pub mod Putting
+pub mod Reading
+pub mod Scalars
