@@ -25,7 +25,7 @@ scalar_sizes same t n v = same.sizes (field n (t.payload v) none)
 pub scalar_reads : {V T E : Type 0} → FlatKeepsTheTape → FieldsArePlain → (t : ScalarType V) (n : ℕ)
     (v : V) (tape : Tape) (r : Result T E)
     → OnOk r (tape ≡ advanced tape (length (sizes (scalar_record t n v))))
-scalar_reads flat same t n v tape (Ok x) = 
+scalar_reads flat same t n v tape (Ok x) =
     flat.written (scalar_record t n v) tape (scalar_sizes same t n v)
 scalar_reads flat same t n v tape (Err e) = tt
 

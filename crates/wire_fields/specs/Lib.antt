@@ -1,4 +1,6 @@
 pub mod Arms
+pub mod Enums
+pub mod Floats
 pub mod Measuring
 pub mod Messages
 pub mod Numbers

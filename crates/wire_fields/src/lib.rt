@@ -7,6 +7,8 @@
 #![tactic(auto)]
 
 mod encoding;
+mod enums;
+mod floats;
 mod form;
 mod kind;
 mod message_field;
@@ -14,22 +16,27 @@ mod number;
 mod numbers;
 mod parts;
 mod presence;
+mod repeated;
 mod scalar;
 #[cfg(test)]
 mod tests;
 mod text;
+mod types;
 mod unknown;
 
 pub use encoding::{Delimited, LengthPrefixed, MessageEncoding};
+pub use floats::{DoubleBits, FloatBits};
 pub use form::Form;
 pub use kind::Kind;
 pub use message_field::{Each, EachEmbedded, EachGroup, Embedded, Group, Once};
 pub use number::Number;
-pub use numbers::{
-    Bool, Fixed32, Fixed64, Int32, Int64, Sfixed32, Sfixed64, Sint32, Sint64, Uint32, Uint64,
-};
 pub use parts::{Known, Parts, Rest, measure, write};
 pub use presence::{Always, Implicit, Optional};
-pub use scalar::Scalar;
+pub use repeated::Repeated;
+pub use scalar::{Numeric, Scalar};
 pub use text::{Blob, Text};
+pub use types::{
+    Bool, Double, Enum, Fixed32, Fixed64, Float, Int32, Int64, Sfixed32, Sfixed64, Sint32, Sint64,
+    Uint32, Uint64,
+};
 pub use unknown::keep;

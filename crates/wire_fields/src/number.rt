@@ -17,8 +17,7 @@ use wire_codec::{
     varint_len,
 };
 
-/// A type whose values stand on the wire as numbers. `Int32` and the like name the types of the
-/// format; a field's kind is put together of these.
+/// How the values of a type stand on the wire as numbers. `Numeric` makes a scalar type of it.
 pub trait Number {
     /// What a message holds.
     type Value: Copy;

@@ -294,7 +294,7 @@ impl Number for Sfixed64 {
 }
 
 // The low 32 bits of a number.
-fn low_bits(number: u64) -> u32
+pub(crate) fn low_bits(number: u64) -> u32
     ensures { result ≡ number % 2 ^ 32 }
 {
     (number % (1 << 32)) as u32

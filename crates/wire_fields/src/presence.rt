@@ -87,7 +87,11 @@ impl<S: Scalar> Kind for Optional<S> {
         None
     }
 
-    fn len(number: u32, held: &Option<S::Held>, _cache: &mut SizeCache) -> Result<u64, EncodeError> {
+    fn len(
+        number: u32,
+        held: &Option<S::Held>,
+        _cache: &mut SizeCache,
+    ) -> Result<u64, EncodeError> {
         laws::fields_are_plain();
         match held {
             Some(value) => Ok(S::len(number, value)),

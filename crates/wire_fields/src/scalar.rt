@@ -11,9 +11,10 @@ ghost use Rattle.wire_fields.specs.Scalar.{ScalarType, scalar_record, ReadsScala
 use crate::number::{Number, get_number, number_len, put_number};
 use bytes::Buf;
 use std::alloc::Global;
+use std::marker::PhantomData;
 use wire_codec::{DecodeError, EncodeError, EncodeSink, Tag};
 
-/// A type of which each value stands in one record: every number, `Text`, `Blob`, and types of a
+/// A type of which each value stands in one record: every `Numeric`, `Text`, `Blob`, and types of a
 /// user's own.
 pub trait Scalar {
     /// What a message holds.
@@ -40,11 +41,7 @@ pub trait Scalar {
         ensures { result ≡ in_64_bits (text_size (scalar_record scalar number (view held.now))) };
 
     /// Writes the record of this value. Refused where the sink refuses a put.
-    fn put<S: EncodeSink>(
-        number: u32,
-        held: &Self::Held,
-        sink: &mut S,
-    ) -> Result<(), EncodeError>
+    fn put<S: EncodeSink>(number: u32, held: &Self::Held, sink: &mut S) -> Result<(), EncodeError>
         requires { IsFieldNumber number }
         ensures { Writes S.most (text (scalar_record scalar number (view held.now)))
             (S.bytes_of sink.old) (S.bytes_of sink.new) result };
@@ -69,7 +66,12 @@ pub trait Scalar {
         ensures { view held.new ≡ scalar.default };
 }
 
-impl<N: Number> Scalar for N {
+/// A number of the format as a scalar type: `Int32` and the like are names of these.
+pub struct Numeric<N: Number> {
+    number: PhantomData<N>,
+}
+
+impl<N: Number> Scalar for Numeric<N> {
     ghost use Rattle.wire_fields.specs.Numbers.{numeric};
 
     type Held = N::Value;

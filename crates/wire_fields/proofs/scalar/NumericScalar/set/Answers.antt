@@ -1,5 +1,5 @@
 use Rattle.std.proofs.lemmas.Result.{err_from_is_err_and}
-use Rattle.wire_fields.proofs.scalar.AnyScalar.set.Goals as goal
+use Rattle.wire_fields.proofs.scalar.NumericScalar.set.Goals as goal
 
 pub returns-in_err-x-clause-err : goal.returns-in_err-x-clause-err
 returns-in_err-x-clause-err g c =

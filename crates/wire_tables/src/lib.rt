@@ -1,0 +1,10 @@
+//! Message types as tables of their fields, as a compiler of schemas would write them.
+#![tactic(auto)]
+
+mod counter;
+mod profile;
+#[cfg(test)]
+mod tests;
+
+pub use counter::Counter;
+pub use profile::Profile;
