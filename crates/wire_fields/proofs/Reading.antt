@@ -84,7 +84,7 @@ on_err_from (Err e) f h = f e h
 
 -- ---- strings and bytes
 
-back_to_bytes : (n : ℕ) (w : WireType) (p : Payload) (b : List ℕ) (old new : List ℕ) → p ≡ bytes b
+pub back_to_bytes : (n : ℕ) (w : WireType) (p : Payload) (b : List ℕ) (old new : List ℕ) → p ≡ bytes b
     → Reads old (IsPayload n w p) new → Reads old (IsDelimited b) new
 back_to_bytes n w p b old new is h =
     let k = subst (λ q. Reads old (IsPayload n w q) new) is h in

@@ -4,6 +4,7 @@ pub mod Floats
 pub mod Measuring
 pub mod Messages
 pub mod Numbers
+pub mod Packed
 pub mod Presence
 pub mod Scalar
 pub mod Shape
