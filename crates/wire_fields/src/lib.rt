@@ -32,7 +32,7 @@ pub use form::Form;
 pub use kind::Kind;
 pub use message_field::{Each, EachEmbedded, EachGroup, Embedded, Group, Once};
 pub use number::Number;
-pub use packed::Packed;
+pub use packed::{Packed, Unpacked};
 pub use parts::{Known, Parts, Rest, measure, write};
 pub use presence::{Always, Implicit, Optional};
 pub use repeated::Repeated;

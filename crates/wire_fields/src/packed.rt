@@ -7,12 +7,14 @@ ghost use Rattle.wire_codec.specs.Records.{text, text_size};
 ghost use Rattle.wire_codec.specs.TagView.{tag_number, tag_type};
 ghost use Rattle.wire_codec.specs.Taking.{TakesRecord, IsCharged, NotTaken};
 ghost use Rattle.wire_codec.specs.Writes.{Writes};
-ghost use Rattle.wire_fields.specs.Numbers.{in_64_bits};
+ghost use Rattle.wire_fields.specs.Numbers.{numeric, in_64_bits};
 ghost use Rattle.wire_fields.specs.Packed.{packed_text, packed_records, adds_numbers};
+ghost use Rattle.wire_fields.specs.Presence.{each_record};
 
 use crate::kind::Kind;
 use crate::number::{Number, get_number};
 use crate::number_list::{extend_from, number_text_len, put_number_text};
+use crate::repeated::{each_len, put_each};
 use crate::scalar::{Numeric, Scalar};
 use crate::text::delimited_len;
 use bytes::Buf;
@@ -74,6 +76,60 @@ impl<N: Number> Kind for Packed<Numeric<N>> {
     }
 }
 
+/// Numbers, each in a record of its own, as a repeated field of proto2. A packed payload is read too.
+pub struct Unpacked<S: Scalar> {
+    scalar: PhantomData<S>,
+}
+
+impl<N: Number> Kind for Unpacked<Numeric<N>> {
+    ghost use Rattle.std.specs.Prelude.{List};
+    ghost use Rattle.wire_fields.specs.Packed.{unpacked_kind};
+
+    type Held = Vec<N::Value>;
+
+    ghost Value = { List N.Value };
+
+    ghost view = { λ v. v.items };
+
+    ghost kind = { unpacked_kind N.form N.map };
+
+    fn empty(alloc: Global) -> Vec<N::Value> {
+        Vec::new(alloc)
+    }
+
+    fn len(number: u32, held: &Vec<N::Value>, _cache: &mut SizeCache) -> Result<u64, EncodeError> {
+        laws::fields_are_plain();
+        laws::joined_records_add_up();
+        Ok(unpacked_len::<N>(number, held))
+    }
+
+    fn put<E: EncodeSink>(
+        number: u32,
+        held: &Vec<N::Value>,
+        _cache: &mut SizeCache,
+        sink: &mut E,
+    ) -> Result<(), EncodeError> {
+        laws::fields_are_plain();
+        laws::joined_records_add_up();
+        laws::flat_messages_have_no_sizes();
+        put_unpacked::<N, E>(number, held, sink)
+    }
+
+    fn merge<B: Buf>(
+        alloc: Global,
+        tag: Tag,
+        held: &mut Vec<N::Value>,
+        buf: &mut B,
+        context: &mut DecodeContext,
+    ) -> Result<(), DecodeError> {
+        merge_numbers::<N, B>(alloc, tag, held, buf, context)
+    }
+
+    fn clear(held: &mut Vec<N::Value>) {
+        held.clear();
+    }
+}
+
 // How many bytes a packed field takes.
 fn packed_len<N: Number>(number: u32, values: &[N::Value]) -> u64
     requires { IsFieldNumber number }
@@ -118,6 +174,28 @@ fn put_packed<N: Number, E: EncodeSink>(
         put_number_text(form, N::number_of(*value), sink)?;
     }
     Ok(())
+}
+
+// How many bytes the records of the numbers take.
+fn unpacked_len<N: Number>(number: u32, values: &[N::Value]) -> u64
+    requires { IsFieldNumber number }
+    ensures { result ≡ in_64_bits
+        (text_size (each_record (numeric N.form N.map) number values.now)) }
+{
+    each_len::<Numeric<N>>(number, values)
+}
+
+// Writes a record for each number.
+fn put_unpacked<N: Number, E: EncodeSink>(
+    number: u32,
+    values: &[N::Value],
+    sink: &mut E,
+) -> Result<(), EncodeError>
+    requires { IsFieldNumber number }
+    ensures { Writes E.most (text (each_record (numeric N.form N.map) number values.now))
+        (E.bytes_of sink.old) (E.bytes_of sink.new) result }
+{
+    put_each::<Numeric<N>, E>(number, values, sink)
 }
 
 // Takes a record of one number, or of a packed payload.
