@@ -1,2 +1,4 @@
 pub mod Counter
+pub mod CounterBack
 pub mod Profile
+pub mod ProfileBack

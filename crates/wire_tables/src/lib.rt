@@ -2,6 +2,7 @@
 #![tactic(auto)]
 
 mod counter;
+pub mod laws;
 mod profile;
 #[cfg(test)]
 mod tests;
