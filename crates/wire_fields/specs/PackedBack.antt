@@ -1,11 +1,12 @@
 -- Repeated numbers, packed, are read back.
-use Rattle.std.proofs.Common.{◌≡◌, inr, ℕ, ◌^◌, ◌<◌, ◌≤◌, refl, sym, List, [], ◌∷◌, ◌++◌, length, ap, ◌∙◌, subst, arith, length-append}
+use Rattle.std.proofs.Common.{◌≡◌, inl, inr, ℕ, ◌^◌, ◌<◌, ◌≤◌, refl, sym, List, [], ◌∷◌, ◌++◌, length, ap, ◌∙◌, subst, arith, length-append}
 use Rattle.std.proofs.lemmas.List.{append-nil}
 use Rattle.std.proofs.lemmas.Nat.{from_le_bytes-to_le_bytes_4, from_le_bytes-to_le_bytes_8}
 use Rattle.std.specs.Prelude.{map}
 use Rattle.wire_codec.specs.Field as grammar
 use Rattle.wire_codec.specs.FieldNumber.{IsFieldNumber}
 use Rattle.wire_codec.specs.InRange.{IsPayloadFitting}
+use Rattle.wire_codec.specs.Laws.{FieldsArePlain}
 use Rattle.wire_codec.specs.Limits.{no_charge}
 use Rattle.wire_codec.specs.LimitsLaws.{ChargesAddUp}
 use Rattle.wire_codec.specs.Packed.{SpellsEach}
@@ -17,9 +18,10 @@ use Rattle.wire_codec.specs.VarintLaws.{ShortestReadsBack}
 use Rattle.wire_fields.specs.declared.form.Form.{Form}
 use Rattle.wire_fields.specs.declared.form.Form.TheVariants.{Varint, Fixed64, Fixed32}
 use Rattle.wire_fields.specs.Back.{AllAre, FoldsBack, KindBack}
-use Rattle.wire_fields.specs.Numbers.{number_payload}
+use Rattle.wire_fields.specs.Numbers.{number_payload, numeric}
 use Rattle.wire_fields.specs.Packed.{IsNumberText, number_text, packed_text, packed_records}
-use Rattle.wire_fields.specs.Packed.{packed_kind, adds_numbers}
+use Rattle.wire_fields.specs.Packed.{packed_kind, unpacked_kind, adds_numbers}
+use Rattle.wire_fields.specs.ScalarBack.{AllHold, number_back, each_folds, each_has}
 
 one_spelling : ShortestReadsBack → (v : ℕ) → v < 2 ^ 64 → IsSpelling v (shortest_varint v)
 one_spelling shortest v fits =
@@ -33,11 +35,6 @@ is_text : ShortestReadsBack → (form : Form) (x : ℕ) → IsPayloadFitting (nu
 is_text shortest Varint x fits = one_spelling shortest x fits
 is_text shortest Fixed64 x fits = (refl, from_le_bytes-to_le_bytes_8 x fits)
 is_text shortest Fixed32 x fits = (refl, from_le_bytes-to_le_bytes_4 x fits)
-
--- this holds of each
-abbrev pub AllHold : {T : Type 0} → (T → Type 0) → List T → Type 0
-AllHold Holds [] = Unit {0}
-AllHold Holds (v ∷ vs) = Holds v × AllHold Holds vs
 
 -- numbers in range, of which the texts are no longer than a length of 64 bits says
 pub record AreNumbers {T : Type 0} (form : Form) (values : ValueMap T) (InRange : T → Type 0)
@@ -103,3 +100,18 @@ module _ {T : Type 0} (shortest : ShortestReadsBack) (charges : ChargesAddUp) (f
     back = packed_folds;
     has = λ n vs h. packed_has n vs;
   }
+
+  pub unpacked_back : FieldsArePlain
+      → KindBack (unpacked_kind form values) (AllHold InRange) (λ vs. no_charge)
+  unpacked_back same =
+      let t = numeric form values in
+      let scalar = number_back form values InRange back fits in
+      record {
+        back = λ n is vs holds. each_folds same t InRange scalar (adds_numbers form values)
+            (λ xs. no_charge) no_charge n is refl (λ v xs. sym (charges.nothing_first no_charge))
+            (λ before v k. (
+              refl,
+              inl (record { value = v; sets = scalar.sets v k; is = refl }),
+            )) [] vs holds;
+        has = λ n vs holds. each_has same t InRange scalar n vs;
+      }

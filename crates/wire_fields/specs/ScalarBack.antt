@@ -4,7 +4,7 @@ use Rattle.std.proofs.lemmas.Bool.{eqb-true}
 use Rattle.std.proofs.lemmas.List.{append-nil}
 use Rattle.std.specs.Int.{w32, w64}
 use Rattle.std.specs.Prelude.{ℤ, pos, negsuc, FitsSigned, Option, Some, None, IsUtf8, ◌==◌}
-use Rattle.wire_codec.specs.Field.{Payload, Fields, none, field}
+use Rattle.wire_codec.specs.Field.{Payload, Fields, none, field, joined}
 use Rattle.wire_codec.specs.FieldNumber.{IsFieldNumber}
 use Rattle.wire_codec.specs.Folds.{Step, Folds}
 use Rattle.wire_codec.specs.InRange.{AreFitting, AreNumbered, IsPayloadFitting, IsPayloadNumbered}
@@ -17,9 +17,10 @@ use Rattle.wire_codec.specs.ScalarLaws.{ReadsBack}
 use Rattle.wire_codec.specs.ValueMap.{ValueMap, wrapped, zigzag}
 use Rattle.wire_fields.specs.declared.form.Form.{Form}
 use Rattle.wire_fields.specs.declared.form.Form.TheVariants.{Varint, Fixed64, Fixed32}
-use Rattle.wire_fields.specs.Back.{AllAre, FoldsBack, KindBack}
+use Rattle.wire_fields.specs.Back.{AllAre, FoldsBack, KindBack, plain_joined}
 use Rattle.wire_fields.specs.Numbers.{number_payload, numeric}
-use Rattle.wire_fields.specs.Presence.{implicit, optional, always, unless, sets, sets_some}
+use Rattle.wire_fields.specs.Presence.{implicit, optional, always, repeated, unless, sets, sets_some}
+use Rattle.wire_fields.specs.Presence.{adds, each_record}
 use Rattle.wire_fields.specs.Scalar.{ScalarType, scalar_record}
 use Rattle.wire_fields.specs.Texts.{delimited}
 
@@ -146,3 +147,61 @@ module _ {V : Type 0} (same : FieldsArePlain) (charges : ChargesAddUp) (t : Scal
 
   pub optional_back : KindBack (optional t).kind (IfThere Holds) (λ o. no_charge)
   optional_back = record { back = option_back; has = λ n o holds. option_has n o }
+
+-- ---- many values
+
+-- this holds of each
+abbrev pub AllHold : {V : Type 0} → (V → Type 0) → List V → Type 0
+AllHold Holds [] = Unit {0}
+AllHold Holds (v ∷ vs) = Holds v × AllHold Holds vs
+
+-- so many bytes for each
+abbrev pub places : {V : Type 0} → ℕ → List V → Charge
+places place [] = no_charge
+places place (v ∷ vs) = both (element_of place) (places place vs)
+
+module _ {V : Type 0} (same : FieldsArePlain) (t : ScalarType V) (Holds : V → Type 0)
+    (h : ScalarBack t Holds) where
+  -- a record for each value, where a step takes each for this charge
+  pub each_folds : (takes : Step (List V)) (charge_of : List V → Charge) (one : Charge) (n : ℕ)
+      → IsFieldNumber n → charge_of [] ≡ no_charge
+      → ((v : V) (vs : List V) → charge_of (v ∷ vs) ≡ both one (charge_of vs))
+      → ((before : List V) (v : V) → Holds v → takes before n (t.payload v) one (before ++ v ∷ []))
+      → (before vs : List V) → AllHold Holds vs
+      → FoldsBack takes before (plain (each_record t n vs)) (charge_of vs) (before ++ vs)
+  each_folds takes charge_of one n is nothing more step before [] holds =
+      record { fitting = tt; numbered = tt; folded = (nothing, append-nil before) }
+  each_folds takes charge_of one n is nothing more step before (v ∷ vs) holds =
+      let rest = each_folds takes charge_of one n is nothing more step (before ++ v ∷ []) vs holds.1
+      in
+      subst (λ fs. FoldsBack takes before fs (charge_of (v ∷ vs)) (before ++ v ∷ vs))
+      (sym (plain_joined (scalar_record t n v) (each_record t n vs)
+      ∙ ap (λ fs. joined fs (plain (each_record t n vs))) (same.plain (field n (t.payload v) none))))
+      (record {
+        fitting = (h.fitting v holds.0, rest.fitting);
+        numbered = (is, h.numbered v holds.0, rest.numbered);
+        folded = (
+          before ++ v ∷ [],
+          one,
+          charge_of vs,
+          step before v holds.0,
+          subst (λ z. Folds takes (before ++ v ∷ []) (plain (each_record t n vs)) (charge_of vs) z)
+              (append_assoc before (v ∷ []) vs) rest.folded,
+          more v vs,
+        );
+      })
+
+  pub each_has : (n : ℕ) (vs : List V) → AllAre (λ j. j ≡ n) (plain (each_record t n vs))
+  each_has n [] = tt
+  each_has n (v ∷ vs) =
+      subst (AllAre (λ j. j ≡ n)) (sym (plain_joined (scalar_record t n v) (each_record t n vs)
+      ∙ ap (λ fs. joined fs (plain (each_record t n vs))) (same.plain (field n (t.payload v) none))))
+      (refl, each_has n vs)
+
+  pub repeated_back : (place : ℕ)
+      → KindBack (repeated place t).kind (AllHold Holds) (places place)
+  repeated_back place = record {
+    back = λ n is vs holds. each_folds (adds place t) (places place) (element_of place) n is refl
+        (λ v vs. refl) (λ before v k. (refl, v, h.sets v k, refl)) [] vs holds;
+    has = λ n vs holds. each_has n vs;
+  }
