@@ -1,14 +1,15 @@
--- A record that a field refuses is one that its message refuses. The arms of `merge_field` cite
--- these: `arm_err` that of a known field, and `rest_err` the last one.
+-- A record that a field takes is one that its message takes, and one that a field refuses is one
+-- that its message refuses. The arms of `merge_field` cite these: `arm_err` that of a known field,
+-- and `rest_err` the last one; `arm_ok` is for an arm that the prover does not find.
 use Rattle.std.proofs.Common.{◌≡◌, ◌≢◌, ℕ, List, sym, subst, Bool, true, false, inl, inr}
 use Rattle.std.proofs.lemmas.Bool.Decides.{eqb_tells}
-use Rattle.std.specs.Prelude.{Result, Ok, Err, IfErr, ◌==◌, ◌||◌}
+use Rattle.std.specs.Prelude.{Result, Ok, Err, OnOk, IfErr, ◌==◌, ◌||◌}
 use Rattle.wire_codec.specs.DecodeError.{DecodeError}
 use Rattle.wire_codec.specs.DecodeError.TheVariants.{OutOfMemory}
 use Rattle.wire_codec.specs.Field.{Payload}
 use Rattle.wire_codec.specs.Folds.{Step}
 use Rattle.wire_codec.specs.Limits.{Limits, Charge}
-use Rattle.wire_codec.specs.Taking.{TakesRecord, NotTaken}
+use Rattle.wire_codec.specs.Taking.{TakesRecord, IsCharged, NotTaken}
 use Rattle.wire_codec.specs.WireType.{WireType}
 use Rattle.wire_fields.specs.Shape.{Owns, on, either}
 
@@ -30,6 +31,26 @@ module _ {V T : Type 0} (takes : Step V) (step : Step T) (k n : ℕ) (is : n ≡
       → IfErr r (λ e. e ≢ OutOfMemory → NotTaken (TakesRecord takes l n w m old))
   arm_err l w old (Ok x) h = tt
   arm_err l w old (Err e) h = λ other. untaken l w old (h other)
+
+-- the message becomes z where the field becomes u
+module _ {V T : Type 0} (takes : Step V) (step : Step T) (k n : ℕ) (is : n ≡ k) (m z : V) (t u : T)
+    (put : (c : Charge) (p : Payload) → step t k p c u → takes m k p c z) where
+  pub arm_ok : {R : Type 0} (l after : Limits) (w : WireType) (old new : List ℕ)
+      (r : Result R DecodeError)
+      → OnOk r (IsCharged l after (λ c. TakesRecord step l n w t old c u new))
+      → OnOk r (IsCharged l after (λ c. TakesRecord takes l n w m old c z new))
+  arm_ok l after w old new (Ok x) h = record {
+    charge = h.charge;
+    taken = record {
+      payload = h.taken.payload;
+      read = h.taken.read;
+      step = subst (λ x. takes m x h.taken.payload h.charge z) (sym is)
+          (put h.charge h.taken.payload
+          (subst (λ x. step t x h.taken.payload h.charge u) is h.taken.step));
+    };
+    left = h.left;
+  }
+  arm_ok l after w old new (Err e) h = tt
 
 -- a record that the first part does not own
 module _ {A B : Type 0} (owns : Owns) (one : Step A) (other : Step B) (n : ℕ)

@@ -3,9 +3,13 @@
 
 mod counter;
 pub mod laws;
+mod level;
 mod profile;
+mod reading;
 #[cfg(test)]
 mod tests;
 
 pub use counter::Counter;
+pub use level::Level;
 pub use profile::Profile;
+pub use reading::Reading;
