@@ -1,0 +1,9 @@
+pub mod Keeping
+pub mod Measuring
+pub mod Messages
+pub mod NumberTexts
+pub mod PackedRecords
+pub mod Putting
+pub mod Reading
+pub mod Repeating
+pub mod Scalars

@@ -1,0 +1,13 @@
+use Rattle.std.proofs.Common.{drop, map}
+use Rattle.wire_codec.specs.Records.{text}
+use Rattle.wire_codec.specs.Writes.{IsWrittenTo}
+use Rattle.wire_fields.specs.Presence.{each_record}
+use Rattle.wire_fields.proofs.repeated.put_each.Given as goal
+
+-- the values so far are written, and those that are left come next
+abbrev pub invariant-loop-value : goal.invariant-loop-value
+invariant-loop-value g l =
+    let each = each_record g.S.Scalar.scalar l.fn.number in
+    IsWrittenTo g.E.EncodeSink.most (text (each (map g.S.Scalar.view l.fn.values)))
+    (g.E.EncodeSink.bytes_of l.fn.sink) (g.E.EncodeSink.bytes_of l.sink)
+    (text (each (map g.S.Scalar.view (drop l.value-index l.values))))

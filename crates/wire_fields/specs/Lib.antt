@@ -1,0 +1,15 @@
+pub mod Arms
+pub mod Back
+pub mod Enums
+pub mod Floats
+pub mod Measuring
+pub mod MessageBack
+pub mod Messages
+pub mod Numbers
+pub mod Packed
+pub mod PackedBack
+pub mod Presence
+pub mod Scalar
+pub mod ScalarBack
+pub mod Shape
+pub mod Texts

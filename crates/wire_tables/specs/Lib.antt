@@ -1,0 +1,6 @@
+pub mod Counter
+pub mod CounterBack
+pub mod Level
+pub mod Profile
+pub mod ProfileBack
+pub mod Reading

@@ -1,0 +1,43 @@
+//! An enum.
+use wire_codec::Enumeration;
+
+/// How well a device works.
+#[derive(Clone, Copy, Debug, PartialEq, Eq, Hash)]
+pub enum Level {
+    Low = 0,
+    High = 1,
+}
+
+impl Enumeration for Level {
+    ghost use Rattle.std.specs.Prelude.{codes};
+    ghost use Rattle.wire_codec.specs.EnumNumbers.{first_numbered_keeps};
+    ghost use Rattle.wire_tables.specs.declared.level.Level.TheVariants.{Low, High};
+    ghost use Rattle.wire_tables.specs.Level.{level_number, level_of, levels};
+
+    ghost number = { level_number };
+
+    ghost of_number = { level_of };
+
+    ghost name = { elim [ Low ↦ codes "LOW" | High ↦ codes "HIGH" ] };
+
+    ghost keeps_number = { first_numbered_keeps level_number levels };
+
+    fn from_i32(value: i32) -> Option<Level> {
+        match value {
+            0 => Some(Level::Low),
+            1 => Some(Level::High),
+            _ => None,
+        }
+    }
+
+    fn to_i32(&self) -> i32 {
+        *self as i32
+    }
+
+    fn proto_name(&self) -> &'static str {
+        match self {
+            Level::Low => "LOW",
+            Level::High => "HIGH",
+        }
+    }
+}

@@ -1,0 +1,15 @@
+//! Message types as tables of their fields, as a compiler of schemas would write them.
+#![tactic(auto)]
+
+mod counter;
+pub mod laws;
+mod level;
+mod profile;
+mod reading;
+#[cfg(test)]
+mod tests;
+
+pub use counter::Counter;
+pub use level::Level;
+pub use profile::Profile;
+pub use reading::Reading;
