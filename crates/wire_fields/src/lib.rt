@@ -20,8 +20,6 @@ mod parts;
 mod presence;
 mod repeated;
 mod scalar;
-#[cfg(test)]
-mod tests;
 mod text;
 mod types;
 mod unknown;

@@ -6,8 +6,6 @@ pub mod laws;
 mod level;
 mod profile;
 mod reading;
-#[cfg(test)]
-mod tests;
 
 pub use counter::Counter;
 pub use level::Level;
