@@ -1,5 +1,5 @@
 //! What stands on the wire, and what is read of it.
-use crate::{Counter, Level, Profile, Reading};
+use crate::{Card, Contact, Counter, Level, Profile, Reading};
 use std::test::Fail;
 use wire_codec::{EnumValue, Message};
 use wire_fields::{DoubleBits, FloatBits};
@@ -87,5 +87,17 @@ fn packed_or_not(rt: HostRuntime) -> Result<(), Fail> {
     assert!(rt; Reading::decode_from_slice(rt.alloc(), &[0x2A, 1, 0x80]).is_err());
     assert!(rt; Reading::decode_from_slice(rt.alloc(), &[0x32, 1, 0]).is_err());
     assert!(rt; Reading::decode_from_slice(rt.alloc(), &[0x2D, 0, 0, 0, 0]).is_err());
+    Ok(())
+}
+
+#[test]
+fn the_last_of_a_oneof_stands(rt: HostRuntime) -> Result<(), Fail> {
+    let bytes = [0x12, 1, 0x61, 0x18, 7];
+    let card = Card::decode_from_slice(rt.alloc(), &bytes)?;
+    assert!(rt; card.contact == Some(Contact::Phone(7)));
+    let text = card.try_encode_to_vec(rt.alloc())?;
+    assert_eq!(rt; text.as_slice(), [0x18, 7].as_slice());
+    let again = Card::decode_from_slice(rt.alloc(), &[0x18, 7, 0x12, 0])?;
+    assert!(rt; again.contact == Some(Contact::Email(String::new(rt.alloc()))));
     Ok(())
 }
