@@ -1,5 +1,5 @@
 -- Unknown fields that are not kept.
-use Rattle.std.proofs.Common.{◌≡◌, ◌≢◌, inl, inr, ℕ, List, subst}
+use Rattle.std.proofs.Common.{◌≢◌, inl, inr, ℕ, List, subst}
 use Rattle.wire_codec.specs.DecodeError.{DecodeError}
 use Rattle.wire_codec.specs.DecodeError.TheVariants.{OutOfMemory}
 use Rattle.wire_codec.specs.FaultLaws.{NoPayloadBesideFault}

@@ -1,10 +1,10 @@
 -- Records of messages inside others: what they take, and why they take nothing.
-use Rattle.std.proofs.Common.{◌≡◌, ℕ, suc, ◌+◌, ◌<◌, ◌≤◌, List, [], ◌∷◌, ◌++◌, length, get_or, map, drop, add-one, drop-cons, refl, sym, ap, ◌∙◌, subst}
+use Rattle.std.proofs.Common.{◌≡◌, ℕ, suc, ◌+◌, ◌<◌, List, [], ◌∷◌, ◌++◌, length, get_or, map, drop, add-one, drop-cons, refl, sym, ap, ◌∙◌, subst}
 use Rattle.std.specs.Prelude.{Option, Some}
 use Rattle.wire_codec.specs.Delimited.{IsDelimited}
-use Rattle.wire_codec.specs.Field.{Payload, bytes, group, Fields}
-use Rattle.wire_codec.specs.Folds.{Step, Folds}
-use Rattle.wire_codec.specs.Limits.{Limits, Charge, Fits, left_after, nested, inner, both, element_of}
+use Rattle.wire_codec.specs.Field.{Payload, bytes, group}
+use Rattle.wire_codec.specs.Folds.{Step}
+use Rattle.wire_codec.specs.Limits.{Limits, Fits, left_after, nested, inner, both, element_of}
 use Rattle.wire_codec.specs.LimitsLaws.{LimitsAddUp, LevelsAddUp}
 use Rattle.wire_codec.specs.Nested.{TakesEmbedded, TakesGroup}
 use Rattle.wire_codec.specs.Read.{Reads}
@@ -14,7 +14,7 @@ use Rattle.wire_codec.specs.Spells.{IsPayload}
 use Rattle.wire_codec.specs.Taking.{TakesRecord, IsCharged, NotTaken}
 use Rattle.wire_codec.specs.WireType.{WireType}
 use Rattle.wire_codec.specs.WireType.TheVariants as types
-use Rattle.wire_fields.specs.Messages.{Encoding, HoldsText, length_prefixed, delimited, inside, or_else}
+use Rattle.wire_fields.specs.Messages.{Encoding, length_prefixed, delimited, inside, or_else}
 use Rattle.wire_fields.specs.Messages.{merges, adds_message, message_record, message_each}
 use Rattle.wire_fields.proofs.Measuring.{Splits}
 

@@ -8,7 +8,6 @@ use Rattle.wire_codec.specs.Limits.{Limits, no_charge}
 use Rattle.wire_codec.specs.LimitsLaws.{LimitsAddUp}
 use Rattle.wire_codec.specs.Packed.{Appends}
 use Rattle.wire_codec.specs.Read.{Reads}
-use Rattle.wire_codec.specs.Spells.{IsPayload}
 use Rattle.wire_codec.specs.Taking.{TakesRecord, IsCharged, NotTaken}
 use Rattle.wire_codec.specs.ValueMap.{ValueMap}
 use Rattle.wire_codec.specs.VarintLaws.{OneDelimited, NoDelimitedBesideFault}

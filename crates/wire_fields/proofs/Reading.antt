@@ -11,7 +11,7 @@ use Rattle.wire_codec.specs.Fixed.{IsFixed}
 use Rattle.wire_codec.specs.Read.{Reads}
 use Rattle.wire_codec.specs.Reading.{ReadsValue}
 use Rattle.wire_codec.specs.Spells.{IsPayload}
-use Rattle.wire_codec.specs.StringPayload.{StringFault, no_payload, not_utf8, StringRefusal}
+use Rattle.wire_codec.specs.StringPayload.{no_payload, not_utf8, StringRefusal}
 use Rattle.wire_codec.specs.ValueMap.{fixed32 as fixed32_map, fixed64 as fixed64_map}
 use Rattle.wire_codec.specs.Varint.{IsSpelling, VarintFault}
 use Rattle.wire_codec.specs.VarintLaws.{NoVarintBesideFault, OneDelimited, NoDelimitedBesideFault}
@@ -20,7 +20,7 @@ use Rattle.wire_codec.specs.WireType.TheVariants as types
 use Rattle.wire_fields.specs.declared.form.Form.{Form}
 use Rattle.wire_fields.specs.declared.form.Form.TheVariants as forms
 use Rattle.wire_fields.specs.Numbers.{number_payload, ReadsNumber, NoNumber}
-use Rattle.wire_fields.specs.Scalar.{ReadsScalar, NoScalar}
+use Rattle.wire_fields.specs.Scalar.{NoScalar}
 use Rattle.wire_fields.specs.Texts.{delimited}
 
 -- ---- numbers

@@ -2,10 +2,9 @@
 use Rattle.std.proofs.Common.{◌≡◌, ℕ, suc, ◌+◌, ◌-◌, ◌^◌, ◌<◌, ◌≤◌, min, List, [], ◌∷◌, ◌++◌, length, get_or, map, drop, add-one, drop-cons, refl, sym, ap, ◌∙◌, subst, arith, length-append}
 use Rattle.std.proofs.lemmas.List.{drop_all}
 use Rattle.std.specs.Prelude.{Result, Ok, Err, OnOk}
-use Rattle.wire_codec.specs.Folds.{Step}
 use Rattle.wire_codec.specs.Laws.{JoinedAddsUp, FieldsArePlain, FlatKeepsTheTape}
-use Rattle.wire_codec.specs.Limits.{Limits, Charge, Fits, left_after, element_of}
-use Rattle.wire_codec.specs.Records.{Records, text, text_size, none}
+use Rattle.wire_codec.specs.Limits.{Limits, Fits, left_after, element_of}
+use Rattle.wire_codec.specs.Records.{text, text_size}
 use Rattle.wire_codec.specs.Sizes.{sizes}
 use Rattle.wire_codec.specs.Taking.{TakesRecord, IsCharged, NotTaken}
 use Rattle.wire_codec.specs.Tape.{Tape, advanced}

@@ -11,6 +11,7 @@ use Rattle.wire_codec.specs.Folds.{Step}
 use Rattle.wire_codec.specs.Limits.{Limits, Charge}
 use Rattle.wire_codec.specs.Taking.{TakesRecord, IsCharged, NotTaken}
 use Rattle.wire_codec.specs.WireType.{WireType}
+use Rattle.wire_fields.specs.Oneof.{choice}
 use Rattle.wire_fields.specs.Shape.{Owns, on, either}
 
 -- a record of field number k, which the message gives to this step of the field's value t
@@ -79,3 +80,17 @@ neither false b h k = k
 
 pub unlike : (n k : ℕ) → n ≢ k → (n == k) ≡ false
 unlike n k h = elim (eqb_tells n k) [ inl e ↦ absurd (h e.1) | inr e ↦ e.0 ]
+
+-- ---- variants of a oneof
+
+-- a record that the first variants do not own, which the last one's step takes
+module _ {V T : Type 0} (owns : Owns) (one other : Step V) (step : Step T) (n : ℕ)
+    (is : (p : Payload) → owns n p ≡ false) (m : V) (t : T)
+    (back : (c : Charge) (z : V) (p : Payload) → other m n p c z → (u : T) × step t n p c u) where
+  pub last_untaken : (l : Limits) (w : WireType) (old : List ℕ)
+      → NotTaken (TakesRecord step l n w t old)
+      → NotTaken (TakesRecord (choice owns one other) l n w m old)
+  last_untaken l w old none c z new h =
+      let inside = back c z h.payload
+      (subst (λ b. on b (one m n h.payload c z) (other m n h.payload c z)) (is h.payload) h.step) in
+      none c inside.0 new (record { payload = h.payload; read = h.read; step = inside.1 })

@@ -9,7 +9,7 @@ use Rattle.wire_codec.specs.FieldNumber.{IsFieldNumber}
 use Rattle.wire_codec.specs.Folds.{Step, Folds}
 use Rattle.wire_codec.specs.InRange.{AreFitting, AreNumbered}
 use Rattle.wire_codec.specs.Laws.{FieldsArePlain}
-use Rattle.wire_codec.specs.Limits.{Charge, both, no_charge}
+use Rattle.wire_codec.specs.Limits.{Charge, both}
 use Rattle.wire_codec.specs.LimitsLaws.{ChargesAddUp}
 use Rattle.wire_codec.specs.Records as values
 use Rattle.wire_codec.specs.Records.{Records, plain, plain_payload, of_fields}

@@ -1,5 +1,4 @@
 -- Floats by their bits.
-use Rattle.std.proofs.Common.{◌≡◌}
 use Rattle.wire_codec.specs.ValueMap.{ValueMap}
 use Rattle.wire_fields.specs.declared.floats.FloatBits.{FloatBits}
 use Rattle.wire_fields.specs.declared.floats.DoubleBits.{DoubleBits}

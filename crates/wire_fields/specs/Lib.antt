@@ -6,6 +6,7 @@ pub mod Measuring
 pub mod MessageBack
 pub mod Messages
 pub mod Numbers
+pub mod Oneof
 pub mod Packed
 pub mod PackedBack
 pub mod Presence

@@ -1,10 +1,9 @@
 -- Fields of messages are read back, where their messages are.
-use Rattle.std.proofs.Common.{◌≡◌, ℕ, ◌≤◌, refl, sym, List, [], ◌∷◌, ◌++◌, length, append_assoc, ap, ◌∙◌, subst, arith}
+use Rattle.std.proofs.Common.{◌≡◌, ℕ, ◌≤◌, refl, sym, List, [], ◌∷◌, ◌++◌, append_assoc, subst, arith}
 use Rattle.std.proofs.lemmas.List.{append-nil}
 use Rattle.std.specs.Prelude.{Option, Some, None}
-use Rattle.wire_codec.specs.Field.{Fields, none, field, Payload}
 use Rattle.wire_codec.specs.FieldNumber.{IsFieldNumber}
-use Rattle.wire_codec.specs.Folds.{Step, Folds}
+use Rattle.wire_codec.specs.Folds.{Folds}
 use Rattle.wire_codec.specs.InRange.{AreFitting, AreNumbered, IsPayloadFitting, IsPayloadNumbered}
 use Rattle.wire_codec.specs.Limits.{Charge, both, nested, no_charge, element_of}
 use Rattle.wire_codec.specs.LimitsLaws.{ChargesAddUp}

@@ -90,7 +90,7 @@ folds_single takes single m u (grammar.field n p others) c d z w (mid, first, re
 
 module _ {V : Type 0} (encoding : Encoding) (takes : Step V) (reading : OneReading)
     (single : IsSingle takes) where
-  inside_single : IsSingle (inside encoding takes)
+  pub inside_single : IsSingle (inside encoding takes)
   inside_single m u z w n p c d (fs, within, has, folded, charged) (gs, other, has_2, folded_2, charged_2) =
       let same = encoding.one reading p fs gs has has_2 in
       let agree = folds_single takes single m u gs within other z w
@@ -141,6 +141,20 @@ each_kind place encoding records takes start = record {
   takes = adds_message place encoding takes start;
 }
 
+abbrev pub always_kind : {V : Type 0} → Encoding → (V → Records) → Step V → V → FieldKind V
+always_kind encoding records takes start = record {
+  default = start;
+  records = λ n v. message_record encoding n (records v);
+  takes = inside encoding takes;
+}
+
+-- a message of this shape, always written
+abbrev pub always_in : {V : Type 0} → Encoding → Shape V → Lawful V
+always_in encoding s = record {
+  kind = always_kind encoding s.records s.takes s.default;
+  single = λ reading. inside_single encoding s.takes reading (s.single reading);
+}
+
 -- a message of this shape, where there is one
 abbrev pub once_in : {V : Type 0} → Encoding → Shape V → Lawful (Option V)
 once_in encoding s = record {
@@ -161,6 +175,12 @@ embedded_once = once_in length_prefixed
 
 abbrev pub embedded_each : {V : Type 0} → ℕ → Shape V → Lawful (List V)
 embedded_each place = each_in place length_prefixed
+
+abbrev pub embedded_always : {V : Type 0} → Shape V → Lawful V
+embedded_always = always_in length_prefixed
+
+abbrev pub group_always : {V : Type 0} → Shape V → Lawful V
+group_always = always_in delimited
 
 abbrev pub group_once : {V : Type 0} → Shape V → Lawful (Option V)
 group_once = once_in delimited

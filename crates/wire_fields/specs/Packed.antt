@@ -1,16 +1,15 @@
 -- Repeated numbers: packed into one payload, or each in a record of its own. Both are read.
-use Rattle.std.proofs.Common.{◌≡◌, ◌⊎◌, inl, inr, ap, ◌∙◌, sym, arith, length-append, List, [], ◌∷◌, ◌++◌, length, subst}
-use Rattle.std.specs.Int.{Width, w32, w64, byte_len, from_le_bytes, to_le_bytes}
+use Rattle.std.proofs.Common.{◌≡◌, ◌⊎◌, inl, inr, ap, ◌∙◌, sym, arith, List, [], ◌∷◌, ◌++◌, length, subst}
+use Rattle.std.specs.Int.{Width, w32, w64, from_le_bytes, to_le_bytes}
 use Rattle.std.specs.Prelude.{ℕ, map}
 use Rattle.wire_codec.specs.Field.{Payload, bytes}
 use Rattle.wire_codec.specs.Fixed.{IsFixed}
 use Rattle.wire_codec.specs.Folds.{Step, IsSingle}
-use Rattle.wire_codec.specs.Limits.{Charge, no_charge}
+use Rattle.wire_codec.specs.Limits.{no_charge}
 use Rattle.wire_codec.specs.Packed.{SpellsEach, Appends}
 use Rattle.wire_codec.specs.Read.{Reads}
 use Rattle.wire_codec.specs.Records as records
 use Rattle.wire_codec.specs.Records.{Records, none, field}
-use Rattle.wire_codec.specs.TakingLaws.{OneReading}
 use Rattle.wire_codec.specs.ValueMap.{ValueMap}
 use Rattle.wire_codec.specs.Varint.{IsSpelling, shortest_varint}
 use Rattle.wire_codec.specs.VarintLaws.{OneVarint}

@@ -2,10 +2,10 @@
 use Rattle.std.proofs.Common.{◌≡◌, ap, ◌∙◌, sym, List, [], ◌∷◌, ◌++◌}
 use Rattle.std.specs.Prelude.{ℕ, Bool, true, false, Option, Some, None}
 use Rattle.wire_codec.specs.Folds.{Step, IsSingle}
-use Rattle.wire_codec.specs.Limits.{Charge, no_charge, element_of}
+use Rattle.wire_codec.specs.Limits.{no_charge, element_of}
 use Rattle.wire_codec.specs.Records.{Records, none, joined_records}
 use Rattle.wire_fields.specs.Scalar.{ScalarType, scalar_record}
-use Rattle.wire_fields.specs.Shape.{FieldKind, Lawful}
+use Rattle.wire_fields.specs.Shape.{Lawful}
 
 -- ---- what is written
 

@@ -1,20 +1,19 @@
 -- Fields of scalar types are read back.
-use Rattle.std.proofs.Common.{◌≡◌, ℕ, suc, ◌+◌, ◌*◌, ◌^◌, ◌<◌, Bool, true, false, refl, sym, ap, ◌∙◌, subst, arith, List, [], ◌∷◌, ◌++◌, length, append_assoc}
+use Rattle.std.proofs.Common.{◌≡◌, ℕ, ◌^◌, ◌<◌, Bool, true, false, refl, sym, ap, ◌∙◌, subst, arith, List, [], ◌∷◌, ◌++◌, length, append_assoc}
 use Rattle.std.proofs.lemmas.Bool.{eqb-true}
 use Rattle.std.proofs.lemmas.List.{append-nil}
 use Rattle.std.specs.Int.{w32, w64}
-use Rattle.std.specs.Prelude.{ℤ, pos, negsuc, FitsSigned, Option, Some, None, IsUtf8, ◌==◌}
-use Rattle.wire_codec.specs.Field.{Payload, Fields, none, field, joined}
+use Rattle.std.specs.Prelude.{ℤ, pos, negsuc, FitsSigned, Option, Some, None, ◌==◌}
+use Rattle.wire_codec.specs.Field.{none, field, joined}
 use Rattle.wire_codec.specs.FieldNumber.{IsFieldNumber}
 use Rattle.wire_codec.specs.Folds.{Step, Folds}
-use Rattle.wire_codec.specs.InRange.{AreFitting, AreNumbered, IsPayloadFitting, IsPayloadNumbered}
+use Rattle.wire_codec.specs.InRange.{IsPayloadFitting, IsPayloadNumbered}
 use Rattle.wire_codec.specs.Laws.{FieldsArePlain}
 use Rattle.wire_codec.specs.Limits.{Charge, both, no_charge, element_of}
 use Rattle.wire_codec.specs.LimitsLaws.{ChargesAddUp}
-use Rattle.wire_codec.specs.Records as values
-use Rattle.wire_codec.specs.Records.{Records, plain}
+use Rattle.wire_codec.specs.Records.{plain}
 use Rattle.wire_codec.specs.ScalarLaws.{ReadsBack}
-use Rattle.wire_codec.specs.ValueMap.{ValueMap, wrapped, zigzag}
+use Rattle.wire_codec.specs.ValueMap.{ValueMap, wrapped}
 use Rattle.wire_fields.specs.declared.form.Form.{Form}
 use Rattle.wire_fields.specs.declared.form.Form.TheVariants.{Varint, Fixed64, Fixed32}
 use Rattle.wire_fields.specs.Back.{AllAre, FoldsBack, KindBack, plain_joined}

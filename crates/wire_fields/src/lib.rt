@@ -28,7 +28,10 @@ pub use encoding::{Delimited, LengthPrefixed, MessageEncoding};
 pub use floats::{DoubleBits, FloatBits};
 pub use form::Form;
 pub use kind::Kind;
-pub use message_field::{Each, EachEmbedded, EachGroup, Embedded, Group, Once};
+pub use message_field::{
+    AlwaysEmbedded, AlwaysGroup, AlwaysMessage, Each, EachEmbedded, EachGroup, Embedded, Group,
+    Once,
+};
 pub use number::Number;
 pub use packed::{Packed, Unpacked};
 pub use parts::{Known, Parts, Rest, measure, write};

@@ -31,6 +31,12 @@ pub type EachEmbedded<M, const PLACE: usize> = Each<M, LengthPrefixed, PLACE>;
 /// Groups, each charged for so many bytes.
 pub type EachGroup<M, const PLACE: usize> = Each<M, Delimited, PLACE>;
 
+/// An embedded message that is always written.
+pub type AlwaysEmbedded<M> = AlwaysMessage<M, LengthPrefixed>;
+
+/// A group that is always written.
+pub type AlwaysGroup<M> = AlwaysMessage<M, Delimited>;
+
 /// A message in a box, where there is one. A record more is taken into the message that is there.
 pub struct Once<M: Message, E: MessageEncoding> {
     message: PhantomData<M>,
@@ -148,6 +154,55 @@ impl<M: Message, E: MessageEncoding, const PLACE: usize> Kind for Each<M, E, PLA
     }
 
     fn clear(held: &mut Vec<M>) {
+        held.clear();
+    }
+}
+
+/// A message that is always written, as one of a oneof.
+pub struct AlwaysMessage<M: Message, E: MessageEncoding> {
+    message: PhantomData<M>,
+    encoding: PhantomData<E>,
+}
+
+impl<M: Message, E: MessageEncoding> Kind for AlwaysMessage<M, E> {
+    ghost use Rattle.wire_fields.specs.Messages.{always_kind};
+
+    type Held = M;
+
+    ghost Value = { M.Value };
+
+    ghost view = { M.view };
+
+    ghost kind = { always_kind E.encoding M.records M.takes M.default };
+
+    fn empty(alloc: Global) -> M {
+        M::default_value(alloc)
+    }
+
+    fn len(number: u32, held: &M, cache: &mut SizeCache) -> Result<u64, EncodeError> {
+        E::len::<M>(number, held, cache)
+    }
+
+    fn put<S: EncodeSink>(
+        number: u32,
+        held: &M,
+        cache: &mut SizeCache,
+        sink: &mut S,
+    ) -> Result<(), EncodeError> {
+        E::put::<M, S>(number, held, cache, sink)
+    }
+
+    fn merge<B: Buf>(
+        alloc: Global,
+        tag: Tag,
+        held: &mut M,
+        buf: &mut B,
+        context: &mut DecodeContext,
+    ) -> Result<(), DecodeError> {
+        E::merge::<M, B>(alloc, tag, held, buf, context)
+    }
+
+    fn clear(held: &mut M) {
         held.clear();
     }
 }

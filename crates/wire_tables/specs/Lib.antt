@@ -1,3 +1,5 @@
+pub mod Card
+pub mod Contact
 pub mod Counter
 pub mod CounterBack
 pub mod Level

@@ -1,4 +1,4 @@
-use Rattle.std.proofs.Common.{subst, sym}
+use Rattle.std.proofs.Common.{sym}
 use Rattle.std.proofs.lemmas.Result.{IfErr-weaker, on_ok_weaker}
 use Rattle.wire_fields.proofs.Messages.{group_taken, no_group}
 use Rattle.wire_fields.proofs.encoding.DelimitedMessageEncoding.merge.Goals as goal
