@@ -9,7 +9,7 @@ use crate::said::Said;
 use bytes::Buf;
 use wire_codec::{DecodeContext, DecodeError, DecodeOptions, Message, Tag};
 use wire_samples::{Node, Person, Repeat};
-use wire_tables::{Counter, Profile, Reading};
+use wire_tables::{Card, Counter, Profile, Reading};
 
 // A row's call is `TYPE.CALL`, and `TYPE` alone where the type is decoded.
 fn call_of<'a>(row: &Row<'a>) -> (&'a str, &'a str) {
@@ -22,6 +22,7 @@ pub fn read<B: Buf>(row: &Row<'_>, buf: &mut B, said: &mut Said) -> bool {
         "Person" => read_as::<Person, B>(row, call, buf, said),
         "Node" => read_as::<Node, B>(row, call, buf, said),
         "Repeat" => read_as::<Repeat, B>(row, call, buf, said),
+        "Card" => read_as::<Card, B>(row, call, buf, said),
         "Counter" => read_as::<Counter, B>(row, call, buf, said),
         "Profile" => read_as::<Profile, B>(row, call, buf, said),
         "Reading" => read_as::<Reading, B>(row, call, buf, said),
@@ -35,6 +36,7 @@ pub fn tell(row: &Row<'_>, said: &mut Said) -> bool {
         "Person" => tell_as::<Person>(row, call, said),
         "Node" => tell_as::<Node>(row, call, said),
         "Repeat" => tell_as::<Repeat>(row, call, said),
+        "Card" => tell_as::<Card>(row, call, said),
         "Counter" => tell_as::<Counter>(row, call, said),
         "Profile" => tell_as::<Profile>(row, call, said),
         "Reading" => tell_as::<Reading>(row, call, said),

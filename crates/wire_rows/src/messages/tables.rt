@@ -1,7 +1,7 @@
 //! The messages that are tables of fields, and how each is shown.
 use super::sample::Sample;
 use crate::said::{Hex, Said};
-use wire_tables::{Counter, Profile, Reading};
+use wire_tables::{Card, Counter, Profile, Reading};
 
 impl Sample for Counter {
     fn say(&self, said: &mut Said) {
@@ -48,6 +48,14 @@ impl Sample for Reading {
         said.also(" ", &self.reset.is_some());
         say_counts(&self.resets, said);
         said.also(", ", &self.offset);
+        said.also(" ", &self.unknown.len());
+    }
+}
+
+impl Sample for Card {
+    fn say(&self, said: &mut Said) {
+        said.show(&self.name);
+        said.also(" ", &self.contact);
         said.also(" ", &self.unknown.len());
     }
 }
