@@ -151,7 +151,7 @@ impl EncodeSink for Vec<u8> {
             self.push(value as u8)?;
             return Ok(());
         }
-        if self.capacity() - self.len() < MOST_DIGITS {
+        if self.len() + MOST_DIGITS > self.capacity() {
             push_varint(value, self)?;
             return Ok(());
         }
@@ -170,7 +170,7 @@ impl EncodeSink for Vec<u8> {
 
     #[inline(always)]
     fn put_delimited(&mut self, first: u64, bytes: &[u8]) -> Result<(), EncodeError> {
-        if first < 0x80 && bytes.len() < 0x80 && self.capacity() - self.len() >= 2 {
+        if first < 0x80 && bytes.len() < 0x80 && self.len() + 2 <= self.capacity() {
             push_pair(first as u8, bytes.len() as u8, self);
             push_bytes(bytes, self)?;
             return Ok(());
@@ -208,7 +208,7 @@ fn push_two(first: u64, second: u64, bytes: &mut Vec<u8>) -> Result<(), AllocErr
     ensures err { OnErr result (KeepsFront bytes.old.items
         (shortest_varint first ++ shortest_varint second) bytes.new.items) }
 {
-    if bytes.capacity() - bytes.len() < 2 * MOST_DIGITS {
+    if bytes.len() + 2 * MOST_DIGITS > bytes.capacity() {
         laws::two_parts();
         push_varint(first, bytes)?;
         return push_varint(second, bytes);

@@ -20,8 +20,8 @@ use wire_codec::{
 // How many bytes the two tags of a group take.
 const GROUP_TAGS_LEN: u64 = 2;
 
-/// Records the sizes of the embedded messages, and answers the size of the encoding. What is refused
-/// is memory alone, so that the answers fit registers.
+/// Records the sizes of the embedded messages, and answers the size of the encoding. Memory alone is
+/// refused, so that the answer fits registers.
 #[cycle(size)]
 pub(super) fn node_size(node: &Node, cache: &mut SizeCache) -> Result<u32, AllocError>
     ensures size { IfOk result (λ answer. answer
