@@ -1,5 +1,5 @@
 -- What is written of a `Counter` is read back.
-use Rattle.std.proofs.Common.{◌≡◌, ℕ, false, rules}
+use Rattle.std.proofs.Common.{◌≡◌, ℕ, false}
 use Rattle.std.specs.Prelude.{◌<◌, ◌^◌, ◌⊎◌}
 use Rattle.wire_codec.specs.Charge.{charge}
 use Rattle.wire_codec.specs.Field.{Payload}

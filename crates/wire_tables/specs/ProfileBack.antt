@@ -1,7 +1,7 @@
 -- What is written of a `Profile` is read back.
 use Rattle.std.proofs.Common.{◌≡◌, inl, inr, ℕ, false, refl, arith}
 use Rattle.std.specs.Int.{w32}
-use Rattle.std.specs.Prelude.{◌<◌, ◌≤◌, ◌^◌, ◌⊎◌, FitsSigned, IsUtf8}
+use Rattle.std.specs.Prelude.{◌<◌, ◌≤◌, ◌^◌, FitsSigned, IsUtf8}
 use Rattle.wire_codec.specs.Charge.{charge}
 use Rattle.wire_codec.specs.Field.{Payload}
 use Rattle.wire_codec.specs.FieldNumber.{IsFieldNumber}
@@ -13,7 +13,7 @@ use Rattle.wire_codec.specs.Records.{plain}
 use Rattle.wire_codec.specs.ScalarLaws.{ReadsBack}
 use Rattle.wire_codec.specs.ValueMap.{int32, uint64, fixed32}
 use Rattle.wire_fields.specs.declared.form.Form.TheVariants.{Varint, Fixed32}
-use Rattle.wire_fields.specs.Back.{AreOthers, FoldsBack, Back, two_back, known_back, unknown_back}
+use Rattle.wire_fields.specs.Back.{AreOthers, FoldsBack, two_back, known_back, unknown_back}
 use Rattle.wire_fields.specs.MessageBack.{IsSmall, AllAreSmall, once_charge, each_charge}
 use Rattle.wire_fields.specs.MessageBack.{prefixed_back, once_back, each_back}
 use Rattle.wire_fields.specs.Messages.{length_prefixed, embedded_once, embedded_each}
@@ -21,10 +21,9 @@ use Rattle.wire_fields.specs.Numbers.{numeric}
 use Rattle.wire_fields.specs.Presence.{implicit, optional}
 use Rattle.wire_fields.specs.ScalarBack.{IfThere, Lengthy, number_back, bytes_back, narrow_fits}
 use Rattle.wire_fields.specs.ScalarBack.{implicit_back, optional_back}
-use Rattle.wire_fields.specs.Shape.{unknown}
 use Rattle.wire_fields.specs.Texts.{string, any_bytes}
-use Rattle.wire_tables.specs.Counter.{CounterValue, counter}
-use Rattle.wire_tables.specs.CounterBack.{IsCounter, counter_charge, counter_back, IsCounterOther}
+use Rattle.wire_tables.specs.Counter.{counter}
+use Rattle.wire_tables.specs.CounterBack.{IsCounter, counter_charge, counter_back}
 use Rattle.wire_tables.specs.Profile.{ProfileValue, profile_known, profile}
 
 -- the numbers that are no field's
