@@ -1,11 +1,9 @@
 -- Elements of a packed payload, appended one after another.
-use Rattle.std.proofs.Common.{◌≡◌, ℕ, ◌+◌, ◌*◌, ◌%◌, ◌<◌, ◌≤◌, List, [], ◌∷◌, ◌++◌, length, refl, sym, ap, ◌∙◌, append_assoc, arith}
+use Rattle.std.proofs.Common.{◌≡◌, ℕ, ◌+◌, ◌*◌, ◌%◌, List, [], ◌∷◌, ◌++◌, length, refl, sym, ap, ◌∙◌, append_assoc, arith}
 use Rattle.std.proofs.Math.Nat.{mul-add-mod_self_left}
 use Rattle.std.proofs.lemmas.List.{append-nil, length-append}
 use Rattle.std.specs.Int.{Width, byte_len}
 use Rattle.std.specs.Prelude.{map}
-use Rattle.wire_base.specs.Read.{Reads}
-use Rattle.wire_base.specs.Varint.{IsSpelling}
 use Rattle.wire_scalar.specs.Packed.{SpellsEach, Appends}
 use Rattle.wire_base.specs.Fixed.{IsFixed}
 use Rattle.wire_scalar.specs.Reading.{ReadsValue}

@@ -1,4 +1,4 @@
-use Rattle.std.proofs.Common.{◌≡◌, ◌^◌, ◌<◌, None}
+use Rattle.std.proofs.Common.{◌^◌, ◌<◌, None}
 use Rattle.wire_base.proofs.Sinks.{Written}
 use Rattle.wire_base.specs.Varint.{shortest_varint}
 use Rattle.wire_base.proofs.encode_sink.push_varint.Given as goal

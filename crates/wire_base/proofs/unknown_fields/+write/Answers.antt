@@ -1,8 +1,7 @@
-use Rattle.std.proofs.Common.{◌≡◌, ℕ, ◌++◌, length, refl, sym, ◌∙◌, ap}
+use Rattle.std.proofs.Common.{refl}
 use Rattle.std.proofs.lemmas.Result.{err_from_is_err_and, on_err_weaker}
-use Rattle.wire_base.specs.declared.tag.WireType.TheVariants.{Varint, LengthDelimited, StartGroup, EndGroup}
+use Rattle.wire_base.specs.declared.tag.WireType.TheVariants.{StartGroup, EndGroup}
 use Rattle.wire_base.specs.Tag.{tag_text}
-use Rattle.wire_base.specs.Varint.{shortest_varint}
 use Rattle.wire_base.proofs.Sinks.{KeepsFront-longer, KeepsFront-behind, Written-breaks}
 use Rattle.wire_base.proofs.UnknownFieldsLemmas.{text_of-at}
 use Rattle.wire_base.proofs.unknown_fields.+write.Goals as goal
