@@ -139,7 +139,11 @@ pub trait Message: Clone + PartialEq + Drop {
 
     /// Writes the encoding as `encode` does, or answers `MessageTooLarge`, before anything is
     /// written, where it has more than 2,147,483,647 bytes and memory lasts to measure it.
-    final fn try_encode<S: EncodeSink>(&self, alloc: Global, sink: &mut S) -> Result<(), EncodeError>
+    final fn try_encode<S: EncodeSink>(
+        &self,
+        alloc: Global,
+        sink: &mut S,
+    ) -> Result<(), EncodeError>
         ensures { TriesToWrite (text_size (records (view self.now))) S.most
             (text (records (view self.now))) (S.bytes_of sink.old)
             (S.bytes_of sink.new) result }
@@ -430,7 +434,10 @@ pub trait Message: Clone + PartialEq + Drop {
 
     /// The value of a length-delimited payload of at most 2,147,483,647 bytes, within the limits of
     /// `decode`. Refused as `merge_delimited`.
-    final fn decode_length_delimited<B: Buf>(alloc: Global, buf: &mut B) -> Result<Self, DecodeError>
+    final fn decode_length_delimited<B: Buf>(
+        alloc: Global,
+        buf: &mut B,
+    ) -> Result<Self, DecodeError>
         ensures ok { IfOk result (λ message. (c : Charge) × TakesDelimited takes
             (with_elements (counted 100 1000000) 33554432) 2147483647 default
             (B.unread buf.old) c (view message) (B.unread buf.new)) }
