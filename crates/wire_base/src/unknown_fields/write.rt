@@ -1,7 +1,7 @@
 //! Unknown fields as bytes.
 ghost use Rattle.std.specs.Prelude.{◌≡◌, ◌++◌, OnOk, OnErr};
 ghost use Rattle.wire_base.specs.Sink.{KeepsFront, WriteAnswers};
-ghost use Rattle.wire_base.specs.Field.{type_of};
+ghost use Rattle.wire_base.specs.Field.{group, type_of};
 ghost use Rattle.wire_base.specs.Shortest.{WritesShortest};
 ghost use Rattle.wire_base.specs.Text.{text_of, record_text};
 ghost use Rattle.wire_base.specs.UnknownFields.{one_record, payload_of};
@@ -43,6 +43,23 @@ impl UnknownFields {
         }
         Ok(())
     }
+
+    // Writes the records as a group. What the inner call answers has its place here, so that the
+    // records of other kinds do not clear it.
+    #[cycle(write)]
+    #[inline(always)]
+    fn write_group<S: EncodeSink>(&self, number: u32, sink: &mut S) -> Result<(), EncodeError>
+        ensures ok { OnOk result (S.bytes_of sink.new
+            ≡ S.bytes_of sink.old ++ record_text number (group self.now)) }
+        ensures err { OnErr result (KeepsFront (S.bytes_of sink.old)
+            (record_text number (group self.now)) (S.bytes_of sink.new)) }
+        ensures cause { WriteAnswers S.most (S.bytes_of sink.old)
+            (record_text number (group self.now)) result }
+    {
+        put_tag(number, WireType::StartGroup, sink)?;
+        self.write_fields(sink)?;
+        put_tag(number, WireType::EndGroup, sink)
+    }
 }
 
 impl UnknownField {
@@ -82,11 +99,7 @@ impl UnknownField {
             UnknownFieldData::LengthDelimited(bytes) => {
                 sink.put_delimited(tag_as_number(number, WireType::LengthDelimited), bytes)
             }
-            UnknownFieldData::Group(fields) => {
-                put_tag(number, WireType::StartGroup, sink)?;
-                fields.write_fields(sink)?;
-                put_tag(number, WireType::EndGroup, sink)
-            }
+            UnknownFieldData::Group(fields) => fields.write_group(number, sink),
         }
     }
 }

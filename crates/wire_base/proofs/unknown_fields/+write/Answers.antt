@@ -6,30 +6,27 @@ use Rattle.wire_base.proofs.Sinks.{KeepsFront-longer, KeepsFront-behind, Written
 use Rattle.wire_base.proofs.UnknownFieldsLemmas.{text_of-at}
 use Rattle.wire_base.proofs.unknown_fields.+write.Goals as goal
 
-pub UnknownField::write_record-returns-in_err-put_tag-in-Group-clause-err : goal.UnknownField::write_record-returns-in_err-put_tag-in-Group-clause-err
-UnknownField::write_record-returns-in_err-put_tag-in-Group-clause-err g t c =
+pub UnknownFields::write_group-returns-in_err-put_tag-clause-err : goal.UnknownFields::write_group-returns-in_err-put_tag-clause-err
+UnknownFields::write_group-returns-in_err-put_tag-clause-err g t c =
     let p = err_from_is_err_and c.from_residual.result c.from_residual.ensures.1 in
-    rw (p.1, c.in-Group.is)
-    (KeepsFront-longer _ _ _ _ _ refl (c.in_err-put_tag-in-Group).ensures.err)
+    rw p.1 (KeepsFront-longer _ _ _ _ _ refl c.in_err-put_tag.ensures.err)
 
-pub UnknownField::write_record-returns-in_err-write_fields-in-Group-clause-err : goal.UnknownField::write_record-returns-in_err-write_fields-in-Group-clause-err
-UnknownField::write_record-returns-in_err-write_fields-in-Group-clause-err g t c =
-    let r = c.from_residual-in_err-write_fields-in-Group in
+pub UnknownFields::write_group-returns-in_err-write_fields-clause-err : goal.UnknownFields::write_group-returns-in_err-write_fields-clause-err
+UnknownFields::write_group-returns-in_err-write_fields-clause-err g t c =
+    let r = c.from_residual-in_err-write_fields in
     let p = err_from_is_err_and r.result r.ensures.1 in
-    rw (p.1, c.in-Group.is)
-    (KeepsFront-behind _ _ _ _ (tag_text c.args.self.now.number StartGroup) _ refl
-    (c.in_ok-put_tag-in-Group).ensures.ok
-    (KeepsFront-longer _ _ _ _ (tag_text c.args.self.now.number EndGroup) refl
-    (c.in_err-write_fields-in-Group).ensures.err))
+    rw p.1 (KeepsFront-behind _ _ _ _ (tag_text c.args.number StartGroup) _ refl
+    c.in_ok-put_tag.ensures.ok
+    (KeepsFront-longer _ _ _ _ (tag_text c.args.number EndGroup) refl
+    c.in_err-write_fields.ensures.err))
 
-pub UnknownField::write_record-returns-in_ok-write_fields-in-Group-clause-err : goal.UnknownField::write_record-returns-in_ok-write_fields-in-Group-clause-err
-UnknownField::write_record-returns-in_ok-write_fields-in-Group-clause-err g t c =
-    let n = c.args.self.now.number in
-    rw c.in-Group.is (on_err_weaker c.put_tag-in-Group.result
-    (λ k. KeepsFront-behind _ _ _ _ (tag_text n StartGroup) _ refl
-    (c.in_ok-put_tag-in-Group).ensures.ok
+pub UnknownFields::write_group-returns-clause-err : goal.UnknownFields::write_group-returns-clause-err
+UnknownFields::write_group-returns-clause-err g t c =
+    let n = c.args.number in
+    on_err_weaker c.put_tag-2.result
+    (λ k. KeepsFront-behind _ _ _ _ (tag_text n StartGroup) _ refl c.in_ok-put_tag.ensures.ok
     (KeepsFront-behind _ _ _ _ _ (tag_text n EndGroup) refl
-    (c.in_ok-write_fields-in-Group).ensures.ok k)) c.put_tag-in-Group.ensures.err)
+    c.in_ok-write_fields.ensures.ok k)) c.put_tag-2.ensures.err
 
 pub UnknownFields::write_fields-returns-in_err-write_record-clause-err : goal.UnknownFields::write_fields-returns-in_err-write_record-clause-err
 UnknownFields::write_fields-returns-in_err-write_record-clause-err g t c =
