@@ -170,7 +170,7 @@ impl EncodeSink for Vec<u8> {
 
     #[inline(always)]
     fn put_delimited(&mut self, first: u64, bytes: &[u8]) -> Result<(), EncodeError> {
-        if first < 0x80 && self.len() + 2 <= self.capacity() && bytes.len() < 0x80 {
+        if first < 0x80 && bytes.len() < 0x80 && self.len() + 2 <= self.capacity() {
             push_pair(first as u8, bytes.len() as u8, self);
             push_bytes(bytes, self)?;
             return Ok(());

@@ -17,8 +17,8 @@ returns-in_err-push_bytes-clause-err c =
           ∙ append_assoc c.args.self.now.items first len;
     })
 
-pub returns-then-bytes-lt128-clause-ok : goal.returns-then-bytes-lt128-clause-ok
-returns-then-bytes-lt128-clause-ok c =
+pub returns-then-len-capacity-clause-ok : goal.returns-then-len-capacity-clause-ok
+returns-then-len-capacity-clause-ok c =
     let old = c.args.self.now.items in
     let bytes = c.args.bytes.now in
     let first = shortest_varint c.args.first in
