@@ -1,0 +1,4 @@
+pub mod Budgets
+pub mod Moving
+pub mod Payloads
+pub mod Stack
