@@ -1,4 +1,9 @@
 pub mod Budgets
+pub mod Fronts
 pub mod Moving
+pub mod Opened
 pub mod Payloads
+pub mod Places
+pub mod Rebuilding
 pub mod Stack
+pub mod Walks
