@@ -1,4 +1,5 @@
 pub mod Budgets
+pub mod FieldBytes
 pub mod Fronts
 pub mod Moving
 pub mod Opened

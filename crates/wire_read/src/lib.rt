@@ -6,6 +6,8 @@ mod event;
 pub mod laws;
 mod payload;
 mod reader;
+mod sums;
 
 pub use event::{Event, Fault, Part, Value};
 pub use reader::{MAX_OPEN_GROUPS, Reader};
+pub use sums::payload_bytes;
