@@ -2,6 +2,7 @@ pub mod Budgets
 pub mod FieldBytes
 pub mod Fronts
 pub mod Moving
+pub mod OnePart
 pub mod Opened
 pub mod Payloads
 pub mod Places

@@ -53,6 +53,14 @@ OneLongestFront = (l : Limits) (all : List ℕ) (levels outer : List Group) (fs 
     (rest other : List ℕ) → LongestFront l levels fs all rest → LongestFront l outer gs all other
     → (levels ≡ outer) × (fs ≡ gs) × (rest ≡ other)
 
+-- one part is at fault, from one byte, with one error
+abbrev pub OnePartFault : Type 0
+OnePartFault = (l : Limits) (levels : List ℕ) (rest : List ℕ) (part other : Part)
+    (place end : List ℕ) (e f : DecodeError)
+    → PartFault l (ending_of levels) rest part place e
+    → PartFault l (ending_of levels) rest other end f
+    → (part ≡ other) × (place ≡ end) × (e ≡ f)
+
 -- records put together again from their items
 abbrev pub ItemsTellRecords : Type 0
 ItemsTellRecords = (levels : List Group) (fs : Fields)

@@ -1,5 +1,5 @@
 //! Laws of the places of a reader: each function is a theorem, and does nothing.
-ghost use Rattle.wire_read.specs.Laws.{ReaderBegins, ReaderGoesOn, ReaderIsDone, ReaderIsStuck, FaultIsBehindLongest, OneLongestFront, ItemsTellRecords};
+ghost use Rattle.wire_read.specs.Laws.{ReaderBegins, ReaderGoesOn, ReaderIsDone, ReaderIsStuck, FaultIsBehindLongest, OneLongestFront, OnePartFault, ItemsTellRecords};
 
 use wire_base::laws;
 
@@ -53,6 +53,18 @@ pub fn one_longest_front()
     laws::one_payload();
     laws::limits_add_up();
     laws::levels_add_up();
+}
+
+/// Where a fault stands, one part is at fault, from one byte, with one error.
+pub fn one_part_fault()
+    ensures { OnePartFault }
+{
+    laws::one_tag();
+    laws::no_tag_beside_fault();
+    laws::one_tag_fault();
+    laws::one_varint();
+    laws::no_varint_beside_fault();
+    laws::one_varint_fault();
 }
 
 /// Records that are pushed item by item, a group when it ends, are the records that the items are
