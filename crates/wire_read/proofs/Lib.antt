@@ -1,0 +1,11 @@
+pub mod Budgets
+pub mod FieldBytes
+pub mod Fronts
+pub mod Moving
+pub mod OnePart
+pub mod Opened
+pub mod Payloads
+pub mod Places
+pub mod Rebuilding
+pub mod Stack
+pub mod Walks

@@ -1,0 +1,67 @@
+-- What holds of a reader's places. Each statement is proved as the contract of a law.
+use Rattle.std.specs.Prelude.{◌≡◌, ℕ, List, [], ◌∷◌, ◌++◌, length}
+use Rattle.wire_base.specs.declared.error.DecodeError.{DecodeError}
+use Rattle.wire_base.specs.Charge.{charge}
+use Rattle.wire_base.specs.Ending.{by_input, GoesOn}
+use Rattle.wire_base.specs.Fault.{ListFault}
+use Rattle.wire_base.specs.Field.{Fields}
+use Rattle.wire_base.specs.Items.{Item}
+use Rattle.wire_base.specs.Limits.{Limits, Fits}
+use Rattle.wire_base.specs.Spells.{Spells}
+use Rattle.wire_read.specs.declared.event.Part.{Part}
+use Rattle.wire_read.specs.declared.reader.Reader.{Reader}
+use Rattle.wire_read.specs.Opened.{Group, LongestFront, TakesOpen, ending_of, items_of, items_open, left_open, numbers}
+use Rattle.wire_read.specs.PartFault.{PartFault}
+use Rattle.wire_read.specs.Reading.{At, Begins, IsAt, IsDone, Moves, facing}
+use Rattle.wire_read.specs.Rebuilt.{Records, rebuilt}
+
+-- before the first event
+abbrev pub ReaderBegins : Type 0
+ReaderBegins =
+    (l : Limits) (r : Reader) (all : List ℕ) → Begins l r → IsAt l all [] (facing r all)
+
+-- one event more
+abbrev pub ReaderGoesOn : Type 0
+ReaderGoesOn = (l : Limits) (all : List ℕ) (items : List Item) (i : Item) (s t : At) (behind : List ℕ)
+    → IsAt l all items s → Moves i s behind t → IsAt l all (items ++ i ∷ []) t
+
+-- the end: the events are those of the records that all of the bytes spell
+abbrev pub ReaderIsDone : Type 0
+ReaderIsDone = (l : Limits) (all : List ℕ) (items : List Item) (s : At)
+    → IsAt l all items s → IsDone s
+    → (fs : Fields) × Spells fs all × Fits (charge fs) l × (items ≡ items_of fs)
+
+-- a fault is that of the list
+abbrev pub ReaderIsStuck : Type 0
+ReaderIsStuck = (l : Limits) (all : List ℕ) (items : List Item) (s : At) (part : Part)
+    (place : List ℕ) (e : DecodeError)
+    → IsAt l all items s → GoesOn (ending_of s.groups) s.rest
+    → PartFault s.limits (ending_of s.groups) s.rest part place e → ListFault l by_input all e
+
+-- a fault stands behind the longest front
+abbrev pub FaultIsBehindLongest : Type 0
+FaultIsBehindLongest = (l : Limits) (all : List ℕ) (levels : List Group) (fs : Fields)
+    (rest : List ℕ) (part : Part) (place : List ℕ) (e : DecodeError)
+    → TakesOpen l levels fs all rest
+    → PartFault (left_open l levels fs) (ending_of (numbers levels)) rest part place e
+    → LongestFront l levels fs all rest
+
+-- and where a fault stands behind it, the longest front is one: in its open groups, its records,
+-- and what follows it
+abbrev pub OneLongestFront : Type 0
+OneLongestFront = (l : Limits) (all : List ℕ) (levels outer : List Group) (fs gs : Fields)
+    (rest other : List ℕ) → LongestFront l levels fs all rest → LongestFront l outer gs all other
+    → (levels ≡ outer) × (fs ≡ gs) × (rest ≡ other)
+
+-- one part is at fault, from one byte, with one error
+abbrev pub OnePartFault : Type 0
+OnePartFault = (l : Limits) (levels : List ℕ) (rest : List ℕ) (part other : Part)
+    (place end : List ℕ) (e f : DecodeError)
+    → PartFault l (ending_of levels) rest part place e
+    → PartFault l (ending_of levels) rest other end f
+    → (part ≡ other) × (place ≡ end) × (e ≡ f)
+
+-- records put together again from their items
+abbrev pub ItemsTellRecords : Type 0
+ItemsTellRecords = (levels : List Group) (fs : Fields)
+    → rebuilt (items_open levels fs) ≡ record { levels = levels; fields = fs }

@@ -1,0 +1,7 @@
+pub mod Budget
+pub mod Laws
+pub mod Opened
+pub mod PartFault
+pub mod PayloadBytes
+pub mod Reading
+pub mod Rebuilt

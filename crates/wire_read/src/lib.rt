@@ -1,0 +1,13 @@
+//! Records read in place: one event a call, in the order of the bytes, with no schema, no copy and
+//! no request for memory. `CALLING.md` shows the calls.
+#![tactic(auto)]
+
+mod event;
+pub mod laws;
+mod payload;
+mod reader;
+mod sums;
+
+pub use event::{Event, Fault, Part, Value};
+pub use reader::{MAX_OPEN_GROUPS, Reader};
+pub use sums::payload_bytes;
