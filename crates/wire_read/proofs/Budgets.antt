@@ -1,5 +1,5 @@
 -- What is left of budgets.
-use Rattle.std.proofs.Common.{◌≡◌, ◌≢◌, ℕ, ◌+◌, ◌-◌, ◌^◌, ◌<◌, ◌≤◌, Bool, Option, Some, None, nat_eq, true, false, if◌then◌else◌, refl, sym, ap, ◌∙◌, subst, arith}
+use Rattle.std.proofs.Common.{◌≡◌, ℕ, Option, Some, None, refl, sym, ap, arith}
 use Rattle.wire_base.specs.Limits.{HasRoom, less}
 use Rattle.wire_read.specs.Budget.{budget, Spends}
 

@@ -1,25 +1,21 @@
 -- The bytes of one field's payloads, event by event.
-use Rattle.std.proofs.Common.{◌≡◌, ◌≢◌, ℕ, ◌+◌, ◌-◌, ◌<◌, ◌≤◌, Bool, true, false, List, [], ◌∷◌, ◌++◌, length, drop, nat_eq, if◌then◌else◌, refl, sym, ap, ◌∙◌, subst, arith, length-append}
-use Rattle.wire_base.specs.declared.error.DecodeError.{DecodeError}
-use Rattle.wire_base.specs.declared.tag.WireType.{WireType}
+use Rattle.std.proofs.Common.{◌≡◌, ℕ, ◌+◌, ◌≤◌, Bool, true, false, List, [], ◌∷◌, ◌++◌, length, nat_eq, if◌then◌else◌, refl, sym, ap, ◌∙◌, arith, length-append}
 use Rattle.wire_base.specs.Charge.{charge}
 use Rattle.wire_base.specs.Ending.{by_input}
 use Rattle.wire_base.specs.Fault.{ListFault}
-use Rattle.wire_base.specs.Field.{Payload, varint, fixed64, fixed32, bytes, group, Fields, none, field, type_of}
+use Rattle.wire_base.specs.Field.{Payload, varint, fixed64, fixed32, bytes, group, Fields, none, field}
 use Rattle.wire_base.specs.Items.{Item, start, end, whole}
 use Rattle.wire_base.specs.Limits.{Limits, Fits}
-use Rattle.wire_base.specs.Read.{Reads}
-use Rattle.wire_base.specs.Spells.{Spells, IsPayload}
+use Rattle.wire_base.specs.Spells.{Spells}
 use Rattle.wire_read.specs.declared.event.Event.{Event}
 use Rattle.wire_read.specs.declared.event.Fault.{Fault}
 use Rattle.wire_read.specs.declared.event.Value.{Value}
 use Rattle.wire_read.specs.declared.event.Value.TheVariants as values
 use Rattle.wire_read.specs.declared.reader.Reader.{Reader}
-use Rattle.wire_read.specs.Laws.{ReaderBegins, ReaderGoesOn, ReaderIsDone, ReaderIsStuck, FaultIsBehindLongest}
-use Rattle.wire_read.specs.Opened.{Group, LongestFront, ending_of, items_of, payload_items, numbers, left_open}
-use Rattle.wire_read.specs.PartFault.{PartFault}
+use Rattle.wire_read.specs.Laws.{ReaderGoesOn, ReaderIsDone, ReaderIsStuck}
+use Rattle.wire_read.specs.Opened.{items_of, payload_items}
 use Rattle.wire_read.specs.PayloadBytes.{bytes_of_payload, bytes_of_field, payload_length}
-use Rattle.wire_read.specs.Reading.{At, Begins, Gives, IsAt, IsDone, Moves, Stops, at, facing, item, place_of}
+use Rattle.wire_read.specs.Reading.{At, Gives, IsAt, IsDone, Moves, Stops, at, item}
 use Rattle.wire_read.proofs.Walks.{shorter}
 
 abbrev pub item_bytes : ℕ → Item → ℕ

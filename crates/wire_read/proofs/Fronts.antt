@@ -1,13 +1,12 @@
 -- The longest front, and the fault behind it.
-use Rattle.std.proofs.Common.{◌≡◌, ◌≢◌, ℕ, ◌<◌, ◌≤◌, List, [], ◌∷◌, length, refl, sym, ap, ◌∙◌, subst, arith}
+use Rattle.std.proofs.Common.{◌≡◌, ◌≢◌, ℕ, List, length, sym, ap, ◌∙◌, subst, arith}
 use Rattle.wire_base.specs.declared.error.DecodeError.{DecodeError}
-use Rattle.wire_base.specs.declared.tag.WireType.{WireType}
 use Rattle.wire_base.specs.declared.tag.WireType.TheVariants.{StartGroup, EndGroup}
 use Rattle.wire_base.specs.Charge.{payload_charge}
 use Rattle.wire_base.specs.Ending.{Ending, by_limit, by_tag}
 use Rattle.wire_base.specs.Fault.{PayloadFault}
 use Rattle.wire_base.specs.FaultLaws.{NoPayloadBesideFault}
-use Rattle.wire_base.specs.Field.{Payload, Fields, type_of}
+use Rattle.wire_base.specs.Field.{Payload, type_of}
 use Rattle.wire_base.specs.Items.{Item, start, end, whole}
 use Rattle.wire_base.specs.Limits.{Limits}
 use Rattle.wire_base.specs.LimitsLaws.{LimitsAddUp, LevelsAddUp}
@@ -18,10 +17,10 @@ use Rattle.wire_base.specs.TagLaws.{OneTag, NoTagBesideFault}
 use Rattle.wire_base.specs.Taken.{TakesPayload}
 use Rattle.wire_read.specs.declared.event.Part.{Part}
 use Rattle.wire_read.specs.Laws.{FaultIsBehindLongest, OneLongestFront}
-use Rattle.wire_read.specs.Opened.{Group, LongestFront, Opens, TakesOpen, numbers, ending_of, items_open, left_open}
-use Rattle.wire_read.specs.PartFault.{PartFault, PayloadPart}
+use Rattle.wire_read.specs.Opened.{Opens, numbers, ending_of, items_open, left_open}
+use Rattle.wire_read.specs.PartFault.{PartFault}
 use Rattle.wire_read.specs.Reading.{At, Moves}
-use Rattle.wire_read.specs.Rebuilt.{Records, rebuilt}
+use Rattle.wire_read.specs.Rebuilt.{rebuilt}
 use Rattle.wire_read.proofs.Places.{end_is_no_payload, part_of_payload}
 use Rattle.wire_read.proofs.Rebuilding.{items_tell}
 use Rattle.wire_read.proofs.Walks.{at_with, open_walks, walked_on, same_walk, shorter, falls, not_end}

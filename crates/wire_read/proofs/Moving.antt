@@ -1,29 +1,28 @@
 -- One step of a reader.
-use Rattle.std.proofs.Common.{◌≡◌, ◌≢◌, ℕ, ◌+◌, ◌-◌, ◌<◌, ◌≤◌, List, [], ◌∷◌, ◌++◌, length, length-append, append_assoc, take, drop, min, Option, Some, None, refl, sym, ap, ◌∙◌, subst, arith}
+use Rattle.std.proofs.Common.{◌≡◌, ◌≢◌, ℕ, ◌-◌, ◌<◌, ◌≤◌, List, [], ◌∷◌, ◌++◌, length, length-append, append_assoc, take, drop, min, Option, None, refl, sym, ap, ◌∙◌, subst, arith}
 use Rattle.std.proofs.Math.Seq.{drop-append_seam}
 use Rattle.std.proofs.lemmas.List.{take-append-drop, drop_min, take_all, length-drop}
 use Rattle.wire_base.specs.declared.error.DecodeError.{DecodeError}
-use Rattle.wire_base.specs.declared.error.DecodeError.TheVariants.{UnknownFieldLimitExceeded, RecursionLimitExceeded, InvalidWireType, InvalidEndGroup}
+use Rattle.wire_base.specs.declared.error.DecodeError.TheVariants.{UnknownFieldLimitExceeded, InvalidWireType, InvalidEndGroup}
 use Rattle.wire_base.specs.declared.tag.WireType.{WireType}
 use Rattle.wire_base.specs.declared.tag.WireType.TheVariants.{StartGroup, EndGroup}
 use Rattle.wire_base.specs.Charge.{payload_charge}
 use Rattle.wire_base.specs.Ending.{Ending, GoesOn, IsRecordTag}
 use Rattle.wire_base.specs.Field.{Payload, type_of, varint, fixed64, fixed32, bytes, group}
 use Rattle.wire_base.specs.Items.{Item, whole, start, end}
-use Rattle.wire_base.specs.Limits.{Charge, Fits, HasRoom, Limits, less, one_field, left_after, outer}
+use Rattle.wire_base.specs.Limits.{Charge, Fits, HasRoom, Limits, less, one_field, left_after}
 use Rattle.wire_base.specs.Read.{Reads}
 use Rattle.wire_base.specs.Tag.{IsTagSpelling}
-use Rattle.wire_base.specs.Taken.{TakesPayload}
 use Rattle.wire_read.specs.declared.event.Part.{Part}
 use Rattle.wire_read.specs.declared.event.Part.TheVariants as parts
 use Rattle.wire_read.specs.declared.event.Event.{Event}
 use Rattle.wire_read.specs.declared.payload.Found.{Found}
 use Rattle.wire_read.specs.declared.reader.Reader.{Reader}
 use Rattle.wire_read.specs.Budget.{budget, Spends}
-use Rattle.wire_read.specs.Opened.{ending_of, inside}
+use Rattle.wire_read.specs.Opened.{ending_of}
 use Rattle.wire_read.specs.PartFault.{PartFault, PayloadPart}
 use Rattle.wire_read.specs.Reading.{At, Moves, Stands, Gives, at, facing, groups_of, levels_of, limits_of, item, place_of}
-use Rattle.wire_read.proofs.Budgets.{room_none, less_none}
+use Rattle.wire_read.proofs.Budgets.{room_none}
 
 -- ---- faults
 

@@ -1,18 +1,17 @@
 -- Records with open groups, one step more, and a fault behind them.
-use Rattle.std.proofs.Common.{◌≡◌, ◌≢◌, ℕ, ◌+◌, ◌-◌, ◌<◌, ◌≤◌, List, [], ◌∷◌, ◌++◌, length, refl, sym, ap, ◌∙◌, subst, append-nil, append_assoc, arith}
+use Rattle.std.proofs.Common.{◌≡◌, ℕ, ◌<◌, List, [], ◌∷◌, ◌++◌, length, refl, sym, ap, ◌∙◌, subst, append-nil, append_assoc}
 use Rattle.wire_base.specs.declared.error.DecodeError.{DecodeError}
 use Rattle.wire_base.specs.declared.tag.WireType.{WireType}
 use Rattle.wire_base.specs.declared.tag.WireType.TheVariants.{StartGroup, EndGroup}
 use Rattle.wire_base.specs.Charge.{charge, payload_charge, total}
 use Rattle.wire_base.specs.Ending.{Ending, by_input, by_tag, GoesOn}
 use Rattle.wire_base.specs.Fault.{ListFault, RecordFault, PayloadFault}
-use Rattle.wire_base.specs.Field.{Payload, group, Fields, none, field, type_of, push, joined}
-use Rattle.wire_base.specs.Items.{Item, start, end, whole}
-use Rattle.wire_base.specs.Limits.{Limits, Charge, Fits, both, one_field, nested, inner, outer, left_after, no_charge}
+use Rattle.wire_base.specs.Field.{Payload, group, Fields, none, field, push, joined}
+use Rattle.wire_base.specs.Items.{start, end}
+use Rattle.wire_base.specs.Limits.{Limits, Charge, Fits, both, one_field, nested, outer, left_after}
 use Rattle.wire_base.specs.LimitsLaws.{ChargesAddUp, LimitsAddUp, LevelsAddUp}
 use Rattle.wire_base.specs.Read.{Reads}
 use Rattle.wire_base.specs.RecordLaws.{RecordsOneByOne}
-use Rattle.wire_base.specs.Spells.{Spells, IsPayload}
 use Rattle.wire_base.specs.Tag.{IsTagSpelling}
 use Rattle.wire_base.specs.Taken.{TakesFields, TakesPayload}
 use Rattle.wire_read.specs.Opened.{Group, Opens, TakesOpen, numbers, ending_of, inside, left_open, items_of, payload_items, items_open}

@@ -1,12 +1,12 @@
 -- Where a reader is, event by event.
-use Rattle.std.proofs.Common.{◌≡◌, ◌≢◌, ℕ, ◌+◌, ◌-◌, ◌<◌, ◌≤◌, List, [], ◌∷◌, ◌++◌, length, refl, sym, ap, ◌∙◌, subst, append-nil, arith, length-append, take, drop}
+use Rattle.std.proofs.Common.{◌≡◌, ◌≢◌, ℕ, ◌<◌, List, [], ◌∷◌, ◌++◌, length, refl, sym, ap, ◌∙◌, subst, append-nil, arith, length-append, take, drop}
 use Rattle.std.proofs.lemmas.List.{length-take-le}
 use Rattle.wire_base.specs.declared.error.DecodeError.{DecodeError}
 use Rattle.wire_base.specs.declared.tag.WireType.{WireType}
 use Rattle.wire_base.specs.declared.tag.WireType.TheVariants.{StartGroup, EndGroup}
 use Rattle.wire_base.specs.Charge.{charge, payload_charge}
 use Rattle.wire_base.specs.Ending as endings
-use Rattle.wire_base.specs.Fault.{RecordFault, PayloadFault, NextTagFault, bad_tag, other_end}
+use Rattle.wire_base.specs.Fault.{RecordFault, PayloadFault, bad_tag, other_end}
 use Rattle.wire_base.specs.Delimited.{DelimitedFault}
 use Rattle.wire_base.specs.Field.{Payload, varint, fixed64, fixed32, bytes, group, Fields, none, type_of, push}
 use Rattle.wire_base.specs.Items.{Item, start, end, whole}
@@ -16,13 +16,13 @@ use Rattle.wire_base.specs.Read.{Reads}
 use Rattle.wire_base.specs.RecordLaws.{RecordsOneByOne}
 use Rattle.wire_base.specs.Spells.{Spells}
 use Rattle.wire_base.specs.Tag.{IsTagSpelling}
-use Rattle.wire_base.specs.Varint.{IsEnded, IsSpelling}
-use Rattle.wire_base.specs.Taken.{TakesFields, TakesPayload}
+use Rattle.wire_base.specs.Varint.{IsEnded}
+use Rattle.wire_base.specs.Taken.{TakesPayload}
 use Rattle.wire_read.specs.declared.event.Part.{Part}
 use Rattle.wire_read.specs.Laws.{ReaderBegins, ReaderGoesOn, ReaderIsDone, ReaderIsStuck}
 use Rattle.wire_read.specs.Opened.{Group, Opens, TakesOpen, numbers, left_open, items_of, payload_items, items_open, inside, ending_of}
 use Rattle.wire_read.specs.PartFault.{PartFault, PayloadPart}
-use Rattle.wire_read.specs.Reading.{At, Moves, IsDone, IsAt}
+use Rattle.wire_read.specs.Reading.{At, IsAt}
 use Rattle.wire_read.proofs.Payloads.{delimited_there}
 use Rattle.wire_read.proofs.Opened.{fault_of_all, opened, more, left-more, closed, left-closed, items-more, items-closed}
 

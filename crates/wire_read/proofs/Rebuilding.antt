@@ -1,10 +1,10 @@
 -- Records from their items.
 use Rattle.std.proofs.Common.{◌≡◌, ℕ, List, [], ◌∷◌, ◌++◌, refl, sym, ap, ◌∙◌}
 use Rattle.wire_base.specs.Field.{Payload, varint, fixed64, fixed32, bytes, group, Fields, none, field, push, joined}
-use Rattle.wire_base.specs.Items.{Item, start, end, whole}
+use Rattle.wire_base.specs.Items.{Item, start, end}
 use Rattle.wire_read.specs.Laws.{ItemsTellRecords}
 use Rattle.wire_read.specs.Opened.{Group, items_of, payload_items, items_open}
-use Rattle.wire_read.specs.Rebuilt.{Records, closed, put, put_all, rebuilt}
+use Rattle.wire_read.specs.Rebuilt.{Records, put, put_all}
 
 put_all-append : (items more : List Item) (r : Records)
     → put_all (items ++ more) r ≡ put_all more (put_all items r)

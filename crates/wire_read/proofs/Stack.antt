@@ -1,5 +1,5 @@
 -- Groups as numbers in a row, of which the last is the innermost.
-use Rattle.std.proofs.Common.{◌≡◌, ℕ, ◌+◌, ◌-◌, ◌<◌, ◌≤◌, List, [], ◌∷◌, ◌++◌, length, take, drop, min, refl, sym, ap, ◌∙◌, subst, arith}
+use Rattle.std.proofs.Common.{◌≡◌, ℕ, ◌+◌, ◌-◌, ◌<◌, ◌≤◌, List, [], ◌∷◌, ◌++◌, length, take, drop, min, sym, ap, ◌∙◌, arith}
 use Rattle.std.specs.Prelude.{reverse, get_or}
 use Rattle.std.proofs.lemmas.List.{reverse-append, take_more}
 use Rattle.wire_read.specs.declared.reader.Reader.{Reader}

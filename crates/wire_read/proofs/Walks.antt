@@ -1,23 +1,20 @@
 -- Moves one after another: where records are taken, a reader goes over their items, and it goes on
 -- in one way.
-use Rattle.std.proofs.Common.{◌≡◌, ◌≢◌, ℕ, ◌+◌, ◌-◌, ◌<◌, ◌≤◌, List, [], ◌∷◌, ◌++◌, length, length-append, append_assoc, append-nil, refl, sym, ap, ◌∙◌, subst, arith}
-use Rattle.wire_base.specs.declared.error.DecodeError.{DecodeError}
+use Rattle.std.proofs.Common.{◌≡◌, ◌≢◌, ℕ, ◌<◌, ◌≤◌, List, [], ◌∷◌, ◌++◌, length, length-append, append_assoc, refl, sym, ap, ◌∙◌, subst, arith}
 use Rattle.wire_base.specs.declared.tag.WireType.{WireType}
 use Rattle.wire_base.specs.declared.tag.WireType.TheVariants.{StartGroup, EndGroup}
 use Rattle.wire_base.specs.Charge.{charge, payload_charge}
-use Rattle.wire_base.specs.Ending.{Ending, by_tag}
 use Rattle.wire_base.specs.Field.{Payload, varint, fixed64, fixed32, bytes, group, Fields, none, field, type_of}
 use Rattle.wire_base.specs.Items.{Item, start, end, whole}
-use Rattle.wire_base.specs.Limits.{Limits, Charge, Fits, both, nested, one_field, left_after, inner, outer}
+use Rattle.wire_base.specs.Limits.{Limits, Fits, nested, one_field, left_after}
 use Rattle.wire_base.specs.LimitsLaws.{LimitsAddUp, LevelsAddUp}
 use Rattle.wire_base.specs.Read.{Reads}
 use Rattle.wire_base.specs.RecordLaws.{OnePayload}
 use Rattle.wire_base.specs.Spells.{Spells, SpellsPayload, IsPayload}
 use Rattle.wire_base.specs.Tag.{IsTagSpelling}
 use Rattle.wire_base.specs.TagLaws.{OneTag}
-use Rattle.wire_base.specs.Taken.{TakesFields, TakesPayload}
 use Rattle.wire_base.specs.Varint.{IsEnded}
-use Rattle.wire_read.specs.Opened.{Group, LongestFront, Opens, TakesOpen, numbers, left_open, items_of, payload_items, items_open, inside}
+use Rattle.wire_read.specs.Opened.{Group, TakesOpen, numbers, left_open, items_of, payload_items, items_open, inside}
 use Rattle.wire_read.specs.Reading.{At, Moves}
 
 abbrev pub at_with : List ℕ → List ℕ → Limits → At

@@ -1,5 +1,5 @@
 -- What holds of a reader's places. Each statement is proved as the contract of a law.
-use Rattle.std.specs.Prelude.{◌≡◌, ℕ, List, [], ◌∷◌, ◌++◌, length}
+use Rattle.std.specs.Prelude.{◌≡◌, ℕ, List, [], ◌∷◌, ◌++◌}
 use Rattle.wire_base.specs.declared.error.DecodeError.{DecodeError}
 use Rattle.wire_base.specs.Charge.{charge}
 use Rattle.wire_base.specs.Ending.{by_input, GoesOn}
@@ -13,7 +13,7 @@ use Rattle.wire_read.specs.declared.reader.Reader.{Reader}
 use Rattle.wire_read.specs.Opened.{Group, LongestFront, TakesOpen, ending_of, items_of, items_open, left_open, numbers}
 use Rattle.wire_read.specs.PartFault.{PartFault}
 use Rattle.wire_read.specs.Reading.{At, Begins, IsAt, IsDone, Moves, facing}
-use Rattle.wire_read.specs.Rebuilt.{Records, rebuilt}
+use Rattle.wire_read.specs.Rebuilt.{rebuilt}
 
 -- before the first event
 abbrev pub ReaderBegins : Type 0

@@ -1,4 +1,4 @@
-use Rattle.std.proofs.Common.{◌≡◌, ◌<◌, ◌≤◌, length, take, drop, refl, sym, subst, ap, ◌∙◌, rules, arith}
+use Rattle.std.proofs.Common.{◌≡◌, ◌<◌, ◌≤◌, length, take, drop, refl, sym, subst, ◌∙◌, rules, arith}
 use Rattle.wire_base.specs.Field as fields
 use Rattle.wire_base.specs.Limits.{HasRoom}
 use Rattle.wire_read.specs.Budget.{budget, Spends}

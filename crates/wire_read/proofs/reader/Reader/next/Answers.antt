@@ -1,4 +1,4 @@
-use Rattle.std.proofs.Common.{◌≡◌, ◌-◌, ◌≤◌, length, take, drop, min, rules, arith, refl, sym, ap, ◌∙◌}
+use Rattle.std.proofs.Common.{◌≡◌, ◌≤◌, length, drop, min, rules, arith, refl, ap}
 use Rattle.std.proofs.lemmas.List.{length-drop}
 use Rattle.wire_read.specs.Opened.{ending_of}
 use Rattle.wire_read.specs.Reading.{groups_of, limits_of}

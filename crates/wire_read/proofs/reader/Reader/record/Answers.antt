@@ -1,4 +1,4 @@
-use Rattle.std.proofs.Common.{◌≡◌, ap, refl, sym, subst, rules}
+use Rattle.std.proofs.Common.{◌≡◌, refl, sym, rules}
 use Rattle.std.proofs.lemmas.Result.{err_from_is_err_and}
 use Rattle.wire_base.specs.Limits.{HasRoom}
 use Rattle.wire_base.specs.TagView.{tag_number, tag_type}
