@@ -1,3 +1,4 @@
+pub mod Dropping
 pub mod Keeping
 pub mod Measuring
 pub mod Messages

@@ -6,6 +6,7 @@
 //! field's number, and `keep` for the others. `specs/Shape.antt` has the same tree as definitions.
 #![tactic(auto)]
 
+mod dropped;
 mod encoding;
 mod enums;
 mod floats;
@@ -24,6 +25,7 @@ mod text;
 mod types;
 mod unknown;
 
+pub use dropped::{Dropped, pass_over};
 pub use encoding::{Delimited, LengthPrefixed, MessageEncoding};
 pub use floats::{DoubleBits, FloatBits};
 pub use form::Form;
