@@ -61,6 +61,7 @@ pub(crate) fn put_records(
 {
     laws::reader_begins();
     laws::reader_goes_on();
+    laws::reader_moves_on();
     laws::reader_is_done();
     laws::reader_is_stuck();
     laws::fault_is_behind_longest();

@@ -1,5 +1,5 @@
 -- What holds of a reader's places. Each statement is proved as the contract of a law.
-use Rattle.std.specs.Prelude.{◌≡◌, ℕ, List, [], ◌∷◌, ◌++◌}
+use Rattle.std.specs.Prelude.{◌≡◌, ℕ, ◌<◌, List, [], ◌∷◌, ◌++◌, length}
 use Rattle.wire_base.specs.declared.error.DecodeError.{DecodeError}
 use Rattle.wire_base.specs.Charge.{charge}
 use Rattle.wire_base.specs.Ending.{by_input, GoesOn}
@@ -24,6 +24,11 @@ ReaderBegins =
 abbrev pub ReaderGoesOn : Type 0
 ReaderGoesOn = (l : Limits) (all : List ℕ) (items : List Item) (i : Item) (s t : At) (behind : List ℕ)
     → IsAt l all items s → Moves i s behind t → IsAt l all (items ++ i ∷ []) t
+
+-- an event takes a byte at least, so that a loop over events ends
+abbrev pub ReaderMovesOn : Type 0
+ReaderMovesOn =
+    (i : Item) (s t : At) (behind : List ℕ) → Moves i s behind t → length t.rest < length s.rest
 
 -- the end: the events are those of the records that all of the bytes spell
 abbrev pub ReaderIsDone : Type 0

@@ -1,5 +1,5 @@
 //! Laws of the places of a reader: each function is a theorem, and does nothing.
-ghost use Rattle.wire_read.specs.Laws.{ReaderBegins, ReaderGoesOn, ReaderIsDone, ReaderIsStuck, FaultIsBehindLongest, OneLongestFront, OnePartFault, ItemsTellRecords};
+ghost use Rattle.wire_read.specs.Laws.{ReaderBegins, ReaderGoesOn, ReaderMovesOn, ReaderIsDone, ReaderIsStuck, FaultIsBehindLongest, OneLongestFront, OnePartFault, ItemsTellRecords};
 
 use wire_base::laws;
 
@@ -20,6 +20,11 @@ pub fn reader_goes_on()
     laws::limits_add_up();
     laws::levels_add_up();
 }
+
+/// An event takes a byte at least, so that a loop over events ends.
+pub fn reader_moves_on()
+    ensures { ReaderMovesOn }
+{}
 
 /// At the end the events are those of the records that all of the bytes spell, within the limits.
 pub fn reader_is_done()

@@ -5,7 +5,6 @@ use Rattle.wire_dump.proofs.Put.{number_put, eight_put, four_put, no_budget, no_
 use Rattle.std.proofs.Common.{true, nat_eq, Err, refl, ◌∷◌, subst, sym, ap, ◌∙◌, drop}
 use Rattle.std.proofs.lemmas.Result.{err_from_is_err_and}
 use Rattle.wire_read.specs.Reading.{At, Gives, IsAt, IsDone, Stops, at, groups_of, item}
-use Rattle.wire_read.proofs.Walks.{shorter}
 use Rattle.wire_read.specs.declared.event.Fault.{Fault}
 use Rattle.wire_dump.specs.declared.dump.Stop.TheVariants as stops
 use Rattle.wire_dump.specs.Dumped.{PutsItem}
@@ -114,7 +113,7 @@ put_records-loop-event-smaller t c =
     let all = c.args.bytes.now in
     let e = c.in-Some.event in
     let given : Gives e all (at c.loop-event.reader all) (at c.next.new.self all) = search rules in
-    shorter (item e.number e.value) (at c.loop-event.reader all) (at c.next.new.self all)
+    c.reader_moves_on.ensures (item e.number e.value) (at c.loop-event.reader all) (at c.next.new.self all)
     given.behind given.moves
 
 pub put_records-returns-clause-ok : goal.put_records-returns-clause-ok
