@@ -1,47 +1,74 @@
-//! Prints the records of bytes that standard input has, as text.
+//! Prints the records of bytes as text, and says where and why broken ones are broken.
 #![tactic(auto)]
 
 mod dump;
+mod error;
+mod input;
 mod line;
+mod options;
 mod string;
 
 use dump::{Stop, put_records};
-use std::alloc::AllocError;
-use std::io;
-use std::io::{Read, Write};
+use error::{RunError, write_error};
+use input::input;
+use options::Options;
+use std::env;
+use std::io::Write;
 use std::process::ExitCode;
 use wire_read::{Fault, Reader};
 
 /// How deep payloads are read as messages, and groups stand inside one another in them.
 const BUDGET: u32 = 10;
 
-/// How deep groups stand inside one another in the input.
-const DEPTH: u32 = 100;
-
 fn main(rt: HostRuntime) -> ExitCode {
-    let mut input = Vec::new(rt.alloc());
-    if rt.stdin().read_to_end(&mut input).is_err() {
-        let _ = eprintln!(&rt; "wire_dump: read failed");
-        return ExitCode::from(3);
+    match run(&rt) {
+        Ok(()) => ExitCode::SUCCESS,
+        Err(error) => error.told(&rt),
     }
-    let mut out = Vec::new(rt.alloc());
-    let mut reader = Reader::new(DEPTH);
-    let outcome = put_records(&mut out, 0, BUDGET, &mut reader, &input);
-    if matches!(outcome, Err(Stop::OutOfMemory)) {
-        let _ = eprintln!(&rt; "wire_dump: out of memory");
-        return ExitCode::from(3);
+}
+
+fn run(rt: &HostRuntime) -> Result<(), RunError> {
+    let words = words(rt)?;
+    let mut texts = Vec::new(rt.alloc());
+    for word in &words {
+        texts.push(word.as_str())?;
     }
-    let mut writer = rt.stdout();
-    if writer.write_all(&out).is_err() {
-        let _ = eprintln!(&rt; "wire_dump: write failed");
-        return ExitCode::from(4);
-    }
-    match outcome {
-        Err(Stop::Fault(fault)) => {
-            report(&rt, &fault, &reader);
-            ExitCode::from(1)
+    let options = Options::parse(rt.alloc(), &texts)?;
+    let bytes = input(rt, &options)?;
+    print(rt, &options, &bytes)
+}
+
+fn words(rt: &HostRuntime) -> Result<Vec<String>, RunError> {
+    let mut words = Vec::new(rt.alloc());
+    match env::args(rt) {
+        Ok(args) => {
+            for word in args {
+                words.push(word)?;
+            }
+            Ok(words)
         }
-        _ => ExitCode::SUCCESS,
+        Err(_) => Err(RunError::OutOfMemory),
+    }
+}
+
+fn print(rt: &HostRuntime, options: &Options<'_>, bytes: &[u8]) -> Result<(), RunError> {
+    let mut out = Vec::new(rt.alloc());
+    let mut reader = Reader::within(&options.context);
+    match put_records(&mut out, 0, BUDGET, &mut reader, bytes) {
+        Ok(()) => send(rt, &out),
+        Err(Stop::Fault(fault)) => {
+            send(rt, &out)?;
+            report(rt, &fault, &reader);
+            Err(RunError::Refused)
+        }
+        Err(Stop::OutOfMemory) => Err(RunError::OutOfMemory),
+    }
+}
+
+fn send(rt: &HostRuntime, text: &[u8]) -> Result<(), RunError> {
+    match rt.stdout().write_all(text) {
+        Ok(()) => Ok(()),
+        Err(error) => Err(write_error(error)),
     }
 }
 
