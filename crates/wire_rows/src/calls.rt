@@ -2,8 +2,8 @@
 use crate::row::Row;
 use crate::said::Said;
 use crate::{
-    agreements, caches, callers, contexts, enums, errors, lists, messages, ropes, scalars, sinks,
-    texts, unknown, views,
+    agreements, caches, callers, contexts, enums, errors, lists, messages, readers, ropes, scalars,
+    sinks, texts, unknown, views,
 };
 use bytes::Buf;
 
@@ -24,6 +24,7 @@ pub fn tell(row: &Row<'_>, said: &mut Said) -> bool {
         || texts::tell(row, said)
         || unknown::tell(row, said)
         || views::tell(row, said)
+        || readers::tell(row, said)
         || messages::tell(row, said)
         || ropes::tell(row, said)
         || caches::tell(row, said)

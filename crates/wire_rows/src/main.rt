@@ -11,6 +11,7 @@ mod enums;
 mod errors;
 mod lists;
 mod messages;
+mod readers;
 mod ropes;
 mod row;
 mod said;
