@@ -53,17 +53,20 @@ fn agree(case: &Case, said: &mut Said) -> Result<Left, DecodeError> {
         Err(DecodeError::UnexpectedEof) => {}
         Err(_) => stays_refused(case, &decoded, said),
     }
-    let skipped = case.skipped();
-    let is_alike = decoded == Err(DecodeError::UnknownFieldLimitExceeded)
-        || bytes_of(&decoded) == skipped;
-    said.expect(is_alike, "skips alike");
+    skips_alike(case, &decoded, said);
+    decoded
+}
 
-    // With more slots than bytes, and as many bytes for payloads, it wants for neither.
+// With more slots than bytes, and as many bytes for payloads, decoding wants for neither.
+fn skips_alike(case: &Case, decoded: &Result<Left, DecodeError>, said: &mut Said) {
+    let skipped = case.skipped();
+    let is_limited = *decoded == Err(DecodeError::UnknownFieldLimitExceeded);
+    let is_alike = bytes_of(decoded) == skipped;
+    said.expect(is_limited | is_alike, "skips alike");
     let len = case.behind.len();
     let enough = DecodeContext::new(case.levels, len.saturating_add(1)).with_unknown_bytes(len);
     let answer = case.decoded(&case.behind, enough, said);
     said.expect(bytes_of(&answer) == skipped, "slots suffice");
-    decoded
 }
 
 fn bytes_of(answer: &Result<Left, DecodeError>) -> Result<usize, DecodeError> {
@@ -100,7 +103,7 @@ fn borrows_alike(case: &Case, left: Left, said: &mut Said) {
         Ok(body) => case.behind.starts_with(body),
         Err(_) => false,
     };
-    said.expect(is_front && rest.len() == left.bytes, "borrows alike");
+    said.expect(is_front & (rest.len() == left.bytes), "borrows alike");
 }
 
 // A walk over a tag and its payload takes the slots and the bytes that decoding takes; what it
@@ -111,22 +114,36 @@ fn walks_alike(case: &Case, left: Left, span: &[u8], said: &mut Said) {
     let Some(charge) = said.decoded(answer) else {
         return said.expect(false, "walks alike");
     };
-    let (depth, fields, bytes) = (charge.depth, charge.fields, charge.bytes);
-    let is_alike = context.remaining_unknown_fields() == left.slots
-        && context.remaining_unknown_bytes() == left.payloads
-        && case.slots.checked_sub(left.slots) == Some(fields)
-        && case.payloads.checked_sub(left.payloads.unwrap_or(0)) == Some(bytes);
-    said.expect(is_alike, "walks alike");
+    said.expect(
+        context.remaining_unknown_fields() == left.slots,
+        "slots of a walk",
+    );
+    said.expect(
+        context.remaining_unknown_bytes() == left.payloads,
+        "bytes of a walk",
+    );
+    let taken = case.slots.checked_sub(left.slots);
+    said.expect(taken == Some(charge.fields), "slots taken");
+    let taken = case.payloads.checked_sub(left.payloads.unwrap_or(0));
+    said.expect(taken == Some(charge.bytes), "bytes taken");
+    is_exact(case, charge.depth, charge.fields, charge.bytes, said);
+}
+
+// These limits suffice, and one less of each does not.
+fn is_exact(case: &Case, depth: u32, fields: usize, bytes: usize, said: &mut Said) {
     let exact = case.decoded_within(depth, fields, bytes, said);
     said.expect(exact.is_ok(), "a walk suffices");
     let no_slot = Err(DecodeError::UnknownFieldLimitExceeded);
     let one_less = case.decoded_within(depth, fields.saturating_sub(1), bytes, said);
     said.expect(one_less == no_slot, "a walk counts slots");
     let one_less = case.decoded_within(depth, fields, bytes.saturating_sub(1), said);
-    said.expect(bytes == 0 || one_less == no_slot, "a walk counts bytes");
+    said.expect((bytes == 0) | (one_less == no_slot), "a walk counts bytes");
     let one_less = case.decoded_within(depth.saturating_sub(1), fields, bytes, said);
-    let is_exact = depth == 0 || one_less == Err(DecodeError::RecursionLimitExceeded);
-    said.expect(is_exact, "a walk counts levels");
+    let no_level = Err(DecodeError::RecursionLimitExceeded);
+    said.expect(
+        (depth == 0) | (one_less == no_level),
+        "a walk counts levels",
+    );
 }
 
 // What is decoded is written in no more bytes, and in as many only where they are the same.
@@ -136,8 +153,8 @@ fn writes_no_more(span: &[u8], said: &mut Said) {
     if let Some(fields) = said.decoded(answer) {
         said.encoded(fields.write_to(&mut text));
     }
-    let is_less = text.len() < span.len() || text.as_slice() == span;
-    said.expect(is_less, "writes no more");
+    let (is_less, is_same) = (text.len() < span.len(), text.as_slice() == span);
+    said.expect(is_less | is_same, "writes no more");
 }
 
 // A refusal for another cause than missing bytes stays the same whatever bytes follow.

@@ -20,25 +20,31 @@ pub fn tell(row: &Row<'_>, said: &mut Said) -> bool {
 fn cache(row: &Row<'_>, said: &mut Said) {
     let mut cache = SizeCache::new(said.alloc);
     for word in row.words.split(' ') {
-        let step = Step::parse(word);
-        match step.kind {
-            "clear" => cache.clear(),
-            "respill" => cache = SizeCache::with_spill_buffer(cache.into_spill_buffer()),
-            "set" => set(&mut cache, step.number(), step.times),
-            "set-all" => {
-                for index in (0..cache.slot_count()).rev() {
-                    let size = u32::try_from(index).unwrap_or(0).saturating_mul(step.times);
-                    set(&mut cache, index, size);
-                }
-            }
-            "reserve" => reserve(&mut cache, step.times, said),
-            "next" => next(&mut cache, step.times, said),
-            _ => {}
-        }
+        cache = stepped(cache, Step::parse(word), said);
     }
     said.also("of ", &cache.slot_count());
     said.also(", ", &cache.unread());
     said.word(" unread");
+}
+
+fn stepped(mut cache: SizeCache, step: Step<'_>, said: &mut Said) -> SizeCache {
+    match step.kind {
+        "clear" => cache.clear(),
+        "respill" => return SizeCache::with_spill_buffer(cache.into_spill_buffer()),
+        "set" => set(&mut cache, step.number(), step.times),
+        "set-all" => set_all(&mut cache, step.times),
+        "reserve" => reserve(&mut cache, step.times, said),
+        "next" => next(&mut cache, step.times, said),
+        _ => {}
+    }
+    cache
+}
+
+fn set_all(cache: &mut SizeCache, times: u32) {
+    for index in (0..cache.slot_count()).rev() {
+        let size = u32::try_from(index).unwrap_or(0).saturating_mul(times);
+        set(cache, index, size);
+    }
 }
 
 fn set(cache: &mut SizeCache, slot: usize, size: u32) {
@@ -90,24 +96,34 @@ fn pool(row: &Row<'_>, said: &mut Said) {
     let most = row.number("most").unwrap_or(64);
     let mut released = 0u32;
     for word in row.words.split(' ') {
-        let step = Step::parse(word);
-        if step.kind == "release" {
-            let buffer = said.made(Vec::with_capacity(said.alloc, step.number()));
-            let buffer = buffer.unwrap_or(Vec::new(said.alloc));
-            pool.release(SizeCache::with_spill_buffer(buffer));
-            released = released.saturating_add(1);
-        }
+        released = released.saturating_add(released_by(Step::parse(word), &mut pool, said));
     }
     let mut kept = 0u32;
     for _ in 0..released {
-        let cache = pool.acquire();
-        let is_new = cache.slot_count() == 0 && cache.unread() == 0;
-        said.expect(is_new, "a used cache");
-        let capacity = cache.into_spill_buffer().capacity();
+        let capacity = acquired(&mut pool, said);
         said.expect(capacity <= most, "a large buffer is kept");
         kept = kept.saturating_add(u32::from(capacity > 0));
     }
     said.show(&kept);
     said.also(" of ", &released);
     said.word(" kept");
+}
+
+// How many caches a step releases.
+fn released_by(step: Step<'_>, pool: &mut SizeCachePool, said: &mut Said) -> u32 {
+    if step.kind != "release" {
+        return 0;
+    }
+    let buffer = said.made(Vec::with_capacity(said.alloc, step.number()));
+    let buffer = buffer.unwrap_or(Vec::new(said.alloc));
+    pool.release(SizeCache::with_spill_buffer(buffer));
+    1
+}
+
+// The capacity of the buffer of a cache that is taken.
+fn acquired(pool: &mut SizeCachePool, said: &mut Said) -> usize {
+    let cache = pool.acquire();
+    said.expect(cache.slot_count() == 0, "a used cache");
+    said.expect(cache.unread() == 0, "a cache with unread sizes");
+    cache.into_spill_buffer().capacity()
 }

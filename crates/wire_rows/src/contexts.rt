@@ -27,21 +27,22 @@ pub fn tell(row: &Row<'_>, said: &mut Said) -> bool {
 fn context(row: &Row<'_>, said: &mut Said) {
     let mut context = row.context();
     for word in row.words.split(' ') {
-        match step(&mut context, Step::parse(word)) {
-            Some(Ok(())) => said.word("Ok "),
-            Some(Err(error)) => {
-                said.refuse(error);
-                said.word(" ");
-            }
-            None => {}
-        }
+        say_step(step(&mut context, Step::parse(word)), said);
     }
     said.show(&context.depth());
     said.also(" ", &context.remaining_unknown_fields());
     said.also(" ", &context.remaining_element_memory());
-    if let Some(bytes) = context.remaining_unknown_bytes() {
-        said.also(", ", &bytes);
-        said.word(" for payloads");
+    said.limit(context.remaining_unknown_bytes(), " for payloads");
+}
+
+fn say_step(answer: Option<Result<(), DecodeError>>, said: &mut Said) {
+    match answer {
+        Some(Ok(())) => said.word("Ok "),
+        Some(Err(error)) => {
+            said.refuse(error);
+            said.word(" ");
+        }
+        None => {}
     }
 }
 
@@ -51,14 +52,16 @@ fn step(context: &mut DecodeContext, step: Step<'_>) -> Option<Result<(), Decode
         "payload" => Some(context.register_unknown_bytes(step.number())),
         "descend" => Some(context.descend()),
         "field" => Some(context.register_unknown_field()),
-        "ascend" => {
-            if context.depth() < u32::MAX {
-                context.ascend();
-            }
-            None
-        }
+        "ascend" => ascend(context),
         _ => None,
     }
+}
+
+fn ascend(context: &mut DecodeContext) -> Option<Result<(), DecodeError>> {
+    if context.depth() < u32::MAX {
+        context.ascend();
+    }
+    None
 }
 
 fn options(options: DecodeOptions, said: &mut Said) {

@@ -30,17 +30,22 @@ fn say_number<E: Enumeration + Drop>(number: i32, said: &mut Said) {
     said.expect(value.is_known() == known.is_some(), "known");
     said.expect(value.is_unknown() == known.is_none(), "unknown");
     if let Some(known) = known {
-        let is_own = value.is(known) && value == EnumValue::from_known(known);
-        said.expect(is_own, "not the known one");
-        let one = EnumValue::Unknown(number);
-        let is_other = one != value && !one.is(known);
-        said.expect(is_other, "an unknown number is a known one");
+        is_the_known(&value, known, said);
     }
-    if let Some(text) = said.made(value.to_string(said.alloc)) {
-        said.word(&text);
-    }
+    said.made_word(value.to_string(said.alloc));
     said.also(" ", &value);
     said.also(", default ", &EnumValue::<E>::default().to_i32());
+}
+
+fn is_the_known<E: Enumeration + Drop>(value: &EnumValue<E>, known: E, said: &mut Said) {
+    said.expect(value.is(known), "not the known one");
+    said.expect(
+        *value == EnumValue::from_known(known),
+        "another than the known one",
+    );
+    let one = EnumValue::Unknown(value.to_i32());
+    said.expect(one != *value, "an unknown number is equal to a known one");
+    said.expect(!one.is(known), "an unknown number is a known one");
 }
 
 fn say_name<E: Enumeration + Debug + 'static>(row: &Row<'_>, said: &mut Said) {
@@ -57,10 +62,10 @@ fn say_name<E: Enumeration + Debug + 'static>(row: &Row<'_>, said: &mut Said) {
 fn say_values(said: &mut Said) {
     let (green, one) = (green(), EnumValue::Unknown(1));
     said.expect(hash_of(green) == hash_of(EnumValue::from(1)), "a hash");
-    let is_other = hash_of(green) != hash_of(one) && green != one;
-    said.expect(is_other, "the same hash");
-    let is_green = green.is(Color::Green) && !green.is(Color::Blue);
-    said.expect(is_green, "another");
+    said.expect(hash_of(green) != hash_of(one), "the same hash");
+    said.expect(green != one, "a number");
+    said.expect(green.is(Color::Green), "not green");
+    said.expect(!green.is(Color::Blue), "blue");
     said.show(&green);
     said.also(" ", &no_status());
     said.also(

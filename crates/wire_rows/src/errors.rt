@@ -5,25 +5,23 @@ use wire_codec::{DecodeError, EncodeError};
 
 pub fn tell(row: &Row<'_>, said: &mut Said) -> bool {
     match row.call {
-        "DecodeError" => {
-            let error = decode_error(row.words.trim());
-            let copy = said.made(error.clone());
-            said.expect(copy.as_ref() == Some(&error), "a clone");
-            if let Some(text) = said.made(error.to_string(said.alloc)) {
-                said.word(&text);
-            }
-        }
-        "EncodeError" => {
-            let error = encode_error(row.words.trim());
-            let copy = said.made(error.clone());
-            said.expect(copy.as_ref() == Some(&error), "a clone");
-            if let Some(text) = said.made(error.to_string(said.alloc)) {
-                said.word(&text);
-            }
-        }
+        "DecodeError" => say_decode_error(&decode_error(row.words.trim()), said),
+        "EncodeError" => say_encode_error(&encode_error(row.words.trim()), said),
         _ => return false,
     }
     true
+}
+
+fn say_decode_error(error: &DecodeError, said: &mut Said) {
+    let copy = said.made(error.clone());
+    said.expect(copy.as_ref() == Some(error), "a clone");
+    said.made_word(error.to_string(said.alloc));
+}
+
+fn say_encode_error(error: &EncodeError, said: &mut Said) {
+    let copy = said.made(error.clone());
+    said.expect(copy.as_ref() == Some(error), "a clone");
+    said.made_word(error.to_string(said.alloc));
 }
 
 fn decode_error(name: &str) -> DecodeError {

@@ -17,20 +17,83 @@ pub fn tell(row: &Row<'_>, said: &mut Said) -> bool {
     match row.call {
         "ProtoList<Vec>" => say_plugged::<Vec<u32>>(said),
         "ProtoList<Unreserved>" => say_plugged::<Unreserved>(said),
-        _ => return tell_varints(row, said) || tell_fixed(row, said),
+        _ => match row.call.strip_prefix("extend_packed_") {
+            Some(kind) => return tell_packed(kind, row, said),
+            None => return false,
+        },
     }
     true
 }
 
-// A list of one element, for which a reservation asks.
+fn tell_packed(kind: &str, row: &Row<'_>, said: &mut Said) -> bool {
+    match kind {
+        "int32" | "sint32" | "sfixed32" => tell_i32(kind, row, said),
+        "int64" | "sint64" | "sfixed64" => tell_i64(kind, row, said),
+        "uint32" | "fixed32" => tell_u32(kind, row, said),
+        "uint64" | "fixed64" => tell_u64(kind, row, said),
+        "bool" => tell_bool(row, said),
+        _ => return false,
+    }
+    true
+}
+
+fn tell_i32(kind: &str, row: &Row<'_>, said: &mut Said) {
+    let mut list = one(said, 4);
+    let answer = match kind {
+        "int32" => extend_packed_int32(said.alloc, row.bytes, &mut list, room_of(row)),
+        "sint32" => extend_packed_sint32(said.alloc, row.bytes, &mut list, room_of(row)),
+        _ => extend_packed_sfixed32(said.alloc, row.bytes, &mut list),
+    };
+    say_list(row, said, answer, &list)
+}
+
+fn tell_i64(kind: &str, row: &Row<'_>, said: &mut Said) {
+    let mut list = one(said, 4);
+    let answer = match kind {
+        "int64" => extend_packed_int64(said.alloc, row.bytes, &mut list, room_of(row)),
+        "sint64" => extend_packed_sint64(said.alloc, row.bytes, &mut list, room_of(row)),
+        _ => extend_packed_sfixed64(said.alloc, row.bytes, &mut list),
+    };
+    say_list(row, said, answer, &list)
+}
+
+fn tell_u32(kind: &str, row: &Row<'_>, said: &mut Said) {
+    let mut list = one(said, 4);
+    let answer = match kind {
+        "uint32" => extend_packed_uint32(said.alloc, row.bytes, &mut list, room_of(row)),
+        _ => extend_packed_fixed32(said.alloc, row.bytes, &mut list),
+    };
+    say_list(row, said, answer, &list)
+}
+
+fn tell_u64(kind: &str, row: &Row<'_>, said: &mut Said) {
+    let mut list = one(said, 4);
+    let answer = match kind {
+        "uint64" => extend_packed_uint64(said.alloc, row.bytes, &mut list, room_of(row)),
+        _ => extend_packed_fixed64(said.alloc, row.bytes, &mut list),
+    };
+    say_list(row, said, answer, &list)
+}
+
+fn tell_bool(row: &Row<'_>, said: &mut Said) {
+    let mut list = one(said, true);
+    let answer = extend_packed_bool(said.alloc, row.bytes, &mut list, room_of(row));
+    say_list(row, said, answer, &list)
+}
+
+// For how many elements a reservation is asked.
+fn room_of(row: &Row<'_>) -> usize {
+    row.number("reserve").unwrap_or(count_varints(row.bytes))
+}
+
+// A list of one element.
 fn one<T: Copy + Drop>(said: &mut Said, element: T) -> Vec<T> {
     let mut list = Vec::new(said.alloc);
     said.made(list.push(element));
     list
 }
 
-// What is appended behind the first element, and why no more. Where memory is refused a front of
-// the wanted elements stands there, and none where room for all of them was asked for.
+// What is appended behind the first element, and why no more.
 fn say_list<T: Copy + Debug + Drop>(
     row: &Row<'_>,
     said: &mut Said,
@@ -39,93 +102,31 @@ fn say_list<T: Copy + Debug + Drop>(
 ) {
     said.expect(!list.is_empty(), "the first element is gone");
     let appended = list.get(1..).unwrap_or(&[]);
-    if answer == Err(DecodeError::OutOfMemory) {
-        let is_front = row.word("reserve").is_some() || appended.is_empty();
-        said.expect(is_front, "not as it was");
-        said.show(&appended);
-        let (front, _) = said.told();
-        let is_front = row
-            .answer
-            .contains(front.strip_suffix("]").unwrap_or(front));
-        said.expect(is_front, "no front");
-    }
     if let Err(error) = answer {
+        is_front(row, &error, appended, said);
         said.refuse(error);
         said.word(" ");
     }
     said.show(&appended);
 }
 
-fn tell_varints(row: &Row<'_>, said: &mut Said) -> bool {
-    let (alloc, bytes) = (said.alloc, row.bytes);
-    let room = row.number("reserve").unwrap_or(count_varints(bytes));
-    match row.call {
-        "extend_packed_int32" => {
-            let mut list = one(said, 4);
-            let answer = extend_packed_int32(alloc, bytes, &mut list, room);
-            say_list(row, said, answer, &list)
-        }
-        "extend_packed_int64" => {
-            let mut list = one(said, 4);
-            let answer = extend_packed_int64(alloc, bytes, &mut list, room);
-            say_list(row, said, answer, &list)
-        }
-        "extend_packed_uint32" => {
-            let mut list = one(said, 4);
-            let answer = extend_packed_uint32(alloc, bytes, &mut list, room);
-            say_list(row, said, answer, &list)
-        }
-        "extend_packed_uint64" => {
-            let mut list = one(said, 4);
-            let answer = extend_packed_uint64(alloc, bytes, &mut list, room);
-            say_list(row, said, answer, &list)
-        }
-        "extend_packed_sint32" => {
-            let mut list = one(said, 4);
-            let answer = extend_packed_sint32(alloc, bytes, &mut list, room);
-            say_list(row, said, answer, &list)
-        }
-        "extend_packed_sint64" => {
-            let mut list = one(said, 4);
-            let answer = extend_packed_sint64(alloc, bytes, &mut list, room);
-            say_list(row, said, answer, &list)
-        }
-        "extend_packed_bool" => {
-            let mut list = one(said, true);
-            let answer = extend_packed_bool(alloc, bytes, &mut list, room);
-            say_list(row, said, answer, &list)
-        }
-        _ => return false,
+// Where memory is refused a front of the wanted elements stands there, and none where room for all
+// of them was asked for.
+fn is_front<T: Copy + Debug + Drop>(
+    row: &Row<'_>,
+    error: &DecodeError,
+    appended: &[T],
+    said: &mut Said,
+) {
+    if *error == DecodeError::OutOfMemory {
+        let is_asked = row.word("reserve").is_some();
+        said.expect(is_asked | appended.is_empty(), "not as it was");
+        said.show(&appended);
+        let (front, _) = said.told();
+        let front = front.strip_suffix("]").unwrap_or(front);
+        let is_front = row.answer.contains(front);
+        said.expect(is_front, "no front");
     }
-    true
-}
-
-fn tell_fixed(row: &Row<'_>, said: &mut Said) -> bool {
-    let (alloc, bytes) = (said.alloc, row.bytes);
-    match row.call {
-        "extend_packed_fixed32" => {
-            let mut list = one(said, 4);
-            let answer = extend_packed_fixed32(alloc, bytes, &mut list);
-            say_list(row, said, answer, &list)
-        }
-        "extend_packed_fixed64" => {
-            let mut list = one(said, 4);
-            let answer = extend_packed_fixed64(alloc, bytes, &mut list);
-            say_list(row, said, answer, &list)
-        }
-        "extend_packed_sfixed32" => {
-            let mut list = one(said, 4);
-            let answer = extend_packed_sfixed32(alloc, bytes, &mut list);
-            say_list(row, said, answer, &list)
-        }
-        "extend_packed_sfixed64" => {
-            let mut list = one(said, 4);
-            let answer = extend_packed_sfixed64(alloc, bytes, &mut list);
-            say_list(row, said, answer, &list)
-        }
-        _ => return false,
-    }
-    true
 }
 
 // ---- lists that a user plugs in
@@ -167,18 +168,25 @@ fn say_plugged<L: ProtoList<u32>>(said: &mut Said) {
     for value in 1..=9 {
         if let Err(back) = list.push(value) {
             said.expect(back == value, "another value is handed back");
-            let is_left = list.as_slice().iter().copied().eq(1..value);
-            said.expect(is_left, "a refused push");
+            said.expect(are_up_to(&list, value), "a refused push");
             return said.refuse(DecodeError::OutOfMemory);
         }
     }
     let answer = list.reserve(100);
-    let is_left = list.as_slice().iter().copied().eq(1..=9);
-    said.expect(is_left, "a reservation");
+    said.expect(are_up_to(&list, 10), "a reservation");
     said.made(answer);
+    say_copy(&list, said);
+    list.clear();
+    said.expect(list == L::empty(said.alloc), "not cleared");
+}
+
+// Whether the elements are those from 1 up to this one.
+fn are_up_to<L: ProtoList<u32>>(list: &L, end: u32) -> bool {
+    list.as_slice().iter().copied().eq(1..end)
+}
+
+fn say_copy<L: ProtoList<u32>>(list: &L, said: &mut Said) {
     if let Some(copy) = said.made(list.clone()) {
         said.show(&copy.as_slice());
     }
-    list.clear();
-    said.expect(list == L::empty(said.alloc), "not cleared");
 }

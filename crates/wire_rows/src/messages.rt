@@ -47,21 +47,48 @@ pub fn tell(row: &Row<'_>, said: &mut Said) -> bool {
 // ---- from a buffer
 
 fn read_as<M: Sample, B: Buf>(row: &Row<'_>, call: &str, buf: &mut B, said: &mut Said) -> bool {
-    let alloc = said.alloc;
-    let answer = match (call, row.options()) {
-        ("decode", Some(options)) => options.decode::<M, B>(alloc, buf),
-        ("decode", None) => M::decode(alloc, buf),
-        ("decode_length_delimited", Some(options)) => {
-            options.decode_length_delimited::<M, B>(alloc, buf)
+    match call {
+        "decode" => {
+            let answer = decode::<M, B>(row, buf, said);
+            say_decoded(answer, row, buf, said)
         }
-        ("decode_length_delimited", None) => M::decode_length_delimited(alloc, buf),
+        "decode_length_delimited" => {
+            let answer = decode_length_delimited::<M, B>(row, buf, said);
+            say_decoded(answer, row, buf, said)
+        }
         _ => return merge_as::<M, B>(row, call, buf, said),
-    };
+    }
+    true
+}
+
+fn decode<M: Message, B: Buf>(row: &Row<'_>, buf: &mut B, said: &Said) -> Result<M, DecodeError> {
+    match row.options() {
+        Some(options) => options.decode::<M, B>(said.alloc, buf),
+        None => M::decode(said.alloc, buf),
+    }
+}
+
+fn decode_length_delimited<M: Message, B: Buf>(
+    row: &Row<'_>,
+    buf: &mut B,
+    said: &Said,
+) -> Result<M, DecodeError> {
+    match row.options() {
+        Some(options) => options.decode_length_delimited::<M, B>(said.alloc, buf),
+        None => M::decode_length_delimited(said.alloc, buf),
+    }
+}
+
+fn say_decoded<M: Sample, B: Buf>(
+    answer: Result<M, DecodeError>,
+    row: &Row<'_>,
+    buf: &B,
+    said: &mut Said,
+) {
     if let Some(message) = said.decoded(answer) {
         say_message(&message, row.bytes, said);
         said.left(buf.remaining());
     }
-    true
 }
 
 fn say_message<M: Sample>(message: &M, given: &[u8], said: &mut Said) {
@@ -75,29 +102,45 @@ fn say_message<M: Sample>(message: &M, given: &[u8], said: &mut Said) {
 // A message is merged into the one that the row names, under a context or under options.
 fn merge_as<M: Sample, B: Buf>(row: &Row<'_>, call: &str, buf: &mut B, said: &mut Said) -> bool {
     let onto = row.onto(said);
-    let Some(mut message) = said.decoded(M::decode_from_slice(said.alloc, &onto)) else {
-        return true;
-    };
+    match said.decoded(M::decode_from_slice(said.alloc, &onto)) {
+        Some(message) => merge_onto(message, row, call, buf, said),
+        None => true,
+    }
+}
+
+fn merge_onto<M: Sample, B: Buf>(
+    mut message: M,
+    row: &Row<'_>,
+    call: &str,
+    buf: &mut B,
+    said: &mut Said,
+) -> bool {
     let mut context = row.context();
     let depth = context.depth();
-    let Some(answer) = merge(&mut message, row, call, buf, &mut context, said) else {
-        return false;
-    };
-    if let Err(error) = answer {
-        is_a_value(&message, said);
-        said.refuse(error);
-        if call == "merge_within" {
-            said.word(", ");
-            message.say(said);
+    match merge(&mut message, row, call, buf, &mut context, said) {
+        Some(Ok(())) => {
+            said.expect(context.depth() == depth, "another depth");
+            say_message(&message, row.bytes, said);
             said.left(buf.remaining());
+            said.limits(row, &context);
         }
-        return true;
+        Some(Err(error)) => {
+            is_a_value(&message, said);
+            said.refuse(error);
+            say_left(&message, call, buf, said);
+        }
+        None => return false,
     }
-    said.expect(context.depth() == depth, "another depth");
-    say_message(&message, row.bytes, said);
-    said.left(buf.remaining());
-    said.limits(row, &context);
     true
+}
+
+// What a refused call leaves, where a contract says it.
+fn say_left<M: Sample, B: Buf>(message: &M, call: &str, buf: &B, said: &mut Said) {
+    if call == "merge_within" {
+        said.word(", ");
+        message.say(said);
+        said.left(buf.remaining());
+    }
 }
 
 // What a merging call answers; nothing where none has this name.
@@ -112,10 +155,7 @@ fn merge<M: Sample, B: Buf>(
     let alloc = said.alloc;
     Some(match call {
         "merge" => message.merge(alloc, buf, context),
-        "merge_field" => match Tag::decode(buf) {
-            Ok(tag) => message.merge_field(alloc, tag, buf, context),
-            Err(error) => Err(error),
-        },
+        "merge_field" => merge_record(message, buf, context, said),
         "merge_to_limit" => {
             let limit = row.number("limit").unwrap_or(0);
             message.merge_to_limit(alloc, buf, context, limit)
@@ -133,6 +173,16 @@ fn merge<M: Sample, B: Buf>(
     })
 }
 
+fn merge_record<M: Message, B: Buf>(
+    message: &mut M,
+    buf: &mut B,
+    context: &mut DecodeContext,
+    said: &Said,
+) -> Result<(), DecodeError> {
+    let tag = Tag::decode(buf)?;
+    message.merge_field(said.alloc, tag, buf, context)
+}
+
 // A refused merge leaves a value that can be written and read again.
 fn is_a_value<M: Message>(message: &M, said: &mut Said) {
     if let Some(text) = said.encoded(message.try_encode_to_vec(said.alloc)) {
@@ -145,15 +195,7 @@ fn is_a_value<M: Message>(message: &M, said: &mut Said) {
 
 fn tell_as<M: Sample>(row: &Row<'_>, call: &str, said: &mut Said) -> bool {
     match call {
-        "decode_from_slice" => {
-            let answer = match row.options() {
-                Some(options) => options.decode_from_slice::<M>(said.alloc, row.bytes),
-                None => M::decode_from_slice(said.alloc, row.bytes),
-            };
-            if let Some(message) = said.decoded(answer) {
-                say_message(&message, row.bytes, said)
-            }
-        }
+        "decode_from_slice" => decode_slice::<M>(row, said),
         "merge_from_slice" => merge_slices::<M>(row, said),
         "clear" => clear::<M>(row, said),
         _ => return writing::tell::<M>(row, call, said),
@@ -161,41 +203,63 @@ fn tell_as<M: Sample>(row: &Row<'_>, call: &str, said: &mut Said) -> bool {
     true
 }
 
+fn decode_slice<M: Sample>(row: &Row<'_>, said: &mut Said) {
+    let answer = match row.options() {
+        Some(options) => options.decode_from_slice::<M>(said.alloc, row.bytes),
+        None => M::decode_from_slice(said.alloc, row.bytes),
+    };
+    if let Some(message) = said.decoded(answer) {
+        say_message(&message, row.bytes, said)
+    }
+}
+
 // Each span is merged by a call of its own, and the first refusal ends the row.
 fn merge_slices<M: Sample>(row: &Row<'_>, said: &mut Said) {
     let onto = row.onto(said);
-    let Some(mut message) = given::<M>(row, &onto, said) else {
-        return;
-    };
-    for index in 0..row.span_count() {
-        let span = row.span(index);
-        let answer = match row.options() {
-            Some(options) => options.merge_from_slice(said.alloc, &mut message, span),
-            None => message.merge_from_slice(said.alloc, span),
-        };
-        if let Err(error) = answer {
-            if error == DecodeError::OutOfMemory {
-                is_a_value(&message, said);
+    if let Some(mut message) = given::<M>(row, &onto, said) {
+        for index in 0..row.span_count() {
+            if let Err(error) = merge_slice(&mut message, row, row.span(index), said) {
+                return say_refused(&message, error, said);
             }
-            said.refuse(error);
-            said.word(", ");
-            return message.say(said);
         }
+        say_message(&message, row.bytes, said);
     }
-    say_message(&message, row.bytes, said);
+}
+
+fn merge_slice<M: Message>(
+    message: &mut M,
+    row: &Row<'_>,
+    span: &[u8],
+    said: &Said,
+) -> Result<(), DecodeError> {
+    match row.options() {
+        Some(options) => options.merge_from_slice(said.alloc, message, span),
+        None => message.merge_from_slice(said.alloc, span),
+    }
+}
+
+fn say_refused<M: Sample>(message: &M, error: DecodeError, said: &mut Said) {
+    if error == DecodeError::OutOfMemory {
+        is_a_value(message, said);
+    }
+    said.refuse(error);
+    said.word(", ");
+    message.say(said)
 }
 
 // A cleared message is a default one, and another than it was.
 fn clear<M: Sample>(row: &Row<'_>, said: &mut Said) {
-    let Some(mut message) = given::<M>(row, row.bytes, said) else {
-        return;
-    };
-    let Some(copy) = said.made(message.clone()) else {
-        return;
-    };
+    if let Some(message) = given::<M>(row, row.bytes, said) {
+        if let Some(copy) = said.made(message.clone()) {
+            say_cleared(message, &copy, said);
+        }
+    }
+}
+
+fn say_cleared<M: Sample>(mut message: M, copy: &M, said: &mut Said) {
     message.clear();
-    let is_cleared = message == M::default_value(said.alloc) && message != copy;
-    said.expect(is_cleared, "not cleared");
+    said.expect(message == M::default_value(said.alloc), "not cleared");
+    said.expect(message != *copy, "nothing to clear");
     copy.say(said);
     said.word("; then ");
     message.say(said);

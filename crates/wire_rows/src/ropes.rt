@@ -7,22 +7,36 @@ use wire_codec::{EncodeError, EncodeSink, Rope, RopeBuf};
 
 /// Puts the words of a row in turn, and says the segments; then the reader behind so many bytes.
 pub fn tell(row: &Row<'_>, said: &mut Said) -> bool {
-    if row.call != "Rope" {
-        return false;
+    match row.call {
+        "Rope" => say_rope(row, rope_of(row, said), said),
+        _ => return false,
     }
+    true
+}
+
+fn rope_of(row: &Row<'_>, said: &mut Said) -> Rope {
     let mut rope = Rope::with_min_segment(said.alloc, row.number("min").unwrap_or(4096));
     for word in row.words.split(' ') {
         let step = Step::parse(word);
-        let mut text = Vec::new(said.alloc);
-        for _ in 0..step.times {
-            said.made(text.extend_from_slice(step.text.as_bytes()));
-        }
+        let text = text_of(step, said);
         let answer = put(said.alloc, step, &text, &mut rope);
         said.encoded(answer);
     }
+    rope
+}
+
+fn text_of(step: Step<'_>, said: &mut Said) -> Vec<u8> {
+    let mut text = Vec::new(said.alloc);
+    for _ in 0..step.times {
+        said.made(text.extend_from_slice(step.text.as_bytes()));
+    }
+    text
+}
+
+fn say_rope(row: &Row<'_>, rope: Rope, said: &mut Said) {
     let count = rope.segment_count();
     let Some(bytes) = said.made(rope.to_contiguous_bytes()) else {
-        return true;
+        return;
     };
     said.expect(rope.len() == bytes.len(), "another length");
     said.expect(rope.is_empty() == bytes.is_empty(), "empty");
@@ -30,7 +44,6 @@ pub fn tell(row: &Row<'_>, said: &mut Said) -> bool {
         Some(advance) => say_reader(rope, &bytes, count, advance, said),
         None => say_segments(rope, &bytes, count, said),
     }
-    true
 }
 
 fn put(alloc: Global, step: Step<'_>, text: &[u8], rope: &mut Rope) -> Result<(), EncodeError> {
@@ -47,8 +60,8 @@ fn put(alloc: Global, step: Step<'_>, text: &[u8], rope: &mut Rope) -> Result<()
 // A rope that is handed back, where memory is wanting, has the bytes that it had.
 fn handed_back(rope: &Rope, bytes: &Bytes, count: usize, said: &mut Said) {
     if let Some(back) = said.made(rope.to_contiguous_bytes()) {
-        let is_own = back == *bytes && rope.segment_count() == count;
-        said.expect(is_own, "another rope is handed back");
+        said.expect(back == *bytes, "other bytes are handed back");
+        said.expect(rope.segment_count() == count, "another rope is handed back");
     }
     said.refuse_to_write(EncodeError::OutOfMemory);
 }
@@ -62,12 +75,16 @@ fn say_segments(rope: Rope, bytes: &Bytes, count: usize, said: &mut Said) {
     said.show(&count);
     said.word(":");
     for segment in &segments {
-        if segment.len() > 20 {
-            said.also(" ", &segment.len());
-            said.word(" bytes");
-        } else if let Ok(text) = std::str::from_utf8(segment.as_slice()) {
-            said.also(" ", &text);
-        }
+        say_segment(segment.as_slice(), said);
+    }
+}
+
+fn say_segment(segment: &[u8], said: &mut Said) {
+    if segment.len() > 20 {
+        said.also(" ", &segment.len());
+        said.word(" bytes");
+    } else if let Ok(text) = std::str::from_utf8(segment) {
+        said.also(" ", &text);
     }
 }
 

@@ -102,18 +102,15 @@ impl<'a> Row<'a> {
         let (depth, size) = (self.number("depth"), self.number("size"));
         let (slots, elements) = (self.number("slots"), self.number("elements"));
         let payloads = self.number("payloads");
-        let is_named = depth.is_some() || size.is_some() || payloads.is_some();
-        if !is_named && slots.is_none() && elements.is_none() {
-            return None;
-        }
-        Some(
-            DecodeOptions::new()
-                .with_recursion_limit(depth.unwrap_or(100))
-                .with_max_message_size(size.unwrap_or(usize::MAX))
-                .with_unknown_field_limit(slots.unwrap_or(1_000_000))
-                .with_unknown_byte_limit(payloads.unwrap_or(usize::MAX))
-                .with_element_memory_limit(elements.unwrap_or(33_554_432)),
-        )
+        let of_size = depth.is_some() | size.is_some();
+        let of_counts = slots.is_some() | elements.is_some() | payloads.is_some();
+        let options = DecodeOptions::new()
+            .with_recursion_limit(depth.unwrap_or(100))
+            .with_max_message_size(size.unwrap_or(usize::MAX))
+            .with_unknown_field_limit(slots.unwrap_or(1_000_000))
+            .with_unknown_byte_limit(payloads.unwrap_or(usize::MAX))
+            .with_element_memory_limit(elements.unwrap_or(33_554_432));
+        (of_size | of_counts).then_some(options)
     }
 }
 
@@ -141,17 +138,8 @@ impl Bytes {
         let (given, rest) = line.split_once('|')?;
         let (bytes, answer) = rest.split_once('|')?;
         let (call, words) = given.split_once(' ')?;
-        self.bytes.clear();
-        self.ends.clear();
-        self.start = 0;
-        for word in bytes.split(' ') {
-            self.take(word, said)?;
-        }
-        for word in words.split(' ') {
-            if let Some(levels) = word.strip_prefix("levels=") {
-                self.wrap(levels.parse().ok()?, said)?;
-            }
-        }
+        self.read(bytes, said)?;
+        self.put_into_levels(words, said)?;
         said.made(self.ends.push(self.bytes.len()))?;
         Some(Row {
             call,
@@ -160,6 +148,25 @@ impl Bytes {
             ends: &self.ends,
             answer: answer.trim(),
         })
+    }
+
+    fn read(&mut self, bytes: &str, said: &mut Said) -> Option<()> {
+        self.bytes.clear();
+        self.ends.clear();
+        self.start = 0;
+        for word in bytes.split(' ') {
+            self.take(word, said)?;
+        }
+        Some(())
+    }
+
+    fn put_into_levels(&mut self, words: &str, said: &mut Said) -> Option<()> {
+        for word in words.split(' ') {
+            if let Some(levels) = word.strip_prefix("levels=") {
+                self.wrap(levels.parse().ok()?, said)?;
+            }
+        }
+        Some(())
     }
 
     fn take(&mut self, word: &str, said: &mut Said) -> Option<()> {

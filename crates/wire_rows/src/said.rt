@@ -155,6 +155,27 @@ impl Said {
         }
     }
 
+    /// What was decoded, where it was, or the refusal.
+    pub fn decoded_as<T: Debug + Drop>(&mut self, answer: Result<T, DecodeError>) {
+        if let Some(value) = self.decoded(answer) {
+            self.show(&value);
+        }
+    }
+
+    /// What a writing call answers, or the refusal.
+    pub fn encoded_as<T: Debug + Drop>(&mut self, answer: Result<T, EncodeError>) {
+        if let Some(value) = self.encoded(answer) {
+            self.show(&value);
+        }
+    }
+
+    /// The word that was made, where there was memory.
+    pub fn made_word<E: Drop>(&mut self, answer: Result<String, E>) {
+        if let Some(word) = self.made(answer) {
+            self.word(&word);
+        }
+    }
+
     /// What a call read and how many bytes it left, or why it refused.
     pub fn read<T: Debug + Drop, B: Buf>(&mut self, answer: Result<T, DecodeError>, buf: &B) {
         if let Some(value) = self.decoded(answer) {
@@ -176,17 +197,20 @@ impl Said {
 
     /// What is left of the limits that a row names.
     pub fn limits(&mut self, row: &Row<'_>, context: &DecodeContext) {
-        if row.word("slots").is_some() {
-            self.also(", ", &context.remaining_unknown_fields());
-            self.word(" slots");
-        }
-        if let Some(bytes) = context.remaining_unknown_bytes() {
-            self.also(", ", &bytes);
-            self.word(" for payloads");
-        }
-        if let Some(bytes) = context.remaining_element_memory() {
-            self.also(", ", &bytes);
-            self.word(" for elements");
+        let slots = row
+            .word("slots")
+            .is_some()
+            .then_some(context.remaining_unknown_fields());
+        self.limit(slots, " slots");
+        self.limit(context.remaining_unknown_bytes(), " for payloads");
+        self.limit(context.remaining_element_memory(), " for elements");
+    }
+
+    /// What is left of a limit, where there is one.
+    pub fn limit(&mut self, left: Option<usize>, of: &str) {
+        if let Some(left) = left {
+            self.also(", ", &left);
+            self.word(of);
         }
     }
 }

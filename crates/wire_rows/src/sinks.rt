@@ -26,20 +26,31 @@ fn written(row: &Row<'_>, said: &mut Said) -> bool {
         return false;
     };
     said.encoded(answer);
-    let mut vector = Vec::new(said.alloc);
-    let answer = put_behind(row, &mut vector);
-    is_front(answer, &vector, &whole, said);
-    let mut buffer = BytesMut::new(said.alloc);
-    let answer = put_behind(row, &mut buffer);
-    is_front(answer, buffer.as_slice(), &whole, said);
-    for mut rope in [Rope::with_min_segment(said.alloc, 1), Rope::new(said.alloc)] {
-        let answer = put_behind(row, &mut rope);
-        if let Some(bytes) = said.made(rope.to_contiguous_bytes()) {
-            is_front(answer, bytes.as_slice(), &whole, said);
-        }
-    }
+    into_vector(row, &whole, said);
+    into_buffer(row, &whole, said);
+    into_rope(row, Rope::with_min_segment(said.alloc, 1), &whole, said);
+    into_rope(row, Rope::new(said.alloc), &whole, said);
     said.written(whole.get(1..).unwrap_or(&[]), row.bytes);
     true
+}
+
+fn into_vector(row: &Row<'_>, whole: &[u8], said: &mut Said) {
+    let mut vector = Vec::new(said.alloc);
+    let answer = put_behind(row, &mut vector);
+    is_front(answer, &vector, whole, said);
+}
+
+fn into_buffer(row: &Row<'_>, whole: &[u8], said: &mut Said) {
+    let mut buffer = BytesMut::new(said.alloc);
+    let answer = put_behind(row, &mut buffer);
+    is_front(answer, buffer.as_slice(), whole, said);
+}
+
+fn into_rope(row: &Row<'_>, mut rope: Rope, whole: &[u8], said: &mut Said) {
+    let answer = put_behind(row, &mut rope);
+    if let Some(bytes) = said.made(rope.to_contiguous_bytes()) {
+        is_front(answer, bytes.as_slice(), whole, said);
+    }
 }
 
 fn put<S: EncodeSink>(row: &Row<'_>, sink: &mut S) -> Option<Result<(), EncodeError>> {
@@ -67,28 +78,33 @@ fn is_front(answer: Result<(), EncodeError>, written: &[u8], whole: &[u8], said:
 
 // The puts of a row behind a byte, again and again.
 fn puts_into_each(row: &Row<'_>, said: &mut Said) {
-    let alloc = said.alloc;
     let mut text = said.copied(&[0; 1024]);
     text.clear();
     match row.word("into") {
-        Some("Vec") => {
-            let mut sink = Vec::new(alloc);
-            let answer = puts(row, &mut sink, &mut text);
-            is_left(answer, &sink, &text, said)
-        }
-        Some("BytesMut") => {
-            let mut sink = BytesMut::new(alloc);
-            let answer = puts(row, &mut sink, &mut text);
-            is_left(answer, sink.as_slice(), &text, said)
-        }
-        _ => {
-            let least = row.number("min").unwrap_or(4096);
-            let mut sink = Rope::with_min_segment(alloc, least);
-            let answer = puts(row, &mut sink, &mut text);
-            if let Some(bytes) = said.made(sink.to_contiguous_bytes()) {
-                is_left(answer, bytes.as_slice(), &text, said)
-            }
-        }
+        Some("Vec") => puts_into_vector(row, &mut text, said),
+        Some("BytesMut") => puts_into_buffer(row, &mut text, said),
+        _ => puts_into_rope(row, &mut text, said),
+    }
+}
+
+fn puts_into_vector(row: &Row<'_>, text: &mut Vec<u8>, said: &mut Said) {
+    let mut sink = Vec::new(said.alloc);
+    let answer = puts(row, &mut sink, text);
+    is_left(answer, &sink, text, said)
+}
+
+fn puts_into_buffer(row: &Row<'_>, text: &mut Vec<u8>, said: &mut Said) {
+    let mut sink = BytesMut::new(said.alloc);
+    let answer = puts(row, &mut sink, text);
+    is_left(answer, sink.as_slice(), text, said)
+}
+
+fn puts_into_rope(row: &Row<'_>, text: &mut Vec<u8>, said: &mut Said) {
+    let least = row.number("min").unwrap_or(4096);
+    let mut sink = Rope::with_min_segment(said.alloc, least);
+    let answer = puts(row, &mut sink, text);
+    if let Some(bytes) = said.made(sink.to_contiguous_bytes()) {
+        is_left(answer, bytes.as_slice(), text, said)
     }
 }
 
@@ -113,24 +129,25 @@ fn puts<S: EncodeSink>(row: &Row<'_>, sink: &mut S, text: &mut Vec<u8>) -> Resul
 
 // What is put by the call of this kind, if there is one.
 fn put_one<S: EncodeSink>(kind: &str, sink: &mut S) -> Result<&'static [u8], EncodeError> {
-    match kind {
-        "u8" => sink.put_u8(1)?,
-        "slice" => sink.put_slice(b"ab")?,
-        "u32" => sink.put_u32_le(7)?,
-        "u64" => sink.put_u64_le(9)?,
-        "i32" => sink.put_i32_le(-1)?,
-        "i64" => sink.put_i64_le(-2)?,
-        "shared" => sink.put_shared(Bytes::from_static(b"cd"))?,
-        _ => {}
+    let (answer, bytes): (_, &'static [u8]) = match kind {
+        "u8" => (sink.put_u8(1), b"\x01"),
+        "slice" => (sink.put_slice(b"ab"), b"ab"),
+        "u32" => (sink.put_u32_le(7), b"\x07\x00\x00\x00"),
+        "u64" => (sink.put_u64_le(9), b"\x09\x00\x00\x00\x00\x00\x00\x00"),
+        "i32" => (sink.put_i32_le(-1), b"\xff\xff\xff\xff"),
+        "i64" => (sink.put_i64_le(-2), b"\xfe\xff\xff\xff\xff\xff\xff\xff"),
+        "shared" => (sink.put_shared(Bytes::from_static(b"cd")), b"cd"),
+        _ => return Ok(b""),
+    };
+    put_as(answer, bytes)
+}
+
+fn put_as(
+    answer: Result<(), EncodeError>,
+    bytes: &'static [u8],
+) -> Result<&'static [u8], EncodeError> {
+    match answer {
+        Ok(()) => Ok(bytes),
+        Err(error) => Err(error),
     }
-    Ok(match kind {
-        "u8" => b"\x01",
-        "slice" => b"ab",
-        "u32" => b"\x07\x00\x00\x00",
-        "u64" => b"\x09\x00\x00\x00\x00\x00\x00\x00",
-        "i32" => b"\xff\xff\xff\xff",
-        "i64" => b"\xfe\xff\xff\xff\xff\xff\xff\xff",
-        "shared" => b"cd",
-        _ => b"",
-    })
 }

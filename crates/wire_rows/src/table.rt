@@ -16,12 +16,7 @@ const SHORT: usize = 1000;
 pub fn run<R: Print + AllocGlobal>(rt: &R, text: &str) -> io::Result<ExitCode> {
     let mut table = Table::new(rt.alloc());
     for (index, line) in text.lines().enumerate() {
-        if line.is_empty() || line.starts_with("#") {
-            continue;
-        }
-        if line == "half" {
-            table.is_halving = true;
-        } else if table.is_astray(line) {
+        if table.is_astray(line) {
             let line = index.saturating_add(1);
             let (said, astray) = table.said.told();
             println!(rt; "line {line}: {said:?} {astray:?}")?;
@@ -55,9 +50,29 @@ impl Table {
         }
     }
 
+    // Whether a line is a row, and one that is astray.
     fn is_astray(&mut self, line: &str) -> bool {
+        match line {
+            "half" => {
+                self.is_halving = true;
+                false
+            }
+            _ if is_row(line) => self.counted(line),
+            _ => false,
+        }
+    }
+
+    fn counted(&mut self, line: &str) -> bool {
         self.rows = self.rows.saturating_add(1);
-        let found = self.found(line);
+        self.said.clear();
+        let found = match self.bytes.row(line, &mut self.said) {
+            Some(row) => found(&row, self.is_halving, &mut self.said),
+            None => no_row(&mut self.said),
+        };
+        self.count(found)
+    }
+
+    fn count(&mut self, found: Found) -> bool {
         match found {
             Found::Own => return false,
             Found::OutOfMemory if self.status != 1 => self.status = 2,
@@ -66,39 +81,52 @@ impl Table {
         self.astray = self.astray.saturating_add(1);
         true
     }
+}
 
-    fn found(&mut self, line: &str) -> Found {
-        let said = &mut self.said;
-        said.clear();
-        let Some(row) = self.bytes.row(line, said) else {
-            said.expect(false, "no row");
-            return said.found("");
-        };
-        if calls::tell(&row, said) {
-            return said.found(row.answer);
-        }
-        let mut whole = row.bytes;
-        let is_read = calls::read(&row, &mut whole, said);
-        said.expect(is_read, "no call");
-        let len = row.bytes.len();
-        let is_long = self.is_halving || len > SHORT;
-        let (first, last) = if is_long {
-            (len / 2, len / 2)
-        } else {
-            (0, len)
-        };
-        for place in first..=last {
-            let found = said.found(row.answer);
-            if !matches!(found, Found::Own) {
-                return found;
-            }
-            said.clear();
-            if let Some(mut pieces) = cut(row.bytes, place, said) {
-                calls::read(&row, &mut pieces, said);
-            }
-        }
-        said.found(row.answer)
+fn is_row(line: &str) -> bool {
+    !line.is_empty() && !line.starts_with("#")
+}
+
+fn no_row(said: &mut Said) -> Found {
+    said.expect(false, "no row");
+    said.found("")
+}
+
+// What a row finds: its call's answer, and where it reads from a buffer also that on the bytes cut.
+fn found(row: &Row<'_>, is_halving: bool, said: &mut Said) -> Found {
+    if calls::tell(row, said) {
+        return said.found(row.answer);
     }
+    let mut whole = row.bytes;
+    let is_read = calls::read(row, &mut whole, said);
+    said.expect(is_read, "no call");
+    match said.found(row.answer) {
+        Found::Own => found_in_pieces(row, is_halving, said),
+        found => found,
+    }
+}
+
+fn found_in_pieces(row: &Row<'_>, is_halving: bool, said: &mut Said) -> Found {
+    let len = row.bytes.len();
+    let (first, last) = match is_halving | (len > SHORT) {
+        true => (len / 2, len / 2),
+        false => (0, len),
+    };
+    for place in first..=last {
+        let found = found_cut(row, place, said);
+        if !matches!(found, Found::Own) {
+            return found;
+        }
+    }
+    Found::Own
+}
+
+fn found_cut(row: &Row<'_>, place: usize, said: &mut Said) -> Found {
+    said.clear();
+    if let Some(mut pieces) = cut(row.bytes, place, said) {
+        calls::read(row, &mut pieces, said);
+    }
+    said.found(row.answer)
 }
 
 /// A buffer whose chunks are two pieces of the bytes, or one where the other has no byte; none

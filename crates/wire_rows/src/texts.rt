@@ -15,21 +15,25 @@ pub fn read<B: Buf>(row: &Row<'_>, buf: &mut B, said: &mut Said) -> bool {
     match row.call {
         "decode_length" => said.read(decode_length(buf, row.number("max")), buf),
         "decode_string" => said.read(decode_string(said.alloc, buf), buf),
-        "decode_bytes" => {
-            if let Some(bytes) = said.decoded(decode_bytes(said.alloc, buf)) {
-                said.read(Ok(Hex(&bytes)), buf)
-            }
-        }
-        "decode_bytes_to_bytes" => {
-            if let Some(bytes) = said.decoded(decode_bytes_to_bytes(said.alloc, buf)) {
-                said.read(Ok(Hex(bytes.as_slice())), buf)
-            }
-        }
+        "decode_bytes" => decoded_bytes(buf, said),
+        "decode_bytes_to_bytes" => decoded_shared(buf, said),
         "merge_string" => merged_string(buf, said),
         "merge_bytes" => merged_bytes(buf, said),
         _ => return plugged::read(row, buf, said),
     }
     true
+}
+
+fn decoded_bytes<B: Buf>(buf: &mut B, said: &mut Said) {
+    if let Some(bytes) = said.decoded(decode_bytes(said.alloc, buf)) {
+        said.read(Ok(Hex(&bytes)), buf)
+    }
+}
+
+fn decoded_shared<B: Buf>(buf: &mut B, said: &mut Said) {
+    if let Some(bytes) = said.decoded(decode_bytes_to_bytes(said.alloc, buf)) {
+        said.read(Ok(Hex(bytes.as_slice())), buf)
+    }
 }
 
 // A string that is merged into `old`, and the value then. Want of memory leaves it.
@@ -38,8 +42,9 @@ fn merged_string<B: Buf>(buf: &mut B, said: &mut Said) {
         return;
     };
     if let Err(error) = merge_string(said.alloc, &mut value, buf) {
-        let is_left = value.as_str() == "old" || error != DecodeError::OutOfMemory;
-        said.expect(is_left, "a refused merge");
+        let is_left = value.as_str() == "old";
+        let is_other = error != DecodeError::OutOfMemory;
+        said.expect(is_left | is_other, "a refused merge");
         said.refuse(error);
         return said.also(" ", &value);
     }
@@ -78,61 +83,67 @@ fn text_of<'a>(row: &Row<'a>) -> &'a str {
 }
 
 pub fn tell(row: &Row<'_>, said: &mut Said) -> bool {
-    let mut rest = row.bytes;
     match row.call {
-        "borrow_str" => {
-            if let Some(text) = said.decoded(borrow_str(&mut rest)) {
-                said.show(&text);
-            }
-            said.left(rest.len());
-        }
-        "borrow_bytes" => {
-            if let Some(bytes) = said.decoded(borrow_bytes(&mut rest)) {
-                said.show(&Hex(bytes));
-            }
-            said.left(rest.len());
-        }
-        "bytes_encoded_len" => {
-            if let Some(len) = said.encoded(bytes_encoded_len(row.bytes)) {
-                said.show(&len)
-            }
-        }
-        "string_encoded_len" => {
-            if let Some(len) = said.encoded(string_encoded_len(text_of(row))) {
-                said.show(&len)
-            }
-        }
+        "borrow_str" => borrowed_str(row.bytes, said),
+        "borrow_bytes" => borrowed_bytes(row.bytes, said),
+        "bytes_encoded_len" => said.encoded_as(bytes_encoded_len(row.bytes)),
+        "string_encoded_len" => said.encoded_as(string_encoded_len(text_of(row))),
         "WirePayload" => payload(row.bytes, said),
         _ => return plugged::tell(row, said),
     }
     true
 }
 
+fn borrowed_str(bytes: &[u8], said: &mut Said) {
+    let mut rest = bytes;
+    said.decoded_as(borrow_str(&mut rest));
+    said.left(rest.len());
+}
+
+fn borrowed_bytes(bytes: &[u8], said: &mut Said) {
+    let mut rest = bytes;
+    if let Some(bytes) = said.decoded(borrow_bytes(&mut rest)) {
+        said.show(&Hex(bytes));
+    }
+    said.left(rest.len());
+}
+
 // A payload that is lent, a copy of it that is owned, and one that shares with the copy.
 fn payload(bytes: &[u8], said: &mut Said) {
-    let lent = WirePayload::borrowed(bytes);
     let Some(copy) = said.made(Bytes::copy_from_slice(said.alloc, bytes)) else {
         return;
     };
     let owned = WirePayload::owned(copy);
-    let Some(again) = said.made(owned.clone()) else {
-        return;
-    };
-    let (text, len) = (lent.to_str(), lent.len());
-    let is_owned = !lent.is_owned() && owned.is_owned() && again.is_owned();
-    said.expect(is_owned, "owned");
-    said.expect(owned.to_str() == text && owned.len() == len, "another text");
-    said.expect(owned.is_empty() == (len == 0), "another length");
-    said.expect(again.as_slice() == bytes, "another copy");
-    said.show(&len);
+    say_lent(bytes, said);
+    said.expect(owned.is_owned(), "not owned");
+    said.expect(
+        owned.to_str() == WirePayload::borrowed(bytes).to_str(),
+        "another text",
+    );
+    said.expect(owned.len() == bytes.len(), "another length");
+    said.expect(owned.is_empty() == bytes.is_empty(), "empty");
+    is_copied(&owned, bytes, said);
+    is_made(owned, bytes, said);
+}
+
+fn say_lent(bytes: &[u8], said: &mut Said) {
+    let lent = WirePayload::borrowed(bytes);
+    said.expect(!lent.is_owned(), "owned");
+    said.show(&lent.len());
     said.word(" ");
-    if let Some(text) = said.decoded(text) {
-        said.show(&text);
+    said.decoded_as(lent.to_str());
+    is_made(lent, bytes, said);
+}
+
+fn is_copied(owned: &WirePayload<'_>, bytes: &[u8], said: &mut Said) {
+    if let Some(copy) = said.made(owned.clone()) {
+        said.expect(copy.is_owned(), "a copy that is not owned");
+        said.expect(copy.as_slice() == bytes, "another copy");
     }
-    if let Some(made) = said.made(lent.into_bytes(said.alloc)) {
-        said.expect(made.as_slice() == bytes, "lent");
-    }
-    if let Some(made) = said.made(owned.into_bytes(said.alloc)) {
-        said.expect(made.as_slice() == bytes, "owned");
+}
+
+fn is_made(payload: WirePayload<'_>, bytes: &[u8], said: &mut Said) {
+    if let Some(made) = said.made(payload.into_bytes(said.alloc)) {
+        said.expect(made.as_slice() == bytes, "other bytes");
     }
 }

@@ -5,37 +5,43 @@ use crate::scalars::field_number;
 use bytes::Buf;
 use std::hash::{DefaultHasher, Hash, Hasher};
 use wire_codec::{
-    Tag, UnknownField, UnknownFieldData, UnknownFields, borrow_group, decode_unknown_field,
-    skip_field, skip_field_depth,
+    DecodeContext, DecodeError, Tag, UnknownField, UnknownFieldData, UnknownFields, borrow_group,
+    decode_unknown_field, skip_field, skip_field_depth,
 };
 
 // ---- a tag and its payload
 
 pub fn read<B: Buf>(row: &Row<'_>, buf: &mut B, said: &mut Said) -> bool {
     match row.call {
-        "skip_field" => {
-            if let Some(tag) = said.decoded(Tag::decode(buf)) {
-                said.read(skip_field(tag, buf), buf)
-            }
-        }
-        "skip_field_depth" => {
-            let depth = row.number("depth").unwrap_or(0);
-            if let Some(tag) = said.decoded(Tag::decode(buf)) {
-                said.read(skip_field_depth(tag, buf, depth), buf)
-            }
-        }
+        "skip_field" => skip(buf, said),
+        "skip_field_depth" => skip_within(row.number("depth").unwrap_or(0), buf, said),
         "decode_unknown_field" => decode(row, buf, said),
         _ => return false,
     }
     true
 }
 
+fn skip<B: Buf>(buf: &mut B, said: &mut Said) {
+    if let Some(tag) = said.decoded(Tag::decode(buf)) {
+        said.read(skip_field(tag, buf), buf)
+    }
+}
+
+fn skip_within<B: Buf>(depth: u32, buf: &mut B, said: &mut Said) {
+    if let Some(tag) = said.decoded(Tag::decode(buf)) {
+        said.read(skip_field_depth(tag, buf, depth), buf)
+    }
+}
+
 fn decode<B: Buf>(row: &Row<'_>, buf: &mut B, said: &mut Said) {
+    if let Some(tag) = said.decoded(Tag::decode(buf)) {
+        decode_behind(tag, row, buf, said);
+    }
+}
+
+fn decode_behind<B: Buf>(tag: Tag, row: &Row<'_>, buf: &mut B, said: &mut Said) {
     let mut context = row.context();
     let depth = context.depth();
-    let Some(tag) = said.decoded(Tag::decode(buf)) else {
-        return;
-    };
     let answer = decode_unknown_field(said.alloc, tag, buf, &mut context);
     let Some(field) = said.decoded(answer) else {
         return;
@@ -52,12 +58,7 @@ fn decode<B: Buf>(row: &Row<'_>, buf: &mut B, said: &mut Said) {
 
 pub fn tell(row: &Row<'_>, said: &mut Said) -> bool {
     match row.call {
-        "UnknownFields" => {
-            let answer = UnknownFields::decode_from_slice(said.alloc, row.bytes);
-            if let Some(fields) = said.decoded(answer) {
-                say_fields(&fields, row.bytes, said)
-            }
-        }
+        "UnknownFields" => decode_all(row.bytes, said),
         "decode_from_slice_within" => decode_within(row, said),
         "UnknownFields::push" => push(said),
         "UnknownFields::retain" => retain(row, said),
@@ -68,30 +69,48 @@ pub fn tell(row: &Row<'_>, said: &mut Said) -> bool {
     true
 }
 
+fn decode_all(bytes: &[u8], said: &mut Said) {
+    let answer = UnknownFields::decode_from_slice(said.alloc, bytes);
+    if let Some(fields) = said.decoded(answer) {
+        say_fields(&fields, bytes, said)
+    }
+}
+
 // How many fields there are, and what they are written as, all at once and one by one. A clone is
 // equal, and hashes equally.
 fn say_fields(fields: &UnknownFields, given: &[u8], said: &mut Said) {
+    let pieces = in_pieces(fields, said);
     let mut text = said.copied(b"\x07");
+    let answer = fields.write_to(&mut text);
+    said.expect(pieces.starts_with(&text), "no front");
+    said.encoded(answer);
+    said.expect(pieces == text, "other fields");
+    let text = text.get(1..).unwrap_or(&[]);
+    said.expect(fields.encoded_len() == Ok(text.len()), "another length");
+    said.expect(fields.is_empty() == text.is_empty(), "empty");
+    say_copy(fields, said);
+    said.word(": ");
+    said.written(text, given);
+}
+
+// The fields one by one, behind the byte 7.
+fn in_pieces(fields: &UnknownFields, said: &mut Said) -> Vec<u8> {
     let mut pieces = said.copied(b"\x07");
     let mut numbers = 0usize;
     for field in fields {
         said.encoded(field.write_to(&mut pieces));
         numbers = numbers.saturating_add(1);
     }
-    let answer = fields.write_to(&mut text);
-    said.expect(pieces.starts_with(&text), "no front");
-    said.encoded(answer);
-    said.expect(pieces == text && numbers == fields.len(), "other fields");
-    let text = text.get(1..).unwrap_or(&[]);
-    said.expect(fields.encoded_len() == Ok(text.len()), "another length");
-    said.expect(fields.is_empty() == text.is_empty(), "empty");
+    said.expect(numbers == fields.len(), "another count");
+    pieces
+}
+
+fn say_copy(fields: &UnknownFields, said: &mut Said) {
     if let Some(copy) = said.made(fields.clone()) {
-        let is_equal = copy == *fields && hash_of(&copy) == hash_of(fields);
-        said.expect(is_equal, "a clone");
+        said.expect(copy == *fields, "a clone");
+        said.expect(hash_of(&copy) == hash_of(fields), "a clone's hash");
         said.show(&copy.into_iter().count());
     }
-    said.word(": ");
-    said.written(text, given);
 }
 
 fn hash_of(fields: &UnknownFields) -> u64 {
@@ -111,7 +130,11 @@ fn decode_within(row: &Row<'_>, said: &mut Said) {
     say_fields(&fields, row.bytes, said);
     said.also(", ", &context.remaining_unknown_fields());
     said.word(" slots, then ");
-    let answer = UnknownFields::decode_from_slice_within(alloc, b"\x08\x00", &mut context);
+    say_one_more(&mut context, said);
+}
+
+fn say_one_more(context: &mut DecodeContext, said: &mut Said) {
+    let answer = UnknownFields::decode_from_slice_within(said.alloc, b"\x08\x00", context);
     if said.decoded(answer).is_some() {
         said.word("one more");
     }
@@ -123,10 +146,9 @@ fn push(said: &mut Said) {
     for number in 1..=9 {
         let value = UnknownFieldData::Fixed32(number);
         if let Err(back) = fields.push(UnknownField { number, value }) {
-            let is_own = back.number == number && back.value == UnknownFieldData::Fixed32(number);
-            said.expect(is_own, "another field is handed back");
+            is_handed_back(&back, number, said);
             said.expect(are_up_to(&fields, number), "a refused push");
-            return said.refuse(wire_codec::DecodeError::OutOfMemory);
+            return said.refuse(DecodeError::OutOfMemory);
         }
     }
     said.expect(are_up_to(&fields, 10), "other fields");
@@ -135,6 +157,12 @@ fn push(said: &mut Said) {
     fields.clear();
     said.expect(fields == none, "not cleared");
     said.word("pushed");
+}
+
+fn is_handed_back(back: &UnknownField, number: u32, said: &mut Said) {
+    said.expect(back.number == number, "another number is handed back");
+    let is_own = back.value == UnknownFieldData::Fixed32(number);
+    said.expect(is_own, "another value is handed back");
 }
 
 // Whether the fields are those of the numbers from 1 up to this one.
@@ -182,10 +210,14 @@ fn measure(row: &Row<'_>, said: &mut Said) {
     said.show(&text.len());
     said.also(": ", &Hex(text.get(..7).unwrap_or(&text)));
     said.word("; ");
-    let answer = UnknownFields::decode_from_slice(said.alloc, &text);
+    is_read_again(&field, &text, said);
+}
+
+fn is_read_again(field: &UnknownField, text: &[u8], said: &mut Said) {
+    let answer = UnknownFields::decode_from_slice(said.alloc, text);
     if let Some(fields) = said.decoded(answer) {
-        let is_own = fields.len() == 1 && fields.iter().next() == Some(&field);
-        said.expect(is_own, "another field");
+        said.expect(fields.len() == 1, "another count");
+        said.expect(fields.iter().next() == Some(field), "another field");
         said.word("read again");
     }
 }

@@ -1,7 +1,9 @@
 //! Flat walks over spans, views of unknown fields, and the unknown fields of a person as a view.
 use crate::row::Row;
 use crate::said::{Hex, Said};
-use wire_codec::{DecodeContext, DecodeError, Message, UnknownFieldsView, register_unknown_record};
+use wire_codec::{
+    DecodeContext, DecodeError, Message, UnknownFields, UnknownFieldsView, register_unknown_record,
+};
 use wire_samples::{Person, person_unknowns};
 
 pub fn tell(row: &Row<'_>, said: &mut Said) -> bool {
@@ -39,11 +41,11 @@ fn view(row: &Row<'_>, said: &mut Said) {
     for pushed in 0..row.span_count() {
         let (fields, slots) = (view.fields(), context.remaining_unknown_fields());
         if let Err(error) = view.push_span(row.span(pushed), &mut context) {
-            let is_left = view.len() == pushed && view.fields() == fields;
-            said.expect(is_left, "a refused span");
+            said.expect(view.len() == pushed, "a refused span");
+            said.expect(view.fields() == fields, "fields of a refused span");
             let is_memory = error == DecodeError::OutOfMemory;
-            let is_left = !is_memory || context.remaining_unknown_fields() == slots;
-            said.expect(is_left, "a slot is gone");
+            let is_left = context.remaining_unknown_fields() == slots;
+            said.expect(!is_memory | is_left, "a slot is gone");
             said.show(&pushed);
             said.word(" kept, then ");
             return said.refuse(error);
@@ -52,42 +54,53 @@ fn view(row: &Row<'_>, said: &mut Said) {
     say_view(row, &view, said);
     said.limits(row, &context);
     view.clear();
-    let is_cleared = (view.fields(), view.depth(), view.bytes()) == (0, 0, 0);
-    said.expect(view.is_empty() && is_cleared, "not cleared");
+    said.expect(view.is_empty(), "spans of a cleared view");
+    let charge = [view.fields(), view.bytes(), view.depth() as usize];
+    said.expect(charge == [0, 0, 0], "a charge of a cleared view");
 }
 
 // What a view is charged, what it writes, and what its spans spell under just that charge.
 fn say_view(row: &Row<'_>, view: &UnknownFieldsView<'_>, said: &mut Said) {
-    let (fields, depth, bytes) = (view.fields(), view.depth(), view.bytes());
-    say_charge(fields, depth, bytes, said);
+    say_charge(view.fields(), view.depth(), view.bytes(), said);
     said.word(", ");
     let mut text = Vec::new(said.alloc);
     said.encoded(view.write_to(&mut text));
     said.expect(view.encoded_len() == Ok(text.len()), "another length");
+    said.expect(len_of_spans(view) == text.len(), "other spans");
+    said.expect(view.is_empty() == (view.len() == 0), "empty");
+    said.written(&text, row.bytes);
+    said.word("; ");
+    if let Some(owned) = said.decoded(view.to_owned_fields()) {
+        replays_as(view, &owned, said);
+        say_shortest(&owned, &text, said);
+    }
+}
+
+fn len_of_spans(view: &UnknownFieldsView<'_>) -> usize {
     let mut len = 0usize;
     for span in view.iter() {
         len = len.saturating_add(span.len());
     }
-    said.expect(len == text.len(), "other spans");
-    said.expect(view.is_empty() == (view.len() == 0), "empty");
-    said.written(&text, row.bytes);
-    said.word("; ");
-    let Some(owned) = said.decoded(view.to_owned_fields()) else {
-        return;
-    };
-    let mut context = DecodeContext::new(depth, fields).with_unknown_bytes(bytes);
+    len
+}
+
+fn replays_as(view: &UnknownFieldsView<'_>, owned: &UnknownFields, said: &mut Said) {
+    let context = DecodeContext::new(view.depth(), view.fields());
+    let mut context = context.with_unknown_bytes(view.bytes());
     let replayed = said.decoded(view.replay(&mut context));
-    said.expect(replayed.as_ref() == Some(&owned), "another replay");
-    let left = (
-        context.remaining_unknown_fields(),
-        context.remaining_unknown_bytes(),
-    );
-    said.expect(left == (0, Some(0)) && context.depth() == depth, "a charge");
+    said.expect(replayed.as_ref() == Some(owned), "another replay");
+    said.expect(context.remaining_unknown_fields() == 0, "a charge of slots");
+    let bytes = context.remaining_unknown_bytes();
+    said.expect(bytes == Some(0), "a charge of bytes");
+    said.expect(context.depth() == view.depth(), "a charge of levels");
+}
+
+fn say_shortest(owned: &UnknownFields, text: &[u8], said: &mut Said) {
     let mut shortest = Vec::new(said.alloc);
     said.encoded(owned.write_to(&mut shortest));
     said.show(&owned.len());
     said.word(": ");
-    said.written(&shortest, &text);
+    said.written(&shortest, text);
 }
 
 // The spans outlive the view, and spell what a decoded person keeps.
@@ -103,11 +116,13 @@ fn unknowns(row: &Row<'_>, said: &mut Said) {
     }
     say_view(row, &view, said);
     said.limits(row, &context);
-    if let Ok(person) = Person::decode_from_slice(said.alloc, row.bytes) {
+    is_kept_by_a_person(row.bytes, &view, said);
+}
+
+fn is_kept_by_a_person(bytes: &[u8], view: &UnknownFieldsView<'_>, said: &mut Said) {
+    if let Ok(person) = Person::decode_from_slice(said.alloc, bytes) {
         let owned = said.decoded(view.to_owned_fields());
-        said.expect(
-            owned.as_ref() == Some(person.unknown()),
-            "other fields are kept",
-        );
+        let is_kept = owned.as_ref() == Some(person.unknown());
+        said.expect(is_kept, "other fields are kept");
     }
 }

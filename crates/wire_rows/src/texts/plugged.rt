@@ -58,19 +58,17 @@ pub fn read<B: Buf>(row: &Row<'_>, buf: &mut B, said: &mut Said) -> bool {
                 said.read(Ok(value.as_str()), buf)
             }
         }
-        "decode_bytes_to<Vec>" => {
-            if let Some(bytes) = said.decoded(decode_bytes_to::<Vec<u8>, B>(alloc, buf)) {
-                said.read(Ok(Hex(&bytes)), buf)
-            }
-        }
-        "decode_bytes_to<Bytes>" => {
-            if let Some(bytes) = said.decoded(decode_bytes_to::<Bytes, B>(alloc, buf)) {
-                said.read(Ok(Hex(bytes.as_slice())), buf)
-            }
-        }
+        "decode_bytes_to<Vec>" => read_bytes::<Vec<u8>, B>(buf, said),
+        "decode_bytes_to<Bytes>" => read_bytes::<Bytes, B>(buf, said),
         _ => return false,
     }
     true
+}
+
+fn read_bytes<P: ProtoBytes, B: Buf>(buf: &mut B, said: &mut Said) {
+    if let Some(bytes) = said.decoded(decode_bytes_to::<P, B>(said.alloc, buf)) {
+        said.read(Ok(Hex(bytes.as_slice())), buf)
+    }
 }
 
 pub fn tell(row: &Row<'_>, said: &mut Said) -> bool {
@@ -106,38 +104,54 @@ fn say_refused<B: Buf>(buf: &mut B, said: &mut Said) {
 // A text, made in each of the ways that a type has.
 fn made<P: ProtoString>(said: &mut Said) {
     let alloc = said.alloc;
-    let Some(lent) = said.decoded(P::from_wire(alloc, WirePayload::borrowed(b"hi"))) else {
-        return;
-    };
-    if let Some(payload) = said.made(Bytes::copy_from_slice(alloc, b"hi")) {
-        let own = said.decoded(P::from_wire(alloc, WirePayload::owned(payload)));
-        said.expect(own.as_ref() == Some(&lent), "another text of one's own");
+    let lent = P::from_wire(alloc, WirePayload::borrowed(b"hi"));
+    if let Some(lent) = said.decoded(lent) {
+        made_of_its_own(&lent, said);
+        made_of_a_text(&lent, said);
+        said.expect(P::empty(alloc).as_str() == "", "empty");
+        said.show(&lent.as_str());
     }
-    if let Some(copy) = said.decoded(P::from_text(alloc, "hi")) {
-        said.expect(copy == lent, "another text");
+}
+
+fn made_of_its_own<P: ProtoString>(lent: &P, said: &mut Said) {
+    if let Some(payload) = said.made(Bytes::copy_from_slice(said.alloc, b"hi")) {
+        let own = said.decoded(P::from_wire(said.alloc, WirePayload::owned(payload)));
+        said.expect(own.as_ref() == Some(lent), "another text of one's own");
+    }
+}
+
+fn made_of_a_text<P: ProtoString>(lent: &P, said: &mut Said) {
+    if let Some(copy) = said.decoded(P::from_text(said.alloc, "hi")) {
+        said.expect(copy == *lent, "another text");
         let again = said.made(copy.clone());
         said.expect(again.as_ref() == Some(&copy), "a clone");
     }
-    said.expect(P::empty(alloc).as_str() == "", "empty");
-    said.show(&lent.as_str());
 }
 
 // Bytes, made in each of the ways that a type has.
 fn made_bytes<P: ProtoBytes>(said: &mut Said) {
     let alloc = said.alloc;
-    let Some(lent) = said.decoded(P::from_wire(alloc, WirePayload::borrowed(b"\xc3"))) else {
-        return;
-    };
-    if let Some(payload) = said.made(Bytes::copy_from_slice(alloc, b"\xc3")) {
-        let own = said.decoded(P::from_wire(alloc, WirePayload::owned(payload)));
-        said.expect(own.as_ref() == Some(&lent), "other bytes of one's own");
+    let lent = P::from_wire(alloc, WirePayload::borrowed(b"\xc3"));
+    if let Some(lent) = said.decoded(lent) {
+        bytes_of_their_own(&lent, said);
+        bytes_of_a_vector(&lent, said);
+        said.expect(P::empty(alloc).as_slice().is_empty(), "empty");
+        said.show(&Hex(lent.as_slice()));
     }
+}
+
+fn bytes_of_their_own<P: ProtoBytes>(lent: &P, said: &mut Said) {
+    if let Some(payload) = said.made(Bytes::copy_from_slice(said.alloc, b"\xc3")) {
+        let own = said.decoded(P::from_wire(said.alloc, WirePayload::owned(payload)));
+        said.expect(own.as_ref() == Some(lent), "other bytes of one's own");
+    }
+}
+
+fn bytes_of_a_vector<P: ProtoBytes>(lent: &P, said: &mut Said) {
     let copy = said.copied(b"\xc3");
-    if let Some(copy) = said.decoded(P::from_vec(alloc, copy)) {
-        said.expect(copy == lent, "other bytes");
+    if let Some(copy) = said.decoded(P::from_vec(said.alloc, copy)) {
+        said.expect(copy == *lent, "other bytes");
         let again = said.made(copy.clone());
         said.expect(again.as_ref() == Some(&copy), "a clone");
     }
-    said.expect(P::empty(alloc).as_slice().is_empty(), "empty");
-    said.show(&Hex(lent.as_slice()));
 }

@@ -1,0 +1,4 @@
+-- The text of records.
+pub mod Lines
+pub mod Dumps
+pub mod Dumped

@@ -1,0 +1,97 @@
+//! Lines of a dump, put behind what was put.
+ghost use Rattle.std.specs.Prelude.{◌≡◌, ◌+◌, ◌*◌, ◌^◌, ◌<◌, ◌≤◌, ◌∷◌, ◌++◌, codes, decimal, OnOk};
+ghost use Rattle.wire_dump.specs.Lines.{closing, escaped, escaped_byte, fixed_line, hexadecimal, hexadecimal_digit, indented, line, number_line, octal, opening, string_line};
+
+use itoa::Buffer;
+use std::alloc::AllocError;
+
+// Two spaces a level.
+fn put_indentation(out: &mut Vec<u8>, level: u32) -> Result<(), AllocError>
+    ensures { OnOk result (out.new.items ≡ out.old.items ++ indented level) }
+{
+    for _ in 0..level {
+        out.extend_from_slice(b"  ")?;
+    }
+    Ok(())
+}
+
+fn put_decimal(out: &mut Vec<u8>, number: u64) -> Result<(), AllocError>
+    ensures { OnOk result (out.new.items ≡ out.old.items ++ decimal number) }
+{
+    let mut buffer = Buffer::new();
+    out.extend_from_slice(buffer.format(number).as_bytes())
+}
+
+// What each line of a record begins with.
+pub(crate) fn put_head(out: &mut Vec<u8>, level: u32, number: u32) -> Result<(), AllocError>
+    ensures { OnOk result (out.new.items ≡ out.old.items ++ (indented level ++ decimal number)) }
+{
+    put_indentation(out, level)?;
+    put_decimal(out, number as u64)
+}
+
+fn hexadecimal_digit(digit: u64) -> u8
+    requires { digit < 16 }
+    ensures { result ≡ hexadecimal_digit digit }
+{
+    if digit < 10 {
+        48 + digit as u8
+    } else {
+        87 + digit as u8
+    }
+}
+
+// So many digits to the base 16.
+fn put_hexadecimal(out: &mut Vec<u8>, width: u32, value: u64) -> Result<(), AllocError>
+    ensures { OnOk result (out.new.items ≡ out.old.items ++ hexadecimal width value) }
+{
+    if width == 0 {
+        return Ok(());
+    }
+    put_hexadecimal(out, width - 1, value / 16)?;
+    out.push(hexadecimal_digit(value % 16))?;
+    Ok(())
+}
+
+pub(crate) fn put_number(
+    out: &mut Vec<u8>,
+    level: u32,
+    number: u32,
+    value: u64,
+) -> Result<(), AllocError>
+    ensures { OnOk result (out.new.items ≡ out.old.items ++ number_line level number value) }
+{
+    put_head(out, level, number)?;
+    out.extend_from_slice(b": ")?;
+    put_decimal(out, value)?;
+    out.extend_from_slice(b"\n")
+}
+
+pub(crate) fn put_fixed(
+    out: &mut Vec<u8>,
+    level: u32,
+    number: u32,
+    width: u32,
+    value: u64,
+) -> Result<(), AllocError>
+    ensures { OnOk result (out.new.items ≡ out.old.items ++ fixed_line level number width value) }
+{
+    put_head(out, level, number)?;
+    out.extend_from_slice(b": 0x")?;
+    put_hexadecimal(out, width, value)?;
+    out.extend_from_slice(b"\n")
+}
+
+pub(crate) fn put_opening(out: &mut Vec<u8>, level: u32, number: u32) -> Result<(), AllocError>
+    ensures { OnOk result (out.new.items ≡ out.old.items ++ opening level number) }
+{
+    put_head(out, level, number)?;
+    out.extend_from_slice(b" {\n")
+}
+
+pub(crate) fn put_closing(out: &mut Vec<u8>, level: u32) -> Result<(), AllocError>
+    ensures { OnOk result (out.new.items ≡ out.old.items ++ closing level) }
+{
+    put_indentation(out, level)?;
+    out.extend_from_slice(b"}\n")
+}
