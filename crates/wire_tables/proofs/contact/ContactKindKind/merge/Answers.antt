@@ -7,7 +7,7 @@ use Rattle.wire_fields.specs.declared.form.Form.TheVariants.{Varint}
 use Rattle.wire_fields.specs.Numbers.{numeric}
 use Rattle.wire_fields.specs.Presence.{always}
 use Rattle.wire_fields.specs.Texts.{string}
-use Rattle.wire_tables.specs.Contact.{contact_kind, email_or_phone, visits}
+use Rattle.wire_tables.specs.Contact.{contact_of, contact_kind, email_or_phone, visits}
 use Rattle.wire_tables.proofs.contact.ContactKindKind.merge.Goals as goal
 
 pub returns-in_err-merge-in-2-clause-err : goal.returns-in_err-merge-in-2-clause-err
@@ -31,7 +31,8 @@ returns-in_default-clause-ok g c =
     let n = tag_number c.args.tag in
     arm_ok contact_kind.takes visits.takes n n refl _ _ _ _
     (to_last email_or_phone.owns email_or_phone.takes visits.takes n
-    (λ p. neither _ _ (unlike n 2 (search rules)) (unlike n 3 (search rules))) _ _) _ _ _ _ _
+    (λ p. neither _ _ (unlike n 2 (search rules)) (unlike n 3 (search rules)))
+    (contact_of c.args.held.now) _) _ _ _ _ _
     c.merge_visits.result c.merge_visits.ensures.ok
 
 pub returns-in_default-clause-err : goal.returns-in_default-clause-err
@@ -41,6 +42,7 @@ returns-in_default-clause-err g c =
     (λ charge z p h. (
       z,
       from_last email_or_phone.owns email_or_phone.takes visits.takes n
-          (λ p. neither _ _ (unlike n 2 (search rules)) (unlike n 3 (search rules))) _ z charge p h,
+          (λ p. neither _ _ (unlike n 2 (search rules)) (unlike n 3 (search rules)))
+          (contact_of c.args.held.now) z charge p h,
     ))
     _ _ _ c.merge_visits.result c.merge_visits.ensures.err

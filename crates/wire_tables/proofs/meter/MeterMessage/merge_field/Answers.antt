@@ -1,6 +1,6 @@
 use Rattle.std.proofs.Common.{rules, refl, sym, ◌∙◌}
 use Rattle.wire_codec.specs.TagView.{tag_number}
-use Rattle.wire_fields.specs.Arms.{arm_ok, arm_err, to_last, from_last, neither, unlike}
+use Rattle.wire_fields.specs.Arms.{arm_err, from_last, neither, unlike}
 use Rattle.wire_fields.specs.Leaving.{keeps_beside}
 use Rattle.wire_fields.specs.Shape.{keeps}
 use Rattle.wire_tables.specs.Meter.{meter_total, meter_steps, meter_known, meter}
