@@ -3,6 +3,7 @@ pub mod Keeping
 pub mod Measuring
 pub mod Messages
 pub mod NumberTexts
+pub mod OwnOrLeft
 pub mod PackedRecords
 pub mod Putting
 pub mod Reading

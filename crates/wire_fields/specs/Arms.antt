@@ -83,14 +83,11 @@ unlike n k h = elim (eqb_tells n k) [ inl e ↦ absurd (h e.1) | inr e ↦ e.0 ]
 
 -- ---- variants of a oneof
 
--- a record that the first variants do not own, which the last one's step takes
-module _ {V T : Type 0} (owns : Owns) (one other : Step V) (step : Step T) (n : ℕ)
-    (is : (p : Payload) → owns n p ≡ false) (m : V) (t : T)
-    (back : (c : Charge) (z : V) (p : Payload) → other m n p c z → (u : T) × step t n p c u) where
-  pub last_untaken : (l : Limits) (w : WireType) (old : List ℕ)
-      → NotTaken (TakesRecord step l n w t old)
-      → NotTaken (TakesRecord (choice owns one other) l n w m old)
-  last_untaken l w old none c z new h =
-      let inside = back c z h.payload
-      (subst (λ b. on b (one m n h.payload c z) (other m n h.payload c z)) (is h.payload) h.step) in
-      none c inside.0 new (record { payload = h.payload; read = h.read; step = inside.1 })
+-- a record that the first variants do not own is one for the last
+module _ {V : Type 0} (owns : Owns) (one other : Step V) (n : ℕ)
+    (is : (p : Payload) → owns n p ≡ false) (m z : V) (c : Charge) (p : Payload) where
+  pub to_last : other m n p c z → choice owns one other m n p c z
+  to_last h = subst (λ b. on b (one m n p c z) (other m n p c z)) (sym (is p)) h
+
+  pub from_last : choice owns one other m n p c z → other m n p c z
+  from_last h = subst (λ b. on b (one m n p c z) (other m n p c z)) (is p) h

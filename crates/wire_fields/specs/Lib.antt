@@ -3,6 +3,7 @@ pub mod Back
 pub mod Dropped
 pub mod Enums
 pub mod Floats
+pub mod Leaving
 pub mod Measuring
 pub mod MessageBack
 pub mod Messages

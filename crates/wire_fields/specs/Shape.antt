@@ -25,7 +25,7 @@ abbrev pub either : {A B : Type 0} → Owns → Step A → Step B → Step (A ×
 either owns one other m n p c z =
     on (owns n p) (one m.0 n p c z.0 × (z.1 ≡ m.1)) (other m.1 n p c z.1 × (z.0 ≡ m.0))
 
-same_pair : {A B : Type 0} (x y : A × B) → x.0 ≡ y.0 → x.1 ≡ y.1 → x ≡ y
+pub same_pair : {A B : Type 0} (x y : A × B) → x.0 ≡ y.0 → x.1 ≡ y.1 → x ≡ y
 same_pair x y first second = ap (λ a. (a, x.1)) first ∙ ap (λ b. (y.0, b)) second
 
 module _ {A B : Type 0} (one : Step A) (other : Step B) (one_single : IsSingle one)

@@ -12,6 +12,7 @@ mod enums;
 mod floats;
 mod form;
 mod kind;
+mod leaving;
 mod message_field;
 mod number;
 mod number_list;
@@ -30,6 +31,7 @@ pub use encoding::{Delimited, LengthPrefixed, MessageEncoding};
 pub use floats::{DoubleBits, FloatBits};
 pub use form::Form;
 pub use kind::Kind;
+pub use leaving::{OwnTypes, merge_or_keep};
 pub use message_field::{
     AlwaysEmbedded, AlwaysGroup, AlwaysMessage, Each, EachEmbedded, EachGroup, Embedded, Group,
     Once,

@@ -3,6 +3,8 @@ pub mod Contact
 pub mod Counter
 pub mod CounterBack
 pub mod Level
+pub mod Meter
 pub mod Profile
 pub mod ProfileBack
+pub mod Pulse
 pub mod Reading

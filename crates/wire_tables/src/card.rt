@@ -96,6 +96,7 @@ impl Message for Card {
             1 => <Implicit<Text> as Kind>::merge(alloc, tag, &mut self.name, buf, context),
             2 => <ContactKind as Kind>::merge(alloc, tag, &mut self.contact, buf, context),
             3 => <ContactKind as Kind>::merge(alloc, tag, &mut self.contact, buf, context),
+            5 => <ContactKind as Kind>::merge(alloc, tag, &mut self.contact, buf, context),
             _ => keep(alloc, tag, &mut self.unknown, buf, context),
         }
     }

@@ -6,12 +6,16 @@ mod contact;
 mod counter;
 pub mod laws;
 mod level;
+mod meter;
 mod profile;
+mod pulse;
 mod reading;
 
 pub use card::Card;
 pub use contact::{Contact, ContactKind};
 pub use counter::Counter;
 pub use level::Level;
+pub use meter::Meter;
 pub use profile::Profile;
+pub use pulse::Pulse;
 pub use reading::Reading;

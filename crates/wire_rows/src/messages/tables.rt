@@ -1,7 +1,7 @@
 //! The messages that are tables of fields, and how each is shown.
 use super::sample::Sample;
 use crate::said::{Hex, Said};
-use wire_tables::{Card, Counter, Profile, Reading};
+use wire_tables::{Card, Contact, Counter, Meter, Profile, Pulse, Reading};
 
 impl Sample for Counter {
     fn say(&self, said: &mut Said) {
@@ -55,7 +55,33 @@ impl Sample for Reading {
 impl Sample for Card {
     fn say(&self, said: &mut Said) {
         said.show(&self.name);
-        said.also(" ", &self.contact);
+        say_contact(&self.contact, said);
         said.also(" ", &self.unknown.len());
+    }
+}
+
+// Of visits their count is shown, and how many unknown fields they have.
+fn say_contact(contact: &Option<Contact>, said: &mut Said) {
+    match contact {
+        Some(Contact::Visits(visits)) => {
+            said.also(" Some(Visits(", &visits.count);
+            said.also(", ", &visits.unknown.len());
+            said.word("))");
+        }
+        _ => said.also(" ", contact),
+    }
+}
+
+impl Sample for Meter {
+    fn say(&self, said: &mut Said) {
+        said.show(&self.total);
+        said.also(" ", &self.steps);
+        said.also(" ", &self.unknown.len());
+    }
+}
+
+impl Sample for Pulse {
+    fn say(&self, said: &mut Said) {
+        said.show(&self.beats);
     }
 }

@@ -26,9 +26,16 @@ returns-in-3-clause-err g c =
     (sym c.field_number.ensures.number ∙ c.in-3.is) _ _ (λ charge z p h. (z.0.1, h.0.0)) _ _ _
     (c.merge-in-3).result (c.merge-in-3).ensures.err
 
+pub returns-in-5-clause-err : goal.returns-in-5-clause-err
+returns-in-5-clause-err g c =
+    arm_err card.takes contact.takes 5 _
+    (sym c.field_number.ensures.number ∙ c.in-5.is) _ _ (λ charge z p h. (z.0.1, h.0.0)) _ _ _
+    (c.merge-in-5).result (c.merge-in-5).ensures.err
+
 pub returns-in_default-clause-err : goal.returns-in_default-clause-err
 returns-in_default-clause-err g c =
     rest_err card_known.owns card_known.takes keeps _ (λ p. neither _ _ (unlike (tag_number c.args.tag) 1 (search rules))
-    (neither _ _ (unlike (tag_number c.args.tag) 2 (search rules))
-    (unlike (tag_number c.args.tag) 3 (search rules))))
+    (neither _ _ (neither _ _ (unlike (tag_number c.args.tag) 2 (search rules))
+    (unlike (tag_number c.args.tag) 3 (search rules)))
+    (unlike (tag_number c.args.tag) 5 (search rules))))
     _ _ _ _ c.keep.result c.keep.ensures.err
