@@ -25,6 +25,7 @@ returns-in_default-clause-err g c =
     (λ charge z p h. (
       z.1,
       (from_last meter_known.owns meter_known.takes keeps_beside n
-          (λ p. neither _ _ (unlike n 1 (search rules)) (unlike n 2 (search rules))) _ z charge p h).0,
+          (λ p. neither _ _ (unlike n 1 (search rules)) (unlike n 2 (search rules)))
+          _ z charge p h).0,
     ))
     _ _ _ c.keep.result c.keep.ensures.err
