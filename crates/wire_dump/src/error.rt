@@ -68,6 +68,11 @@ pub(crate) fn read_error(error: io::Error) -> RunError {
 }
 
 impl<T: Drop> From<AllocFailed<T>> for RunError {
+    ghost use Rattle.std.specs.Prelude.{◌≡◌};
+    ghost use Rattle.wire_dump.specs.declared.error.RunError.TheVariants.{OutOfMemory};
+
+    ghost from_gives = { λ _ e. e ≡ OutOfMemory };
+
     fn from(_error: AllocFailed<T>) -> RunError {
         RunError::OutOfMemory
     }
