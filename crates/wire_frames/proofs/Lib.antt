@@ -1,0 +1,4 @@
+pub mod Prefixes
+pub mod OneNext
+pub mod InChunks
+pub mod Extents

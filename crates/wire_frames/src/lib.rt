@@ -1,0 +1,15 @@
+//! Messages one after another on a stream: a decoder that is fed chunks as they come, and an
+//! encoder into any sink. `CALLING.md` shows the calls.
+#![tactic(auto)]
+
+mod decoder;
+mod encode;
+mod error;
+mod extent;
+mod frame;
+pub mod laws;
+
+pub use decoder::FrameDecoder;
+pub use encode::{MAX_DELIMITED_BYTES, MAX_GRPC_BYTES, put_delimited_frame, put_grpc_frame};
+pub use error::{FrameError, Unfed, UnfedCause};
+pub use frame::{Frame, Framing};
