@@ -1,5 +1,5 @@
 -- Frames one after another, however their bytes come.
-use Rattle.std.proofs.Common.{◌≡◌, ℕ, ◌^◌, ◌<◌, ◌≤◌, List, [], ◌∷◌, ◌++◌, length, refl, sym, ap, subst, ◌∙◌, append_assoc, arith}
+use Rattle.std.proofs.Common.{◌≡◌, ℕ, ◌^◌, ◌<◌, ◌≤◌, List, [], ◌∷◌, ◌++◌, length, length-append, refl, sym, ap, subst, ◌∙◌, append_assoc, arith}
 use Rattle.std.proofs.lemmas.Nat.{from_be_bytes-to_be_bytes_4}
 use Rattle.std.specs.Int.{w32, to_be_bytes}
 use Rattle.wire_base.specs.Read.{Reads}
@@ -9,9 +9,9 @@ use Rattle.wire_frames.specs.declared.frame.Frame.{Frame}
 use Rattle.wire_frames.specs.declared.frame.Framing.{Framing}
 use Rattle.wire_frames.specs.Encoding.{grpc_text}
 use Rattle.wire_frames.specs.Frames.{IsFrame, Frames, HoldsFrame, FrameFault, no_prefix, too_large}
-use Rattle.wire_frames.specs.Laws.{BytesBehind, FramesAddUp, OneFrame, OneList, WrittenIsRead}
+use Rattle.wire_frames.specs.Laws.{BytesBehind, FramesAddUp, OneFrame, OneList, FrameMovesOn, WrittenIsRead}
 use Rattle.wire_frames.specs.Prefix.{flag_of}
-use Rattle.wire_frames.proofs.Prefixes.{Reads-behind, fault_behind}
+use Rattle.wire_frames.proofs.Prefixes.{Reads-behind, fault_behind, prefix_is_some}
 
 -- ---- bytes behind
 
@@ -73,6 +73,18 @@ module _ (one : OneFrame) (form : Framing) (limit : ℕ) where
 
 pub one_list : OneFrame → OneList
 one_list one form limit = one_list_here one form limit
+
+-- ---- a byte at least
+
+pub frame_moves_on : FrameMovesOn
+frame_moves_on form limit x bytes rest h =
+    let some = prefix_is_some form x.compressed (length x.payload) h.spelled.prefix h.spelled.tells in
+    omega (
+      arith,
+      some,
+      ap length h.parts ∙ length-append h.text rest,
+      ap length h.spelled.parts ∙ length-append h.spelled.prefix x.payload,
+    )
 
 -- ---- what is written is read
 

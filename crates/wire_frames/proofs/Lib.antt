@@ -2,3 +2,4 @@ pub mod Prefixes
 pub mod OneNext
 pub mod InChunks
 pub mod Extents
+pub mod Chunks

@@ -231,6 +231,12 @@ fault_behind Grpc bytes more e (flag, behind, parts, large, is) =
 
 -- ---- lengths
 
+pub prefix_is_some : (form : Framing) (c : Bool) (len : ℕ) (text : List ℕ)
+    → IsPrefix form c len text → 0 < length text
+prefix_is_some Delimited c len [] h = absurd h.1.ended
+prefix_is_some Delimited c len (b ∷ text) h = omega arith
+prefix_is_some Grpc c len text h = omega (arith, ap length h.parts)
+
 pub begun_is_short : (form : Framing) (bytes : List ℕ) → IsBegun form bytes → length bytes < 10
 begun_is_short Delimited bytes begun = cut_is_short bytes UnexpectedEof begun refl
 begun_is_short Grpc bytes begun = omega (arith, begun.0)

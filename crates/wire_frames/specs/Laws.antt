@@ -32,6 +32,11 @@ abbrev pub NextOrUnfinished : Type 0
 NextOrUnfinished = (form : Framing) (limit : ℕ) (bytes : List ℕ)
     → HasNext form limit bytes ⊎ IsUnfinished form limit bytes
 
+-- a frame takes a byte at least, so that a loop over frames ends
+abbrev pub FrameMovesOn : Type 0
+FrameMovesOn = (form : Framing) (limit : ℕ) (x : Frame) (bytes rest : List ℕ)
+    → Reads bytes (IsFrame form limit x) rest → length rest < length bytes
+
 -- what waits for more is less than a prefix and a payload
 abbrev pub UnfinishedIsShort : Type 0
 UnfinishedIsShort = (form : Framing) (limit : ℕ) (bytes : List ℕ)

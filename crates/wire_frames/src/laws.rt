@@ -1,5 +1,5 @@
 //! Laws of frames: each function is a theorem, and does nothing.
-ghost use Rattle.wire_frames.specs.Laws.{OneFrame, OneFault, NoFrameBesideFault, UnfinishedHasNoNext, NextOrUnfinished, UnfinishedIsShort, BytesBehind, FramesAddUp, OneList, WrittenIsRead};
+ghost use Rattle.wire_frames.specs.Laws.{OneFrame, OneFault, NoFrameBesideFault, UnfinishedHasNoNext, NextOrUnfinished, FrameMovesOn, UnfinishedIsShort, BytesBehind, FramesAddUp, OneList, WrittenIsRead};
 
 use wire_base::laws;
 
@@ -41,6 +41,11 @@ pub fn next_or_unfinished()
 {
     laws::varint_or_fault();
 }
+
+/// A frame takes a byte at least, so that a loop over frames ends.
+pub fn frame_moves_on()
+    ensures { FrameMovesOn }
+{}
 
 /// Bytes that wait for more are fewer than a prefix of ten bytes and a payload of the limit.
 pub fn unfinished_is_short()

@@ -8,8 +8,12 @@ mod error;
 mod extent;
 mod frame;
 pub mod laws;
+mod message;
+mod whole;
 
 pub use decoder::FrameDecoder;
 pub use encode::{MAX_DELIMITED_BYTES, MAX_GRPC_BYTES, put_delimited_frame, put_grpc_frame};
 pub use error::{FrameError, Unfed, UnfedCause};
 pub use frame::{Frame, Framing};
+pub use message::MessageError;
+pub use whole::frames_of;
