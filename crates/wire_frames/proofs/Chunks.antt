@@ -8,8 +8,8 @@ use Rattle.wire_frames.specs.declared.error.FrameError.{FrameError}
 use Rattle.wire_frames.specs.declared.error.FrameError.TheVariants.{OutOfMemory, Truncated, LengthTooLong, UnknownFlag, FrameTooLarge}
 use Rattle.wire_frames.specs.declared.frame.Frame.{Frame}
 use Rattle.wire_frames.specs.declared.frame.Framing.{Framing}
-use Rattle.wire_frames.specs.Frames.{Frames, IsUnfinished, HoldsFrame, FrameFault, no_prefix, too_large, FrameRefusal, EndRefusal, fault, memory, next, cut_short}
-use Rattle.wire_frames.specs.Laws.{BytesBehind, FramesAddUp, OneList, UnfinishedHasNoNext}
+use Rattle.wire_frames.specs.Frames.{Frames, IsUnfinished, FrameFault, no_prefix, too_large, FrameRefusal, EndRefusal, fault, memory, next, cut_short}
+use Rattle.wire_frames.specs.Laws.{BytesBehind, FramesAddUp}
 use Rattle.wire_frames.specs.declared.frame.Framing.TheVariants.{Delimited, Grpc}
 use Rattle.wire_frames.specs.Prefix.{PrefixFault}
 use Rattle.wire_frames.specs.Stops.{StopsAt}

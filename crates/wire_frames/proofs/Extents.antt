@@ -1,11 +1,10 @@
 -- A frame by how many bytes it has.
-use Rattle.std.proofs.Common.{◌≡◌, ℕ, ◌+◌, ◌-◌, ◌<◌, ◌≤◌, ◌⊎◌, inl, inr, Bool, List, [], ◌++◌, length, take, drop, ◌∷◌, refl, sym, ap, subst, ◌∙◌, append_assoc, arith, length-append, length-drop, length-take-le, take-append-drop}
+use Rattle.std.proofs.Common.{◌≡◌, ℕ, ◌+◌, ◌-◌, ◌<◌, ◌≤◌, ◌⊎◌, inl, inr, List, [], ◌++◌, length, take, drop, ◌∷◌, refl, sym, ap, subst, ◌∙◌, arith, length-drop, length-take-le, take-append-drop}
 use Rattle.std.proofs.lemmas.Bool.{cases_lt}
-use Rattle.std.proofs.lemmas.List.{take-append-le, take_at, drop_at, take-take}
+use Rattle.std.proofs.lemmas.List.{take-append-le, take-take}
 use Rattle.std.proofs.Math.Seq.{take-append-add, drop-append-add}
 use Rattle.wire_base.specs.Read.{Reads}
 use Rattle.wire_frames.specs.declared.extent.Extent.{Extent}
-use Rattle.wire_frames.specs.declared.frame.Frame.{Frame}
 use Rattle.wire_frames.specs.declared.frame.Framing.{Framing}
 use Rattle.wire_frames.specs.Extent.{Stands, frame_at}
 use Rattle.wire_frames.specs.Frames.{IsFrame, IsUnfinished}

@@ -1,14 +1,13 @@
 -- Frames one after another, however their bytes come.
-use Rattle.std.proofs.Common.{◌≡◌, ℕ, ◌^◌, ◌<◌, ◌≤◌, List, [], ◌∷◌, ◌++◌, length, length-append, refl, sym, ap, subst, ◌∙◌, append_assoc, arith}
+use Rattle.std.proofs.Common.{◌≡◌, ℕ, List, [], ◌∷◌, ◌++◌, length, length-append, refl, sym, ap, subst, ◌∙◌, arith}
 use Rattle.std.proofs.lemmas.Nat.{from_be_bytes-to_be_bytes_4}
 use Rattle.std.specs.Int.{w32, to_be_bytes}
-use Rattle.wire_base.specs.Read.{Reads}
-use Rattle.wire_base.specs.VarintLaws.{OneVarint, DelimitedReadsBack}
+use Rattle.wire_base.specs.VarintLaws.{DelimitedReadsBack}
 use Rattle.wire_frames.specs.declared.error.FrameError.{FrameError}
 use Rattle.wire_frames.specs.declared.frame.Frame.{Frame}
 use Rattle.wire_frames.specs.declared.frame.Framing.{Framing}
 use Rattle.wire_frames.specs.Encoding.{grpc_text}
-use Rattle.wire_frames.specs.Frames.{IsFrame, Frames, HoldsFrame, FrameFault, no_prefix, too_large}
+use Rattle.wire_frames.specs.Frames.{Frames, HoldsFrame, FrameFault, no_prefix, too_large}
 use Rattle.wire_frames.specs.Laws.{BytesBehind, FramesAddUp, OneFrame, OneList, FrameMovesOn, WrittenIsRead}
 use Rattle.wire_frames.specs.Prefix.{flag_of}
 use Rattle.wire_frames.proofs.Prefixes.{Reads-behind, fault_behind, prefix_is_some}

@@ -1,14 +1,13 @@
 -- What stands at the front of bytes: a frame, a fault, or too little; one of them, and once.
-use Rattle.std.proofs.Common.{◌≡◌, ℕ, ◌+◌, ◌<◌, ◌≤◌, ◌⊎◌, inl, inr, Bool, List, [], ◌∷◌, ◌++◌, length, take, drop, refl, sym, ap, subst, ◌∙◌, append_assoc, arith, length-append, length-take-le, take-append-drop}
+use Rattle.std.proofs.Common.{◌≡◌, ℕ, ◌<◌, ◌≤◌, ◌⊎◌, inl, inr, Bool, List, ◌++◌, length, take, drop, refl, sym, ap, subst, ◌∙◌, append_assoc, arith, length-append, length-take-le, take-append-drop}
 use Rattle.std.proofs.lemmas.Bool.{cases_lt}
 use Rattle.std.proofs.lemmas.List.{take_at, drop_at}
 use Rattle.wire_base.specs.Read.{Reads}
 use Rattle.wire_base.specs.VarintLaws.{OneVarint, NoVarintBesideFault, OneVarintFault, VarintOrFaultStands}
-use Rattle.wire_frames.specs.declared.error.FrameError.{FrameError}
 use Rattle.wire_frames.specs.declared.error.FrameError.TheVariants.{FrameTooLarge}
 use Rattle.wire_frames.specs.declared.frame.Frame.{Frame}
 use Rattle.wire_frames.specs.declared.frame.Framing.{Framing}
-use Rattle.wire_frames.specs.Frames.{IsFrame, HoldsFrame, IsUnfinished, in_prefix, in_payload, FrameFault, no_prefix, too_large, HasNext}
+use Rattle.wire_frames.specs.Frames.{IsFrame, IsUnfinished, in_prefix, in_payload, no_prefix, too_large, HasNext}
 use Rattle.wire_frames.specs.Laws.{OneFrame, OneFault, NoFrameBesideFault, UnfinishedHasNoNext, NextOrUnfinished}
 use Rattle.wire_frames.specs.Prefix.{IsPrefix}
 use Rattle.wire_frames.proofs.Prefixes.{one_prefix, no_prefix_beside_begun, no_prefix_beside_fault, no_begun_beside_fault, one_prefix_fault, PrefixOutcome, prefix_outcome}

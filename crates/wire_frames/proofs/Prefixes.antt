@@ -1,6 +1,6 @@
 -- Prefixes: one at most stands at the front, and bytes begin with one, wait for more, or have a
 -- fault.
-use Rattle.std.proofs.Common.{◌≡◌, ℕ, zero, suc, ◌+◌, ◌<◌, ◌≤◌, ◌⊎◌, inl, inr, Bool, true, false, List, [], ◌∷◌, ◌++◌, length, take, drop, get_or, nat_eq, refl, sym, ap, subst, ◌∙◌, append_assoc, arith, length-append, length-take-le, take-append-drop}
+use Rattle.std.proofs.Common.{◌≡◌, ℕ, zero, suc, ◌<◌, ◌≤◌, ◌⊎◌, inl, inr, Bool, true, false, List, [], ◌∷◌, ◌++◌, length, take, drop, get_or, nat_eq, refl, sym, ap, subst, ◌∙◌, append_assoc, arith, length-append, length-take-le, take-append-drop}
 use Rattle.std.proofs.lemmas.Bool.{cases_lt}
 use Rattle.std.proofs.lemmas.List.{take_at, drop_at}
 use Rattle.std.specs.Int.{w32, from_be_bytes}
@@ -13,7 +13,7 @@ use Rattle.wire_frames.specs.declared.error.FrameError.{FrameError}
 use Rattle.wire_frames.specs.declared.error.FrameError.TheVariants.{LengthTooLong, UnknownFlag}
 use Rattle.wire_frames.specs.declared.frame.Framing.{Framing}
 use Rattle.wire_frames.specs.declared.frame.Framing.TheVariants.{Delimited, Grpc}
-use Rattle.wire_frames.specs.Prefix.{flag_of, IsGrpcPrefix, IsPrefix, HasFlag, IsBegun, PrefixFault}
+use Rattle.wire_frames.specs.Prefix.{flag_of, IsPrefix, HasFlag, IsBegun, PrefixFault}
 
 -- ---- varints
 

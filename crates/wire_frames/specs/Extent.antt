@@ -7,7 +7,8 @@ use Rattle.wire_frames.specs.Prefix.{IsPrefix}
 
 -- so many bytes are a frame, and so many of these its prefix
 pub record Stands (form : Framing) (limit : ℕ) (bytes : List ℕ) (extent : Extent) : Type 0 where
-  pub tells : IsPrefix form extent.compressed (extent.len - extent.prefix) (take extent.prefix bytes)
+  pub tells : IsPrefix form extent.compressed (extent.len - extent.prefix)
+      (take extent.prefix bytes)
   pub ordered : extent.prefix ≤ extent.len
   pub within : extent.len - extent.prefix ≤ limit
   pub there : extent.len ≤ length bytes

@@ -1,5 +1,5 @@
 -- What holds of frames. Each statement is proved as the contract of a law.
-use Rattle.std.specs.Prelude.{◌≡◌, ℕ, ◌+◌, ◌^◌, ◌<◌, ◌≤◌, ◌⊎◌, Bool, false, List, [], ◌∷◌, ◌++◌, length}
+use Rattle.std.specs.Prelude.{◌≡◌, ℕ, ◌+◌, ◌^◌, ◌<◌, ◌≤◌, ◌⊎◌, false, List, [], ◌∷◌, ◌++◌, length}
 use Rattle.wire_base.specs.Delimited.{delimited_text}
 use Rattle.wire_base.specs.Read.{Reads}
 use Rattle.wire_frames.specs.declared.error.FrameError.{FrameError}

@@ -5,12 +5,7 @@ ghost use Rattle.wire_base.specs.Sink.{KeepsFront, WriteAnswers};
 ghost use Rattle.wire_frames.specs.Encoding.{WritesFrame, grpc_text};
 
 use wire_base::{EncodeError, EncodeSink, encode_varint, laws};
-
-/// The most bytes that a payload may have in a log: 2 GiB less one, as other readers take them.
-pub const MAX_DELIMITED_BYTES: usize = 2_147_483_647;
-
-/// The most bytes that a payload may have in a frame of gRPC.
-pub const MAX_GRPC_BYTES: usize = 4_294_967_295;
+use wire_codec::MAX_MESSAGE_BYTES;
 
 /// Writes the shortest varint of the payload's length, and the payload. A payload of more than
 /// 2,147,483,647 bytes is `MessageTooLarge`, before anything is written. Else refused where the
@@ -19,7 +14,7 @@ pub fn put_delimited_frame<S: EncodeSink>(payload: &[u8], sink: &mut S) -> Resul
     ensures { WritesFrame 2147483647 (length payload.now) S.most (delimited_text payload.now)
         (S.bytes_of sink.old) (S.bytes_of sink.new) result }
 {
-    if payload.len() > MAX_DELIMITED_BYTES {
+    if payload.len() > MAX_MESSAGE_BYTES as usize {
         return Err(EncodeError::MessageTooLarge);
     }
     write_delimited(payload, sink)
@@ -36,7 +31,7 @@ pub fn put_grpc_frame<S: EncodeSink>(
     ensures { WritesFrame 4294967295 (length payload.now) S.most (grpc_text compressed payload.now)
         (S.bytes_of sink.old) (S.bytes_of sink.new) result }
 {
-    if payload.len() > MAX_GRPC_BYTES {
+    if payload.len() > u32::MAX as usize {
         return Err(EncodeError::MessageTooLarge);
     }
     write_grpc(compressed, payload, sink)

@@ -12,7 +12,7 @@ mod message;
 mod whole;
 
 pub use decoder::FrameDecoder;
-pub use encode::{MAX_DELIMITED_BYTES, MAX_GRPC_BYTES, put_delimited_frame, put_grpc_frame};
+pub use encode::{put_delimited_frame, put_grpc_frame};
 pub use error::{FrameError, Unfed, UnfedCause};
 pub use frame::{Frame, Framing};
 pub use message::MessageError;

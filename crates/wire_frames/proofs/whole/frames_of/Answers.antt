@@ -1,4 +1,4 @@
-use Rattle.std.proofs.Common.{◌≡◌, ℕ, List, [], ◌∷◌, ◌∙◌, sym, subst, ap, rules, refl, arith, Bool, true, false}
+use Rattle.std.proofs.Common.{◌≡◌, [], ◌∙◌, subst, ap, rules, refl, arith, Bool, true, false}
 use Rattle.std.specs.Prelude.{IsTrue}
 use Rattle.std.proofs.lemmas.List.{nil_from_length}
 use Rattle.std.proofs.lemmas.Result.{err_from_is_err_and}
@@ -49,7 +49,7 @@ returns-in_err-take_whole-clause-err c =
 
 pub returns-clause-err : goal.returns-clause-err
 returns-clause-err c = λ _.
-    let none : c.loop-chunk.chunk-iterator.rest.items ≡ [] = 
+    let none : c.loop-chunk.chunk-iterator.rest.items ≡ [] =
     nil_from_length _
     (omega (arith, c.loop-chunk.chunk-iterator.rest.ok, c.in-None.ensures.steps.0)) in
     let some = λ (empty : unread c.loop-chunk.decoder ≡ []).

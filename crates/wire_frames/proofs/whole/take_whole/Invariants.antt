@@ -1,4 +1,4 @@
-use Rattle.std.proofs.Common.{◌≡◌, ◌++◌, List, length}
+use Rattle.std.proofs.Common.{length}
 use Rattle.wire_frames.proofs.Chunks.{HasTaken}
 use Rattle.wire_frames.specs.Stream.{unread}
 use Rattle.wire_frames.proofs.whole.take_whole.Given as goal

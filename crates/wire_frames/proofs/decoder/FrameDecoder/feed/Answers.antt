@@ -1,4 +1,4 @@
-use Rattle.std.proofs.Common.{◌≡◌, ◌++◌, sym, subst}
+use Rattle.std.proofs.Common.{sym, subst}
 use Rattle.wire_frames.specs.Frames.{IsUnfinished}
 use Rattle.wire_frames.specs.Stream.{Stream, unread}
 use Rattle.wire_frames.proofs.decoder.FrameDecoder.feed.Goals as goal

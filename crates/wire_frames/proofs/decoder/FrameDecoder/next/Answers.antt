@@ -1,8 +1,6 @@
-use Rattle.std.proofs.Common.{◌≡◌, refl, ap, sym, subst, ◌∙◌}
+use Rattle.std.proofs.Common.{refl}
 use Rattle.std.proofs.lemmas.Result.{err_from_is_err_and}
-use Rattle.wire_base.specs.Read.{Reads}
-use Rattle.wire_frames.specs.Extent.{frame_at}
-use Rattle.wire_frames.specs.Frames.{fault, memory, IsFrame}
+use Rattle.wire_frames.specs.Frames.{fault, memory}
 use Rattle.wire_frames.proofs.Extents.{frame_stands}
 use Rattle.wire_frames.proofs.decoder.FrameDecoder.next.Goals as goal
 

@@ -1,4 +1,3 @@
-use Rattle.std.proofs.Common.{refl}
 use Rattle.std.proofs.lemmas.Result.{err_from_is_err_and}
 use Rattle.wire_frames.specs.Messages.{no_frame, no_message}
 use Rattle.wire_frames.proofs.decoder.FrameDecoder.next_message.Goals as goal

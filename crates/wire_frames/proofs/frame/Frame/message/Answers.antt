@@ -1,4 +1,4 @@
-use Rattle.std.proofs.Common.{◌≡◌, ◌<◌, ◌≤◌, length, ⊎_elim, refl, ap}
+use Rattle.std.proofs.Common.{◌<◌, ◌≤◌, length, ⊎_elim, refl, ap}
 use Rattle.std.proofs.lemmas.Bool.{cases_lt}
 use Rattle.wire_frames.specs.declared.message.MessageError.TheVariants.{Decode}
 use Rattle.wire_frames.specs.Messages.{too_large, not_decoded}
