@@ -150,6 +150,13 @@ impl FrameDecoder {
         self.held.is_empty() && self.chunk.is_empty()
     }
 
+    /// How many bytes were fed and are no part of a frame that was given.
+    pub fn unread_len(&self) -> usize
+        ensures { result ≡ length (unread self.now) }
+    {
+        self.held.len() + self.chunk.len()
+    }
+
     /// How many bytes were kept as a copy, which are the beginning of one frame: less than its
     /// prefix and its payload together. All other bytes are the rest of the last chunk.
     pub fn held_len(&self) -> usize
