@@ -129,14 +129,16 @@ module _ (form : Framing) (limit : ℕ) (all : List ℕ) where
       record {
         frames = frames;
         rest = unread decoder;
-        read = subst (λ (t : List ℕ). Frames form limit frames t (unread decoder)) (sym parts) h.read;
+        read = subst (λ (t : List ℕ). Frames form limit frames t (unread decoder)) (sym parts)
+            h.read;
         refused = cut_short h.unfinished some is;
       }
 
 -- a stream that goes on is not cut short
 prefix_is_whole : (form : Framing) (bytes : List ℕ) (e : FrameError) → PrefixFault form bytes e
     → e ≢ Truncated
-prefix_is_whole Delimited bytes e h is = let no : LengthTooLong ≡ Truncated = sym h.1 ∙ is in absurd cc
+prefix_is_whole Delimited bytes e h is =
+    let no : LengthTooLong ≡ Truncated = sym h.1 ∙ is in absurd cc
 prefix_is_whole Grpc bytes e (flag, more, parts, large, named) is =
     let no : UnknownFlag flag ≡ Truncated = sym named ∙ is in absurd cc
 

@@ -17,7 +17,8 @@ pub frame_stands : (form : Framing) (limit : ℕ) (bytes : List ℕ) (x : Extent
     → Reads bytes (IsFrame form limit (frame_at bytes x)) (drop x.len bytes)
 frame_stands form limit bytes x h =
     let run = take x.len bytes in
-    let prefix : take x.prefix run ≡ take x.prefix bytes = take-take x.prefix x.len bytes h.ordered in
+    let prefix : take x.prefix run ≡ take x.prefix bytes =
+    take-take x.prefix x.len bytes h.ordered in
     let size : length (drop x.prefix run) ≡ x.len - x.prefix =
     length-drop x.prefix run
     ∙ ap (λ (n : ℕ). n - x.prefix) (length-take-le x.len bytes h.there) in

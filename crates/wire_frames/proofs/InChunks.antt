@@ -77,7 +77,8 @@ one_list one form limit = one_list_here one form limit
 
 pub frame_moves_on : FrameMovesOn
 frame_moves_on form limit x bytes rest h =
-    let some = prefix_is_some form x.compressed (length x.payload) h.spelled.prefix h.spelled.tells in
+    let some = prefix_is_some form x.compressed (length x.payload) h.spelled.prefix
+    h.spelled.tells in
     omega (
       arith,
       some,

@@ -14,9 +14,9 @@ pub(crate) struct Options {
 }
 
 const ABOUT: &str = "Reads a log of Protocol Buffers messages, each behind its length, from \
-    standard input, and prints a line a frame: the byte where it begins, the length of its payload, \
-    and how many records that is. Status 0: all is read; 1: the log stops before its end; 2: these \
-    words; 3: reading failed; 4: writing failed; 5: no memory.";
+    standard input, and prints a line a frame: the byte where it begins, the length of its \
+    payload, and how many records that is. Status 0: all is read; 1: the log stops before its \
+    end; 2: these words; 3: reading failed; 4: writing failed; 5: no memory.";
 
 impl Options {
     /// The options of these words, of which the first is the program's name.

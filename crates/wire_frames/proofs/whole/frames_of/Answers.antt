@@ -55,5 +55,5 @@ returns-clause-err c = λ _.
     let some = λ (empty : unread c.loop-chunk.decoder ≡ []).
     let no : false ≡ true = subst (λ (b : Bool). IsTrue b) c.if-is_empty.false
     (c.is_empty.ensures.1 empty) in absurd cc in
-    stops_at_end c.args.framing c.args.limit _ _ c.loop-chunk.decoder _ _ c.loop-chunk.invariant none
-    some refl
+    stops_at_end c.args.framing c.args.limit _ _ c.loop-chunk.decoder _ _
+    c.loop-chunk.invariant none some refl

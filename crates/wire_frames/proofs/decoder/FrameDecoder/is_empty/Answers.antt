@@ -9,7 +9,8 @@ pub returns-else-is_empty : goal.returns-else-is_empty
 returns-else-is_empty c =
     let inside = c.self.inside in
     let some : 0 < length inside.held.items = grind (arith, common_steps, inside.held.ok) in (
-      λ t. let no : false ≡ true = subst (λ (b : Bool). IsTrue b) c.if-is_empty.false t in absurd cc,
+      λ t.
+          let no : false ≡ true = subst (λ (b : Bool). IsTrue b) c.if-is_empty.false t in absurd cc,
       λ none. absurd (omega (
         arith,
         some,

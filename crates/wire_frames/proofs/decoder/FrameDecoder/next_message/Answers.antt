@@ -7,7 +7,8 @@ returns-in_err-frame-clause-refused g c =
     let p = err_from_is_err_and c.from_residual.result c.from_residual.ensures.1 in
     rw (p.1) (no_frame _ c.in_err-frame.ensures.refused c.in_err-frame.ensures.unchanged p.2)
 
-pub returns-in_err-message-in-Some-clause-refused : goal.returns-in_err-message-in-Some-clause-refused
+pub returns-in_err-message-in-Some-clause-refused :
+    goal.returns-in_err-message-in-Some-clause-refused
 returns-in_err-message-in-Some-clause-refused g c =
     let p = err_from_is_err_and c.from_residual-in_err-message-in-Some.result
     c.from_residual-in_err-message-in-Some.ensures.1 in
