@@ -9,6 +9,12 @@ sets-append : (l : List ℕ) (i j : ℕ) (a b : List ℕ) → j ≡ i + length a
 sets-append l i j [] b h = ap (λ k. sets l k b) (omega (arith, h))
 sets-append l i j (x ∷ a) b h = sets-append _ (suc i) j a b (omega (arith, h))
 
+-- what is written changes no length
+pub Puts-length : (a : List ℕ) (place behind : ℕ) (old new : List ℕ) → Puts a place old new behind
+    → length new ≡ length old
+Puts-length a place behind old new h =
+    ap length (h.written ∙ sym (sets-eq a old place h.room)) ∙ length-sets old place a
+
 -- a text and another behind it are both of them
 pub Puts-then : (a b : List ℕ) (place middle behind : ℕ) (old mid new : List ℕ)
     → place + (length a + length b) ≤ length old
@@ -16,8 +22,6 @@ pub Puts-then : (a b : List ℕ) (place middle behind : ℕ) (old mid new : List
     → Puts (a ++ b) place old new behind
 Puts-then a b place middle behind old mid new room h k =
     let both = length-append a b in
-    let len : length mid ≡ length old = ap length (h.written ∙ sym (sets-eq a old place h.room))
-    ∙ length-sets old place a in
     record {
       room = omega (arith, room, both);
       moved = omega (arith, h.moved, k.moved, both);
@@ -32,9 +36,4 @@ pub room-behind : (a : List ℕ) (place middle more : ℕ) (old mid : List ℕ)
     → place + (length a + more) ≤ length old → Puts a place old mid middle
     → middle + more ≤ length mid
 room-behind a place middle more old mid room h =
-    omega (
-      arith,
-      room,
-      h.moved,
-      ap length (h.written ∙ sym (sets-eq a old place h.room)) ∙ length-sets old place a,
-    )
+    omega (arith, room, h.moved, Puts-length a place middle old mid h)

@@ -5,7 +5,7 @@ ghost use Rattle.wire_write.specs.Put.{Puts};
 
 /// Writes the shortest varint of a number, and answers the place behind it.
 #[inline(always)]
-pub(crate) fn place_varint(room: &mut [u8], place: usize, value: u64) -> usize
+pub(crate) fn place_number(room: &mut [u8], place: usize, value: u64) -> usize
     requires { place + length (shortest_varint value) ≤ length room.old }
     ensures { Puts (shortest_varint value) place room.old room.new result }
 {

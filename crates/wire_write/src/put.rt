@@ -9,7 +9,9 @@ ghost use Rattle.wire_base.specs.Text.{record_text};
 ghost use Rattle.wire_scalar.specs.ValueMap.{sint64, zigzag};
 ghost use Rattle.wire_write.specs.Put.{HasPlace, Puts, PutFault};
 
-use crate::place::{place_bytes, place_varint};
+use crate::record::{
+    place_delimited, place_fixed32, place_fixed64, place_tag, place_varint, tag_len,
+};
 use wire_codec::{MAX_FIELD_NUMBER, WireType, varint_len};
 
 /// Why a record is not written.
@@ -35,10 +37,9 @@ pub fn put_varint(
         place room.old) }
     ensures unchanged { OnErr result (room.new ≡ room.old) }
 {
-    let tag = tag_as_number(number, WireType::Varint);
-    check(number, varint_len(tag) + varint_len(value), 0, place, room)?;
-    let behind = place_varint(room, place, tag);
-    Ok(place_varint(room, behind, value))
+    let tag = tag_len(number, WireType::Varint);
+    check(number, tag, varint_len(value), place, room)?;
+    Ok(place_varint(room, place, number, value))
 }
 
 /// Writes a record of type `sint64` or `sint32`, as `put_varint` does its zigzag number.
@@ -71,10 +72,8 @@ pub fn put_fixed32(
         place room.old) }
     ensures unchanged { OnErr result (room.new ≡ room.old) }
 {
-    let tag = tag_as_number(number, WireType::Fixed32);
-    check(number, varint_len(tag), 4, place, room)?;
-    let behind = place_varint(room, place, tag);
-    Ok(place_bytes(room, behind, &value.to_le_bytes()))
+    check(number, tag_len(number, WireType::Fixed32), 4, place, room)?;
+    Ok(place_fixed32(room, place, number, value))
 }
 
 /// Writes a record with eight bytes, the lowest first, and answers the place behind it.
@@ -90,10 +89,8 @@ pub fn put_fixed64(
         place room.old) }
     ensures unchanged { OnErr result (room.new ≡ room.old) }
 {
-    let tag = tag_as_number(number, WireType::Fixed64);
-    check(number, varint_len(tag), 8, place, room)?;
-    let behind = place_varint(room, place, tag);
-    Ok(place_bytes(room, behind, &value.to_le_bytes()))
+    check(number, tag_len(number, WireType::Fixed64), 8, place, room)?;
+    Ok(place_fixed64(room, place, number, value))
 }
 
 /// Writes a record with a payload behind its length, and answers the place behind it.
@@ -110,12 +107,9 @@ pub fn put_bytes(
         place room.old) }
     ensures unchanged { OnErr result (room.new ≡ room.old) }
 {
-    let tag = tag_as_number(number, WireType::LengthDelimited);
-    let len = payload.len() as u64;
-    check(number, varint_len(tag) + varint_len(len), payload.len(), place, room)?;
-    let behind = place_varint(room, place, tag);
-    let behind = place_varint(room, behind, len);
-    Ok(place_bytes(room, behind, payload))
+    let head = tag_len(number, WireType::LengthDelimited) + varint_len(payload.len() as u64);
+    check(number, head, payload.len(), place, room)?;
+    Ok(place_delimited(room, place, number, payload))
 }
 
 /// Writes the start tag of a group, and answers the place behind it.
@@ -125,9 +119,8 @@ pub fn put_group_start(room: &mut [u8], place: usize, number: u32) -> Result<usi
     ensures err { IfErr result (PutFault number (tag_text number StartGroup) place room.old) }
     ensures unchanged { OnErr result (room.new ≡ room.old) }
 {
-    let tag = tag_as_number(number, WireType::StartGroup);
-    check(number, varint_len(tag), 0, place, room)?;
-    Ok(place_varint(room, place, tag))
+    check(number, tag_len(number, WireType::StartGroup), 0, place, room)?;
+    Ok(place_tag(room, place, number, WireType::StartGroup))
 }
 
 /// Writes the end tag of a group, and answers the place behind it.
@@ -137,9 +130,8 @@ pub fn put_group_end(room: &mut [u8], place: usize, number: u32) -> Result<usize
     ensures err { IfErr result (PutFault number (tag_text number EndGroup) place room.old) }
     ensures unchanged { OnErr result (room.new ≡ room.old) }
 {
-    let tag = tag_as_number(number, WireType::EndGroup);
-    check(number, varint_len(tag), 0, place, room)?;
-    Ok(place_varint(room, place, tag))
+    check(number, tag_len(number, WireType::EndGroup), 0, place, room)?;
+    Ok(place_tag(room, place, number, WireType::EndGroup))
 }
 
 // The number of a value of type `sint64`: 0, -1, 1, -2, 2 .. as 0, 1, 2, 3, 4 ..
@@ -152,14 +144,6 @@ fn to_zigzag(value: i64) -> u64
     } else {
         2 * (value.unsigned_abs() - 1) + 1
     }
-}
-
-// A field number and a wire type as one number.
-#[inline(always)]
-fn tag_as_number(number: u32, wire_type: WireType) -> u64
-    ensures { result ≡ tag_value number wire_type }
-{
-    8 * u64::from(number) + wire_type as u64
 }
 
 // Whether a record of so many bytes and then so many may be written.

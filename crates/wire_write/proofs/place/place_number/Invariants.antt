@@ -1,7 +1,7 @@
 use Rattle.std.proofs.Common.{◌≡◌, ◌+◌, ◌^◌, ◌<◌, length}
 use Rattle.std.proofs.lemmas.List.Edits.{sets}
 use Rattle.wire_base.specs.Varint.{shortest_varint}
-use Rattle.wire_write.proofs.place.place_varint.Given as goal
+use Rattle.wire_write.proofs.place.place_number.Given as goal
 
 abbrev pub invariant-loop-rest : goal.invariant-loop-rest
 invariant-loop-rest l = record {

@@ -3,7 +3,7 @@ use Rattle.std.proofs.lemmas.List.Edits.{sets, sets-eq}
 use Rattle.std.proofs.Math.ListN.{set}
 use Rattle.wire_base.specs.Varint.{shortest_varint}
 use Rattle.wire_write.proofs.Digits.{shortest_varint-last, shortest_varint-more}
-use Rattle.wire_write.proofs.place.place_varint.Goals as goal
+use Rattle.wire_write.proofs.place.place_number.Goals as goal
 
 -- a store, and the others behind it
 stored : (l : List ℕ) (i b : ℕ) (rest : List ℕ)

@@ -1,0 +1,17 @@
+use Rattle.std.proofs.Common.{◌≡◌, ◌<◌, length, rules, arith}
+use Rattle.std.proofs.lemmas.Result.{err_from_is_err_and}
+use Rattle.wire_base.specs.Field.{Fields}
+use Rattle.wire_base.specs.Text.{size}
+use Rattle.wire_read.specs.Budget.{read_limits}
+use Rattle.wire_write.specs.Shortest.{Decodes, ShortestFault, no_room}
+use Rattle.wire_write.proofs.shortest.write_shortest.Goals as goal
+
+pub returns-in_err-len-clause-err : goal.returns-in_err-len-clause-err
+returns-in_err-len-clause-err c =
+    let p = err_from_is_err_and c.from_residual.result c.from_residual.ensures.1 in
+    rw (p.1, p.2) (ShortestFault.fault _ c.in_err-len.ensures.fault)
+
+pub returns-then-len-room-clause-err : goal.returns-then-len-room-clause-err
+returns-then-len-room-clause-err c =
+    let (fs, decodes, is) = c.in_ok-len.ensures.ok in
+    no_room fs _ decodes (search rules) c.if-len-room.true
