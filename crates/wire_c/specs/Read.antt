@@ -1,5 +1,5 @@
 -- What a reader tells C.
-use Rattle.std.specs.Prelude.{◌≡◌, ℕ, ◌+◌, ◌-◌, ◌<◌, ◌≤◌, ◌⊎◌, List, length, Result, Ok, Err, Option, Some, None, OnOk, OnErr, IfOk, IfErr, IfSome, IfNone}
+use Rattle.std.specs.Prelude.{◌≡◌, ℕ, ◌+◌, ◌-◌, ◌<◌, ◌≤◌, ◌⊎◌, List, length, take, drop, Result, Ok, Err, Option, Some, None, OnOk, OnErr, IfOk, IfErr, IfSome, IfNone}
 use Rattle.wire_base.specs.Limits.{Limits, counted, with_unknown_bytes}
 use Rattle.wire_read.specs.declared.event.Event.{Event}
 use Rattle.wire_read.specs.declared.event.Fault.{Fault}
@@ -52,6 +52,7 @@ told_event e = record {
   number = e.number;
   value = value_of e.value;
   start = e.start;
+  behind_tag = e.payload;
   payload = e.end - length_of e;
   length = length_of e;
 }
@@ -87,11 +88,27 @@ abbrev pub fault_after : Result (Option Event) Fault → FaultInC → FaultInC
 fault_after (Ok e) before = before
 fault_after (Err f) before = told_fault f
 
+-- the payload of the event stands at its range in the bytes
+abbrev pub InPlace : List ℕ → Value → ℕ → ℕ → Type 0
+InPlace all (values.Bytes b) payload length = take length (drop payload all) ≡ b.now
+InPlace all (values.Varint v) payload length = Unit {0}
+InPlace all (values.Fixed64 v) payload length = Unit {0}
+InPlace all (values.Fixed32 v) payload length = Unit {0}
+InPlace all values.GroupStart payload length = Unit {0}
+InPlace all values.GroupEnd payload length = Unit {0}
+
+-- the range of the value is one of the bytes, and ends where the event does
+pub record HasRange (all : List ℕ) (e : Event) (told : EventInC) : Type 0 where
+  pub ends : told.payload + told.length ≡ e.end
+  pub inside : e.end ≤ length all
+  pub in_place : InPlace all e.value told.payload told.length
+
 -- what `next` of a reader answers, as C is told
 pub record NextAnswers (all : List ℕ) (old new : Reader) (event event_then : EventInC)
     (fault fault_then : FaultInC) (status : ℕ) : Type 0 where
   pub next : Result (Option Event) Fault
   pub gives : IfOk next (λ o. IfSome o (λ e. Gives e all (at old all) (at new all)))
+  pub range : IfOk next (λ o. IfSome o (λ e. HasRange all e event_then))
   pub is_done : IfOk next (λ o. IfNone o (IsDone (at old all)))
   pub unmoved : IfOk next (λ o. IfNone o (new ≡ old))
   pub stops : IfErr next (λ f. Stops f all (at old all))

@@ -29,6 +29,8 @@ pub struct EventInC {
     pub value: u64,
     /// Where the tag begins.
     pub start: usize,
+    /// Where what stands behind the tag begins: the value, or the length of a payload.
+    pub behind_tag: usize,
     /// Where the value begins, or the payload behind its length.
     pub payload: usize,
     /// How many bytes it is.
@@ -64,6 +66,7 @@ fn tell_event(event: &Event<'_>) -> EventInC
         number: event.number,
         value: value_of(event.value),
         start: event.start,
+        behind_tag: event.payload,
         payload: event.end.saturating_sub(length),
         length,
     }

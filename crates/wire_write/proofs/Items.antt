@@ -1,5 +1,5 @@
 -- The shortest encoding, item by item.
-use Rattle.std.proofs.Common.{◌≡◌, ℕ, ◌+◌, ◌<◌, ◌≤◌, List, [], ◌∷◌, ◌++◌, append-nil, append_assoc, length, length-append, refl, sym, ap, ◌∙◌, subst, arith}
+use Rattle.std.proofs.Common.{◌≡◌, ℕ, ◌+◌, ◌≤◌, List, [], ◌∷◌, ◌++◌, append-nil, append_assoc, length, length-append, refl, sym, ap, ◌∙◌, subst, arith}
 use Rattle.wire_base.specs.declared.tag.WireType.TheVariants.{StartGroup, EndGroup}
 use Rattle.wire_base.specs.Charge.{charge}
 use Rattle.wire_base.specs.Ending.{by_input}
@@ -42,9 +42,9 @@ mutual
   text_of_payload n (bytes b) = append-nil _
   text_of_payload n (group fs) =
       ap (λ (t : List ℕ). tag_text n StartGroup ++ t) (
-        items_text-append (items_of fs) (end n ∷ [])
-        ∙ ap (λ (t : List ℕ). t ++ (tag_text n EndGroup ++ [])) (text_of_items fs)
-        ∙ ap (λ (t : List ℕ). text_of fs ++ t) (append-nil (tag_text n EndGroup))
+      items_text-append (items_of fs) (end n ∷ [])
+      ∙ ap (λ (t : List ℕ). t ++ (tag_text n EndGroup ++ [])) (text_of_items fs)
+      ∙ ap (λ (t : List ℕ). text_of fs ++ t) (append-nil (tag_text n EndGroup))
       )
 
   -- the items of records have the text of the records
@@ -170,16 +170,16 @@ room_for front law l all fs r t old new place e decodes room h given =
     let on = front l all (h.items ++ i ∷ []) (at t all) fs next decodes.spelled decodes.fits in
     let text = ap length (sym (text_of_items fs) ∙ ap items_text on.1) in
     room-behind (items_text h.items) 0 place (length (item_text i)) old new (
-      omega (
-        arith,
-        room,
-        text,
-        ap length (items_text-append (h.items ++ i ∷ []) on.0),
-        length-append (items_text (h.items ++ i ∷ [])) (items_text on.0),
-        ap length (items_text-append h.items (i ∷ [])),
-        length-append (items_text h.items) (item_text i ++ []),
-        ap length (append-nil (item_text i)),
-      )
+    omega (
+      arith,
+      room,
+      text,
+      ap length (items_text-append (h.items ++ i ∷ []) on.0),
+      length-append (items_text (h.items ++ i ∷ [])) (items_text on.0),
+      ap length (items_text-append h.items (i ∷ [])),
+      length-append (items_text h.items) (item_text i ++ []),
+      ap length (append-nil (item_text i)),
+    )
     ) h.written
 
 pub written_more : ReaderGoesOn

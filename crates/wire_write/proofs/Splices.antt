@@ -1,8 +1,8 @@
 -- Texts one behind the other.
-use Rattle.std.proofs.Common.{◌≡◌, ℕ, suc, ◌+◌, ◌≤◌, List, [], ◌∷◌, ◌++◌, length, length-append, refl, sym, ap, ◌∙◌, arith}
+use Rattle.std.proofs.Common.{◌≡◌, ℕ, suc, ◌+◌, ◌≤◌, List, [], ◌∷◌, ◌++◌, length, length-append, sym, ap, ◌∙◌, arith}
 use Rattle.std.proofs.lemmas.List.Edits.{sets, sets-eq}
 use Rattle.std.proofs.Math.Seq.{length-sets}
-use Rattle.wire_write.specs.Put.{spliced, Puts}
+use Rattle.wire_write.specs.Put.{Puts}
 
 sets-append : (l : List ℕ) (i j : ℕ) (a b : List ℕ) → j ≡ i + length a
     → sets l i (a ++ b) ≡ sets (sets l i a) j b

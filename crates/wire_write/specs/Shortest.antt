@@ -1,5 +1,5 @@
 -- The shortest encoding of records, item by item.
-use Rattle.std.specs.Prelude.{◌≡◌, ℕ, ◌<◌, List, [], ◌∷◌, ◌++◌, length}
+use Rattle.std.specs.Prelude.{◌≡◌, ℕ, ◌<◌, List, length}
 use Rattle.wire_base.specs.declared.tag.WireType.TheVariants.{StartGroup, EndGroup}
 use Rattle.wire_base.specs.Charge.{charge}
 use Rattle.wire_base.specs.Ending.{by_input}

@@ -25,12 +25,7 @@ pub enum PutError {
 }
 
 /// Writes a record with a varint at a place of the room, and answers the place behind it.
-pub fn put_varint(
-    room: &mut [u8],
-    place: usize,
-    number: u32,
-    value: u64,
-) -> Result<usize, PutError>
+pub fn put_varint(room: &mut [u8], place: usize, number: u32, value: u64) -> Result<usize, PutError>
     ensures ok { IfOk result (Puts (record_text number (varint value)) place room.old room.new) }
     ensures number { OnOk result (IsFieldNumber number) }
     ensures err { IfErr result (PutFault number (record_text number (varint value))
@@ -43,12 +38,7 @@ pub fn put_varint(
 }
 
 /// Writes a record of type `sint64` or `sint32`, as `put_varint` does its zigzag number.
-pub fn put_sint(
-    room: &mut [u8],
-    place: usize,
-    number: u32,
-    value: i64,
-) -> Result<usize, PutError>
+pub fn put_sint(room: &mut [u8], place: usize, number: u32, value: i64) -> Result<usize, PutError>
     ensures ok { IfOk result (Puts (record_text number (varint (sint64.enc value)))
         place room.old room.new) }
     ensures number { OnOk result (IsFieldNumber number) }
@@ -119,7 +109,13 @@ pub fn put_group_start(room: &mut [u8], place: usize, number: u32) -> Result<usi
     ensures err { IfErr result (PutFault number (tag_text number StartGroup) place room.old) }
     ensures unchanged { OnErr result (room.new ≡ room.old) }
 {
-    check(number, tag_len(number, WireType::StartGroup), 0, place, room)?;
+    check(
+        number,
+        tag_len(number, WireType::StartGroup),
+        0,
+        place,
+        room,
+    )?;
     Ok(place_tag(room, place, number, WireType::StartGroup))
 }
 
@@ -148,13 +144,7 @@ fn to_zigzag(value: i64) -> u64
 
 // Whether a record of so many bytes and then so many may be written.
 #[inline(always)]
-fn check(
-    number: u32,
-    len: usize,
-    more: usize,
-    place: usize,
-    room: &[u8],
-) -> Result<(), PutError>
+fn check(number: u32, len: usize, more: usize, place: usize, room: &[u8]) -> Result<(), PutError>
     ensures ok { OnOk result (HasPlace number (len + more) place (length room.now)) }
     ensures err { (text : List ℕ) → length text ≡ len + more
         → IfErr result (PutFault number text place room.now) }

@@ -65,12 +65,7 @@ pub(crate) fn place_fixed64(room: &mut [u8], place: usize, number: u32, value: u
 
 /// Writes a record with a payload behind its length, and answers the place behind it.
 #[inline(always)]
-pub(crate) fn place_delimited(
-    room: &mut [u8],
-    place: usize,
-    number: u32,
-    payload: &[u8],
-) -> usize
+pub(crate) fn place_delimited(room: &mut [u8], place: usize, number: u32, payload: &[u8]) -> usize
     requires { place + length (record_text number (bytes payload.now)) ≤ length room.old }
     ensures { Puts (record_text number (bytes payload.now)) place room.old room.new result }
 {

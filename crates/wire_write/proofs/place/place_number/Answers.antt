@@ -1,4 +1,4 @@
-use Rattle.std.proofs.Common.{◌≡◌, ℕ, ◌+◌, ◌/◌, ◌%◌, ◌<◌, List, [], ◌∷◌, length, length-set, ap, sym, ◌∙◌, arith}
+use Rattle.std.proofs.Common.{◌≡◌, ℕ, ◌+◌, ◌/◌, ◌%◌, List, [], ◌∷◌, length, length-set, ap, sym, ◌∙◌, arith}
 use Rattle.std.proofs.lemmas.List.Edits.{sets, sets-eq}
 use Rattle.std.proofs.Math.ListN.{set}
 use Rattle.wire_base.specs.Varint.{shortest_varint}

@@ -1,4 +1,4 @@
-use Rattle.std.proofs.Common.{◌+◌, ◌*◌, ◌<◌, length, rules, arith}
+use Rattle.std.proofs.Common.{length, rules, arith}
 use Rattle.wire_base.specs.declared.tag.WireType.TheVariants.{LengthDelimited}
 use Rattle.wire_base.specs.Tag.{tag_value}
 use Rattle.wire_write.proofs.Digits.{length-shortest_varint}

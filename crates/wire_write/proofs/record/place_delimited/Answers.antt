@@ -1,4 +1,4 @@
-use Rattle.std.proofs.Common.{◌≡◌, ◌+◌, ◌≤◌, ◌++◌, length, length-append, rules, arith}
+use Rattle.std.proofs.Common.{◌+◌, ◌≤◌, ◌++◌, length, length-append, arith}
 use Rattle.wire_base.specs.declared.tag.WireType.TheVariants.{LengthDelimited}
 use Rattle.wire_base.specs.Tag.{tag_text}
 use Rattle.wire_base.specs.Varint.{shortest_varint}

@@ -21,7 +21,7 @@ item_len-len-requires c =
       arith,
       short,
       fits_more c.no_tag_text_is_shorter.ensures c.no_text_is_shorter.ensures _ _ _ _ _ _
-      c.loop-event.invariant given,
+          c.loop-event.invariant given,
     )
 
 pub overflow_add-len : goal.overflow_add-len
@@ -36,7 +36,7 @@ overflow_add-len c =
       short,
       same,
       fits_more c.no_tag_text_is_shorter.ensures c.no_text_is_shorter.ensures _ _ _ _ _ _
-      c.loop-event.invariant given,
+          c.loop-event.invariant given,
     )
 
 pub loop-event-preserved : goal.loop-event-preserved

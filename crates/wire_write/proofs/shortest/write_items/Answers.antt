@@ -1,4 +1,4 @@
-use Rattle.std.proofs.Common.{◌≡◌, rules}
+use Rattle.std.proofs.Common.{rules}
 use Rattle.wire_read.specs.Reading.{Gives, IsDone, Stops, at}
 use Rattle.wire_write.proofs.Items.{all_written, no_stop, room_for, written_more}
 use Rattle.wire_write.proofs.shortest.write_items.Goals as goal

@@ -1,9 +1,6 @@
-use Rattle.std.proofs.Common.{◌≡◌, ◌<◌, length, rules, arith}
+use Rattle.std.proofs.Common.{rules}
 use Rattle.std.proofs.lemmas.Result.{err_from_is_err_and}
-use Rattle.wire_base.specs.Field.{Fields}
-use Rattle.wire_base.specs.Text.{size}
-use Rattle.wire_read.specs.Budget.{read_limits}
-use Rattle.wire_write.specs.Shortest.{Decodes, ShortestFault, no_room}
+use Rattle.wire_write.specs.Shortest.{ShortestFault, no_room}
 use Rattle.wire_write.proofs.shortest.write_shortest.Goals as goal
 
 pub returns-in_err-len-clause-err : goal.returns-in_err-len-clause-err
