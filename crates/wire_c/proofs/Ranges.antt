@@ -1,5 +1,5 @@
 -- Where the value of an event stands.
-use Rattle.std.proofs.Common.{◌≡◌, ℕ, ◌+◌, ◌-◌, ◌≤◌, List, ◌++◌, length, length-append, append_assoc, take, drop, refl, sym, ap, ◌∙◌, arith}
+use Rattle.std.proofs.Common.{◌≡◌, ℕ, ◌+◌, ◌-◌, List, ◌++◌, length, length-append, append_assoc, take, drop, refl, sym, ap, ◌∙◌, arith}
 use Rattle.std.proofs.lemmas.List.{drop_at, take_at, take-append-drop}
 use Rattle.wire_read.specs.declared.event.Event.{Event}
 use Rattle.wire_read.specs.declared.event.Value.{Value}
@@ -18,9 +18,9 @@ between all front b rest end parts is =
     let front_len : end - length b ≡ length front = omega (arith, is, count, more) in (
       omega (arith, front_len, is, count, more),
       ap (λ n. take (length b) (drop n all)) front_len
-      ∙ ap (λ (l : List ℕ). take (length b) (drop (length front) l)) parts
-      ∙ ap (take (length b)) (drop_at front (b ++ rest) (length front) refl)
-      ∙ take_at b rest (length b) refl,
+          ∙ ap (λ (l : List ℕ). take (length b) (drop (length front) l)) parts
+          ∙ ap (take (length b)) (drop_at front (b ++ rest) (length front) refl)
+          ∙ take_at b rest (length b) refl,
     )
 
 -- the value ends where the event does, and a payload stands at its range
@@ -37,17 +37,17 @@ ranged all front s t behind n end payload (values.Bytes b) parts
     (tag, taken, flat, groups, left) is =
     let text = taken.read.spelled.spelled in
     between all (front ++ (tag.text ++ text.text)) b.now t.rest end (
-      parts
-      ∙ ap (λ (l : List ℕ). front ++ l) (
-        tag.parts
-        ∙ ap (λ (l : List ℕ). tag.text ++ l) (
-          taken.read.parts
-          ∙ ap (λ (l : List ℕ). l ++ t.rest) text.parts
-          ∙ append_assoc text.text b.now t.rest
-        )
-        ∙ sym (append_assoc tag.text text.text (b.now ++ t.rest))
-      )
-      ∙ sym (append_assoc front (tag.text ++ text.text) (b.now ++ t.rest))
+    parts
+    ∙ ap (λ (l : List ℕ). front ++ l) (
+    tag.parts
+    ∙ ap (λ (l : List ℕ). tag.text ++ l) (
+    taken.read.parts
+    ∙ ap (λ (l : List ℕ). l ++ t.rest) text.parts
+    ∙ append_assoc text.text b.now t.rest
+    )
+    ∙ sym (append_assoc tag.text text.text (b.now ++ t.rest))
+    )
+    ∙ sym (append_assoc front (tag.text ++ text.text) (b.now ++ t.rest))
     ) is
 
 pub has_range : (all : List ℕ) (r t : Reader) (e : Event) → Gives e all (at r all) (at t all)

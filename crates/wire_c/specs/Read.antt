@@ -1,5 +1,5 @@
 -- What a reader tells C.
-use Rattle.std.specs.Prelude.{◌≡◌, ℕ, ◌+◌, ◌-◌, ◌<◌, ◌≤◌, ◌⊎◌, List, length, take, drop, Result, Ok, Err, Option, Some, None, OnOk, OnErr, IfOk, IfErr, IfSome, IfNone}
+use Rattle.std.specs.Prelude.{◌≡◌, ℕ, ◌+◌, ◌-◌, ◌<◌, ◌≤◌, ◌⊎◌, List, length, take, drop, Result, Ok, Err, Option, Some, None, OnErr, IfOk, IfErr, IfSome, IfNone}
 use Rattle.wire_base.specs.Limits.{Limits, counted, with_unknown_bytes}
 use Rattle.wire_read.specs.declared.event.Event.{Event}
 use Rattle.wire_read.specs.declared.event.Fault.{Fault}

@@ -1,12 +1,11 @@
 -- What calls on all of some bytes tell C.
-use Rattle.std.specs.Prelude.{◌≡◌, ℕ, ◌<◌, ◌≤◌, ◌⊎◌, List, Result, Ok, Err, OnOk, OnErr, IfOk, IfErr}
+use Rattle.std.specs.Prelude.{◌≡◌, ℕ, ◌<◌, ◌≤◌, ◌⊎◌, List, Result, OnOk, OnErr, IfOk, IfErr}
 use Rattle.wire_base.specs.Ending.{by_input}
 use Rattle.wire_base.specs.Fault.{ListFault}
 use Rattle.wire_base.specs.Field.{Fields}
 use Rattle.wire_base.specs.Limits.{Limits}
 use Rattle.wire_base.specs.Text.{size, text_of}
 use Rattle.wire_read.specs.declared.event.Fault.{Fault}
-use Rattle.wire_read.specs.Budget.{read_limits}
 use Rattle.wire_read.specs.Opened.{Group, LongestFront}
 use Rattle.wire_read.specs.Reading.{place_of}
 use Rattle.wire_write.specs.declared.shortest.ShortestError.{ShortestError}
@@ -15,7 +14,7 @@ use Rattle.wire_write.specs.Put.{Puts}
 use Rattle.wire_write.specs.Shortest.{Decodes, ShortestFault}
 use Rattle.wire_c.specs.declared.read.FaultInC.{FaultInC}
 use Rattle.wire_c.specs.declared.read.LimitsInC.{LimitsInC}
-use Rattle.wire_c.specs.Read.{context_of, told_fault}
+use Rattle.wire_c.specs.Read.{told_fault}
 use Rattle.wire_c.specs.Status.{status_of}
 
 -- the limits have at most 100 levels, and the call does as is said; or they have more, and nothing

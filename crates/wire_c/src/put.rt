@@ -55,21 +55,22 @@ pub extern "C" fn gtv_put_varint(
     ensures { PutAnswers number (record_text number (varint value))
         room.old room.new writer.old writer.new result }
 {
-    tell(wire_write::put_varint(room, writer.place, number, value), writer)
+    tell(
+        wire_write::put_varint(room, writer.place, number, value),
+        writer,
+    )
 }
 
 /// Writes a record of type `sint64` or `sint32`.
 #[unsafe(no_mangle)]
-pub extern "C" fn gtv_put_sint(
-    writer: &mut Writer,
-    room: &mut [u8],
-    number: u32,
-    value: i64,
-) -> u32
+pub extern "C" fn gtv_put_sint(writer: &mut Writer, room: &mut [u8], number: u32, value: i64) -> u32
     ensures { PutAnswers number (record_text number (varint (sint64.enc value)))
         room.old room.new writer.old writer.new result }
 {
-    tell(wire_write::put_sint(room, writer.place, number, value), writer)
+    tell(
+        wire_write::put_sint(room, writer.place, number, value),
+        writer,
+    )
 }
 
 /// Writes a record with four bytes, the lowest first.
@@ -83,7 +84,10 @@ pub extern "C" fn gtv_put_fixed32(
     ensures { PutAnswers number (record_text number (fixed32 value))
         room.old room.new writer.old writer.new result }
 {
-    tell(wire_write::put_fixed32(room, writer.place, number, value), writer)
+    tell(
+        wire_write::put_fixed32(room, writer.place, number, value),
+        writer,
+    )
 }
 
 /// Writes a record with eight bytes, the lowest first.
@@ -97,7 +101,10 @@ pub extern "C" fn gtv_put_fixed64(
     ensures { PutAnswers number (record_text number (fixed64 value))
         room.old room.new writer.old writer.new result }
 {
-    tell(wire_write::put_fixed64(room, writer.place, number, value), writer)
+    tell(
+        wire_write::put_fixed64(room, writer.place, number, value),
+        writer,
+    )
 }
 
 /// Writes a record with a payload behind its length.
@@ -111,31 +118,32 @@ pub extern "C" fn gtv_put_bytes(
     ensures { PutAnswers number (record_text number (bytes payload.now))
         room.old room.new writer.old writer.new result }
 {
-    tell(wire_write::put_bytes(room, writer.place, number, payload), writer)
+    tell(
+        wire_write::put_bytes(room, writer.place, number, payload),
+        writer,
+    )
 }
 
 /// Writes the start tag of a group.
 #[unsafe(no_mangle)]
-pub extern "C" fn gtv_put_group_start(
-    writer: &mut Writer,
-    room: &mut [u8],
-    number: u32,
-) -> u32
+pub extern "C" fn gtv_put_group_start(writer: &mut Writer, room: &mut [u8], number: u32) -> u32
     ensures { PutAnswers number (tag_text number StartGroup)
         room.old room.new writer.old writer.new result }
 {
-    tell(wire_write::put_group_start(room, writer.place, number), writer)
+    tell(
+        wire_write::put_group_start(room, writer.place, number),
+        writer,
+    )
 }
 
 /// Writes the end tag of a group.
 #[unsafe(no_mangle)]
-pub extern "C" fn gtv_put_group_end(
-    writer: &mut Writer,
-    room: &mut [u8],
-    number: u32,
-) -> u32
+pub extern "C" fn gtv_put_group_end(writer: &mut Writer, room: &mut [u8], number: u32) -> u32
     ensures { PutAnswers number (tag_text number EndGroup)
         room.old room.new writer.old writer.new result }
 {
-    tell(wire_write::put_group_end(room, writer.place, number), writer)
+    tell(
+        wire_write::put_group_end(room, writer.place, number),
+        writer,
+    )
 }

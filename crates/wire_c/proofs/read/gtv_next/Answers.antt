@@ -1,6 +1,6 @@
 use Rattle.std.proofs.Common.{◌≡◌, Ok, Some, refl, sym, subst, rules}
 use Rattle.wire_read.specs.Reading.{Gives, at}
-use Rattle.wire_c.specs.Read.{HasRange, NextAnswers, told_event}
+use Rattle.wire_c.specs.Read.{HasRange, told_event}
 use Rattle.wire_c.proofs.Ranges.{has_range}
 use Rattle.wire_c.proofs.read.gtv_next.Goals as goal
 

@@ -1,6 +1,6 @@
-use Rattle.std.proofs.Common.{◌≡◌, List, [], ◌∷◌, ◌++◌, rules}
+use Rattle.std.proofs.Common.{[], ◌∷◌, ◌++◌, rules}
 use Rattle.std.proofs.lemmas.Result.{err_from_is_err_and}
-use Rattle.wire_read.specs.Reading.{Gives, IsDone, Stops, at, item}
+use Rattle.wire_read.specs.Reading.{Gives, IsDone, at, item}
 use Rattle.wire_read.proofs.validation.validate.Goals as goal
 
 pub returns-in_err-_event-clause-fault : goal.returns-in_err-_event-clause-fault
