@@ -5,6 +5,7 @@
 #include "gettavil.h"
 
 #include <inttypes.h>
+#include <stdarg.h>
 #include <stdio.h>
 #include <stdlib.h>
 #include <string.h>
@@ -47,7 +48,6 @@ typedef struct Text {
 static Text said;
 
 static void say(const char *form, ...) __attribute__((format(printf, 1, 2)));
-#include <stdarg.h>
 static void say(const char *form, ...) {
     va_list more;
     va_start(more, form);
@@ -68,7 +68,8 @@ typedef struct Row {
 static int fails;
 
 static void astray(const Row *row, const char *what) {
-    printf("%s: %s is astray\n  wanted %s\n  found  %s\n", row->name, what, row->wanted, said.bytes);
+    printf("%s: %s is astray\n", row->name, what);
+    printf("  wanted %s\n  found  %s\n", row->wanted, said.bytes);
     fails++;
 }
 

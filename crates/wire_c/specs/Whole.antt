@@ -24,7 +24,8 @@ Within limits does status unchanged =
     ((limits.depth ≤ 100) × does) ⊎ ((100 < limits.depth) × (status ≡ 33) × unchanged)
 
 -- all of the bytes spell records within the limits, or the fault is told
-pub record Validates (l : Limits) (all : List ℕ) (before after : FaultInC) (status : ℕ) : Type 0 where
+pub record Validates (l : Limits) (all : List ℕ) (before after : FaultInC)
+    (status : ℕ) : Type 0 where
   pub checked : Result (Unit {0}) Fault
   pub ok : OnOk checked ((fs : Fields) × Decodes l fs all × (status ≡ 0) × (after ≡ before))
   pub fault : IfErr checked (λ f. ListFault l by_input all f.error)

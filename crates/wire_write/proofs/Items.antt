@@ -90,7 +90,7 @@ module _ (tags : NoTagTextIsShorter) (texts : NoTextIsShorter) where
       omega (
         arith,
         texts (field n p none) (tag.text ++ payload.text) spelled,
-        ap length (ap (λ (x : List ℕ). tag_text n (type_of p) ++ x) (append-nil (payload_text n p))),
+        ap (λ (x : List ℕ). length (tag_text n (type_of p) ++ x)) (append-nil (payload_text n p)),
         length-append tag.text payload.text,
         ap length tag.parts ∙ length-append tag.text behind,
         ap length payload.parts ∙ length-append payload.text t.rest,
@@ -197,7 +197,8 @@ written_more law l all r t old mid new place behind e h given puts =
       items = h.items ++ i ∷ [];
       at_place = law l all h.items i (at r all) (at t all) given.behind h.at_place given.moves;
       written = subst (λ x. Puts x 0 old new behind) (sym both)
-          (Puts-then (items_text h.items) (item_text i) 0 place behind old mid new fits h.written puts);
+          (Puts-then (items_text h.items) (item_text i) 0 place behind old mid new fits h.written
+          puts);
     }
 
 pub all_written : ReaderIsDone → (l : Limits) (all : List ℕ) (r : Reader) (old new : List ℕ)

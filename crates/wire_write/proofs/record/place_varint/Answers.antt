@@ -3,4 +3,5 @@ use Rattle.wire_write.proofs.Splices.{Puts-then}
 use Rattle.wire_write.proofs.record.place_varint.Goals as goal
 
 pub returns : goal.returns
-returns c = Puts-then _ _ _ _ _ _ _ _ (search rules) c.place_tag-behind.ensures c.place_number.ensures
+returns c =
+    Puts-then _ _ _ _ _ _ _ _ (search rules) c.place_tag-behind.ensures c.place_number.ensures
