@@ -1,5 +1,5 @@
 -- The longest front, and the fault behind it.
-use Rattle.std.proofs.Common.{◌≡◌, ◌≢◌, ℕ, List, length, sym, ap, ◌∙◌, subst, arith}
+use Rattle.std.proofs.Common.{◌≡◌, ◌≢◌, ℕ, List, [], ◌++◌, append-nil, length, refl, sym, ap, ◌∙◌, subst, arith}
 use Rattle.wire_base.specs.declared.error.DecodeError.{DecodeError}
 use Rattle.wire_base.specs.declared.tag.WireType.TheVariants.{StartGroup, EndGroup}
 use Rattle.wire_base.specs.Charge.{payload_charge}
@@ -16,14 +16,14 @@ use Rattle.wire_base.specs.Tag.{IsTagSpelling}
 use Rattle.wire_base.specs.TagLaws.{OneTag, NoTagBesideFault}
 use Rattle.wire_base.specs.Taken.{TakesPayload}
 use Rattle.wire_read.specs.declared.event.Part.{Part}
-use Rattle.wire_read.specs.Laws.{FaultIsBehindLongest, OneLongestFront}
-use Rattle.wire_read.specs.Opened.{Opens, numbers, ending_of, items_open, left_open}
+use Rattle.wire_read.specs.Laws.{EventsAreInFront, FaultIsBehindLongest, OneLongestFront}
+use Rattle.wire_read.specs.Opened.{Opens, TakesOpen, numbers, ending_of, items_of, items_open, left_open}
 use Rattle.wire_read.specs.PartFault.{PartFault}
 use Rattle.wire_read.specs.Reading.{At, Moves}
 use Rattle.wire_read.specs.Rebuilt.{rebuilt}
 use Rattle.wire_read.proofs.Places.{end_is_no_payload, part_of_payload}
 use Rattle.wire_read.proofs.Rebuilding.{items_tell}
-use Rattle.wire_read.proofs.Walks.{at_with, open_walks, walked_on, same_walk, shorter, falls, not_end}
+use Rattle.wire_read.proofs.Walks.{at_with, open_walks, walked_on, walks-append, same_walk, shorter, falls, not_end}
 
 module _ (tags : OneTag) (tag_fault : NoTagBesideFault) (payload_fault : NoPayloadBesideFault) where
   -- no start tag with a slot and a level stands where a part is at fault
@@ -129,3 +129,18 @@ one_front tags payloads limits depths l all levels outer fs gs rest other h k =
     (open_walks limits depths l outer gs all other k.taken) in
     let records = sym (items_tell levels fs) ∙ ap rebuilt same.0 ∙ items_tell outer gs in
     (ap (λ r. r.levels) records, ap (λ r. r.fields) records, ap (λ s. s.rest) same.1)
+
+pub in_front : OneTag → OnePayload → LimitsAddUp → LevelsAddUp → EventsAreInFront
+in_front tags payloads limits depths l all items s fs h spelled fits =
+    let taken : TakesOpen l [] fs all [] = record {
+      read = record { text = all; parts = sym (append-nil all); spelled = spelled };
+      fits = fits;
+    } in
+    let records = open_walks limits depths l [] fs all [] taken in
+    let here = open_walks limits depths l h.levels h.fields all s.rest h.taken in
+    let on = walked_on tags payloads (items_of fs) (items_open h.levels h.fields) _ _ _
+    (λ i b v move. let less = shorter i _ v b move in omega (arith, less)) records here in
+    let same = same_walk tags payloads (items_of fs) (items_open h.levels h.fields ++ on.0) _ _ _
+    refl (λ i x y b move. shorter i x y b move) falls records
+    (walks-append (items_open h.levels h.fields) on.0 _ _ _ here on.1) in
+    (on.0, same.0 ∙ ap (λ x. x ++ on.0) (sym h.items_are))

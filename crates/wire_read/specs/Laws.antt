@@ -70,3 +70,9 @@ OnePartFault = (l : Limits) (levels : List ℕ) (rest : List ℕ) (part other : 
 abbrev pub ItemsTellRecords : Type 0
 ItemsTellRecords = (levels : List Group) (fs : Fields)
     → rebuilt (items_open levels fs) ≡ record { levels = levels; fields = fs }
+
+-- where all of the bytes spell records within the limits, the events so far are the first of theirs
+abbrev pub EventsAreInFront : Type 0
+EventsAreInFront = (l : Limits) (all : List ℕ) (items : List Item) (s : At) (fs : Fields)
+    → IsAt l all items s → Spells fs all → Fits (charge fs) l
+    → (more : List Item) × (items_of fs ≡ items ++ more)

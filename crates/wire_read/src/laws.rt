@@ -1,5 +1,5 @@
 //! Laws of the places of a reader: each function is a theorem, and does nothing.
-ghost use Rattle.wire_read.specs.Laws.{ReaderBegins, ReaderGoesOn, ReaderMovesOn, ReaderIsDone, ReaderIsStuck, FaultIsBehindLongest, OneLongestFront, OnePartFault, ItemsTellRecords};
+ghost use Rattle.wire_read.specs.Laws.{ReaderBegins, ReaderGoesOn, ReaderMovesOn, ReaderIsDone, ReaderIsStuck, FaultIsBehindLongest, OneLongestFront, OnePartFault, ItemsTellRecords, EventsAreInFront};
 
 use wire_base::laws;
 
@@ -77,3 +77,14 @@ pub fn one_part_fault()
 pub fn items_tell_records()
     ensures { ItemsTellRecords }
 {}
+
+/// Where all of the bytes spell records within the limits, the events so far are the first of
+/// theirs, however far the reader is.
+pub fn events_are_in_front()
+    ensures { EventsAreInFront }
+{
+    laws::one_tag();
+    laws::one_payload();
+    laws::limits_add_up();
+    laws::levels_add_up();
+}

@@ -7,7 +7,9 @@ pub mod laws;
 mod payload;
 mod reader;
 mod sums;
+mod validation;
 
 pub use event::{Event, Fault, Part, Value};
 pub use reader::{MAX_OPEN_GROUPS, Reader};
 pub use sums::payload_bytes;
+pub use validation::validate;

@@ -1,0 +1,4 @@
+pub mod Put
+pub mod Read
+pub mod Status
+pub mod Whole

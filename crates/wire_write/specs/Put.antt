@@ -1,0 +1,28 @@
+-- What a put does: the bytes of a text at a place of a room.
+use Rattle.std.specs.Prelude.{◌≡◌, ℕ, ◌+◌, ◌-◌, ◌^◌, ◌<◌, ◌≤◌, List, ◌++◌, length, take, drop, min}
+use Rattle.wire_base.specs.FieldNumber.{IsFieldNumber}
+use Rattle.wire_write.specs.declared.put.PutError.{PutError}
+use Rattle.wire_write.specs.declared.put.PutError.TheVariants.{InvalidFieldNumber, NoRoom}
+
+-- all, with the text from a place on in the stead of as many of its elements
+abbrev pub spliced : ℕ → List ℕ → List ℕ → List ℕ
+spliced place text all = take place all ++ text ++ drop (place + length text) all
+
+-- the text stands at the place, behind is the place behind it, and all else is as it was
+pub record Puts (text : List ℕ) (place : ℕ) (old new : List ℕ) (behind : ℕ) : Type 0 where
+  pub room : place + length text ≤ length old
+  pub moved : behind ≡ place + length text
+  pub written : new ≡ spliced place text old
+
+-- a record of this number and text is none, or has no room at the place
+pub data PutFault : ℕ → List ℕ → ℕ → List ℕ → PutError → Type 0 where
+  no_number : {number place : ℕ} {text old : List ℕ} → ¬ IsFieldNumber number
+      → PutFault number text place old InvalidFieldNumber
+  no_room : {number place : ℕ} {text old : List ℕ} (wanted : ℕ) → IsFieldNumber number
+      → length old < place + length text → wanted ≡ min (length text) (2 ^ 64 - 1)
+      → PutFault number text place old (NoRoom wanted)
+
+-- what is asked before a record of so many bytes is written
+pub record HasPlace (number len place room : ℕ) : Type 0 where
+  pub valid : IsFieldNumber number
+  pub fits : place + len ≤ room

@@ -1,0 +1,159 @@
+//! Records one by one.
+ghost use Rattle.std.specs.Prelude.{◌≡◌, ◌+◌, ◌^◌, ◌<◌, ◌≤◌, ◌++◌, ℕ, List, length, OnOk, OnErr, IfOk, IfErr};
+ghost use Rattle.std.specs.Int.{w32, w64, to_le_bytes};
+ghost use Rattle.wire_base.specs.declared.tag.WireType.TheVariants.{StartGroup, EndGroup};
+ghost use Rattle.wire_base.specs.Field.{varint, fixed32, fixed64, bytes};
+ghost use Rattle.wire_base.specs.FieldNumber.{IsFieldNumber};
+ghost use Rattle.wire_base.specs.Tag.{tag_text, tag_value};
+ghost use Rattle.wire_base.specs.Text.{record_text};
+ghost use Rattle.wire_scalar.specs.ValueMap.{sint64, zigzag};
+ghost use Rattle.wire_write.specs.Put.{HasPlace, Puts, PutFault};
+
+use crate::record::{
+    place_delimited, place_fixed32, place_fixed64, place_tag, place_varint, tag_len,
+};
+use wire_codec::{MAX_FIELD_NUMBER, WireType, varint_len};
+
+/// Why a record is not written.
+#[derive(Clone, Copy, Debug, PartialEq, Eq)]
+pub enum PutError {
+    /// The field number is 0 or past `MAX_FIELD_NUMBER`.
+    InvalidFieldNumber,
+    /// The record takes more bytes than the room has from the place on: so many, or `usize::MAX`
+    /// where they are more.
+    NoRoom(usize),
+}
+
+/// Writes a record with a varint at a place of the room, and answers the place behind it.
+pub fn put_varint(room: &mut [u8], place: usize, number: u32, value: u64) -> Result<usize, PutError>
+    ensures ok { IfOk result (Puts (record_text number (varint value)) place room.old room.new) }
+    ensures number { OnOk result (IsFieldNumber number) }
+    ensures err { IfErr result (PutFault number (record_text number (varint value))
+        place room.old) }
+    ensures unchanged { OnErr result (room.new ≡ room.old) }
+{
+    let tag = tag_len(number, WireType::Varint);
+    check(number, tag, varint_len(value), place, room)?;
+    Ok(place_varint(room, place, number, value))
+}
+
+/// Writes a record of type `sint64` or `sint32`, as `put_varint` does its zigzag number.
+pub fn put_sint(room: &mut [u8], place: usize, number: u32, value: i64) -> Result<usize, PutError>
+    ensures ok { IfOk result (Puts (record_text number (varint (sint64.enc value)))
+        place room.old room.new) }
+    ensures number { OnOk result (IsFieldNumber number) }
+    ensures err { IfErr result (PutFault number (record_text number (varint (sint64.enc value)))
+        place room.old) }
+    ensures unchanged { OnErr result (room.new ≡ room.old) }
+{
+    put_varint(room, place, number, to_zigzag(value))
+}
+
+/// Writes a record with four bytes, the lowest first, and answers the place behind it.
+pub fn put_fixed32(
+    room: &mut [u8],
+    place: usize,
+    number: u32,
+    value: u32,
+) -> Result<usize, PutError>
+    ensures ok { IfOk result (Puts (record_text number (fixed32 value)) place room.old room.new) }
+    ensures number { OnOk result (IsFieldNumber number) }
+    ensures err { IfErr result (PutFault number (record_text number (fixed32 value))
+        place room.old) }
+    ensures unchanged { OnErr result (room.new ≡ room.old) }
+{
+    check(number, tag_len(number, WireType::Fixed32), 4, place, room)?;
+    Ok(place_fixed32(room, place, number, value))
+}
+
+/// Writes a record with eight bytes, the lowest first, and answers the place behind it.
+pub fn put_fixed64(
+    room: &mut [u8],
+    place: usize,
+    number: u32,
+    value: u64,
+) -> Result<usize, PutError>
+    ensures ok { IfOk result (Puts (record_text number (fixed64 value)) place room.old room.new) }
+    ensures number { OnOk result (IsFieldNumber number) }
+    ensures err { IfErr result (PutFault number (record_text number (fixed64 value))
+        place room.old) }
+    ensures unchanged { OnErr result (room.new ≡ room.old) }
+{
+    check(number, tag_len(number, WireType::Fixed64), 8, place, room)?;
+    Ok(place_fixed64(room, place, number, value))
+}
+
+/// Writes a record with a payload behind its length, and answers the place behind it.
+pub fn put_bytes(
+    room: &mut [u8],
+    place: usize,
+    number: u32,
+    payload: &[u8],
+) -> Result<usize, PutError>
+    ensures ok { IfOk result (Puts (record_text number (bytes payload.now))
+        place room.old room.new) }
+    ensures number { OnOk result (IsFieldNumber number) }
+    ensures err { IfErr result (PutFault number (record_text number (bytes payload.now))
+        place room.old) }
+    ensures unchanged { OnErr result (room.new ≡ room.old) }
+{
+    let head = tag_len(number, WireType::LengthDelimited) + varint_len(payload.len() as u64);
+    check(number, head, payload.len(), place, room)?;
+    Ok(place_delimited(room, place, number, payload))
+}
+
+/// Writes the start tag of a group, and answers the place behind it.
+pub fn put_group_start(room: &mut [u8], place: usize, number: u32) -> Result<usize, PutError>
+    ensures ok { IfOk result (Puts (tag_text number StartGroup) place room.old room.new) }
+    ensures number { OnOk result (IsFieldNumber number) }
+    ensures err { IfErr result (PutFault number (tag_text number StartGroup) place room.old) }
+    ensures unchanged { OnErr result (room.new ≡ room.old) }
+{
+    check(
+        number,
+        tag_len(number, WireType::StartGroup),
+        0,
+        place,
+        room,
+    )?;
+    Ok(place_tag(room, place, number, WireType::StartGroup))
+}
+
+/// Writes the end tag of a group, and answers the place behind it.
+pub fn put_group_end(room: &mut [u8], place: usize, number: u32) -> Result<usize, PutError>
+    ensures ok { IfOk result (Puts (tag_text number EndGroup) place room.old room.new) }
+    ensures number { OnOk result (IsFieldNumber number) }
+    ensures err { IfErr result (PutFault number (tag_text number EndGroup) place room.old) }
+    ensures unchanged { OnErr result (room.new ≡ room.old) }
+{
+    check(number, tag_len(number, WireType::EndGroup), 0, place, room)?;
+    Ok(place_tag(room, place, number, WireType::EndGroup))
+}
+
+// The number of a value of type `sint64`: 0, -1, 1, -2, 2 .. as 0, 1, 2, 3, 4 ..
+#[inline(always)]
+fn to_zigzag(value: i64) -> u64
+    ensures { result ≡ zigzag value }
+{
+    if value >= 0 {
+        2 * (value as u64)
+    } else {
+        2 * (value.unsigned_abs() - 1) + 1
+    }
+}
+
+// Whether a record of so many bytes and then so many may be written.
+#[inline(always)]
+fn check(number: u32, len: usize, more: usize, place: usize, room: &[u8]) -> Result<(), PutError>
+    ensures ok { OnOk result (HasPlace number (len + more) place (length room.now)) }
+    ensures err { (text : List ℕ) → length text ≡ len + more
+        → IfErr result (PutFault number text place room.now) }
+{
+    if number == 0 || number > MAX_FIELD_NUMBER {
+        return Err(PutError::InvalidFieldNumber);
+    }
+    if place > room.len() || len > room.len() - place || more > room.len() - place - len {
+        return Err(PutError::NoRoom(len.saturating_add(more)));
+    }
+    Ok(())
+}
