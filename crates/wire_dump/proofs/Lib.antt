@@ -1,3 +1,6 @@
 pub mod Open
+pub mod Texts
 pub mod Put
 pub mod Walk
+pub mod Short
+pub mod One

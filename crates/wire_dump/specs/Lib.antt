@@ -1,4 +1,8 @@
 -- The text of records.
 pub mod Lines
+pub mod Places
 pub mod Dumps
+pub mod Refused
 pub mod Dumped
+pub mod Shortened
+pub mod Laws

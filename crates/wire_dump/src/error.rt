@@ -12,6 +12,7 @@ pub(crate) enum RunError {
     ReadFailed,
     TooLong,
     NotHexadecimal,
+    NotBase64,
     Empty,
     WriteFailed,
     BrokenPipe,
@@ -46,6 +47,7 @@ impl RunError {
             RunError::WriteFailed => (8, "writing failed"),
             RunError::BrokenPipe => (9, "nobody reads the output"),
             RunError::OutOfMemory => (10, "out of memory"),
+            RunError::NotBase64 => (11, "the input is no base64 text"),
         }
     }
 }

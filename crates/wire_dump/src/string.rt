@@ -1,7 +1,9 @@
 //! Strings of a dump: payloads between double quotes.
 ghost use Rattle.std.specs.Prelude.{◌≡◌, ◌++◌, codes, decimal, OnOk};
-ghost use Rattle.wire_dump.specs.Lines.{escaped, escaped_byte, indented, octal, string_line};
+ghost use Rattle.wire_dump.specs.Lines.{escaped, escaped_byte, octal, string_line};
+ghost use Rattle.wire_dump.specs.Places.{range_text};
 
+use crate::layout::Margin;
 use crate::line::put_head;
 use std::alloc::AllocError;
 
@@ -41,13 +43,16 @@ fn put_escaped(out: &mut Vec<u8>, bytes: &[u8]) -> Result<(), AllocError>
 
 pub(crate) fn put_string(
     out: &mut Vec<u8>,
+    margin: Margin,
     level: u32,
     number: u32,
     bytes: &[u8],
 ) -> Result<(), AllocError>
-    ensures { OnOk result (out.new.items ≡ out.old.items ++ string_line level number bytes.now) }
+    ensures { OnOk result (out.new.items ≡ out.old.items
+        ++ (range_text margin.is_shown margin.start margin.end
+        ++ string_line level number bytes.now)) }
 {
-    put_head(out, level, number)?;
+    put_head(out, margin, level, number)?;
     out.extend_from_slice(b": \"")?;
     put_escaped(out, bytes)?;
     out.extend_from_slice(b"\"\n")
