@@ -4,3 +4,4 @@ pub mod Put
 pub mod Walk
 pub mod Short
 pub mod One
+pub mod Escaped

@@ -6,3 +6,5 @@ pub mod Refused
 pub mod Dumped
 pub mod Shortened
 pub mod Laws
+pub mod Outcome
+pub mod Input

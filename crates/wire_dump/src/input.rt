@@ -1,5 +1,11 @@
 //! What is read.
-use crate::error::{RunError, read_error};
+ghost use Rattle.std.specs.Prelude.{◌≡◌, ◌≤◌, ◌⊎◌, length, Ok, IfOk};
+ghost use Rattle.base64.specs.Engines.{standard_pad_indifferent, url_safe_pad_indifferent};
+ghost use Rattle.base64.specs.GeneralPurpose as base64_texts;
+ghost use Rattle.hex.specs.Hex as hexadecimal;
+ghost use Rattle.wire_dump.specs.Input.{compact};
+
+use crate::error::{RunError, open_error, read_error};
 use crate::options::{Notation, Options};
 use base64::DecodeAllocError;
 use base64::engine::general_purpose::{STANDARD_PAD_INDIFFERENT, URL_SAFE_PAD_INDIFFERENT};
@@ -9,24 +15,27 @@ use std::io::Read;
 
 /// All bytes of the input that the options name.
 pub(crate) fn input(rt: &HostRuntime, options: &Options<'_>) -> Result<Vec<u8>, RunError> {
-    let bytes = match options.file {
+    let written = match options.file {
         Some(path) => match fs::open(rt, path) {
             Ok(file) => read(rt.alloc(), file, options.size)?,
-            Err(_) => return Err(RunError::NoFile),
+            Err(error) => return Err(open_error(error)),
         },
         None => read(rt.alloc(), rt.stdin(), options.size)?,
+    };
+    let bytes = match options.notation {
+        Notation::Plain => written,
+        Notation::Hexadecimal => of_hexadecimal(rt.alloc(), &written)?,
+        Notation::Base64 => of_base64(rt.alloc(), &written)?,
     };
     if bytes.is_empty() {
         return Err(RunError::Empty);
     }
-    match options.notation {
-        Notation::Plain => Ok(bytes),
-        Notation::Hexadecimal => of_hexadecimal(rt.alloc(), &bytes),
-        Notation::Base64 => of_base64(rt.alloc(), &bytes),
-    }
+    Ok(bytes)
 }
 
-fn read<R: Read + Drop>(alloc: Global, reader: R, size: u64) -> Result<Vec<u8>, RunError> {
+fn read<R: Read + Drop>(alloc: Global, reader: R, size: u64) -> Result<Vec<u8>, RunError>
+    ensures { IfOk result (λ bytes. length bytes.items ≤ size) }
+{
     let mut bytes = Vec::new(alloc);
     let answer = reader.take(size.saturating_add(1)).read_to_end(&mut bytes);
     match answer {
@@ -37,18 +46,22 @@ fn read<R: Read + Drop>(alloc: Global, reader: R, size: u64) -> Result<Vec<u8>, 
 }
 
 // Text without its white space.
-fn compact(alloc: Global, text: &[u8]) -> Result<Vec<u8>, RunError> {
-    let mut compact = Vec::new(alloc);
+fn compact(alloc: Global, text: &[u8]) -> Result<Vec<u8>, RunError>
+    ensures { IfOk result (λ kept. kept.items ≡ compact text.now) }
+{
+    let mut kept = Vec::new(alloc);
     for byte in text {
         if !byte.is_ascii_whitespace() {
-            compact.push(*byte)?;
+            kept.push(*byte)?;
         }
     }
-    Ok(compact)
+    Ok(kept)
 }
 
 // The bytes of text, two digits each; white space is passed over.
-fn of_hexadecimal(alloc: Global, text: &[u8]) -> Result<Vec<u8>, RunError> {
+fn of_hexadecimal(alloc: Global, text: &[u8]) -> Result<Vec<u8>, RunError>
+    ensures { IfOk result (λ bytes. hexadecimal.decode_of (compact text.now) ≡ Ok bytes.items) }
+{
     let digits = compact(alloc, text)?;
     match hex::decode(alloc, digits.as_slice()) {
         Ok(bytes) => Ok(bytes),
@@ -57,12 +70,15 @@ fn of_hexadecimal(alloc: Global, text: &[u8]) -> Result<Vec<u8>, RunError> {
     }
 }
 
-// The bytes of base64 text, of the alphabet for URLs where it has a letter of that alone; white
+// The bytes of base64 text, of the alphabet for URLs where it has a digit of that alone; white
 // space is passed over.
-fn of_base64(alloc: Global, text: &[u8]) -> Result<Vec<u8>, RunError> {
+fn of_base64(alloc: Global, text: &[u8]) -> Result<Vec<u8>, RunError>
+    ensures { IfOk result (λ bytes.
+        (base64_texts.decode_of standard_pad_indifferent (compact text.now) ≡ Ok bytes.items)
+        ⊎ (base64_texts.decode_of url_safe_pad_indifferent (compact text.now) ≡ Ok bytes.items)) }
+{
     let digits = compact(alloc, text)?;
-    let is_url_safe = digits.iter().any(|digit| matches!(digit, b'-' | b'_'));
-    let decoded = if is_url_safe {
+    let decoded = if digits.contains(&b'-') || digits.contains(&b'_') {
         URL_SAFE_PAD_INDIFFERENT.decode(alloc, &digits)
     } else {
         STANDARD_PAD_INDIFFERENT.decode(alloc, &digits)

@@ -1,5 +1,5 @@
 //! The words of the command line.
-use crate::error::RunError;
+use crate::error::{RunError, words_error};
 use clap::{Arg, ArgAction, ArgMatches, Command, Error};
 use std::alloc::Global;
 use wire_codec::DecodeContext;
@@ -53,7 +53,7 @@ impl<'a> Options<'a> {
                 has_offsets: matches.get_flag("offsets"),
                 is_shortest: matches.get_flag("shortest"),
             }),
-            Err(error) => Err(RunError::Usage(error)),
+            Err(error) => Err(words_error(error)),
         }
     }
 }

@@ -1,5 +1,5 @@
 //! Strings of a dump: payloads between double quotes.
-ghost use Rattle.std.specs.Prelude.{◌≡◌, ◌++◌, codes, decimal, OnOk};
+ghost use Rattle.std.specs.Prelude.{◌≡◌, ◌≢◌, ◌<◌, ◌≤◌, [], ◌∷◌, ◌++◌, length, take, codes, decimal, IsTrue, IfOk, OnOk};
 ghost use Rattle.wire_dump.specs.Lines.{escaped, escaped_byte, octal, string_line};
 ghost use Rattle.wire_dump.specs.Places.{range_text};
 
@@ -32,11 +32,47 @@ fn put_escaped_byte(out: &mut Vec<u8>, byte: u8) -> Result<(), AllocError>
     }
 }
 
+// Whether a byte stands for itself between double quotes.
+fn is_plain(byte: u8) -> bool
+    ensures { IsTrue result → escaped_byte byte ≡ byte ∷ [] }
+{
+    !matches!(byte, 0..32 | 127.. | b'"' | b'\'' | b'\\')
+}
+
+// How many bytes at the front stand for themselves.
+fn plain_len(bytes: &[u8]) -> usize
+    ensures within { result ≤ length bytes.now }
+    ensures plain { escaped (take result bytes.now) ≡ take result bytes.now }
+{
+    let mut count = 0;
+    while count < bytes.len() && is_plain(bytes[count]) {
+        count += 1;
+    }
+    count
+}
+
+// Puts the bytes at the front that stand for themselves and the byte behind them, and answers what
+// follows.
+fn put_run<'a>(out: &mut Vec<u8>, bytes: &'a [u8]) -> Result<&'a [u8], AllocError>
+    ensures ok { IfOk result (λ rest. out.new.items ++ escaped rest.now
+        ≡ out.old.items ++ escaped bytes.now) }
+    ensures shorter { IfOk result (λ rest. bytes.now ≢ [] → length rest.now < length bytes.now) }
+{
+    let (plain, behind) = bytes.split_at(plain_len(bytes));
+    out.extend_from_slice(plain)?;
+    let Some((byte, rest)) = behind.split_first() else {
+        return Ok(behind);
+    };
+    put_escaped_byte(out, *byte)?;
+    Ok(rest)
+}
+
 fn put_escaped(out: &mut Vec<u8>, bytes: &[u8]) -> Result<(), AllocError>
     ensures { OnOk result (out.new.items ≡ out.old.items ++ escaped bytes.now) }
 {
-    for &byte in bytes {
-        put_escaped_byte(out, byte)?;
+    let mut rest = bytes;
+    while !rest.is_empty() {
+        rest = put_run(out, rest)?;
     }
     Ok(())
 }
