@@ -1,5 +1,6 @@
 -- Bytes that stand for themselves.
-use Rattle.std.proofs.Common.{◌≡◌, ℕ, ◌+◌, ◌<◌, ◌≤◌, List, [], ◌∷◌, ◌++◌, length, take, drop, get_or, refl, sym, ap, ◌∙◌, append_assoc, append-nil, arith}
+use Rattle.std.proofs.Common.{◌≡◌, ℕ, ◌+◌, ◌-◌, ◌<◌, ◌≤◌, List, [], ◌∷◌, ◌++◌, length, take, drop, get_or, refl, sym, ap, ◌∙◌, append_assoc, append-nil, arith}
+use Rattle.std.proofs.Math.Seq.{take-add}
 use Rattle.std.proofs.lemmas.List.{take_more}
 use Rattle.wire_dump.specs.Lines.{escaped, escaped_byte}
 
@@ -26,6 +27,25 @@ one_plain bytes count d h more e =
       plain = ap escaped next ∙ escaped-append front (b ∷ [])
           ∙ ap (λ (t : List ℕ). t ++ escaped (b ∷ [])) h.plain
           ∙ ap (λ (t : List ℕ). front ++ t) one ∙ sym next;
+    }
+
+-- a block more
+pub block_plain : (bytes : List ℕ) (count size : ℕ) → IsPlain bytes count
+    → count + size ≤ length bytes
+    → escaped (take (count + size - count) (drop count bytes))
+    ≡ take (count + size - count) (drop count bytes)
+    → IsPlain bytes (count + size)
+block_plain bytes count size h room e =
+    let front = take count bytes in
+    let block = take (count + size - count) (drop count bytes) in
+    let width : size ≡ count + size - count = omega arith in
+    let next : take (count + size) bytes ≡ front ++ block =
+    take-add count size bytes ∙ ap (λ (n : ℕ). front ++ take n (drop count bytes)) width in
+    record {
+      within = room;
+      plain = ap escaped next ∙ escaped-append front block
+          ∙ ap (λ (t : List ℕ). t ++ escaped block) h.plain
+          ∙ ap (λ (t : List ℕ). front ++ t) e ∙ sym next;
     }
 
 -- a run of bytes is put as it is, and then the byte behind it

@@ -1,15 +1,16 @@
 //! What is read.
-ghost use Rattle.std.specs.Prelude.{◌≡◌, ◌≤◌, ◌⊎◌, length, Ok, IfOk};
+ghost use Rattle.std.specs.Prelude.{◌≡◌, ◌≤◌, ◌⊎◌, length, Ok, IfOk, IfErr, IsErr};
 ghost use Rattle.base64.specs.Engines.{standard_pad_indifferent, url_safe_pad_indifferent};
 ghost use Rattle.base64.specs.GeneralPurpose as base64_texts;
 ghost use Rattle.hex.specs.Hex as hexadecimal;
+ghost use Rattle.wire_dump.specs.declared.error.RunError.TheVariants.{NotBase64, NotHexadecimal};
 ghost use Rattle.wire_dump.specs.Input.{compact};
 
 use crate::error::{RunError, open_error, read_error};
 use crate::options::{Notation, Options};
 use base64::DecodeAllocError;
 use base64::engine::general_purpose::{STANDARD_PAD_INDIFFERENT, URL_SAFE_PAD_INDIFFERENT};
-use std::alloc::Global;
+use std::alloc::{AllocError, Global};
 use std::fs;
 use std::io::Read;
 
@@ -46,7 +47,7 @@ fn read<R: Read + Drop>(alloc: Global, reader: R, size: u64) -> Result<Vec<u8>, 
 }
 
 // Text without its white space.
-fn compact(alloc: Global, text: &[u8]) -> Result<Vec<u8>, RunError>
+fn compact(alloc: Global, text: &[u8]) -> Result<Vec<u8>, AllocError>
     ensures { IfOk result (λ kept. kept.items ≡ compact text.now) }
 {
     let mut kept = Vec::new(alloc);
@@ -60,9 +61,13 @@ fn compact(alloc: Global, text: &[u8]) -> Result<Vec<u8>, RunError>
 
 // The bytes of text, two digits each; white space is passed over.
 fn of_hexadecimal(alloc: Global, text: &[u8]) -> Result<Vec<u8>, RunError>
-    ensures { IfOk result (λ bytes. hexadecimal.decode_of (compact text.now) ≡ Ok bytes.items) }
+    ensures ok { IfOk result (λ bytes. hexadecimal.decode_of (compact text.now) ≡ Ok bytes.items) }
+    ensures err { IfErr result (λ e. e ≡ NotHexadecimal
+        → IsErr (hexadecimal.decode_of (compact text.now))) }
 {
-    let digits = compact(alloc, text)?;
+    let Ok(digits) = compact(alloc, text) else {
+        return Err(RunError::OutOfMemory);
+    };
     match hex::decode(alloc, digits.as_slice()) {
         Ok(bytes) => Ok(bytes),
         Err(hex::FromHexError::OutOfMemory) => Err(RunError::OutOfMemory),
@@ -73,11 +78,16 @@ fn of_hexadecimal(alloc: Global, text: &[u8]) -> Result<Vec<u8>, RunError>
 // The bytes of base64 text, of the alphabet for URLs where it has a digit of that alone; white
 // space is passed over.
 fn of_base64(alloc: Global, text: &[u8]) -> Result<Vec<u8>, RunError>
-    ensures { IfOk result (λ bytes.
+    ensures ok { IfOk result (λ bytes.
         (base64_texts.decode_of standard_pad_indifferent (compact text.now) ≡ Ok bytes.items)
         ⊎ (base64_texts.decode_of url_safe_pad_indifferent (compact text.now) ≡ Ok bytes.items)) }
+    ensures err { IfErr result (λ e. e ≡ NotBase64
+        → IsErr (base64_texts.decode_of standard_pad_indifferent (compact text.now))
+        ⊎ IsErr (base64_texts.decode_of url_safe_pad_indifferent (compact text.now))) }
 {
-    let digits = compact(alloc, text)?;
+    let Ok(digits) = compact(alloc, text) else {
+        return Err(RunError::OutOfMemory);
+    };
     let decoded = if digits.contains(&b'-') || digits.contains(&b'_') {
         URL_SAFE_PAD_INDIFFERENT.decode(alloc, &digits)
     } else {

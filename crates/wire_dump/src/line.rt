@@ -17,14 +17,20 @@ fn put_indentation(out: &mut Vec<u8>, level: u32) -> Result<(), AllocError>
     Ok(())
 }
 
+#[tactic(auto, using(std::proofs::lemmas::Fmt::decimal_digit))]
 fn put_decimal(out: &mut Vec<u8>, number: u64) -> Result<(), AllocError>
     ensures { OnOk result (out.new.items ≡ out.old.items ++ decimal number) }
 {
+    if number < 10 {
+        out.push(48 + number as u8)?;
+        return Ok(());
+    }
     let mut buffer = Buffer::new();
     out.extend_from_slice(buffer.format(number).as_bytes())
 }
 
 // The places of the bytes that a line is of, where they are shown.
+#[inline(always)]
 fn put_margin(out: &mut Vec<u8>, margin: Margin) -> Result<(), AllocError>
     ensures { OnOk result (out.new.items
         ≡ out.old.items ++ range_text margin.is_shown margin.start margin.end) }

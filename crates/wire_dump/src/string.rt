@@ -7,6 +7,8 @@ use crate::layout::Margin;
 use crate::line::put_head;
 use std::alloc::AllocError;
 
+const BLOCK: usize = 32;
+
 // A backslash and three digits to the base 8.
 fn put_octal(out: &mut Vec<u8>, byte: u8) -> Result<(), AllocError>
     ensures { OnOk result (out.new.items ≡ out.old.items ++ octal byte) }
@@ -39,12 +41,37 @@ fn is_plain(byte: u8) -> bool
     !matches!(byte, 0..32 | 127.. | b'"' | b'\'' | b'\\')
 }
 
+// Whether all of the bytes stand for themselves. No byte is left out once one is found that does
+// not, so that many are compared at once.
+#[inline(always)]
+fn are_plain(bytes: &[u8]) -> bool
+    ensures { IsTrue result → escaped bytes.now ≡ bytes.now }
+{
+    let mut are = true;
+    for &byte in bytes {
+        are = is_plain(byte) && are;
+    }
+    are
+}
+
+// How many bytes at the front stand for themselves, in whole blocks.
+fn plain_blocks_len(bytes: &[u8]) -> usize
+    ensures within { result ≤ length bytes.now }
+    ensures plain { escaped (take result bytes.now) ≡ take result bytes.now }
+{
+    let mut count = 0;
+    while bytes.len() - count >= BLOCK && are_plain(&bytes[count..count + BLOCK]) {
+        count += BLOCK;
+    }
+    count
+}
+
 // How many bytes at the front stand for themselves.
 fn plain_len(bytes: &[u8]) -> usize
     ensures within { result ≤ length bytes.now }
     ensures plain { escaped (take result bytes.now) ≡ take result bytes.now }
 {
-    let mut count = 0;
+    let mut count = plain_blocks_len(bytes);
     while count < bytes.len() && is_plain(bytes[count]) {
         count += 1;
     }
