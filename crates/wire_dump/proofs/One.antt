@@ -4,20 +4,16 @@ use Rattle.std.proofs.lemmas.List.{take_at}
 use Rattle.wire_base.specs.declared.tag.WireType.{WireType}
 use Rattle.wire_base.specs.declared.tag.WireType.TheVariants.{StartGroup, EndGroup}
 use Rattle.wire_base.specs.Field.{Payload, varint, fixed64, fixed32, bytes, group, Fields, none, field, type_of}
-use Rattle.wire_base.specs.Limits.{Limits}
 use Rattle.wire_base.specs.Read.{Reads}
 use Rattle.wire_base.specs.RecordLaws.{OnePayload, OneSpelled}
-use Rattle.wire_base.specs.Spells.{Spells, IsPayload}
+use Rattle.wire_base.specs.Spells.{IsPayload}
 use Rattle.wire_base.specs.Tag.{IsTagSpelling}
 use Rattle.wire_base.specs.TagLaws.{OneTag}
 use Rattle.wire_base.specs.Text.{text_of}
-use Rattle.wire_dump.specs.declared.layout.Layout.{Layout}
-use Rattle.wire_dump.specs.Dumped.{IsDumped}
 use Rattle.wire_dump.specs.Dumps.{Dumps, DumpsRecord, SpellsRecord, number, eight_bytes, four_bytes, message, string, block, nothing, more}
 use Rattle.wire_dump.specs.Laws.{OneDump, OneShortened}
 use Rattle.wire_dump.specs.Lines.{number_line, fixed_line, string_line, opening, closing}
 use Rattle.wire_dump.specs.Places.{Line, line_of, printed}
-use Rattle.wire_dump.specs.Shortened.{IsShortened}
 
 same_front : (t u x : List ℕ) → t ++ x ≡ u ++ x → t ≡ u
 same_front t u x e =

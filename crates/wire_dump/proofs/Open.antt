@@ -76,7 +76,8 @@ pub open_end : (b k : ℕ) (g : Group) (outside : List Group) (fs : Fields) (t u
     → DumpsOpen b k (g ∷ outside) fs t ls → IsTagSpelling g.number EndGroup u
     → DumpsOpen b k outside (push g.before g.number (group fs)) (t ++ u)
     (ls ++ line_of u (closing (k + length outside)))
-open_end b k g outside fs t u ls (before, start, body, above, inside, outer, tag, inner, e, f) last =
+open_end b k g outside fs t u ls
+    (before, start, body, above, inside, outer, tag, inner, e, f) last =
     let count = length outside in
     let head = line_of start (opening (k + count) g.number) in
     let tail = line_of u (closing (k + count)) in

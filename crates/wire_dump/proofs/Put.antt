@@ -86,14 +86,16 @@ pub start_lines : (y : Layout) (count level n : ℕ) (v : Value) (text : List �
     → level ≡ y.level + (count - 1) → v ≡ values.GroupStart
     → ItemLines y count (item n v) text (line_of text (opening level n))
 start_lines y count level n v text at_level e =
-    subst (λ (w : Value). ItemLines y count (item n w) text (line_of text (opening level n))) (sym e)
+    subst (λ (w : Value). ItemLines y count (item n w) text (line_of text (opening level n)))
+    (sym e)
     (ap (λ (k : ℕ). line_of text (opening k n)) at_level)
 
 pub end_lines : (y : Layout) (count level n : ℕ) (v : Value) (text : List ℕ)
     → level ≡ y.level + count → v ≡ values.GroupEnd
     → ItemLines y count (item n v) text (line_of text (closing level))
 end_lines y count level n v text at_level e =
-    subst (λ (w : Value). ItemLines y count (item n w) text (line_of text (closing level))) (sym e)
+    subst (λ (w : Value). ItemLines y count (item n w) text (line_of text (closing level)))
+    (sym e)
     (ap (λ (k : ℕ). line_of text (closing k)) at_level)
 
 -- ---- payloads
@@ -143,7 +145,8 @@ message_printed o place end head first last lines at_end =
     printed_one o q [] last ∙ ap (λ (x : ℕ). range_text o x (q + 0) ++ last) same
     ∙ ap (λ (x : ℕ). range_text o end x ++ last) too in
     ap (λ (x : List ℕ). range_text o place mid ++ (first ++ x))
-    (printed-append o mid lines (line_of [] last) ∙ ap (λ (x : List ℕ). printed o mid lines ++ x) tail)
+    (printed-append o mid lines (line_of [] last)
+    ∙ ap (λ (x : List ℕ). printed o mid lines ++ x) tail)
 
 five : (old a b c d : List ℕ)
     → ((old ++ (a ++ b)) ++ c) ++ d ≡ old ++ (a ++ (b ++ (c ++ d)))
@@ -220,7 +223,8 @@ pub no_message_put : WholeInput → NoListBesideFault → (y : Layout)
     → SpellsRecord n (bytes payload) text → IsMargin y place (place + length text) whole
     → IsDumpedFront (inside 1 y) payload_place l payload f groups mid last
     → cut ≡ take start last
-    → new ≡ cut ++ (range_text whole.is_shown whole.start whole.end ++ string_line y.level n payload)
+    → new
+    ≡ cut ++ (range_text whole.is_shown whole.start whole.end ++ string_line y.level n payload)
     → Puts y place (RecordLines y n (bytes payload) text) text old new
 no_message_put whole_input beside y n place payload_place start l payload text old mid last cut new
     head whole f groups few limits at_start begun is is_whole h back puts =
@@ -235,7 +239,8 @@ no_message_put whole_input beside y n place payload_place start l payload text o
     let whole_end : last ≡ old ++ (head ++ more) =
     h.written ∙ ap (λ (x : List ℕ). x ++ more) begun ∙ append_assoc old head more in
     let is_old : cut ≡ old =
-    back ∙ ap (λ (x : List ℕ). take start x) whole_end ∙ cut_back start old (head ++ more) at_start in
+    back ∙ ap (λ (x : List ℕ). take start x) whole_end
+    ∙ cut_back start old (head ++ more) at_start in
     line_put y place whole text (string_line y.level n payload) old new
     (RecordLines y n (bytes payload) text) (string is no_message refl) is_whole
     (puts ∙ ap (λ (x : List ℕ). x ++ (range_text whole.is_shown whole.start whole.end

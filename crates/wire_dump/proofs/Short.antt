@@ -1,12 +1,11 @@
 -- The shortest text of the items so far.
-use Rattle.std.proofs.Common.{◌≡◌, ℕ, ◌+◌, ◌<◌, ◌≤◌, List, [], ◌∷◌, ◌++◌, length, refl, sym, ap, ◌∙◌, append_assoc, append-nil, arith, All}
+use Rattle.std.proofs.Common.{◌≡◌, ℕ, ◌+◌, List, [], ◌∷◌, ◌++◌, length, refl, sym, ap, ◌∙◌, append_assoc, append-nil, arith}
 use Rattle.wire_base.specs.declared.tag.WireType.TheVariants.{StartGroup, EndGroup}
 use Rattle.wire_base.specs.Field.{Payload, varint, fixed64, fixed32, bytes, group, Fields, none, field, type_of}
-use Rattle.wire_base.specs.Items.{Item, start, end, whole}
+use Rattle.wire_base.specs.Items.{Item, end}
 use Rattle.wire_base.specs.Limits.{Limits}
 use Rattle.wire_base.specs.RecordLaws.{NoTextIsShorter, NoOtherTextIsAsShort}
 use Rattle.wire_base.specs.Shortest.{WritesShortest}
-use Rattle.wire_base.specs.Spells.{Spells}
 use Rattle.wire_base.specs.Tag.{tag_text}
 use Rattle.wire_base.specs.Text.{payload_text, record_text, text_of}
 use Rattle.wire_read.specs.Laws.{ReaderGoesOn, ReaderIsDone}

@@ -1,7 +1,7 @@
 -- The bytes of items and of payloads, and where they are.
 use Rattle.std.proofs.Common.{◌≡◌, ℕ, ◌+◌, ◌-◌, ◌≤◌, List, [], ◌++◌, length, take, drop, refl, sym, ap, ◌∙◌, subst, append_assoc, append-nil, arith, length-append}
 use Rattle.std.proofs.lemmas.List.{drop_at, take_at}
-use Rattle.wire_base.specs.Field.{Payload, none, field, bytes, type_of}
+use Rattle.wire_base.specs.Field.{none, field, bytes}
 use Rattle.wire_base.specs.Items.{Item, start, end, whole, IsItem}
 use Rattle.wire_base.specs.Read.{Reads}
 use Rattle.wire_base.specs.Spells.{Spells, SpellsPayload}

@@ -89,7 +89,8 @@ one_item y (start n) levels fs s t behind front text lines more same (opens, is,
     are ∙ ap (λ (x : ℕ). line_of text (opening (y.level + x) n)) count in
     subst (λ (x : List Line). Shows y (put (start n) (with levels fs)) (front ++ text) (lines ++ x))
     (sym line_is) (open_start y.budget y.level n levels fs front text lines h tag)
-one_item y (end n) [] fs s t behind front text lines more same (tag, is, groups, limits) last h are =
+one_item y (end n) [] fs s t behind front text lines more same (tag, is, groups, limits) last h
+    are =
     let bad : [] ≡ n ∷ t.groups = sym same ∙ groups in
     let no : ⊥ = cc in
     absurd no

@@ -25,4 +25,5 @@ range_text true start end = decimal start ++ (codes ".." ++ (decimal end ++ code
 abbrev pub printed : Bool → ℕ → List Line → List ℕ
 printed offsets place [] = []
 printed offsets place (l ∷ lines) =
-    range_text offsets place (place + l.width) ++ (l.text ++ printed offsets (place + l.width) lines)
+    range_text offsets place (place + l.width)
+    ++ (l.text ++ printed offsets (place + l.width) lines)

@@ -17,8 +17,8 @@ pub record IsRefused (l : Limits) (all : List ℕ) (fault : Fault) (groups : Lis
   pub rest : List ℕ
   pub place : List ℕ
   pub longest : LongestFront l levels fields all rest
-  pub part : PartFault (left_open l levels fields) (ending_of (numbers levels)) rest fault.part place
-      fault.error
+  pub part : PartFault (left_open l levels fields) (ending_of (numbers levels)) rest fault.part
+      place fault.error
   pub record_place : fault.record_place ≡ place_of all rest
   pub part_place : fault.part_place ≡ place_of all place
   pub groups_are : groups ≡ numbers levels

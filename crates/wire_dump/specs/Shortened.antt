@@ -1,5 +1,5 @@
 -- The shortest text of the records that bytes spell.
-use Rattle.std.specs.Prelude.{◌≡◌, ℕ, List, [], ◌++◌}
+use Rattle.std.specs.Prelude.{◌≡◌, ℕ, List, []}
 use Rattle.wire_base.specs.declared.tag.WireType.TheVariants.{StartGroup, EndGroup}
 use Rattle.wire_base.specs.Charge.{charge}
 use Rattle.wire_base.specs.Field.{Fields}

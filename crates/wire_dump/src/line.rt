@@ -108,7 +108,8 @@ pub(crate) fn put_fixed(
     value: u64,
 ) -> Result<(), AllocError>
     ensures { OnOk result (out.new.items ≡ out.old.items
-        ++ (range_text margin.is_shown margin.start margin.end ++ fixed_line level number width value)) }
+        ++ (range_text margin.is_shown margin.start margin.end
+        ++ fixed_line level number width value)) }
 {
     put_head(out, margin, level, number)?;
     out.extend_from_slice(b": 0x")?;

@@ -1,5 +1,5 @@
 //! Strings of a dump: payloads between double quotes.
-ghost use Rattle.std.specs.Prelude.{◌≡◌, ◌≢◌, ◌<◌, ◌≤◌, [], ◌∷◌, ◌++◌, length, take, codes, decimal, IsTrue, IfOk, OnOk};
+ghost use Rattle.std.specs.Prelude.{◌≡◌, ◌≢◌, ◌<◌, ◌≤◌, [], ◌∷◌, ◌++◌, length, take, IsTrue, IfOk, OnOk};
 ghost use Rattle.wire_dump.specs.Lines.{escaped, escaped_byte, octal, string_line};
 ghost use Rattle.wire_dump.specs.Places.{range_text};
 

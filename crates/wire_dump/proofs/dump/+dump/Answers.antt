@@ -3,7 +3,6 @@ use Rattle.std.proofs.lemmas.Result.{on_ok_weaker}
 use Rattle.std.proofs.Common.{true, nat_eq, Err, refl, ◌∷◌, subst, sym, ap, ◌∙◌, drop}
 use Rattle.std.proofs.lemmas.Result.{err_from_is_err_and}
 use Rattle.wire_base.specs.Field.{bytes}
-use Rattle.wire_base.specs.Items.{IsItem}
 use Rattle.wire_read.specs.Reading.{At, Gives, IsAt, IsDone, Stops, at, groups_of, item, limits_of}
 use Rattle.wire_read.specs.declared.event.Fault.{Fault}
 use Rattle.wire_dump.specs.declared.layout.Layout.{Layout}
@@ -31,9 +30,11 @@ put_item-returns-in-Varint t c =
       end_is = c.margin-margin.ensures.end;
     } in
     on_ok_weaker c.put_number.result
-    (line_put y c.args.place c.margin-margin.result text (number_line level n c.in-Varint.value) c.args.out.now.items
+    (line_put y c.args.place c.margin-margin.result text
+    (number_line level n c.in-Varint.value) c.args.out.now.items
     c.put_number.new.out.items (ItemLines y count (item n v) text)
-    (number_lines y count level n c.in-Varint.value v text at_level c.in-Varint.is c.requires.is) is)
+    (number_lines y count level n c.in-Varint.value v text at_level
+    c.in-Varint.is c.requires.is) is)
     c.put_number.ensures
 
 pub put_item-returns-in-Fixed64 : goal.put_item-returns-in-Fixed64
@@ -51,9 +52,11 @@ put_item-returns-in-Fixed64 t c =
       end_is = c.margin-margin.ensures.end;
     } in
     on_ok_weaker c.put_fixed.result
-    (line_put y c.args.place c.margin-margin.result text (fixed_line level n 16 c.in-Fixed64.value) c.args.out.now.items
+    (line_put y c.args.place c.margin-margin.result text
+    (fixed_line level n 16 c.in-Fixed64.value) c.args.out.now.items
     c.put_fixed.new.out.items (ItemLines y count (item n v) text)
-    (eight_lines y count level n c.in-Fixed64.value v text at_level c.in-Fixed64.is c.requires.is) is)
+    (eight_lines y count level n c.in-Fixed64.value v text at_level
+    c.in-Fixed64.is c.requires.is) is)
     c.put_fixed.ensures
 
 pub put_item-returns-in-Fixed32 : goal.put_item-returns-in-Fixed32
@@ -71,9 +74,11 @@ put_item-returns-in-Fixed32 t c =
       end_is = c.margin-margin.ensures.end;
     } in
     on_ok_weaker c.put_fixed-in-Fixed32.result
-    (line_put y c.args.place c.margin-margin.result text (fixed_line level n 8 c.in-Fixed32.value) c.args.out.now.items
+    (line_put y c.args.place c.margin-margin.result text
+    (fixed_line level n 8 c.in-Fixed32.value) c.args.out.now.items
     c.put_fixed-in-Fixed32.new.out.items (ItemLines y count (item n v) text)
-    (four_lines y count level n c.in-Fixed32.value v text at_level c.in-Fixed32.is c.requires.is) is)
+    (four_lines y count level n c.in-Fixed32.value v text at_level
+    c.in-Fixed32.is c.requires.is) is)
     c.put_fixed-in-Fixed32.ensures
 
 pub put_item-returns-in-GroupStart : goal.put_item-returns-in-GroupStart
@@ -91,7 +96,8 @@ put_item-returns-in-GroupStart t c =
       end_is = c.margin-margin.ensures.end;
     } in
     on_ok_weaker c.put_opening.result
-    (line_put y c.args.place c.margin-margin.result text (opening outside n) c.args.out.now.items
+    (line_put y c.args.place c.margin-margin.result text
+    (opening outside n) c.args.out.now.items
     c.put_opening.new.out.items (ItemLines y count (item n v) text)
     (start_lines y count outside n v text at_outside c.in-GroupStart.is) is)
     c.put_opening.ensures
@@ -111,7 +117,8 @@ put_item-returns-in-GroupEnd t c =
       end_is = c.margin-margin.ensures.end;
     } in
     on_ok_weaker c.put_closing.result
-    (line_put y c.args.place c.margin-margin.result text (closing level) c.args.out.now.items
+    (line_put y c.args.place c.margin-margin.result text
+    (closing level) c.args.out.now.items
     c.put_closing.new.out.items (ItemLines y count (item n v) text)
     (end_lines y count level n v text at_level c.in-GroupEnd.is) is)
     c.put_closing.ensures

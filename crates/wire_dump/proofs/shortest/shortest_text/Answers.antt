@@ -1,4 +1,4 @@
-use Rattle.std.proofs.Common.{◌≡◌, ℕ, List, [], ◌++◌, Err, refl, subst, sym, ap, ◌∙◌, drop, arith, rules}
+use Rattle.std.proofs.Common.{◌≡◌, ℕ, [], ◌++◌, subst, sym, ap, drop, rules}
 use Rattle.std.proofs.lemmas.Result.{err_from_is_err_and}
 use Rattle.wire_read.specs.declared.event.Fault.{Fault}
 use Rattle.wire_read.specs.Reading.{At, Gives, IsAt, IsDone, Stops, at, groups_of, item, limits_of}

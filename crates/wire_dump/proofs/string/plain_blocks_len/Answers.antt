@@ -9,5 +9,6 @@ loop-count-preserved c =
     let count = c.loop-count.count in
     let block = take (count + 32 - count) (drop count bytes) in
     let same : escaped block ≡ block = search rules in
-    let room : count + 32 ≤ length bytes = omega (arith, c.loop-count.invariant.within, c.loop-count-test.true) in
+    let room : count + 32 ≤ length bytes =
+    omega (arith, c.loop-count.invariant.within, c.loop-count-test.true) in
     block_plain bytes count 32 c.loop-count.invariant room same
