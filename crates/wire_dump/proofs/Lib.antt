@@ -1,3 +1,7 @@
 pub mod Open
+pub mod Texts
 pub mod Put
 pub mod Walk
+pub mod Short
+pub mod One
+pub mod Escaped

@@ -1,5 +1,5 @@
 -- What is put of a record is the record's lines.
-use Rattle.std.proofs.Common.{◌≡◌, ◌≢◌, ℕ, ◌+◌, ◌-◌, ◌<◌, ◌≤◌, List, [], ◌++◌, length, min, take, refl, sym, ap, ◌∙◌, subst, append_assoc, arith}
+use Rattle.std.proofs.Common.{◌≡◌, ◌≢◌, ℕ, ◌+◌, ◌-◌, ◌<◌, ◌≤◌, List, [], ◌∷◌, ◌++◌, length, min, take, refl, sym, ap, ◌∙◌, subst, append_assoc, append-nil, arith, length-append, Bool}
 use Rattle.std.proofs.lemmas.List.{take-append-le}
 use Rattle.std.proofs.Math.Seq.{take-length}
 use Rattle.wire_base.specs.Charge.{charge}
@@ -7,97 +7,241 @@ use Rattle.wire_base.specs.Ending.{by_input}
 use Rattle.wire_base.specs.Fault.{ListFault}
 use Rattle.wire_base.specs.FaultLaws.{NoListBesideFault}
 use Rattle.wire_base.specs.Field.{Fields, bytes}
+use Rattle.wire_base.specs.Items.{IsItem}
 use Rattle.wire_base.specs.Limits.{Fits, Limits, uncounted}
 use Rattle.wire_base.specs.RecordLaws.{WholeInput}
 use Rattle.wire_read.specs.Reading.{item}
 use Rattle.wire_read.specs.declared.event.Fault.{Fault}
 use Rattle.wire_read.specs.declared.event.Value.{Value}
 use Rattle.wire_read.specs.declared.event.Value.TheVariants as values
-use Rattle.wire_dump.specs.Dumps.{IsMessage, number, eight_bytes, four_bytes, message, string}
-use Rattle.wire_dump.specs.Dumped.{IsDumped, IsDumpedFront, PutsItem, PutsRecord}
+use Rattle.wire_dump.specs.declared.layout.Layout.{Layout}
+use Rattle.wire_dump.specs.declared.layout.Margin.{Margin}
+use Rattle.wire_dump.specs.Dumps.{IsMessage, SpellsRecord, number, eight_bytes, four_bytes, message, string}
+use Rattle.wire_dump.specs.Dumped.{IsDumped, IsDumpedFront, ItemLines, Puts, RecordLines, inside}
 use Rattle.wire_dump.specs.Lines.{number_line, fixed_line, string_line, opening, closing}
+use Rattle.wire_dump.specs.Places.{Line, line_of, printed, range_text, width_of}
+use Rattle.wire_dump.proofs.Texts.{payload_last}
 
-pub number_put : (b k count n x : ℕ) (v : Value) (old new : List ℕ) → v ≡ values.Varint x
-    → new ≡ old ++ number_line (k + count) n x → PutsItem b k count (item n v) old new
-number_put b k count n x v old new e w =
-    subst (λ (y : Value). PutsItem b k count (item n y) old new) (sym e)
-    (number_line (k + count) n x, number refl, w)
+-- ---- lines
 
-pub eight_put : (b k count n x : ℕ) (v : Value) (old new : List ℕ) → v ≡ values.Fixed64 x
-    → new ≡ old ++ fixed_line (k + count) n 16 x → PutsItem b k count (item n v) old new
-eight_put b k count n x v old new e w =
-    subst (λ (y : Value). PutsItem b k count (item n y) old new) (sym e)
-    (fixed_line (k + count) n 16 x, eight_bytes refl, w)
+-- the margin of a line of these bytes
+pub record IsMargin (y : Layout) (place end : ℕ) (m : Margin) : Type 0 where
+  pub shown : m.is_shown ≡ y.has_offsets
+  pub start : m.start ≡ place
+  pub end_is : m.end ≡ end
 
-pub four_put : (b k count n x : ℕ) (v : Value) (old new : List ℕ) → v ≡ values.Fixed32 x
-    → new ≡ old ++ fixed_line (k + count) n 8 x → PutsItem b k count (item n v) old new
-four_put b k count n x v old new e w =
-    subst (λ (y : Value). PutsItem b k count (item n y) old new) (sym e)
-    (fixed_line (k + count) n 8 x, four_bytes refl, w)
+pub with_margin : (y : Layout) (place end : ℕ) (m : Margin) (line old new : List ℕ)
+    → IsMargin y place end m → new ≡ old ++ (range_text m.is_shown m.start m.end ++ line)
+    → new ≡ old ++ (range_text y.has_offsets place end ++ line)
+with_margin y place end m line old new is e =
+    e ∙ ap (λ (o : Bool). old ++ (range_text o m.start m.end ++ line)) is.shown
+    ∙ ap (λ (x : ℕ). old ++ (range_text y.has_offsets x m.end ++ line)) is.start
+    ∙ ap (λ (x : ℕ). old ++ (range_text y.has_offsets place x ++ line)) is.end_is
+
+pub printed_one : (o : Bool) (place : ℕ) (text line : List ℕ)
+    → printed o place (line_of text line) ≡ range_text o place (place + length text) ++ line
+printed_one o place text line =
+    ap (λ (x : List ℕ). range_text o place (place + length text) ++ x) (append-nil line)
+
+pub line_put : (y : Layout) (place : ℕ) (m : Margin) (text line old new : List ℕ)
+    (IsLines : List Line → Type 0)
+    → IsLines (line_of text line) → IsMargin y place (place + length text) m
+    → new ≡ old ++ (range_text m.is_shown m.start m.end ++ line)
+    → Puts y place IsLines text old new
+line_put y place m text line old new IsLines are is e = record {
+  lines = line_of text line;
+  are = are;
+  covers = omega arith;
+  written = with_margin y place (place + length text) m line old new is e
+      ∙ ap (λ (x : List ℕ). old ++ x) (sym (printed_one y.has_offsets place text line));
+}
+
+-- ---- items of one line
+
+pub number_lines : (y : Layout) (count level n x : ℕ) (v : Value) (text : List ℕ)
+    → level ≡ y.level + count → v ≡ values.Varint x → IsItem (item n v) text
+    → ItemLines y count (item n v) text (line_of text (number_line level n x))
+number_lines y count level n x v text at_level e =
+    subst (λ (w : Value). IsItem (item n w) text
+    → ItemLines y count (item n w) text (line_of text (number_line level n x))) (sym e)
+    (λ i. number i.1 (ap (λ (k : ℕ). line_of text (number_line k n x)) at_level))
+
+pub eight_lines : (y : Layout) (count level n x : ℕ) (v : Value) (text : List ℕ)
+    → level ≡ y.level + count → v ≡ values.Fixed64 x → IsItem (item n v) text
+    → ItemLines y count (item n v) text (line_of text (fixed_line level n 16 x))
+eight_lines y count level n x v text at_level e =
+    subst (λ (w : Value). IsItem (item n w) text
+    → ItemLines y count (item n w) text (line_of text (fixed_line level n 16 x))) (sym e)
+    (λ i. eight_bytes i.1 (ap (λ (k : ℕ). line_of text (fixed_line k n 16 x)) at_level))
+
+pub four_lines : (y : Layout) (count level n x : ℕ) (v : Value) (text : List ℕ)
+    → level ≡ y.level + count → v ≡ values.Fixed32 x → IsItem (item n v) text
+    → ItemLines y count (item n v) text (line_of text (fixed_line level n 8 x))
+four_lines y count level n x v text at_level e =
+    subst (λ (w : Value). IsItem (item n w) text
+    → ItemLines y count (item n w) text (line_of text (fixed_line level n 8 x))) (sym e)
+    (λ i. four_bytes i.1 (ap (λ (k : ℕ). line_of text (fixed_line k n 8 x)) at_level))
+
+pub start_lines : (y : Layout) (count level n : ℕ) (v : Value) (text : List ℕ)
+    → level ≡ y.level + (count - 1) → v ≡ values.GroupStart
+    → ItemLines y count (item n v) text (line_of text (opening level n))
+start_lines y count level n v text at_level e =
+    subst (λ (w : Value). ItemLines y count (item n w) text (line_of text (opening level n)))
+    (sym e)
+    (ap (λ (k : ℕ). line_of text (opening k n)) at_level)
+
+pub end_lines : (y : Layout) (count level n : ℕ) (v : Value) (text : List ℕ)
+    → level ≡ y.level + count → v ≡ values.GroupEnd
+    → ItemLines y count (item n v) text (line_of text (closing level))
+end_lines y count level n v text at_level e =
+    subst (λ (w : Value). ItemLines y count (item n w) text (line_of text (closing level)))
+    (sym e)
+    (ap (λ (k : ℕ). line_of text (closing k)) at_level)
 
 -- ---- payloads
 
-pub no_budget : (b k n : ℕ) (payload old new : List ℕ) → b ≡ 0
-    → new ≡ old ++ string_line k n payload → PutsRecord b k n (bytes payload) old new
-no_budget b k n payload old new none w =
-    let no_message : (fs : Fields) → IsMessage b payload fs → ⊥ =
-    λ fs m. let some = m.allowed in omega arith in
-    (string_line k n payload, string no_message refl, w)
+pub no_budget : (y : Layout) (n : ℕ) (payload text : List ℕ) → y.budget ≡ 0
+    → SpellsRecord n (bytes payload) text
+    → RecordLines y n (bytes payload) text (line_of text (string_line y.level n payload))
+no_budget y n payload text none is =
+    string is (λ fs m. let some = m.allowed in omega arith) refl
 
-pub no_bytes : (b k n : ℕ) (payload old new : List ℕ) → payload ≡ []
-    → new ≡ old ++ string_line k n payload → PutsRecord b k n (bytes payload) old new
-no_bytes b k n payload old new none w =
-    (string_line k n payload, string (λ fs m. m.nonempty none) refl, w)
+pub no_bytes : (y : Layout) (n : ℕ) (payload text : List ℕ) → payload ≡ []
+    → SpellsRecord n (bytes payload) text
+    → RecordLines y n (bytes payload) text (line_of text (string_line y.level n payload))
+no_bytes y n payload text none is = string is (λ fs m. m.nonempty none) refl
 
-pub message_put : (b k n : ℕ) (l : Limits) (payload old mid end new : List ℕ) → 0 < b → b ≤ 100
-    → payload ≢ [] → l ≡ uncounted (min b 100) → mid ≡ old ++ opening k n
-    → IsDumped (b - 1) (k + 1) l payload mid end → new ≡ end ++ closing k
-    → PutsRecord b k n (bytes payload) old new
-message_put b k n l payload old mid end new some few full limits head h last =
-    let all : min b 100 ≡ b = omega arith in
-    let first = opening k n in
+pub printed-append : (o : Bool) (place : ℕ) (xs ys : List Line)
+    → printed o place (xs ++ ys) ≡ printed o place xs ++ printed o (place + width_of xs) ys
+printed-append o place [] ys =
+    let same : place ≡ place + 0 = omega arith in
+    ap (λ (x : ℕ). printed o x ys) same
+printed-append o place (l ∷ xs) ys =
+    let mid = place + l.width in
+    let m = range_text o place mid in
+    let same : mid + width_of xs ≡ place + (l.width + width_of xs) = omega arith in
+    ap (λ (x : List ℕ). m ++ (l.text ++ x)) (printed-append o mid xs ys)
+    ∙ ap (λ (x : List ℕ). m ++ x) (sym (append_assoc l.text (printed o mid xs)
+    (printed o (mid + width_of xs) ys)))
+    ∙ sym (append_assoc m (l.text ++ printed o mid xs) (printed o (mid + width_of xs) ys))
+    ∙ ap (λ (x : ℕ). (m ++ (l.text ++ printed o mid xs)) ++ printed o x ys) same
+
+pub width-append : (xs ys : List Line) → width_of (xs ++ ys) ≡ width_of xs + width_of ys
+width-append [] ys = omega arith
+width-append (l ∷ xs) ys = omega (arith, width-append xs ys)
+
+-- a message between two lines
+message_printed : (o : Bool) (place end : ℕ) (head first last : List ℕ) (lines : List Line)
+    → end ≡ (place + length head) + width_of lines
+    → printed o place (line_of head first ++ (lines ++ line_of [] last))
+    ≡ range_text o place (place + length head)
+    ++ (first ++ (printed o (place + length head) lines ++ (range_text o end end ++ last)))
+message_printed o place end head first last lines at_end =
+    let mid = place + length head in
+    let q = mid + width_of lines in
+    let same : q ≡ end = sym at_end in
+    let too : q + 0 ≡ end = omega (arith, at_end) in
+    let tail : printed o q (line_of [] last) ≡ range_text o end end ++ last =
+    printed_one o q [] last ∙ ap (λ (x : ℕ). range_text o x (q + 0) ++ last) same
+    ∙ ap (λ (x : ℕ). range_text o end x ++ last) too in
+    ap (λ (x : List ℕ). range_text o place mid ++ (first ++ x))
+    (printed-append o mid lines (line_of [] last)
+    ∙ ap (λ (x : List ℕ). printed o mid lines ++ x) tail)
+
+five : (old a b c d : List ℕ)
+    → ((old ++ (a ++ b)) ++ c) ++ d ≡ old ++ (a ++ (b ++ (c ++ d)))
+five old a b c d =
+    append_assoc (old ++ (a ++ b)) c d ∙ append_assoc old (a ++ b) (c ++ d)
+    ∙ ap (λ (x : List ℕ). old ++ x) (append_assoc a b (c ++ d))
+
+pub message_put : (y : Layout) (n place payload_place end : ℕ) (l : Limits)
+    (payload text old mid last new : List ℕ) (first tail : Margin)
+    → 0 < y.budget → y.budget ≤ 100 → payload ≢ [] → l ≡ uncounted (min y.budget 100)
+    → SpellsRecord n (bytes payload) text → end ≡ place + length text
+    → payload_place ≡ end - length payload
+    → IsMargin y place payload_place first → IsMargin y end end tail
+    → mid ≡ old ++ (range_text first.is_shown first.start first.end ++ opening y.level n)
+    → IsDumped (inside 1 y) payload_place l payload mid last
+    → new ≡ last ++ (range_text tail.is_shown tail.start tail.end ++ closing y.level)
+    → Puts y place (RecordLines y n (bytes payload) text) text old new
+message_put y n place payload_place end l payload text old mid last new first tail some few full
+    limits is at_end at_payload is_first is_tail puts_first h puts_tail =
+    let o = y.has_offsets in
+    let all : min y.budget 100 ≡ y.budget = omega arith in
+    let (head, parts) = payload_last n payload text is in
+    let sizes : length text ≡ length head + length payload =
+    ap length parts ∙ length-append head payload in
+    let inner = place + length head in
+    let at_inner : payload_place ≡ inner = omega (arith, sizes, at_end, at_payload) in
     let within = subst (λ (x : ℕ). Fits (charge h.fields) (uncounted x)) all
     (subst (λ (x : Limits). Fits (charge h.fields) x) limits h.fits) in
-    let is : IsMessage b payload h.fields = record {
+    let message_is : IsMessage y.budget payload h.fields = record {
       allowed = some;
       nonempty = full;
       spelled = h.spelled;
       within = within;
-    } in (
-      first ++ (h.text ++ closing k),
-      message h.fields h.text is h.dumped refl,
-      last ∙ ap (λ (x : List ℕ). x ++ closing k) h.written
-          ∙ ap (λ (x : List ℕ). (x ++ h.text) ++ closing k) head
-          ∙ append_assoc (old ++ first) h.text (closing k)
-          ∙ append_assoc old first (h.text ++ closing k),
-    )
+    } in
+    let begun : mid ≡ old ++ (range_text o place inner ++ opening y.level n) =
+    with_margin y place payload_place first (opening y.level n) old mid is_first puts_first
+    ∙ ap (λ (x : ℕ). old ++ (range_text o place x ++ opening y.level n)) at_inner in
+    let ended : new ≡ last ++ (range_text o end end ++ closing y.level) =
+    with_margin y end end tail (closing y.level) last new is_tail puts_tail in
+    let all_put : new ≡ old ++ (range_text o place inner ++ (opening y.level n
+    ++ (printed o inner h.lines ++ (range_text o end end ++ closing y.level)))) =
+    ended
+    ∙ ap (λ (x : List ℕ). x ++ (range_text o end end ++ closing y.level))
+    (h.written ∙ ap (λ (x : List ℕ). x ++ printed o payload_place h.lines) begun
+    ∙ ap (λ (x : ℕ). (old ++ (range_text o place inner ++ opening y.level n))
+    ++ printed o x h.lines) at_inner)
+    ∙ five old (range_text o place inner) (opening y.level n) (printed o inner h.lines)
+    (range_text o end end ++ closing y.level) in
+    let behind : end ≡ inner + width_of h.lines = omega (arith, sizes, at_end, h.covers) in
+    record {
+      lines = line_of head (opening y.level n) ++ (h.lines ++ line_of [] (closing y.level));
+      are = message h.fields head h.lines is parts message_is h.dumped refl;
+      covers = omega (
+        arith,
+        sizes,
+        h.covers,
+        width-append h.lines (line_of [] (closing y.level)),
+      );
+      written = all_put ∙ ap (λ (x : List ℕ). old ++ x)
+          (sym (message_printed o place end head (opening y.level n) (closing y.level) h.lines
+          behind));
+    }
 
 cut_back : (start : ℕ) (old more : List ℕ) → start ≡ length old → take start (old ++ more) ≡ old
 cut_back start old more e =
     let within : start ≤ length old = omega (arith, e) in
     take-append-le start old more within ∙ ap (λ (x : ℕ). take x old) e ∙ take-length old
 
-pub no_message_put : WholeInput → NoListBesideFault → (b k n start : ℕ) (l : Limits)
-    (payload old mid end cut new : List ℕ) (f : Fault) (groups : List ℕ) → b ≤ 100
-    → l ≡ uncounted (min b 100) → start ≡ length old → mid ≡ old ++ opening k n
-    → IsDumpedFront (b - 1) (k + 1) l payload f groups mid end → cut ≡ take start end
-    → new ≡ cut ++ string_line k n payload → PutsRecord b k n (bytes payload) old new
-no_message_put whole beside b k n start l payload old mid end cut new f groups few limits at_start
-    head h back last =
-    let all : min b 100 ≡ b = omega arith in
-    let refused : ListFault (uncounted b) by_input payload f.error =
+pub no_message_put : WholeInput → NoListBesideFault → (y : Layout)
+    (n place payload_place start : ℕ) (l : Limits)
+    (payload text old mid last cut new : List ℕ) (head : List ℕ) (whole : Margin) (f : Fault)
+    (groups : List ℕ) → y.budget ≤ 100
+    → l ≡ uncounted (min y.budget 100) → start ≡ length old → mid ≡ old ++ head
+    → SpellsRecord n (bytes payload) text → IsMargin y place (place + length text) whole
+    → IsDumpedFront (inside 1 y) payload_place l payload f groups mid last
+    → cut ≡ take start last
+    → new
+    ≡ cut ++ (range_text whole.is_shown whole.start whole.end ++ string_line y.level n payload)
+    → Puts y place (RecordLines y n (bytes payload) text) text old new
+no_message_put whole_input beside y n place payload_place start l payload text old mid last cut new
+    head whole f groups few limits at_start begun is is_whole h back puts =
+    let all : min y.budget 100 ≡ y.budget = omega arith in
+    let refused : ListFault (uncounted y.budget) by_input payload f.error =
     subst (λ (x : ℕ). ListFault (uncounted x) by_input payload f.error) all
-    (subst (λ (x : Limits). ListFault x by_input payload f.error) limits h.refused) in
-    let no_message : (fs : Fields) → IsMessage b payload fs → ⊥ =
-    λ fs m. beside (uncounted b) by_input payload [] f.error fs refused
-    ((whole (charge fs) (uncounted b) fs payload []).1 (m.spelled, m.within, refl)) in
-    let whole_end : end ≡ old ++ (opening k n ++ h.text) =
-    h.written ∙ ap (λ (x : List ℕ). x ++ h.text) head
-    ∙ append_assoc old (opening k n) h.text in
+    (subst (λ (x : Limits). ListFault x by_input payload f.error) limits h.refused.refused) in
+    let no_message : (fs : Fields) → IsMessage y.budget payload fs → ⊥ =
+    λ fs m. beside (uncounted y.budget) by_input payload [] f.error fs refused
+    ((whole_input (charge fs) (uncounted y.budget) fs payload []).1 (m.spelled, m.within, refl)) in
+    let more = printed y.has_offsets payload_place h.lines in
+    let whole_end : last ≡ old ++ (head ++ more) =
+    h.written ∙ ap (λ (x : List ℕ). x ++ more) begun ∙ append_assoc old head more in
     let is_old : cut ≡ old =
     back ∙ ap (λ (x : List ℕ). take start x) whole_end
-    ∙ cut_back start old (opening k n ++ h.text) at_start in (
-      string_line k n payload,
-      string no_message refl,
-      last ∙ ap (λ (x : List ℕ). x ++ string_line k n payload) is_old,
-    )
+    ∙ cut_back start old (head ++ more) at_start in
+    line_put y place whole text (string_line y.level n payload) old new
+    (RecordLines y n (bytes payload) text) (string is no_message refl) is_whole
+    (puts ∙ ap (λ (x : List ℕ). x ++ (range_text whole.is_shown whole.start whole.end
+    ++ string_line y.level n payload)) is_old)

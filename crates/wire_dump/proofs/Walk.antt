@@ -1,9 +1,11 @@
 -- The lines of the items so far.
-use Rattle.std.proofs.Common.{◌≡◌, ℕ, suc, ◌+◌, ◌-◌, List, [], ◌∷◌, ◌++◌, length, refl, sym, ap, ◌∙◌, subst, append_assoc, append-nil, arith, ◌≤◌, min, take, reverse}
+use Rattle.std.proofs.Common.{◌≡◌, ℕ, suc, ◌+◌, ◌-◌, List, [], ◌∷◌, ◌++◌, length, refl, sym, ap, ◌∙◌, subst, append_assoc, append-nil, arith, ◌≤◌, min, take, reverse, length-append}
 use Rattle.std.proofs.lemmas.List.{length-reverse, length-take}
+use Rattle.wire_base.specs.declared.tag.WireType.TheVariants.{EndGroup}
 use Rattle.wire_base.specs.Field.{Fields, none}
-use Rattle.wire_base.specs.Items.{Item, start, end, whole}
+use Rattle.wire_base.specs.Items.{Item, start, end, whole, IsItem}
 use Rattle.wire_base.specs.Limits.{Limits}
+use Rattle.wire_base.specs.Tag.{IsTagSpelling}
 use Rattle.wire_read.specs.declared.event.Fault.{Fault}
 use Rattle.wire_read.specs.Laws.{FaultIsBehindLongest, ItemsTellRecords, ReaderGoesOn, ReaderIsDone, ReaderIsStuck}
 use Rattle.wire_read.specs.Opened.{Group, ending_of, left_open, numbers}
@@ -11,18 +13,26 @@ use Rattle.wire_read.specs.PartFault.{PartFault}
 use Rattle.wire_read.specs.Reading.{At, IsAt, IsDone, Moves, Stops, groups_of}
 use Rattle.wire_read.specs.declared.reader.Reader.{Reader}
 use Rattle.wire_read.specs.Rebuilt.{Records, put, put_all, rebuilt}
+use Rattle.wire_dump.specs.declared.layout.Layout.{Layout}
 use Rattle.wire_dump.specs.Dumps.{DumpsOpen, DumpsRecord, nothing}
-use Rattle.wire_dump.specs.Dumped.{IsDumped, IsDumpedFront, PutsItem}
+use Rattle.wire_dump.specs.Dumped.{IsDumped, IsDumpedFront, ItemLines, Puts}
 use Rattle.wire_dump.specs.Lines.{opening, closing}
+use Rattle.wire_dump.specs.Places.{Line, line_of, printed, width_of}
+use Rattle.wire_dump.specs.Refused.{IsRefused}
 use Rattle.wire_dump.proofs.Open.{open_end, open_record, open_start}
+use Rattle.wire_dump.proofs.Put.{printed-append, width-append}
 
 -- from old to new the lines of the items so far are put
-pub record Sofar (b k : ℕ) (l : Limits) (all : List ℕ) (s : At) (old new : List ℕ) : Type 0 where
+pub record Sofar (y : Layout) (place : ℕ) (l : Limits) (all : List ℕ) (s : At)
+    (old new : List ℕ) : Type 0 where
   pub items : List Item
-  pub text : List ℕ
-  pub place : IsAt l all items s
-  pub dumped : DumpsOpen b k (rebuilt items).levels (rebuilt items).fields text
-  pub written : new ≡ old ++ text
+  pub front : List ℕ
+  pub lines : List Line
+  pub stands : IsAt l all items s
+  pub parts : all ≡ front ++ s.rest
+  pub dumped : DumpsOpen y.budget y.level (rebuilt items).levels (rebuilt items).fields front lines
+  pub covers : width_of lines ≡ length front
+  pub written : new ≡ old ++ printed y.has_offsets place lines
 
 put_all-append : (items : List Item) (i : Item) (r : Records)
     → put_all (items ++ i ∷ []) r ≡ put i (put_all items r)
@@ -33,13 +43,16 @@ length-numbers : (levels : List Group) → length (numbers levels) ≡ length le
 length-numbers [] = refl
 length-numbers (g ∷ levels) = ap suc (length-numbers levels)
 
-pub begun : (b k : ℕ) (l : Limits) (all : List ℕ) (s : At) (old : List ℕ) → IsAt l all [] s
-    → Sofar b k l all s old old
-begun b k l all s old place = record {
+pub begun : (y : Layout) (place : ℕ) (l : Limits) (all : List ℕ) (s : At) (old : List ℕ)
+    → IsAt l all [] s → all ≡ s.rest → Sofar y place l all s old old
+begun y place l all s old stands whole_rest = record {
   items = [];
-  text = [];
-  place = place;
-  dumped = nothing;
+  front = [];
+  lines = [];
+  stands = stands;
+  parts = whole_rest;
+  dumped = nothing refl refl;
+  covers = refl;
   written = sym (append-nil old);
 }
 
@@ -59,81 +72,109 @@ open_count tell l all items s place =
 abbrev with : List Group → Fields → Records
 with levels fs = record { levels = levels; fields = fs }
 
-abbrev Shows : ℕ → ℕ → Records → List ℕ → Type 0
-Shows b k r text = DumpsOpen b k r.levels r.fields text
+abbrev Shows : Layout → Records → List ℕ → List Line → Type 0
+Shows y r text lines = DumpsOpen y.budget y.level r.levels r.fields text lines
 
-one_item : (b k : ℕ) (i : Item) (levels : List Group) (fs : Fields) (s t : At)
-    (behind text mid new : List ℕ)
-    → s.groups ≡ numbers levels → Moves i s behind t → DumpsOpen b k levels fs text
-    → PutsItem b k (length t.groups) i mid new
-    → (u : List ℕ) × Shows b k (put i (with levels fs)) (text ++ u) × (new ≡ mid ++ u)
-one_item b k (start n) levels fs s t behind text mid new same (opens, is, groups, limits) h e =
+one_item : (y : Layout) (i : Item) (levels : List Group) (fs : Fields) (s t : At)
+    (behind front text : List ℕ) (lines more : List Line)
+    → s.groups ≡ numbers levels → Moves i s behind t → IsItem i text
+    → DumpsOpen y.budget y.level levels fs front lines
+    → ItemLines y (length t.groups) i text more
+    → Shows y (put i (with levels fs)) (front ++ text) (lines ++ more)
+one_item y (start n) levels fs s t behind front text lines more same (opens, is, groups, limits) tag
+    h are =
     let count : length t.groups - 1 ≡ length levels =
-    omega (arith, ap length groups, ap length same, length-numbers levels) in (
-      opening (k + length levels) n,
-      open_start b k n levels fs text h,
-      e ∙ ap (λ (x : ℕ). mid ++ opening (k + x) n) count,
-    )
-one_item b k (end n) [] fs s t behind text mid new same (tag, is, groups, limits) h e =
+    omega (arith, ap length groups, ap length same, length-numbers levels) in
+    let line_is : more ≡ line_of text (opening (y.level + length levels) n) =
+    are ∙ ap (λ (x : ℕ). line_of text (opening (y.level + x) n)) count in
+    subst (λ (x : List Line). Shows y (put (start n) (with levels fs)) (front ++ text) (lines ++ x))
+    (sym line_is) (open_start y.budget y.level n levels fs front text lines h tag)
+one_item y (end n) [] fs s t behind front text lines more same (tag, is, groups, limits) last h
+    are =
     let bad : [] ≡ n ∷ t.groups = sym same ∙ groups in
     let no : ⊥ = cc in
     absurd no
-one_item b k (end n) (g ∷ outside) fs s t behind text mid new same (tag, is, groups, limits) h e =
+one_item y (end n) (g ∷ outside) fs s t behind front text lines more same (tag, is, groups, limits)
+    last h are =
+    let both : g.number ∷ numbers outside ≡ n ∷ t.groups = sym same ∙ groups in
+    let number_is : g.number ≡ n = cc in
     let count : length t.groups ≡ length outside =
-    omega (arith, ap length groups, ap length same, length-numbers outside) in (
-      closing (k + length outside),
-      open_end b k g outside fs text h,
-      e ∙ ap (λ (x : ℕ). mid ++ closing (k + x)) count,
-    )
-one_item b k (whole n p) levels fs s t behind text mid new same (tag, taken, flat, groups, left) h
-    (u, d, e) =
+    omega (arith, ap length groups, ap length same, length-numbers outside) in
+    let line_is : more ≡ line_of text (closing (y.level + length outside)) =
+    are ∙ ap (λ (x : ℕ). line_of text (closing (y.level + x))) count in
+    subst (λ (x : List Line). Shows y (put (end n) (with (g ∷ outside) fs)) (front ++ text)
+    (lines ++ x)) (sym line_is)
+    (open_end y.budget y.level g outside fs front text lines h
+    (subst (λ (x : ℕ). IsTagSpelling x EndGroup text) (sym number_is) last))
+one_item y (whole n p) levels fs s t behind front text lines more same
+    (tag, taken, flat, groups, left) is h are =
     let count : length t.groups ≡ length levels =
-    omega (arith, ap length groups, ap length same, length-numbers levels) in (
-      u,
-      open_record b k n p levels fs text u h
-          (subst (λ (x : ℕ). DumpsRecord (b - x) (k + x) n p u) count d),
-      e,
-    )
+    omega (arith, ap length groups, ap length same, length-numbers levels) in
+    open_record y.budget y.level n p levels fs front text lines more h
+    (subst (λ (x : ℕ). DumpsRecord (y.budget - x) (y.level + x) n p text more) count are)
 
-pub next_item : ItemsTellRecords → ReaderGoesOn → (b k : ℕ) (l : Limits) (all : List ℕ) (i : Item)
-    (s t : At) (behind old mid new : List ℕ)
-    → Sofar b k l all s old mid → Moves i s behind t → PutsItem b k (length t.groups) i mid new
-    → Sofar b k l all t old new
-next_item tell goes_on b k l all i s t behind old mid new h moves puts =
+pub next_item : ItemsTellRecords → ReaderGoesOn → (y : Layout) (place : ℕ) (l : Limits)
+    (all : List ℕ) (i : Item) (s t : At) (behind text old mid new : List ℕ) (at : ℕ)
+    (h : Sofar y place l all s old mid) → Moves i s behind t → s.rest ≡ text ++ t.rest
+    → IsItem i text → at ≡ place + length h.front
+    → Puts y at (ItemLines y (length t.groups) i text) text mid new
+    → Sofar y place l all t old new
+next_item tell goes_on y place l all i s t behind text old mid new at h moves parts is at_is puts =
     let r = rebuilt h.items in
-    let same = open_count tell l all h.items s h.place in
-    let (u, d, e) =
-    one_item b k i r.levels r.fields s t behind h.text mid new same moves h.dumped puts in
+    let o = y.has_offsets in
+    let same = open_count tell l all h.items s h.stands in
+    let here : at ≡ place + width_of h.lines = omega (arith, at_is, h.covers) in
     record {
       items = h.items ++ i ∷ [];
-      text = h.text ++ u;
-      place = goes_on l all h.items i s t behind h.place moves;
-      dumped = subst (λ (x : Records). Shows b k x (h.text ++ u))
-          (sym (put_all-append h.items i (with [] none))) d;
-      written = e ∙ ap (λ (x : List ℕ). x ++ u) h.written ∙ append_assoc old h.text u;
+      front = h.front ++ text;
+      lines = h.lines ++ puts.lines;
+      stands = goes_on l all h.items i s t behind h.stands moves;
+      parts = h.parts ∙ ap (λ (x : List ℕ). h.front ++ x) parts
+          ∙ sym (append_assoc h.front text t.rest);
+      dumped = subst (λ (x : Records). Shows y x (h.front ++ text) (h.lines ++ puts.lines))
+          (sym (put_all-append h.items i (with [] none)))
+          (one_item y i r.levels r.fields s t behind h.front text h.lines puts.lines same moves is
+          h.dumped puts.are);
+      covers = omega (
+        arith,
+        h.covers,
+        puts.covers,
+        width-append h.lines puts.lines,
+        length-append h.front text,
+      );
+      written = puts.written
+          ∙ ap (λ (x : List ℕ). x ++ printed o at puts.lines) h.written
+          ∙ append_assoc old (printed o place h.lines) (printed o at puts.lines)
+          ∙ ap (λ (x : ℕ). old ++ (printed o place h.lines ++ printed o x puts.lines)) here
+          ∙ ap (λ (x : List ℕ). old ++ x) (sym (printed-append o place h.lines puts.lines));
     }
 
 -- ---- the end, and a fault
 
-pub finished : ItemsTellRecords → ReaderIsDone → (b k : ℕ) (l : Limits) (all : List ℕ) (s : At)
-    (old new : List ℕ) → Sofar b k l all s old new → IsDone s → IsDumped b k l all old new
-finished tell is_done b k l all s old new h done =
-    let (fs, spelled, fits, is) = is_done l all h.items s h.place done in
+pub finished : ItemsTellRecords → ReaderIsDone → (y : Layout) (place : ℕ) (l : Limits)
+    (all : List ℕ) (s : At) (old new : List ℕ) → Sofar y place l all s old new → IsDone s
+    → IsDumped y place l all old new
+finished tell is_done y place l all s old new h done =
+    let (fs, spelled, fits, is) = is_done l all h.items s h.stands done in
     let all_shown : rebuilt h.items ≡ with [] fs = ap rebuilt is ∙ tell [] fs in
+    let front_is : h.front ≡ all =
+    sym (h.parts ∙ ap (λ (x : List ℕ). h.front ++ x) done.rest ∙ append-nil h.front) in
     record {
       fields = fs;
-      text = h.text;
+      lines = h.lines;
       spelled = spelled;
       fits = fits;
-      dumped = subst (λ (x : Records). Shows b k x h.text) all_shown h.dumped;
+      dumped = subst (λ (x : List ℕ). Shows y (with [] fs) x h.lines) front_is
+          (subst (λ (x : Records). Shows y x h.front h.lines) all_shown h.dumped);
+      covers = h.covers ∙ ap length front_is;
       written = h.written;
     }
 
-pub stopped : ItemsTellRecords → ReaderIsStuck → FaultIsBehindLongest → (b k : ℕ) (l : Limits)
-    (all : List ℕ) (s : At) (f : Fault) (old new : List ℕ)
-    → Sofar b k l all s old new → Stops f all s → IsDumpedFront b k l all f s.groups old new
-stopped tell stuck behind b k l all s f old new h stops =
-    let place = h.place in
+-- what is refused, behind these items
+pub refused : ReaderIsStuck → FaultIsBehindLongest → (l : Limits) (all : List ℕ)
+    (items : List Item) (s : At) (f : Fault) → IsAt l all items s → Stops f all s
+    → IsRefused l all f s.groups
+refused stuck behind l all items s f place stops =
     let levels = place.levels in
     let fields = place.fields in
     let part : PartFault (left_open l levels fields) (ending_of (numbers levels)) s.rest f.part
@@ -147,17 +188,29 @@ stopped tell stuck behind b k l all s f old new h stops =
       fields = fields;
       rest = s.rest;
       place = stops.place;
-      text = h.text;
       longest = behind l all levels fields s.rest f.part stops.place f.error place.taken part;
       part = part;
       record_place = stops.record_place;
       part_place = stops.part_place;
       groups_are = place.groups;
-      refused = stuck l all h.items s f.part stops.place f.error place stops.goes_on stops.part;
-      dumped = subst (λ (x : Records). Shows b k x h.text) (shown tell l all h.items s place)
-          h.dumped;
-      written = h.written;
+      refused = stuck l all items s f.part stops.place f.error place stops.goes_on stops.part;
     }
+
+pub stopped : ItemsTellRecords → ReaderIsStuck → FaultIsBehindLongest → (y : Layout) (place : ℕ)
+    (l : Limits) (all : List ℕ) (s : At) (f : Fault) (old new : List ℕ)
+    → Sofar y place l all s old new → Stops f all s
+    → IsDumpedFront y place l all f s.groups old new
+unfolding refused
+stopped tell stuck behind y place l all s f old new h stops = record {
+  refused = refused stuck behind l all h.items s f h.stands stops;
+  front = h.front;
+  lines = h.lines;
+  parts = h.parts;
+  dumped = subst (λ (x : Records). Shows y x h.front h.lines)
+      (shown tell l all h.items s h.stands) h.dumped;
+  covers = h.covers;
+  written = h.written;
+}
 
 -- ---- how many groups are open
 

@@ -1,55 +1,60 @@
 -- What is put behind what was put.
-use Rattle.std.specs.Prelude.{◌≡◌, ℕ, ◌+◌, ◌-◌, List, ◌++◌}
+use Rattle.std.specs.Prelude.{◌≡◌, ℕ, ◌+◌, ◌-◌, List, ◌++◌, length}
 use Rattle.wire_base.specs.Charge.{charge}
-use Rattle.wire_base.specs.Ending.{by_input}
-use Rattle.wire_base.specs.Fault.{ListFault}
 use Rattle.wire_base.specs.Field.{Payload, Fields}
 use Rattle.wire_base.specs.Items.{Item, start, end, whole}
 use Rattle.wire_base.specs.Limits.{Limits, Fits}
 use Rattle.wire_base.specs.Spells.{Spells}
 use Rattle.wire_read.specs.declared.event.Fault.{Fault}
-use Rattle.wire_read.specs.Opened.{Group, LongestFront, ending_of, left_open, numbers}
-use Rattle.wire_read.specs.PartFault.{PartFault}
-use Rattle.wire_read.specs.Reading.{place_of}
+use Rattle.wire_dump.specs.declared.layout.Layout.{Layout}
 use Rattle.wire_dump.specs.Dumps.{Dumps, DumpsOpen, DumpsRecord}
 use Rattle.wire_dump.specs.Lines.{opening, closing}
+use Rattle.wire_dump.specs.Places.{Line, line_of, printed, width_of}
+use Rattle.wire_dump.specs.Refused.{IsRefused}
 
--- all of the bytes spell records within the limits, and their lines are put
-pub record IsDumped (budget level : ℕ) (l : Limits) (all old new : List ℕ) : Type 0 where
+-- All of the bytes, which begin at this place of the input, spell records within the limits, and
+-- their lines are put. Each byte is of one line.
+pub record IsDumped (layout : Layout) (place : ℕ) (l : Limits) (all old new : List ℕ) : Type 0 where
   pub fields : Fields
-  pub text : List ℕ
+  pub lines : List Line
   pub spelled : Spells fields all
   pub fits : Fits (charge fields) l
-  pub dumped : Dumps budget level fields text
-  pub written : new ≡ old ++ text
+  pub dumped : Dumps layout.budget layout.level fields all lines
+  pub covers : width_of lines ≡ length all
+  pub written : new ≡ old ++ printed layout.has_offsets place lines
 
 -- A fault stands behind the longest front that spells records within the limits, open groups
 -- counted, and the lines of this front are put.
-pub record IsDumpedFront (budget level : ℕ) (l : Limits) (all : List ℕ) (fault : Fault)
+pub record IsDumpedFront (layout : Layout) (place : ℕ) (l : Limits) (all : List ℕ) (fault : Fault)
     (groups : List ℕ) (old new : List ℕ) : Type 0 where
-  pub levels : List Group
-  pub fields : Fields
-  pub rest : List ℕ
-  pub place : List ℕ
-  pub text : List ℕ
-  pub longest : LongestFront l levels fields all rest
-  pub part : PartFault (left_open l levels fields) (ending_of (numbers levels)) rest fault.part place
-      fault.error
-  pub record_place : fault.record_place ≡ place_of all rest
-  pub part_place : fault.part_place ≡ place_of all place
-  pub groups_are : groups ≡ numbers levels
-  pub refused : ListFault l by_input all fault.error
-  pub dumped : DumpsOpen budget level levels fields text
-  pub written : new ≡ old ++ text
+  pub refused : IsRefused l all fault groups
+  pub front : List ℕ
+  pub lines : List Line
+  pub parts : all ≡ front ++ refused.rest
+  pub dumped : DumpsOpen layout.budget layout.level refused.levels refused.fields front lines
+  pub covers : width_of lines ≡ length front
+  pub written : new ≡ old ++ printed layout.has_offsets place lines
+
+-- lines of these bytes are put, each of which is of one of the lines
+pub record Puts (layout : Layout) (place : ℕ) (IsLines : List Line → Type 0)
+    (text old new : List ℕ) : Type 0 where
+  pub lines : List Line
+  pub are : IsLines lines
+  pub covers : width_of lines ≡ length text
+  pub written : new ≡ old ++ printed layout.has_offsets place lines
+
+-- a layout so many levels further in
+abbrev pub inside : ℕ → Layout → Layout
+inside count layout =
+    record layout { level = layout.level + count; budget = layout.budget - count }
 
 -- the lines of a record
-abbrev pub PutsRecord : ℕ → ℕ → ℕ → Payload → List ℕ → List ℕ → Type 0
-PutsRecord budget level n p old new =
-    (text : List ℕ) × DumpsRecord budget level n p text × (new ≡ old ++ text)
+abbrev pub RecordLines : Layout → ℕ → Payload → List ℕ → List Line → Type 0
+RecordLines layout n p text lines = DumpsRecord layout.budget layout.level n p text lines
 
 -- the lines of an item, behind which so many groups are open
-abbrev pub PutsItem : ℕ → ℕ → ℕ → Item → List ℕ → List ℕ → Type 0
-PutsItem budget level count (start n) old new = new ≡ old ++ opening (level + (count - 1)) n
-PutsItem budget level count (end n) old new = new ≡ old ++ closing (level + count)
-PutsItem budget level count (whole n p) old new =
-    PutsRecord (budget - count) (level + count) n p old new
+abbrev pub ItemLines : Layout → ℕ → Item → List ℕ → List Line → Type 0
+ItemLines layout count (start n) text lines =
+    lines ≡ line_of text (opening (layout.level + (count - 1)) n)
+ItemLines layout count (end n) text lines = lines ≡ line_of text (closing (layout.level + count))
+ItemLines layout count (whole n p) text lines = RecordLines (inside count layout) n p text lines

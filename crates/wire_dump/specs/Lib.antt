@@ -1,4 +1,10 @@
 -- The text of records.
 pub mod Lines
+pub mod Places
 pub mod Dumps
+pub mod Refused
 pub mod Dumped
+pub mod Shortened
+pub mod Laws
+pub mod Outcome
+pub mod Input

@@ -1,62 +1,38 @@
 //! The lines of all records of bytes.
-ghost use Rattle.std.specs.Prelude.{◌≡◌, ◌+◌, ◌*◌, ◌-◌, ◌^◌, ◌<◌, ◌≤◌, OnOk, IfErr, Err};
+ghost use Rattle.std.specs.Prelude.{◌≡◌, ◌+◌, ◌*◌, ◌-◌, ◌^◌, ◌<◌, ◌≤◌, length, OnOk, Err};
 ghost use Rattle.wire_base.specs.Field.{bytes};
-ghost use Rattle.wire_base.specs.Items.{whole};
+ghost use Rattle.wire_base.specs.Items.{whole, IsItem};
 ghost use Rattle.wire_read.specs.declared.event.Fault.{Fault};
 ghost use Rattle.wire_read.specs.Reading.{item, groups_of, limits_of, Begins};
-ghost use Rattle.wire_dump.specs.Dumped.{IsDumped, IsDumpedFront, PutsItem, PutsRecord};
+ghost use Rattle.wire_dump.specs.Dumped.{IsDumped, IsDumpedFront, ItemLines, Puts, RecordLines};
+ghost use Rattle.wire_dump.specs.Dumps.{SpellsRecord};
 
+use crate::layout::Layout;
 use crate::line::{put_closing, put_fixed, put_number, put_opening};
+use crate::stop::Stop;
 use crate::string::put_string;
 use std::alloc::AllocError;
 use wire_base::laws as grammar;
-use wire_read::{Event, Fault, Reader, Value, laws};
+use wire_read::{Event, Reader, Value, laws};
 
-/// Why a dump ends before the bytes do.
-#[derive(Debug, Drop)]
-pub(crate) enum Stop {
-    /// No record goes on here.
-    Fault(Fault),
-    OutOfMemory,
-}
-
-impl From<AllocError> for Stop {
-    ghost use Rattle.wire_dump.specs.declared.dump.Stop.TheVariants.{OutOfMemory};
-
-    ghost from_gives = { λ _ e. e ≡ OutOfMemory };
-
-    fn from(_error: AllocError) -> Stop {
-        Stop::OutOfMemory
-    }
-}
-
-impl From<Fault> for Stop {
-    ghost use Rattle.wire_dump.specs.declared.dump.Stop.TheVariants as stops;
-
-    ghost from_gives = { λ fault e. e ≡ stops.Fault fault };
-
-    fn from(fault: Fault) -> Stop {
-        Stop::Fault(fault)
-    }
-}
-
-/// Puts the lines of all records of these bytes, at this level of indentation. Where a fault
-/// stands, those of the records before it are put.
+/// Puts the lines of all records of these bytes, which begin at this place of the input. Where a
+/// fault stands, those of the records before it are put.
 #[cycle(dump)]
 pub(crate) fn put_records(
     out: &mut Vec<u8>,
-    level: u32,
-    budget: u32,
+    layout: Layout,
+    place: usize,
     reader: &mut Reader,
     bytes: &[u8],
 ) -> Result<(), Stop>
     requires begins { Begins (limits_of reader.old) reader.old }
-    requires room { level + 128 * budget + 128 < 2 ^ 31 }
-    requires shallow { budget ≤ 100 }
-    ensures ok { OnOk result (IsDumped budget level (limits_of reader.old) bytes.now
+    requires room { layout.level + 128 * layout.budget + 128 < 2 ^ 31 }
+    requires shallow { layout.budget ≤ 100 }
+    requires placed { place + length bytes.now < 2 ^ 64 }
+    ensures ok { OnOk result (IsDumped layout place (limits_of reader.old) bytes.now
         out.old.items out.new.items) }
     ensures fault { (f : Fault) → result ≡ Err (Stop.Fault f)
-        → IsDumpedFront budget level (limits_of reader.old) bytes.now f (groups_of reader.new)
+        → IsDumpedFront layout place (limits_of reader.old) bytes.now f (groups_of reader.new)
         out.old.items out.new.items }
 {
     laws::reader_begins();
@@ -68,69 +44,90 @@ pub(crate) fn put_records(
     laws::items_tell_records();
     while let Some(event) = reader.next(bytes)? {
         let count = reader.open_groups().len() as u32;
-        put_item(out, level, budget, count, &event)?;
+        let text = &bytes[event.start..event.end];
+        put_item(out, layout, count, &event, place + event.start, text)?;
     }
     Ok(())
 }
 
-// Puts the lines of an event, behind which so many groups are open.
+// Puts the lines of an event, which is this text, and behind which so many groups are open.
 #[cycle(dump)]
 fn put_item(
     out: &mut Vec<u8>,
-    level: u32,
-    budget: u32,
+    layout: Layout,
     count: u32,
     event: &Event<'_>,
+    place: usize,
+    text: &[u8],
 ) -> Result<(), AllocError>
-    requires room { level + 128 * budget + 128 < 2 ^ 31 }
-    requires shallow { budget ≤ 100 }
+    requires room { layout.level + 128 * layout.budget + 128 < 2 ^ 31 }
+    requires shallow { layout.budget ≤ 100 }
     requires few { count ≤ 100 }
-    ensures { OnOk result (PutsItem budget level count (item event.now.number event.now.value)
-        out.old.items out.new.items) }
+    requires placed { place + length text.now < 2 ^ 64 }
+    requires is { IsItem (item event.now.number event.now.value) text.now }
+    ensures { OnOk result (Puts layout place
+        (ItemLines layout count (item event.now.number event.now.value) text.now)
+        text.now out.old.items out.new.items) }
 {
+    let inside = layout.inside(count);
+    let margin = layout.margin(place, place + text.len());
     match event.value {
-        Value::Varint(value) => put_number(out, level + count, event.number, value),
-        Value::Fixed64(value) => put_fixed(out, level + count, event.number, 16, value),
-        Value::Fixed32(value) => put_fixed(out, level + count, event.number, 8, value as u64),
-        Value::Bytes(payload) => {
-            let left = budget.saturating_sub(count);
-            put_payload(out, level + count, left, event.number, payload)
+        Value::Varint(value) => put_number(out, margin, inside.level, event.number, value),
+        Value::Fixed64(value) => put_fixed(out, margin, inside.level, event.number, 16, value),
+        Value::Fixed32(value) => {
+            put_fixed(out, margin, inside.level, event.number, 8, value as u64)
         }
-        Value::GroupStart => put_opening(out, level + count.saturating_sub(1), event.number),
-        Value::GroupEnd => put_closing(out, level + count),
+        Value::Bytes(payload) => put_payload(out, inside, event.number, place, text, payload),
+        Value::GroupStart => {
+            let outside = layout.level + count.saturating_sub(1);
+            put_opening(out, margin, outside, event.number)
+        }
+        Value::GroupEnd => put_closing(out, margin, inside.level),
     }
 }
 
-// Puts a payload, as a message where it is one.
+// Puts a payload, as a message where it is one. This text is its record.
 #[cycle(dump)]
 fn put_payload(
     out: &mut Vec<u8>,
-    level: u32,
-    budget: u32,
+    layout: Layout,
     number: u32,
+    place: usize,
+    text: &[u8],
     payload: &[u8],
 ) -> Result<(), AllocError>
-    requires room { level + 128 * budget + 28 < 2 ^ 31 }
-    requires shallow { budget ≤ 100 }
-    ensures { OnOk result (PutsRecord budget level number (bytes payload.now)
-        out.old.items out.new.items) }
+    requires room { layout.level + 128 * layout.budget + 28 < 2 ^ 31 }
+    requires shallow { layout.budget ≤ 100 }
+    requires placed { place + length text.now < 2 ^ 64 }
+    requires is { SpellsRecord number (bytes payload.now) text.now }
+    ensures { OnOk result (Puts layout place
+        (RecordLines layout number (bytes payload.now) text.now)
+        text.now out.old.items out.new.items) }
 {
     grammar::whole_input();
     grammar::no_list_beside_fault();
-    if budget == 0 {
-        return put_string(out, level, number, payload);
+    let end = place + text.len();
+    let whole = layout.margin(place, end);
+    if layout.budget == 0 {
+        return put_string(out, whole, layout.level, number, payload);
     }
     if payload.is_empty() {
-        return put_string(out, level, number, payload);
+        return put_string(out, whole, layout.level, number, payload);
     }
     let start = out.len();
-    put_opening(out, level, number)?;
-    let mut reader = Reader::new(budget);
-    match put_records(out, level + 1, budget - 1, &mut reader, payload) {
-        Ok(()) => put_closing(out, level),
+    let payload_place = end - payload.len();
+    put_opening(
+        out,
+        layout.margin(place, payload_place),
+        layout.level,
+        number,
+    )?;
+    let mut reader = Reader::new(layout.budget);
+    match put_records(out, layout.inside(1), payload_place, &mut reader, payload) {
+        Ok(()) => put_closing(out, layout.margin(end, end), layout.level),
         Err(Stop::Fault(_)) => {
             out.truncate(start);
-            put_string(out, level, number, payload)
+            put_string(out, whole, layout.level, number, payload)
         }
         Err(Stop::OutOfMemory) => Err(AllocError),
     }

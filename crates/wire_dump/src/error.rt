@@ -1,17 +1,24 @@
 //! Why a run fails, and its status.
+ghost use Rattle.std.specs.Prelude.{◌≡◌};
+ghost use Rattle.std.specs.Process.{exit_status};
+ghost use Rattle.wire_dump.specs.Outcome.{status_of};
+
 use std::alloc::AllocFailed;
 use std::io;
 use std::io::ErrorKind;
 use std::process::ExitCode;
 
-/// Why a run fails. `Usage` is also that help was asked for.
+/// Why a run ends without an answer.
 #[derive(Drop)]
 pub(crate) enum RunError {
     Usage(clap::Error),
+    /// Help was asked for.
+    Help(clap::Error),
     NoFile,
     ReadFailed,
     TooLong,
     NotHexadecimal,
+    NotBase64,
     Empty,
     WriteFailed,
     BrokenPipe,
@@ -22,31 +29,71 @@ pub(crate) enum RunError {
 
 impl RunError {
     /// Prints a line on standard error, or help on standard output, and answers the status.
-    pub(crate) fn told(&self, rt: &(impl Print + Eprint)) -> ExitCode {
-        if let RunError::Usage(error) = self {
-            let _ = error.print(rt);
-            return ExitCode::from(if error.use_stderr() { 2 } else { 0 });
+    pub(crate) fn told(&self, rt: &(impl Print + Eprint)) -> ExitCode
+        ensures { exit_status result ≡ status_of self.now }
+    {
+        match self {
+            RunError::Usage(error) | RunError::Help(error) => {
+                let _ = error.print(rt);
+            }
+            RunError::Refused => {}
+            _ => {
+                let _ = eprintln!(rt; "wire_dump: {}", self.text());
+            }
         }
-        let (status, text) = self.status();
-        if !text.is_empty() {
-            let _ = eprintln!(rt; "wire_dump: {text}");
-        }
-        ExitCode::from(status)
+        ExitCode::from(self.status())
     }
 
-    fn status(&self) -> (u8, &'static str) {
+    fn status(&self) -> u8
+        ensures { result ≡ status_of self.now }
+    {
         match self {
-            RunError::Refused => (1, ""),
-            RunError::Usage(_) => (2, ""),
-            RunError::NoFile => (3, "the file cannot be opened"),
-            RunError::ReadFailed => (4, "reading failed"),
-            RunError::TooLong => (5, "the input is longer than its limit"),
-            RunError::NotHexadecimal => (6, "the input is no hexadecimal text"),
-            RunError::Empty => (7, "the input is empty"),
-            RunError::WriteFailed => (8, "writing failed"),
-            RunError::BrokenPipe => (9, "nobody reads the output"),
-            RunError::OutOfMemory => (10, "out of memory"),
+            RunError::Help(_) => 0,
+            RunError::Refused => 1,
+            RunError::Usage(_) => 2,
+            RunError::NoFile => 3,
+            RunError::ReadFailed => 4,
+            RunError::TooLong => 5,
+            RunError::NotHexadecimal => 6,
+            RunError::Empty => 7,
+            RunError::WriteFailed => 8,
+            RunError::BrokenPipe => 9,
+            RunError::OutOfMemory => 10,
+            RunError::NotBase64 => 11,
         }
+    }
+
+    // Why, where no other line says it.
+    fn text(&self) -> &'static str {
+        match self {
+            RunError::Usage(_) | RunError::Help(_) | RunError::Refused => "",
+            RunError::NoFile => "the file cannot be opened",
+            RunError::ReadFailed => "reading failed",
+            RunError::TooLong => "the input is longer than its limit",
+            RunError::NotHexadecimal => "the input is no hexadecimal text",
+            RunError::NotBase64 => "the input is no base64 text",
+            RunError::Empty => "the input is empty",
+            RunError::WriteFailed => "writing failed",
+            RunError::BrokenPipe => "nobody reads the output",
+            RunError::OutOfMemory => "out of memory",
+        }
+    }
+}
+
+/// What an error of the command line is.
+pub(crate) fn words_error(error: clap::Error) -> RunError {
+    match error.kind() {
+        clap::error::ErrorKind::OutOfMemory => RunError::OutOfMemory,
+        clap::error::ErrorKind::DisplayHelp => RunError::Help(error),
+        _ => RunError::Usage(error),
+    }
+}
+
+/// What a file that cannot be opened is.
+pub(crate) fn open_error(error: io::Error) -> RunError {
+    match error.kind() {
+        ErrorKind::OutOfMemory => RunError::OutOfMemory,
+        _ => RunError::NoFile,
     }
 }
 
@@ -68,7 +115,6 @@ pub(crate) fn read_error(error: io::Error) -> RunError {
 }
 
 impl<T: Drop> From<AllocFailed<T>> for RunError {
-    ghost use Rattle.std.specs.Prelude.{◌≡◌};
     ghost use Rattle.wire_dump.specs.declared.error.RunError.TheVariants.{OutOfMemory};
 
     ghost from_gives = { λ _ e. e ≡ OutOfMemory };

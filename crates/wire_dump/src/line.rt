@@ -1,7 +1,9 @@
 //! Lines of a dump, put behind what was put.
 ghost use Rattle.std.specs.Prelude.{◌≡◌, ◌+◌, ◌*◌, ◌^◌, ◌<◌, ◌≤◌, ◌∷◌, ◌++◌, codes, decimal, OnOk};
-ghost use Rattle.wire_dump.specs.Lines.{closing, escaped, escaped_byte, fixed_line, hexadecimal, hexadecimal_digit, indented, line, number_line, octal, opening, string_line};
+ghost use Rattle.wire_dump.specs.Lines.{closing, fixed_line, hexadecimal, hexadecimal_digit, indented, line, number_line, opening};
+ghost use Rattle.wire_dump.specs.Places.{range_text};
 
+use crate::layout::Margin;
 use itoa::Buffer;
 use std::alloc::AllocError;
 
@@ -15,17 +17,45 @@ fn put_indentation(out: &mut Vec<u8>, level: u32) -> Result<(), AllocError>
     Ok(())
 }
 
+#[tactic(auto, using(std::proofs::lemmas::Fmt::decimal_digit))]
 fn put_decimal(out: &mut Vec<u8>, number: u64) -> Result<(), AllocError>
     ensures { OnOk result (out.new.items ≡ out.old.items ++ decimal number) }
 {
+    if number < 10 {
+        out.push(48 + number as u8)?;
+        return Ok(());
+    }
     let mut buffer = Buffer::new();
     out.extend_from_slice(buffer.format(number).as_bytes())
 }
 
-// What each line of a record begins with.
-pub(crate) fn put_head(out: &mut Vec<u8>, level: u32, number: u32) -> Result<(), AllocError>
-    ensures { OnOk result (out.new.items ≡ out.old.items ++ (indented level ++ decimal number)) }
+// The places of the bytes that a line is of, where they are shown.
+#[inline(always)]
+fn put_margin(out: &mut Vec<u8>, margin: Margin) -> Result<(), AllocError>
+    ensures { OnOk result (out.new.items
+        ≡ out.old.items ++ range_text margin.is_shown margin.start margin.end) }
 {
+    if !margin.is_shown {
+        return Ok(());
+    }
+    put_decimal(out, margin.start as u64)?;
+    out.extend_from_slice(b"..")?;
+    put_decimal(out, margin.end as u64)?;
+    out.extend_from_slice(b"  ")
+}
+
+// What each line of a record begins with.
+pub(crate) fn put_head(
+    out: &mut Vec<u8>,
+    margin: Margin,
+    level: u32,
+    number: u32,
+) -> Result<(), AllocError>
+    ensures { OnOk result (out.new.items ≡ out.old.items
+        ++ (range_text margin.is_shown margin.start margin.end
+        ++ (indented level ++ decimal number))) }
+{
+    put_margin(out, margin)?;
     put_indentation(out, level)?;
     put_decimal(out, number as u64)
 }
@@ -55,13 +85,15 @@ fn put_hexadecimal(out: &mut Vec<u8>, width: u32, value: u64) -> Result<(), Allo
 
 pub(crate) fn put_number(
     out: &mut Vec<u8>,
+    margin: Margin,
     level: u32,
     number: u32,
     value: u64,
 ) -> Result<(), AllocError>
-    ensures { OnOk result (out.new.items ≡ out.old.items ++ number_line level number value) }
+    ensures { OnOk result (out.new.items ≡ out.old.items
+        ++ (range_text margin.is_shown margin.start margin.end ++ number_line level number value)) }
 {
-    put_head(out, level, number)?;
+    put_head(out, margin, level, number)?;
     out.extend_from_slice(b": ")?;
     put_decimal(out, value)?;
     out.extend_from_slice(b"\n")
@@ -69,29 +101,40 @@ pub(crate) fn put_number(
 
 pub(crate) fn put_fixed(
     out: &mut Vec<u8>,
+    margin: Margin,
     level: u32,
     number: u32,
     width: u32,
     value: u64,
 ) -> Result<(), AllocError>
-    ensures { OnOk result (out.new.items ≡ out.old.items ++ fixed_line level number width value) }
+    ensures { OnOk result (out.new.items ≡ out.old.items
+        ++ (range_text margin.is_shown margin.start margin.end
+        ++ fixed_line level number width value)) }
 {
-    put_head(out, level, number)?;
+    put_head(out, margin, level, number)?;
     out.extend_from_slice(b": 0x")?;
     put_hexadecimal(out, width, value)?;
     out.extend_from_slice(b"\n")
 }
 
-pub(crate) fn put_opening(out: &mut Vec<u8>, level: u32, number: u32) -> Result<(), AllocError>
-    ensures { OnOk result (out.new.items ≡ out.old.items ++ opening level number) }
+pub(crate) fn put_opening(
+    out: &mut Vec<u8>,
+    margin: Margin,
+    level: u32,
+    number: u32,
+) -> Result<(), AllocError>
+    ensures { OnOk result (out.new.items ≡ out.old.items
+        ++ (range_text margin.is_shown margin.start margin.end ++ opening level number)) }
 {
-    put_head(out, level, number)?;
+    put_head(out, margin, level, number)?;
     out.extend_from_slice(b" {\n")
 }
 
-pub(crate) fn put_closing(out: &mut Vec<u8>, level: u32) -> Result<(), AllocError>
-    ensures { OnOk result (out.new.items ≡ out.old.items ++ closing level) }
+pub(crate) fn put_closing(out: &mut Vec<u8>, margin: Margin, level: u32) -> Result<(), AllocError>
+    ensures { OnOk result (out.new.items ≡ out.old.items
+        ++ (range_text margin.is_shown margin.start margin.end ++ closing level)) }
 {
+    put_margin(out, margin)?;
     put_indentation(out, level)?;
     out.extend_from_slice(b"}\n")
 }

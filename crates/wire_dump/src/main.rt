@@ -4,17 +4,24 @@
 mod dump;
 mod error;
 mod input;
+mod laws;
+mod layout;
 mod line;
 mod options;
+mod shortest;
+mod stop;
 mod string;
 
-use dump::{Stop, put_records};
+use dump::put_records;
 use error::{RunError, write_error};
 use input::input;
+use layout::Layout;
 use options::Options;
+use shortest::shortest_text;
 use std::env;
 use std::io::Write;
 use std::process::ExitCode;
+use stop::Stop;
 use wire_read::{Fault, Reader};
 
 /// How deep payloads are read as messages, and groups stand inside one another in them.
@@ -52,16 +59,26 @@ fn words(rt: &HostRuntime) -> Result<Vec<String>, RunError> {
 }
 
 fn print(rt: &HostRuntime, options: &Options<'_>, bytes: &[u8]) -> Result<(), RunError> {
-    let mut out = Vec::new(rt.alloc());
     let mut reader = Reader::within(&options.context);
-    match put_records(&mut out, 0, BUDGET, &mut reader, bytes) {
+    if options.is_shortest {
+        return match shortest_text(rt.alloc(), &mut reader, bytes) {
+            Ok(text) => send(rt, &text),
+            Err(stop) => Err(refused(rt, &stop, &reader)),
+        };
+    }
+    let layout = Layout {
+        has_offsets: options.has_offsets,
+        level: 0,
+        budget: BUDGET,
+    };
+    let mut out = Vec::new(rt.alloc());
+    match put_records(&mut out, layout, 0, &mut reader, bytes) {
         Ok(()) => send(rt, &out),
-        Err(Stop::Fault(fault)) => {
-            send(rt, &out)?;
-            report(rt, &fault, &reader);
-            Err(RunError::Refused)
-        }
         Err(Stop::OutOfMemory) => Err(RunError::OutOfMemory),
+        Err(stop) => {
+            send(rt, &out)?;
+            Err(refused(rt, &stop, &reader))
+        }
     }
 }
 
@@ -69,6 +86,17 @@ fn send(rt: &HostRuntime, text: &[u8]) -> Result<(), RunError> {
     match rt.stdout().write_all(text) {
         Ok(()) => Ok(()),
         Err(error) => Err(write_error(error)),
+    }
+}
+
+// The error of what stopped; a fault is reported.
+fn refused(rt: &impl Eprint, stop: &Stop, reader: &Reader) -> RunError {
+    match stop {
+        Stop::OutOfMemory => RunError::OutOfMemory,
+        Stop::Fault(fault) => {
+            report(rt, fault, reader);
+            RunError::Refused
+        }
     }
 }
 

@@ -1,24 +1,45 @@
 //! The words of the command line.
-use crate::error::RunError;
+use crate::error::{RunError, words_error};
 use clap::{Arg, ArgAction, ArgMatches, Command, Error};
 use std::alloc::Global;
 use wire_codec::DecodeContext;
 
-/// What is read, and within which limits.
+/// How the bytes of the input are written.
+#[derive(Clone, Copy, Debug, PartialEq)]
+pub(crate) enum Notation {
+    Plain,
+    Hexadecimal,
+    Base64,
+}
+
+/// What is read, within which limits, and what is printed of it.
 #[derive(Drop)]
 pub(crate) struct Options<'a> {
     /// The file that is read; standard input without one.
-    pub file: Option<&'a str>,
-    pub is_hexadecimal: bool,
+    pub(crate) file: Option<&'a str>,
+    pub(crate) notation: Notation,
     /// How many bytes the input may have.
-    pub size: u64,
-    pub context: DecodeContext,
+    pub(crate) size: u64,
+    pub(crate) context: DecodeContext,
+    pub(crate) has_offsets: bool,
+    pub(crate) is_shortest: bool,
 }
 
 const ABOUT: &str = "Prints the records of Protocol Buffers bytes, without a schema, and says at \
     which byte and why broken ones are broken. Status 0: all is printed; 1: the bytes are no \
     records; 2: these words; 3: no such file; 4: reading failed; 5: the input is too long; 6: no \
-    hexadecimal text; 7: the input is empty; 8: writing failed; 9: a broken pipe; 10: no memory.";
+    hexadecimal text; 7: the input is empty; 8: writing failed; 9: a broken pipe; 10: no memory; \
+    11: no base64 text.";
+
+const OFFSETS: &str =
+    "Print which bytes each line is of, as 12..15 for those from 12 to before 15. \
+    The line before a message is of its tag and length, the line behind it of none; those of a \
+    group are of its tags. So each byte is of one line";
+
+const SHORTEST: &str = "Write the records as bytes again, with no varint padded, in place of \
+    lines; of broken bytes nothing";
+
+const MOST: &str = "18446744073709551615";
 
 impl<'a> Options<'a> {
     /// The options of these words, of which the first is the program's name.
@@ -26,13 +47,25 @@ impl<'a> Options<'a> {
         match matches(alloc, words) {
             Ok(matches) => Ok(Options {
                 file: matches.get_str("FILE"),
-                is_hexadecimal: matches.get_flag("hex"),
+                notation: notation_of(&matches),
                 size: matches.get_one("size").unwrap_or(67_108_864),
                 context: context(&matches),
+                has_offsets: matches.get_flag("offsets"),
+                is_shortest: matches.get_flag("shortest"),
             }),
-            Err(error) => Err(RunError::Usage(error)),
+            Err(error) => Err(words_error(error)),
         }
     }
+}
+
+fn notation_of(matches: &ArgMatches<'_>) -> Notation {
+    if matches.get_flag("hex") {
+        return Notation::Hexadecimal;
+    }
+    if matches.get_flag("base64") {
+        return Notation::Base64;
+    }
+    Notation::Plain
 }
 
 fn context(matches: &ArgMatches<'_>) -> DecodeContext {
@@ -44,28 +77,43 @@ fn context(matches: &ArgMatches<'_>) -> DecodeContext {
 
 fn matches<'a>(alloc: Global, words: &'a [&'a str]) -> Result<ArgMatches<'a>, Error> {
     let file = Arg::new(alloc, "FILE").help("What to read; standard input without one");
-    let hex = Arg::new(alloc, "hex")
-        .long("hex")
-        .action(ArgAction::SetTrue)
-        .help("The input is hexadecimal text, spaces between bytes or none");
-    let depth = number(alloc, "depth", "100", "Levels of groups, at most 100");
-    let fields = number(alloc, "fields", "18446744073709551615", "Records at most");
-    let bytes = number(
+    let command = Command::new(alloc, "wire_dump").about(ABOUT).arg(file)?;
+    with_limits(alloc, with_flags(alloc, command)?)?.try_get_matches_from(words)
+}
+
+fn with_flags<'a>(alloc: Global, command: Command<'a>) -> Result<Command<'a>, Error> {
+    let hex = flag(
         alloc,
-        "bytes",
-        "18446744073709551615",
-        "Bytes of payloads at most",
+        "hex",
+        "The input is hexadecimal text, spaces between bytes or none",
     );
-    let size = number(alloc, "size", "67108864", "Bytes of input at most");
-    Command::new(alloc, "wire_dump")
-        .about(ABOUT)
-        .arg(file)?
-        .arg(hex)?
-        .arg(depth)?
-        .arg(fields)?
-        .arg(bytes)?
-        .arg(size)?
-        .try_get_matches_from(words)
+    let base64 = flag(
+        alloc,
+        "base64",
+        "The input is base64 text, of either alphabet, padded or not",
+    );
+    let offsets = flag(alloc, "offsets", OFFSETS);
+    let shortest = flag(alloc, "shortest", SHORTEST);
+    command
+        .arg(hex.conflicts_with("base64")?)?
+        .arg(base64)?
+        .arg(offsets.conflicts_with("shortest")?)?
+        .arg(shortest)
+}
+
+fn with_limits<'a>(alloc: Global, command: Command<'a>) -> Result<Command<'a>, Error> {
+    command
+        .arg(number(alloc, "depth", "100", "Levels of groups, at most 100"))?
+        .arg(number(alloc, "fields", MOST, "Records at most"))?
+        .arg(number(alloc, "bytes", MOST, "Bytes of payloads at most"))?
+        .arg(number(alloc, "size", "67108864", "Bytes of input at most"))
+}
+
+fn flag<'a>(alloc: Global, name: &'a str, help: &'a str) -> Arg<'a> {
+    Arg::new(alloc, name)
+        .long(name)
+        .action(ArgAction::SetTrue)
+        .help(help)
 }
 
 fn number<'a>(alloc: Global, name: &'a str, default: &'a str, help: &'a str) -> Arg<'a> {

@@ -4,17 +4,17 @@ use Rattle.wire_dump.proofs.Walk.{Sofar}
 use Rattle.wire_dump.proofs.dump.+dump.Given as goal
 
 abbrev pub decreases-put_records : goal.decreases-put_records
-decreases-put_records l = 3 * l.budget + 2
+decreases-put_records l = 3 * l.layout.budget + 2
 
 abbrev pub decreases-put_item : goal.decreases-put_item
-decreases-put_item l = 3 * l.budget + 1
+decreases-put_item l = 3 * l.layout.budget + 1
 
 abbrev pub decreases-put_payload : goal.decreases-put_payload
-decreases-put_payload l = 3 * l.budget
+decreases-put_payload l = 3 * l.layout.budget
 
 abbrev pub invariant-put_records-loop-event : goal.invariant-put_records-loop-event
 invariant-put_records-loop-event l =
-    Sofar l.fn.budget l.fn.level (limits_of l.fn.reader) l.fn.bytes (at l.reader l.fn.bytes)
+    Sofar l.fn.layout l.fn.place (limits_of l.fn.reader) l.fn.bytes (at l.reader l.fn.bytes)
     l.fn.out.items l.out.items
 
 abbrev pub decreases-put_records-loop-event : goal.decreases-put_records-loop-event
