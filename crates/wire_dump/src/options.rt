@@ -1,7 +1,7 @@
 //! The words of the command line.
 use crate::error::{RunError, words_error};
 use clap::{Arg, ArgAction, ArgMatches, Command, Error};
-use std::alloc::Global;
+use std::alloc::{AllocError, Global};
 use wire_codec::DecodeContext;
 
 /// How the bytes of the input are written.
@@ -30,6 +30,10 @@ const ABOUT: &str = "Prints the records of Protocol Buffers bytes, without a sch
     records; 2: these words; 3: no such file; 4: reading failed; 5: the input is too long; 6: no \
     hexadecimal text; 7: the input is empty; 8: writing failed; 9: a broken pipe; 10: no memory; \
     11: no base64 text.";
+
+const HEX: &str = "The input is hexadecimal text, spaces between bytes or none";
+
+const BASE64: &str = "The input is base64 text, of either alphabet, padded or not";
 
 const OFFSETS: &str =
     "Print which bytes each line is of, as 12..15 for those from 12 to before 15. \
@@ -78,30 +82,22 @@ fn context(matches: &ArgMatches<'_>) -> DecodeContext {
 fn matches<'a>(alloc: Global, words: &'a [&'a str]) -> Result<ArgMatches<'a>, Error> {
     let file = Arg::new(alloc, "FILE").help("What to read; standard input without one");
     let command = Command::new(alloc, "wire_dump").about(ABOUT).arg(file)?;
-    with_limits(alloc, with_flags(alloc, command)?)?.try_get_matches_from(words)
+    let command = with_notations(alloc, command)?;
+    let command = with_forms(alloc, command)?;
+    with_limits(alloc, command)?.try_get_matches_from(words)
 }
 
-fn with_flags<'a>(alloc: Global, command: Command<'a>) -> Result<Command<'a>, Error> {
-    let hex = flag(
-        alloc,
-        "hex",
-        "The input is hexadecimal text, spaces between bytes or none",
-    );
-    let base64 = flag(
-        alloc,
-        "base64",
-        "The input is base64 text, of either alphabet, padded or not",
-    );
-    let offsets = flag(alloc, "offsets", OFFSETS);
-    let shortest = flag(alloc, "shortest", SHORTEST);
-    command
-        .arg(hex.conflicts_with("base64")?)?
-        .arg(base64)?
-        .arg(offsets.conflicts_with("shortest")?)?
-        .arg(shortest)
+fn with_notations<'a>(alloc: Global, command: Command<'a>) -> Result<Command<'a>, AllocError> {
+    let hex = flag(alloc, "hex", HEX).conflicts_with("base64")?;
+    command.arg(hex)?.arg(flag(alloc, "base64", BASE64))
 }
 
-fn with_limits<'a>(alloc: Global, command: Command<'a>) -> Result<Command<'a>, Error> {
+fn with_forms<'a>(alloc: Global, command: Command<'a>) -> Result<Command<'a>, AllocError> {
+    let offsets = flag(alloc, "offsets", OFFSETS).conflicts_with("shortest")?;
+    command.arg(offsets)?.arg(flag(alloc, "shortest", SHORTEST))
+}
+
+fn with_limits<'a>(alloc: Global, command: Command<'a>) -> Result<Command<'a>, AllocError> {
     command
         .arg(number(alloc, "depth", "100", "Levels of groups, at most 100"))?
         .arg(number(alloc, "fields", MOST, "Records at most"))?
