@@ -90,6 +90,7 @@ impl Reader {
     /// The next event in these bytes, which are those of each call before; none at the end; or the
     /// fault that stands here. At the end and at a fault nothing changes, so the next call answers
     /// the same.
+    #[inline(always)]
     pub fn next<'a>(&mut self, bytes: &'a [u8]) -> Result<Option<Event<'a>>, Fault>
         ensures event { IfOk result (λ next. IfSome next (λ event.
             Gives event bytes.now (at self.old bytes.now) (at self.new bytes.now))) }
@@ -123,6 +124,7 @@ impl Reader {
     }
 
     // Takes the item at the front of the rest.
+    #[inline(always)]
     fn step<'a>(&mut self, rest: &'a [u8]) -> Result<Step<'a>, Broken<'a>>
         ensures ok { IfOk result (λ s. Moves (item s.number s.value) (facing self.old rest.now)
             s.behind.now (facing self.new s.rest.now)) }
@@ -149,6 +151,7 @@ impl Reader {
     }
 
     // Opens a group behind its start tag.
+    #[inline(never)]
     fn start_group<'a>(
         &mut self,
         number: u32,
@@ -183,6 +186,7 @@ impl Reader {
     }
 
     // Closes a group behind its end tag.
+    #[inline(never)]
     fn end_group<'a>(
         &mut self,
         number: u32,
@@ -223,6 +227,7 @@ impl Reader {
     }
 
     // Takes a record that is no group.
+    #[inline(always)]
     fn record<'a>(
         &mut self,
         tag: Tag,
@@ -253,6 +258,7 @@ impl Reader {
     }
 
     // How many groups may be open.
+    #[inline(always)]
     fn levels(&self) -> u32
         ensures { result ≡ levels_of self.now }
     {
@@ -260,6 +266,7 @@ impl Reader {
     }
 
     // How many groups are open.
+    #[inline(always)]
     fn open_count(&self) -> usize
         ensures count { result ≡ min self.now.group_count (levels_of self.now) }
         ensures length { result ≡ length (groups_of self.now) }
