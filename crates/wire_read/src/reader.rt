@@ -146,6 +146,8 @@ impl Reader {
         match tag.wire_type() {
             WireType::StartGroup => self.start_group(tag.field_number(), rest, behind),
             WireType::EndGroup => self.end_group(tag.field_number(), rest, behind),
+            // An arm of its own, so that its compiled code does not ask for the wire type again.
+            WireType::Varint => self.record(tag, rest, behind),
             _ => self.record(tag, rest, behind),
         }
     }
