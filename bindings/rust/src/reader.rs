@@ -1,6 +1,6 @@
 //! Records read in place.
 
-use crate::error::{DepthTooLarge, Error, Fault};
+use crate::error::{DepthTooLarge, Fault};
 use crate::ffi;
 use std::iter::FusedIterator;
 use std::ops::Range;
@@ -187,8 +187,9 @@ pub fn validate(bytes: &[u8], limits: &Limits) -> Result<(), Fault> {
 /// let last = find_last(&[0x08, 0x01, 0x08, 0x02], 1).unwrap().unwrap();
 /// assert_eq!((last.value, last.range), (Value::Varint(2), 2..4));
 /// assert_eq!(find_last(&[0x08, 0x01], 2), Ok(None));
+/// assert_eq!(find_last(&[0x08, 0x01, 0x0E], 1).unwrap_err().record_place, 2);
 /// ```
-pub fn find_last(bytes: &[u8], number: u32) -> Result<Option<Record<'_>>, Error> {
+pub fn find_last(bytes: &[u8], number: u32) -> Result<Option<Record<'_>>, Fault> {
     let mut range = ffi::Range::default();
     // SAFETY: the struct is as the header has it, and the bytes are those of a slice.
     let status = unsafe { ffi::gtv_find(bytes.as_ptr(), bytes.len(), number, 100, &mut range) };
@@ -200,6 +201,7 @@ pub fn find_last(bytes: &[u8], number: u32) -> Result<Option<Record<'_>>, Error>
             Ok(record.map(|record| Record { range: range.start..range.end, ..record }))
         }
         ffi::NOT_FOUND => Ok(None),
-        status => Err(Error::new(status, 0)),
+        // The fault is that of all of the bytes, which this tells with its place.
+        _ => validate(bytes, &Limits::NONE).map(|()| None),
     }
 }
