@@ -52,8 +52,8 @@ more_others joins after m w p next rest behind new h tag payload =
       text = h.text ++ (tag.text ++ payload.text);
       parts = h.parts
           ∙ ap (λ (t : List ℕ). h.text ++ t) (
-            tag.parts ∙ ap (λ (t : List ℕ). tag.text ++ t) payload.parts
-            ∙ sym (append_assoc tag.text payload.text new)
+          tag.parts ∙ ap (λ (t : List ℕ). tag.text ++ t) payload.parts
+          ∙ sym (append_assoc tag.text payload.text new)
           )
           ∙ sym (append_assoc h.text (tag.text ++ payload.text) new);
       spelled = joins after (field m p none) h.text (tag.text ++ payload.text) h.spelled spelled;
