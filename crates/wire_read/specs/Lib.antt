@@ -1,5 +1,4 @@
 pub mod Budget
-pub mod Last
 pub mod Laws
 pub mod Opened
 pub mod PartFault

@@ -9,7 +9,6 @@ mod calls;
 mod contexts;
 mod enums;
 mod errors;
-mod frames;
 mod lists;
 mod messages;
 mod readers;
