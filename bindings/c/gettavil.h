@@ -9,9 +9,9 @@
  * - a pointer to a struct is not null, is aligned, and two pointers to structs that a call writes
  *   are not to the same struct;
  * - `bytes` points to `len` bytes that nothing writes during the call; where `len` is 0 it may be
- *   any pointer but a null one;
+ *   any pointer, NULL too;
  * - `room` points to `room_len` bytes that nothing else reads or writes during the call; where
- *   `room_len` is 0 it may be any pointer but a null one.
+ *   `room_len` is 0 it may be any pointer, NULL too.
  *
  * C99 and C++. The format is told at <https://protobuf.dev/programming-guides/encoding/>. */
 #ifndef GETTAVIL_H
@@ -46,7 +46,8 @@ enum {
     GTV_CUSTOM = 14,
     GTV_OUT_OF_MEMORY = 15,
     GTV_NO_ROOM = 32,                 /* the room is too small; nothing is written */
-    GTV_DEPTH_TOO_LARGE = 33          /* the limits have more than 100 levels; nothing is done */
+    GTV_DEPTH_TOO_LARGE = 33,         /* more than 100 levels are asked for; nothing is done */
+    GTV_NOT_FOUND = 34                /* no record has the number */
 };
 
 /* What an event is: a wire type. */
@@ -133,12 +134,29 @@ uint32_t gtv_next(gtv_reader *reader, const uint8_t *bytes, size_t len, gtv_even
 uint32_t gtv_validate(const uint8_t *bytes, size_t len, const gtv_limits *limits,
                       gtv_fault *fault);
 
+/* Where a record stands: its tag is the bytes from `start` to `behind_tag`; from there to `end` is
+ * what stands behind it, the length of a payload or the end tag of a group counted. A reader whose
+ * `place` is set to `start` has its event next. */
+typedef struct gtv_range {
+    uint32_t wire_type;
+    size_t start;
+    size_t behind_tag;
+    size_t end;
+} gtv_range;
+
+/* The last record of a field number, which is the one that counts where a field stands once; those
+ * in groups are left out. All of the bytes are looked at, with so many levels of groups, at most
+ * 100. GTV_OK, and the range is set; GTV_NOT_FOUND; GTV_DEPTH_TOO_LARGE; or the status of the
+ * fault. */
+uint32_t gtv_find(const uint8_t *bytes, size_t len, uint32_t number, uint32_t depth,
+                  gtv_range *range);
+
 /* ---- writing ---- */
 
 /* Each writes a record at `writer->place` of the room and moves the place behind it. Its bytes are
  * the fewest that the record has. GTV_OK; GTV_INVALID_FIELD_NUMBER; or GTV_NO_ROOM, exactly where
  * the room behind the place is smaller than the record, and `wanted` says how much that takes. A
- * refusal writes nothing. */
+ * refusal writes nothing. So a put into room of 0 bytes says how long its record is. */
 uint32_t gtv_put_varint(gtv_writer *writer, uint8_t *room, size_t room_len, uint32_t number,
                         uint64_t value);
 /* As `sint64` and `sint32` are written. */
@@ -200,6 +218,7 @@ static inline const char *gtv_status_name(uint32_t status) {
     case GTV_OUT_OF_MEMORY: return "OutOfMemory";
     case GTV_NO_ROOM: return "NoRoom";
     case GTV_DEPTH_TOO_LARGE: return "DepthTooLarge";
+    case GTV_NOT_FOUND: return "NotFound";
     default: return "unknown";
     }
 }
@@ -217,6 +236,7 @@ static inline const char *gtv_status_text(uint32_t status) {
     case GTV_UNKNOWN_FIELD_LIMIT_EXCEEDED: return "unknown field limit exceeded";
     case GTV_NO_ROOM: return "the room is too small";
     case GTV_DEPTH_TOO_LARGE: return "a depth above 100";
+    case GTV_NOT_FOUND: return "no record has the number";
     default: return "unknown";
     }
 }
@@ -267,6 +287,10 @@ GTV_ASSERT(fault_detail, offsetof(gtv_fault, detail) == 4);
 GTV_ASSERT(fault_part, offsetof(gtv_fault, part) == 8);
 GTV_ASSERT(fault_record_place, offsetof(gtv_fault, record_place) == 16);
 GTV_ASSERT(fault_part_place, offsetof(gtv_fault, part_place) == 24);
+GTV_ASSERT(size_of_range, sizeof(gtv_range) == 32);
+GTV_ASSERT(range_start, offsetof(gtv_range, start) == 8);
+GTV_ASSERT(range_behind_tag, offsetof(gtv_range, behind_tag) == 16);
+GTV_ASSERT(range_end, offsetof(gtv_range, end) == 24);
 GTV_ASSERT(size_of_writer, sizeof(gtv_writer) == 16);
 GTV_ASSERT(writer_wanted, offsetof(gtv_writer, wanted) == 8);
 

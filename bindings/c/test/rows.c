@@ -215,6 +215,32 @@ static void write_whole(const Row *row) {
     }
 }
 
+/* The last record of each number at the top is that of the last event that begins one there. */
+static void find_each(const Row *row) {
+    const uint8_t *bytes = placed(row, row->len, 0);
+    gtv_reader reader;
+    gtv_event event;
+    gtv_fault fault;
+    gtv_range range;
+    size_t starts[32];
+    memset(starts, 0xFF, sizeof starts);
+    uint32_t status = gtv_reader_init(&reader, &row->limits);
+    while (status == GTV_OK) {
+        int at_top = reader.group_count == 0;
+        status = gtv_next(&reader, bytes, row->len, &event, &fault);
+        if (status == GTV_OK && at_top && event.number < 32) {
+            starts[event.number] = event.start;
+        }
+    }
+    for (uint32_t number = 1; status == GTV_END && number < 32; number++) {
+        uint32_t found = gtv_find(bytes, row->len, number, row->limits.depth, &range);
+        if (found != (starts[number] == SIZE_MAX ? GTV_NOT_FOUND : GTV_OK)
+            || (found == GTV_OK && range.start != starts[number])) {
+            astray(row, "gtv_find");
+        }
+    }
+}
+
 static void ask(const Row *row) {
     read_whole(row, 0);
     read_whole(row, 1);
@@ -222,6 +248,7 @@ static void ask(const Row *row) {
         read_front(row, len);
     }
     write_whole(row);
+    find_each(row);
 }
 
 /* ---- the layout of each struct, by values that differ ---- */
@@ -263,6 +290,11 @@ static void look_at_layout(void) {
     HAS(gtv_put_varint(&writer, room, sizeof room, 0, 1) == GTV_INVALID_FIELD_NUMBER);
     HAS(gtv_put_varint(&writer, room, sizeof room, UINT32_C(1) << 29, 1)
         == GTV_INVALID_FIELD_NUMBER);
+    gtv_range range;
+    HAS(gtv_find(bytes, 10, 2, 100, &range) == GTV_UNEXPECTED_EOF);
+    HAS(gtv_find(bytes, 8, 2, 100, &range) == GTV_OK && range.wire_type == GTV_BYTES);
+    HAS(range.start == 0 && range.behind_tag == 3 && range.end == 8);
+    HAS(gtv_find(bytes, 8, 2, 101, &range) == GTV_DEPTH_TOO_LARGE);
     writer.place = SIZE_MAX;
     HAS(gtv_put_group_end(&writer, room, sizeof room, 1) == GTV_NO_ROOM && writer.wanted == 1);
 }
@@ -284,6 +316,23 @@ static void look_at_any_reader(void) {
         const uint8_t *end = memcpy(at_end(input, sizeof bytes), bytes, sizeof bytes);
         gtv_next(&reader, end, sizeof bytes, &event, &fault);
     }
+}
+
+/* An empty slice may come with a null pointer. */
+static void look_at_null(void) {
+    const gtv_limits limits = GTV_NO_LIMITS;
+    gtv_reader reader;
+    gtv_event event;
+    gtv_fault fault;
+    gtv_range range;
+    gtv_writer writer = {0, 0};
+    size_t len = 1;
+    HAS(gtv_reader_init(&reader, &limits) == GTV_OK);
+    HAS(gtv_next(&reader, NULL, 0, &event, &fault) == GTV_END);
+    HAS(gtv_validate(NULL, 0, &limits, &fault) == GTV_OK);
+    HAS(gtv_find(NULL, 0, 1, 100, &range) == GTV_NOT_FOUND);
+    HAS(gtv_shortest(NULL, 0, &limits, NULL, 0, &len, &fault) == GTV_OK && len == 0);
+    HAS(gtv_put_bytes(&writer, NULL, 0, 1, NULL, 0) == GTV_NO_ROOM && writer.wanted == 2);
 }
 
 static void look_at_numbers(void) {
@@ -344,6 +393,7 @@ int main(int count, char **words) {
     output = guarded(MOST_BYTES);
     look_at_layout();
     look_at_numbers();
+    look_at_null();
     look_at_any_reader();
     while (fgets(line, sizeof line, rows) != NULL) {
         if (line[0] != '#' && read_row(line, &row)) {

@@ -3,6 +3,7 @@
 pub(crate) const OK: u32 = 0;
 pub(crate) const END: u32 = 1;
 pub(crate) const NO_ROOM: u32 = 32;
+pub(crate) const NOT_FOUND: u32 = 34;
 
 #[repr(C)]
 pub(crate) struct Limits {
@@ -45,6 +46,15 @@ pub(crate) struct Fault {
 }
 
 #[repr(C)]
+#[derive(Default)]
+pub(crate) struct Range {
+    pub(crate) wire_type: u32,
+    pub(crate) start: usize,
+    pub(crate) behind_tag: usize,
+    pub(crate) end: usize,
+}
+
+#[repr(C)]
 #[derive(Clone, Debug, Default)]
 pub(crate) struct Writer {
     pub(crate) place: usize,
@@ -59,6 +69,9 @@ extern "C" {
     ) -> u32;
     pub(crate) fn gtv_validate(
         bytes: *const u8, len: usize, limits: *const Limits, fault: *mut Fault,
+    ) -> u32;
+    pub(crate) fn gtv_find(
+        bytes: *const u8, len: usize, number: u32, depth: u32, range: *mut Range,
     ) -> u32;
     pub(crate) fn gtv_put_varint(
         writer: *mut Writer, room: *mut u8, room_len: usize, number: u32, value: u64,

@@ -21,7 +21,7 @@ mod shortest;
 mod writer;
 
 pub use error::{DepthTooLarge, Error, Fault, Part};
-pub use reader::{validate, Limits, Reader, Record, Value};
+pub use reader::{find_last, validate, Limits, Reader, Record, Value};
 pub use shortest::{shortest, shortest_len, shortest_to_vec, ShortestError};
 pub use writer::{PutError, Room, Writer};
 

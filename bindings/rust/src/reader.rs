@@ -176,3 +176,32 @@ pub fn validate(bytes: &[u8], limits: &Limits) -> Result<(), Fault> {
     }
     Err(Fault::new(&fault))
 }
+
+/// The last record of a field number, which is the one that counts where a field stands once; those
+/// in groups are left out. All of the bytes are looked at, under 100 levels. Of a group the range
+/// is all of it, its end tag too.
+///
+/// ```
+/// use gettavil::{find_last, Value};
+///
+/// let last = find_last(&[0x08, 0x01, 0x08, 0x02], 1).unwrap().unwrap();
+/// assert_eq!((last.value, last.range), (Value::Varint(2), 2..4));
+/// assert_eq!(find_last(&[0x08, 0x01], 2), Ok(None));
+/// assert_eq!(find_last(&[0x08, 0x01, 0x0E], 1).unwrap_err().record_place, 2);
+/// ```
+pub fn find_last(bytes: &[u8], number: u32) -> Result<Option<Record<'_>>, Fault> {
+    let mut range = ffi::Range::default();
+    // SAFETY: the struct is as the header has it, and the bytes are those of a slice.
+    let status = unsafe { ffi::gtv_find(bytes.as_ptr(), bytes.len(), number, 100, &mut range) };
+    match status {
+        ffi::OK => {
+            let mut reader = Reader::new(bytes);
+            reader.state.place = range.start;
+            let record = reader.next().and_then(Result::ok);
+            Ok(record.map(|record| Record { range: range.start..range.end, ..record }))
+        }
+        ffi::NOT_FOUND => Ok(None),
+        // The fault is that of all of the bytes, which this tells with its place.
+        _ => validate(bytes, &Limits::NONE).map(|()| None),
+    }
+}

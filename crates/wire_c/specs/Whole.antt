@@ -1,11 +1,18 @@
 -- What calls on all of some bytes tell C.
-use Rattle.std.specs.Prelude.{◌≡◌, ℕ, ◌<◌, ◌≤◌, ◌⊎◌, List, Result, OnOk, OnErr, IfOk, IfErr}
+use Rattle.wire_c.specs.declared.whole.RangeInC.{RangeInC}
+use Rattle.wire_read.specs.declared.last.Place.{Place}
+use Rattle.std.specs.Prelude.{◌≡◌, ℕ, ◌<◌, ◌≤◌, ◌⊎◌, List, Result, OnOk, OnErr, IfOk, IfErr, [], Option, Some, None, Ok, Err}
+use Rattle.wire_base.specs.declared.error.DecodeError.{DecodeError}
+use Rattle.wire_base.specs.Charge.{charge}
 use Rattle.wire_base.specs.Ending.{by_input}
 use Rattle.wire_base.specs.Fault.{ListFault}
 use Rattle.wire_base.specs.Field.{Fields}
-use Rattle.wire_base.specs.Limits.{Limits}
+use Rattle.wire_base.specs.Limits.{Limits, Fits, uncounted}
+use Rattle.wire_base.specs.Spells.{Spells}
+use Rattle.wire_base.specs.Tag.{wire_number}
 use Rattle.wire_base.specs.Text.{size, text_of}
 use Rattle.wire_read.specs.declared.event.Fault.{Fault}
+use Rattle.wire_read.specs.Last.{FoundLast}
 use Rattle.wire_read.specs.Opened.{Group, LongestFront}
 use Rattle.wire_read.specs.Reading.{place_of}
 use Rattle.wire_write.specs.declared.shortest.ShortestError.{ShortestError}
@@ -59,3 +66,31 @@ pub record Shortens (l : Limits) (all old new : List ℕ) (len len_then : ℕ)
   pub unchanged : OnErr written (new ≡ old)
   pub told_ok : IfOk written (λ n. (len_then ≡ n) × (after ≡ before) × (status ≡ 0))
   pub told_error : IfErr written (λ e. ToldError e len len_then before after status)
+
+abbrev pub told_range : Place → RangeInC
+told_range p = record {
+  wire_type = wire_number p.wire_type;
+  start = p.start;
+  behind_tag = p.payload;
+  end = p.end;
+}
+
+abbrev pub find_status : Result (Option Place) DecodeError → ℕ
+find_status (Ok (Some p)) = 0
+find_status (Ok None) = 34
+find_status (Err e) = status_of e
+
+abbrev pub range_after : Result (Option Place) DecodeError → RangeInC → RangeInC
+range_after (Ok (Some p)) before = told_range p
+range_after (Ok None) before = before
+range_after (Err e) before = before
+
+-- the range of the last record of the number is told, or that there is none, or the fault
+pub record Finds (number depth : ℕ) (all : List ℕ) (before after : RangeInC)
+    (status : ℕ) : Type 0 where
+  pub found : Result (Option Place) DecodeError
+  pub ok : IfOk found (λ o. (fs : Fields) × Spells fs all × Fits (charge fs) (uncounted depth)
+      × FoundLast number fs all [] o)
+  pub fault : IfErr found (ListFault (uncounted depth) by_input all)
+  pub told : after ≡ range_after found before
+  pub answer : status ≡ find_status found

@@ -12,6 +12,8 @@ pub(crate) const END: u32 = 1;
 pub(crate) const NO_ROOM: u32 = 32;
 /// More than 100 levels were asked for.
 pub(crate) const DEPTH_TOO_LARGE: u32 = 33;
+/// There is no such record.
+pub(crate) const NOT_FOUND: u32 = 34;
 
 /// An error as a number. None is ever given to another error.
 pub(crate) fn status_of(error: &DecodeError) -> u32

@@ -1,12 +1,12 @@
 //! Calls on all of some bytes.
-ghost use Rattle.std.specs.Prelude.{◌≡◌};
+ghost use Rattle.std.specs.Prelude.{◌≡◌, ◌<◌, ◌≤◌, ◌⊎◌};
 ghost use Rattle.wire_read.specs.Budget.{read_limits};
 ghost use Rattle.wire_c.specs.Read.{context_of};
-ghost use Rattle.wire_c.specs.Whole.{Measures, Shortens, Validates, Within};
+ghost use Rattle.wire_c.specs.Whole.{Finds, Measures, Shortens, Validates, Within, told_range};
 
 use crate::read::{FaultInC, LimitsInC, context_of, tell_fault};
-use crate::status::{DEPTH_TOO_LARGE, NO_ROOM, OK};
-use wire_read::MAX_OPEN_GROUPS;
+use crate::status::{DEPTH_TOO_LARGE, NO_ROOM, NOT_FOUND, OK, status_of};
+use wire_read::{MAX_OPEN_GROUPS, Place};
 use wire_write::ShortestError;
 
 /// Whether all of the bytes are records within the limits: `OK`, or the status of the fault.
@@ -25,6 +25,48 @@ pub extern "C" fn gtv_validate(bytes: &[u8], limits: &LimitsInC, fault: &mut Fau
             *fault = tell_fault(&stop);
             fault.status
         }
+    }
+}
+
+/// Where a record stands.
+#[repr(C)]
+#[derive(Debug, Drop)]
+pub struct RangeInC {
+    pub wire_type: u32,
+    pub start: usize,
+    /// Where what stands behind the tag begins.
+    pub behind_tag: usize,
+    pub end: usize,
+}
+
+/// The last record of a number, those in groups left out: `OK`, `NOT_FOUND`, or the status of the
+/// fault.
+#[unsafe(no_mangle)]
+pub extern "C" fn gtv_find(bytes: &[u8], number: u32, depth: u32, range: &mut RangeInC) -> u32
+    ensures { ((depth ≤ 100) × Finds number depth bytes.now range.old range.new result)
+        ⊎ ((100 < depth) × (result ≡ 33) × (range.new ≡ range.old)) }
+{
+    if depth > MAX_OPEN_GROUPS {
+        return DEPTH_TOO_LARGE;
+    }
+    match wire_read::find_last(bytes, number, depth) {
+        Ok(Some(place)) => {
+            *range = tell_range(place);
+            OK
+        }
+        Ok(None) => NOT_FOUND,
+        Err(error) => status_of(&error),
+    }
+}
+
+fn tell_range(place: Place) -> RangeInC
+    ensures { result ≡ told_range place }
+{
+    RangeInC {
+        wire_type: place.wire_type as u32,
+        start: place.start,
+        behind_tag: place.payload,
+        end: place.end,
     }
 }
 

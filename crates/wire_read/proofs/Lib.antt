@@ -1,6 +1,7 @@
 pub mod Budgets
 pub mod FieldBytes
 pub mod Fronts
+pub mod LastRecords
 pub mod Moving
 pub mod OnePart
 pub mod Opened

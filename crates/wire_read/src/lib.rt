@@ -3,6 +3,7 @@
 #![tactic(auto)]
 
 mod event;
+mod last;
 pub mod laws;
 mod payload;
 mod reader;
@@ -10,6 +11,7 @@ mod sums;
 mod validation;
 
 pub use event::{Event, Fault, Part, Value};
+pub use last::{Place, find_last};
 pub use reader::{MAX_OPEN_GROUPS, Reader};
 pub use sums::payload_bytes;
 pub use validation::validate;

@@ -28,6 +28,7 @@ pub(crate) struct Found<'a> {
 
 /// What is left of a budget once so much is taken; none where less is left. `usize::MAX` is no
 /// limit.
+#[inline(always)]
 pub(crate) fn spend(left: usize, count: usize) -> Option<usize>
     ensures some { IfSome result (λ new. Spends count left new) }
     ensures none { IfNone result (¬ HasRoom (budget left) count) }
@@ -39,6 +40,7 @@ pub(crate) fn spend(left: usize, count: usize) -> Option<usize>
 }
 
 /// Reads the payload behind the tag of a record that is no group.
+#[inline(always)]
 pub(crate) fn read_payload<'a>(
     tag: Tag,
     bytes: &'a [u8],
@@ -58,6 +60,7 @@ pub(crate) fn read_payload<'a>(
     }
 }
 
+#[inline(always)]
 fn read_varint<'a>(bytes: &'a [u8], left: usize) -> Result<Found<'a>, Broken<'a>>
     ensures ok { IfOk result (λ found. Stands left Varint bytes.now found) }
     ensures fault { (l : Limits) → IfErr result
@@ -78,6 +81,7 @@ fn read_varint<'a>(bytes: &'a [u8], left: usize) -> Result<Found<'a>, Broken<'a>
     }
 }
 
+#[inline(always)]
 fn read_fixed64<'a>(bytes: &'a [u8], left: usize) -> Result<Found<'a>, Broken<'a>>
     ensures ok { IfOk result (λ found. Stands left Fixed64 bytes.now found) }
     ensures fault { (l : Limits) → IfErr result
@@ -98,6 +102,7 @@ fn read_fixed64<'a>(bytes: &'a [u8], left: usize) -> Result<Found<'a>, Broken<'a
     }
 }
 
+#[inline(always)]
 fn read_fixed32<'a>(bytes: &'a [u8], left: usize) -> Result<Found<'a>, Broken<'a>>
     ensures ok { IfOk result (λ found. Stands left Fixed32 bytes.now found) }
     ensures fault { (l : Limits) → IfErr result
@@ -118,6 +123,7 @@ fn read_fixed32<'a>(bytes: &'a [u8], left: usize) -> Result<Found<'a>, Broken<'a
     }
 }
 
+#[inline(always)]
 fn read_bytes<'a>(bytes: &'a [u8], left: usize) -> Result<Found<'a>, Broken<'a>>
     ensures ok { IfOk result (λ found. Stands left LengthDelimited bytes.now found) }
     ensures fault { (l : Limits) → l.counts.unknown_bytes ≡ budget left → IfErr result

@@ -90,6 +90,7 @@ impl Reader {
     /// The next event in these bytes, which are those of each call before; none at the end; or the
     /// fault that stands here. At the end and at a fault nothing changes, so the next call answers
     /// the same.
+    #[inline(always)]
     pub fn next<'a>(&mut self, bytes: &'a [u8]) -> Result<Option<Event<'a>>, Fault>
         ensures event { IfOk result (λ next. IfSome next (λ event.
             Gives event bytes.now (at self.old bytes.now) (at self.new bytes.now))) }
@@ -123,6 +124,7 @@ impl Reader {
     }
 
     // Takes the item at the front of the rest.
+    #[inline(always)]
     fn step<'a>(&mut self, rest: &'a [u8]) -> Result<Step<'a>, Broken<'a>>
         ensures ok { IfOk result (λ s. Moves (item s.number s.value) (facing self.old rest.now)
             s.behind.now (facing self.new s.rest.now)) }
@@ -144,11 +146,14 @@ impl Reader {
         match tag.wire_type() {
             WireType::StartGroup => self.start_group(tag.field_number(), rest, behind),
             WireType::EndGroup => self.end_group(tag.field_number(), rest, behind),
+            // An arm of its own, so that its compiled code does not ask for the wire type again.
+            WireType::Varint => self.record(tag, rest, behind),
             _ => self.record(tag, rest, behind),
         }
     }
 
     // Opens a group behind its start tag.
+    #[inline(never)]
     fn start_group<'a>(
         &mut self,
         number: u32,
@@ -183,6 +188,7 @@ impl Reader {
     }
 
     // Closes a group behind its end tag.
+    #[inline(never)]
     fn end_group<'a>(
         &mut self,
         number: u32,
@@ -223,6 +229,7 @@ impl Reader {
     }
 
     // Takes a record that is no group.
+    #[inline(always)]
     fn record<'a>(
         &mut self,
         tag: Tag,
@@ -253,6 +260,7 @@ impl Reader {
     }
 
     // How many groups may be open.
+    #[inline(always)]
     fn levels(&self) -> u32
         ensures { result ≡ levels_of self.now }
     {
@@ -260,6 +268,7 @@ impl Reader {
     }
 
     // How many groups are open.
+    #[inline(always)]
     fn open_count(&self) -> usize
         ensures count { result ≡ min self.now.group_count (levels_of self.now) }
         ensures length { result ≡ length (groups_of self.now) }

@@ -2,7 +2,7 @@
 use crate::row::Row;
 use crate::said::Said;
 use crate::{
-    agreements, caches, callers, contexts, enums, errors, lists, messages, readers, ropes, scalars,
+    agreements, caches, callers, contexts, enums, errors, frames, lists, messages, readers, ropes, scalars,
     sinks, texts, unknown, views,
 };
 use bytes::Buf;
@@ -25,6 +25,7 @@ pub fn tell(row: &Row<'_>, said: &mut Said) -> bool {
         || unknown::tell(row, said)
         || views::tell(row, said)
         || readers::tell(row, said)
+        || frames::tell(row, said)
         || messages::tell(row, said)
         || ropes::tell(row, said)
         || caches::tell(row, said)

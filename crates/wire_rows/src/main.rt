@@ -9,6 +9,7 @@ mod calls;
 mod contexts;
 mod enums;
 mod errors;
+mod frames;
 mod lists;
 mod messages;
 mod readers;
