@@ -1,7 +1,8 @@
 //! One frame of a log.
-ghost use Rattle.std.specs.Prelude.{◌≡◌, ◌<◌, length, IfOk, IfErr, IfSome, IfNone};
+ghost use Rattle.std.specs.Prelude.{◌≡◌, ◌<◌, ◌⊎◌, length, IfOk, IfErr, IfSome, IfNone};
 ghost use Rattle.wire_frames.specs.Frames.{IsUnfinished};
 ghost use Rattle.wire_frames.specs.Stream.{unread};
+ghost use Rattle.wire_log.specs.declared.entry.Stop.TheVariants as stops;
 ghost use Rattle.wire_log.specs.Entries.{StopsHere, TakesEntry};
 
 use bytes::Bytes;
@@ -44,9 +45,29 @@ pub(crate) fn next_entry(alloc: Global, decoder: &mut FrameDecoder) -> Result<Op
                 records: fields.len(),
                 payload: frame.payload,
             })),
-            Err(error) => Err(Stop::Records(error)),
+            Err(error) => Err(records_stop(error)),
         },
         Ok(None) => Ok(None),
-        Err(error) => Err(Stop::Frame(error)),
+        Err(error) => Err(frame_stop(error)),
+    }
+}
+
+// A payload that is no list of records, or want of memory for them.
+fn records_stop(error: DecodeError) -> Stop
+    ensures { (result ≡ stops.Records error) ⊎ (result ≡ stops.OutOfMemory) }
+{
+    match error {
+        DecodeError::OutOfMemory => Stop::OutOfMemory,
+        _ => Stop::Records(error),
+    }
+}
+
+// What no frame is, or want of memory for one.
+fn frame_stop(error: FrameError) -> Stop
+    ensures { (result ≡ stops.Frame error) ⊎ (result ≡ stops.OutOfMemory) }
+{
+    match error {
+        FrameError::OutOfMemory => Stop::OutOfMemory,
+        _ => Stop::Frame(error),
     }
 }

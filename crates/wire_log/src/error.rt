@@ -40,6 +40,14 @@ impl RunError {
     }
 }
 
+/// What an error of the command line is.
+pub(crate) fn words_error(error: clap::Error) -> RunError {
+    match error.kind() {
+        clap::error::ErrorKind::OutOfMemory => RunError::OutOfMemory,
+        _ => RunError::Usage(error),
+    }
+}
+
 /// What a failed write is.
 pub(crate) fn write_error(error: io::Error) -> RunError {
     match error.kind() {

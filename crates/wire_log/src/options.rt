@@ -1,7 +1,7 @@
 //! The words of the command line.
-use crate::error::RunError;
+use crate::error::{RunError, words_error};
 use clap::{Arg, ArgAction, ArgMatches, Command, Error};
-use std::alloc::Global;
+use std::alloc::{AllocError, Global};
 
 /// What is done with a log.
 #[derive(Drop)]
@@ -27,7 +27,7 @@ impl Options {
                 skip: matches.get_one("skip").unwrap_or(0),
                 is_repair: matches.get_flag("repair"),
             }),
-            Err(error) => Err(RunError::Usage(error)),
+            Err(error) => Err(words_error(error)),
         }
     }
 }
@@ -37,14 +37,14 @@ fn matches<'a>(alloc: Global, words: &'a [&'a str]) -> Result<ArgMatches<'a>, Er
         .long("repair")
         .action(ArgAction::SetTrue)
         .help("Write the longest front of whole frames whose payloads are records");
-    let skip = number(alloc, "skip", "0", "Frames that have no line");
-    let limit = number(alloc, "limit", "67108864", "Bytes of a payload at most");
-    Command::new(alloc, "wire_log")
-        .about(ABOUT)
-        .arg(repair)?
-        .arg(skip)?
-        .arg(limit)?
-        .try_get_matches_from(words)
+    let command = Command::new(alloc, "wire_log").about(ABOUT).arg(repair)?;
+    with_numbers(alloc, command)?.try_get_matches_from(words)
+}
+
+fn with_numbers<'a>(alloc: Global, command: Command<'a>) -> Result<Command<'a>, AllocError> {
+    command
+        .arg(number(alloc, "skip", "0", "Frames that have no line"))?
+        .arg(number(alloc, "limit", "67108864", "Bytes of a payload at most"))
 }
 
 fn number<'a>(alloc: Global, name: &'a str, default: &'a str, help: &'a str) -> Arg<'a> {
