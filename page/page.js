@@ -317,7 +317,9 @@ function numberReadings(kind, value) {
   }
   const digits = '0x' + value.toString(16).padStart(width / 4, '0');
   const float = kind === FIXED32 ? float32(Number(value)) : float64(value);
-  return [[kind === FIXED32 ? 'float' : 'double', float], ...found, ['hexadecimal', digits]];
+  const real = [kind === FIXED32 ? 'float' : 'double', float], size = Math.abs(Number(float));
+  found.splice(size > 1e-9 && size < 1e15 ? 0 : found.length, 0, real);
+  return [...found, ['hexadecimal', digits]];
 }
 function payloadReadings(list, i, most) {
   const place = list.payload(i), length = Number(list.value[i]);
@@ -417,7 +419,7 @@ class Pane {
   get rowHeight() { return parseFloat(getComputedStyle(this.node).getPropertyValue('--row')) || 24; }
   get seen() { return this.node.clientHeight / this.rowHeight; }
   get isScaled() { return this.rows * this.rowHeight > MOST_HEIGHT; }
-  setRows(rows) { this.rows = rows; this.fit(); }
+  setRows(rows) { this.rows = rows; this.fit(); fitPanes(); }
   fit() {
     this.spacer.style.height = `${Math.min(this.rows * this.rowHeight, MOST_HEIGHT)}px`;
     this.goTo(Math.max(0, Math.min(this.top, this.rows - this.seen)));
@@ -695,6 +697,12 @@ function fitWidth() {
   if (wide !== width) { width = wide; if (root) hexPane.setRows(hexRows()); }
 }
 
+// The panes are as high as what they show, up to what the style allows.
+function fitPanes() {
+  const need = Math.max(tree.rows * tree.rowHeight, hexPane.rows * hexPane.rowHeight) + 4;
+  document.querySelector('.panes').style.setProperty('--need', `${Math.min(need, 5000)}px`);
+}
+
 const tree = new Pane(id('tree'), drawRecord);
 const hexPane = new Pane(id('hex'), drawBytes);
 
@@ -938,8 +946,8 @@ function showShortest() {
 }
 
 const EXAMPLES = {
-  message: ['0a 07 47 65 74 74 61 76 69 6c 10 96 01 1a 0c 0a 04 77 69 72 65 15 00 00 c8 42 20 01 23 08 88 00 '
-    + '09 18 2d 44 54 fb 21 09 40 24 32 05 e2 82 ac 20 31 38 b5 fe ff ff ff ff ff ff ff 01', false],
+  message: ['0a 08 47 65 74 74 61 76 69 6c 10 96 01 1a 10 0a 04 77 69 72 65 15 00 00 c8 42 20 01 28 80 '
+    + '00 23 08 88 00 11 18 2d 44 54 fb 21 09 40 24 32 06 e2 82 ac 20 31 38 38 b5 fe ff ff ff ff ff ff ff 01 42 03 fb fb ff', false],
   broken: ['0a 03 41 64 61 1b 10 96 01 22 0a 68 65 6c 6c 6f', false],
   log: ['08 08 01 12 04 77 69 72 65 04 08 02 10 07 05 08 03 12 09 61', true],
 };
