@@ -654,6 +654,7 @@ function drawBytes(row) {
   place.setAttribute('role', 'rowheader');
   const digits = make('span', 'digits'), letters = make('span', 'letters');
   digits.setAttribute('role', 'presentation');
+  digits.style.setProperty('--cells', width);
   letters.setAttribute('aria-hidden', 'true');
   node.append(place, digits, letters);
   const ranges = { chosen: chosen && rangeOf(chosen), pointed: pointed && rangeOf(pointed) };
