@@ -605,7 +605,7 @@ function showReadings() {
 }
 
 function treeKeys(event) {
-  const rows = layout(root).rows;
+  const rows = tree.rows;
   if (!rows) return;
   const row = chosen ? rowOf(chosen) : -1, page = Math.max(1, Math.floor(tree.seen) - 1);
   const go = (to) => choose(atRow(root, Math.max(0, Math.min(to, rows - 1))));
@@ -683,7 +683,7 @@ function hexKeys(event) {
   const page = Math.max(1, Math.floor(hexPane.seen) - 1) * width;
   const steps = { ArrowRight: 1, ArrowLeft: -1, ArrowDown: width, ArrowUp: -width, PageDown: page,
     PageUp: -page, Home: -byteAt, End: bytes.length };
-  if (!(event.key in steps) || !bytes.length) return;
+  if (!(event.key in steps) || !hexPane.rows) return;
   event.preventDefault();
   goToByte(byteAt + steps[event.key]);
 }
@@ -746,7 +746,10 @@ function fromHex(text) {
   const wrong = digits.match(/[^0-9a-f]/i);
   if (wrong) throw new Trouble(`This is no hexadecimal text: it has a “${wrong[0]}”.`);
   if (digits.length % 2) throw new Trouble('Half a byte: the hexadecimal digits are an odd number.');
-  return Uint8Array.from({ length: digits.length / 2 }, (_, k) => parseInt(digits.slice(2 * k, 2 * k + 2), 16));
+  const found = new Uint8Array(digits.length / 2);
+  const digit = (k) => { const c = digits.charCodeAt(k) | 32; return c < 58 ? c - 48 : c - 87; };
+  for (let k = 0; k < found.length; k++) found[k] = 16 * digit(2 * k) + digit(2 * k + 1);
+  return found;
 }
 function fromBase64(text) {
   const plain = text.replace(/\s/g, '');
@@ -823,14 +826,23 @@ async function decode() {
   document.body.classList.add('reading');
   for (let until = performance.now() + 12; !steps.next().done;) {
     if (performance.now() < until) continue;
-    id('summary').textContent = `Reading: ${count(root.size)} so far`;
+    waitFor(root);
     await new Promise((done) => setTimeout(done));
     if (mine !== run) return;
     until = performance.now() + 12;
   }
   document.body.classList.remove('reading');
+  chosen = pointed = null;
+  root.forget();
   if (root.size <= 20000) openGuessed(root, OPENED_AT_ONCE);
   show();
+}
+// What is shown while a large input is read.
+function waitFor(list) {
+  id('summary').textContent = `Reading: ${count(list.size)} so far`;
+  id('output').hidden = false;
+  id('fault').hidden = id('empty').hidden = true;
+  if (tree.rows + hexPane.rows) { tree.setRows(0); hexPane.setRows(0); }
 }
 
 function show() {
@@ -887,7 +899,8 @@ function keepLink() {
       if (text && !(name === 'depth' && text === '100')) words.set(name, text);
     }
   }
-  history.replaceState(null, '', `${location.pathname}${location.search}${words.size ? `#${words}` : ''}`);
+  const url = `${location.pathname}${location.search}${words.size ? `#${words}` : ''}`;
+  try { history.replaceState(null, '', url); } catch { /* some browsers take only so many a minute */ }
 }
 function readLink() {
   const words = new URLSearchParams(location.hash.slice(1));
