@@ -1,5 +1,4 @@
 //! Calls on all of some bytes.
-ghost use Rattle.std.specs.Prelude.{◌≡◌};
 ghost use Rattle.wire_read.specs.Budget.{read_limits};
 ghost use Rattle.wire_page.specs.Batch.{context_of};
 ghost use Rattle.wire_page.specs.Whole.{Validates, Shortens, HasPrefix};

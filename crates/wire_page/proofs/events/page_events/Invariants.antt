@@ -1,4 +1,4 @@
-use Rattle.std.proofs.Common.{length, ◌-◌, ◌≤◌}
+use Rattle.std.proofs.Common.{length, ◌-◌}
 use Rattle.wire_read.specs.Reading.{at}
 use Rattle.wire_page.specs.Batch.{Fills}
 use Rattle.wire_page.proofs.events.page_events.Given as goal
