@@ -1,5 +1,6 @@
 pub mod Dropping
 pub mod Keeping
+pub mod Maps
 pub mod Measuring
 pub mod Messages
 pub mod NumberTexts

@@ -4,6 +4,7 @@ pub mod Dropped
 pub mod Enums
 pub mod Floats
 pub mod Leaving
+pub mod Maps
 pub mod Measuring
 pub mod MessageBack
 pub mod Messages

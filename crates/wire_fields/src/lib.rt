@@ -13,6 +13,8 @@ mod floats;
 mod form;
 mod kind;
 mod leaving;
+mod map;
+mod map_entry;
 mod message_field;
 mod number;
 mod number_list;
@@ -32,6 +34,8 @@ pub use floats::{DoubleBits, FloatBits};
 pub use form::Form;
 pub use kind::Kind;
 pub use leaving::{OwnTypes, merge_or_keep};
+pub use map::Map;
+pub use map_entry::EntryValue;
 pub use message_field::{
     AlwaysEmbedded, AlwaysGroup, AlwaysMessage, Each, EachEmbedded, EachGroup, Embedded, Group,
     Once,
