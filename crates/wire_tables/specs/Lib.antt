@@ -2,6 +2,7 @@ pub mod Card
 pub mod Contact
 pub mod Counter
 pub mod CounterBack
+pub mod Ledger
 pub mod Level
 pub mod Meter
 pub mod Profile
