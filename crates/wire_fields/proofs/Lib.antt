@@ -1,3 +1,4 @@
+pub mod Closing
 pub mod Dropping
 pub mod Keeping
 pub mod Maps

@@ -1,5 +1,6 @@
 pub mod Arms
 pub mod Back
+pub mod Closed
 pub mod Dropped
 pub mod Enums
 pub mod Floats

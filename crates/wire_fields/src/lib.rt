@@ -6,6 +6,7 @@
 //! field's number, and `keep` for the others. `specs/Shape.antt` has the same tree as definitions.
 #![tactic(auto)]
 
+mod closed;
 mod dropped;
 mod encoding;
 mod enums;
@@ -28,6 +29,7 @@ mod text;
 mod types;
 mod unknown;
 
+pub use closed::{merge_closed, merge_closed_each};
 pub use dropped::{Dropped, pass_over};
 pub use encoding::{Delimited, LengthPrefixed, MessageEncoding};
 pub use floats::{DoubleBits, FloatBits};
