@@ -9,3 +9,4 @@ pub mod Profile
 pub mod ProfileBack
 pub mod Pulse
 pub mod Reading
+pub mod Signal

@@ -11,6 +11,7 @@ mod meter;
 mod profile;
 mod pulse;
 mod reading;
+mod signal;
 
 pub use card::Card;
 pub use contact::{Contact, ContactKind};
@@ -21,3 +22,4 @@ pub use meter::Meter;
 pub use profile::Profile;
 pub use pulse::Pulse;
 pub use reading::Reading;
+pub use signal::Signal;
