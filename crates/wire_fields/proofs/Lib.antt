@@ -1,5 +1,7 @@
+pub mod Closing
 pub mod Dropping
 pub mod Keeping
+pub mod Maps
 pub mod Measuring
 pub mod Messages
 pub mod NumberTexts

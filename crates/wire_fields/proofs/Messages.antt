@@ -1,5 +1,5 @@
 -- Records of messages inside others: what they take, and why they take nothing.
-use Rattle.std.proofs.Common.{◌≡◌, ℕ, suc, ◌+◌, ◌<◌, List, [], ◌∷◌, ◌++◌, length, get_or, map, drop, add-one, drop-cons, refl, sym, ap, ◌∙◌, subst}
+use Rattle.std.proofs.Common.{◌≡◌, ℕ, suc, ◌+◌, ◌<◌, List, [], ◌∷◌, length, get_or, map, drop, add-one, drop-cons, refl, sym, ap, ◌∙◌, subst}
 use Rattle.std.specs.Prelude.{Option, Some}
 use Rattle.wire_codec.specs.Delimited.{IsDelimited}
 use Rattle.wire_codec.specs.Field.{Payload, bytes, group}
@@ -15,7 +15,7 @@ use Rattle.wire_codec.specs.Taking.{TakesRecord, IsCharged, NotTaken}
 use Rattle.wire_codec.specs.WireType.{WireType}
 use Rattle.wire_codec.specs.WireType.TheVariants as types
 use Rattle.wire_fields.specs.Messages.{Encoding, length_prefixed, delimited, inside, or_else}
-use Rattle.wire_fields.specs.Messages.{merges, adds_message, message_record, message_each}
+use Rattle.wire_fields.specs.Messages.{merges, gathers, message_record, message_each}
 use Rattle.wire_fields.proofs.Measuring.{Splits}
 
 -- ---- one message
@@ -152,13 +152,13 @@ module _ {V : Type 0} (encoding : Encoding) (takes : Step V) (start : V) (l : Li
 
 -- ---- many times
 
-module _ {V : Type 0} (place : ℕ) (encoding : Encoding) (takes : Step V) (start : V)
-    (limits : LimitsAddUp) (l : Limits) (n : ℕ) (w : WireType) (m : List V) (from : V)
+module _ {V M : Type 0} (place : ℕ) (encoding : Encoding) (takes : Step V) (start : V)
+    (put : M → V → M) (limits : LimitsAddUp) (l : Limits) (n : ℕ) (w : WireType) (m : M) (from : V)
     (old : List ℕ) (from_is : from ≡ start) where
-  pub each_taken : (i k : Limits) (after : V) (z : List V) (new : List ℕ)
-      → i ≡ left_after l (element_of place) → Fits (element_of place) l → z ≡ m ++ after ∷ []
+  pub each_taken : (i k : Limits) (after : V) (z : M) (new : List ℕ)
+      → i ≡ left_after l (element_of place) → Fits (element_of place) l → z ≡ put m after
       → IsCharged i k (λ c. TakesRecord (inside encoding takes) i n w from old c after new)
-      → IsCharged l k (λ c. TakesRecord (adds_message place encoding takes start) l n w m old c z new)
+      → IsCharged l k (λ c. TakesRecord (gathers place encoding takes start put) l n w m old c z new)
   each_taken i k after z new i_is fits is h =
       let t = subst (λ x. TakesRecord (inside encoding takes) x n w from old h.charge after new) i_is
       h.taken in
@@ -183,7 +183,7 @@ module _ {V : Type 0} (place : ℕ) (encoding : Encoding) (takes : Step V) (star
       }
 
   pub no_room : ¬ Fits (element_of place) l
-      → NotTaken (TakesRecord (adds_message place encoding takes start) l n w m old)
+      → NotTaken (TakesRecord (gathers place encoding takes start put) l n w m old)
   no_room none c z new h =
       let (after, one, step, charged, is) = h.step in
       none ((limits.both_fit l (element_of place) one).0
@@ -191,7 +191,7 @@ module _ {V : Type 0} (place : ℕ) (encoding : Encoding) (takes : Step V) (star
 
   pub no_more : (i : Limits) → i ≡ left_after l (element_of place)
       → NotTaken (TakesRecord (inside encoding takes) i n w from old)
-      → NotTaken (TakesRecord (adds_message place encoding takes start) l n w m old)
+      → NotTaken (TakesRecord (gathers place encoding takes start put) l n w m old)
   no_more i i_is none c z new h =
       let (after, one, step, charged, is) = h.step in
       let fits = (limits.both_fit l (element_of place) one).0

@@ -1,9 +1,11 @@
 pub mod Arms
 pub mod Back
+pub mod Closed
 pub mod Dropped
 pub mod Enums
 pub mod Floats
 pub mod Leaving
+pub mod Maps
 pub mod Measuring
 pub mod MessageBack
 pub mod Messages

@@ -69,11 +69,16 @@ abbrev pub merges : {V : Type 0} → Encoding → Step V → V → Step (Option 
 merges {V} encoding takes start m n p c z =
     (after : V) × inside encoding takes (or_else start m) n p c after × (z ≡ Some after)
 
--- one message more, which is charged for its place in memory besides
-abbrev pub adds_message : {V : Type 0} → ℕ → Encoding → Step V → V → Step (List V)
-adds_message {V} place encoding takes start m n p c z =
+-- a new message takes the payload, is charged for its place in memory besides, and is put among
+-- those that are there
+abbrev pub gathers : {V M : Type 0} → ℕ → Encoding → Step V → V → (M → V → M) → Step M
+gathers {V} place encoding takes start put m n p c z =
     (after : V) × (one : Charge) × inside encoding takes start n p one after
-    × (c ≡ both (element_of place) one) × (z ≡ m ++ after ∷ [])
+    × (c ≡ both (element_of place) one) × (z ≡ put m after)
+
+-- one message more
+abbrev pub adds_message : {V : Type 0} → ℕ → Encoding → Step V → V → Step (List V)
+adds_message place encoding takes start = gathers place encoding takes start (λ m after. m ++ after ∷ [])
 
 folds_single : {V : Type 0} (takes : Step V) → IsSingle takes → (m u : V) (fs : Fields)
     (c d : Charge) (z w : V) → Folds takes m fs c z → Folds takes u fs d w
@@ -102,12 +107,13 @@ module _ {V : Type 0} (encoding : Encoding) (takes : Step V) (reading : OneReadi
       let agree = inside_single (or_else start m) (or_else start u) after after_2 n p c d h k in
       (agree.0, λ e. is ∙ ap Some (agree.1 (ap (or_else start) e)) ∙ sym is_2)
 
-  pub adds_single : (place : ℕ) (start : V) → IsSingle (adds_message place encoding takes start)
-  adds_single place start m u z w n p c d (after, one, h, charged, is) (after_2, one_2, k, charged_2, is_2) =
+  pub gathers_single : {M : Type 0} (place : ℕ) (start : V) (put : M → V → M)
+      → IsSingle (gathers place encoding takes start put)
+  gathers_single {M} place start put m u z w n p c d (after, one, h, charged, is) (after_2, one_2, k, charged_2, is_2) =
       let agree = inside_single start start after after_2 n p one one_2 h k in (
         charged ∙ ap (λ x. both (element_of place) x) agree.0 ∙ sym charged_2,
-        λ e. is ∙ ap (λ (v : V). m ++ v ∷ []) (agree.1 (λ i. start))
-            ∙ ap (λ (x : List V). x ++ after_2 ∷ []) e ∙ sym is_2,
+        λ e. is ∙ ap (λ (v : V). put m v) (agree.1 (λ i. start))
+            ∙ ap (λ (x : M). put x after_2) e ∙ sym is_2,
       )
 
 -- ---- what is written
@@ -166,7 +172,8 @@ once_in encoding s = record {
 abbrev pub each_in : {V : Type 0} → ℕ → Encoding → Shape V → Lawful (List V)
 each_in place encoding s = record {
   kind = each_kind place encoding s.records s.takes s.default;
-  single = λ reading. adds_single encoding s.takes reading (s.single reading) place s.default;
+  single = λ reading. gathers_single encoding s.takes reading (s.single reading) place s.default
+      (λ m after. m ++ after ∷ []);
 }
 
 -- an embedded message; embedded messages; a group; groups

@@ -6,6 +6,7 @@
 //! field's number, and `keep` for the others. `specs/Shape.antt` has the same tree as definitions.
 #![tactic(auto)]
 
+mod closed;
 mod dropped;
 mod encoding;
 mod enums;
@@ -13,6 +14,8 @@ mod floats;
 mod form;
 mod kind;
 mod leaving;
+mod map;
+mod map_entry;
 mod message_field;
 mod number;
 mod number_list;
@@ -26,12 +29,15 @@ mod text;
 mod types;
 mod unknown;
 
+pub use closed::{merge_closed, merge_closed_each};
 pub use dropped::{Dropped, pass_over};
 pub use encoding::{Delimited, LengthPrefixed, MessageEncoding};
 pub use floats::{DoubleBits, FloatBits};
 pub use form::Form;
 pub use kind::Kind;
 pub use leaving::{OwnTypes, merge_or_keep};
+pub use map::Map;
+pub use map_entry::EntryValue;
 pub use message_field::{
     AlwaysEmbedded, AlwaysGroup, AlwaysMessage, Each, EachEmbedded, EachGroup, Embedded, Group,
     Once,

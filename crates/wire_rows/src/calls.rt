@@ -2,8 +2,8 @@
 use crate::row::Row;
 use crate::said::Said;
 use crate::{
-    agreements, caches, callers, contexts, enums, errors, frames, lists, messages, readers, ropes, scalars,
-    sinks, texts, unknown, views,
+    agreements, caches, callers, contexts, enums, errors, frames, lists, messages, readers, ropes,
+    scalars, sinks, texts, unknown, views,
 };
 use bytes::Buf;
 

@@ -9,7 +9,7 @@ use crate::said::Said;
 use bytes::Buf;
 use wire_codec::{DecodeContext, DecodeError, DecodeOptions, Message, Tag};
 use wire_samples::{Node, Person, Repeat};
-use wire_tables::{Card, Counter, Meter, Profile, Pulse, Reading};
+use wire_tables::{Card, Counter, Ledger, Meter, Profile, Pulse, Reading, Signal};
 
 // A row's call is `TYPE.CALL`, and `TYPE` alone where the type is decoded.
 fn call_of<'a>(row: &Row<'a>) -> (&'a str, &'a str) {
@@ -24,10 +24,12 @@ pub fn read<B: Buf>(row: &Row<'_>, buf: &mut B, said: &mut Said) -> bool {
         "Repeat" => read_as::<Repeat, B>(row, call, buf, said),
         "Card" => read_as::<Card, B>(row, call, buf, said),
         "Counter" => read_as::<Counter, B>(row, call, buf, said),
+        "Ledger" => read_as::<Ledger, B>(row, call, buf, said),
         "Meter" => read_as::<Meter, B>(row, call, buf, said),
         "Profile" => read_as::<Profile, B>(row, call, buf, said),
         "Pulse" => read_as::<Pulse, B>(row, call, buf, said),
         "Reading" => read_as::<Reading, B>(row, call, buf, said),
+        "Signal" => read_as::<Signal, B>(row, call, buf, said),
         _ => false,
     }
 }
@@ -40,10 +42,12 @@ pub fn tell(row: &Row<'_>, said: &mut Said) -> bool {
         "Repeat" => tell_as::<Repeat>(row, call, said),
         "Card" => tell_as::<Card>(row, call, said),
         "Counter" => tell_as::<Counter>(row, call, said),
+        "Ledger" => tell_as::<Ledger>(row, call, said),
         "Meter" => tell_as::<Meter>(row, call, said),
         "Profile" => tell_as::<Profile>(row, call, said),
         "Pulse" => tell_as::<Pulse>(row, call, said),
         "Reading" => tell_as::<Reading>(row, call, said),
+        "Signal" => tell_as::<Signal>(row, call, said),
         _ => false,
     }
 }

@@ -2,9 +2,11 @@ pub mod Card
 pub mod Contact
 pub mod Counter
 pub mod CounterBack
+pub mod Ledger
 pub mod Level
 pub mod Meter
 pub mod Profile
 pub mod ProfileBack
 pub mod Pulse
 pub mod Reading
+pub mod Signal

@@ -1,7 +1,7 @@
 //! The messages that are tables of fields, and how each is shown.
 use super::sample::Sample;
 use crate::said::{Hex, Said};
-use wire_tables::{Card, Contact, Counter, Meter, Profile, Pulse, Reading};
+use wire_tables::{Card, Contact, Counter, Ledger, Meter, Profile, Pulse, Reading, Signal};
 
 impl Sample for Counter {
     fn say(&self, said: &mut Said) {
@@ -83,5 +83,26 @@ impl Sample for Meter {
 impl Sample for Pulse {
     fn say(&self, said: &mut Said) {
         said.show(&self.beats);
+    }
+}
+
+impl Sample for Ledger {
+    fn say(&self, said: &mut Said) {
+        said.show(&self.counts);
+        said.also(" ", &self.names);
+        for (short, visits) in &self.visits {
+            said.also(" ", short);
+            said.also(":", &visits.count);
+        }
+        said.also(" ", &self.unknown.len());
+    }
+}
+
+impl Sample for Signal {
+    fn say(&self, said: &mut Said) {
+        said.show(&self.level);
+        said.also(" ", &self.history);
+        said.also(" ", &self.marks);
+        said.also(" ", &self.unknown.len());
     }
 }

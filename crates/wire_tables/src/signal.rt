@@ -1,0 +1,137 @@
+//! A signal, whose enum is closed.
+use crate::level::Level;
+use bytes::Buf;
+use std::alloc::Global;
+use wire_codec::{
+    DecodeContext, DecodeError, EncodeError, EncodeSink, EnumValue, Message, SizeCache, Tag,
+    UnknownFields,
+};
+use wire_fields::{
+    Enum, Kind, Known, Optional, Packed, Rest, Unpacked, keep, measure, merge_closed,
+    merge_closed_each, write,
+};
+
+/// A signal with levels of a closed enum: numbers that it does not have go to the unknown fields.
+#[derive(Clone, Debug, Drop, PartialEq)]
+pub struct Signal {
+    pub level: Option<EnumValue<Level>>,
+    pub history: Vec<EnumValue<Level>>,
+    pub marks: Vec<EnumValue<Level>>,
+    pub unknown: UnknownFields,
+}
+
+impl Message for Signal {
+    ghost use Rattle.wire_tables.specs.Signal.{SignalValue, signal_value, signal};
+
+    ghost Value = { SignalValue };
+
+    ghost view = { signal_value };
+
+    ghost records = { signal.records };
+
+    ghost default = { signal.default };
+
+    ghost takes = { signal.takes };
+
+    ghost single = { signal.single };
+
+    fn default_value(alloc: Global) -> Signal {
+        Signal {
+            level: <Optional<Enum<Level>> as Kind>::empty(alloc),
+            history: <Packed<Enum<Level>> as Kind>::empty(alloc),
+            marks: <Unpacked<Enum<Level>> as Kind>::empty(alloc),
+            unknown: UnknownFields::new(alloc),
+        }
+    }
+
+    fn compute_size(&self, cache: &mut SizeCache) -> Result<u32, EncodeError> {
+        let level: Known<Optional<Enum<Level>>> = Known {
+            number: 1,
+            held: &self.level,
+        };
+        let history: Known<Packed<Enum<Level>>> = Known {
+            number: 2,
+            held: &self.history,
+        };
+        let marks: Known<Unpacked<Enum<Level>>> = Known {
+            number: 3,
+            held: &self.marks,
+        };
+        let known = ((level, history), marks);
+        measure(
+            (
+                known,
+                Rest {
+                    fields: &self.unknown,
+                },
+            ),
+            cache,
+        )
+    }
+
+    fn write_to<S: EncodeSink>(
+        &self,
+        cache: &mut SizeCache,
+        sink: &mut S,
+    ) -> Result<(), EncodeError> {
+        let level: Known<Optional<Enum<Level>>> = Known {
+            number: 1,
+            held: &self.level,
+        };
+        let history: Known<Packed<Enum<Level>>> = Known {
+            number: 2,
+            held: &self.history,
+        };
+        let marks: Known<Unpacked<Enum<Level>>> = Known {
+            number: 3,
+            held: &self.marks,
+        };
+        let known = ((level, history), marks);
+        write(
+            (
+                known,
+                Rest {
+                    fields: &self.unknown,
+                },
+            ),
+            cache,
+            sink,
+        )
+    }
+
+    fn merge_field<B: Buf>(
+        &mut self,
+        alloc: Global,
+        tag: Tag,
+        buf: &mut B,
+        context: &mut DecodeContext,
+    ) -> Result<(), DecodeError> {
+        match tag.field_number() {
+            1 => merge_closed::<Level, B>(tag, &mut self.level, &mut self.unknown, buf, context),
+            2 => merge_closed_each::<Level, B>(
+                alloc,
+                tag,
+                &mut self.history,
+                &mut self.unknown,
+                buf,
+                context,
+            ),
+            3 => merge_closed_each::<Level, B>(
+                alloc,
+                tag,
+                &mut self.marks,
+                &mut self.unknown,
+                buf,
+                context,
+            ),
+            _ => keep(alloc, tag, &mut self.unknown, buf, context),
+        }
+    }
+
+    fn clear(&mut self) {
+        <Optional<Enum<Level>> as Kind>::clear(&mut self.level);
+        <Packed<Enum<Level>> as Kind>::clear(&mut self.history);
+        <Unpacked<Enum<Level>> as Kind>::clear(&mut self.marks);
+        self.unknown.clear();
+    }
+}
