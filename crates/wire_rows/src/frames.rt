@@ -63,7 +63,7 @@ fn read_in(row: &Row<'_>, size: usize, said: &mut Said) -> Option<Read> {
     let limit = row.number("limit").unwrap_or(1000);
     let mut decoder = FrameDecoder::new(said.alloc, framing(row), limit);
     let mut text = String::new(said.alloc);
-    for chunk in row.bytes.chunks(size) {
+    for chunk in row.bytes.chunks(size.max(1)) {
         feed(&mut decoder, chunk, said)?;
         if let Some(error) = take(&mut decoder, &mut text, said)? {
             return Some(Read {
