@@ -92,10 +92,12 @@ map_of place order key value = record {
 abbrev pub text_map : {V : Type 0} → ℕ → Lawful V → Lawful (List (List ℕ × V))
 text_map place = map_of place (slice_cmp nat_cmp) string
 
-abbrev pub unsigned_map : {V : Type 0} → ℕ → Form → ValueMap ℕ → Lawful V → Lawful (List (ℕ × V))
+abbrev pub unsigned_map : {V : Type 0} → ℕ → Form → ValueMap ℕ → Lawful V
+    → Lawful (List (ℕ × V))
 unsigned_map place form values = map_of place nat_cmp (numeric form values)
 
-abbrev pub signed_map : {V : Type 0} → ℕ → Form → ValueMap ℤ → Lawful V → Lawful (List (ℤ × V))
+abbrev pub signed_map : {V : Type 0} → ℕ → Form → ValueMap ℤ → Lawful V
+    → Lawful (List (ℤ × V))
 signed_map place form values = map_of place int_cmp (numeric form values)
 
 abbrev pub bool_map : {V : Type 0} → ℕ → Lawful V → Lawful (List (Bool × V))

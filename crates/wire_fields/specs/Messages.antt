@@ -78,7 +78,8 @@ gathers {V} place encoding takes start put m n p c z =
 
 -- one message more
 abbrev pub adds_message : {V : Type 0} → ℕ → Encoding → Step V → V → Step (List V)
-adds_message place encoding takes start = gathers place encoding takes start (λ m after. m ++ after ∷ [])
+adds_message place encoding takes start =
+    gathers place encoding takes start (λ m after. m ++ after ∷ [])
 
 folds_single : {V : Type 0} (takes : Step V) → IsSingle takes → (m u : V) (fs : Fields)
     (c d : Charge) (z w : V) → Folds takes m fs c z → Folds takes u fs d w

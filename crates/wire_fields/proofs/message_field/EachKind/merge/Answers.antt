@@ -9,7 +9,8 @@ pub returns-in_err-register_element_memory-clause-err :
 returns-in_err-register_element_memory-clause-err g c =
     let p = err_from_is_err_and c.from_residual.result c.from_residual.ensures.1 in
     rw (p.1, p.2) (λ other. no_room g.row.PLACE g.E.MessageEncoding.encoding g.M.Message.takes
-    g.M.Message.default (λ m after. m ++ after ∷ []) c.limits_add_up.ensures _ _ _ _ g.M.Message.default _ (λ i. g.M.Message.default)
+    g.M.Message.default (λ m after. m ++ after ∷ []) c.limits_add_up.ensures
+    _ _ _ _ g.M.Message.default _ (λ i. g.M.Message.default)
     c.in_err-register_element_memory.ensures.none_left)
 
 pub returns-in_err-merge-clause-err : goal.returns-in_err-merge-clause-err
@@ -17,14 +18,15 @@ returns-in_err-merge-clause-err g c =
     let r = c.from_residual-in_err-merge in
     let p = err_from_is_err_and r.result r.ensures.1 in
     rw (p.1, p.2) (λ other. no_more g.row.PLACE g.E.MessageEncoding.encoding g.M.Message.takes
-    g.M.Message.default (λ m after. m ++ after ∷ []) c.limits_add_up.ensures _ _ _ _ _ _ c.default_value-message.ensures _
+    g.M.Message.default (λ m after. m ++ after ∷ []) c.limits_add_up.ensures
+    _ _ _ _ _ _ c.default_value-message.ensures _
     c.in_ok-register_element_memory.ensures.ok (c.in_err-merge.ensures.err other))
 
 pub returns-clause-ok : goal.returns-clause-ok
 returns-clause-ok g c =
     on_ok_weaker c.push.result (λ pushed. each_taken g.row.PLACE g.E.MessageEncoding.encoding
-    g.M.Message.takes g.M.Message.default (λ m after. m ++ after ∷ []) c.limits_add_up.ensures _ _ _ _ _ _
-    c.default_value-message.ensures _ _ _ _ _ c.in_ok-register_element_memory.ensures.ok
+    g.M.Message.takes g.M.Message.default (λ m after. m ++ after ∷ []) c.limits_add_up.ensures
+    _ _ _ _ _ _ c.default_value-message.ensures _ _ _ _ _ c.in_ok-register_element_memory.ensures.ok
     c.in_ok-register_element_memory.ensures.taken
     (ap (map g.M.Message.view) pushed
     ∙ map-append g.M.Message.view c.args.held.now.items (_ ∷ []))
