@@ -13,6 +13,9 @@ pub(crate) struct Layout {
     pub(crate) budget: u32,
 }
 
+/// How deep payloads are read as messages, and groups stand inside one another in them.
+const BUDGET: u32 = 10;
+
 /// What stands before a line: the places of its bytes, where they are shown.
 #[derive(Clone, Copy, Debug)]
 pub(crate) struct Margin {
@@ -22,6 +25,17 @@ pub(crate) struct Margin {
 }
 
 impl Layout {
+    /// Of lines so many levels further in, and of messages in payloads as protoc guesses them.
+    pub(crate) fn new(has_offsets: bool, level: u32) -> Layout
+        ensures { result ≡ record { has_offsets = has_offsets; level = level; budget = 10 } }
+    {
+        Layout {
+            has_offsets,
+            level,
+            budget: BUDGET,
+        }
+    }
+
     /// So many levels further in.
     pub(crate) fn inside(self, count: u32) -> Layout
         requires { self.level + count < 2 ^ 32 }

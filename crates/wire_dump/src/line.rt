@@ -1,5 +1,6 @@
 //! Lines of a dump, put behind what was put.
 ghost use Rattle.std.specs.Prelude.{◌≡◌, ◌+◌, ◌*◌, ◌^◌, ◌<◌, ◌≤◌, ◌∷◌, ◌++◌, codes, decimal, OnOk};
+ghost use Rattle.wire_dump.specs.Frames.{frame_opening};
 ghost use Rattle.wire_dump.specs.Lines.{closing, fixed_line, hexadecimal, hexadecimal_digit, indented, line, number_line, opening};
 ghost use Rattle.wire_dump.specs.Places.{range_text};
 
@@ -127,6 +128,21 @@ pub(crate) fn put_opening(
         ++ (range_text margin.is_shown margin.start margin.end ++ opening level number)) }
 {
     put_head(out, margin, level, number)?;
+    out.extend_from_slice(b" {\n")
+}
+
+/// Puts what stands before the records of the frame with this number.
+pub(crate) fn put_frame_opening(
+    out: &mut Vec<u8>,
+    margin: Margin,
+    index: u64,
+) -> Result<(), AllocError>
+    ensures { OnOk result (out.new.items ≡ out.old.items
+        ++ (range_text margin.is_shown margin.start margin.end ++ frame_opening index)) }
+{
+    put_margin(out, margin)?;
+    out.extend_from_slice(b"frame ")?;
+    put_decimal(out, index)?;
     out.extend_from_slice(b" {\n")
 }
 

@@ -3,6 +3,7 @@
 
 mod dump;
 mod error;
+mod frames;
 mod input;
 mod laws;
 mod layout;
@@ -12,8 +13,10 @@ mod shortest;
 mod stop;
 mod string;
 
+use bytes::Bytes;
 use dump::put_records;
 use error::{RunError, write_error};
+use frames::put_frame;
 use input::input;
 use layout::Layout;
 use options::Options;
@@ -22,10 +25,8 @@ use std::env;
 use std::io::Write;
 use std::process::ExitCode;
 use stop::Stop;
+use wire_frames::{FrameDecoder, FrameError, Framing};
 use wire_read::{Fault, Reader};
-
-/// How deep payloads are read as messages, and groups stand inside one another in them.
-const BUDGET: u32 = 10;
 
 fn main(rt: HostRuntime) -> ExitCode {
     match run(&rt) {
@@ -42,6 +43,9 @@ fn run(rt: &HostRuntime) -> Result<(), RunError> {
     }
     let options = Options::parse(rt.alloc(), &texts)?;
     let bytes = input(rt, &options)?;
+    if options.is_delimited {
+        return print_log(rt, &options, bytes);
+    }
     print(rt, &options, &bytes)
 }
 
@@ -63,23 +67,58 @@ fn print(rt: &HostRuntime, options: &Options<'_>, bytes: &[u8]) -> Result<(), Ru
     if options.is_shortest {
         return match shortest_text(rt.alloc(), &mut reader, bytes) {
             Ok(text) => send(rt, &text),
-            Err(stop) => Err(refused(rt, &stop, &reader)),
+            Err(stop) => Err(refused(rt, 0, &stop, &reader)),
         };
     }
-    let layout = Layout {
-        has_offsets: options.has_offsets,
-        level: 0,
-        budget: BUDGET,
-    };
+    let layout = Layout::new(options.has_offsets, 0);
     let mut out = Vec::new(rt.alloc());
     match put_records(&mut out, layout, 0, &mut reader, bytes) {
         Ok(()) => send(rt, &out),
         Err(Stop::OutOfMemory) => Err(RunError::OutOfMemory),
         Err(stop) => {
             send(rt, &out)?;
-            Err(refused(rt, &stop, &reader))
+            Err(refused(rt, 0, &stop, &reader))
         }
     }
+}
+
+fn print_log(rt: &HostRuntime, options: &Options<'_>, bytes: Vec<u8>) -> Result<(), RunError> {
+    let total = bytes.len();
+    let mut decoder = FrameDecoder::new(rt.alloc(), Framing::Delimited, usize::MAX);
+    let fed = decoder.feed(Bytes::from_vec(bytes)?);
+    fed.or(Err(RunError::OutOfMemory))?;
+    let mut out = Vec::new(rt.alloc());
+    // Each turn but the last takes a byte.
+    for index in 0..u64::MAX {
+        let start = total.saturating_sub(decoder.unread_len());
+        let payload = match decoder.next_at_end() {
+            Ok(Some(frame)) => frame.payload,
+            Ok(None) => break,
+            Err(error) => {
+                send(rt, &out)?;
+                return Err(unframed(rt, index, start, &error));
+            }
+        };
+        let end = total.saturating_sub(decoder.unread_len());
+        let place = end.saturating_sub(payload.len());
+        let layout = Layout::new(options.has_offsets, 1);
+        let mut reader = Reader::within(&options.context);
+        let bytes = payload.as_slice();
+        if let Err(stop) = put_frame(&mut out, layout, index, start, place, &mut reader, bytes) {
+            send(rt, &out)?;
+            return Err(refused(rt, place, &stop, &reader));
+        }
+    }
+    send(rt, &out)
+}
+
+// The error of a log that goes on with no frame; one line on standard error.
+fn unframed(rt: &impl Eprint, index: u64, place: usize, error: &FrameError) -> RunError {
+    if let FrameError::OutOfMemory = error {
+        return RunError::OutOfMemory;
+    }
+    let _ = eprintln!(rt; "wire_dump: frame {index} at {place}: {error}");
+    RunError::Refused
 }
 
 fn send(rt: &HostRuntime, text: &[u8]) -> Result<(), RunError> {
@@ -89,12 +128,12 @@ fn send(rt: &HostRuntime, text: &[u8]) -> Result<(), RunError> {
     }
 }
 
-// The error of what stopped; a fault is reported.
-fn refused(rt: &impl Eprint, stop: &Stop, reader: &Reader) -> RunError {
+// The error of what stopped behind this place; a fault is reported.
+fn refused(rt: &impl Eprint, place: usize, stop: &Stop, reader: &Reader) -> RunError {
     match stop {
         Stop::OutOfMemory => RunError::OutOfMemory,
         Stop::Fault(fault) => {
-            report(rt, fault, reader);
+            report(rt, place, fault, reader);
             RunError::Refused
         }
     }
@@ -102,12 +141,12 @@ fn refused(rt: &impl Eprint, stop: &Stop, reader: &Reader) -> RunError {
 
 // One line on standard error: where the record begins and the part at fault, the numbers of the
 // open groups, and why.
-fn report(rt: &impl Eprint, fault: &Fault, reader: &Reader) {
+fn report(rt: &impl Eprint, place: usize, fault: &Fault, reader: &Reader) {
     let _ = eprintln!(rt;
         "wire_dump: record at {}, {:?} at {}, in groups {:?}: {:?}: {}",
-        fault.record_place,
+        place.saturating_add(fault.record_place),
         fault.part,
-        fault.part_place,
+        place.saturating_add(fault.part_place),
         reader.open_groups(),
         fault.error,
         fault.error

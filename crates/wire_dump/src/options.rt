@@ -23,6 +23,7 @@ pub(crate) struct Options<'a> {
     pub(crate) context: DecodeContext,
     pub(crate) has_offsets: bool,
     pub(crate) is_shortest: bool,
+    pub(crate) is_delimited: bool,
 }
 
 const ABOUT: &str = "Prints the records of Protocol Buffers bytes, without a schema, and says at \
@@ -43,6 +44,8 @@ const OFFSETS: &str =
 const SHORTEST: &str = "Write the records as bytes again, with no varint padded, in place of \
     lines; of broken bytes nothing";
 
+const DELIMITED: &str = "The input is a log: messages one after another, each behind its length";
+
 const MOST: &str = "18446744073709551615";
 
 impl<'a> Options<'a> {
@@ -56,6 +59,7 @@ impl<'a> Options<'a> {
                 context: context(&matches),
                 has_offsets: matches.get_flag("offsets"),
                 is_shortest: matches.get_flag("shortest"),
+                is_delimited: matches.get_flag("delimited"),
             }),
             Err(error) => Err(words_error(error)),
         }
@@ -84,6 +88,7 @@ fn matches<'a>(alloc: Global, words: &'a [&'a str]) -> Result<ArgMatches<'a>, Er
     let command = Command::new(alloc, "wire_dump").about(ABOUT).arg(file)?;
     let command = with_notations(alloc, command)?;
     let command = with_forms(alloc, command)?;
+    let command = with_frames(alloc, command)?;
     with_limits(alloc, command)?.try_get_matches_from(words)
 }
 
@@ -95,6 +100,11 @@ fn with_notations<'a>(alloc: Global, command: Command<'a>) -> Result<Command<'a>
 fn with_forms<'a>(alloc: Global, command: Command<'a>) -> Result<Command<'a>, AllocError> {
     let offsets = flag(alloc, "offsets", OFFSETS).conflicts_with("shortest")?;
     command.arg(offsets)?.arg(flag(alloc, "shortest", SHORTEST))
+}
+
+fn with_frames<'a>(alloc: Global, command: Command<'a>) -> Result<Command<'a>, AllocError> {
+    let delimited = flag(alloc, "delimited", DELIMITED).conflicts_with("shortest")?;
+    command.arg(delimited)
 }
 
 fn with_limits<'a>(alloc: Global, command: Command<'a>) -> Result<Command<'a>, AllocError> {
