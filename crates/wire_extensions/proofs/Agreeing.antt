@@ -6,7 +6,7 @@ use Rattle.wire_codec.specs.Charge.{payload_charge}
 use Rattle.wire_codec.specs.Field.{Payload, Fields, none, field, joined, push}
 use Rattle.wire_codec.specs.Folds.{Step, Folds}
 use Rattle.wire_codec.specs.Limits.{Charge, both, no_charge}
-use Rattle.wire_fields.specs.Shape.{on, either, keeps}
+use Rattle.wire_fields.specs.Shape.{on, either, keeps, same_pair}
 use Rattle.wire_extensions.proofs.Records.{own_is, other_is, others_own, others_other}
 use Rattle.wire_extensions.specs.Extension.{of_number, others}
 use Rattle.wire_extensions.specs.Laws.{AgreesWithMessage}
@@ -53,3 +53,51 @@ module _ {V : Type 0} (takes : Step V) (n : ℕ) where
                   (subst (λ x. Folds takes x (of_number n fs) next.1.0 z) other.1 next.1.1),
             )
       ]
+
+  undeclared : (m z : V) (u fs : Fields) (d : Charge) → Folds takes m (of_number n fs) d z
+      → (c : Charge) × Folds (either (λ k p. k == n) takes keeps) (m, u) fs c
+      (z, joined u (others n fs))
+  undeclared m z u none d h =
+      (no_charge, refl, same_pair (z, joined u none) (m, u) h.1 (joined_none u))
+  undeclared m z u (field k p fs) d h = elim (eqb_tells k n) [
+    | inl e ↦
+        let (mid, first, rest, step, more, sum) = subst (λ x. Folds takes m x d z)
+        (own_is n k p fs e.1) h in
+        let next = undeclared mid z u fs rest more in (
+          both first next.0,
+          subst (λ x. Folds (either (λ j q. j == n) takes keeps) (m, u) (field k p fs)
+              (both first next.0) (z, joined u x)) (sym (others_own n k p fs e.1)) (
+            (mid, u),
+            first,
+            next.0,
+            subst (λ b. on b (takes m k p first mid × (u ≡ u)) (keeps u k p first u × (mid ≡ m)))
+                (sym e.0) (step, refl),
+            next.1,
+            refl,
+          ),
+        )
+    | inr e ↦
+        let next = undeclared m z (push u k p) fs d
+        (subst (λ x. Folds takes m x d z) (other_is n k p fs e.1) h) in
+        let first = payload_charge p in
+        let after = push u k p in (
+          both first next.0,
+          subst (λ x. Folds (either (λ j q. j == n) takes keeps) (m, u) (field k p fs)
+              (both first next.0) (z, x))
+              (push_joined u k p (others n fs) ∙ sym (ap (joined u) (others_other n k p fs e.1))) (
+            (m, after),
+            first,
+            next.0,
+            subst (λ b. on b (takes m k p first m × (after ≡ u))
+                (keeps u k p first after × (m ≡ m))) (sym e.0) ((refl, refl), refl),
+            next.1,
+            refl,
+          ),
+        )
+  ]
+
+pub agrees_with_message_lemma : {V : Type 0} (takes : Step V) → AgreesWithMessage takes
+agrees_with_message_lemma takes = record {
+  declared = λ n. declared takes n;
+  undeclared = λ n. undeclared takes n;
+}
