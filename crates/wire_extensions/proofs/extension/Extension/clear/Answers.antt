@@ -1,0 +1,16 @@
+use Rattle.std.proofs.Common.{rules, ◌≡◌, ap, sym, ◌∙◌}
+use Rattle.std.proofs.lemmas.Fn.{filter_same}
+use Rattle.wire_codec.specs.UnknownField.{UnknownField}
+use Rattle.std.specs.Prelude.{◌==◌, not}
+use Rattle.wire_codec.specs.UnknownFields.{fields_of}
+use Rattle.wire_extensions.proofs.Records.{filtered_are_others}
+use Rattle.wire_extensions.specs.Extension.{others}
+use Rattle.wire_extensions.proofs.extension.Extension.clear.Goals as goal
+
+pub returns : goal.returns
+returns g c =
+    let n = c.args.self.now.number in
+    let (all, kept, was, is, filtered) = c.retain.ensures.kept in
+    sym is ∙ ap fields_of (filter_same _ (λ (f : UnknownField). not (f.number == n)) _
+    (λ x b f k. search rules) all kept filtered)
+    ∙ filtered_are_others n all ∙ ap (others n) was
