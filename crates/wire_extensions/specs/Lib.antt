@@ -1,2 +1,0 @@
-pub mod Extension
-pub mod Laws
