@@ -94,9 +94,11 @@ fn print_log(rt: &HostRuntime, options: &Options<'_>, bytes: Vec<u8>) -> Result<
         let payload = match decoder.next_at_end() {
             Ok(Some(frame)) => frame.payload,
             Ok(None) => break,
+            Err(FrameError::OutOfMemory) => return Err(RunError::OutOfMemory),
             Err(error) => {
                 send(rt, &out)?;
-                return Err(unframed(rt, index, start, &error));
+                let _ = eprintln!(rt; "wire_dump: frame {index} at {start}: {error}");
+                return Err(RunError::Refused);
             }
         };
         let end = total.saturating_sub(decoder.unread_len());
@@ -104,21 +106,16 @@ fn print_log(rt: &HostRuntime, options: &Options<'_>, bytes: Vec<u8>) -> Result<
         let layout = Layout::new(options.has_offsets, 1);
         let mut reader = Reader::within(&options.context);
         let bytes = payload.as_slice();
-        if let Err(stop) = put_frame(&mut out, layout, index, start, place, &mut reader, bytes) {
-            send(rt, &out)?;
-            return Err(refused(rt, place, &stop, &reader));
+        match put_frame(&mut out, layout, index, start, place, &mut reader, bytes) {
+            Ok(()) => {}
+            Err(Stop::OutOfMemory) => return Err(RunError::OutOfMemory),
+            Err(stop) => {
+                send(rt, &out)?;
+                return Err(refused(rt, place, &stop, &reader));
+            }
         }
     }
     send(rt, &out)
-}
-
-// The error of a log that goes on with no frame; one line on standard error.
-fn unframed(rt: &impl Eprint, index: u64, place: usize, error: &FrameError) -> RunError {
-    if let FrameError::OutOfMemory = error {
-        return RunError::OutOfMemory;
-    }
-    let _ = eprintln!(rt; "wire_dump: frame {index} at {place}: {error}");
-    RunError::Refused
 }
 
 fn send(rt: &HostRuntime, text: &[u8]) -> Result<(), RunError> {
