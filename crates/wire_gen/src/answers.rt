@@ -2,9 +2,9 @@
 use crate::error::GenerateError;
 use crate::field::Field;
 use crate::schema::MessageType;
+use crate::text::{made, put};
 use crate::tree::Tree;
 use std::alloc::Global;
-use std::fmt::Write;
 
 /// The answers of `merge_field`.
 pub(crate) fn answers_of(
@@ -18,28 +18,45 @@ pub(crate) fn answers_of(
     let mut text = String::new(alloc);
     let has_lists = fields.iter().any(is_unpacked);
     let refl = if has_lists { "refl, " } else { "" };
-    writeln!(
-        text,
-        "use Rattle.std.proofs.Common.{{rules, {refl}sym, ◌∙◌}}"
+    put(
+        &mut text,
+        "use Rattle.std.proofs.Common.{rules, $sym, ◌∙◌}\n",
+        &[refl],
     )?;
-    writeln!(text, "use Rattle.wire_codec.specs.TagView.{{tag_number}}")?;
+    put(
+        &mut text,
+        "use Rattle.wire_codec.specs.TagView.{tag_number}\n",
+        &[],
+    )?;
     let arm_ok = if has_lists { "arm_ok, " } else { "" };
-    write!(text, "use Rattle.wire_fields.specs.Arms.{{{arm_ok}")?;
-    writeln!(text, "arm_err, rest_err, neither, unlike}}")?;
-    writeln!(text, "use Rattle.wire_fields.specs.Shape.{{keeps}}")?;
-    let mut line = format!(in alloc; "use Rattle.{crate_name}.specs.{name}.{{")?;
+    put(&mut text, "use Rattle.wire_fields.specs.Arms.{$", &[arm_ok])?;
+    put(&mut text, "arm_err, rest_err, neither, unlike}\n", &[])?;
+    put(
+        &mut text,
+        "use Rattle.wire_fields.specs.Shape.{keeps}\n",
+        &[],
+    )?;
+    let mut line = made(alloc, "use Rattle.$.specs.$.{", &[crate_name, name])?;
     for field in fields {
         match &field.oneof {
             Some(oneof) => {
                 let (of, shape) = (oneof.names.name.as_str(), field.definition.as_str());
-                writeln!(text, "use Rattle.{crate_name}.specs.{of}.{{{shape}}}")?;
+                put(
+                    &mut text,
+                    "use Rattle.$.specs.$.{$}\n",
+                    &[crate_name, of, shape],
+                )?;
             }
-            None => write!(line, "{module}-{}-kind, ", field.name)?,
+            None => put(&mut line, "$-$-kind, ", &[module, &field.name])?,
         }
     }
-    writeln!(text, "{line}{module}-known, {module}-shape}}")?;
-    let goals = format!(in alloc; "{module}.{name}Message.merge_field.Goals")?;
-    writeln!(text, "use Rattle.{crate_name}.proofs.{goals} as goal\n")?;
+    put(&mut text, "$$-known, $-shape}\n", &[&line, module, module])?;
+    let goals = made(alloc, "$.$Message.merge_field.Goals", &[module, name])?;
+    put(
+        &mut text,
+        "use Rattle.$.proofs.$ as goal\n\n",
+        &[crate_name, &goals],
+    )?;
     let mut is_first = true;
     for (field, path) in fields.iter().zip(tree.paths.iter()) {
         for number in &field.numbers {
@@ -47,20 +64,27 @@ pub(crate) fn answers_of(
             is_first = false;
         }
     }
-    writeln!(
-        text,
-        "pub returns-in_default-clause-err : goal.returns-in_default-clause-err"
+    put(
+        &mut text,
+        "pub returns-in_default-clause-err : goal.returns-in_default-clause-err\n",
+        &[],
     )?;
-    writeln!(
-        text,
-        "returns-in_default-clause-err g c =\n    let n = tag_number c.args.tag in"
+    put(
+        &mut text,
+        "returns-in_default-clause-err g c =\n    let n = tag_number c.args.tag in\n",
+        &[],
     )?;
-    writeln!(
-        text,
-        "    rest_err {module}-known.owns {module}-known.takes keeps _"
+    put(
+        &mut text,
+        "    rest_err $-known.owns $-known.takes keeps _\n",
+        &[module, module],
     )?;
-    writeln!(text, "    (λ p. {})", tree.unlike)?;
-    writeln!(text, "    _ _ _ _ c.keep.result c.keep.ensures.err")?;
+    put(&mut text, "    (λ p. $)\n", &[&tree.unlike])?;
+    put(
+        &mut text,
+        "    _ _ _ _ c.keep.result c.keep.ensures.err\n",
+        &[],
+    )?;
     Ok(text)
 }
 
@@ -73,23 +97,32 @@ fn put_arm(
     is_first: bool,
     text: &mut String,
 ) -> Result<(), GenerateError> {
-    let goal = format!(in alloc; "returns-in-{digits}-clause-err")?;
-    writeln!(text, "pub {goal} : goal.{goal}")?;
-    writeln!(text, "{goal} g c =")?;
+    let goal = made(alloc, "returns-in-$-clause-err", &[digits])?;
+    put(text, "pub $ : goal.$\n", &[&goal, &goal])?;
+    put(text, "$ g c =\n", &[&goal])?;
     let step = field.step(alloc, module)?;
-    writeln!(text, "    arm_err {module}-shape.takes {step} {digits} _")?;
-    writeln!(
+    put(
         text,
-        "    (sym c.field_number.ensures.number ∙ c.in-{digits}.is) _ _"
+        "    arm_err $-shape.takes $ $ _\n",
+        &[module, &step, digits],
+    )?;
+    put(
+        text,
+        "    (sym c.field_number.ensures.number ∙ c.in-$.is) _ _\n",
+        &[digits],
     )?;
     let own = path.replace(alloc, '1', "0")?;
-    writeln!(text, "    (λ charge z p h. (z.0{path}, h.0{own})) _ _ _")?;
+    put(
+        text,
+        "    (λ charge z p h. (z.0$, h.0$)) _ _ _\n",
+        &[path, &own],
+    )?;
     let call = if is_first {
         String::from_str(alloc, "c.merge")?
     } else {
-        format!(in alloc; "(c.merge-in-{digits})")?
+        made(alloc, "(c.merge-in-$)", &[digits])?
     };
-    writeln!(text, "    {call}.result {call}.ensures.err\n")?;
+    put(text, "    $.result $.ensures.err\n\n", &[&call, &call])?;
     if is_unpacked(field) {
         put_taken(alloc, module, &step, digits, path, &call, text)?;
     }
@@ -110,18 +143,23 @@ fn put_taken(
     call: &str,
     text: &mut String,
 ) -> Result<(), GenerateError> {
-    let goal = format!(in alloc; "returns-in-{digits}-clause-ok")?;
+    let goal = made(alloc, "returns-in-$-clause-ok", &[digits])?;
     let mut taken = String::from_str(alloc, "(h, refl)")?;
     for _ in 0..path.len() / 2 {
-        taken = format!(in alloc; "({taken}, refl)")?;
+        taken = made(alloc, "($, refl)", &[&taken])?;
     }
-    writeln!(text, "pub {goal} : goal.{goal}\n{goal} g c =")?;
-    writeln!(text, "    arm_ok {module}-shape.takes {step} {digits} _")?;
-    writeln!(
+    put(text, "pub $ : goal.$\n$ g c =\n", &[&goal, &goal, &goal])?;
+    put(
         text,
-        "    (sym c.field_number.ensures.number ∙ c.in-{digits}.is) _ _ _ _"
+        "    arm_ok $-shape.takes $ $ _\n",
+        &[module, &step, digits],
     )?;
-    writeln!(text, "    (λ charge p h. {taken}) _ _ _ _ _")?;
-    writeln!(text, "    {call}.result {call}.ensures.ok\n")?;
+    put(
+        text,
+        "    (sym c.field_number.ensures.number ∙ c.in-$.is) _ _ _ _\n",
+        &[digits],
+    )?;
+    put(text, "    (λ charge p h. $) _ _ _ _ _\n", &[&taken])?;
+    put(text, "    $.result $.ensures.ok\n\n", &[call, call])?;
     Ok(())
 }

@@ -3,9 +3,9 @@ use crate::error::GenerateError;
 use crate::field::Field;
 use crate::imports::Imports;
 use crate::schema::{MessageType, Names, Schema};
+use crate::text::{made, put};
 use crate::tree::Tree;
 use std::alloc::Global;
-use std::fmt::Write;
 
 // The widest line of code.
 const WIDTH: usize = 100;
@@ -21,31 +21,41 @@ pub(crate) fn code_of(
 ) -> Result<String, GenerateError> {
     let name = message.names.name.as_str();
     let mut text = String::new(alloc);
-    writeln!(
-        text,
-        "//! The message `{}`. Generated.",
-        message.names.full.trim_start_matches('.')
+    put(
+        &mut text,
+        "//! The message `$`. Generated.\n",
+        &[message.names.full.trim_start_matches('.')],
     )?;
     put_imports(alloc, fields, &mut text)?;
     put_struct(alloc, schema, &message.names, fields, &mut text)?;
     put_ghosts(crate_name, name, &message.names.module, &mut text)?;
     put_default(alloc, name, fields, &mut text)?;
-    writeln!(
-        text,
-        "    fn compute_size(&self, cache: &mut SizeCache) -> Result<u32, EncodeError> {{"
+    put(
+        &mut text,
+        "    fn compute_size(&self, cache: &mut SizeCache) -> Result<u32, EncodeError> {\n",
+        &[],
     )?;
     put_parts(fields, tree, &mut text)?;
-    writeln!(text, "        measure(({}, rest), cache)", tree.local)?;
-    writeln!(text, "    }}\n")?;
-    writeln!(text, "    fn write_to<S: EncodeSink>(")?;
-    writeln!(
-        text,
-        "        &self,\n        cache: &mut SizeCache,\n        sink: &mut S,"
+    put(
+        &mut text,
+        "        measure(($, rest), cache)\n",
+        &[&tree.local],
     )?;
-    writeln!(text, "    ) -> Result<(), EncodeError> {{")?;
+    put(&mut text, "    }\n\n", &[])?;
+    put(&mut text, "    fn write_to<S: EncodeSink>(\n", &[])?;
+    put(
+        &mut text,
+        "        &self,\n        cache: &mut SizeCache,\n        sink: &mut S,\n",
+        &[],
+    )?;
+    put(&mut text, "    ) -> Result<(), EncodeError> {\n", &[])?;
     put_parts(fields, tree, &mut text)?;
-    writeln!(text, "        write(({}, rest), cache, sink)", tree.local)?;
-    writeln!(text, "    }}\n")?;
+    put(
+        &mut text,
+        "        write(($, rest), cache, sink)\n",
+        &[&tree.local],
+    )?;
+    put(&mut text, "    }\n\n", &[])?;
     put_merge(alloc, fields, &mut text)?;
     put_clear(fields, &mut text)?;
     Ok(text)
@@ -74,7 +84,7 @@ fn put_imports(alloc: Global, fields: &[Field], text: &mut String) -> Result<(),
     imports.add("bytes", "Buf")?;
     imports.add("std::alloc", "Global")?;
     imports.put_code(text)?;
-    Ok(writeln!(text, "")?)
+    put(text, "\n", &[])
 }
 
 fn put_struct(
@@ -84,20 +94,25 @@ fn put_struct(
     fields: &[Field],
     text: &mut String,
 ) -> Result<(), GenerateError> {
-    let otherwise = format!(in alloc; "The message `{}`.", names.name)?;
+    let otherwise = made(alloc, "The message `$`.", &[&names.name])?;
     schema.put_comment(&names.place, "", &otherwise, text)?;
-    writeln!(text, "#[derive(Clone, Debug, Drop, PartialEq)]")?;
-    writeln!(text, "pub struct {} {{", names.name)?;
+    put(text, "#[derive(Clone, Debug, Drop, PartialEq)]\n", &[])?;
+    put(text, "pub struct $ {\n", &[&names.name])?;
     for field in fields {
-        let place = format!(in alloc; "{}.2.{}", names.place, field.place)?;
+        let place = made(
+            alloc,
+            "$.2.$",
+            &[&names.place, &field.place.to_string(alloc)?],
+        )?;
         schema.put_comment(&place, "    ", "", text)?;
-        writeln!(text, "    pub {}: {},", field.name, field.held)?;
+        put(text, "    pub $: $,\n", &[&field.name, &field.held])?;
     }
-    writeln!(
+    put(
         text,
-        "    /// The fields that the schema lacks, as they came."
+        "    /// The fields that the schema lacks, as they came.\n",
+        &[],
     )?;
-    Ok(writeln!(text, "    pub unknown: UnknownFields,\n}}\n")?)
+    put(text, "    pub unknown: UnknownFields,\n}\n\n", &[])
 }
 
 fn put_ghosts(
@@ -106,19 +121,21 @@ fn put_ghosts(
     module: &str,
     text: &mut String,
 ) -> Result<(), GenerateError> {
-    writeln!(text, "impl Message for {name} {{")?;
+    put(text, "impl Message for $ {\n", &[name])?;
     for [of, word] in [[name, "Value"], [module, "value"], [module, "shape"]] {
-        writeln!(
+        put(
             text,
-            "    ghost use Rattle.{crate_name}.specs.{name}.{{{of}-{word}}};"
+            "    ghost use Rattle.$.specs.$.{$-$};\n",
+            &[crate_name, name, of, word],
         )?;
     }
-    writeln!(text, "\n    ghost Value = {{ {name}-Value }};\n")?;
-    writeln!(text, "    ghost view = {{ {module}-value }};\n")?;
+    put(text, "\n    ghost Value = { $-Value };\n\n", &[name])?;
+    put(text, "    ghost view = { $-value };\n\n", &[module])?;
     for member in ["records", "default", "takes", "single"] {
-        writeln!(
+        put(
             text,
-            "    ghost {member} = {{ {module}-shape.{member} }};\n"
+            "    ghost $ = { $-shape.$ };\n\n",
+            &[member, module, member],
         )?;
     }
     Ok(())
@@ -130,60 +147,74 @@ fn put_default(
     fields: &[Field],
     text: &mut String,
 ) -> Result<(), GenerateError> {
-    writeln!(text, "    fn default_value(alloc: Global) -> {name} {{")?;
-    writeln!(text, "        {name} {{")?;
-    for field in fields {
-        let call = format!(in alloc; "<{} as Kind>::empty(alloc)", field.kind)?;
-        writeln!(text, "            {}: {call},", field.name)?;
-    }
-    Ok(writeln!(
+    put(
         text,
-        "            unknown: UnknownFields::new(alloc),\n        }}\n    }}\n"
-    )?)
+        "    fn default_value(alloc: Global) -> $ {\n",
+        &[name],
+    )?;
+    put(text, "        $ {\n", &[name])?;
+    for field in fields {
+        let call = made(alloc, "<$ as Kind>::empty(alloc)", &[&field.kind])?;
+        put(text, "            $: $,\n", &[&field.name, &call])?;
+    }
+    put(
+        text,
+        "            unknown: UnknownFields::new(alloc),\n        }\n    }\n\n",
+        &[],
+    )
 }
 
 fn put_parts(fields: &[Field], tree: &Tree, text: &mut String) -> Result<(), GenerateError> {
     for field in fields {
         let digits = field.digits.as_str();
-        writeln!(
+        put(
             text,
-            "        let field_{digits}: Known<{}> = Known {{",
-            field.kind
+            "        let field_$: Known<$> = Known {\n",
+            &[digits, &field.kind],
         )?;
-        writeln!(text, "            number: {digits},")?;
-        writeln!(text, "            held: &self.{},\n        }};", field.name)?;
+        put(text, "            number: $,\n", &[digits])?;
+        put(
+            text,
+            "            held: &self.$,\n        };\n",
+            &[&field.name],
+        )?;
     }
     text.push_str(&tree.pairs)?;
-    Ok(writeln!(
+    put(
         text,
-        "        let rest = Rest {{\n            fields: &self.unknown,\n        }};"
-    )?)
+        "        let rest = Rest {\n            fields: &self.unknown,\n        };\n",
+        &[],
+    )
 }
 
 fn put_merge(alloc: Global, fields: &[Field], text: &mut String) -> Result<(), GenerateError> {
-    writeln!(text, "    fn merge_field<B: Buf>(")?;
-    writeln!(
+    put(text, "    fn merge_field<B: Buf>(\n", &[])?;
+    put(
         text,
-        "        &mut self,\n        alloc: Global,\n        tag: Tag,"
+        "        &mut self,\n        alloc: Global,\n        tag: Tag,\n",
+        &[],
     )?;
-    writeln!(
+    put(
         text,
-        "        buf: &mut B,\n        context: &mut DecodeContext,"
+        "        buf: &mut B,\n        context: &mut DecodeContext,\n",
+        &[],
     )?;
-    writeln!(
+    put(
         text,
-        "    ) -> Result<(), DecodeError> {{\n        match tag.field_number() {{"
+        "    ) -> Result<(), DecodeError> {\n        match tag.field_number() {\n",
+        &[],
     )?;
     for field in fields {
         for number in &field.numbers {
             put_arm(alloc, field, number, text)?;
         }
     }
-    writeln!(
+    put(
         text,
-        "            _ => keep(alloc, tag, &mut self.unknown, buf, context),"
+        "            _ => keep(alloc, tag, &mut self.unknown, buf, context),\n",
+        &[],
     )?;
-    writeln!(text, "        }}\n    }}\n")?;
+    put(text, "        }\n    }\n\n", &[])?;
     Ok(())
 }
 
@@ -193,30 +224,34 @@ fn put_arm(
     number: &str,
     text: &mut String,
 ) -> Result<(), GenerateError> {
-    let call = format!(in alloc; "{number} => <{} as Kind>::merge(", field.kind)?;
-    let held = format!(in alloc; "&mut self.{}", field.name)?;
-    let arm = format!(in alloc; "            {call}alloc, tag, {held}, buf, context),")?;
+    let call = made(alloc, "$ => <$ as Kind>::merge(", &[number, &field.kind])?;
+    let held = made(alloc, "&mut self.$", &[&field.name])?;
+    let arm = made(
+        alloc,
+        "            $alloc, tag, $, buf, context),",
+        &[&call, &held],
+    )?;
     if arm.len() <= WIDTH {
-        writeln!(text, "{arm}")?;
+        put(text, "$\n", &[&arm])?;
         return Ok(());
     }
-    writeln!(text, "            {call}")?;
+    put(text, "            $\n", &[&call])?;
     for given in ["alloc", "tag", held.as_str(), "buf", "context"] {
-        writeln!(text, "                {given},")?;
+        put(text, "                $,\n", &[given])?;
     }
-    writeln!(text, "            ),")?;
+    put(text, "            ),\n", &[])?;
     Ok(())
 }
 
 fn put_clear(fields: &[Field], text: &mut String) -> Result<(), GenerateError> {
-    writeln!(text, "    fn clear(&mut self) {{")?;
+    put(text, "    fn clear(&mut self) {\n", &[])?;
     for field in fields {
         let held = field.name.as_str();
-        writeln!(
+        put(
             text,
-            "        <{} as Kind>::clear(&mut self.{held});",
-            field.kind
+            "        <$ as Kind>::clear(&mut self.$);\n",
+            &[&field.kind, &held],
         )?;
     }
-    Ok(writeln!(text, "        self.unknown.clear();\n    }}\n}}")?)
+    put(text, "        self.unknown.clear();\n    }\n}\n", &[])
 }

@@ -4,10 +4,9 @@ use crate::field::Field;
 use crate::imports::Imports;
 use crate::kind::in_brackets;
 use crate::schema::MessageType;
-use crate::text::joined;
+use crate::text::{made, put};
 use crate::tree::{Tree, indented};
 use std::alloc::Global;
-use std::fmt::Write;
 
 /// The value of a message type, its table, and a word for each field.
 pub(crate) fn definitions_of(
@@ -19,25 +18,42 @@ pub(crate) fn definitions_of(
 ) -> Result<String, GenerateError> {
     let (name, module) = (message.names.name.as_str(), message.names.module.as_str());
     let mut text = String::new(alloc);
-    writeln!(
-        text,
-        "-- A `{name}` as contracts see it, and the table of its fields. Generated."
+    put(
+        &mut text,
+        "-- A `$` as contracts see it, and the table of its fields. Generated.\n",
+        &[name],
     )?;
     put_imports(alloc, crate_name, name, module, fields, &mut text)?;
     put_kinds(alloc, module, fields, &mut text)?;
-    writeln!(text, "abbrev pub {name}-Known : Type 0")?;
-    writeln!(text, "{name}-Known =\n    {}\n", tree.value)?;
-    writeln!(text, "abbrev pub {name}-Value : Type 0")?;
-    writeln!(text, "{name}-Value = {name}-Known × Fields\n")?;
-    writeln!(text, "abbrev pub {module}-value : {name} → {name}-Value")?;
-    writeln!(text, "{module}-value m = (")?;
-    writeln!(text, "{},", indented(alloc, &tree.view)?)?;
-    writeln!(text, "  m.unknown,\n)\n")?;
+    put(&mut text, "abbrev pub $-Known : Type 0\n", &[name])?;
+    put(&mut text, "$-Known =\n    $\n\n", &[name, &tree.value])?;
+    put(&mut text, "abbrev pub $-Value : Type 0\n", &[name])?;
+    put(&mut text, "$-Value = $-Known × Fields\n\n", &[name, name])?;
+    put(
+        &mut text,
+        "abbrev pub $-value : $ → $-Value\n",
+        &[module, name, name],
+    )?;
+    put(&mut text, "$-value m = (\n", &[module])?;
+    put(&mut text, "$,\n", &[&indented(alloc, &tree.view)?])?;
+    put(&mut text, "  m.unknown,\n)\n\n", &[])?;
     put_words(name, module, fields, tree, &mut text)?;
-    writeln!(text, "abbrev pub {module}-known : Shape {name}-Known")?;
-    writeln!(text, "{module}-known =\n    {}\n", tree.table)?;
-    writeln!(text, "abbrev pub {module}-shape : Shape {name}-Value")?;
-    writeln!(text, "{module}-shape = two {module}-known unknown")?;
+    put(
+        &mut text,
+        "abbrev pub $-known : Shape $-Known\n",
+        &[module, name],
+    )?;
+    put(&mut text, "$-known =\n    $\n\n", &[module, &tree.table])?;
+    put(
+        &mut text,
+        "abbrev pub $-shape : Shape $-Value\n",
+        &[module, name],
+    )?;
+    put(
+        &mut text,
+        "$-shape = two $-known unknown\n",
+        &[module, module],
+    )?;
     Ok(text)
 }
 
@@ -57,10 +73,14 @@ fn put_imports(
         imports.add("Rattle.wire_fields.specs.Shape", word)?;
     }
     imports.add("Rattle.wire_codec.specs.Field", "Fields")?;
-    let declared = ["Rattle.", crate_name, ".specs.declared.", module, ".", name];
-    imports.add(&joined(alloc, &declared)?, name)?;
+    let declared = made(
+        alloc,
+        "Rattle.$.specs.declared.$.$",
+        &[crate_name, module, name],
+    )?;
+    imports.add(&declared, name)?;
     imports.put_definitions(text)?;
-    Ok(writeln!(text, "")?)
+    put(text, "\n", &[])
 }
 
 // The kind of each field.
@@ -72,15 +92,15 @@ fn put_kinds(
 ) -> Result<(), GenerateError> {
     for field in fields.iter().filter(|it| it.oneof.is_none()) {
         let value = in_brackets(alloc, &field.value)?;
-        writeln!(
+        put(
             text,
-            "abbrev pub {module}-{}-kind : Lawful {value}",
-            field.name
+            "abbrev pub $-$-kind : Lawful $\n",
+            &[module, &field.name, &value],
         )?;
-        writeln!(
+        put(
             text,
-            "{module}-{}-kind = {}\n",
-            field.name, field.definition
+            "$-$-kind = $\n\n",
+            &[module, &field.name, &field.definition],
         )?;
     }
     Ok(())
@@ -96,12 +116,12 @@ fn put_words(
 ) -> Result<(), GenerateError> {
     for (field, path) in fields.iter().zip(tree.paths.iter()) {
         let word = field.name.as_str();
-        writeln!(
+        put(
             text,
-            "abbrev pub {word}-of-{module} : {name}-Value → {}",
-            field.value
+            "abbrev pub $-of-$ : $-Value → $\n",
+            &[word, module, name, &field.value],
         )?;
-        writeln!(text, "{word}-of-{module} m = m.0{path}\n")?;
+        put(text, "$-of-$ m = m.0$\n\n", &[word, module, path])?;
     }
     Ok(())
 }

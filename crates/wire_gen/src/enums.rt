@@ -2,9 +2,8 @@
 use crate::error::GenerateError;
 use crate::names::value_name;
 use crate::schema::{EnumType, Schema};
-use crate::text::{joined, refused};
+use crate::text::{made, put, refused};
 use std::alloc::Global;
-use std::fmt::Write;
 
 // A value of an enum: its name in code and in the schema, and its number.
 #[derive(Drop)]
@@ -35,7 +34,7 @@ fn values_of(alloc: Global, of_enum: &EnumType) -> Result<Vec<Named>, GenerateEr
             name,
             proto: value.name.clone()?,
             number,
-            digits: format!(in alloc; "{number}")?,
+            digits: number.to_string(alloc)?,
         })?;
     }
     Ok(values)
@@ -62,50 +61,65 @@ pub(crate) fn enum_code(
     let (name, module) = (of_enum.names.name.as_str(), of_enum.names.module.as_str());
     let values = values_of(alloc, of_enum)?;
     let mut text = String::new(alloc);
-    writeln!(
-        text,
-        "//! The enum `{}`. Generated.",
-        of_enum.names.full.trim_start_matches('.')
+    put(
+        &mut text,
+        "//! The enum `$`. Generated.\n",
+        &[of_enum.names.full.trim_start_matches('.')],
     )?;
-    writeln!(text, "use wire_codec::Enumeration;\n")?;
+    put(&mut text, "use wire_codec::Enumeration;\n\n", &[])?;
     let names = &of_enum.names;
-    let otherwise = format!(in alloc; "The enum `{name}`.")?;
+    let otherwise = made(alloc, "The enum `$`.", &[name])?;
     schema.put_comment(&names.place, "", &otherwise, &mut text)?;
-    writeln!(text, "#[derive(Clone, Copy, Debug, PartialEq, Eq, Hash)]")?;
-    writeln!(text, "pub enum {name} {{")?;
+    put(
+        &mut text,
+        "#[derive(Clone, Copy, Debug, PartialEq, Eq, Hash)]\n",
+        &[],
+    )?;
+    put(&mut text, "pub enum $ {\n", &[name])?;
     for (index, value) in values.iter().enumerate() {
-        let place = format!(in alloc; "{}.2.{index}", names.place)?;
+        let place = made(alloc, "$.2.$", &[&names.place, &index.to_string(alloc)?])?;
         schema.put_comment(&place, "    ", "", &mut text)?;
-        writeln!(text, "    {} = {},", value.name, value.digits)?;
+        put(&mut text, "    $ = $,\n", &[&value.name, &value.digits])?;
     }
-    writeln!(text, "}}\n\nimpl Enumeration for {name} {{")?;
+    put(&mut text, "}\n\nimpl Enumeration for $ {\n", &[name])?;
     put_ghosts(alloc, crate_name, name, module, &values, &mut text)?;
-    writeln!(
-        text,
-        "    fn from_i32(value: i32) -> Option<{name}> {{\n        match value {{"
+    put(
+        &mut text,
+        "    fn from_i32(value: i32) -> Option<$> {\n        match value {\n",
+        &[name],
     )?;
     for value in &values {
         let digits = value.digits.as_str();
-        writeln!(
-            text,
-            "            {digits} => Some({name}::{}),",
-            value.name
+        put(
+            &mut text,
+            "            $ => Some($::$),\n",
+            &[digits, name, &value.name],
         )?;
     }
-    writeln!(text, "            _ => None,\n        }}\n    }}\n")?;
-    writeln!(
-        text,
-        "    fn to_i32(&self) -> i32 {{\n        *self as i32\n    }}\n"
+    put(
+        &mut text,
+        "            _ => None,\n        }\n    }\n\n",
+        &[],
     )?;
-    writeln!(
-        text,
-        "    fn proto_name(&self) -> &'static str {{\n        match self {{"
+    put(
+        &mut text,
+        "    fn to_i32(&self) -> i32 {\n        *self as i32\n    }\n\n",
+        &[],
+    )?;
+    put(
+        &mut text,
+        "    fn proto_name(&self) -> &'static str {\n        match self {\n",
+        &[],
     )?;
     for value in &values {
         let proto = value.proto.as_str();
-        writeln!(text, "            {name}::{} => \"{proto}\",", value.name)?;
+        put(
+            &mut text,
+            "            $::$ => \"$\",\n",
+            &[name, &value.name, proto],
+        )?;
     }
-    writeln!(text, "        }}\n    }}\n}}")?;
+    put(&mut text, "        }\n    }\n}\n", &[])?;
     Ok(text)
 }
 
@@ -117,41 +131,41 @@ fn put_ghosts(
     values: &[Named],
     text: &mut String,
 ) -> Result<(), GenerateError> {
-    let specs = format!(in alloc; "    ghost use Rattle.{crate_name}.specs.")?;
-    writeln!(text, "    ghost use Rattle.std.specs.Prelude.{{codes}};")?;
-    writeln!(
+    let specs = made(alloc, "    ghost use Rattle.$.specs.", &[crate_name])?;
+    put(
         text,
-        "    ghost use Rattle.wire_codec.specs.EnumNumbers.{{first_numbered_keeps}};"
+        "    ghost use Rattle.std.specs.Prelude.{codes};\n",
+        &[],
+    )?;
+    put(
+        text,
+        "    ghost use Rattle.wire_codec.specs.EnumNumbers.{first_numbered_keeps};\n",
+        &[],
     )?;
     for value in values {
-        let variants = format!(in alloc; "declared.{module}.{name}.TheVariants.{{")?;
-        writeln!(text, "{specs}{variants}{}}};", value.name)?;
+        let variants = made(alloc, "declared.$.$.TheVariants.{", &[module, name])?;
+        put(text, "$$$};\n", &[&specs, &variants, &value.name])?;
     }
     for word in ["number", "of", "values"] {
-        writeln!(text, "{specs}{name}.{{{module}-{word}}};")?;
+        put(text, "$$.{$-$};\n", &[&specs, name, module, word])?;
     }
-    writeln!(text, "\n    ghost number = {{ {module}-number }};\n")?;
-    writeln!(text, "    ghost of_number = {{ {module}-of }};\n")?;
+    put(text, "\n    ghost number = { $-number };\n\n", &[module])?;
+    put(text, "    ghost of_number = { $-of };\n\n", &[module])?;
     let mut line = String::from_str(alloc, "    ghost name = { elim [ ")?;
     let mut between = "";
     for value in values {
-        let one = [between, &value.name, " ↦ codes \"", &value.proto, "\""];
-        line.push_str(&joined(alloc, &one)?)?;
+        put(
+            &mut line,
+            "$$ ↦ codes \"$\"",
+            &[between, &value.name, &value.proto],
+        )?;
         between = " | ";
     }
-    writeln!(text, "{line} ] }};\n")?;
-    let keeps = [
-        "first_numbered_keeps ",
-        module,
-        "-number ",
-        module,
-        "-values",
-    ];
-    Ok(writeln!(
-        text,
-        "    ghost keeps_number = {{ {} }};\n",
-        joined(alloc, &keeps)?
-    )?)
+    put(text, "$ ] };\n\n", &[&line])?;
+    let line = "    ghost keeps_number = { first_numbered_keeps $-number $-values };
+
+";
+    put(text, line, &[module, module])
 }
 
 /// The numbers of an enum.
@@ -163,38 +177,57 @@ pub(crate) fn enum_definitions(
     let (name, module) = (of_enum.names.name.as_str(), of_enum.names.module.as_str());
     let values = values_of(alloc, of_enum)?;
     let mut text = String::new(alloc);
-    writeln!(text, "-- The numbers of a `{name}`. Generated.")?;
-    writeln!(
-        text,
-        "use Rattle.std.specs.Prelude.{{ℤ, pos, neg, List, [], ◌∷◌, Option}}"
+    put(&mut text, "-- The numbers of a `$`. Generated.\n", &[name])?;
+    put(
+        &mut text,
+        "use Rattle.std.specs.Prelude.{ℤ, pos, neg, List, [], ◌∷◌, Option}\n",
+        &[],
     )?;
-    writeln!(
-        text,
-        "use Rattle.wire_codec.specs.EnumNumbers.{{first_numbered}}"
+    put(
+        &mut text,
+        "use Rattle.wire_codec.specs.EnumNumbers.{first_numbered}\n",
+        &[],
     )?;
-    let declared = format!(in alloc; "{crate_name}.specs.declared.{module}.{name}")?;
-    writeln!(text, "use Rattle.{declared}.{{{name}}}")?;
+    let declared = made(alloc, "$.specs.declared.$.$", &[crate_name, module, name])?;
+    put(&mut text, "use Rattle.$.{$}\n", &[&declared, name])?;
     let all = listed(alloc, &values, ", ")?;
-    writeln!(text, "use Rattle.{declared}.TheVariants.{{{all}}}\n")?;
-    writeln!(text, "abbrev pub {module}-number : {name} → ℤ")?;
+    put(
+        &mut text,
+        "use Rattle.$.TheVariants.{$}\n\n",
+        &[&declared, &all],
+    )?;
+    put(&mut text, "abbrev pub $-number : $ → ℤ\n", &[module, name])?;
     for value in &values {
         let digits = value.digits.as_str();
         let number = match digits.strip_prefix("-") {
-            Some(size) => format!(in alloc; "neg {size}")?,
-            None => format!(in alloc; "pos {digits}")?,
+            Some(size) => made(alloc, "neg $", &[size])?,
+            None => made(alloc, "pos $", &[digits])?,
         };
-        writeln!(text, "{module}-number {} = {number}", value.name)?;
+        put(
+            &mut text,
+            "$-number $ = $\n",
+            &[module, &value.name, &number],
+        )?;
     }
-    writeln!(text, "\nabbrev pub {module}-values : List {name}")?;
-    writeln!(
-        text,
-        "{module}-values = {} ∷ []\n",
-        listed(alloc, &values, " ∷ ")?
+    put(
+        &mut text,
+        "\nabbrev pub $-values : List $\n",
+        &[module, name],
     )?;
-    writeln!(text, "abbrev pub {module}-of : ℤ → Option {name}")?;
-    writeln!(
-        text,
-        "{module}-of = first_numbered {module}-number {module}-values"
+    put(
+        &mut text,
+        "$-values = $ ∷ []\n\n",
+        &[module, &listed(alloc, &values, " ∷ ")?],
+    )?;
+    put(
+        &mut text,
+        "abbrev pub $-of : ℤ → Option $\n",
+        &[module, name],
+    )?;
+    put(
+        &mut text,
+        "$-of = first_numbered $-number $-values\n",
+        &[module, module, module],
     )?;
     Ok(text)
 }

@@ -6,7 +6,7 @@ use crate::kind::{kind_of, map_kind, presence_of};
 use crate::names::{type_name, word_name};
 use crate::oneof::{Oneof, Variant};
 use crate::schema::{MessageType, Names, Schema};
-use crate::text::{joined, refused};
+use crate::text::{made, refused};
 use std::alloc::{AllocError, Global};
 use std::fmt;
 use wire_descriptor::{DescriptorProto, FieldDescriptorProto};
@@ -62,15 +62,15 @@ pub(crate) fn fields_of(
                 let variant = Variant {
                     name: type_name(alloc, &field.name)?,
                     word: word_name(alloc, &field.name)?,
-                    digits: digits(alloc, field.number)?,
+                    digits: field.number.to_string(alloc)?,
                     item,
                 };
                 add_variant(alloc, crate_name, message, index, variant, &mut fields)?;
             }
             _ => {
-                let mut made = field_of(alloc, crate_name, schema, message, field)?;
-                made.place = place;
-                fields.push(made)?;
+                let mut of_field = field_of(alloc, crate_name, schema, message, field)?;
+                of_field.place = place;
+                fields.push(of_field)?;
             }
         }
     }
@@ -110,7 +110,7 @@ fn field_of(
     } else {
         None
     };
-    let made = match entry {
+    let kind = match entry {
         Some(entry) => {
             let key = entry_part(alloc, crate_name, schema, full, &entry.descriptor, 1)?;
             let value = entry_part(alloc, crate_name, schema, full, &entry.descriptor, 2)?;
@@ -126,7 +126,7 @@ fn field_of(
             definitions.add_all(&item.definitions)?;
             let presence = presence_of(message.is_proto3, field, &item);
             let element = element_size(schema, field);
-            let size = digits(alloc, element)?;
+            let size = element.to_string(alloc)?;
             kind_of(
                 alloc,
                 &name,
@@ -138,7 +138,7 @@ fn field_of(
             )?
         }
     };
-    let number = digits(alloc, field.number)?;
+    let number = field.number.to_string(alloc)?;
     let mut numbers = Vec::new(alloc);
     numbers.push(number.clone()?)?;
     Ok(Field {
@@ -146,11 +146,11 @@ fn field_of(
         place: 0,
         digits: number,
         numbers,
-        held: made.held,
-        kind: made.kind,
-        value: made.value,
-        view: made.view,
-        definition: made.definition,
+        held: kind.held,
+        kind: kind.kind,
+        value: kind.value,
+        view: kind.view,
+        definition: kind.definition,
         code,
         definitions,
         oneof: None,
@@ -181,16 +181,19 @@ fn add_variant(
         return Err(refused(alloc, &[full, ": a field of no oneof that is there"]));
     };
     let part = type_name(alloc, &descriptor.name)?;
-    let name = format!(in alloc; "{}{part}", message.names.name)?;
+    let name = made(alloc, "$$", &[&message.names.name, &part])?;
     let module = word_name(alloc, &name)?;
     let names = Names {
-        full: format!(in alloc; "{}.{}", message.names.full, descriptor.name)?,
-        place: format!(in alloc; "{}.8.{index}", message.names.place)?,
+        full: made(alloc, "$.$", &[&message.names.full, &descriptor.name])?,
+        place: made(
+            alloc,
+            "$.8.$",
+            &[&message.names.place, &index.to_string(alloc)?],
+        )?,
         name,
         module,
     };
-    let made = oneof_field(alloc, crate_name, &descriptor.name, index, names, variant)?;
-    fields.push(made)?;
+    fields.push(oneof_field(alloc, crate_name, &descriptor.name, index, names, variant)?)?;
     Ok(())
 }
 
@@ -203,24 +206,24 @@ fn oneof_field(
     variant: Variant,
 ) -> Result<Field, GenerateError> {
     let (name, module) = (names.name.as_str(), names.module.as_str());
-    let kind = format!(in alloc; "{name}Kind")?;
+    let kind = made(alloc, "$Kind", &[&name])?;
     let mut code = Imports::new(alloc);
     let mut definitions = Imports::new(alloc);
-    let own = format!(in alloc; "crate::{module}")?;
+    let own = made(alloc, "crate::$", &[&module])?;
     code.add(&own, name)?;
     code.add(&own, &kind)?;
-    let specs = format!(in alloc; "Rattle.{crate_name}.specs.{name}")?;
-    let value = format!(in alloc; "{name}-Value")?;
+    let specs = made(alloc, "Rattle.$.specs.$", &[crate_name, &name])?;
+    let value = made(alloc, "$-Value", &[&name])?;
     definitions.add(&specs, &value)?;
-    definitions.add(&specs, &format!(in alloc; "{module}-of")?)?;
-    definitions.add(&specs, &format!(in alloc; "{module}-shape")?)?;
+    definitions.add(&specs, &made(alloc, "$-of", &[&module])?)?;
+    definitions.add(&specs, &made(alloc, "$-shape", &[&module])?)?;
     let name_in_code = word_name(alloc, word)?;
     let mut numbers = Vec::new(alloc);
     numbers.push(variant.digits.clone()?)?;
     let digits = variant.digits.clone()?;
-    let held = format!(in alloc; "Option<{name}>")?;
-    let view = format!(in alloc; "{module}-of m.{name_in_code}")?;
-    let definition = format!(in alloc; "{module}-shape")?;
+    let held = made(alloc, "Option<$>", &[&name])?;
+    let view = made(alloc, "$-of m.$", &[&module, &name_in_code])?;
+    let definition = made(alloc, "$-shape", &[&module])?;
     let mut variants = Vec::new(alloc);
     variants.push(variant)?;
     Ok(Field {
@@ -247,8 +250,8 @@ impl Field {
     /// The step of a record of this field, in a message of this module.
     pub(crate) fn step(&self, alloc: Global, module: &str) -> Result<String, GenerateError> {
         match self.oneof {
-            Some(_) => Ok(format!(in alloc; "{}.takes", self.definition)?),
-            None => Ok(format!(in alloc; "{module}-{}-kind.kind.takes", self.name)?),
+            Some(_) => made(alloc, "$.takes", &[&self.definition]),
+            None => made(alloc, "$-$-kind.kind.takes", &[&module, &self.name]),
         }
     }
 }
@@ -295,8 +298,4 @@ fn element_size(schema: &Schema, field: &FieldDescriptorProto) -> i32 {
         }
     }
     size
-}
-
-fn digits(alloc: Global, number: i32) -> Result<String, GenerateError> {
-    Ok(format!(in alloc; "{number}")?)
 }

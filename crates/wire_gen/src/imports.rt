@@ -1,7 +1,7 @@
 //! The names that a file brings in.
 use crate::error::GenerateError;
+use crate::text::{made, put};
 use std::alloc::Global;
-use std::fmt::Write;
 
 /// Names with the modules that they are of.
 #[derive(Drop)]
@@ -52,15 +52,15 @@ impl Imports {
                 line.push_str(", ")?;
             } else {
                 if !module.is_empty() {
-                    writeln!(text, "{line}}}")?;
+                    put(text, "$}\n", &[&line])?;
                 }
                 module = &import.module;
-                line = format!(in self.alloc; "use {module}.{{")?;
+                line = made(self.alloc, "use $.{", &[module])?;
             }
             line.push_str(&import.name)?;
         }
         if !module.is_empty() {
-            writeln!(text, "{line}}}")?;
+            put(text, "$}\n", &[&line])?;
         }
         Ok(())
     }
@@ -69,7 +69,7 @@ impl Imports {
     pub(crate) fn put_ghosts(&mut self, text: &mut String) -> Result<(), GenerateError> {
         self.names.sort()?;
         for import in &self.names {
-            writeln!(text, "ghost use {}.{{{}}};", import.module, import.name)?;
+            put(text, "ghost use $.{$};\n", &[&import.module, &import.name])?;
         }
         Ok(())
     }
@@ -103,18 +103,18 @@ impl Imports {
             }
         }
         if count == 1 {
-            return Ok(writeln!(text, "use {module}::{names};")?);
+            return put(text, "use $::$;\n", &[module, &names]);
         }
-        let line = format!(in self.alloc; "use {module}::{{{names}}};")?;
+        let line = made(self.alloc, "use $::{$};", &[module, &names])?;
         if line.len() <= 98 {
-            return Ok(writeln!(text, "{line}")?);
+            return put(text, "$\n", &[&line]);
         }
         self.put_filled(module, text)
     }
 
     // In lines of at most a hundred columns, with what the formatter leaves free behind each.
     fn put_filled(&self, module: &str, text: &mut String) -> Result<(), GenerateError> {
-        writeln!(text, "use {module}::{{")?;
+        put(text, "use $::{\n", &[module])?;
         let mut line = String::from_str(self.alloc, "   ")?;
         let mut waiting = "";
         for import in &self.names {
@@ -126,7 +126,7 @@ impl Imports {
             }
         }
         self.fill(waiting, 100, &mut line, text)?;
-        writeln!(text, "{line}\n}};")?;
+        put(text, "$\n};\n", &[&line])?;
         Ok(())
     }
 
@@ -139,10 +139,10 @@ impl Imports {
         text: &mut String,
     ) -> Result<(), GenerateError> {
         if line.len().saturating_add(name.len()).saturating_add(2) > width {
-            writeln!(text, "{line}")?;
+            put(text, "$\n", &[&line])?;
             *line = String::from_str(self.alloc, "   ")?;
         }
-        write!(line, " {name},")?;
+        put(line, " $,", &[name])?;
         Ok(())
     }
 }

@@ -3,7 +3,7 @@ use crate::error::GenerateError;
 use crate::imports::Imports;
 use crate::scalar::number_type;
 use crate::schema::{MessageType, Schema};
-use crate::text::refused;
+use crate::text::{made, refused};
 use std::alloc::Global;
 use wire_descriptor::FieldDescriptorProto;
 
@@ -112,9 +112,10 @@ fn number_item(alloc: Global, number: i32) -> Result<Item, GenerateError> {
     match scalar.name {
         "Float" | "Double" => {
             code.add("wire_fields", scalar.held)?;
-            let module = format!(in alloc;
-                "Rattle.wire_fields.specs.declared.floats.{}",
-                scalar.held
+            let module = made(
+                alloc,
+                "Rattle.wire_fields.specs.declared.floats.$",
+                &[&scalar.held],
             )?;
             definitions.add(&module, scalar.held)?;
             definitions.add("Rattle.wire_fields.specs.Floats", scalar.map)?;
@@ -132,7 +133,7 @@ fn number_item(alloc: Global, number: i32) -> Result<Item, GenerateError> {
         before: "",
         behind: "",
         view: String::from_str(alloc, "(λ v. v)")?,
-        definition: format!(in alloc; "(numeric {} {})", scalar.form, scalar.map)?,
+        definition: made(alloc, "(numeric $ $)", &[&scalar.form, &scalar.map])?,
         form: scalar.form,
         map: String::from_str(alloc, scalar.map)?,
         code,
@@ -158,29 +159,33 @@ fn enum_item(
     let mut code = Imports::new(alloc);
     code.add("wire_fields", "Enum")?;
     code.add("wire_codec", "EnumValue")?;
-    code.add(&format!(in alloc; "crate::{}", names.module)?, &names.name)?;
-    let number = format!(in alloc; "{}-number", names.module)?;
-    let of_number = format!(in alloc; "{}-of", names.module)?;
-    let specs = format!(in alloc; "Rattle.{crate_name}.specs.")?;
+    code.add(&made(alloc, "crate::$", &[&names.module])?, &names.name)?;
+    let number = made(alloc, "$-number", &[&names.module])?;
+    let of_number = made(alloc, "$-of", &[&names.module])?;
+    let specs = made(alloc, "Rattle.$.specs.", &[crate_name])?;
     let mut definitions = Imports::new(alloc);
     definitions.add(FORMS, "Varint")?;
     definitions.add("Rattle.wire_codec.specs.EnumValue", "EnumValue")?;
     definitions.add("Rattle.wire_fields.specs.Enums", "open_enum")?;
-    let module = format!(in alloc; "{specs}declared.{}.{}", names.module, names.name)?;
+    let module = made(
+        alloc,
+        "$declared.$.$",
+        &[&specs, &names.module, &names.name],
+    )?;
     definitions.add(&module, &names.name)?;
-    let module = format!(in alloc; "{specs}{}", names.name)?;
+    let module = made(alloc, "$$", &[&specs, &names.name])?;
     definitions.add(&module, &number)?;
     definitions.add(&module, &of_number)?;
-    let map = format!(in alloc; "(open_enum {number} {of_number})")?;
+    let map = made(alloc, "(open_enum $ $)", &[&number, &of_number])?;
     Ok(Item {
         sort: Sort::Number,
-        held: format!(in alloc; "EnumValue<{}>", names.name)?,
-        kind: format!(in alloc; "Enum<{}>", names.name)?,
-        value: format!(in alloc; "EnumValue {}", names.name)?,
+        held: made(alloc, "EnumValue<$>", &[&names.name])?,
+        kind: made(alloc, "Enum<$>", &[&names.name])?,
+        value: made(alloc, "EnumValue $", &[&names.name])?,
         before: "",
         behind: "",
         view: String::from_str(alloc, "(λ v. v)")?,
-        definition: format!(in alloc; "(numeric Varint {map})")?,
+        definition: made(alloc, "(numeric Varint $)", &[&map])?,
         form: "Varint",
         map,
         code,
@@ -196,11 +201,11 @@ fn message_item(
 ) -> Result<Item, GenerateError> {
     let names = &message.names;
     let mut code = Imports::new(alloc);
-    code.add(&format!(in alloc; "crate::{}", names.module)?, &names.name)?;
-    let value = format!(in alloc; "{}-Value", names.name)?;
-    let view = format!(in alloc; "{}-value", names.module)?;
-    let definition = format!(in alloc; "{}-shape", names.module)?;
-    let module = format!(in alloc; "Rattle.{crate_name}.specs.{}", names.name)?;
+    code.add(&made(alloc, "crate::$", &[&names.module])?, &names.name)?;
+    let value = made(alloc, "$-Value", &[&names.name])?;
+    let view = made(alloc, "$-value", &[&names.module])?;
+    let definition = made(alloc, "$-shape", &[&names.module])?;
+    let module = made(alloc, "Rattle.$.specs.$", &[crate_name, &names.name])?;
     let mut definitions = Imports::new(alloc);
     definitions.add(&module, &value)?;
     definitions.add(&module, &view)?;

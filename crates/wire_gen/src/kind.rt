@@ -2,7 +2,7 @@
 use crate::error::GenerateError;
 use crate::imports::Imports;
 use crate::item::{Item, Sort};
-use crate::text::joined;
+use crate::text::made;
 use std::alloc::Global;
 use wire_descriptor::FieldDescriptorProto;
 
@@ -69,10 +69,10 @@ pub(crate) fn kind_of(
             numeric(item, definitions)?;
             Ok(Kind {
                 held: item.held.clone()?,
-                kind: format!(in alloc; "Implicit<{}>", item.kind)?,
+                kind: made(alloc, "Implicit<$>", &[&item.kind])?,
                 value: item.value.clone()?,
-                view: format!(in alloc; "{}m.{name}{}", item.before, item.behind)?,
-                definition: format!(in alloc; "implicit {}", item.definition)?,
+                view: made(alloc, "$m.$$", &[&item.before, name, &item.behind])?,
+                definition: made(alloc, "implicit $", &[&item.definition])?,
             })
         }
         (_, Presence::Optional) => {
@@ -82,11 +82,11 @@ pub(crate) fn kind_of(
             definitions.add("Rattle.wire_fields.specs.Presence", "optional")?;
             numeric(item, definitions)?;
             Ok(Kind {
-                held: format!(in alloc; "Option<{}>", item.held)?,
-                kind: format!(in alloc; "Optional<{}>", item.kind)?,
-                value: format!(in alloc; "Option {}", in_brackets(alloc, &item.value)?)?,
-                view: format!(in alloc; "option_map {} m.{name}", item.view)?,
-                definition: format!(in alloc; "optional {}", item.definition)?,
+                held: made(alloc, "Option<$>", &[&item.held])?,
+                kind: made(alloc, "Optional<$>", &[&item.kind])?,
+                value: made(alloc, "Option $", &[&in_brackets(alloc, &item.value)?])?,
+                view: made(alloc, "option_map $ m.$", &[&item.view, name])?,
+                definition: made(alloc, "optional $", &[&item.definition])?,
             })
         }
         (_, Presence::Packed) => numbers(alloc, name, item, "Packed", "packed", code, definitions),
@@ -121,11 +121,11 @@ fn once(
     definitions.add("Rattle.wire_fields.specs.Messages", definition)?;
     definitions.add("Rattle.wire_fields.specs.Messages", "boxed_value")?;
     Ok(Kind {
-        held: format!(in alloc; "Option<Box<{}>>", item.held)?,
-        kind: format!(in alloc; "{kind}<{}>", item.kind)?,
-        value: format!(in alloc; "Option {}", item.value)?,
-        view: format!(in alloc; "boxed_value {} m.{name}", item.view)?,
-        definition: format!(in alloc; "{definition} {}", item.definition)?,
+        held: made(alloc, "Option<Box<$>>", &[&item.held])?,
+        kind: made(alloc, "$<$>", &[kind, &item.kind])?,
+        value: made(alloc, "Option $", &[&item.value])?,
+        view: made(alloc, "boxed_value $ m.$", &[&item.view, name])?,
+        definition: made(alloc, "$ $", &[definition, &item.definition])?,
     })
 }
 
@@ -146,11 +146,11 @@ fn each(
     definitions.add("Rattle.std.specs.Prelude", "map")?;
     definitions.add("Rattle.wire_fields.specs.Messages", definition)?;
     Ok(Kind {
-        held: format!(in alloc; "Vec<{}>", item.held)?,
-        kind: format!(in alloc; "{kind}<{}, {size}>", item.kind)?,
-        value: format!(in alloc; "List {}", item.value)?,
-        view: format!(in alloc; "map {} m.{name}.items", item.view)?,
-        definition: format!(in alloc; "{definition} {size} {}", item.definition)?,
+        held: made(alloc, "Vec<$>", &[&item.held])?,
+        kind: made(alloc, "$<$, $>", &[kind, &item.kind, size])?,
+        value: made(alloc, "List $", &[&item.value])?,
+        view: made(alloc, "map $ m.$.items", &[&item.view, name])?,
+        definition: made(alloc, "$ $ $", &[definition, size, &item.definition])?,
     })
 }
 
@@ -167,11 +167,11 @@ fn numbers(
     definitions.add("Rattle.std.specs.Prelude", "List")?;
     definitions.add("Rattle.wire_fields.specs.Packed", definition)?;
     Ok(Kind {
-        held: format!(in alloc; "Vec<{}>", item.held)?,
-        kind: format!(in alloc; "{kind}<{}>", item.kind)?,
-        value: format!(in alloc; "List {}", in_brackets(alloc, &item.value)?)?,
-        view: format!(in alloc; "m.{name}.items")?,
-        definition: format!(in alloc; "{definition} {} {}", item.form, item.map)?,
+        held: made(alloc, "Vec<$>", &[&item.held])?,
+        kind: made(alloc, "$<$>", &[kind, &item.kind])?,
+        value: made(alloc, "List $", &[&in_brackets(alloc, &item.value)?])?,
+        view: made(alloc, "m.$.items", &[name])?,
+        definition: made(alloc, "$ $ $", &[definition, &item.form, &item.map])?,
     })
 }
 
@@ -186,11 +186,11 @@ fn texts(
     definitions.add("Rattle.std.specs.Prelude", "map")?;
     definitions.add("Rattle.wire_fields.specs.Presence", "repeated")?;
     Ok(Kind {
-        held: format!(in alloc; "Vec<{}>", item.held)?,
-        kind: format!(in alloc; "Repeated<{}, 24>", item.kind)?,
+        held: made(alloc, "Vec<$>", &[&item.held])?,
+        kind: made(alloc, "Repeated<$, 24>", &[&item.kind])?,
         value: String::from_str(alloc, "List (List ℕ)")?,
-        view: format!(in alloc; "map {} m.{name}.items", item.view)?,
-        definition: format!(in alloc; "repeated 24 {}", item.definition)?,
+        view: made(alloc, "map $ m.$.items", &[&item.view, name])?,
+        definition: made(alloc, "repeated 24 $", &[&item.definition])?,
     })
 }
 
@@ -206,14 +206,8 @@ pub(crate) fn map_kind(
     let (word, numbers) = match (key.sort, key.value.as_str()) {
         (Sort::Text, _) => ("text_map", String::new(alloc)),
         (_, "Bool") => ("bool_map", String::new(alloc)),
-        (_, "ℤ") => (
-            "signed_map",
-            format!(in alloc; " {} {}", key.form, key.map)?,
-        ),
-        _ => (
-            "unsigned_map",
-            format!(in alloc; " {} {}", key.form, key.map)?,
-        ),
+        (_, "ℤ") => ("signed_map", made(alloc, " $ $", &[&key.form, &key.map])?),
+        _ => ("unsigned_map", made(alloc, " $ $", &[&key.form, &key.map])?),
     };
     code.add("std::collections", "BTreeMap")?;
     code.add("wire_fields", "Map")?;
@@ -232,18 +226,26 @@ pub(crate) fn map_kind(
     let seen = in_brackets(alloc, &value.value)?;
     let of_key = in_brackets(alloc, &key.value)?;
     Ok(Kind {
-        held: format!(in alloc; "BTreeMap<{}, {}>", key.held, value.held)?,
-        kind: format!(in alloc; "Map<{}, {kind}<{}>, 64>", key.kind, value.kind)?,
-        value: format!(in alloc; "List ({of_key} × {seen})")?,
-        view: format!(in alloc; "viewed {} {} m.{name}.entries", key.view, value.view)?,
-        definition: format!(in alloc; "{word} 64{numbers} ({always} {})", value.definition)?,
+        held: made(alloc, "BTreeMap<$, $>", &[&key.held, &value.held])?,
+        kind: made(alloc, "Map<$, $<$>, 64>", &[&key.kind, kind, &value.kind])?,
+        value: made(alloc, "List ($ × $)", &[&of_key, &seen])?,
+        view: made(
+            alloc,
+            "viewed $ $ m.$.entries",
+            &[&key.view, &value.view, name],
+        )?,
+        definition: made(
+            alloc,
+            "$ 64$ ($ $)",
+            &[word, &numbers, always, &value.definition],
+        )?,
     })
 }
 
 /// A type of several words in brackets.
 pub(crate) fn in_brackets(alloc: Global, value: &str) -> Result<String, GenerateError> {
     if value.contains(' ') {
-        Ok(format!(in alloc; "({value})")?)
+        made(alloc, "($)", &[value])
     } else {
         Ok(String::from_str(alloc, value)?)
     }

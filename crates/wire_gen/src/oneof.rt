@@ -3,9 +3,8 @@ use crate::error::GenerateError;
 use crate::imports::Imports;
 use crate::item::{Item, Sort};
 use crate::schema::Names;
-use crate::text::joined;
+use crate::text::{made, put};
 use std::alloc::Global;
-use std::fmt::Write;
 
 /// One of the fields of a oneof.
 #[derive(Drop)]
@@ -29,7 +28,7 @@ pub(crate) struct Oneof {
 impl Variant {
     // The kind.
     fn kind(&self, alloc: Global) -> Result<String, GenerateError> {
-        Ok(format!(in alloc; "{}<{}>", self.presence().0, self.item.kind)?)
+        made(alloc, "$<$>", &[&self.presence().0, &self.item.kind])
     }
 
     /// The kind of what is always written, by its name and as a definition.
@@ -44,8 +43,8 @@ impl Variant {
     /// What is held under this name, as contracts see it.
     pub(crate) fn seen(&self, alloc: Global, held: &str) -> Result<String, GenerateError> {
         match self.item.sort {
-            Sort::Message | Sort::Group => Ok(format!(in alloc; "{} {held}", self.item.view)?),
-            _ => joined(alloc, &[self.item.before, held, self.item.behind]),
+            Sort::Message | Sort::Group => made(alloc, "$ $", &[&self.item.view, held]),
+            _ => made(alloc, "$$$", &[self.item.before, held, self.item.behind]),
         }
     }
 }
@@ -58,42 +57,51 @@ pub(crate) fn oneof_code(
 ) -> Result<String, GenerateError> {
     let (name, module) = (oneof.names.name.as_str(), oneof.names.module.as_str());
     let mut text = String::new(alloc);
-    writeln!(text, "//! The oneof `{name}`. Generated.")?;
+    put(&mut text, "//! The oneof `$`. Generated.\n", &[name])?;
     put_uses(alloc, crate_name, oneof, &mut text)?;
-    writeln!(text, "/// One of these, where one is there.")?;
-    writeln!(text, "#[derive(Clone, Debug, Drop, PartialEq)]")?;
-    writeln!(text, "pub enum {name} {{")?;
+    put(&mut text, "/// One of these, where one is there.\n", &[])?;
+    put(&mut text, "#[derive(Clone, Debug, Drop, PartialEq)]\n", &[])?;
+    put(&mut text, "pub enum $ {\n", &[name])?;
     for variant in &oneof.variants {
-        writeln!(text, "    {}({}),", variant.name, variant.item.held)?;
-    }
-    writeln!(
-        text,
-        "}}\n\n/// The fields of the oneof, of which one stands at most."
-    )?;
-    writeln!(
-        text,
-        "pub struct {name}Kind;\n\nimpl Kind for {name}Kind {{"
-    )?;
-    for [of, word] in [[name, "Value"], [module, "of"], [module, "kind"]] {
-        writeln!(
-            text,
-            "    ghost use Rattle.{crate_name}.specs.{name}.{{{of}-{word}}};"
+        put(
+            &mut text,
+            "    $($),\n",
+            &[&variant.name, &variant.item.held],
         )?;
     }
-    writeln!(text, "\n    type Held = Option<{name}>;\n")?;
-    writeln!(text, "    ghost Value = {{ {name}-Value }};\n")?;
-    writeln!(text, "    ghost view = {{ {module}-of }};\n")?;
-    writeln!(text, "    ghost kind = {{ {module}-kind }};\n")?;
-    writeln!(
-        text,
-        "    fn empty(_alloc: Global) -> Option<{name}> {{\n        None\n    }}\n"
+    put(
+        &mut text,
+        "}\n\n/// The fields of the oneof, of which one stands at most.\n",
+        &[],
+    )?;
+    put(
+        &mut text,
+        "pub struct $Kind;\n\nimpl Kind for $Kind {\n",
+        &[name, name],
+    )?;
+    for [of, word] in [[name, "Value"], [module, "of"], [module, "kind"]] {
+        put(
+            &mut text,
+            "    ghost use Rattle.$.specs.$.{$-$};\n",
+            &[crate_name, name, of, word],
+        )?;
+    }
+    put(&mut text, "\n    type Held = Option<$>;\n\n", &[name])?;
+    put(&mut text, "    ghost Value = { $-Value };\n\n", &[name])?;
+    put(&mut text, "    ghost view = { $-of };\n\n", &[&module])?;
+    put(&mut text, "    ghost kind = { $-kind };\n\n", &[&module])?;
+    put(
+        &mut text,
+        "    fn empty(_alloc: Global) -> Option<$> {\n        None\n    }\n\n",
+        &[name],
     )?;
     put_len(alloc, oneof, &mut text)?;
     put_put(alloc, oneof, &mut text)?;
     put_merge(oneof, &mut text)?;
-    writeln!(
-        text,
-        "    fn clear(held: &mut Option<{name}>) {{\n        *held = None;\n    }}\n}}"
+    put(
+        &mut text,
+        "    fn clear(held: &mut Option<$>) {\n        *held = None;\n    }\n}\n",
+        &[name],
     )?;
     for variant in &oneof.variants {
         put_variant(alloc, oneof, variant, &mut text)?;
@@ -108,7 +116,7 @@ fn put_uses(
     text: &mut String,
 ) -> Result<(), GenerateError> {
     let (name, module) = (oneof.names.name.as_str(), oneof.names.module.as_str());
-    let specs = format!(in alloc; "Rattle.{crate_name}.specs.{name}")?;
+    let specs = made(alloc, "Rattle.$.specs.$", &[crate_name, name])?;
     let mut ghosts = Imports::new(alloc);
     let mut imports = Imports::new(alloc);
     for word in ["◌≡◌", "◌≢◌", "OnOk", "OnErr", "IfErr"] {
@@ -126,19 +134,19 @@ fn put_uses(
         ghosts.add("Rattle.wire_codec.specs.Taking", word)?;
     }
     ghosts.add("Rattle.wire_fields.specs.Messages", "or_else")?;
-    ghosts.add(&specs, &format!(in alloc; "{module}-of")?)?;
+    ghosts.add(&specs, &made(alloc, "$-of", &[&module])?)?;
     for variant in &oneof.variants {
         for word in ["", "-default", "-as"] {
             ghosts.add(
                 &specs,
-                &format!(in alloc; "{}-of-{module}{word}", variant.word)?,
+                &made(alloc, "$-of-$$", &[&variant.word, &module, word])?,
             )?;
         }
         if variant.item.before == "string_bytes " {
             ghosts.add("Rattle.std.specs.Prelude", "string_bytes")?;
         }
         if let Sort::Message | Sort::Group = variant.item.sort {
-            let module = format!(in alloc; "Rattle.{crate_name}.specs.{}", variant.item.held)?;
+            let module = made(alloc, "Rattle.$.specs.$", &[crate_name, &variant.item.held])?;
             ghosts.add(&module, &variant.item.view)?;
         }
         imports.add_all(&variant.item.code)?;
@@ -159,52 +167,70 @@ fn put_uses(
     imports.add("bytes", "Buf")?;
     imports.add("std::alloc", "Global")?;
     ghosts.put_ghosts(text)?;
-    writeln!(text, "")?;
+    put(text, "\n", &[])?;
     imports.put_code(text)?;
-    writeln!(text, "")?;
+    put(text, "\n", &[])?;
     Ok(())
 }
 
 fn put_len(alloc: Global, oneof: &Oneof, text: &mut String) -> Result<(), GenerateError> {
     let name = oneof.names.name.as_str();
-    writeln!(
+    put(
         text,
-        "    fn len(\n        _number: u32,\n        held: &Option<{name}>,"
+        "    fn len(\n        _number: u32,\n        held: &Option<$>,\n",
+        &[name],
     )?;
-    writeln!(
+    put(
         text,
-        "        cache: &mut SizeCache,\n    ) -> Result<u64, EncodeError> {{"
+        "        cache: &mut SizeCache,\n    ) -> Result<u64, EncodeError> {\n",
+        &[],
     )?;
-    writeln!(
+    put(
         text,
-        "        laws::flat_messages_have_no_sizes();\n        match held {{"
+        "        laws::flat_messages_have_no_sizes();\n        match held {\n",
+        &[],
     )?;
     for variant in &oneof.variants {
         put_call(alloc, name, variant, "len", "value, cache", text)?;
     }
-    writeln!(text, "            None => Ok(0),\n        }}\n    }}\n")?;
+    put(
+        text,
+        "            None => Ok(0),\n        }\n    }\n\n",
+        &[],
+    )?;
     Ok(())
 }
 
 fn put_put(alloc: Global, oneof: &Oneof, text: &mut String) -> Result<(), GenerateError> {
     let name = oneof.names.name.as_str();
-    writeln!(text, "    fn put<S: EncodeSink>(\n        _number: u32,")?;
-    writeln!(
+    put(
         text,
-        "        held: &Option<{name}>,\n        cache: &mut SizeCache,"
+        "    fn put<S: EncodeSink>(\n        _number: u32,\n",
+        &[],
     )?;
-    writeln!(
+    put(
         text,
-        "        sink: &mut S,\n    ) -> Result<(), EncodeError> {{"
+        "        held: &Option<$>,\n        cache: &mut SizeCache,\n",
+        &[name],
     )?;
-    writeln!(
+    put(
         text,
-        "        laws::flat_messages_have_no_sizes();\n        match held {{"
+        "        sink: &mut S,\n    ) -> Result<(), EncodeError> {\n",
+        &[],
+    )?;
+    put(
+        text,
+        "        laws::flat_messages_have_no_sizes();\n        match held {\n",
+        &[],
     )?;
     for variant in &oneof.variants {
         put_call(alloc, name, variant, "put", "value, cache, sink", text)?;
     }
-    writeln!(text, "            None => Ok(()),\n        }}\n    }}\n")?;
+    put(
+        text,
+        "            None => Ok(()),\n        }\n    }\n\n",
+        &[],
+    )?;
     Ok(())
 }
 
@@ -218,21 +244,27 @@ fn put_call(
     text: &mut String,
 ) -> Result<(), GenerateError> {
     let kind = variant.kind(alloc)?;
-    let head = format!(in alloc; "            Some({name}::{}(value)) => ", variant.name)?;
-    let call = format!(in alloc; "<{kind} as Kind>::{call}")?;
-    let given = format!(in alloc; "{}, {given}", variant.digits)?;
+    let head = made(
+        alloc,
+        "            Some($::$(value)) => ",
+        &[name, &variant.name],
+    )?;
+    let call = made(alloc, "<$ as Kind>::$", &[&kind, &call])?;
+    let given = made(alloc, "$, $", &[&variant.digits, &given])?;
     let len = call.len().saturating_add(given.len());
     if head.len().saturating_add(len) <= 97 {
-        writeln!(text, "{head}{call}({given}),")?;
+        put(text, "$$($),\n", &[&head, &call, &given])?;
     } else if len <= 82 {
-        writeln!(
+        put(
             text,
-            "{head}{{\n                {call}({given})\n            }}"
+            "${\n                $($)\n            }\n",
+            &[&head, &call, &given],
         )?;
     } else {
-        writeln!(
+        put(
             text,
-            "{head}{call}(\n                {given},\n            ),"
+            "$$(\n                $,\n            ),\n",
+            &[&head, &call, &given],
         )?;
     }
     Ok(())
@@ -240,31 +272,34 @@ fn put_call(
 
 fn put_merge(oneof: &Oneof, text: &mut String) -> Result<(), GenerateError> {
     let name = oneof.names.name.as_str();
-    writeln!(
+    put(
         text,
-        "    fn merge<B: Buf>(\n        alloc: Global,\n        tag: Tag,"
+        "    fn merge<B: Buf>(\n        alloc: Global,\n        tag: Tag,\n",
+        &[],
     )?;
-    writeln!(
+    put(
         text,
-        "        held: &mut Option<{name}>,\n        buf: &mut B,"
+        "        held: &mut Option<$>,\n        buf: &mut B,\n",
+        &[name],
     )?;
-    writeln!(
+    put(
         text,
-        "        context: &mut DecodeContext,\n    ) -> Result<(), DecodeError> {{"
+        "        context: &mut DecodeContext,\n    ) -> Result<(), DecodeError> {\n",
+        &[],
     )?;
     let last = oneof.variants.len().saturating_sub(1);
     if last == 0 {
         for variant in &oneof.variants {
-            writeln!(
+            put(
                 text,
-                "        merge_{}(alloc, tag, held, buf, context)",
-                variant.word
+                "        merge_$(alloc, tag, held, buf, context)\n",
+                &[&variant.word],
             )?;
         }
-        writeln!(text, "    }}\n")?;
+        put(text, "    }\n\n", &[])?;
         return Ok(());
     }
-    writeln!(text, "        match tag.field_number() {{")?;
+    put(text, "        match tag.field_number() {\n", &[])?;
     for (place, variant) in oneof.variants.iter().enumerate() {
         let number = if place == last {
             "_"
@@ -272,12 +307,13 @@ fn put_merge(oneof: &Oneof, text: &mut String) -> Result<(), GenerateError> {
             variant.digits.as_str()
         };
         let word = variant.word.as_str();
-        writeln!(
+        put(
             text,
-            "            {number} => merge_{word}(alloc, tag, held, buf, context),"
+            "            $ => merge_$(alloc, tag, held, buf, context),\n",
+            &[number, word],
         )?;
     }
-    writeln!(text, "        }}\n    }}\n")?;
+    put(text, "        }\n    }\n\n", &[])?;
     Ok(())
 }
 
@@ -291,85 +327,104 @@ fn put_variant(
     let (name, module) = (oneof.names.name.as_str(), oneof.names.module.as_str());
     let (word, held) = (variant.word.as_str(), variant.item.held.as_str());
     let kind = variant.kind(alloc)?;
-    let takes = format!(in alloc; "{word}-of-{module}.takes")?;
-    writeln!(
+    let takes = made(alloc, "$-of-$.takes", &[word, &module])?;
+    put(
         text,
-        "\n// Takes the record behind this tag into the value that stands, or a new one."
+        "\n// Takes the record behind this tag into the value that stands, or a new one.\n",
+        &[],
     )?;
-    writeln!(
+    put(
         text,
-        "fn merge_{word}<B: Buf>(\n    alloc: Global,\n    tag: Tag,"
+        "fn merge_$<B: Buf>(\n    alloc: Global,\n    tag: Tag,\n",
+        &[word],
     )?;
-    writeln!(text, "    held: &mut Option<{name}>,\n    buf: &mut B,")?;
-    writeln!(
+    put(
         text,
-        "    context: &mut DecodeContext,\n) -> Result<(), DecodeError>"
+        "    held: &mut Option<$>,\n    buf: &mut B,\n",
+        &[name],
     )?;
-    writeln!(
+    put(
         text,
-        "    ensures ok {{ OnOk result (IsCharged context.old context.new (λ c."
+        "    context: &mut DecodeContext,\n) -> Result<(), DecodeError>\n",
+        &[],
     )?;
-    writeln!(text, "        TakesRecord {takes} context.old")?;
-    writeln!(
+    put(
         text,
-        "        (tag_number tag) (tag_type tag) ({module}-of held.old)"
+        "    ensures ok { OnOk result (IsCharged context.old context.new (λ c.\n",
+        &[],
     )?;
-    writeln!(
+    put(text, "        TakesRecord $ context.old\n", &[&takes])?;
+    put(
         text,
-        "        (B.unread buf.old) c ({module}-of held.new) (B.unread buf.new))) }}"
+        "        (tag_number tag) (tag_type tag) ($-of held.old)\n",
+        &[&module],
     )?;
-    writeln!(
+    put(
         text,
-        "    ensures err {{ IfErr result (λ e. e ≢ OutOfMemory → NotTaken"
+        "        (B.unread buf.old) c ($-of held.new) (B.unread buf.new))) }\n",
+        &[&module],
     )?;
-    writeln!(text, "        (TakesRecord {takes} context.old")?;
-    writeln!(
+    put(
         text,
-        "        (tag_number tag) (tag_type tag) ({module}-of held.old)"
+        "    ensures err { IfErr result (λ e. e ≢ OutOfMemory → NotTaken\n",
+        &[],
     )?;
-    writeln!(text, "        (B.unread buf.old))) }}")?;
-    writeln!(
+    put(text, "        (TakesRecord $ context.old\n", &[&takes])?;
+    put(
         text,
-        "    ensures counts {{ OnErr result (NoCountGrew context.old context.new) }}"
+        "        (tag_number tag) (tag_type tag) ($-of held.old)\n",
+        &[&module],
     )?;
-    writeln!(
+    put(text, "        (B.unread buf.old))) }\n", &[])?;
+    put(
         text,
-        "    ensures kept {{ B.kept buf.new ≡ B.kept buf.old }}\n{{"
+        "    ensures counts { OnErr result (NoCountGrew context.old context.new) }\n",
+        &[],
     )?;
-    writeln!(text, "    let mut value = take_{word}(alloc, held);")?;
-    writeln!(
+    put(
         text,
-        "    <{kind} as Kind>::merge(alloc, tag, &mut value, buf, context)?;"
+        "    ensures kept { B.kept buf.new ≡ B.kept buf.old }\n{\n",
+        &[],
     )?;
-    writeln!(
+    put(text, "    let mut value = take_$(alloc, held);\n", &[word])?;
+    put(
         text,
-        "    *held = Some({name}::{}(value));\n    Ok(())\n}}",
-        variant.name
+        "    <$ as Kind>::merge(alloc, tag, &mut value, buf, context)?;\n",
+        &[&kind],
     )?;
-    writeln!(
+    put(
         text,
-        "\n// Moves the value out that stands, or makes a new one."
+        "    *held = Some($::$(value));\n    Ok(())\n}\n",
+        &[name, &variant.name],
     )?;
-    writeln!(
+    put(
         text,
-        "fn take_{word}(alloc: Global, held: &mut Option<{name}>) -> {held}"
+        "\n// Moves the value out that stands, or makes a new one.\n",
+        &[],
+    )?;
+    put(
+        text,
+        "fn take_$(alloc: Global, held: &mut Option<$>) -> $\n",
+        &[word, name, held],
     )?;
     let seen = variant.seen(alloc, "result")?;
-    writeln!(text, "    ensures {{ {seen}")?;
-    writeln!(text, "        ≡ or_else {word}-of-{module}-default")?;
-    writeln!(
+    put(text, "    ensures { $\n", &[&seen])?;
+    put(text, "        ≡ or_else $-of-$-default\n", &[word, &module])?;
+    put(
         text,
-        "        ({word}-of-{module}-as ({module}-of held.old)) }}"
+        "        ($-of-$-as ($-of held.old)) }\n",
+        &[word, &module, &module],
     )?;
-    writeln!(text, "{{\n    match held.take() {{")?;
-    writeln!(
+    put(text, "{\n    match held.take() {\n", &[])?;
+    put(
         text,
-        "        Some({name}::{}(value)) => value,",
-        variant.name
+        "        Some($::$(value)) => value,\n",
+        &[name, &variant.name],
     )?;
-    writeln!(
+    put(
         text,
-        "        _ => <{kind} as Kind>::empty(alloc),\n    }}\n}}"
+        "        _ => <$ as Kind>::empty(alloc),\n    }\n}\n",
+        &[&kind],
     )?;
     Ok(())
 }

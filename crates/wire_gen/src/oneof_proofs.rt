@@ -3,8 +3,8 @@ use crate::error::GenerateError;
 use crate::imports::Imports;
 use crate::kind::in_brackets;
 use crate::oneof::{Oneof, Variant};
+use crate::text::{made, put};
 use std::alloc::Global;
-use std::fmt::Write;
 
 // A value of the variant at this place, of so many: the sum of their types leans to the right.
 fn injected(
@@ -16,16 +16,20 @@ fn injected(
     let mut text = if place.saturating_add(1) == count {
         String::from_str(alloc, value)?
     } else {
-        format!(in alloc; "(inl {value})")?
+        made(alloc, "(inl $)", &[&value])?
     };
     for _ in 0..place {
-        text = format!(in alloc; "(inr {text})")?;
+        text = made(alloc, "(inr $)", &[&text])?;
     }
     Ok(text)
 }
 
 fn definition(alloc: Global, variant: &Variant) -> Result<String, GenerateError> {
-    Ok(format!(in alloc; "({} {})", variant.presence().1, variant.item.definition)?)
+    made(
+        alloc,
+        "($ $)",
+        &[&variant.presence().1, &variant.item.definition],
+    )
 }
 
 /// The value of a oneof, its table, and what each variant is.
@@ -36,9 +40,10 @@ pub(crate) fn oneof_definitions(
 ) -> Result<String, GenerateError> {
     let (name, module) = (oneof.names.name.as_str(), oneof.names.module.as_str());
     let mut text = String::new(alloc);
-    writeln!(
-        text,
-        "-- A `{name}` as contracts see it, and the table of its fields. Generated."
+    put(
+        &mut text,
+        "-- A `$` as contracts see it, and the table of its fields. Generated.\n",
+        &[&name],
     )?;
     put_uses(alloc, crate_name, oneof, &mut text)?;
     put_value(alloc, oneof, &mut text)?;
@@ -46,52 +51,80 @@ pub(crate) fn oneof_definitions(
     for (place, variant) in oneof.variants.iter().enumerate() {
         put_variant(alloc, oneof, variant, place, &mut text)?;
     }
-    writeln!(text, "abbrev pub {module}-records : {name}-Value → Records")?;
-    writeln!(text, "{module}-records None = none")?;
+    put(
+        &mut text,
+        "abbrev pub $-records : $-Value → Records\n",
+        &[module, &name],
+    )?;
+    put(&mut text, "$-records None = none\n", &[module])?;
     for (place, variant) in oneof.variants.iter().enumerate() {
         let one = injected(alloc, place, count, "x")?;
         let kind = definition(alloc, variant)?;
         let digits = variant.digits.as_str();
-        writeln!(
-            text,
-            "{module}-records (Some {one}) = {kind}.kind.records {digits} x"
+        put(
+            &mut text,
+            "$-records (Some $) = $.kind.records $ x\n",
+            &[module, &one, &kind, digits],
         )?;
     }
     let mut first = String::new(alloc);
     let mut last = "";
     for variant in &oneof.variants {
         if first.is_empty() && !last.is_empty() {
-            first = format!(in alloc; "{last}-of-{module}")?;
+            first = made(alloc, "$-of-$", &[&last, module])?;
         } else if !last.is_empty() {
-            first = format!(in alloc; "(either_of {first} {last}-of-{module})")?;
+            first = made(alloc, "(either_of $ $-of-$)", &[&first, &last, module])?;
         }
         last = &variant.word;
     }
     if !first.is_empty() {
-        writeln!(text, "\n-- all but the last")?;
-        writeln!(text, "abbrev pub {module}-front : Variants {name}-Value")?;
-        writeln!(text, "{module}-front = {first}")?;
+        put(&mut text, "\n-- all but the last\n", &[])?;
+        put(
+            &mut text,
+            "abbrev pub $-front : Variants $-Value\n",
+            &[module, &name],
+        )?;
+        put(&mut text, "$-front = $\n", &[module, &first])?;
     }
-    writeln!(text, "\nabbrev pub {module}-shape : Shape {name}-Value")?;
+    put(
+        &mut text,
+        "\nabbrev pub $-shape : Shape $-Value\n",
+        &[module, &name],
+    )?;
     if first.is_empty() {
-        writeln!(
-            text,
-            "{module}-shape = oneof None {module}-records {last}-of-{module}"
+        put(
+            &mut text,
+            "$-shape = oneof None $-records $-of-$\n",
+            &[module, module, &last, module],
         )?;
     } else {
-        writeln!(text, "{module}-shape =")?;
-        write!(text, "    oneof None {module}-records ")?;
-        writeln!(text, "(either_of {module}-front {last}-of-{module})")?;
+        put(&mut text, "$-shape =\n", &[module])?;
+        put(&mut text, "    oneof None $-records ", &[module])?;
+        put(
+            &mut text,
+            "(either_of $-front $-of-$)\n",
+            &[module, &last, module],
+        )?;
     }
-    writeln!(
-        text,
-        "\n-- under whatever number, since the variants have their own"
+    put(
+        &mut text,
+        "\n-- under whatever number, since the variants have their own\n",
+        &[],
     )?;
-    writeln!(text, "abbrev pub {module}-kind : FieldKind {name}-Value")?;
-    writeln!(text, "{module}-kind = record {{\n  default = None;")?;
-    writeln!(
-        text,
-        "  records = λ n. {module}-records;\n  takes = {module}-shape.takes;\n}}"
+    put(
+        &mut text,
+        "abbrev pub $-kind : FieldKind $-Value\n",
+        &[module, &name],
+    )?;
+    put(
+        &mut text,
+        "$-kind = record {\n  default = None;\n",
+        &[module],
+    )?;
+    put(
+        &mut text,
+        "  records = λ n. $-records;\n  takes = $-shape.takes;\n}\n",
+        &[module, module],
     )?;
     Ok(text)
 }
@@ -120,9 +153,13 @@ fn put_uses(
     for word in ["FieldKind", "Shape"] {
         imports.add("Rattle.wire_fields.specs.Shape", word)?;
     }
-    let declared = format!(in alloc; "Rattle.{crate_name}.specs.declared.{module}.{name}")?;
+    let declared = made(
+        alloc,
+        "Rattle.$.specs.declared.$.$",
+        &[crate_name, module, &name],
+    )?;
     imports.add(&declared, name)?;
-    let variants = format!(in alloc; "{declared}.TheVariants")?;
+    let variants = made(alloc, "$.TheVariants", &[&declared])?;
     for variant in &oneof.variants {
         imports.add(&variants, &variant.name)?;
         imports.add_all(&variant.item.definitions)?;
@@ -136,7 +173,7 @@ fn put_uses(
         }
     }
     imports.put_definitions(text)?;
-    writeln!(text, "")?;
+    put(text, "\n", &[])?;
     Ok(())
 }
 
@@ -148,23 +185,28 @@ fn put_value(alloc: Global, oneof: &Oneof, text: &mut String) -> Result<(), Gene
         sum = if sum.is_empty() {
             value
         } else {
-            format!(in alloc; "({value} ⊎ {sum})")?
+            made(alloc, "($ ⊎ $)", &[&value, &sum])?
         };
     }
-    writeln!(text, "abbrev pub {name}-Value : Type 0")?;
-    writeln!(text, "{name}-Value = Option {sum}\n")?;
-    writeln!(
+    put(text, "abbrev pub $-Value : Type 0\n", &[&name])?;
+    put(text, "$-Value = Option $\n\n", &[&name, &sum])?;
+    put(
         text,
-        "abbrev pub {module}-of : Option {name} → {name}-Value"
+        "abbrev pub $-of : Option $ → $-Value\n",
+        &[module, &name, &name],
     )?;
-    writeln!(text, "{module}-of None = None")?;
+    put(text, "$-of None = None\n", &[module])?;
     for (place, variant) in oneof.variants.iter().enumerate() {
         let seen = variant.seen(alloc, "x")?;
         let seen = in_brackets(alloc, &seen)?;
         let one = injected(alloc, place, oneof.variants.len(), &seen)?;
-        writeln!(text, "{module}-of (Some ({} x)) = Some {one}", variant.name)?;
+        put(
+            text,
+            "$-of (Some ($ x)) = Some $\n",
+            &[module, &variant.name, &one],
+        )?;
     }
-    writeln!(text, "")?;
+    put(text, "\n", &[])?;
     Ok(())
 }
 
@@ -181,15 +223,19 @@ fn put_variant(
     let value = in_brackets(alloc, &variant.item.value)?;
     let kind = definition(alloc, variant)?;
     let digits = variant.digits.as_str();
-    let name = format!(in alloc; "{word}-of-{module}-as")?;
-    writeln!(text, "abbrev pub {name} : {of}-Value → Option {value}")?;
-    writeln!(text, "{name} None = None")?;
+    let name = made(alloc, "$-of-$-as", &[word, module])?;
+    put(
+        text,
+        "abbrev pub $ : $-Value → Option $\n",
+        &[&name, of, &value],
+    )?;
+    put(text, "$ None = None\n", &[&name])?;
     for before in 0..place {
         let one = injected(alloc, before, count, "other")?;
-        writeln!(text, "{name} (Some {one}) = None")?;
+        put(text, "$ (Some $) = None\n", &[&name, &one])?;
     }
     let one = injected(alloc, place, count, "x")?;
-    writeln!(text, "{name} (Some {one}) = Some x")?;
+    put(text, "$ (Some $) = Some x\n", &[&name, &one])?;
     if place.saturating_add(1) < count {
         let rest = injected(
             alloc,
@@ -197,21 +243,38 @@ fn put_variant(
             place.saturating_add(2),
             "other",
         )?;
-        writeln!(text, "{name} (Some {rest}) = None")?;
+        put(text, "$ (Some $) = None\n", &[&name, &rest])?;
     }
-    writeln!(
+    put(
         text,
-        "\nabbrev pub {word}-of-{module}-default : {}",
-        variant.item.value
+        "\nabbrev pub $-of-$-default : $\n",
+        &[word, module, &variant.item.value],
     )?;
-    writeln!(text, "{word}-of-{module}-default = {kind}.kind.default\n")?;
-    writeln!(text, "abbrev pub {word}-of-{module}-step : Step {value}")?;
-    writeln!(text, "{word}-of-{module}-step = {kind}.kind.takes\n")?;
-    writeln!(text, "abbrev pub {word}-of-{module} : Variants {of}-Value")?;
-    writeln!(text, "{word}-of-{module} =")?;
-    writeln!(
+    put(
         text,
-        "    variant {digits} {kind} {name} (λ x. Some {one})\n"
+        "$-of-$-default = $.kind.default\n\n",
+        &[word, module, &kind],
+    )?;
+    put(
+        text,
+        "abbrev pub $-of-$-step : Step $\n",
+        &[word, module, &value],
+    )?;
+    put(
+        text,
+        "$-of-$-step = $.kind.takes\n\n",
+        &[word, module, &kind],
+    )?;
+    put(
+        text,
+        "abbrev pub $-of-$ : Variants $-Value\n",
+        &[word, module, of],
+    )?;
+    put(text, "$-of-$ =\n", &[word, module])?;
+    put(
+        text,
+        "    variant $ $ $ (λ x. Some $)\n\n",
+        &[digits, &kind, &name, &one],
     )?;
     Ok(())
 }
@@ -223,41 +286,56 @@ pub(crate) fn merge_answers(
     oneof: &Oneof,
 ) -> Result<String, GenerateError> {
     let (name, module) = (oneof.names.name.as_str(), oneof.names.module.as_str());
-    let specs = format!(in alloc; "Rattle.{crate_name}.specs.{name}")?;
+    let specs = made(alloc, "Rattle.$.specs.$", &[crate_name, &name])?;
     let mut text = String::new(alloc);
-    writeln!(
-        text,
-        "use Rattle.std.proofs.Common.{{rules, refl, sym, ◌∙◌}}"
+    put(
+        &mut text,
+        "use Rattle.std.proofs.Common.{rules, refl, sym, ◌∙◌}\n",
+        &[],
     )?;
-    writeln!(text, "use Rattle.wire_codec.specs.TagView.{{tag_number}}")?;
-    write!(
-        text,
-        "use Rattle.wire_fields.specs.Arms.{{arm_ok, arm_err, to_last, from_last, "
+    put(
+        &mut text,
+        "use Rattle.wire_codec.specs.TagView.{tag_number}\n",
+        &[],
     )?;
-    writeln!(text, "neither, unlike}}")?;
-    writeln!(
-        text,
-        "use {specs}.{{{module}-of}}\nuse {specs}.{{{module}-kind}}"
+    put(
+        &mut text,
+        "use Rattle.wire_fields.specs.Arms.{arm_ok, arm_err, to_last, from_last, ",
+        &[],
     )?;
-    writeln!(text, "use {specs}.{{{module}-front}}")?;
+    put(&mut text, "neither, unlike}\n", &[])?;
+    put(
+        &mut text,
+        "use $.{$-of}\nuse $.{$-kind}\n",
+        &[&specs, module, &specs, module],
+    )?;
+    put(&mut text, "use $.{$-front}\n", &[&specs, module])?;
     let mut unlike = String::new(alloc);
     let mut last: Option<&Variant> = None;
     let mut arms = String::new(alloc);
     for variant in &oneof.variants {
-        writeln!(text, "use {specs}.{{{}-of-{module}}}", variant.word)?;
+        put(
+            &mut text,
+            "use $.{$-of-$}\n",
+            &[&specs, &variant.word, module],
+        )?;
         if let Some(before) = last {
             put_arm(module, before, &mut arms)?;
-            let one = format!(in alloc; "unlike n {} (search rules)", before.digits)?;
+            let one = made(alloc, "unlike n $ (search rules)", &[&before.digits])?;
             unlike = if unlike.is_empty() {
                 one
             } else {
-                format!(in alloc; "neither _ _ ({unlike}) ({one})")?
+                made(alloc, "neither _ _ ($) ($)", &[&unlike, &one])?
             };
         }
         last = Some(variant);
     }
-    let goals = format!(in alloc; "{crate_name}.proofs.{module}.{name}KindKind.merge.Goals")?;
-    write!(text, "use Rattle.{goals} as goal\n\n{arms}")?;
+    let goals = made(
+        alloc,
+        "$.proofs.$.$KindKind.merge.Goals",
+        &[crate_name, module, &name],
+    )?;
+    put(&mut text, "use Rattle.$ as goal\n\n$", &[&goals, &arms])?;
     if let Some(variant) = last {
         put_last(alloc, module, variant, &unlike, &mut text)?;
     }
@@ -266,23 +344,27 @@ pub(crate) fn merge_answers(
 
 fn put_arm(module: &str, variant: &Variant, text: &mut String) -> Result<(), GenerateError> {
     let (word, digits) = (variant.word.as_str(), variant.digits.as_str());
-    writeln!(
+    put(
         text,
-        "pub returns-in-{digits}-clause-err : goal.returns-in-{digits}-clause-err"
+        "pub returns-in-$-clause-err : goal.returns-in-$-clause-err\n",
+        &[digits, digits],
     )?;
-    writeln!(text, "returns-in-{digits}-clause-err g c =")?;
-    writeln!(
+    put(text, "returns-in-$-clause-err g c =\n", &[digits])?;
+    put(
         text,
-        "    arm_err {module}-kind.takes {word}-of-{module}.takes {digits} _"
+        "    arm_err $-kind.takes $-of-$.takes $ _\n",
+        &[module, word, module, digits],
     )?;
-    writeln!(
+    put(
         text,
-        "    (sym c.field_number.ensures.number ∙ c.in-{digits}.is) _ _"
+        "    (sym c.field_number.ensures.number ∙ c.in-$.is) _ _\n",
+        &[digits],
     )?;
-    writeln!(text, "    (λ charge z p h. (z, h)) _ _ _")?;
-    writeln!(
+    put(text, "    (λ charge z p h. (z, h)) _ _ _\n", &[])?;
+    put(
         text,
-        "    c.merge_{word}.result c.merge_{word}.ensures.err\n"
+        "    c.merge_$.result c.merge_$.ensures.err\n\n",
+        &[word, word],
     )?;
     Ok(())
 }
@@ -295,42 +377,67 @@ fn put_last(
     text: &mut String,
 ) -> Result<(), GenerateError> {
     let word = variant.word.as_str();
-    let steps = format!(in alloc; "{module}-kind.takes {word}-of-{module}.takes n n refl")?;
-    let last = format!(in alloc;
-        "{module}-front.owns {module}-front.takes {word}-of-{module}.takes n"
+    let steps = made(
+        alloc,
+        "$-kind.takes $-of-$.takes n n refl",
+        &[module, word, module],
     )?;
-    let seen = format!(in alloc; "({module}-of c.args.held.now)")?;
-    writeln!(
-        text,
-        "pub returns-in_default-clause-ok : goal.returns-in_default-clause-ok"
+    let last = made(
+        alloc,
+        "$-front.owns $-front.takes $-of-$.takes n",
+        &[module, module, word, module],
     )?;
-    writeln!(
+    let seen = made(alloc, "($-of c.args.held.now)", &[module])?;
+    put(
         text,
-        "returns-in_default-clause-ok g c =\n    let n = tag_number c.args.tag in"
+        "pub returns-in_default-clause-ok : goal.returns-in_default-clause-ok\n",
+        &[],
     )?;
-    writeln!(text, "    arm_ok {steps} _ _ _ _\n    (to_last {last}")?;
-    writeln!(text, "    (λ p. {unlike}) {seen} _)\n    _ _ _ _ _")?;
-    writeln!(
+    put(
         text,
-        "    c.merge_{word}.result c.merge_{word}.ensures.ok\n"
+        "returns-in_default-clause-ok g c =\n    let n = tag_number c.args.tag in\n",
+        &[],
     )?;
-    writeln!(
+    put(
         text,
-        "pub returns-in_default-clause-err : goal.returns-in_default-clause-err"
+        "    arm_ok $ _ _ _ _\n    (to_last $\n",
+        &[&steps, &last],
     )?;
-    writeln!(
+    put(
         text,
-        "returns-in_default-clause-err g c =\n    let n = tag_number c.args.tag in"
+        "    (λ p. $) $ _)\n    _ _ _ _ _\n",
+        &[&unlike, &seen],
     )?;
-    writeln!(
+    put(
         text,
-        "    arm_err {steps} _ _\n    (λ charge z p h. (\n      z,"
+        "    c.merge_$.result c.merge_$.ensures.ok\n\n",
+        &[word, word],
     )?;
-    writeln!(text, "      from_last {last}\n          (λ p. {unlike})")?;
-    writeln!(text, "          {seen} z charge p h,\n    ))")?;
-    writeln!(
+    put(
         text,
-        "    _ _ _ c.merge_{word}.result c.merge_{word}.ensures.err"
+        "pub returns-in_default-clause-err : goal.returns-in_default-clause-err\n",
+        &[],
+    )?;
+    put(
+        text,
+        "returns-in_default-clause-err g c =\n    let n = tag_number c.args.tag in\n",
+        &[],
+    )?;
+    put(
+        text,
+        "    arm_err $ _ _\n    (λ charge z p h. (\n      z,\n",
+        &[&steps],
+    )?;
+    put(
+        text,
+        "      from_last $\n          (λ p. $)\n",
+        &[&last, &unlike],
+    )?;
+    put(text, "          $ z charge p h,\n    ))\n", &[&seen])?;
+    put(
+        text,
+        "    _ _ _ c.merge_$.result c.merge_$.ensures.err\n",
+        &[word, word],
     )?;
     Ok(())
 }
@@ -351,40 +458,58 @@ pub(crate) fn variant_answers(
     imports.add("Rattle.std.proofs.lemmas.Result", "err_from_is_err_and")?;
     imports.add("Rattle.wire_codec.specs.TagView", "tag_number")?;
     imports.add("Rattle.wire_fields.specs.Arms", "untaken")?;
-    let specs = format!(in alloc; "Rattle.{crate_name}.specs.{name}")?;
-    imports.add(&specs, &format!(in alloc; "{module}-of")?)?;
-    imports.add(&specs, &format!(in alloc; "{word}-of-{module}")?)?;
-    imports.add(&specs, &format!(in alloc; "{word}-of-{module}-step")?)?;
+    let specs = made(alloc, "Rattle.$.specs.$", &[crate_name, &name])?;
+    imports.add(&specs, &made(alloc, "$-of", &[module])?)?;
+    imports.add(&specs, &made(alloc, "$-of-$", &[word, module])?)?;
+    imports.add(&specs, &made(alloc, "$-of-$-step", &[word, module])?)?;
     let mut text = String::new(alloc);
     imports.put_definitions(&mut text)?;
-    writeln!(
-        text,
-        "use Rattle.{crate_name}.proofs.{module}.merge_{word}.Goals as goal\n"
+    put(
+        &mut text,
+        "use Rattle.$.proofs.$.merge_$.Goals as goal\n\n",
+        &[crate_name, module, word],
     )?;
-    writeln!(
-        text,
-        "pub returns-in_err-merge-clause-err : goal.returns-in_err-merge-clause-err"
+    put(
+        &mut text,
+        "pub returns-in_err-merge-clause-err : goal.returns-in_err-merge-clause-err\n",
+        &[],
     )?;
-    writeln!(
-        text,
-        "returns-in_err-merge-clause-err g c =\n    let r = c.from_residual in"
+    put(
+        &mut text,
+        "returns-in_err-merge-clause-err g c =\n    let r = c.from_residual in\n",
+        &[],
     )?;
-    writeln!(
-        text,
-        "    let p = err_from_is_err_and r.result r.ensures.1 in"
+    put(
+        &mut text,
+        "    let p = err_from_is_err_and r.result r.ensures.1 in\n",
+        &[],
     )?;
-    writeln!(text, "    let n = tag_number c.args.tag in")?;
-    let step = format!(in alloc; "{word}-of-{module}-step")?;
-    writeln!(
-        text,
-        "    rw (p.1, p.2) (λ other. untaken {word}-of-{module}.takes {step} n n refl"
+    put(&mut text, "    let n = tag_number c.args.tag in\n", &[])?;
+    let step = made(alloc, "$-of-$-step", &[word, module])?;
+    put(
+        &mut text,
+        "    rw (p.1, p.2) (λ other. untaken $-of-$.takes $ n n refl\n",
+        &[word, module, &step],
     )?;
-    writeln!(
-        text,
-        "    ({module}-of c.args.held.now) _ (λ charge z p h. (\n      h.0,"
+    put(
+        &mut text,
+        "    ($-of c.args.held.now) _ (λ charge z p h. (\n      h.0,\n",
+        &[module],
     )?;
-    writeln!(text, "      subst (λ x. {step} x n p charge h.0)")?;
-    writeln!(text, "          (sym c.take_{word}-value.ensures) h.1,")?;
-    writeln!(text, "    )) _ _ _ ((c.in_err-merge).ensures.err other))")?;
+    put(
+        &mut text,
+        "      subst (λ x. $ x n p charge h.0)\n",
+        &[&step],
+    )?;
+    put(
+        &mut text,
+        "          (sym c.take_$-value.ensures) h.1,\n",
+        &[word],
+    )?;
+    put(
+        &mut text,
+        "    )) _ _ _ ((c.in_err-merge).ensures.err other))\n",
+        &[],
+    )?;
     Ok(text)
 }

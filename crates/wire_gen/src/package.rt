@@ -8,10 +8,9 @@ use crate::field::fields_of;
 use crate::oneof::{Oneof, oneof_code};
 use crate::oneof_proofs::{merge_answers, oneof_definitions, variant_answers};
 use crate::schema::{EnumType, MessageType, Names, Schema};
-use crate::text::{joined, refused};
+use crate::text::{made, put, refused};
 use crate::tree::tree_of;
 use std::alloc::Global;
-use std::fmt::Write;
 use wire_codec::{DecodeOptions, Message};
 use wire_descriptor::{CodeGeneratorRequest, CodeGeneratorResponse, CodeGeneratorResponseFile};
 
@@ -95,9 +94,9 @@ struct Package {
 }
 
 impl Package {
-    fn add(&mut self, path: &[&str], content: String) -> Result<(), GenerateError> {
+    fn add(&mut self, path: String, content: String) -> Result<(), GenerateError> {
         let mut file = CodeGeneratorResponseFile::default_value(self.alloc);
-        file.name = joined(self.alloc, path)?;
+        file.name = path;
         file.content = content;
         self.files.push(file)?;
         Ok(())
@@ -122,14 +121,8 @@ impl Package {
                 self.add_oneof(oneof)?;
             }
         }
-        let of = [
-            "proofs/",
-            &names.module,
-            "/",
-            &names.name,
-            "Message/merge_field/Answers.antt",
-        ];
-        self.add(&of, answers)
+        let of = "proofs/$/$Message/merge_field/Answers.antt";
+        self.add(made(alloc, of, &[&names.module, &names.name])?, answers)
     }
 
     fn add_oneof(&mut self, oneof: &Oneof) -> Result<(), GenerateError> {
@@ -137,16 +130,20 @@ impl Package {
         let code = oneof_code(alloc, &self.crate_name, oneof)?;
         let definitions = oneof_definitions(alloc, &self.crate_name, oneof)?;
         self.add_type(names, code, definitions)?;
-        let proofs = format!(in alloc; "proofs/{}", names.module)?;
+        let proofs = made(alloc, "proofs/$", &[&names.module])?;
         if oneof.variants.len() > 1 {
             let answers = merge_answers(alloc, &self.crate_name, oneof)?;
-            let kind = format!(in alloc; "{proofs}/{}KindKind/merge/Answers.antt", names.name)?;
-            self.add(&[&kind], answers)?;
+            let kind = made(
+                alloc,
+                "$/$KindKind/merge/Answers.antt",
+                &[&proofs, &names.name],
+            )?;
+            self.add(kind, answers)?;
         }
         for variant in &oneof.variants {
             let answers = variant_answers(alloc, &self.crate_name, oneof, variant)?;
-            let of = format!(in alloc; "{proofs}/merge_{}/Answers.antt", variant.word)?;
-            self.add(&[&of], answers)?;
+            let of = made(alloc, "$/merge_$/Answers.antt", &[&proofs, &variant.word])?;
+            self.add(of, answers)?;
         }
         Ok(())
     }
@@ -159,13 +156,12 @@ impl Package {
         definitions: String,
     ) -> Result<(), GenerateError> {
         let alloc = self.alloc;
-        self.modules
-            .push(format!(in alloc; "mod {};", names.module)?)?;
-        self.uses.push(format!(in alloc; "pub use {}::{};", names.module, names.name)?)?;
+        self.modules.push(made(alloc, "mod $;", &[&names.module])?)?;
+        self.uses.push(made(alloc, "pub use $::$;", &[&names.module, &names.name])?)?;
         self.definitions
-            .push(format!(in alloc; "pub mod {}", names.name)?)?;
-        self.add(&["src/", &names.module, ".rt"], code)?;
-        self.add(&["specs/", &names.name, ".antt"], definitions)
+            .push(made(alloc, "pub mod $", &[&names.name])?)?;
+        self.add(made(alloc, "src/$.rt", &[&names.module])?, code)?;
+        self.add(made(alloc, "specs/$.antt", &[&names.name])?, definitions)
     }
 
     fn add_enum(&mut self, schema: &Schema, of_enum: &EnumType) -> Result<(), GenerateError> {
@@ -178,22 +174,22 @@ impl Package {
     fn add_roots(&mut self) -> Result<(), GenerateError> {
         let alloc = self.alloc;
         let mut text = String::new(alloc);
-        writeln!(
-            text,
-            "//! The messages of `{}`. Generated.",
-            self.crate_name
+        put(
+            &mut text,
+            "//! The messages of `$`. Generated.\n",
+            &[&self.crate_name],
         )?;
-        writeln!(text, "#![tactic(auto)]\n")?;
+        put(&mut text, "#![tactic(auto)]\n\n", &[])?;
         put_sorted(alloc, &mut self.modules, &mut text)?;
-        writeln!(text, "")?;
+        put(&mut text, "\n", &[])?;
         put_sorted(alloc, &mut self.uses, &mut text)?;
-        self.add(&["src/lib.rt"], text)?;
+        self.add(made(alloc, "src/lib.rt", &[])?, text)?;
         let mut text = String::new(alloc);
         put_sorted(alloc, &mut self.definitions, &mut text)?;
-        self.add(&["specs/Lib.antt"], text)?;
+        self.add(made(alloc, "specs/Lib.antt", &[])?, text)?;
         let mut text = String::new(alloc);
         put_readme(&self.crate_name, &mut text)?;
-        self.add(&["README.md"], text)
+        self.add(made(alloc, "README.md", &[])?, text)
     }
 }
 
@@ -208,29 +204,37 @@ fn put_sorted(
         if line.as_str() == last {
             return Err(refused(alloc, &["two types have one name: ", line]));
         }
-        writeln!(text, "{line}")?;
+        put(text, "$\n", &[line])?;
         last = line;
     }
     Ok(())
 }
 
 fn put_readme(crate_name: &str, text: &mut String) -> Result<(), GenerateError> {
-    writeln!(text, "# {crate_name}\n")?;
-    writeln!(
+    put(text, "# $\n\n", &[crate_name])?;
+    put(
         text,
-        "Message types that were generated from schemas. The line of crates.txt is\n"
+        "Message types that were generated from schemas. The line of crates.txt is\n\n",
+        &[],
     )?;
-    writeln!(text, "    {crate_name}: wire_codec wire_fields bytes\n")?;
-    writeln!(
+    put(
         text,
-        "`rt check` proves of each type that encoding writes exactly the shortest encoding"
+        "    $: wire_codec wire_fields bytes\n\n",
+        &[crate_name],
     )?;
-    writeln!(
+    put(
         text,
-        "of the records that `specs/` tells of a value, and that decoding takes exactly the"
+        "`rt check` proves of each type that encoding writes exactly the shortest encoding\n",
+        &[],
     )?;
-    Ok(writeln!(
+    put(
         text,
-        "bytes that spell records of its table, within the limits, and gives their value."
-    )?)
+        "of the records that `specs/` tells of a value, and that decoding takes exactly the\n",
+        &[],
+    )?;
+    put(
+        text,
+        "bytes that spell records of its table, within the limits, and gives their value.\n",
+        &[],
+    )
 }

@@ -1,9 +1,8 @@
 //! The message types and enums of the files that are to be generated.
 use crate::error::GenerateError;
 use crate::names::{type_name, word_name};
-use crate::text::refused;
+use crate::text::{made, put, refused};
 use std::alloc::Global;
-use std::fmt::Write;
 use wire_codec::Message;
 use wire_descriptor::{
     CodeGeneratorRequest, DescriptorProto, EnumDescriptorProto, FieldDescriptorProto,
@@ -95,19 +94,19 @@ impl Schema {
         stop_on_rest(alloc, file)?;
         let full = match file.package.as_str() {
             "" => String::new(alloc),
-            package => format!(in alloc; ".{package}")?,
+            package => made(alloc, ".$", &[package])?,
         };
         let mut pending = Vec::new(alloc);
         for (index, descriptor) in file.message_type.iter().enumerate() {
             pending.push(Pending {
                 full: full.clone()?,
                 path: String::new(alloc),
-                place: format!(in alloc; "{}.4.{index}", file.name)?,
+                place: made(alloc, "$.4.$", &[&file.name, &index.to_string(alloc)?])?,
                 descriptor: descriptor.clone()?,
             })?;
         }
         self.add_comments(file)?;
-        let place = format!(in alloc; "{}.5", file.name)?;
+        let place = made(alloc, "$.5", &[&file.name])?;
         self.add_enums([&full, "", &place], &file.enum_type, is_proto3)?;
         for _ in 0..MOST_MESSAGES {
             match pending.pop() {
@@ -127,19 +126,19 @@ impl Schema {
         let alloc = self.alloc;
         let names = self.names(&next.full, &next.path, &next.descriptor.name, next.place)?;
         stop_on_extensions(alloc, &names.full, &next.descriptor)?;
-        let path = format!(in alloc; "{}{}.", next.path, next.descriptor.name)?;
+        let path = made(alloc, "$$.", &[&next.path, &next.descriptor.name])?;
         for (index, bytes) in next.descriptor.nested_type.iter().enumerate() {
             match DescriptorProto::decode_from_slice(alloc, bytes) {
                 Ok(descriptor) => pending.push(Pending {
                     full: names.full.clone()?,
                     path: path.clone()?,
-                    place: format!(in alloc; "{}.3.{index}", names.place)?,
+                    place: made(alloc, "$.3.$", &[&names.place, &index.to_string(alloc)?])?,
                     descriptor,
                 })?,
                 Err(error) => return Err(GenerateError::Request(error)),
             }
         }
-        let place = format!(in alloc; "{}.4", names.place)?;
+        let place = made(alloc, "$.4", &[&names.place])?;
         let outer = [names.full.as_str(), path.as_str(), place.as_str()];
         self.add_enums(outer, &next.descriptor.enum_type, is_proto3)?;
         let is_entry = match &next.descriptor.options {
@@ -167,7 +166,7 @@ impl Schema {
             if !location.leading_comments.is_empty() {
                 let mut place = file.name.clone()?;
                 for number in &location.path {
-                    write!(place, ".{number}")?;
+                    put(&mut place, ".$", &[&number.to_string(self.alloc)?])?;
                 }
                 self.comments.push(Comment {
                     place,
@@ -187,7 +186,7 @@ impl Schema {
     ) -> Result<(), GenerateError> {
         let [full, path, place] = outer;
         for (index, descriptor) in enums.iter().enumerate() {
-            let place = format!(in self.alloc; "{place}.{index}")?;
+            let place = made(self.alloc, "$.$", &[place, &index.to_string(self.alloc)?])?;
             let names = self.names(full, path, &descriptor.name, place)?;
             self.enums.push(EnumType {
                 names,
@@ -205,10 +204,10 @@ impl Schema {
         name: &str,
         place: String,
     ) -> Result<Names, GenerateError> {
-        let path = format!(in self.alloc; "{path}{name}")?;
+        let path = made(self.alloc, "$$", &[&path, name])?;
         let name_of_type = type_name(self.alloc, &path)?;
         Ok(Names {
-            full: format!(in self.alloc; "{full}.{name}")?,
+            full: made(self.alloc, "$.$", &[full, name])?,
             module: word_name(self.alloc, &name_of_type)?,
             name: name_of_type,
             place,
@@ -229,11 +228,11 @@ impl Schema {
                 for line in comment.text.trim_end().split('\n') {
                     let line = line.strip_prefix(" ").unwrap_or(line).trim_end();
                     let between = if line.is_empty() { "" } else { " " };
-                    writeln!(text, "{margin}///{between}{line}")?;
+                    put(text, "$///$$\n", &[margin, between, line])?;
                 }
             }
             None if otherwise.is_empty() => {}
-            None => writeln!(text, "{margin}/// {otherwise}")?,
+            None => put(text, "$/// $\n", &[margin, otherwise])?,
         }
         Ok(())
     }

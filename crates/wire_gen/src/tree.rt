@@ -3,6 +3,7 @@
 use crate::error::GenerateError;
 use crate::field::Field;
 use crate::kind::in_brackets;
+use crate::text::{made, put};
 use std::alloc::Global;
 
 /// The tree of a message's fields.
@@ -85,15 +86,15 @@ fn leaf(alloc: Global, module: &str, place: usize, field: &Field) -> Result<Node
     let digits = field.digits.as_str();
     let table = match field.oneof {
         Some(_) => field.definition.clone()?,
-        None => format!(in alloc; "known {digits} {module}-{}-kind", field.name)?,
+        None => made(alloc, "known $ $-$-kind", &[digits, module, &field.name])?,
     };
     let mut unlike = String::new(alloc);
     for number in &field.numbers {
-        let one = format!(in alloc; "unlike n {number} (search rules)")?;
+        let one = made(alloc, "unlike n $ (search rules)", &[number])?;
         unlike = if unlike.is_empty() {
             one
         } else {
-            format!(in alloc; "neither _ _ ({unlike})\n    ({one})")?
+            made(alloc, "neither _ _ ($)\n    ($)", &[&unlike, &one])?
         };
     }
     Ok(Node {
@@ -101,7 +102,7 @@ fn leaf(alloc: Global, module: &str, place: usize, field: &Field) -> Result<Node
         behind: place.saturating_add(1),
         low: field.digits.clone()?,
         high: field.digits.clone()?,
-        local: format!(in alloc; "field_{digits}")?,
+        local: made(alloc, "field_$", &[digits])?,
         value: in_brackets(alloc, &field.value)?,
         view: field.view.clone()?,
         table,
@@ -124,13 +125,13 @@ fn pair(
         } else {
             ""
         };
-        *path = format!(in alloc; "{step}{path}")?;
+        *path = made(alloc, "$$", &[step, path])?;
     }
-    let local = format!(in alloc; "fields_{}_to_{}", left.low, right.high)?;
-    writeln!(
+    let local = made(alloc, "fields_$_to_$", &[&left.low, &right.high])?;
+    put(
         pairs,
-        "        let {local} = ({}, {});",
-        left.local, right.local
+        "        let $ = ($, $);\n",
+        &[&local, &left.local, &right.local],
     )?;
     let (one, other) = (indented(alloc, &left.view)?, indented(alloc, &right.view)?);
     Ok(Node {
@@ -139,10 +140,14 @@ fn pair(
         low: left.low,
         high: right.high,
         local,
-        value: format!(in alloc; "({}\n    × {})", left.value, right.value)?,
-        view: format!(in alloc; "(\n{one},\n{other},\n)")?,
-        table: format!(in alloc; "two ({})\n    ({})", left.table, right.table)?,
-        unlike: format!(in alloc; "neither _ _ ({})\n    ({})", left.unlike, right.unlike)?,
+        value: made(alloc, "($\n    × $)", &[&left.value, &right.value])?,
+        view: made(alloc, "(\n$,\n$,\n)", &[&one, &other])?,
+        table: made(alloc, "two ($)\n    ($)", &[&left.table, &right.table])?,
+        unlike: made(
+            alloc,
+            "neither _ _ ($)\n    ($)",
+            &[&left.unlike, &right.unlike],
+        )?,
     })
 }
 
