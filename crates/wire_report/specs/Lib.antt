@@ -1,4 +1,0 @@
-pub mod Report
-pub mod ReportLevel
-pub mod ReportOrigin
-pub mod ReportSample
