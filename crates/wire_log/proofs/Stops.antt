@@ -49,11 +49,11 @@ frame_stops form limit bytes error e (memory h wants) (inr (same, is)) = no_memo
 pub no_entry_refused : NoFrameBesideFault → (form : Framing) (limit : ℕ) (bytes : List ℕ)
     (error : FrameError) (e : Stop) → FrameRefusal form limit bytes error → FrameStop error e
     → e ≢ stops.OutOfMemory → HoldsEntry form limit bytes → ⊥
-no_entry_refused beside form limit bytes error e refused (inr (wants, is)) fault_ entry =
-    fault_ is
-no_entry_refused beside form limit bytes error e (memory h wants) (inl (other, is)) some entry =
-    other wants
-no_entry_refused beside form limit bytes error e (fault h) (inl (other, is)) some
+no_entry_refused beside form limit bytes error e refused (inr (wants, is)) not_memory entry =
+    not_memory is
+no_entry_refused beside form limit bytes error e (memory h wants) (inl (other, is)) not_memory
+    entry = other wants
+no_entry_refused beside form limit bytes error e (fault h) (inl (other, is)) not_memory
     (frame, rest, fields, read, spelled) =
     beside form limit bytes error (frame, rest, read) h
 
@@ -72,7 +72,7 @@ records_stops form limit bytes rest frame error e read refused (inr (wants, is))
     no_memory (frame, rest, read) is
 records_stops form limit bytes rest frame error e read (inl h) (inl (other, is)) =
     no_records frame rest error read h is
-records_stops form limit bytes rest frame error e read (inr (wants, where_)) (inl (other, is)) =
+records_stops form limit bytes rest frame error e read (inr (wants, behind)) (inl (other, is)) =
     absurd (other wants)
 
 pub no_entry_unread : OneFrame → (form : Framing) (limit : ℕ) (bytes rest : List ℕ)
@@ -80,9 +80,9 @@ pub no_entry_unread : OneFrame → (form : Framing) (limit : ℕ) (bytes rest : 
     → Reads bytes (IsFrame form limit frame) rest
     → ((fs : Fields) → SpellsEntry fs frame.payload → error ≡ decode.OutOfMemory)
     → RecordsStop error e → e ≢ stops.OutOfMemory → HoldsEntry form limit bytes → ⊥
-no_entry_unread one form limit bytes rest frame error e read only (inr (wants, is)) some entry =
-    some is
-no_entry_unread one form limit bytes rest frame error e read only (inl (other, is)) some
+no_entry_unread one form limit bytes rest frame error e read only (inr (wants, is)) not_memory
+    entry = not_memory is
+no_entry_unread one form limit bytes rest frame error e read only (inl (other, is)) not_memory
     (x, behind, fields, took, spelled) =
     let same = one form limit x frame bytes behind rest took read in
     other (only fields (subst (λ (f : Frame). SpellsEntry fields f.payload) same.0 spelled))
