@@ -109,8 +109,8 @@ impl FrameDecoder {
         }
     }
 
-    /// As `next`, but the frame is given as it stands, with its prefix: the texts of the frames, one
-    /// behind another, are a front of the bytes that were fed.
+    /// As `next`, but the frame is given as it stands, with its prefix: the texts of the frames are
+    /// a front of the bytes that were fed.
     pub fn next_text(&mut self) -> Result<Option<FrameText>, FrameError>
         ensures frame { IfOk result (λ next. IfSome next
             (IsWhole self.old.framing self.old.limit)) }
