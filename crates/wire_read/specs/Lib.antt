@@ -1,4 +1,5 @@
 pub mod Budget
+pub mod Faults
 pub mod Last
 pub mod Laws
 pub mod Opened
