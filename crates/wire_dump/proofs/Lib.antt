@@ -2,6 +2,5 @@ pub mod Open
 pub mod Texts
 pub mod Put
 pub mod Walk
-pub mod Short
 pub mod One
 pub mod Escaped

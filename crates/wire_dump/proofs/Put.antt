@@ -231,7 +231,7 @@ no_message_put whole_input beside y n place payload_place start l payload text o
     let all : min y.budget 100 ≡ y.budget = omega arith in
     let refused : ListFault (uncounted y.budget) by_input payload f.error =
     subst (λ (x : ℕ). ListFault (uncounted x) by_input payload f.error) all
-    (subst (λ (x : Limits). ListFault x by_input payload f.error) limits h.refused.refused) in
+    (subst (λ (x : Limits). ListFault x by_input payload f.error) limits h.refused.is.of_list) in
     let no_message : (fs : Fields) → IsMessage y.budget payload fs → ⊥ =
     λ fs m. beside (uncounted y.budget) by_input payload [] f.error fs refused
     ((whole_input (charge fs) (uncounted y.budget) fs payload []).1 (m.spelled, m.within, refl)) in

@@ -39,8 +39,7 @@ pub(crate) fn put_records(
     laws::reader_goes_on();
     laws::reader_moves_on();
     laws::reader_is_done();
-    laws::reader_is_stuck();
-    laws::fault_is_behind_longest();
+    laws::reader_stops();
     laws::items_tell_records();
     while let Some(event) = reader.next(bytes)? {
         let count = reader.open_groups().len() as u32;

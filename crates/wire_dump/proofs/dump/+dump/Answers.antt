@@ -305,7 +305,6 @@ put_records-returns-in_err-event-clause-fault t c =
     subst (λ (x : Fault). Stops x all (at c.loop-event.reader all)) is
     c.in_err-event.ensures.fault in
     let kept : c.next.new.self ≡ c.loop-event.reader = search rules in
-    rw kept (stopped c.items_tell_records.ensures c.reader_is_stuck.ensures
-    c.fault_is_behind_longest.ensures c.args.layout c.args.place (limits_of c.args.reader.now) all
-    (at c.loop-event.reader all) f c.args.out.now.items c.loop-event.out.items
-    c.loop-event.invariant stops_here)
+    rw kept (stopped c.items_tell_records.ensures c.reader_stops.ensures c.args.layout c.args.place
+    (limits_of c.args.reader.now) all (at c.loop-event.reader all) f c.args.out.now.items
+    c.loop-event.out.items c.loop-event.invariant stops_here)
