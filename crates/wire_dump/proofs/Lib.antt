@@ -1,3 +1,4 @@
+pub mod Begins
 pub mod Open
 pub mod Texts
 pub mod Put

@@ -74,7 +74,10 @@ fn print(rt: &HostRuntime, options: &Options<'_>, bytes: &[u8]) -> Result<(), Ru
     }
     let mut reader = Reader::within(&options.context);
     let layout = Layout::new(options.has_offsets, 0);
-    let mut out = Vec::new(rt.alloc());
+    // Most lines are longer than their bytes; what is not written to takes no memory.
+    let Ok(mut out) = Vec::with_capacity(rt.alloc(), bytes.len().saturating_mul(2)) else {
+        return Err(RunError::OutOfMemory);
+    };
     match put_records(&mut out, layout, 0, &mut reader, bytes) {
         Ok(()) => send(rt, &out),
         Err(Stop::OutOfMemory) => Err(RunError::OutOfMemory),

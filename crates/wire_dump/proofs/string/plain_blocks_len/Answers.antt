@@ -7,8 +7,9 @@ pub loop-count-preserved : goal.loop-count-preserved
 loop-count-preserved c =
     let bytes = c.args.bytes.now in
     let count = c.loop-count.count in
-    let block = take (count + 32 - count) (drop count bytes) in
+    let size = c.args.block in
+    let block = take (count + size - count) (drop count bytes) in
     let same : escaped block ≡ block = search rules in
-    let room : count + 32 ≤ length bytes =
+    let room : count + size ≤ length bytes =
     omega (arith, c.loop-count.invariant.within, c.loop-count-test.true) in
-    block_plain bytes count 32 c.loop-count.invariant room same
+    block_plain bytes count size c.loop-count.invariant room same
