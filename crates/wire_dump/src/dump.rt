@@ -118,8 +118,8 @@ fn put_payload(
     put_message(out, layout, number, place, text, payload)
 }
 
-// Puts a payload as a message, and where it is none as a string. It has a place of its own for the
-// reader, which is then made once.
+// Puts a payload as a message, and where it is none as a string. The reader is made before all else,
+// so that its place is filled once.
 #[cycle(dump)]
 #[inline(never)]
 fn put_message(
@@ -142,6 +142,7 @@ fn put_message(
 {
     grammar::whole_input();
     grammar::no_list_beside_fault();
+    let mut reader = Reader::new(layout.budget);
     let end = place + text.len();
     let whole = layout.margin(place, end);
     let start = out.len();
@@ -152,7 +153,6 @@ fn put_message(
         layout.level,
         number,
     )?;
-    let mut reader = Reader::new(layout.budget);
     match put_records(out, layout.inside(1), payload_place, &mut reader, payload) {
         Ok(()) => put_closing(out, layout.margin(end, end), layout.level),
         Err(Stop::Fault(_)) => {
