@@ -7,9 +7,8 @@ use crate::layout::Margin;
 use crate::line::put_head;
 use std::alloc::AllocError;
 
-const BLOCK: usize = 32;
-
-const SMALL_BLOCK: usize = 8;
+// How many bytes are compared at once.
+const BLOCK: usize = 8;
 
 // A backslash and three digits to the base 8.
 fn put_octal(out: &mut Vec<u8>, byte: u8) -> Result<(), AllocError>
@@ -57,18 +56,14 @@ fn are_plain(bytes: &[u8]) -> bool
     are
 }
 
-// How many bytes at the front stand for themselves: those that do, and whole blocks behind them.
-#[inline(always)]
-fn plain_blocks_len(bytes: &[u8], start: usize, block: usize) -> usize
-    requires some { 0 < block }
-    requires within { start ≤ length bytes.now }
-    requires plain { escaped (take start bytes.now) ≡ take start bytes.now }
+// How many bytes at the front stand for themselves, in whole blocks.
+fn plain_blocks_len(bytes: &[u8]) -> usize
     ensures within { result ≤ length bytes.now }
     ensures plain { escaped (take result bytes.now) ≡ take result bytes.now }
 {
-    let mut count = start;
-    while bytes.len() - count >= block && are_plain(&bytes[count..count + block]) {
-        count += block;
+    let mut count = 0;
+    while bytes.len() - count >= BLOCK && are_plain(&bytes[count..count + BLOCK]) {
+        count += BLOCK;
     }
     count
 }
@@ -78,8 +73,7 @@ fn plain_len(bytes: &[u8]) -> usize
     ensures within { result ≤ length bytes.now }
     ensures plain { escaped (take result bytes.now) ≡ take result bytes.now }
 {
-    let blocks_len = plain_blocks_len(bytes, 0, BLOCK);
-    let mut count = plain_blocks_len(bytes, blocks_len, SMALL_BLOCK);
+    let mut count = plain_blocks_len(bytes);
     while count < bytes.len() && is_plain(bytes[count]) {
         count += 1;
     }
