@@ -118,8 +118,8 @@ fn put_payload(
     put_message(out, layout, number, place, text, payload)
 }
 
-// Puts a payload as a message, and where it is none as a string. The reader is made before all else,
-// so that its place is filled once.
+// Puts a payload as a message, and where it is none as a string. The reader is made before all
+// else, so that its place is filled once.
 #[cycle(dump)]
 #[inline(never)]
 fn put_message(
