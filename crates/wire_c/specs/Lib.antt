@@ -1,4 +1,3 @@
 pub mod Put
 pub mod Read
-pub mod Status
 pub mod Whole

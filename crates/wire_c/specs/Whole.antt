@@ -12,46 +12,42 @@ use Rattle.wire_base.specs.Spells.{Spells}
 use Rattle.wire_base.specs.Tag.{wire_number}
 use Rattle.wire_base.specs.Text.{size, text_of}
 use Rattle.wire_read.specs.declared.event.Fault.{Fault}
+use Rattle.wire_read.specs.declared.numbers.FaultNumbers.{FaultNumbers}
+use Rattle.wire_read.specs.declared.numbers.LimitNumbers.{LimitNumbers}
+use Rattle.wire_read.specs.Faults.{IsFault}
 use Rattle.wire_read.specs.Last.{FoundLast}
-use Rattle.wire_read.specs.Opened.{Group, LongestFront}
-use Rattle.wire_read.specs.Reading.{place_of}
+use Rattle.wire_read.specs.Numbers.{status_of, told_fault}
 use Rattle.wire_write.specs.declared.shortest.ShortestError.{ShortestError}
 use Rattle.wire_write.specs.declared.shortest.ShortestError.TheVariants as errors
 use Rattle.wire_write.specs.Put.{Puts}
 use Rattle.wire_write.specs.Shortest.{Decodes, ShortestFault}
-use Rattle.wire_c.specs.declared.read.FaultInC.{FaultInC}
-use Rattle.wire_c.specs.declared.read.LimitsInC.{LimitsInC}
-use Rattle.wire_c.specs.Read.{told_fault}
-use Rattle.wire_c.specs.Status.{status_of}
 
 -- the limits have at most 100 levels, and the call does as is said; or they have more, and nothing
 -- changes
-abbrev pub Within : LimitsInC → Type 0 → ℕ → Type 0 → Type 0
+abbrev pub Within : LimitNumbers → Type 0 → ℕ → Type 0 → Type 0
 Within limits does status unchanged =
     ((limits.depth ≤ 100) × does) ⊎ ((100 < limits.depth) × (status ≡ 33) × unchanged)
 
 -- all of the bytes spell records within the limits, or the fault is told
-pub record Validates (l : Limits) (all : List ℕ) (before after : FaultInC)
+pub record Validates (l : Limits) (all : List ℕ) (before after : FaultNumbers)
     (status : ℕ) : Type 0 where
   pub checked : Result (Unit {0}) Fault
   pub ok : OnOk checked ((fs : Fields) × Decodes l fs all × (status ≡ 0) × (after ≡ before))
-  pub fault : IfErr checked (λ f. ListFault l by_input all f.error)
-  pub place : IfErr checked (λ f. (levels : List Group) × (fs : Fields) × (rest : List ℕ)
-      × LongestFront l levels fs all rest × (f.record_place ≡ place_of all rest))
+  pub fault : IfErr checked (IsFault l all)
   pub told : IfErr checked (λ f. (after ≡ told_fault f) × (status ≡ status_of f.error))
 
 -- the length of the shortest encoding is told, or the fault
-pub record Measures (l : Limits) (all : List ℕ) (len len_then : ℕ) (before after : FaultInC)
+pub record Measures (l : Limits) (all : List ℕ) (len len_then : ℕ) (before after : FaultNumbers)
     (status : ℕ) : Type 0 where
   pub measured : Result ℕ Fault
   pub ok : IfOk measured (λ n. (fs : Fields) × Decodes l fs all × (n ≡ size fs))
-  pub fault : IfErr measured (λ f. ListFault l by_input all f.error)
+  pub fault : IfErr measured (IsFault l all)
   pub told_ok : IfOk measured (λ n. (len_then ≡ n) × (after ≡ before) × (status ≡ 0))
   pub told_fault : IfErr measured
       (λ f. (len_then ≡ len) × (after ≡ told_fault f) × (status ≡ status_of f.error))
 
 -- what C is told of a refusal: the fault, or how much room is wanted
-abbrev pub ToldError : ShortestError → ℕ → ℕ → FaultInC → FaultInC → ℕ → Type 0
+abbrev pub ToldError : ShortestError → ℕ → ℕ → FaultNumbers → FaultNumbers → ℕ → Type 0
 ToldError (errors.Fault f) len len_then before after status =
     (len_then ≡ len) × (after ≡ told_fault f) × (status ≡ status_of f.error)
 ToldError (errors.NoRoom wanted) len len_then before after status =
@@ -59,7 +55,7 @@ ToldError (errors.NoRoom wanted) len len_then before after status =
 
 -- the shortest encoding stands at the front of the room, or a refusal is told
 pub record Shortens (l : Limits) (all old new : List ℕ) (len len_then : ℕ)
-    (before after : FaultInC) (status : ℕ) : Type 0 where
+    (before after : FaultNumbers) (status : ℕ) : Type 0 where
   pub written : Result ℕ ShortestError
   pub ok : IfOk written (λ n. (fs : Fields) × Decodes l fs all × Puts (text_of fs) 0 old new n)
   pub err : IfErr written (ShortestFault l all old)

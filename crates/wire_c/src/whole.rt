@@ -1,17 +1,17 @@
 //! Calls on all of some bytes.
 ghost use Rattle.std.specs.Prelude.{◌≡◌, ◌<◌, ◌≤◌, ◌⊎◌};
 ghost use Rattle.wire_read.specs.Budget.{read_limits};
-ghost use Rattle.wire_c.specs.Read.{context_of};
+ghost use Rattle.wire_read.specs.Numbers.{context_of};
 ghost use Rattle.wire_c.specs.Whole.{Finds, Measures, Shortens, Validates, Within, told_range};
 
-use crate::read::{FaultInC, LimitsInC, context_of, tell_fault};
-use crate::status::{DEPTH_TOO_LARGE, NO_ROOM, NOT_FOUND, OK, status_of};
+use crate::status::{DEPTH_TOO_LARGE, NO_ROOM, NOT_FOUND, OK};
+use wire_read::numbers::{FaultNumbers, LimitNumbers, context_of, status_of, tell_fault};
 use wire_read::{MAX_OPEN_GROUPS, Place};
 use wire_write::ShortestError;
 
 /// Whether all of the bytes are records within the limits: `OK`, or the status of the fault.
 #[unsafe(no_mangle)]
-pub extern "C" fn gtv_validate(bytes: &[u8], limits: &LimitsInC, fault: &mut FaultInC) -> u32
+pub extern "C" fn gtv_validate(bytes: &[u8], limits: &LimitNumbers, fault: &mut FaultNumbers) -> u32
     ensures { Within limits.now
         (Validates (read_limits (context_of limits.now)) bytes.now fault.old fault.new result)
         result (fault.new ≡ fault.old) }
@@ -74,9 +74,9 @@ fn tell_range(place: Place) -> RangeInC
 #[unsafe(no_mangle)]
 pub extern "C" fn gtv_shortest_len(
     bytes: &[u8],
-    limits: &LimitsInC,
+    limits: &LimitNumbers,
     len: &mut usize,
-    fault: &mut FaultInC,
+    fault: &mut FaultNumbers,
 ) -> u32
     ensures { Within limits.now
         (Measures (read_limits (context_of limits.now)) bytes.now len.old len.new
@@ -103,10 +103,10 @@ pub extern "C" fn gtv_shortest_len(
 #[unsafe(no_mangle)]
 pub extern "C" fn gtv_shortest(
     bytes: &[u8],
-    limits: &LimitsInC,
+    limits: &LimitNumbers,
     room: &mut [u8],
     len: &mut usize,
-    fault: &mut FaultInC,
+    fault: &mut FaultNumbers,
 ) -> u32
     ensures { Within limits.now
         (Shortens (read_limits (context_of limits.now)) bytes.now room.old room.new len.old len.new

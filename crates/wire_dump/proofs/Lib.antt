@@ -1,7 +1,7 @@
+pub mod Begins
 pub mod Open
 pub mod Texts
 pub mod Put
 pub mod Walk
-pub mod Short
 pub mod One
 pub mod Escaped

@@ -169,4 +169,5 @@ module _ (tags : OneTag) (payloads : OnePayload) (spelled : OneSpelled) where
 
 pub one_shortened : OneSpelled → OneShortened
 one_shortened spelled l m all text other h g =
-    h.is ∙ ap text_of (spelled h.fields g.fields all h.spelled g.spelled) ∙ sym g.is
+    h.is ∙ ap text_of (spelled h.fields g.fields all h.decodes.spelled g.decodes.spelled)
+    ∙ sym g.is

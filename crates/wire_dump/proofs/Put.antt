@@ -16,6 +16,7 @@ use Rattle.wire_read.specs.declared.event.Value.{Value}
 use Rattle.wire_read.specs.declared.event.Value.TheVariants as values
 use Rattle.wire_dump.specs.declared.layout.Layout.{Layout}
 use Rattle.wire_dump.specs.declared.layout.Margin.{Margin}
+use Rattle.wire_base.specs.Spells.{Spells}
 use Rattle.wire_dump.specs.Dumps.{IsMessage, SpellsRecord, number, eight_bytes, four_bytes, message, string}
 use Rattle.wire_dump.specs.Dumped.{IsDumped, IsDumpedFront, ItemLines, Puts, RecordLines, inside}
 use Rattle.wire_dump.specs.Lines.{number_line, fixed_line, string_line, opening, closing}
@@ -110,6 +111,11 @@ pub no_bytes : (y : Layout) (n : ℕ) (payload text : List ℕ) → payload ≡ 
     → SpellsRecord n (bytes payload) text
     → RecordLines y n (bytes payload) text (line_of text (string_line y.level n payload))
 no_bytes y n payload text none is = string is (λ fs m. m.nonempty none) refl
+
+pub no_records : (y : Layout) (n : ℕ) (payload text : List ℕ)
+    → ((fs : Fields) → Spells fs payload → ⊥) → SpellsRecord n (bytes payload) text
+    → RecordLines y n (bytes payload) text (line_of text (string_line y.level n payload))
+no_records y n payload text never is = string is (λ fs m. never fs m.spelled) refl
 
 pub printed-append : (o : Bool) (place : ℕ) (xs ys : List Line)
     → printed o place (xs ++ ys) ≡ printed o place xs ++ printed o (place + width_of xs) ys
@@ -231,7 +237,7 @@ no_message_put whole_input beside y n place payload_place start l payload text o
     let all : min y.budget 100 ≡ y.budget = omega arith in
     let refused : ListFault (uncounted y.budget) by_input payload f.error =
     subst (λ (x : ℕ). ListFault (uncounted x) by_input payload f.error) all
-    (subst (λ (x : Limits). ListFault x by_input payload f.error) limits h.refused.refused) in
+    (subst (λ (x : Limits). ListFault x by_input payload f.error) limits h.refused.is.of_list) in
     let no_message : (fs : Fields) → IsMessage y.budget payload fs → ⊥ =
     λ fs m. beside (uncounted y.budget) by_input payload [] f.error fs refused
     ((whole_input (charge fs) (uncounted y.budget) fs payload []).1 (m.spelled, m.within, refl)) in

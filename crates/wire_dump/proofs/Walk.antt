@@ -7,9 +7,8 @@ use Rattle.wire_base.specs.Items.{Item, start, end, whole, IsItem}
 use Rattle.wire_base.specs.Limits.{Limits}
 use Rattle.wire_base.specs.Tag.{IsTagSpelling}
 use Rattle.wire_read.specs.declared.event.Fault.{Fault}
-use Rattle.wire_read.specs.Laws.{FaultIsBehindLongest, ItemsTellRecords, ReaderGoesOn, ReaderIsDone, ReaderIsStuck}
-use Rattle.wire_read.specs.Opened.{Group, ending_of, left_open, numbers}
-use Rattle.wire_read.specs.PartFault.{PartFault}
+use Rattle.wire_read.specs.Laws.{ItemsTellRecords, ReaderGoesOn, ReaderIsDone, ReaderStops}
+use Rattle.wire_read.specs.Opened.{Group, numbers}
 use Rattle.wire_read.specs.Reading.{At, IsAt, IsDone, Moves, Stops, groups_of}
 use Rattle.wire_read.specs.declared.reader.Reader.{Reader}
 use Rattle.wire_read.specs.Rebuilt.{Records, put, put_all, rebuilt}
@@ -18,7 +17,6 @@ use Rattle.wire_dump.specs.Dumps.{DumpsOpen, DumpsRecord, nothing}
 use Rattle.wire_dump.specs.Dumped.{IsDumped, IsDumpedFront, ItemLines, Puts}
 use Rattle.wire_dump.specs.Lines.{opening, closing}
 use Rattle.wire_dump.specs.Places.{Line, line_of, printed, width_of}
-use Rattle.wire_dump.specs.Refused.{IsRefused}
 use Rattle.wire_dump.proofs.Open.{open_end, open_record, open_start}
 use Rattle.wire_dump.proofs.Put.{printed-append, width-append}
 
@@ -170,47 +168,22 @@ finished tell is_done y place l all s old new h done =
       written = h.written;
     }
 
--- what is refused, behind these items
-pub refused : ReaderIsStuck → FaultIsBehindLongest → (l : Limits) (all : List ℕ)
-    (items : List Item) (s : At) (f : Fault) → IsAt l all items s → Stops f all s
-    → IsRefused l all f s.groups
-refused stuck behind l all items s f place stops =
-    let levels = place.levels in
-    let fields = place.fields in
-    let part : PartFault (left_open l levels fields) (ending_of (numbers levels)) s.rest f.part
-    stops.place f.error =
-    subst (λ (x : List ℕ). PartFault (left_open l levels fields) (ending_of x) s.rest f.part
-    stops.place f.error) place.groups
-    (subst (λ (x : Limits). PartFault x (ending_of s.groups) s.rest f.part stops.place f.error)
-    place.limits stops.part) in
-    record {
-      levels = levels;
-      fields = fields;
-      rest = s.rest;
-      place = stops.place;
-      longest = behind l all levels fields s.rest f.part stops.place f.error place.taken part;
-      part = part;
-      record_place = stops.record_place;
-      part_place = stops.part_place;
-      groups_are = place.groups;
-      refused = stuck l all items s f.part stops.place f.error place stops.goes_on stops.part;
-    }
-
-pub stopped : ItemsTellRecords → ReaderIsStuck → FaultIsBehindLongest → (y : Layout) (place : ℕ)
-    (l : Limits) (all : List ℕ) (s : At) (f : Fault) (old new : List ℕ)
+pub stopped : ItemsTellRecords → ReaderStops → (y : Layout) (place : ℕ) (l : Limits)
+    (all : List ℕ) (s : At) (f : Fault) (old new : List ℕ)
     → Sofar y place l all s old new → Stops f all s
     → IsDumpedFront y place l all f s.groups old new
-unfolding refused
-stopped tell stuck behind y place l all s f old new h stops = record {
-  refused = refused stuck behind l all h.items s f h.stands stops;
-  front = h.front;
-  lines = h.lines;
-  parts = h.parts;
-  dumped = subst (λ (x : Records). Shows y x h.front h.lines)
-      (shown tell l all h.items s h.stands) h.dumped;
-  covers = h.covers;
-  written = h.written;
-}
+stopped tell law y place l all s f old new h stops =
+    let (is, here, groups, items) = law l all h.items s f h.stands stops in
+    record {
+      refused = record { is = is; groups_are = groups };
+      front = h.front;
+      lines = h.lines;
+      parts = h.parts ∙ ap (λ (x : List ℕ). h.front ++ x) here;
+      dumped = subst (λ (x : Records). Shows y x h.front h.lines)
+          (ap rebuilt items ∙ tell is.levels is.fields) h.dumped;
+      covers = h.covers;
+      written = h.written;
+    }
 
 -- ---- how many groups are open
 

@@ -23,15 +23,14 @@ pub record IsDumped (layout : Layout) (place : ℕ) (l : Limits) (all old new : 
   pub covers : width_of lines ≡ length all
   pub written : new ≡ old ++ printed layout.has_offsets place lines
 
--- A fault stands behind the longest front that spells records within the limits, open groups
--- counted, and the lines of this front are put.
+-- The bytes have this fault, and the lines of what stands before it are put.
 pub record IsDumpedFront (layout : Layout) (place : ℕ) (l : Limits) (all : List ℕ) (fault : Fault)
     (groups : List ℕ) (old new : List ℕ) : Type 0 where
   pub refused : IsRefused l all fault groups
   pub front : List ℕ
   pub lines : List Line
-  pub parts : all ≡ front ++ refused.rest
-  pub dumped : DumpsOpen layout.budget layout.level refused.levels refused.fields front lines
+  pub parts : all ≡ front ++ refused.is.rest
+  pub dumped : DumpsOpen layout.budget layout.level refused.is.levels refused.is.fields front lines
   pub covers : width_of lines ≡ length front
   pub written : new ≡ old ++ printed layout.has_offsets place lines
 

@@ -1,7 +1,8 @@
 //! The lines of all records of bytes.
-ghost use Rattle.std.specs.Prelude.{◌≡◌, ◌+◌, ◌*◌, ◌-◌, ◌^◌, ◌<◌, ◌≤◌, length, OnOk, Err};
-ghost use Rattle.wire_base.specs.Field.{bytes};
+ghost use Rattle.std.specs.Prelude.{◌≡◌, ◌≢◌, ◌+◌, ◌*◌, ◌-◌, ◌^◌, ◌<◌, ◌≤◌, [], length, IsTrue, OnOk, Err};
+ghost use Rattle.wire_base.specs.Field.{Fields, bytes};
 ghost use Rattle.wire_base.specs.Items.{whole, IsItem};
+ghost use Rattle.wire_base.specs.Spells.{Spells};
 ghost use Rattle.wire_read.specs.declared.event.Fault.{Fault};
 ghost use Rattle.wire_read.specs.Reading.{item, groups_of, limits_of, Begins};
 ghost use Rattle.wire_dump.specs.Dumped.{IsDumped, IsDumpedFront, ItemLines, Puts, RecordLines};
@@ -13,6 +14,7 @@ use crate::stop::Stop;
 use crate::string::put_string;
 use std::alloc::AllocError;
 use wire_base::laws as grammar;
+use wire_codec::{Tag, WireType};
 use wire_read::{Event, Reader, Value, laws};
 
 /// Puts the lines of all records of these bytes, which begin at this place of the input. Where a
@@ -39,8 +41,7 @@ pub(crate) fn put_records(
     laws::reader_goes_on();
     laws::reader_moves_on();
     laws::reader_is_done();
-    laws::reader_is_stuck();
-    laws::fault_is_behind_longest();
+    laws::reader_stops();
     laws::items_tell_records();
     while let Some(event) = reader.next(bytes)? {
         let count = reader.open_groups().len() as u32;
@@ -104,16 +105,46 @@ fn put_payload(
         (RecordLines layout number (bytes payload.now) text.now)
         text.now out.old.items out.new.items) }
 {
-    grammar::whole_input();
-    grammar::no_list_beside_fault();
-    let end = place + text.len();
-    let whole = layout.margin(place, end);
+    let whole = layout.margin(place, place + text.len());
     if layout.budget == 0 {
         return put_string(out, whole, layout.level, number, payload);
     }
     if payload.is_empty() {
         return put_string(out, whole, layout.level, number, payload);
     }
+    if begins_no_record(payload) {
+        return put_string(out, whole, layout.level, number, payload);
+    }
+    put_message(out, layout, number, place, text, payload)
+}
+
+// Puts a payload as a message, and where it is none as a string. The reader is made before all
+// else, so that its place is filled once.
+#[cycle(dump)]
+#[inline(never)]
+fn put_message(
+    out: &mut Vec<u8>,
+    layout: Layout,
+    number: u32,
+    place: usize,
+    text: &[u8],
+    payload: &[u8],
+) -> Result<(), AllocError>
+    requires some { 0 < layout.budget }
+    requires full { payload.now ≢ [] }
+    requires room { layout.level + 128 * layout.budget + 28 < 2 ^ 31 }
+    requires shallow { layout.budget ≤ 100 }
+    requires placed { place + length text.now < 2 ^ 64 }
+    requires is { SpellsRecord number (bytes payload.now) text.now }
+    ensures { OnOk result (Puts layout place
+        (RecordLines layout number (bytes payload.now) text.now)
+        text.now out.old.items out.new.items) }
+{
+    grammar::whole_input();
+    grammar::no_list_beside_fault();
+    let mut reader = Reader::new(layout.budget);
+    let end = place + text.len();
+    let whole = layout.margin(place, end);
     let start = out.len();
     let payload_place = end - payload.len();
     put_opening(
@@ -122,7 +153,6 @@ fn put_payload(
         layout.level,
         number,
     )?;
-    let mut reader = Reader::new(layout.budget);
     match put_records(out, layout.inside(1), payload_place, &mut reader, payload) {
         Ok(()) => put_closing(out, layout.margin(end, end), layout.level),
         Err(Stop::Fault(_)) => {
@@ -130,5 +160,21 @@ fn put_payload(
             put_string(out, whole, layout.level, number, payload)
         }
         Err(Stop::OutOfMemory) => Err(AllocError),
+    }
+}
+
+// Whether no record stands at the front of bytes, of which there are some: no tag, or one that ends
+// a group.
+#[inline(always)]
+fn begins_no_record(bytes: &[u8]) -> bool
+    requires { bytes.now ≢ [] }
+    ensures { IsTrue result → (fs : Fields) → ¬ Spells fs bytes.now }
+{
+    grammar::one_tag();
+    grammar::no_tag_beside_fault();
+    let mut rest = bytes;
+    match Tag::decode(&mut rest) {
+        Ok(tag) => tag.wire_type() == WireType::EndGroup,
+        Err(_) => true,
     }
 }

@@ -8,8 +8,27 @@ use crate::layout::Margin;
 use itoa::Buffer;
 use std::alloc::AllocError;
 
-// Two spaces a level.
+// The spaces of 16 levels.
+const SPACES: [u8; 32] = [b' '; 32];
+
+const LEVELS: u32 = 16;
+
+// Two spaces a level. Those of 16 levels are put at once, and those of too many are cut off again,
+// since a copy of a fixed length takes two instructions.
+#[inline(always)]
 fn put_indentation(out: &mut Vec<u8>, level: u32) -> Result<(), AllocError>
+    ensures { OnOk result (out.new.items ≡ out.old.items ++ indented level) }
+{
+    if level > LEVELS {
+        return put_many_levels(out, level);
+    }
+    out.extend_from_slice(&SPACES)?;
+    out.truncate(out.len() - 2 * (LEVELS - level) as usize);
+    Ok(())
+}
+
+#[inline(never)]
+fn put_many_levels(out: &mut Vec<u8>, level: u32) -> Result<(), AllocError>
     ensures { OnOk result (out.new.items ≡ out.old.items ++ indented level) }
 {
     for _ in 0..level {
@@ -18,6 +37,7 @@ fn put_indentation(out: &mut Vec<u8>, level: u32) -> Result<(), AllocError>
     Ok(())
 }
 
+#[inline(always)]
 #[tactic(auto, using(std::proofs::lemmas::Fmt::decimal_digit))]
 fn put_decimal(out: &mut Vec<u8>, number: u64) -> Result<(), AllocError>
     ensures { OnOk result (out.new.items ≡ out.old.items ++ decimal number) }
@@ -26,6 +46,13 @@ fn put_decimal(out: &mut Vec<u8>, number: u64) -> Result<(), AllocError>
         out.push(48 + number as u8)?;
         return Ok(());
     }
+    put_digits(out, number)
+}
+
+#[inline(never)]
+fn put_digits(out: &mut Vec<u8>, number: u64) -> Result<(), AllocError>
+    ensures { OnOk result (out.new.items ≡ out.old.items ++ decimal number) }
+{
     let mut buffer = Buffer::new();
     out.extend_from_slice(buffer.format(number).as_bytes())
 }
@@ -72,16 +99,26 @@ fn hexadecimal_digit(digit: u64) -> u8
     }
 }
 
-// So many digits to the base 16.
+// So many digits to the base 16, where there are more than three the last four at once.
 fn put_hexadecimal(out: &mut Vec<u8>, width: u32, value: u64) -> Result<(), AllocError>
     ensures { OnOk result (out.new.items ≡ out.old.items ++ hexadecimal width value) }
 {
     if width == 0 {
         return Ok(());
     }
-    put_hexadecimal(out, width - 1, value / 16)?;
-    out.push(hexadecimal_digit(value % 16))?;
-    Ok(())
+    if width < 4 {
+        put_hexadecimal(out, width - 1, value / 16)?;
+        out.push(hexadecimal_digit(value % 16))?;
+        return Ok(());
+    }
+    let (second, third, fourth) = (value / 16, value / 16 / 16, value / 16 / 16 / 16);
+    put_hexadecimal(out, width - 4, fourth / 16)?;
+    out.extend_from_slice(&[
+        hexadecimal_digit(fourth % 16),
+        hexadecimal_digit(third % 16),
+        hexadecimal_digit(second % 16),
+        hexadecimal_digit(value % 16),
+    ])
 }
 
 pub(crate) fn put_number(

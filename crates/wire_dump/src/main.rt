@@ -20,7 +20,7 @@ use frames::put_frame;
 use input::input;
 use layout::Layout;
 use options::Options;
-use shortest::shortest_text;
+use shortest::{reader_at_stop, shortest_text};
 use std::env;
 use std::io::Write;
 use std::process::ExitCode;
@@ -63,15 +63,21 @@ fn words(rt: &HostRuntime) -> Result<Vec<String>, RunError> {
 }
 
 fn print(rt: &HostRuntime, options: &Options<'_>, bytes: &[u8]) -> Result<(), RunError> {
-    let mut reader = Reader::within(&options.context);
     if options.is_shortest {
-        return match shortest_text(rt.alloc(), &mut reader, bytes) {
+        return match shortest_text(rt.alloc(), &options.context, bytes) {
             Ok(text) => send(rt, &text),
-            Err(stop) => Err(refused(rt, 0, &stop, &reader)),
+            Err(stop) => {
+                let reader = reader_at_stop(&options.context, bytes);
+                Err(refused(rt, 0, &stop, &reader))
+            }
         };
     }
+    let mut reader = Reader::within(&options.context);
     let layout = Layout::new(options.has_offsets, 0);
-    let mut out = Vec::new(rt.alloc());
+    // Most lines are longer than their bytes; what is not written to takes no memory.
+    let Ok(mut out) = Vec::with_capacity(rt.alloc(), bytes.len().saturating_mul(2)) else {
+        return Err(RunError::OutOfMemory);
+    };
     match put_records(&mut out, layout, 0, &mut reader, bytes) {
         Ok(()) => send(rt, &out),
         Err(Stop::OutOfMemory) => Err(RunError::OutOfMemory),

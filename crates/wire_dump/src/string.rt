@@ -7,7 +7,8 @@ use crate::layout::Margin;
 use crate::line::put_head;
 use std::alloc::AllocError;
 
-const BLOCK: usize = 32;
+// How many bytes are compared at once.
+const BLOCK: usize = 8;
 
 // A backslash and three digits to the base 8.
 fn put_octal(out: &mut Vec<u8>, byte: u8) -> Result<(), AllocError>
@@ -34,11 +35,12 @@ fn put_escaped_byte(out: &mut Vec<u8>, byte: u8) -> Result<(), AllocError>
     }
 }
 
-// Whether a byte stands for itself between double quotes.
+// Whether a byte stands for itself between double quotes. Each test is made, so that many bytes are
+// compared at once.
 fn is_plain(byte: u8) -> bool
     ensures { IsTrue result → escaped_byte byte ≡ byte ∷ [] }
 {
-    !matches!(byte, 0..32 | 127.. | b'"' | b'\'' | b'\\')
+    (byte >= 32) & (byte < 127) & (byte != b'"') & (byte != b'\'') & (byte != b'\\')
 }
 
 // Whether all of the bytes stand for themselves. No byte is left out once one is found that does

@@ -5,27 +5,25 @@ use Rattle.std.proofs.lemmas.List.{take-append-le, take-take}
 use Rattle.std.proofs.Math.Seq.{take-append-add, drop-append-add}
 use Rattle.wire_base.specs.Read.{Reads}
 use Rattle.wire_frames.specs.declared.extent.Extent.{Extent}
+use Rattle.wire_frames.specs.declared.frame.FrameText.{FrameText}
 use Rattle.wire_frames.specs.declared.frame.Framing.{Framing}
-use Rattle.wire_frames.specs.Extent.{Stands, frame_at}
-use Rattle.wire_frames.specs.Frames.{IsFrame, IsUnfinished}
+use Rattle.wire_frames.specs.Extent.{Stands, text_at}
+use Rattle.wire_frames.specs.Frames.{frame_of, IsFrame, IsUnfinished, IsWhole}
 use Rattle.wire_frames.specs.Laws.{UnfinishedHasNoNext}
 use Rattle.wire_frames.specs.Prefix.{IsPrefix}
 
--- the frame
-pub frame_stands : (form : Framing) (limit : ℕ) (bytes : List ℕ) (x : Extent)
-    → Stands form limit bytes x
-    → Reads bytes (IsFrame form limit (frame_at bytes x)) (drop x.len bytes)
-frame_stands form limit bytes x h =
+-- the text of the frame, and what follows it
+pub text_stands : (form : Framing) (limit : ℕ) (bytes : List ℕ) (x : Extent)
+    → Stands form limit bytes x → IsWhole form limit (text_at bytes x)
+text_stands form limit bytes x h =
     let run = take x.len bytes in
+    let all : length run ≡ x.len = length-take-le x.len bytes h.there in
     let prefix : take x.prefix run ≡ take x.prefix bytes =
     take-take x.prefix x.len bytes h.ordered in
     let size : length (drop x.prefix run) ≡ x.len - x.prefix =
-    length-drop x.prefix run
-    ∙ ap (λ (n : ℕ). n - x.prefix) (length-take-le x.len bytes h.there) in
+    length-drop x.prefix run ∙ ap (λ (n : ℕ). n - x.prefix) all in
     record {
-      text = run;
-      parts = sym (take-append-drop x.len bytes);
-      spelled = record {
+      frame = record {
         prefix = take x.prefix run;
         parts = sym (take-append-drop x.prefix run);
         tells = subst (λ (k : ℕ). IsPrefix form x.compressed k (take x.prefix run)) (sym size)
@@ -33,7 +31,23 @@ frame_stands form limit bytes x h =
             h.tells);
         within = omega (arith, size, h.within);
       };
+      prefix = omega (arith, all, h.ordered);
     }
+
+-- a whole text at the front is a frame there
+pub whole_stands : (form : Framing) (limit : ℕ) (whole : FrameText) (bytes rest : List ℕ)
+    → IsWhole form limit whole → bytes ≡ whole.text ++ rest
+    → Reads bytes (IsFrame form limit (frame_of whole)) rest
+whole_stands form limit whole bytes rest h parts =
+    record { text = whole.text; parts = parts; spelled = h.frame }
+
+-- the frame
+pub frame_stands : (form : Framing) (limit : ℕ) (bytes : List ℕ) (x : Extent)
+    → Stands form limit bytes x
+    → Reads bytes (IsFrame form limit (frame_of (text_at bytes x))) (drop x.len bytes)
+frame_stands form limit bytes x h =
+    whole_stands form limit (text_at bytes x) bytes (drop x.len bytes)
+    (text_stands form limit bytes x h) (sym (take-append-drop x.len bytes))
 
 -- a frame that stands at the front of more bytes stands at the front of those that have all of it
 stands_in_front : (form : Framing) (limit : ℕ) (front more : List ℕ) (x : Extent)
@@ -59,7 +73,7 @@ held_is_less none form limit held chunk x begun h = at_length (cases_lt (length 
     at_length (inr there) =
         let stands = stands_in_front form limit held chunk x h there in
         absurd (none form limit held begun
-        (inl (frame_at held x, drop x.len held, frame_stands form limit held x stands)))
+        (inl (_, drop x.len held, frame_stands form limit held x stands)))
 
 -- so many bytes of two runs, where they reach into the second
 pub take-joined : (n : ℕ) (xs ys : List ℕ) → length xs ≤ n

@@ -1,7 +1,7 @@
 -- A frame at the front of bytes, by how many bytes it has.
-use Rattle.std.specs.Prelude.{ℕ, ◌-◌, ◌≤◌, List, length, take, drop}
+use Rattle.std.specs.Prelude.{ℕ, ◌-◌, ◌≤◌, List, length, take}
 use Rattle.wire_frames.specs.declared.extent.Extent.{Extent}
-use Rattle.wire_frames.specs.declared.frame.Frame.{Frame}
+use Rattle.wire_frames.specs.declared.frame.FrameText.{FrameText}
 use Rattle.wire_frames.specs.declared.frame.Framing.{Framing}
 use Rattle.wire_frames.specs.Prefix.{IsPrefix}
 
@@ -13,9 +13,10 @@ pub record Stands (form : Framing) (limit : ℕ) (bytes : List ℕ) (extent : Ex
   pub within : extent.len - extent.prefix ≤ limit
   pub there : extent.len ≤ length bytes
 
--- the frame
-abbrev pub frame_at : List ℕ → Extent → Frame
-frame_at bytes extent = record {
+-- the text of the frame
+abbrev pub text_at : List ℕ → Extent → FrameText
+text_at bytes extent = record {
   compressed = extent.compressed;
-  payload = drop extent.prefix (take extent.len bytes);
+  prefix = extent.prefix;
+  text = take extent.len bytes;
 }

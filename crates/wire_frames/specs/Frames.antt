@@ -1,10 +1,11 @@
 -- Frames one after another, under a limit on the bytes of a payload, and what stands where no
 -- further one does.
-use Rattle.std.specs.Prelude.{◌≡◌, ◌≢◌, ℕ, ◌<◌, ◌≤◌, ◌⊎◌, Bool, List, [], ◌∷◌, ◌++◌, length}
+use Rattle.std.specs.Prelude.{◌≡◌, ◌≢◌, ℕ, ◌<◌, ◌≤◌, ◌⊎◌, Bool, List, [], ◌∷◌, ◌++◌, length, drop}
 use Rattle.wire_base.specs.Read.{Reads}
 use Rattle.wire_frames.specs.declared.error.FrameError.{FrameError}
 use Rattle.wire_frames.specs.declared.error.FrameError.TheVariants.{FrameTooLarge, Truncated, OutOfMemory}
 use Rattle.wire_frames.specs.declared.frame.Frame.{Frame}
+use Rattle.wire_frames.specs.declared.frame.FrameText.{FrameText}
 use Rattle.wire_frames.specs.declared.frame.Framing.{Framing}
 use Rattle.wire_frames.specs.Prefix.{IsPrefix, IsBegun, PrefixFault}
 
@@ -15,6 +16,18 @@ pub record IsFrame (form : Framing) (limit : ℕ) (frame : Frame) (text : List �
   pub parts : text ≡ prefix ++ frame.payload
   pub tells : IsPrefix form frame.compressed (length frame.payload) prefix
   pub within : length frame.payload ≤ limit
+
+-- the frame of a text that begins with so many bytes of prefix
+abbrev pub frame_of : FrameText → Frame
+frame_of whole = record {
+  compressed = whole.compressed;
+  payload = drop whole.prefix whole.text;
+}
+
+-- the text is a frame, and so many of its bytes are the prefix
+pub record IsWhole (form : Framing) (limit : ℕ) (whole : FrameText) : Type 0 where
+  pub frame : IsFrame form limit (frame_of whole) whole.text
+  pub prefix : whole.prefix ≤ length whole.text
 
 -- old is these frames, one after another, and then new
 abbrev pub Frames : Framing → ℕ → List Frame → List ℕ → List ℕ → Type 0

@@ -11,7 +11,7 @@ use Rattle.wire_frames.specs.declared.frame.Frame.{Frame}
 use Rattle.wire_frames.specs.declared.message.MessageError.{MessageError}
 use Rattle.wire_frames.specs.declared.message.MessageError.TheVariants as errors
 use Rattle.wire_frames.specs.Frames.{IsFrame, FrameRefusal}
-use Rattle.wire_frames.specs.Stream.{Stream, unread}
+use Rattle.wire_frames.specs.Stream.{Stream, unread, left}
 
 -- the payload is not compressed, and all of it is taken within the limits and makes this value
 pub record IsMessage {V : Type 0} (takes : Step V) (options : Options) (default : V)
@@ -38,6 +38,7 @@ pub record TakesMessage {V : Type 0} (takes : Step V) (options : Options) (defau
     (old new : Stream) (value : V) : Type 0 where
   pub frame : Frame
   pub taken : Reads (unread old) (IsFrame old.framing old.limit frame) (unread new)
+  pub rest : new ≡ left old (unread new)
   pub message : IsMessage takes options default frame value
 
 -- no frame is taken off, and nothing changes; or one is, which is no message
@@ -47,4 +48,5 @@ pub data MessageRefusal {V : Type 0} (takes : Step V) (options : Options) (defau
       → new ≡ old → e ≡ errors.Frame why → MessageRefusal takes options default old new e
   no_message : (frame : Frame)
       → Reads (unread old) (IsFrame old.framing old.limit frame) (unread new)
+      → new ≡ left old (unread new)
       → MessageFault takes options default frame e → MessageRefusal takes options default old new e

@@ -2,13 +2,13 @@
 ghost use Rattle.std.specs.Prelude.{◌≡◌, ◌≢◌, ◌+◌, ◌<◌, ◌≤◌, ◌++◌, ◌↔◌, IsTrue, true, false, [], length, take, drop, OnOk, OnErr, IfOk, IfErr, IfSome, IfNone};
 ghost use Rattle.wire_base.specs.Read.{Reads};
 ghost use Rattle.wire_frames.specs.declared.error.UnfedCause.TheVariants.{NextWaits, OutOfMemory};
-ghost use Rattle.wire_frames.specs.Extent.{Stands, frame_at};
-ghost use Rattle.wire_frames.specs.Frames.{EndRefusal, FrameFault, FrameRefusal, HasNext, IsFrame, IsUnfinished};
+ghost use Rattle.wire_frames.specs.Extent.{Stands, text_at};
+ghost use Rattle.wire_frames.specs.Frames.{EndRefusal, FrameFault, FrameRefusal, HasNext, IsFrame, IsUnfinished, IsWhole};
 ghost use Rattle.wire_frames.specs.Stream.{empty_stream, fed, left, unread};
 
 use crate::error::{FrameError, Unfed, UnfedCause};
 use crate::extent::{Extent, find_frame};
-use crate::frame::{Frame, Framing};
+use crate::frame::{Frame, FrameText, Framing};
 use crate::laws;
 use bytes::{Buf, Bytes};
 use std::alloc::{AllocError, AllocFailed, Global};
@@ -103,6 +103,28 @@ impl FrameDecoder {
             (FrameRefusal self.old.framing self.old.limit (unread self.old)) }
         ensures unchanged { OnErr result (self.new ≡ self.old) }
     {
+        match self.next_text()? {
+            Some(whole) => Ok(Some(whole.into_frame())),
+            None => Ok(None),
+        }
+    }
+
+    /// As `next`, but the frame is given as it stands, with its prefix: the texts of the frames are
+    /// a front of the bytes that were fed.
+    pub fn next_text(&mut self) -> Result<Option<FrameText>, FrameError>
+        ensures frame { IfOk result (λ next. IfSome next
+            (IsWhole self.old.framing self.old.limit)) }
+        ensures parts { IfOk result (λ next. IfSome next (λ whole.
+            unread self.old ≡ whole.text ++ unread self.new)) }
+        ensures rest { IfOk result (λ next. IfSome next (λ _.
+            self.new ≡ left self.old (unread self.new))) }
+        ensures none { IfOk result (λ next. IfNone next
+            (IsUnfinished self.old.framing self.old.limit (unread self.old))) }
+        ensures unmoved { IfOk result (λ next. IfNone next (self.new ≡ self.old)) }
+        ensures refused { IfErr result
+            (FrameRefusal self.old.framing self.old.limit (unread self.old)) }
+        ensures unchanged { OnErr result (self.new ≡ self.old) }
+    {
         match self.find()? {
             Some(extent) => Ok(Some(self.take(extent)?)),
             None => Ok(None),
@@ -185,21 +207,21 @@ impl FrameDecoder {
         find_frame(self.framing, self.limit, &mut both)
     }
 
-    // Takes this frame off the front.
-    fn take(&mut self, extent: Extent) -> Result<Frame, AllocError>
+    // Takes the text of this frame off the front.
+    fn take(&mut self, extent: Extent) -> Result<FrameText, AllocError>
         requires { Stands self.old.framing self.old.limit (unread self.old) extent }
-        ensures frame { IfOk result (λ frame. frame ≡ frame_at (unread self.old) extent) }
+        ensures text { IfOk result (λ whole. whole ≡ text_at (unread self.old) extent) }
         ensures rest { OnOk result
             (self.new ≡ left self.old (drop extent.len (unread self.old))) }
         ensures unchanged { OnErr result (self.new ≡ self.old) }
     {
         laws::unfinished_has_no_next();
         let more = extent.len - self.held.len();
-        let mut payload = split_joined(&mut self.held, &mut self.chunk, more)?;
-        payload.advance(extent.prefix);
-        Ok(Frame {
+        let text = split_joined(&mut self.held, &mut self.chunk, more)?;
+        Ok(FrameText {
             compressed: extent.compressed,
-            payload,
+            prefix: extent.prefix,
+            text,
         })
     }
 }

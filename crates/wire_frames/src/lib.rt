@@ -14,6 +14,6 @@ mod whole;
 pub use decoder::FrameDecoder;
 pub use encode::{put_delimited_frame, put_grpc_frame};
 pub use error::{FrameError, Unfed, UnfedCause};
-pub use frame::{Frame, Framing};
+pub use frame::{Frame, FrameText, Framing};
 pub use message::MessageError;
 pub use whole::frames_of;

@@ -1,19 +1,17 @@
 //! One frame of a log.
-ghost use Rattle.std.specs.Prelude.{◌≡◌, ◌<◌, ◌⊎◌, length, IfOk, IfErr, IfSome, IfNone};
+ghost use Rattle.std.specs.Prelude.{◌≡◌, ◌≢◌, ◌<◌, ◌⊎◌, length, IfOk, IfErr, IfSome, IfNone};
 ghost use Rattle.wire_frames.specs.Frames.{IsUnfinished};
 ghost use Rattle.wire_frames.specs.Stream.{unread};
-ghost use Rattle.wire_log.specs.declared.entry.Stop.TheVariants as stops;
-ghost use Rattle.wire_log.specs.Entries.{StopsHere, TakesEntry};
+ghost use Rattle.wire_log.specs.Entries.{HoldsEntry, StopsHere, TakesEntry};
 
-use bytes::Bytes;
 use std::alloc::Global;
 use wire_codec::{DecodeError, UnknownFields};
-use wire_frames::{FrameDecoder, FrameError, laws};
+use wire_frames::{FrameDecoder, FrameError, FrameText, laws};
 
-/// A frame whose payload is records.
+/// A frame whose payload is records, as it stands in the log.
 #[derive(Drop)]
 pub(crate) struct Entry {
-    pub payload: Bytes,
+    pub whole: FrameText,
     pub records: usize,
 }
 
@@ -29,7 +27,7 @@ pub(crate) enum Stop {
 /// The next frame, or none where it is not there as a whole.
 pub(crate) fn next_entry(alloc: Global, decoder: &mut FrameDecoder) -> Result<Option<Entry>, Stop>
     ensures entry { IfOk result (λ next. IfSome next (λ entry.
-        TakesEntry decoder.old decoder.new entry.payload entry.records)) }
+        TakesEntry decoder.old decoder.new entry.whole entry.records)) }
     ensures moves { IfOk result (λ next. IfSome next (λ _.
         length (unread decoder.new) < length (unread decoder.old))) }
     ensures none { IfOk result (λ next. IfNone next (IsUnfinished
@@ -37,13 +35,21 @@ pub(crate) fn next_entry(alloc: Global, decoder: &mut FrameDecoder) -> Result<Op
     ensures unmoved { IfOk result (λ next. IfNone next (decoder.new ≡ decoder.old)) }
     ensures stop { IfErr result (StopsHere
         decoder.old.framing decoder.old.limit (unread decoder.old)) }
+
+    // Memory apart, it stops only where no frame of records stands.
+    ensures only { IfErr result (λ e. e ≢ Stop.OutOfMemory → ¬ HoldsEntry
+        decoder.old.framing decoder.old.limit (unread decoder.old)) }
+    ensures framing { decoder.new.framing ≡ decoder.old.framing }
+    ensures limit { decoder.new.limit ≡ decoder.old.limit }
 {
     laws::frame_moves_on();
-    match decoder.next() {
-        Ok(Some(frame)) => match UnknownFields::decode_from_slice(alloc, frame.payload.as_slice()) {
+    laws::one_frame();
+    laws::no_frame_beside_fault();
+    match decoder.next_text() {
+        Ok(Some(whole)) => match UnknownFields::decode_from_slice(alloc, whole.payload()) {
             Ok(fields) => Ok(Some(Entry {
                 records: fields.len(),
-                payload: frame.payload,
+                whole,
             })),
             Err(error) => Err(records_stop(error)),
         },
@@ -54,7 +60,8 @@ pub(crate) fn next_entry(alloc: Global, decoder: &mut FrameDecoder) -> Result<Op
 
 // A payload that is no list of records, or want of memory for them.
 fn records_stop(error: DecodeError) -> Stop
-    ensures { (result ≡ stops.Records error) ⊎ (result ≡ stops.OutOfMemory) }
+    ensures { ((error ≢ DecodeError.OutOfMemory) × (result ≡ Stop.Records error))
+        ⊎ ((error ≡ DecodeError.OutOfMemory) × (result ≡ Stop.OutOfMemory)) }
 {
     match error {
         DecodeError::OutOfMemory => Stop::OutOfMemory,
@@ -64,7 +71,8 @@ fn records_stop(error: DecodeError) -> Stop
 
 // What no frame is, or want of memory for one.
 fn frame_stop(error: FrameError) -> Stop
-    ensures { (result ≡ stops.Frame error) ⊎ (result ≡ stops.OutOfMemory) }
+    ensures { ((error ≢ FrameError.OutOfMemory) × (result ≡ Stop.Frame error))
+        ⊎ ((error ≡ FrameError.OutOfMemory) × (result ≡ Stop.OutOfMemory)) }
 {
     match error {
         FrameError::OutOfMemory => Stop::OutOfMemory,

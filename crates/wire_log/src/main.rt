@@ -102,7 +102,7 @@ impl Log {
             match next_entry(rt.alloc(), &mut self.decoder) {
                 Ok(Some(entry)) => {
                     if self.index >= skip {
-                        print_line(rt, place, entry.payload.len(), entry.records)?;
+                        print_line(rt, place, entry.whole.payload().len(), entry.records)?;
                     }
                     self.index = self.index.saturating_add(1);
                 }
@@ -112,7 +112,7 @@ impl Log {
         }
     }
 
-    // Writes the whole frames whose payloads are records.
+    // Writes the whole frames whose payloads are records, as they stand.
     fn repair(&mut self, rt: &HostRuntime) -> Result<(), RunError> {
         let mut text = Vec::new(rt.alloc());
         let answer = put_front(rt.alloc(), &mut self.decoder, &mut text);

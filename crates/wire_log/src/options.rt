@@ -36,7 +36,7 @@ fn matches<'a>(alloc: Global, words: &'a [&'a str]) -> Result<ArgMatches<'a>, Er
     let repair = Arg::new(alloc, "repair")
         .long("repair")
         .action(ArgAction::SetTrue)
-        .help("Write the longest front of whole frames whose payloads are records");
+        .help("Write the longest front of whole frames whose payloads are records, as it stands");
     let command = Command::new(alloc, "wire_log").about(ABOUT).arg(repair)?;
     with_numbers(alloc, command)?.try_get_matches_from(words)
 }

@@ -1,16 +1,12 @@
 -- Events in batches.
 use Rattle.std.specs.Prelude.{◌≡◌, ℕ, List, [], ◌∷◌, ◌++◌, length, drop}
-use Rattle.wire_base.specs.Limits.{Limits, counted, with_unknown_bytes}
 use Rattle.wire_read.specs.declared.event.Event.{Event}
 use Rattle.wire_read.specs.declared.event.Fault.{Fault}
+use Rattle.wire_read.specs.declared.numbers.FaultNumbers.{FaultNumbers}
+use Rattle.wire_read.specs.Numbers.{told_fault}
 use Rattle.wire_read.specs.Reading.{At, Gives, IsDone, Stops}
-use Rattle.wire_page.specs.declared.events.PageLimits.{PageLimits}
 use Rattle.wire_page.specs.declared.record.Record.{Record}
-use Rattle.wire_page.specs.declared.stop.Stop.{Stop}
-use Rattle.wire_page.specs.Told.{told_event, told_fault, stopped}
-
-abbrev pub context_of : PageLimits → Limits
-context_of l = with_unknown_bytes (counted l.depth l.records) l.payload_bytes
+use Rattle.wire_page.specs.Told.{told_event, stopped}
 
 -- the records tell events that a reader gives one behind the other, from s to t
 abbrev pub Tells : List ℕ → List Record → At → At → Type 0
@@ -19,12 +15,12 @@ Tells all (told ∷ more) s t =
     (e : Event) × (m : At) × Gives e all s m × (told ≡ told_event e) × Tells all more m t
 
 -- why a batch ends at t: the room is full, all is read, or a fault stands there
-pub data Ends : List ℕ → At → List Record → ℕ → Stop → Type 0 where
-  full : {all : List ℕ} {t : At} {room : List Record} {count : ℕ} {stop : Stop}
+pub data Ends : List ℕ → At → List Record → ℕ → FaultNumbers → Type 0 where
+  full : {all : List ℕ} {t : At} {room : List Record} {count : ℕ} {stop : FaultNumbers}
       → count ≡ length room → stop ≡ stopped 0 → Ends all t room count stop
-  done : {all : List ℕ} {t : At} {room : List Record} {count : ℕ} {stop : Stop}
+  done : {all : List ℕ} {t : At} {room : List Record} {count : ℕ} {stop : FaultNumbers}
       → IsDone t → stop ≡ stopped 1 → Ends all t room count stop
-  fault : {all : List ℕ} {t : At} {room : List Record} {count : ℕ} {stop : Stop} (f : Fault)
+  fault : {all : List ℕ} {t : At} {room : List Record} {count : ℕ} {stop : FaultNumbers} (f : Fault)
       → Stops f all t → stop ≡ told_fault f → Ends all t room count stop
 
 -- so many events stand at the front of the room, and all else of it is as it was
@@ -35,6 +31,6 @@ pub record Fills (all : List ℕ) (s t : At) (old new : List Record) (count : �
   pub written : new ≡ told ++ drop count old
 
 pub record Batch (all : List ℕ) (s t : At) (old new : List Record) (count : ℕ)
-    (stop : Stop) : Type 0 where
+    (stop : FaultNumbers) : Type 0 where
   pub fills : Fills all s t old new count
   pub ends : Ends all t old count stop

@@ -1,39 +1,36 @@
 -- What calls on all of some bytes tell the page.
 use Rattle.std.specs.Prelude.{◌≡◌, ℕ, ◌-◌, List, Result, OnOk, OnErr, IfOk, IfErr, length}
 use Rattle.wire_base.specs.declared.error.DecodeError.{DecodeError}
-use Rattle.wire_base.specs.Ending.{by_input}
-use Rattle.wire_base.specs.Fault.{ListFault}
 use Rattle.wire_base.specs.Field.{Fields}
 use Rattle.wire_base.specs.Limits.{Limits}
 use Rattle.wire_base.specs.Read.{Reads}
 use Rattle.wire_base.specs.Text.{text_of}
 use Rattle.wire_base.specs.Varint.{IsSpelling, VarintFault}
 use Rattle.wire_read.specs.declared.event.Fault.{Fault}
-use Rattle.wire_read.specs.Opened.{Group, LongestFront}
-use Rattle.wire_read.specs.Reading.{place_of}
+use Rattle.wire_read.specs.declared.numbers.FaultNumbers.{FaultNumbers}
+use Rattle.wire_read.specs.Faults.{IsFault}
+use Rattle.wire_read.specs.Numbers.{status_of, told_fault}
 use Rattle.wire_write.specs.declared.shortest.ShortestError.{ShortestError}
 use Rattle.wire_write.specs.declared.shortest.ShortestError.TheVariants as errors
 use Rattle.wire_write.specs.Put.{Puts}
 use Rattle.wire_write.specs.Shortest.{Decodes, ShortestFault}
-use Rattle.wire_page.specs.declared.stop.Stop.{Stop}
-use Rattle.wire_page.specs.Told.{status_of, stopped, told_fault}
+use Rattle.wire_page.specs.Told.{stopped}
 
 -- all of the bytes spell records within the limits, or the fault is told
-pub record Validates (l : Limits) (all : List ℕ) (stop : Stop) : Type 0 where
+pub record Validates (l : Limits) (all : List ℕ) (stop : FaultNumbers) : Type 0 where
   pub checked : Result (Unit {0}) Fault
   pub ok : OnOk checked ((fs : Fields) × Decodes l fs all × (stop ≡ stopped 1))
-  pub fault : IfErr checked (λ f. ListFault l by_input all f.error)
-  pub place : IfErr checked (λ f. (levels : List Group) × (fs : Fields) × (rest : List ℕ)
-      × LongestFront l levels fs all rest × (f.record_place ≡ place_of all rest))
+  pub fault : IfErr checked (IsFault l all)
   pub told : IfErr checked (λ f. stop ≡ told_fault f)
 
 -- what the page is told of a refusal: the fault, or how much room is wanted
-abbrev pub ToldError : ShortestError → ℕ → Stop → Type 0
+abbrev pub ToldError : ShortestError → ℕ → FaultNumbers → Type 0
 ToldError (errors.Fault f) len stop = (len ≡ 0) × (stop ≡ told_fault f)
 ToldError (errors.NoRoom wanted) len stop = (len ≡ wanted) × (stop ≡ stopped 0)
 
 -- the shortest encoding stands at the front of the room, or a refusal is told
-pub record Shortens (l : Limits) (all old new : List ℕ) (len : ℕ) (stop : Stop) : Type 0 where
+pub record Shortens (l : Limits) (all old new : List ℕ) (len : ℕ)
+    (stop : FaultNumbers) : Type 0 where
   pub written : Result ℕ ShortestError
   pub ok : IfOk written (λ n. (fs : Fields) × Decodes l fs all × Puts (text_of fs) 0 old new n)
   pub err : IfErr written (ShortestFault l all old)
@@ -42,7 +39,7 @@ pub record Shortens (l : Limits) (all old new : List ℕ) (len : ℕ) (stop : St
   pub told_error : IfErr written (λ e. ToldError e len stop)
 
 -- a varint stands at the front of the bytes and takes so many of them, or none does
-pub record HasPrefix (all : List ℕ) (old new taken : ℕ) (stop : Stop) : Type 0 where
+pub record HasPrefix (all : List ℕ) (old new taken : ℕ) (stop : FaultNumbers) : Type 0 where
   pub read : Result ℕ DecodeError
   pub ok : IfOk read (λ v. (rest : List ℕ) × Reads all (IsSpelling v) rest × (new ≡ v)
       × (taken ≡ length all - length rest) × (stop ≡ stopped 1))

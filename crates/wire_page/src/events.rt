@@ -1,34 +1,17 @@
 //! Events in batches.
-ghost use Rattle.std.specs.Prelude.{◌≡◌};
 ghost use Rattle.wire_read.specs.Budget.{read_limits};
+ghost use Rattle.wire_read.specs.Numbers.{context_of};
 ghost use Rattle.wire_read.specs.Reading.{Begins, at};
-ghost use Rattle.wire_page.specs.Batch.{Batch, context_of};
+ghost use Rattle.wire_page.specs.Batch.{Batch};
 
 use crate::record::{Record, tell_event};
-use crate::stop::{DONE, MORE, Stop, stopped, tell_fault};
-use wire_codec::DecodeContext;
+use crate::stop::{DONE, MORE, stopped};
 use wire_read::Reader;
-
-/// What may be taken at most: records, bytes of payloads, and groups that are open at once. The
-/// greatest number of either count is no limit.
-#[repr(C)]
-#[derive(Debug, Drop)]
-pub struct PageLimits {
-    pub records: usize,
-    pub payload_bytes: usize,
-    pub depth: u32,
-}
-
-/// The context of limits.
-pub(crate) fn context_of(limits: &PageLimits) -> DecodeContext
-    ensures { result ≡ context_of limits.now }
-{
-    DecodeContext::new(limits.depth, limits.records).with_unknown_bytes(limits.payload_bytes)
-}
+use wire_read::numbers::{FaultNumbers, LimitNumbers, context_of, tell_fault};
 
 /// Sets a reader before the first byte, under these limits. More than 100 levels count as 100.
 #[unsafe(no_mangle)]
-pub extern "C" fn page_begin(reader: &mut Reader, limits: &PageLimits)
+pub extern "C" fn page_begin(reader: &mut Reader, limits: &LimitNumbers)
     ensures { Begins (read_limits (context_of limits.now)) reader.new }
 {
     *reader = Reader::within(&context_of(limits));
@@ -42,7 +25,7 @@ pub extern "C" fn page_events(
     reader: &mut Reader,
     bytes: &[u8],
     room: &mut [Record],
-    stop: &mut Stop,
+    stop: &mut FaultNumbers,
 ) -> usize
     ensures { Batch bytes.now (at reader.old bytes.now) (at reader.new bytes.now)
         room.old room.new result stop.new }

@@ -1,15 +1,15 @@
 //! Calls on all of some bytes.
 ghost use Rattle.wire_read.specs.Budget.{read_limits};
-ghost use Rattle.wire_page.specs.Batch.{context_of};
+ghost use Rattle.wire_read.specs.Numbers.{context_of};
 ghost use Rattle.wire_page.specs.Whole.{Validates, Shortens, HasPrefix};
 
-use crate::events::{PageLimits, context_of};
-use crate::stop::{DONE, MORE, Stop, status_of, stopped, tell_fault};
+use crate::stop::{DONE, MORE, stopped};
+use wire_read::numbers::{FaultNumbers, LimitNumbers, context_of, status_of, tell_fault};
 use wire_write::ShortestError;
 
 /// Whether all of the bytes are records within the limits: `stop` is `DONE`, or the fault.
 #[unsafe(no_mangle)]
-pub extern "C" fn page_validate(bytes: &[u8], limits: &PageLimits, stop: &mut Stop)
+pub extern "C" fn page_validate(bytes: &[u8], limits: &LimitNumbers, stop: &mut FaultNumbers)
     ensures { Validates (read_limits (context_of limits.now)) bytes.now stop.new }
 {
     *stop = match wire_read::validate(bytes, &context_of(limits)) {
@@ -24,9 +24,9 @@ pub extern "C" fn page_validate(bytes: &[u8], limits: &PageLimits, stop: &mut St
 #[unsafe(no_mangle)]
 pub extern "C" fn page_shortest(
     bytes: &[u8],
-    limits: &PageLimits,
+    limits: &LimitNumbers,
     room: &mut [u8],
-    stop: &mut Stop,
+    stop: &mut FaultNumbers,
 ) -> usize
     ensures { Shortens (read_limits (context_of limits.now)) bytes.now room.old room.new
         result stop.new }
@@ -50,7 +50,7 @@ pub extern "C" fn page_shortest(
 /// The varint at the front of the bytes, as a log has it before each message, and how many bytes it
 /// takes. `stop` is `DONE`; or the error, and the answer is 0.
 #[unsafe(no_mangle)]
-pub extern "C" fn page_prefix(bytes: &[u8], length: &mut u64, stop: &mut Stop) -> usize
+pub extern "C" fn page_prefix(bytes: &[u8], length: &mut u64, stop: &mut FaultNumbers) -> usize
     ensures { HasPrefix bytes.now length.old length.new result stop.new }
 {
     let mut rest = bytes;

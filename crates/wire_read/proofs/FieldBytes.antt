@@ -1,21 +1,18 @@
 -- The bytes of one field's payloads, event by event.
 use Rattle.std.proofs.Common.{◌≡◌, ℕ, ◌+◌, ◌≤◌, Bool, true, false, List, [], ◌∷◌, ◌++◌, length, nat_eq, if◌then◌else◌, refl, sym, ap, ◌∙◌, arith, length-append}
 use Rattle.wire_base.specs.Charge.{charge}
-use Rattle.wire_base.specs.Ending.{by_input}
-use Rattle.wire_base.specs.Fault.{ListFault}
 use Rattle.wire_base.specs.Field.{Payload, varint, fixed64, fixed32, bytes, group, Fields, none, field}
 use Rattle.wire_base.specs.Items.{Item, start, end, whole}
 use Rattle.wire_base.specs.Limits.{Limits, Fits}
 use Rattle.wire_base.specs.Spells.{Spells}
 use Rattle.wire_read.specs.declared.event.Event.{Event}
-use Rattle.wire_read.specs.declared.event.Fault.{Fault}
 use Rattle.wire_read.specs.declared.event.Value.{Value}
 use Rattle.wire_read.specs.declared.event.Value.TheVariants as values
 use Rattle.wire_read.specs.declared.reader.Reader.{Reader}
-use Rattle.wire_read.specs.Laws.{ReaderGoesOn, ReaderIsDone, ReaderIsStuck}
+use Rattle.wire_read.specs.Laws.{ReaderGoesOn, ReaderIsDone}
 use Rattle.wire_read.specs.Opened.{items_of, payload_items}
 use Rattle.wire_read.specs.PayloadBytes.{bytes_of_payload, bytes_of_field, payload_length}
-use Rattle.wire_read.specs.Reading.{At, Gives, IsAt, IsDone, Moves, Stops, at, item}
+use Rattle.wire_read.specs.Reading.{At, Gives, IsAt, IsDone, Moves, at, item}
 use Rattle.wire_read.proofs.Walks.{shorter}
 
 abbrev pub item_bytes : ℕ → Item → ℕ
@@ -139,8 +136,3 @@ pub all_seen : ReaderIsDone → (l : Limits) (all : List ℕ) (n : ℕ) (r : Rea
 all_seen law l all n r sum h done =
     let (fs, spelled, fits, is) = law l all h.items (at r all) h.place done in
     (fs, spelled, fits, h.is ∙ ap (total n) is ∙ total-fields n fs)
-
-pub stopped : ReaderIsStuck → (l : Limits) (all : List ℕ) (n : ℕ) (r : Reader) (sum : ℕ) (f : Fault)
-    → Sofar l all n r sum → Stops f all (at r all) → ListFault l by_input all f.error
-stopped law l all n r sum f h stops =
-    law l all h.items (at r all) f.part stops.place f.error h.place stops.goes_on stops.part

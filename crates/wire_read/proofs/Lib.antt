@@ -3,6 +3,7 @@ pub mod FieldBytes
 pub mod Fronts
 pub mod LastRecords
 pub mod Moving
+pub mod OneFaults
 pub mod OnePart
 pub mod Opened
 pub mod Payloads

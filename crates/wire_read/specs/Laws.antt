@@ -8,11 +8,13 @@ use Rattle.wire_base.specs.Field.{Fields}
 use Rattle.wire_base.specs.Items.{Item}
 use Rattle.wire_base.specs.Limits.{Limits, Fits}
 use Rattle.wire_base.specs.Spells.{Spells}
+use Rattle.wire_read.specs.declared.event.Fault.{Fault}
 use Rattle.wire_read.specs.declared.event.Part.{Part}
 use Rattle.wire_read.specs.declared.reader.Reader.{Reader}
+use Rattle.wire_read.specs.Faults.{IsFault}
 use Rattle.wire_read.specs.Opened.{Group, LongestFront, TakesOpen, ending_of, items_of, items_open, left_open, numbers}
 use Rattle.wire_read.specs.PartFault.{PartFault}
-use Rattle.wire_read.specs.Reading.{At, Begins, IsAt, IsDone, Moves, facing}
+use Rattle.wire_read.specs.Reading.{At, Begins, IsAt, IsDone, Moves, Stops, facing}
 use Rattle.wire_read.specs.Rebuilt.{rebuilt}
 
 -- before the first event
@@ -65,6 +67,19 @@ OnePartFault = (l : Limits) (levels : List ℕ) (rest : List ℕ) (part other : 
     → PartFault l (ending_of levels) rest part place e
     → PartFault l (ending_of levels) rest other end f
     → (part ≡ other) × (place ≡ end) × (e ≡ f)
+
+-- where a reader stops, its fault is that of all of the bytes, and stands there: behind the items
+-- so far, in the groups that are open
+abbrev pub ReaderStops : Type 0
+ReaderStops = (l : Limits) (all : List ℕ) (items : List Item) (s : At) (fault : Fault)
+    → IsAt l all items s → Stops fault all s
+    → (is : IsFault l all fault) × (s.rest ≡ is.rest) × (s.groups ≡ numbers is.levels)
+    × (items ≡ items_open is.levels is.fields)
+
+-- bytes have one fault at most
+abbrev pub OneFault : Type 0
+OneFault = (l : Limits) (all : List ℕ) (fault other : Fault)
+    → IsFault l all fault → IsFault l all other → fault ≡ other
 
 -- records put together again from their items
 abbrev pub ItemsTellRecords : Type 0

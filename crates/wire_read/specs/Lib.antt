@@ -1,6 +1,8 @@
 pub mod Budget
+pub mod Faults
 pub mod Last
 pub mod Laws
+pub mod Numbers
 pub mod Opened
 pub mod PartFault
 pub mod PayloadBytes

@@ -1,5 +1,5 @@
 //! Laws of the places of a reader: each function is a theorem, and does nothing.
-ghost use Rattle.wire_read.specs.Laws.{ReaderBegins, ReaderGoesOn, ReaderMovesOn, ReaderIsDone, ReaderIsStuck, FaultIsBehindLongest, OneLongestFront, OnePartFault, ItemsTellRecords, EventsAreInFront};
+ghost use Rattle.wire_read.specs.Laws.{ReaderBegins, ReaderGoesOn, ReaderMovesOn, ReaderIsDone, ReaderIsStuck, FaultIsBehindLongest, OneLongestFront, OnePartFault, ReaderStops, OneFault, ItemsTellRecords, EventsAreInFront};
 
 use wire_base::laws;
 
@@ -70,6 +70,23 @@ pub fn one_part_fault()
     laws::one_varint();
     laws::no_varint_beside_fault();
     laws::one_varint_fault();
+}
+
+/// Where a reader stops, its fault is that of all of the bytes, behind the events so far and in the
+/// groups that are open.
+pub fn reader_stops()
+    ensures { ReaderStops }
+{
+    reader_is_stuck();
+    fault_is_behind_longest();
+}
+
+/// Bytes have one fault at most: its error, its part and both of its places are determined.
+pub fn one_fault()
+    ensures { OneFault }
+{
+    one_longest_front();
+    one_part_fault();
 }
 
 /// Records that are pushed item by item, a group when it ends, are the records that the items are

@@ -5,6 +5,7 @@
 mod event;
 mod last;
 pub mod laws;
+pub mod numbers;
 mod payload;
 mod reader;
 mod sums;

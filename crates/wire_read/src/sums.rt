@@ -1,14 +1,11 @@
 //! A caller: the bytes of the payloads of one field number.
-ghost use Rattle.std.specs.Prelude.{◌≡◌, ℕ, List, IfOk, IfErr};
+ghost use Rattle.std.specs.Prelude.{◌≡◌, IfOk, IfErr};
 ghost use Rattle.wire_base.specs.Charge.{charge};
-ghost use Rattle.wire_base.specs.Ending.{by_input};
-ghost use Rattle.wire_base.specs.Fault.{ListFault};
 ghost use Rattle.wire_base.specs.Field.{Fields};
 ghost use Rattle.wire_base.specs.Limits.{Fits, counted};
 ghost use Rattle.wire_base.specs.Spells.{Spells};
-ghost use Rattle.wire_read.specs.Opened.{Group, LongestFront};
+ghost use Rattle.wire_read.specs.Faults.{IsFault};
 ghost use Rattle.wire_read.specs.PayloadBytes.{bytes_of_field, payload_length};
-ghost use Rattle.wire_read.specs.Reading.{place_of};
 
 use crate::event::{Fault, Value};
 use crate::laws;
@@ -20,17 +17,12 @@ use wire_codec::{DecodeContext, RECURSION_LIMIT};
 pub fn payload_bytes(bytes: &[u8], number: u32) -> Result<usize, Fault>
     ensures ok { IfOk result (λ sum. (fs : Fields) × Spells fs bytes.now
         × Fits (charge fs) (counted 100 1000000) × (sum ≡ bytes_of_field number fs)) }
-    ensures fault { IfErr result (λ fault.
-        ListFault (counted 100 1000000) by_input bytes.now fault.error) }
-    ensures place { IfErr result (λ fault. (levels : List Group) × (fs : Fields) × (rest : List ℕ)
-        × LongestFront (counted 100 1000000) levels fs bytes.now rest
-        × (fault.record_place ≡ place_of bytes.now rest)) }
+    ensures fault { IfErr result (IsFault (counted 100 1000000) bytes.now) }
 {
     laws::reader_begins();
     laws::reader_goes_on();
     laws::reader_is_done();
-    laws::reader_is_stuck();
-    laws::fault_is_behind_longest();
+    laws::reader_stops();
     let mut reader = Reader::within(&DecodeContext::new(RECURSION_LIMIT, 1_000_000));
     let mut sum = 0;
     while let Some(event) = reader.next(bytes)? {

@@ -12,6 +12,7 @@ mod errors;
 mod frames;
 mod lists;
 mod messages;
+mod narrow;
 mod readers;
 mod ropes;
 mod row;

@@ -3,7 +3,6 @@ use Rattle.std.proofs.Common.{◌≡◌, ℕ, ◌+◌, ◌≤◌, List, [], ◌�
 use Rattle.wire_base.specs.declared.tag.WireType.TheVariants.{StartGroup, EndGroup}
 use Rattle.wire_base.specs.Charge.{charge}
 use Rattle.wire_base.specs.Ending.{by_input}
-use Rattle.wire_base.specs.Fault.{ListFault}
 use Rattle.wire_base.specs.Field.{Payload, varint, fixed64, fixed32, bytes, group, Fields, none, field, type_of}
 use Rattle.wire_base.specs.Items.{Item, start, end, whole}
 use Rattle.wire_base.specs.Limits.{Limits}
@@ -16,7 +15,7 @@ use Rattle.wire_base.specs.Text.{payload_text, record_text, size, text_of}
 use Rattle.wire_read.specs.declared.event.Event.{Event}
 use Rattle.wire_read.specs.declared.event.Fault.{Fault}
 use Rattle.wire_read.specs.declared.reader.Reader.{Reader}
-use Rattle.wire_read.specs.Laws.{EventsAreInFront, ReaderGoesOn, ReaderIsDone, ReaderIsStuck}
+use Rattle.wire_read.specs.Laws.{EventsAreInFront, ReaderGoesOn, ReaderIsDone, ReaderStops}
 use Rattle.wire_read.specs.Opened.{items_of, payload_items}
 use Rattle.wire_read.specs.Reading.{At, Gives, IsAt, IsDone, Moves, Stops, at, item}
 use Rattle.wire_write.specs.Put.{Puts}
@@ -144,11 +143,6 @@ all_seen law l all r len h done =
       h.is ∙ ap length (ap items_text is ∙ text_of_items fs),
     )
 
-pub stopped : ReaderIsStuck → (l : Limits) (all : List ℕ) (r : Reader) (len : ℕ) (f : Fault)
-    → Sofar l all r len → Stops f all (at r all) → ListFault l by_input all f.error
-stopped law l all r len f h stops =
-    law l all h.items (at r all) f.part stops.place f.error h.place stops.goes_on stops.part
-
 -- ---- the writing
 
 -- the text of the items so far is written, and that of all is so much
@@ -212,10 +206,10 @@ all_written law l all r old new place h done =
     )
 
 -- where all of the bytes spell records no fault comes
-pub no_stop : ReaderIsStuck → NoListBesideFault → WholeInput
+pub no_stop : ReaderStops → NoListBesideFault → WholeInput
     → (l : Limits) (all : List ℕ) (fs : Fields) (r : Reader) (old new : List ℕ) (place : ℕ)
     (f : Fault) → Decodes l fs all → Written l all r old new place → Stops f all (at r all) → ⊥
 no_stop law beside input l all fs r old new place f decodes h stops =
     beside l by_input all [] f.error fs
-    (law l all h.items (at r all) f.part stops.place f.error h.at_place stops.goes_on stops.part)
+    (law l all h.items (at r all) f h.at_place stops).0.of_list
     ((input (charge fs) l fs all []).1 (decodes.spelled, decodes.fits, refl))

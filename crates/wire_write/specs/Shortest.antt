@@ -2,8 +2,6 @@
 use Rattle.std.specs.Prelude.{◌≡◌, ℕ, ◌<◌, List, length}
 use Rattle.wire_base.specs.declared.tag.WireType.TheVariants.{StartGroup, EndGroup}
 use Rattle.wire_base.specs.Charge.{charge}
-use Rattle.wire_base.specs.Ending.{by_input}
-use Rattle.wire_base.specs.Fault.{ListFault}
 use Rattle.wire_base.specs.Field.{Fields}
 use Rattle.wire_base.specs.Items.{Item, start, end, whole}
 use Rattle.wire_base.specs.Limits.{Limits, Fits}
@@ -11,6 +9,7 @@ use Rattle.wire_base.specs.Spells.{Spells}
 use Rattle.wire_base.specs.Tag.{tag_text}
 use Rattle.wire_base.specs.Text.{record_text, size}
 use Rattle.wire_read.specs.declared.event.Fault.{Fault}
+use Rattle.wire_read.specs.Faults.{IsFault}
 use Rattle.wire_write.specs.declared.shortest.ShortestError.{ShortestError}
 use Rattle.wire_write.specs.declared.shortest.ShortestError.TheVariants as errors
 
@@ -27,6 +26,6 @@ pub record Decodes (l : Limits) (fs : Fields) (all : List ℕ) : Type 0 where
 -- why there is no shortest encoding in the room
 pub data ShortestFault : Limits → List ℕ → List ℕ → ShortestError → Type 0 where
   fault : {l : Limits} {all room : List ℕ} (f : Fault)
-      → ListFault l by_input all f.error → ShortestFault l all room (errors.Fault f)
+      → IsFault l all f → ShortestFault l all room (errors.Fault f)
   no_room : {l : Limits} {all room : List ℕ} (fs : Fields) (len : ℕ) → Decodes l fs all
       → len ≡ size fs → length room < len → ShortestFault l all room (errors.NoRoom len)

@@ -1,10 +1,9 @@
 //! The shortest encoding of the records that bytes spell.
 ghost use Rattle.std.specs.Prelude.{◌≡◌, ◌+◌, ◌^◌, ◌<◌, ◌≤◌, length, OnErr, IfOk, IfErr};
-ghost use Rattle.wire_base.specs.Ending.{by_input};
-ghost use Rattle.wire_base.specs.Fault.{ListFault};
 ghost use Rattle.wire_base.specs.Field.{Fields};
 ghost use Rattle.wire_base.specs.Text.{size, text_of};
 ghost use Rattle.wire_read.specs.Budget.{read_limits};
+ghost use Rattle.wire_read.specs.Faults.{IsFault};
 ghost use Rattle.wire_read.specs.Reading.{item};
 ghost use Rattle.wire_write.specs.Put.{Puts};
 ghost use Rattle.wire_write.specs.Shortest.{Decodes, ShortestFault, item_text};
@@ -39,13 +38,12 @@ impl From<Fault> for ShortestError {
 pub fn shortest_len(bytes: &[u8], context: &DecodeContext) -> Result<usize, Fault>
     ensures ok { IfOk result (λ len. (fs : Fields) × Decodes (read_limits context.now) fs bytes.now
         × (len ≡ size fs)) }
-    ensures fault { IfErr result (λ fault.
-        ListFault (read_limits context.now) by_input bytes.now fault.error) }
+    ensures fault { IfErr result (IsFault (read_limits context.now) bytes.now) }
 {
     wire_read::laws::reader_begins();
     wire_read::laws::reader_goes_on();
     wire_read::laws::reader_is_done();
-    wire_read::laws::reader_is_stuck();
+    wire_read::laws::reader_stops();
     wire_base::laws::no_text_is_shorter();
     wire_base::laws::no_tag_text_is_shorter();
     let mut reader = Reader::within(context);
@@ -103,7 +101,7 @@ fn write_items(bytes: &[u8], context: &DecodeContext, room: &mut [u8]) -> usize
     wire_read::laws::reader_begins();
     wire_read::laws::reader_goes_on();
     wire_read::laws::reader_is_done();
-    wire_read::laws::reader_is_stuck();
+    wire_read::laws::reader_stops();
     wire_read::laws::events_are_in_front();
     wire_read::laws::reader_moves_on();
     wire_base::laws::no_list_beside_fault();

@@ -1,8 +1,9 @@
-use Rattle.std.proofs.Common.{◌≡◌, ◌≢◌, ℕ, ◌+◌, ◌-◌, ◌^◌, ◌<◌, List, [], ◌++◌, length, arith, rules}
+use Rattle.std.proofs.Common.{◌≡◌, ℕ, ◌+◌, ◌-◌, ◌^◌, ◌<◌, List, [], ◌++◌, length, arith, rules}
 use Rattle.std.proofs.lemmas.Result.{on_ok_weaker}
 use Rattle.std.proofs.Common.{true, nat_eq, Err, refl, ◌∷◌, subst, sym, ap, ◌∙◌, drop}
 use Rattle.std.proofs.lemmas.Result.{err_from_is_err_and}
-use Rattle.wire_base.specs.Field.{bytes}
+use Rattle.wire_base.specs.Field.{Fields, bytes}
+use Rattle.wire_base.specs.Spells.{Spells}
 use Rattle.wire_read.specs.Reading.{At, Gives, IsAt, IsDone, Stops, at, groups_of, item, limits_of}
 use Rattle.wire_read.specs.declared.event.Fault.{Fault}
 use Rattle.wire_dump.specs.declared.layout.Layout.{Layout}
@@ -10,7 +11,7 @@ use Rattle.wire_dump.specs.declared.stop.Stop.TheVariants as stops
 use Rattle.wire_dump.specs.Dumped.{IsDumped, IsDumpedFront, ItemLines, Puts, RecordLines}
 use Rattle.wire_dump.specs.Lines.{closing, fixed_line, number_line, opening, string_line}
 use Rattle.wire_dump.specs.Places.{range_text}
-use Rattle.wire_dump.proofs.Put.{IsMargin, line_put, number_lines, eight_lines, four_lines, start_lines, end_lines, no_budget, no_bytes, message_put, no_message_put}
+use Rattle.wire_dump.proofs.Put.{IsMargin, line_put, number_lines, eight_lines, four_lines, start_lines, end_lines, no_budget, no_bytes, no_records, message_put, no_message_put}
 use Rattle.wire_dump.proofs.Texts.{cut_out, event_text}
 use Rattle.wire_dump.proofs.Walk.{begun, counted_open, few_open, finished, next_item, stopped}
 use Rattle.wire_dump.proofs.dump.+dump.Goals as goal
@@ -171,15 +172,32 @@ put_payload-returns-then-is_empty t c =
     (no_bytes y n payload text (nothing_in payload zero) c.requires.is) is)
     c.put_string-then-is_empty.ensures
 
-pub put_payload-returns-in-Ok : goal.put_payload-returns-in-Ok
-put_payload-returns-in-Ok t c =
+pub put_payload-returns-then-begins_no_record : goal.put_payload-returns-then-begins_no_record
+put_payload-returns-then-begins_no_record t c =
+    let y = c.args.layout in
+    let n = c.args.number in
+    let text = c.args.text.now in
+    let payload = c.args.payload.now in
+    let old = c.args.out.now.items in
+    let is : IsMargin y c.args.place (c.args.place + length text) c.margin-whole.result = record {
+      shown = c.margin-whole.ensures.shown;
+      start = c.margin-whole.ensures.start;
+      end_is = c.margin-whole.ensures.end;
+    } in
+    let never : (fs : Fields) → Spells fs payload → ⊥ = search rules in
+    on_ok_weaker c.put_string-then-begins_no_record.result
+    (line_put y c.args.place c.margin-whole.result text (string_line y.level n payload) old
+    c.put_string-then-begins_no_record.new.out.items (RecordLines y n (bytes payload) text)
+    (no_records y n payload text never c.requires.is) is)
+    c.put_string-then-begins_no_record.ensures
+
+pub put_message-returns-in-Ok : goal.put_message-returns-in-Ok
+put_message-returns-in-Ok t c =
     let y = c.args.layout in
     let text = c.args.text.now in
     let payload = c.args.payload.now in
     let end = c.args.place + length text in
     let inner = end - length payload in
-    let some : 0 < y.budget = omega arith in
-    let full : payload ≢ [] = search rules in
     let first : IsMargin y c.args.place inner c.margin.result = record {
       shown = c.margin.ensures.shown;
       start = c.margin.ensures.start;
@@ -193,14 +211,15 @@ put_payload-returns-in-Ok t c =
     on_ok_weaker c.put_closing.result
     (message_put y c.args.number c.args.place inner end (limits_of c.new-reader.result) payload text
     c.args.out.now.items c.put_opening.new.out.items c.put_records.new.out.items
-    c.put_closing.new.out.items c.margin.result c.margin-in-Ok.result some c.requires.shallow full
+    c.put_closing.new.out.items c.margin.result c.margin-in-Ok.result c.requires.some c.requires.shallow
+    c.requires.full
     c.new-reader.ensures.limits c.requires.is refl refl first last c.in_ok-put_opening.ensures
     (subst (λ (z : Layout). IsDumped z inner (limits_of c.new-reader.result) payload
     c.put_opening.new.out.items c.put_records.new.out.items) c.inside.ensures c.in-Ok.ensures.ok))
     c.put_closing.ensures
 
-pub put_payload-returns-in-Err-Fault : goal.put_payload-returns-in-Err-Fault
-put_payload-returns-in-Err-Fault t c =
+pub put_message-returns-in-Err-Fault : goal.put_message-returns-in-Err-Fault
+put_message-returns-in-Err-Fault t c =
     let y = c.args.layout in
     let n = c.args.number in
     let text = c.args.text.now in
@@ -215,18 +234,18 @@ put_payload-returns-in-Err-Fault t c =
     let f = c.in-Err-Fault.field-0-0 in
     let was : c.put_records.result ≡ Err (stops.Fault f) = search rules in
     let groups = groups_of c.put_records.new.reader in
-    on_ok_weaker c.put_string-in-Err-Fault.result
+    on_ok_weaker c.put_string.result
     (no_message_put c.whole_input.ensures c.no_list_beside_fault.ensures y n c.args.place inner
     c.len-start.result (limits_of c.new-reader.result) payload text old
     c.put_opening.new.out.items c.put_records.new.out.items c.truncate.new.self.items
-    c.put_string-in-Err-Fault.new.out.items
+    c.put_string.new.out.items
     (range_text c.margin.result.is_shown c.margin.result.start c.margin.result.end
     ++ opening y.level n) c.margin-whole.result f groups c.requires.shallow
     c.new-reader.ensures.limits (search rules) c.in_ok-put_opening.ensures c.requires.is is
     (subst (λ (z : Layout). IsDumpedFront z inner (limits_of c.new-reader.result) payload f groups
     c.put_opening.new.out.items c.put_records.new.out.items) c.inside.ensures
     (c.put_records.ensures.fault f was)) c.truncate.ensures.items)
-    c.put_string-in-Err-Fault.ensures
+    c.put_string.ensures
 
 -- ---- records
 
@@ -305,7 +324,6 @@ put_records-returns-in_err-event-clause-fault t c =
     subst (λ (x : Fault). Stops x all (at c.loop-event.reader all)) is
     c.in_err-event.ensures.fault in
     let kept : c.next.new.self ≡ c.loop-event.reader = search rules in
-    rw kept (stopped c.items_tell_records.ensures c.reader_is_stuck.ensures
-    c.fault_is_behind_longest.ensures c.args.layout c.args.place (limits_of c.args.reader.now) all
-    (at c.loop-event.reader all) f c.args.out.now.items c.loop-event.out.items
-    c.loop-event.invariant stops_here)
+    rw kept (stopped c.items_tell_records.ensures c.reader_stops.ensures c.args.layout c.args.place
+    (limits_of c.args.reader.now) all (at c.loop-event.reader all) f c.args.out.now.items
+    c.loop-event.out.items c.loop-event.invariant stops_here)

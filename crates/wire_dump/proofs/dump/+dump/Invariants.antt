@@ -4,13 +4,16 @@ use Rattle.wire_dump.proofs.Walk.{Sofar}
 use Rattle.wire_dump.proofs.dump.+dump.Given as goal
 
 abbrev pub decreases-put_records : goal.decreases-put_records
-decreases-put_records l = 3 * l.layout.budget + 2
+decreases-put_records l = 4 * l.layout.budget + 3
 
 abbrev pub decreases-put_item : goal.decreases-put_item
-decreases-put_item l = 3 * l.layout.budget + 1
+decreases-put_item l = 4 * l.layout.budget + 2
 
 abbrev pub decreases-put_payload : goal.decreases-put_payload
-decreases-put_payload l = 3 * l.layout.budget
+decreases-put_payload l = 4 * l.layout.budget + 1
+
+abbrev pub decreases-put_message : goal.decreases-put_message
+decreases-put_message l = 4 * l.layout.budget
 
 abbrev pub invariant-put_records-loop-event : goal.invariant-put_records-loop-event
 invariant-put_records-loop-event l =

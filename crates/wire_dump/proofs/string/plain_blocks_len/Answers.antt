@@ -7,8 +7,8 @@ pub loop-count-preserved : goal.loop-count-preserved
 loop-count-preserved c =
     let bytes = c.args.bytes.now in
     let count = c.loop-count.count in
-    let block = take (count + 32 - count) (drop count bytes) in
+    let block = take (count + 8 - count) (drop count bytes) in
     let same : escaped block ≡ block = search rules in
-    let room : count + 32 ≤ length bytes =
+    let room : count + 8 ≤ length bytes =
     omega (arith, c.loop-count.invariant.within, c.loop-count-test.true) in
-    block_plain bytes count 32 c.loop-count.invariant room same
+    block_plain bytes count 8 c.loop-count.invariant room same

@@ -2,14 +2,14 @@ use Rattle.std.proofs.Common.{◌≡◌, ◌+◌, nat_eq, rules}
 use Rattle.std.proofs.lemmas.Result.{err_from_is_err_and}
 use Rattle.wire_read.specs.PayloadBytes.{payload_length}
 use Rattle.wire_read.specs.Reading.{Gives, IsDone, at}
-use Rattle.wire_read.proofs.FieldBytes.{all_seen, one_more, stopped}
+use Rattle.wire_read.proofs.FieldBytes.{all_seen, one_more}
 use Rattle.wire_read.proofs.sums.payload_bytes.Goals as goal
 
 pub returns-in_err-event-clause-fault : goal.returns-in_err-event-clause-fault
 returns-in_err-event-clause-fault c =
     let p = err_from_is_err_and c.from_residual.result c.from_residual.ensures.1 in
-    rw (p.1, p.2) (stopped c.reader_is_stuck.ensures _ _ _ _ _ _ c.loop-event.invariant
-    c.in_err-event.ensures.fault)
+    rw (p.1, p.2) (c.reader_stops.ensures _ _ _ _ _ c.loop-event.invariant.place
+    c.in_err-event.ensures.fault).0
 
 pub loop-event-preserved : goal.loop-event-preserved
 loop-event-preserved c =

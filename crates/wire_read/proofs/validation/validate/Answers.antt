@@ -6,9 +6,8 @@ use Rattle.wire_read.proofs.validation.validate.Goals as goal
 pub returns-in_err-_event-clause-fault : goal.returns-in_err-_event-clause-fault
 returns-in_err-_event-clause-fault c =
     let p = err_from_is_err_and c.from_residual.result c.from_residual.ensures.1 in
-    let stops = c.in_err-_event.ensures.fault in
-    rw (p.1, p.2) (c.reader_is_stuck.ensures _ _ _ _ _ _ _ c.loop-event.invariant.1
-    stops.goes_on stops.part)
+    rw (p.1, p.2) (c.reader_stops.ensures _ _ _ _ _ c.loop-event.invariant.1
+    c.in_err-_event.ensures.fault).0
 
 pub loop-event-preserved : goal.loop-event-preserved
 loop-event-preserved c =

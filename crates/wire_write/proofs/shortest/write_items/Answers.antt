@@ -28,5 +28,5 @@ pub returns-in_default-2 : goal.returns-in_default-2
 returns-in_default-2 c =
     let all = c.args.bytes.now in
     let stops : Stops c.in_default.field-0 all (at c.loop-event.reader all) = search rules in
-    absurd (no_stop c.reader_is_stuck.ensures c.no_list_beside_fault.ensures c.whole_input.ensures
+    absurd (no_stop c.reader_stops.ensures c.no_list_beside_fault.ensures c.whole_input.ensures
     _ _ _ _ _ _ _ _ c.requires.1 c.loop-event.invariant stops)

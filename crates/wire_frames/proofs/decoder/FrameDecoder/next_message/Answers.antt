@@ -13,7 +13,8 @@ returns-in_err-message-in-Some-clause-refused g c =
     let p = err_from_is_err_and c.from_residual-in_err-message-in-Some.result
     c.from_residual-in_err-message-in-Some.ensures.1 in
     let taken = rw c.in-Some.is at c.in_ok-frame.ensures.frame in
-    rw (p.1, p.2) (no_message c.in-Some.frame taken c.in_err-message-in-Some.ensures.err)
+    let rest = rw c.in-Some.is at c.in_ok-frame.ensures.rest in
+    rw (p.1, p.2) (no_message c.in-Some.frame taken rest c.in_err-message-in-Some.ensures.err)
 
 pub returns-in-None-clause-none : goal.returns-in-None-clause-none
 returns-in-None-clause-none g c = rw c.in-None.is at c.in_ok-frame.ensures.none

@@ -1,15 +1,16 @@
 use Rattle.std.proofs.Common.{ℕ, Bool, List, [], drop, sym, ap, subst, ◌∙◌, arith}
-use Rattle.wire_frames.specs.declared.frame.Frame.{Frame}
+use Rattle.wire_frames.specs.declared.frame.FrameText.{FrameText}
 use Rattle.wire_frames.specs.declared.frame.Framing.{Framing}
-use Rattle.wire_frames.specs.Extent.{Stands, frame_at}
+use Rattle.wire_frames.specs.Extent.{Stands, text_at}
 use Rattle.wire_frames.specs.Frames.{in_prefix}
 use Rattle.wire_frames.specs.Stream.{Stream, left, unread}
 use Rattle.wire_frames.proofs.Extents.{held_is_less, run_is, rest_is}
 use Rattle.wire_frames.proofs.Prefixes.{nothing_is_begun}
 use Rattle.wire_frames.proofs.decoder.FrameDecoder.take.Goals as goal
 
-abbrev frame_with : Bool → List ℕ → Frame
-frame_with compressed payload = record { compressed = compressed; payload = payload }
+abbrev text_with : Bool → ℕ → List ℕ → FrameText
+text_with compressed prefix text =
+    record { compressed = compressed; prefix = prefix; text = text }
 
 abbrev stream_with : Framing → ℕ → List ℕ → List ℕ → Stream
 stream_with framing limit held chunk =
@@ -25,13 +26,13 @@ overflow_sub-more c =
     omega (arith, less, c.len.ensures, inside.held.ok)
 
 pub invariant_of-self : goal.invariant_of-self
-invariant_of-self c = rw c.in_err-payload.ensures.held_stays c.self.invariant
+invariant_of-self c = rw c.in_err-text.ensures.held_stays c.self.invariant
 
 pub invariant_of-self-2 : goal.invariant_of-self-2
-invariant_of-self-2 c = rw c.in_ok-payload.ensures.held (in_prefix (nothing_is_begun _))
+invariant_of-self-2 c = rw c.in_ok-text.ensures.held (in_prefix (nothing_is_begun _))
 
-pub returns-clause-frame : goal.returns-clause-frame
-returns-clause-frame c =
+pub returns-clause-text : goal.returns-clause-text
+returns-clause-text c =
     let inside = c.self.inside in
     let x = c.args.extent in
     let stands = subst (λ (s : Stream). Stands s.framing s.limit (unread s) x)
@@ -40,10 +41,9 @@ returns-clause-frame c =
     inside.held.items inside.chunk x c.self.invariant stands in
     let run = run_is inside.held.items inside.chunk _ x.len c.len.result
     (omega (arith, c.len.ensures, inside.held.ok)) (omega (arith, less))
-    c.in_ok-payload.ensures.run in
-    ap (λ (p : List ℕ). frame_with x.compressed p)
-    (c.advance.ensures ∙ ap (λ (r : List ℕ). drop x.prefix r) run)
-    ∙ ap (λ (s : Stream). frame_at (unread s) x) c.self.view_is
+    c.in_ok-text.ensures.run in
+    ap (λ (t : List ℕ). text_with x.compressed x.prefix t) run
+    ∙ ap (λ (s : Stream). text_at (unread s) x) c.self.view_is
 
 pub returns-clause-rest : goal.returns-clause-rest
 returns-clause-rest c =
@@ -55,8 +55,8 @@ returns-clause-rest c =
     inside.held.items inside.chunk x c.self.invariant stands in
     let rest = rest_is inside.held.items inside.chunk _ x.len c.len.result
     (omega (arith, c.len.ensures, inside.held.ok)) (omega (arith, less))
-    c.in_ok-payload.ensures.chunk in
+    c.in_ok-text.ensures.chunk in
     ap (λ (h : List ℕ). stream_with inside.framing inside.limit h c.split_joined.new.chunk)
-    c.in_ok-payload.ensures.held
+    c.in_ok-text.ensures.held
     ∙ ap (λ (t : List ℕ). stream_with inside.framing inside.limit [] t) rest
     ∙ ap (λ (s : Stream). left s (drop x.len (unread s))) c.self.view_is
