@@ -2,13 +2,123 @@
 use crate::error::GenerateError;
 use crate::field::Field;
 use crate::imports::Imports;
-use crate::schema::{MessageType, Names, Schema};
-use crate::text::{made, put};
+use crate::schema::{MessageType, Schema};
+use crate::text::{fill, filled};
 use crate::tree::Tree;
 use std::alloc::Global;
 
 // The widest line of code.
 const WIDTH: usize = 100;
+
+const NAMES: &str = "\
+bytes Buf
+std::alloc Global
+wire_codec DecodeContext
+wire_codec DecodeError
+wire_codec EncodeError
+wire_codec EncodeSink
+wire_codec Message
+wire_codec SizeCache
+wire_codec Tag
+wire_codec UnknownFields
+wire_fields Kind
+wire_fields Known
+wire_fields Rest
+wire_fields keep
+wire_fields measure
+wire_fields write";
+
+const STRUCT: &str = "\
+#[derive(Clone, Debug, Drop, PartialEq)]
+pub struct $name$ {
+$held$    /// The fields that the schema lacks, as they came.
+    pub unknown: UnknownFields,
+}
+";
+
+const MESSAGE: &str = "
+impl Message for $name$ {
+    ghost use Rattle.$crate$.specs.$name$.{$name$-Value};
+    ghost use Rattle.$crate$.specs.$name$.{$module$-value};
+    ghost use Rattle.$crate$.specs.$name$.{$module$-shape};
+
+    ghost Value = { $name$-Value };
+
+    ghost view = { $module$-value };
+
+    ghost records = { $module$-shape.records };
+
+    ghost default = { $module$-shape.default };
+
+    ghost takes = { $module$-shape.takes };
+
+    ghost single = { $module$-shape.single };
+
+    fn default_value(alloc: Global) -> $name$ {
+        $name$ {
+$empty$            unknown: UnknownFields::new(alloc),
+        }
+    }
+
+    fn compute_size(&self, cache: &mut SizeCache) -> Result<u32, EncodeError> {
+$parts$        let rest = Rest {
+            fields: &self.unknown,
+        };
+        measure(($known$, rest), cache)
+    }
+
+    fn write_to<S: EncodeSink>(
+        &self,
+        cache: &mut SizeCache,
+        sink: &mut S,
+    ) -> Result<(), EncodeError> {
+$parts$        let rest = Rest {
+            fields: &self.unknown,
+        };
+        write(($known$, rest), cache, sink)
+    }
+
+    fn merge_field<B: Buf>(
+        &mut self,
+        alloc: Global,
+        tag: Tag,
+        buf: &mut B,
+        context: &mut DecodeContext,
+    ) -> Result<(), DecodeError> {
+        match tag.field_number() {
+$arms$            _ => keep(alloc, tag, &mut self.unknown, buf, context),
+        }
+    }
+
+    fn clear(&mut self) {
+$clear$        self.unknown.clear();
+    }
+}
+";
+
+const HELD: &str = "    pub $field$: $held$,\n";
+
+const EMPTY: &str = "            $field$: <$kind$ as Kind>::empty(alloc),\n";
+
+const PART: &str = "        let field_$number$: Known<$kind$> = Known {
+            number: $number$,
+            held: &self.$field$,
+        };
+";
+
+const CLEAR: &str = "        <$kind$ as Kind>::clear(&mut self.$field$);\n";
+
+const ARM: &str = "            $number$ => <$kind$ as Kind>::merge(alloc, tag, &mut self.$field$, \
+                   buf, context),\n";
+
+const LONG_ARM: &str = "            $number$ => <$kind$ as Kind>::merge(
+                alloc,
+                tag,
+                &mut self.$field$,
+                buf,
+                context,
+            ),
+";
 
 /// The module of a message type.
 pub(crate) fn code_of(
@@ -19,239 +129,109 @@ pub(crate) fn code_of(
     fields: &[Field],
     tree: &Tree,
 ) -> Result<String, GenerateError> {
-    let name = message.names.name.as_str();
-    let mut text = String::new(alloc);
-    put(
-        &mut text,
-        "//! The message `$`. Generated.\n",
-        &[message.names.full.trim_start_matches('.')],
-    )?;
+    let lines = Lines::of(alloc, schema, message, fields, tree)?;
+    let words = [
+        ("crate", crate_name),
+        ("name", message.names.name.as_str()),
+        ("module", message.names.module.as_str()),
+        ("full", message.names.full.trim_start_matches('.')),
+        ("known", tree.local.as_str()),
+        ("held", lines.held.as_str()),
+        ("empty", lines.empty.as_str()),
+        ("parts", lines.parts.as_str()),
+        ("arms", lines.arms.as_str()),
+        ("clear", lines.clear.as_str()),
+    ];
+    let mut text = filled(alloc, "//! The message `$full$`. Generated.\n", &words)?;
     put_imports(alloc, fields, &mut text)?;
-    put_struct(alloc, schema, &message.names, fields, &mut text)?;
-    put_ghosts(crate_name, name, &message.names.module, &mut text)?;
-    put_default(alloc, name, fields, &mut text)?;
-    put(
-        &mut text,
-        "    fn compute_size(&self, cache: &mut SizeCache) -> Result<u32, EncodeError> {\n",
-        &[],
-    )?;
-    put_parts(fields, tree, &mut text)?;
-    put(
-        &mut text,
-        "        measure(($, rest), cache)\n",
-        &[&tree.local],
-    )?;
-    put(&mut text, "    }\n\n", &[])?;
-    put(&mut text, "    fn write_to<S: EncodeSink>(\n", &[])?;
-    put(
-        &mut text,
-        "        &self,\n        cache: &mut SizeCache,\n        sink: &mut S,\n",
-        &[],
-    )?;
-    put(&mut text, "    ) -> Result<(), EncodeError> {\n", &[])?;
-    put_parts(fields, tree, &mut text)?;
-    put(
-        &mut text,
-        "        write(($, rest), cache, sink)\n",
-        &[&tree.local],
-    )?;
-    put(&mut text, "    }\n\n", &[])?;
-    put_merge(alloc, fields, &mut text)?;
-    put_clear(fields, &mut text)?;
+    let otherwise = filled(alloc, "The message `$name$`.", &words)?;
+    schema.put_comment(&message.names.place, "", &otherwise, &mut text)?;
+    fill(&mut text, STRUCT, &words)?;
+    fill(&mut text, MESSAGE, &words)?;
     Ok(text)
 }
 
 fn put_imports(alloc: Global, fields: &[Field], text: &mut String) -> Result<(), GenerateError> {
     let mut imports = Imports::new(alloc);
+    imports.add_lines(NAMES)?;
     for field in fields {
         imports.add_all(&field.code)?;
     }
-    for name in ["Kind", "Known", "Rest", "keep", "measure", "write"] {
-        imports.add("wire_fields", name)?;
-    }
-    for name in [
-        "DecodeContext",
-        "DecodeError",
-        "EncodeError",
-        "EncodeSink",
-        "Message",
-        "SizeCache",
-        "Tag",
-        "UnknownFields",
-    ] {
-        imports.add("wire_codec", name)?;
-    }
-    imports.add("bytes", "Buf")?;
-    imports.add("std::alloc", "Global")?;
-    imports.put_code(text)?;
-    put(text, "\n", &[])
+    imports.put_code(text)
 }
 
-fn put_struct(
-    alloc: Global,
-    schema: &Schema,
-    names: &Names,
-    fields: &[Field],
-    text: &mut String,
-) -> Result<(), GenerateError> {
-    let otherwise = made(alloc, "The message `$`.", &[&names.name])?;
-    schema.put_comment(&names.place, "", &otherwise, text)?;
-    put(text, "#[derive(Clone, Debug, Drop, PartialEq)]\n", &[])?;
-    put(text, "pub struct $ {\n", &[&names.name])?;
-    for field in fields {
-        let place = made(
-            alloc,
-            "$.2.$",
-            &[&names.place, &field.place.to_string(alloc)?],
-        )?;
-        schema.put_comment(&place, "    ", "", text)?;
-        put(text, "    pub $: $,\n", &[&field.name, &field.held])?;
-    }
-    put(
-        text,
-        "    /// The fields that the schema lacks, as they came.\n",
-        &[],
-    )?;
-    put(text, "    pub unknown: UnknownFields,\n}\n\n", &[])
+// The lines that there are for each field.
+#[derive(Drop)]
+struct Lines {
+    held: String,
+    empty: String,
+    parts: String,
+    arms: String,
+    clear: String,
 }
 
-fn put_ghosts(
-    crate_name: &str,
-    name: &str,
-    module: &str,
-    text: &mut String,
-) -> Result<(), GenerateError> {
-    put(text, "impl Message for $ {\n", &[name])?;
-    for [of, word] in [[name, "Value"], [module, "value"], [module, "shape"]] {
-        put(
-            text,
-            "    ghost use Rattle.$.specs.$.{$-$};\n",
-            &[crate_name, name, of, word],
-        )?;
-    }
-    put(text, "\n    ghost Value = { $-Value };\n\n", &[name])?;
-    put(text, "    ghost view = { $-value };\n\n", &[module])?;
-    for member in ["records", "default", "takes", "single"] {
-        put(
-            text,
-            "    ghost $ = { $-shape.$ };\n\n",
-            &[member, module, member],
-        )?;
-    }
-    Ok(())
-}
-
-fn put_default(
-    alloc: Global,
-    name: &str,
-    fields: &[Field],
-    text: &mut String,
-) -> Result<(), GenerateError> {
-    put(
-        text,
-        "    fn default_value(alloc: Global) -> $ {\n",
-        &[name],
-    )?;
-    put(text, "        $ {\n", &[name])?;
-    for field in fields {
-        let call = made(alloc, "<$ as Kind>::empty(alloc)", &[&field.kind])?;
-        put(text, "            $: $,\n", &[&field.name, &call])?;
-    }
-    put(
-        text,
-        "            unknown: UnknownFields::new(alloc),\n        }\n    }\n\n",
-        &[],
-    )
-}
-
-fn put_parts(fields: &[Field], tree: &Tree, text: &mut String) -> Result<(), GenerateError> {
-    for field in fields {
-        let digits = field.digits.as_str();
-        put(
-            text,
-            "        let field_$: Known<$> = Known {\n",
-            &[digits, &field.kind],
-        )?;
-        put(text, "            number: $,\n", &[digits])?;
-        put(
-            text,
-            "            held: &self.$,\n        };\n",
-            &[&field.name],
-        )?;
-    }
-    text.push_str(&tree.pairs)?;
-    put(
-        text,
-        "        let rest = Rest {\n            fields: &self.unknown,\n        };\n",
-        &[],
-    )
-}
-
-fn put_merge(alloc: Global, fields: &[Field], text: &mut String) -> Result<(), GenerateError> {
-    put(text, "    fn merge_field<B: Buf>(\n", &[])?;
-    put(
-        text,
-        "        &mut self,\n        alloc: Global,\n        tag: Tag,\n",
-        &[],
-    )?;
-    put(
-        text,
-        "        buf: &mut B,\n        context: &mut DecodeContext,\n",
-        &[],
-    )?;
-    put(
-        text,
-        "    ) -> Result<(), DecodeError> {\n        match tag.field_number() {\n",
-        &[],
-    )?;
-    for field in fields {
-        for number in &field.numbers {
-            put_arm(alloc, field, number, text)?;
+impl Lines {
+    fn of(
+        alloc: Global,
+        schema: &Schema,
+        message: &MessageType,
+        fields: &[Field],
+        tree: &Tree,
+    ) -> Result<Lines, GenerateError> {
+        let mut lines = Lines {
+            held: String::new(alloc),
+            empty: String::new(alloc),
+            parts: String::new(alloc),
+            arms: String::new(alloc),
+            clear: String::new(alloc),
+        };
+        for field in fields {
+            lines.put_comment(alloc, schema, message, field)?;
+            lines.put(field)?;
+            for number in &field.numbers {
+                lines.put_arm(alloc, field, number)?;
+            }
         }
+        lines.parts.push_str(&tree.pairs)?;
+        Ok(lines)
     }
-    put(
-        text,
-        "            _ => keep(alloc, tag, &mut self.unknown, buf, context),\n",
-        &[],
-    )?;
-    put(text, "        }\n    }\n\n", &[])?;
-    Ok(())
-}
 
-fn put_arm(
-    alloc: Global,
-    field: &Field,
-    number: &str,
-    text: &mut String,
-) -> Result<(), GenerateError> {
-    let call = made(alloc, "$ => <$ as Kind>::merge(", &[number, &field.kind])?;
-    let held = made(alloc, "&mut self.$", &[&field.name])?;
-    let arm = made(
-        alloc,
-        "            $alloc, tag, $, buf, context),",
-        &[&call, &held],
-    )?;
-    if arm.len() <= WIDTH {
-        put(text, "$\n", &[&arm])?;
-        return Ok(());
+    fn put_comment(
+        &mut self,
+        alloc: Global,
+        schema: &Schema,
+        message: &MessageType,
+        field: &Field,
+    ) -> Result<(), GenerateError> {
+        let words = [
+            ("message", message.names.place.as_str()),
+            ("place", field.place.as_str()),
+        ];
+        let place = filled(alloc, "$message$.2.$place$", &words)?;
+        schema.put_comment(&place, "    ", "", &mut self.held)
     }
-    put(text, "            $\n", &[&call])?;
-    for given in ["alloc", "tag", held.as_str(), "buf", "context"] {
-        put(text, "                $,\n", &[given])?;
-    }
-    put(text, "            ),\n", &[])?;
-    Ok(())
-}
 
-fn put_clear(fields: &[Field], text: &mut String) -> Result<(), GenerateError> {
-    put(text, "    fn clear(&mut self) {\n", &[])?;
-    for field in fields {
-        let held = field.name.as_str();
-        put(
-            text,
-            "        <$ as Kind>::clear(&mut self.$);\n",
-            &[&field.kind, &held],
-        )?;
+    fn put(&mut self, field: &Field) -> Result<(), GenerateError> {
+        let words = field.words();
+        fill(&mut self.held, HELD, &words)?;
+        fill(&mut self.empty, EMPTY, &words)?;
+        fill(&mut self.parts, PART, &words)?;
+        fill(&mut self.clear, CLEAR, &words)
     }
-    put(text, "        self.unknown.clear();\n    }\n}\n", &[])
+
+    fn put_arm(&mut self, alloc: Global, field: &Field, number: &str) -> Result<(), GenerateError> {
+        let words = [
+            ("number", number),
+            ("kind", field.kind.as_str()),
+            ("field", field.name.as_str()),
+        ];
+        let arm = filled(alloc, ARM, &words)?;
+        // (its line's end counted)
+        let template = if arm.len() <= WIDTH + 1 {
+            ARM
+        } else {
+            LONG_ARM
+        };
+        fill(&mut self.arms, template, &words)
+    }
 }

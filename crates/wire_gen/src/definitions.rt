@@ -4,9 +4,56 @@ use crate::field::Field;
 use crate::imports::Imports;
 use crate::kind::in_brackets;
 use crate::schema::MessageType;
-use crate::text::{made, put};
+use crate::text::{fill, filled};
 use crate::tree::{Tree, indented};
 use std::alloc::Global;
+
+const NAMES: &str = "\
+Rattle.wire_codec.specs.Field Fields
+Rattle.wire_fields.specs.Shape Lawful
+Rattle.wire_fields.specs.Shape Shape
+Rattle.wire_fields.specs.Shape known
+Rattle.wire_fields.specs.Shape two
+Rattle.wire_fields.specs.Shape unknown";
+
+const HEAD: &str = "-- A `$name$` as contracts see it, and the table of its fields. Generated.\n";
+
+const VALUE: &str = "\
+abbrev pub $name$-Known : Type 0
+$name$-Known =
+    $value$
+
+abbrev pub $name$-Value : Type 0
+$name$-Value = $name$-Known × Fields
+
+abbrev pub $module$-value : $name$ → $name$-Value
+$module$-value m = (
+$view$,
+  m.unknown,
+)
+
+";
+
+const SHAPE: &str = "\
+abbrev pub $module$-known : Shape $name$-Known
+$module$-known =
+    $table$
+
+abbrev pub $module$-shape : Shape $name$-Value
+$module$-shape = two $module$-known unknown
+";
+
+const KIND: &str = "\
+abbrev pub $module$-$field$-kind : Lawful $value$
+$module$-$field$-kind = $definition$
+
+";
+
+const WORD: &str = "\
+abbrev pub $field$-of-$module$ : $name$-Value → $value$
+$field$-of-$module$ m = m.0$path$
+
+";
 
 /// The value of a message type, its table, and a word for each field.
 pub(crate) fn definitions_of(
@@ -16,112 +63,82 @@ pub(crate) fn definitions_of(
     fields: &[Field],
     tree: &Tree,
 ) -> Result<String, GenerateError> {
-    let (name, module) = (message.names.name.as_str(), message.names.module.as_str());
-    let mut text = String::new(alloc);
-    put(
-        &mut text,
-        "-- A `$` as contracts see it, and the table of its fields. Generated.\n",
-        &[name],
+    let view = indented(alloc, &tree.view)?;
+    let words = [
+        ("crate", crate_name),
+        ("name", message.names.name.as_str()),
+        ("module", message.names.module.as_str()),
+        ("value", tree.value.as_str()),
+        ("view", view.as_str()),
+        ("table", tree.table.as_str()),
+    ];
+    let mut text = filled(alloc, HEAD, &words)?;
+    let declared = filled(
+        alloc,
+        "Rattle.$crate$.specs.declared.$module$.$name$",
+        &words,
     )?;
-    put_imports(alloc, crate_name, name, module, fields, &mut text)?;
-    put_kinds(alloc, module, fields, &mut text)?;
-    put(&mut text, "abbrev pub $-Known : Type 0\n", &[name])?;
-    put(&mut text, "$-Known =\n    $\n\n", &[name, &tree.value])?;
-    put(&mut text, "abbrev pub $-Value : Type 0\n", &[name])?;
-    put(&mut text, "$-Value = $-Known × Fields\n\n", &[name, name])?;
-    put(
-        &mut text,
-        "abbrev pub $-value : $ → $-Value\n",
-        &[module, name, name],
-    )?;
-    put(&mut text, "$-value m = (\n", &[module])?;
-    put(&mut text, "$,\n", &[&indented(alloc, &tree.view)?])?;
-    put(&mut text, "  m.unknown,\n)\n\n", &[])?;
-    put_words(name, module, fields, tree, &mut text)?;
-    put(
-        &mut text,
-        "abbrev pub $-known : Shape $-Known\n",
-        &[module, name],
-    )?;
-    put(&mut text, "$-known =\n    $\n\n", &[module, &tree.table])?;
-    put(
-        &mut text,
-        "abbrev pub $-shape : Shape $-Value\n",
-        &[module, name],
-    )?;
-    put(
-        &mut text,
-        "$-shape = two $-known unknown\n",
-        &[module, module],
-    )?;
+    put_imports(alloc, &declared, &message.names.name, fields, &mut text)?;
+    for field in fields {
+        put_kind(alloc, &message.names.module, field, &mut text)?;
+    }
+    fill(&mut text, VALUE, &words)?;
+    for (field, path) in fields.iter().zip(tree.paths.iter()) {
+        put_word(message, field, path, &mut text)?;
+    }
+    fill(&mut text, SHAPE, &words)?;
     Ok(text)
 }
 
 fn put_imports(
     alloc: Global,
-    crate_name: &str,
+    declared: &str,
     name: &str,
-    module: &str,
     fields: &[Field],
     text: &mut String,
 ) -> Result<(), GenerateError> {
     let mut imports = Imports::new(alloc);
+    imports.add_lines(NAMES)?;
+    imports.add(declared, name)?;
     for field in fields {
         imports.add_all(&field.definitions)?;
     }
-    for word in ["Lawful", "Shape", "known", "two", "unknown"] {
-        imports.add("Rattle.wire_fields.specs.Shape", word)?;
-    }
-    imports.add("Rattle.wire_codec.specs.Field", "Fields")?;
-    let declared = made(
-        alloc,
-        "Rattle.$.specs.declared.$.$",
-        &[crate_name, module, name],
-    )?;
-    imports.add(&declared, name)?;
-    imports.put_definitions(text)?;
-    put(text, "\n", &[])
+    imports.put_definitions(text)
 }
 
-// The kind of each field.
-fn put_kinds(
+// The kind of a field that is no oneof.
+fn put_kind(
     alloc: Global,
     module: &str,
-    fields: &[Field],
+    field: &Field,
     text: &mut String,
 ) -> Result<(), GenerateError> {
-    for field in fields.iter().filter(|it| it.oneof.is_none()) {
-        let value = in_brackets(alloc, &field.value)?;
-        put(
-            text,
-            "abbrev pub $-$-kind : Lawful $\n",
-            &[module, &field.name, &value],
-        )?;
-        put(
-            text,
-            "$-$-kind = $\n\n",
-            &[module, &field.name, &field.definition],
-        )?;
+    if field.oneof.is_some() {
+        return Ok(());
     }
-    Ok(())
+    let value = in_brackets(alloc, &field.value)?;
+    let words = [
+        ("module", module),
+        ("field", field.name.as_str()),
+        ("value", value.as_str()),
+        ("definition", field.definition.as_str()),
+    ];
+    fill(text, KIND, &words)
 }
 
-// Each field of a value.
-fn put_words(
-    name: &str,
-    module: &str,
-    fields: &[Field],
-    tree: &Tree,
+// A field of a value.
+fn put_word(
+    message: &MessageType,
+    field: &Field,
+    path: &str,
     text: &mut String,
 ) -> Result<(), GenerateError> {
-    for (field, path) in fields.iter().zip(tree.paths.iter()) {
-        let word = field.name.as_str();
-        put(
-            text,
-            "abbrev pub $-of-$ : $-Value → $\n",
-            &[word, module, name, &field.value],
-        )?;
-        put(text, "$-of-$ m = m.0$\n\n", &[word, module, path])?;
-    }
-    Ok(())
+    let words = [
+        ("name", message.names.name.as_str()),
+        ("module", message.names.module.as_str()),
+        ("field", field.name.as_str()),
+        ("value", field.value.as_str()),
+        ("path", path),
+    ];
+    fill(text, WORD, &words)
 }

@@ -2,7 +2,7 @@
 use crate::error::GenerateError;
 use crate::names::value_name;
 use crate::schema::{EnumType, Schema};
-use crate::text::{made, put, refused};
+use crate::text::{fill, filled, made, refused};
 use std::alloc::Global;
 
 // A value of an enum: its name in code and in the schema, and its number.
@@ -11,8 +11,63 @@ struct Named {
     name: String,
     proto: String,
     number: i32,
-    digits: String,
 }
+
+const ENUM: &str = "\
+#[derive(Clone, Copy, Debug, PartialEq, Eq, Hash)]
+pub enum $name$ {
+$values$}
+
+impl Enumeration for $name$ {
+    ghost use Rattle.std.specs.Prelude.{codes};
+    ghost use Rattle.wire_codec.specs.EnumNumbers.{first_numbered_keeps};
+$uses$    ghost use Rattle.$crate$.specs.$name$.{$module$-number};
+    ghost use Rattle.$crate$.specs.$name$.{$module$-of};
+    ghost use Rattle.$crate$.specs.$name$.{$module$-values};
+
+    ghost number = { $module$-number };
+
+    ghost of_number = { $module$-of };
+
+    ghost name = { elim [ $names$ ] };
+
+    ghost keeps_number = { first_numbered_keeps $module$-number $module$-values };
+
+    fn from_i32(value: i32) -> Option<$name$> {
+        match value {
+$from$            _ => None,
+        }
+    }
+
+    fn to_i32(&self) -> i32 {
+        *self as i32
+    }
+
+    fn proto_name(&self) -> &'static str {
+        match self {
+$protos$        }
+    }
+}
+";
+
+const DEFINITIONS: &str = "\
+-- The numbers of a `$name$`. Generated.
+use Rattle.std.specs.Prelude.{ℤ, pos, neg, List, [], ◌∷◌, Option}
+use Rattle.wire_codec.specs.EnumNumbers.{first_numbered}
+use Rattle.$crate$.specs.declared.$module$.$name$.{$name$}
+use Rattle.$crate$.specs.declared.$module$.$name$.TheVariants.{$all$}
+
+abbrev pub $module$-number : $name$ → ℤ
+$numbers$
+abbrev pub $module$-values : List $name$
+$module$-values = $list$[]
+
+abbrev pub $module$-of : ℤ → Option $name$
+$module$-of = first_numbered $module$-number $module$-values
+";
+
+const USE: &str =
+    "    ghost use Rattle.$crate$.specs.declared.$module$.$name$.TheVariants.{$value$};\n";
 
 fn values_of(alloc: Global, of_enum: &EnumType) -> Result<Vec<Named>, GenerateError> {
     let mut values: Vec<Named> = Vec::new(alloc);
@@ -29,205 +84,127 @@ fn values_of(alloc: Global, of_enum: &EnumType) -> Result<Vec<Named>, GenerateEr
             let full = of_enum.names.full.as_str();
             return Err(refused(alloc, &[full, why, &value.name]));
         }
-        let number = value.number;
         values.push(Named {
             name,
             proto: value.name.clone()?,
-            number,
-            digits: number.to_string(alloc)?,
+            number: value.number,
         })?;
     }
     Ok(values)
 }
 
-fn listed(alloc: Global, values: &[Named], between: &str) -> Result<String, GenerateError> {
-    let mut text = String::new(alloc);
-    let mut before = "";
-    for value in values {
-        text.push_str(before)?;
-        text.push_str(&value.name)?;
-        before = between;
-    }
-    Ok(text)
-}
-
-/// The module of an enum.
-pub(crate) fn enum_code(
+/// The module of an enum, and its definitions.
+pub(crate) fn enum_files(
     alloc: Global,
     crate_name: &str,
     schema: &Schema,
     of_enum: &EnumType,
-) -> Result<String, GenerateError> {
-    let (name, module) = (of_enum.names.name.as_str(), of_enum.names.module.as_str());
-    let values = values_of(alloc, of_enum)?;
-    let mut text = String::new(alloc);
-    put(
-        &mut text,
-        "//! The enum `$`. Generated.\n",
-        &[of_enum.names.full.trim_start_matches('.')],
-    )?;
-    put(&mut text, "use wire_codec::Enumeration;\n\n", &[])?;
-    let names = &of_enum.names;
-    let otherwise = made(alloc, "The enum `$`.", &[name])?;
-    schema.put_comment(&names.place, "", &otherwise, &mut text)?;
-    put(
-        &mut text,
-        "#[derive(Clone, Copy, Debug, PartialEq, Eq, Hash)]\n",
-        &[],
-    )?;
-    put(&mut text, "pub enum $ {\n", &[name])?;
-    for (index, value) in values.iter().enumerate() {
-        let place = made(alloc, "$.2.$", &[&names.place, &index.to_string(alloc)?])?;
-        schema.put_comment(&place, "    ", "", &mut text)?;
-        put(&mut text, "    $ = $,\n", &[&value.name, &value.digits])?;
-    }
-    put(&mut text, "}\n\nimpl Enumeration for $ {\n", &[name])?;
-    put_ghosts(alloc, crate_name, name, module, &values, &mut text)?;
-    put(
-        &mut text,
-        "    fn from_i32(value: i32) -> Option<$> {\n        match value {\n",
-        &[name],
-    )?;
-    for value in &values {
-        let digits = value.digits.as_str();
-        put(
-            &mut text,
-            "            $ => Some($::$),\n",
-            &[digits, name, &value.name],
-        )?;
-    }
-    put(
-        &mut text,
-        "            _ => None,\n        }\n    }\n\n",
-        &[],
-    )?;
-    put(
-        &mut text,
-        "    fn to_i32(&self) -> i32 {\n        *self as i32\n    }\n\n",
-        &[],
-    )?;
-    put(
-        &mut text,
-        "    fn proto_name(&self) -> &'static str {\n        match self {\n",
-        &[],
-    )?;
-    for value in &values {
-        let proto = value.proto.as_str();
-        put(
-            &mut text,
-            "            $::$ => \"$\",\n",
-            &[name, &value.name, proto],
-        )?;
-    }
-    put(&mut text, "        }\n    }\n}\n", &[])?;
-    Ok(text)
+) -> Result<(String, String), GenerateError> {
+    let lines = Lines::of(alloc, crate_name, schema, of_enum)?;
+    let words = [
+        ("crate", crate_name),
+        ("name", of_enum.names.name.as_str()),
+        ("module", of_enum.names.module.as_str()),
+        ("full", of_enum.names.full.trim_start_matches('.')),
+        ("values", lines.values.as_str()),
+        ("uses", lines.uses.as_str()),
+        ("names", lines.names.as_str()),
+        ("from", lines.from.as_str()),
+        ("protos", lines.protos.as_str()),
+        ("all", lines.all.as_str()),
+        ("numbers", lines.numbers.as_str()),
+        ("list", lines.list.as_str()),
+    ];
+    let head = "//! The enum `$full$`. Generated.\nuse wire_codec::Enumeration;\n\n";
+    let mut code = filled(alloc, head, &words)?;
+    let otherwise = filled(alloc, "The enum `$name$`.", &words)?;
+    schema.put_comment(&of_enum.names.place, "", &otherwise, &mut code)?;
+    fill(&mut code, ENUM, &words)?;
+    Ok((code, filled(alloc, DEFINITIONS, &words)?))
 }
 
-fn put_ghosts(
-    alloc: Global,
-    crate_name: &str,
-    name: &str,
-    module: &str,
-    values: &[Named],
-    text: &mut String,
-) -> Result<(), GenerateError> {
-    let specs = made(alloc, "    ghost use Rattle.$.specs.", &[crate_name])?;
-    put(
-        text,
-        "    ghost use Rattle.std.specs.Prelude.{codes};\n",
-        &[],
-    )?;
-    put(
-        text,
-        "    ghost use Rattle.wire_codec.specs.EnumNumbers.{first_numbered_keeps};\n",
-        &[],
-    )?;
-    for value in values {
-        let variants = made(alloc, "declared.$.$.TheVariants.{", &[module, name])?;
-        put(text, "$$$};\n", &[&specs, &variants, &value.name])?;
-    }
-    for word in ["number", "of", "values"] {
-        put(text, "$$.{$-$};\n", &[&specs, name, module, word])?;
-    }
-    put(text, "\n    ghost number = { $-number };\n\n", &[module])?;
-    put(text, "    ghost of_number = { $-of };\n\n", &[module])?;
-    let mut line = String::from_str(alloc, "    ghost name = { elim [ ")?;
-    let mut between = "";
-    for value in values {
-        put(
-            &mut line,
-            "$$ ↦ codes \"$\"",
-            &[between, &value.name, &value.proto],
-        )?;
-        between = " | ";
-    }
-    put(text, "$ ] };\n\n", &[&line])?;
-    let line = "    ghost keeps_number = { first_numbered_keeps $-number $-values };
-
-";
-    put(text, line, &[module, module])
+// What there is for each value.
+#[derive(Drop)]
+struct Lines {
+    values: String,
+    uses: String,
+    names: String,
+    from: String,
+    protos: String,
+    all: String,
+    numbers: String,
+    list: String,
 }
 
-/// The numbers of an enum.
-pub(crate) fn enum_definitions(
-    alloc: Global,
-    crate_name: &str,
-    of_enum: &EnumType,
-) -> Result<String, GenerateError> {
-    let (name, module) = (of_enum.names.name.as_str(), of_enum.names.module.as_str());
-    let values = values_of(alloc, of_enum)?;
-    let mut text = String::new(alloc);
-    put(&mut text, "-- The numbers of a `$`. Generated.\n", &[name])?;
-    put(
-        &mut text,
-        "use Rattle.std.specs.Prelude.{ℤ, pos, neg, List, [], ◌∷◌, Option}\n",
-        &[],
-    )?;
-    put(
-        &mut text,
-        "use Rattle.wire_codec.specs.EnumNumbers.{first_numbered}\n",
-        &[],
-    )?;
-    let declared = made(alloc, "$.specs.declared.$.$", &[crate_name, module, name])?;
-    put(&mut text, "use Rattle.$.{$}\n", &[&declared, name])?;
-    let all = listed(alloc, &values, ", ")?;
-    put(
-        &mut text,
-        "use Rattle.$.TheVariants.{$}\n\n",
-        &[&declared, &all],
-    )?;
-    put(&mut text, "abbrev pub $-number : $ → ℤ\n", &[module, name])?;
-    for value in &values {
-        let digits = value.digits.as_str();
+impl Lines {
+    fn of(
+        alloc: Global,
+        crate_name: &str,
+        schema: &Schema,
+        of_enum: &EnumType,
+    ) -> Result<Lines, GenerateError> {
+        let mut lines = Lines {
+            values: String::new(alloc),
+            uses: String::new(alloc),
+            names: String::new(alloc),
+            from: String::new(alloc),
+            protos: String::new(alloc),
+            all: String::new(alloc),
+            numbers: String::new(alloc),
+            list: String::new(alloc),
+        };
+        for (index, value) in values_of(alloc, of_enum)?.iter().enumerate() {
+            let index = index.to_string(alloc)?;
+            let place = made(alloc, "$.2.$", &[&of_enum.names.place, &index])?;
+            schema.put_comment(&place, "    ", "", &mut lines.values)?;
+            lines.add(alloc, crate_name, of_enum, value)?;
+        }
+        Ok(lines)
+    }
+
+    fn add(
+        &mut self,
+        alloc: Global,
+        crate_name: &str,
+        of_enum: &EnumType,
+        value: &Named,
+    ) -> Result<(), GenerateError> {
+        let digits = value.number.to_string(alloc)?;
         let number = match digits.strip_prefix("-") {
             Some(size) => made(alloc, "neg $", &[size])?,
-            None => made(alloc, "pos $", &[digits])?,
+            None => made(alloc, "pos $", &[&digits])?,
         };
-        put(
-            &mut text,
-            "$-number $ = $\n",
-            &[module, &value.name, &number],
+        let is_first = self.all.is_empty();
+        let words = [
+            ("crate", crate_name),
+            ("name", of_enum.names.name.as_str()),
+            ("module", of_enum.names.module.as_str()),
+            ("value", value.name.as_str()),
+            ("proto", value.proto.as_str()),
+            ("digits", digits.as_str()),
+            ("number", number.as_str()),
+            ("bar", if is_first { "" } else { " | " }),
+            ("comma", if is_first { "" } else { ", " }),
+        ];
+        fill(&mut self.values, "    $value$ = $digits$,\n", &words)?;
+        fill(&mut self.uses, USE, &words)?;
+        fill(&mut self.names, "$bar$$value$ ↦ codes \"$proto$\"", &words)?;
+        fill(
+            &mut self.from,
+            "            $digits$ => Some($name$::$value$),\n",
+            &words,
         )?;
+        fill(
+            &mut self.protos,
+            "            $name$::$value$ => \"$proto$\",\n",
+            &words,
+        )?;
+        fill(&mut self.all, "$comma$$value$", &words)?;
+        fill(
+            &mut self.numbers,
+            "$module$-number $value$ = $number$\n",
+            &words,
+        )?;
+        fill(&mut self.list, "$value$ ∷ ", &words)
     }
-    put(
-        &mut text,
-        "\nabbrev pub $-values : List $\n",
-        &[module, name],
-    )?;
-    put(
-        &mut text,
-        "$-values = $ ∷ []\n\n",
-        &[module, &listed(alloc, &values, " ∷ ")?],
-    )?;
-    put(
-        &mut text,
-        "abbrev pub $-of : ℤ → Option $\n",
-        &[module, name],
-    )?;
-    put(
-        &mut text,
-        "$-of = first_numbered $-number $-values\n",
-        &[module, module, module],
-    )?;
-    Ok(text)
 }

@@ -20,7 +20,7 @@ const LABEL_REPEATED: i32 = 3;
 pub(crate) struct Field {
     pub name: String,
     /// Where it stands among the fields of its descriptor.
-    pub place: usize,
+    pub place: String,
     /// The digits of its number, and of all, where it is a oneof.
     pub digits: String,
     pub numbers: Vec<String>,
@@ -69,7 +69,7 @@ pub(crate) fn fields_of(
             }
             _ => {
                 let mut of_field = field_of(alloc, crate_name, schema, message, field)?;
-                of_field.place = place;
+                of_field.place = place.to_string(alloc)?;
                 fields.push(of_field)?;
             }
         }
@@ -143,7 +143,7 @@ fn field_of(
     numbers.push(number.clone()?)?;
     Ok(Field {
         name,
-        place: 0,
+        place: String::new(alloc),
         digits: number,
         numbers,
         held: kind.held,
@@ -228,7 +228,7 @@ fn oneof_field(
     variants.push(variant)?;
     Ok(Field {
         name: name_in_code,
-        place: usize::MAX,
+        place: String::new(alloc),
         digits,
         numbers,
         held,
@@ -247,6 +247,16 @@ fn oneof_field(
 }
 
 impl Field {
+    /// What templates name of it.
+    pub(crate) fn words(&self) -> [(&str, &str); 4] {
+        [
+            ("field", &self.name),
+            ("number", &self.digits),
+            ("kind", &self.kind),
+            ("held", &self.held),
+        ]
+    }
+
     /// The step of a record of this field, in a message of this module.
     pub(crate) fn step(&self, alloc: Global, module: &str) -> Result<String, GenerateError> {
         match self.oneof {

@@ -35,6 +35,16 @@ impl Imports {
         Ok(())
     }
 
+    /// Lines of a module and a name each.
+    pub(crate) fn add_lines(&mut self, lines: &str) -> Result<(), GenerateError> {
+        for line in lines.split('\n') {
+            if let Some((module, name)) = line.split_once(' ') {
+                self.add(module, name)?;
+            }
+        }
+        Ok(())
+    }
+
     pub(crate) fn add_all(&mut self, others: &Imports) -> Result<(), GenerateError> {
         for import in &others.names {
             self.add(&import.module, &import.name)?;

@@ -3,7 +3,7 @@ use crate::error::GenerateError;
 use crate::imports::Imports;
 use crate::item::{Item, Sort};
 use crate::schema::Names;
-use crate::text::{made, put};
+use crate::text::{fill, filled, made};
 use std::alloc::Global;
 
 /// One of the fields of a oneof.
@@ -28,7 +28,7 @@ pub(crate) struct Oneof {
 impl Variant {
     // The kind.
     fn kind(&self, alloc: Global) -> Result<String, GenerateError> {
-        made(alloc, "$<$>", &[&self.presence().0, &self.item.kind])
+        made(alloc, "$<$>", &[self.presence().0, &self.item.kind])
     }
 
     /// The kind of what is always written, by its name and as a definition.
@@ -49,63 +49,165 @@ impl Variant {
     }
 }
 
+const GHOSTS: &str = "\
+Rattle.std.specs.Prelude IfErr
+Rattle.std.specs.Prelude OnErr
+Rattle.std.specs.Prelude OnOk
+Rattle.std.specs.Prelude ◌≡◌
+Rattle.std.specs.Prelude ◌≢◌
+Rattle.wire_codec.specs.DecodeError.TheVariants OutOfMemory
+Rattle.wire_codec.specs.Limits NoCountGrew
+Rattle.wire_codec.specs.TagView tag_number
+Rattle.wire_codec.specs.TagView tag_type
+Rattle.wire_codec.specs.Taking IsCharged
+Rattle.wire_codec.specs.Taking NotTaken
+Rattle.wire_codec.specs.Taking TakesRecord
+Rattle.wire_fields.specs.Messages or_else";
+
+const NAMES: &str = "\
+bytes Buf
+std::alloc Global
+wire_codec DecodeContext
+wire_codec DecodeError
+wire_codec EncodeError
+wire_codec EncodeSink
+wire_codec SizeCache
+wire_codec Tag
+wire_codec laws
+wire_fields Kind";
+
+const ENUM: &str = "
+/// One of these, where one is there.
+#[derive(Clone, Debug, Drop, PartialEq)]
+pub enum $name$ {
+$held$}
+
+/// The fields of the oneof, of which one stands at most.
+pub struct $name$Kind;
+
+impl Kind for $name$Kind {
+    ghost use Rattle.$crate$.specs.$name$.{$name$-Value};
+    ghost use Rattle.$crate$.specs.$name$.{$module$-of};
+    ghost use Rattle.$crate$.specs.$name$.{$module$-kind};
+
+    type Held = Option<$name$>;
+
+    ghost Value = { $name$-Value };
+
+    ghost view = { $module$-of };
+
+    ghost kind = { $module$-kind };
+
+    fn empty(_alloc: Global) -> Option<$name$> {
+        None
+    }
+
+    fn len(
+        _number: u32,
+        held: &Option<$name$>,
+        cache: &mut SizeCache,
+    ) -> Result<u64, EncodeError> {
+        laws::flat_messages_have_no_sizes();
+        match held {
+$len$            None => Ok(0),
+        }
+    }
+
+    fn put<S: EncodeSink>(
+        _number: u32,
+        held: &Option<$name$>,
+        cache: &mut SizeCache,
+        sink: &mut S,
+    ) -> Result<(), EncodeError> {
+        laws::flat_messages_have_no_sizes();
+        match held {
+$put$            None => Ok(()),
+        }
+    }
+
+    fn merge<B: Buf>(
+        alloc: Global,
+        tag: Tag,
+        held: &mut Option<$name$>,
+        buf: &mut B,
+        context: &mut DecodeContext,
+    ) -> Result<(), DecodeError> {
+$merge$    }
+
+    fn clear(held: &mut Option<$name$>) {
+        *held = None;
+    }
+}
+";
+
+const ARMS: &str = "        match tag.field_number() {
+$arms$        }
+";
+
+const VARIANT: &str = "
+// Takes the record behind this tag into the value that stands, or a new one.
+fn merge_$word$<B: Buf>(
+    alloc: Global,
+    tag: Tag,
+    held: &mut Option<$name$>,
+    buf: &mut B,
+    context: &mut DecodeContext,
+) -> Result<(), DecodeError>
+    ensures ok { OnOk result (IsCharged context.old context.new (λ c.
+        TakesRecord $word$-of-$module$.takes context.old
+        (tag_number tag) (tag_type tag) ($module$-of held.old)
+        (B.unread buf.old) c ($module$-of held.new) (B.unread buf.new))) }
+    ensures err { IfErr result (λ e. e ≢ OutOfMemory → NotTaken
+        (TakesRecord $word$-of-$module$.takes context.old
+        (tag_number tag) (tag_type tag) ($module$-of held.old)
+        (B.unread buf.old))) }
+    ensures counts { OnErr result (NoCountGrew context.old context.new) }
+    ensures kept { B.kept buf.new ≡ B.kept buf.old }
+{
+    let mut value = take_$word$(alloc, held);
+    <$kind$ as Kind>::merge(alloc, tag, &mut value, buf, context)?;
+    *held = Some($name$::$variant$(value));
+    Ok(())
+}
+
+// Moves the value out that stands, or makes a new one.
+fn take_$word$(alloc: Global, held: &mut Option<$name$>) -> $held$
+    ensures { $seen$
+        ≡ or_else $word$-of-$module$-default
+        ($word$-of-$module$-as ($module$-of held.old)) }
+{
+    match held.take() {
+        Some($name$::$variant$(value)) => value,
+        _ => <$kind$ as Kind>::empty(alloc),
+    }
+}
+";
+
 /// The module of a oneof.
 pub(crate) fn oneof_code(
     alloc: Global,
     crate_name: &str,
     oneof: &Oneof,
 ) -> Result<String, GenerateError> {
-    let (name, module) = (oneof.names.name.as_str(), oneof.names.module.as_str());
-    let mut text = String::new(alloc);
-    put(&mut text, "//! The oneof `$`. Generated.\n", &[name])?;
+    let lines = Lines::of(alloc, oneof)?;
+    let merge = if oneof.variants.len() > 1 {
+        filled(alloc, ARMS, &[("arms", &lines.arms)])?
+    } else {
+        made(alloc, "$", &[&lines.alone])?
+    };
+    let words = [
+        ("crate", crate_name),
+        ("name", oneof.names.name.as_str()),
+        ("module", oneof.names.module.as_str()),
+        ("held", lines.held.as_str()),
+        ("len", lines.len.as_str()),
+        ("put", lines.put.as_str()),
+        ("merge", merge.as_str()),
+    ];
+    let mut text = filled(alloc, "//! The oneof `$name$`. Generated.\n", &words)?;
     put_uses(alloc, crate_name, oneof, &mut text)?;
-    put(&mut text, "/// One of these, where one is there.\n", &[])?;
-    put(&mut text, "#[derive(Clone, Debug, Drop, PartialEq)]\n", &[])?;
-    put(&mut text, "pub enum $ {\n", &[name])?;
-    for variant in &oneof.variants {
-        put(
-            &mut text,
-            "    $($),\n",
-            &[&variant.name, &variant.item.held],
-        )?;
-    }
-    put(
-        &mut text,
-        "}\n\n/// The fields of the oneof, of which one stands at most.\n",
-        &[],
-    )?;
-    put(
-        &mut text,
-        "pub struct $Kind;\n\nimpl Kind for $Kind {\n",
-        &[name, name],
-    )?;
-    for [of, word] in [[name, "Value"], [module, "of"], [module, "kind"]] {
-        put(
-            &mut text,
-            "    ghost use Rattle.$.specs.$.{$-$};\n",
-            &[crate_name, name, of, word],
-        )?;
-    }
-    put(&mut text, "\n    type Held = Option<$>;\n\n", &[name])?;
-    put(&mut text, "    ghost Value = { $-Value };\n\n", &[name])?;
-    put(&mut text, "    ghost view = { $-of };\n\n", &[&module])?;
-    put(&mut text, "    ghost kind = { $-kind };\n\n", &[&module])?;
-    put(
-        &mut text,
-        "    fn empty(_alloc: Global) -> Option<$> {\n        None\n    }\n\n",
-        &[name],
-    )?;
-    put_len(alloc, oneof, &mut text)?;
-    put_put(alloc, oneof, &mut text)?;
-    put_merge(oneof, &mut text)?;
-    put(
-        &mut text,
-        "    fn clear(held: &mut Option<$>) {\n        *held = None;\n    }\n}\n",
-        &[name],
-    )?;
-    for variant in &oneof.variants {
-        put_variant(alloc, oneof, variant, &mut text)?;
-    }
+    fill(&mut text, ENUM, &words)?;
+    text.push_str(&lines.variants)?;
     Ok(text)
 }
 
@@ -115,316 +217,128 @@ fn put_uses(
     oneof: &Oneof,
     text: &mut String,
 ) -> Result<(), GenerateError> {
-    let (name, module) = (oneof.names.name.as_str(), oneof.names.module.as_str());
-    let specs = made(alloc, "Rattle.$.specs.$", &[crate_name, name])?;
     let mut ghosts = Imports::new(alloc);
     let mut imports = Imports::new(alloc);
-    for word in ["◌≡◌", "◌≢◌", "OnOk", "OnErr", "IfErr"] {
-        ghosts.add("Rattle.std.specs.Prelude", word)?;
-    }
-    ghosts.add(
-        "Rattle.wire_codec.specs.DecodeError.TheVariants",
-        "OutOfMemory",
-    )?;
-    ghosts.add("Rattle.wire_codec.specs.Limits", "NoCountGrew")?;
-    for word in ["tag_number", "tag_type"] {
-        ghosts.add("Rattle.wire_codec.specs.TagView", word)?;
-    }
-    for word in ["TakesRecord", "IsCharged", "NotTaken"] {
-        ghosts.add("Rattle.wire_codec.specs.Taking", word)?;
-    }
-    ghosts.add("Rattle.wire_fields.specs.Messages", "or_else")?;
-    ghosts.add(&specs, &made(alloc, "$-of", &[&module])?)?;
+    ghosts.add_lines(GHOSTS)?;
+    imports.add_lines(NAMES)?;
+    let module = oneof.names.module.as_str();
+    let specs = made(alloc, "Rattle.$.specs.$", &[crate_name, &oneof.names.name])?;
+    ghosts.add(&specs, &made(alloc, "$-of", &[module])?)?;
     for variant in &oneof.variants {
         for word in ["", "-default", "-as"] {
             ghosts.add(
                 &specs,
-                &made(alloc, "$-of-$$", &[&variant.word, &module, word])?,
+                &made(alloc, "$-of-$$", &[&variant.word, module, word])?,
             )?;
         }
         if variant.item.before == "string_bytes " {
             ghosts.add("Rattle.std.specs.Prelude", "string_bytes")?;
         }
         if let Sort::Message | Sort::Group = variant.item.sort {
-            let module = made(alloc, "Rattle.$.specs.$", &[crate_name, &variant.item.held])?;
-            ghosts.add(&module, &variant.item.view)?;
+            let of = made(alloc, "Rattle.$.specs.$", &[crate_name, &variant.item.held])?;
+            ghosts.add(&of, &variant.item.view)?;
         }
         imports.add_all(&variant.item.code)?;
         imports.add("wire_fields", variant.presence().0)?;
     }
-    imports.add("wire_fields", "Kind")?;
-    for word in [
-        "DecodeContext",
-        "DecodeError",
-        "EncodeError",
-        "EncodeSink",
-        "SizeCache",
-        "Tag",
-        "laws",
-    ] {
-        imports.add("wire_codec", word)?;
-    }
-    imports.add("bytes", "Buf")?;
-    imports.add("std::alloc", "Global")?;
     ghosts.put_ghosts(text)?;
-    put(text, "\n", &[])?;
-    imports.put_code(text)?;
-    put(text, "\n", &[])?;
-    Ok(())
+    text.push('\n')?;
+    imports.put_code(text)
 }
 
-fn put_len(alloc: Global, oneof: &Oneof, text: &mut String) -> Result<(), GenerateError> {
-    let name = oneof.names.name.as_str();
-    put(
-        text,
-        "    fn len(\n        _number: u32,\n        held: &Option<$>,\n",
-        &[name],
-    )?;
-    put(
-        text,
-        "        cache: &mut SizeCache,\n    ) -> Result<u64, EncodeError> {\n",
-        &[],
-    )?;
-    put(
-        text,
-        "        laws::flat_messages_have_no_sizes();\n        match held {\n",
-        &[],
-    )?;
-    for variant in &oneof.variants {
-        put_call(alloc, name, variant, "len", "value, cache", text)?;
-    }
-    put(
-        text,
-        "            None => Ok(0),\n        }\n    }\n\n",
-        &[],
-    )?;
-    Ok(())
+// The lines that there are for each variant.
+#[derive(Drop)]
+struct Lines {
+    held: String,
+    len: String,
+    put: String,
+    arms: String,
+    // The call where there is one variant.
+    alone: String,
+    variants: String,
 }
 
-fn put_put(alloc: Global, oneof: &Oneof, text: &mut String) -> Result<(), GenerateError> {
-    let name = oneof.names.name.as_str();
-    put(
-        text,
-        "    fn put<S: EncodeSink>(\n        _number: u32,\n",
-        &[],
-    )?;
-    put(
-        text,
-        "        held: &Option<$>,\n        cache: &mut SizeCache,\n",
-        &[name],
-    )?;
-    put(
-        text,
-        "        sink: &mut S,\n    ) -> Result<(), EncodeError> {\n",
-        &[],
-    )?;
-    put(
-        text,
-        "        laws::flat_messages_have_no_sizes();\n        match held {\n",
-        &[],
-    )?;
-    for variant in &oneof.variants {
-        put_call(alloc, name, variant, "put", "value, cache, sink", text)?;
-    }
-    put(
-        text,
-        "            None => Ok(()),\n        }\n    }\n\n",
-        &[],
-    )?;
-    Ok(())
-}
-
-// An arm that calls the variant's kind, in a block where it is too long for one line.
-fn put_call(
-    alloc: Global,
-    name: &str,
-    variant: &Variant,
-    call: &str,
-    given: &str,
-    text: &mut String,
-) -> Result<(), GenerateError> {
-    let kind = variant.kind(alloc)?;
-    let head = made(
-        alloc,
-        "            Some($::$(value)) => ",
-        &[name, &variant.name],
-    )?;
-    let call = made(alloc, "<$ as Kind>::$", &[&kind, &call])?;
-    let given = made(alloc, "$, $", &[&variant.digits, &given])?;
-    let len = call.len().saturating_add(given.len());
-    if head.len().saturating_add(len) <= 97 {
-        put(text, "$$($),\n", &[&head, &call, &given])?;
-    } else if len <= 82 {
-        put(
-            text,
-            "${\n                $($)\n            }\n",
-            &[&head, &call, &given],
-        )?;
-    } else {
-        put(
-            text,
-            "$$(\n                $,\n            ),\n",
-            &[&head, &call, &given],
-        )?;
-    }
-    Ok(())
-}
-
-fn put_merge(oneof: &Oneof, text: &mut String) -> Result<(), GenerateError> {
-    let name = oneof.names.name.as_str();
-    put(
-        text,
-        "    fn merge<B: Buf>(\n        alloc: Global,\n        tag: Tag,\n",
-        &[],
-    )?;
-    put(
-        text,
-        "        held: &mut Option<$>,\n        buf: &mut B,\n",
-        &[name],
-    )?;
-    put(
-        text,
-        "        context: &mut DecodeContext,\n    ) -> Result<(), DecodeError> {\n",
-        &[],
-    )?;
-    let last = oneof.variants.len().saturating_sub(1);
-    if last == 0 {
-        for variant in &oneof.variants {
-            put(
-                text,
-                "        merge_$(alloc, tag, held, buf, context)\n",
-                &[&variant.word],
-            )?;
-        }
-        put(text, "    }\n\n", &[])?;
-        return Ok(());
-    }
-    put(text, "        match tag.field_number() {\n", &[])?;
-    for (place, variant) in oneof.variants.iter().enumerate() {
-        let number = if place == last {
-            "_"
-        } else {
-            variant.digits.as_str()
+impl Lines {
+    fn of(alloc: Global, oneof: &Oneof) -> Result<Lines, GenerateError> {
+        let mut lines = Lines {
+            held: String::new(alloc),
+            len: String::new(alloc),
+            put: String::new(alloc),
+            arms: String::new(alloc),
+            alone: String::new(alloc),
+            variants: String::new(alloc),
         };
-        let word = variant.word.as_str();
-        put(
-            text,
-            "            $ => merge_$(alloc, tag, held, buf, context),\n",
-            &[number, word],
-        )?;
+        let last = oneof.variants.len().saturating_sub(1);
+        for (place, variant) in oneof.variants.iter().enumerate() {
+            let number = if place == last {
+                "_"
+            } else {
+                variant.digits.as_str()
+            };
+            lines.add(alloc, oneof, variant, number)?;
+        }
+        Ok(lines)
     }
-    put(text, "        }\n    }\n\n", &[])?;
-    Ok(())
+
+    fn add(
+        &mut self,
+        alloc: Global,
+        oneof: &Oneof,
+        variant: &Variant,
+        number: &str,
+    ) -> Result<(), GenerateError> {
+        let kind = variant.kind(alloc)?;
+        let seen = variant.seen(alloc, "result")?;
+        let words = [
+            ("name", oneof.names.name.as_str()),
+            ("module", oneof.names.module.as_str()),
+            ("variant", variant.name.as_str()),
+            ("word", variant.word.as_str()),
+            ("held", variant.item.held.as_str()),
+            ("kind", kind.as_str()),
+            ("seen", seen.as_str()),
+            ("digits", variant.digits.as_str()),
+            ("number", number),
+        ];
+        fill(&mut self.held, "    $variant$($held$),\n", &words)?;
+        let call = "            $number$ => merge_$word$(alloc, tag, held, buf, context),\n";
+        fill(&mut self.arms, call, &words)?;
+        fill(
+            &mut self.alone,
+            "        merge_$word$(alloc, tag, held, buf, context)\n",
+            &words,
+        )?;
+        fill(&mut self.variants, VARIANT, &words)?;
+        let head = filled(
+            alloc,
+            "            Some($name$::$variant$(value)) => ",
+            &words,
+        )?;
+        let len = filled(
+            alloc,
+            "<$kind$ as Kind>::len($digits$, value, cache)",
+            &words,
+        )?;
+        put_call(&mut self.len, &head, &len)?;
+        let put = filled(
+            alloc,
+            "<$kind$ as Kind>::put($digits$, value, cache, sink)",
+            &words,
+        )?;
+        put_call(&mut self.put, &head, &put)
+    }
 }
 
-// The functions of one variant: the record is taken into the value that stands, or a new one.
-fn put_variant(
-    alloc: Global,
-    oneof: &Oneof,
-    variant: &Variant,
-    text: &mut String,
-) -> Result<(), GenerateError> {
-    let (name, module) = (oneof.names.name.as_str(), oneof.names.module.as_str());
-    let (word, held) = (variant.word.as_str(), variant.item.held.as_str());
-    let kind = variant.kind(alloc)?;
-    let takes = made(alloc, "$-of-$.takes", &[word, &module])?;
-    put(
-        text,
-        "\n// Takes the record behind this tag into the value that stands, or a new one.\n",
-        &[],
-    )?;
-    put(
-        text,
-        "fn merge_$<B: Buf>(\n    alloc: Global,\n    tag: Tag,\n",
-        &[word],
-    )?;
-    put(
-        text,
-        "    held: &mut Option<$>,\n    buf: &mut B,\n",
-        &[name],
-    )?;
-    put(
-        text,
-        "    context: &mut DecodeContext,\n) -> Result<(), DecodeError>\n",
-        &[],
-    )?;
-    put(
-        text,
-        "    ensures ok { OnOk result (IsCharged context.old context.new (λ c.\n",
-        &[],
-    )?;
-    put(text, "        TakesRecord $ context.old\n", &[&takes])?;
-    put(
-        text,
-        "        (tag_number tag) (tag_type tag) ($-of held.old)\n",
-        &[&module],
-    )?;
-    put(
-        text,
-        "        (B.unread buf.old) c ($-of held.new) (B.unread buf.new))) }\n",
-        &[&module],
-    )?;
-    put(
-        text,
-        "    ensures err { IfErr result (λ e. e ≢ OutOfMemory → NotTaken\n",
-        &[],
-    )?;
-    put(text, "        (TakesRecord $ context.old\n", &[&takes])?;
-    put(
-        text,
-        "        (tag_number tag) (tag_type tag) ($-of held.old)\n",
-        &[&module],
-    )?;
-    put(text, "        (B.unread buf.old))) }\n", &[])?;
-    put(
-        text,
-        "    ensures counts { OnErr result (NoCountGrew context.old context.new) }\n",
-        &[],
-    )?;
-    put(
-        text,
-        "    ensures kept { B.kept buf.new ≡ B.kept buf.old }\n{\n",
-        &[],
-    )?;
-    put(text, "    let mut value = take_$(alloc, held);\n", &[word])?;
-    put(
-        text,
-        "    <$ as Kind>::merge(alloc, tag, &mut value, buf, context)?;\n",
-        &[&kind],
-    )?;
-    put(
-        text,
-        "    *held = Some($::$(value));\n    Ok(())\n}\n",
-        &[name, &variant.name],
-    )?;
-    put(
-        text,
-        "\n// Moves the value out that stands, or makes a new one.\n",
-        &[],
-    )?;
-    put(
-        text,
-        "fn take_$(alloc: Global, held: &mut Option<$>) -> $\n",
-        &[word, name, held],
-    )?;
-    let seen = variant.seen(alloc, "result")?;
-    put(text, "    ensures { $\n", &[&seen])?;
-    put(text, "        ≡ or_else $-of-$-default\n", &[word, &module])?;
-    put(
-        text,
-        "        ($-of-$-as ($-of held.old)) }\n",
-        &[word, &module, &module],
-    )?;
-    put(text, "{\n    match held.take() {\n", &[])?;
-    put(
-        text,
-        "        Some($::$(value)) => value,\n",
-        &[name, &variant.name],
-    )?;
-    put(
-        text,
-        "        _ => <$ as Kind>::empty(alloc),\n    }\n}\n",
-        &[&kind],
-    )?;
+// An arm, with its call in a block where it is too long for one line.
+fn put_call(text: &mut String, head: &str, call: &str) -> Result<(), GenerateError> {
+    text.push_str(head)?;
+    if head.len().saturating_add(call.len()) < 100 {
+        text.push_str(call)?;
+        text.push_str(",\n")?;
+    } else {
+        text.push_str("{\n                ")?;
+        text.push_str(call)?;
+        text.push_str("\n            }\n")?;
+    }
     Ok(())
 }

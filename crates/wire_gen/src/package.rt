@@ -2,17 +2,35 @@
 use crate::answers::answers_of;
 use crate::code::code_of;
 use crate::definitions::definitions_of;
-use crate::enums::{enum_code, enum_definitions};
+use crate::enums::enum_files;
 use crate::error::GenerateError;
 use crate::field::fields_of;
 use crate::oneof::{Oneof, oneof_code};
 use crate::oneof_proofs::{merge_answers, oneof_definitions, variant_answers};
 use crate::schema::{EnumType, MessageType, Names, Schema};
-use crate::text::{made, put, refused};
+use crate::text::{fill, filled, made, put, refused};
 use crate::tree::tree_of;
 use std::alloc::Global;
 use wire_codec::{DecodeOptions, Message};
 use wire_descriptor::{CodeGeneratorRequest, CodeGeneratorResponse, CodeGeneratorResponseFile};
+
+const README: &str = "\
+# $crate$
+
+Message types that were generated from schemas. The line of crates.txt is
+
+    $crate$: wire_codec wire_fields bytes
+
+`rt check` proves of each type that encoding writes exactly the shortest encoding of the records
+that `specs/` tells of a value, and that decoding takes exactly the bytes that spell records of its
+table, within the limits, and gives their value.
+";
+
+const ROOT: &str = "\
+//! The messages of `$crate$`. Generated.
+#![tactic(auto)]
+
+";
 
 // The most fields of a message: a tuple of many more is not proved.
 const MOST_FIELDS: usize = 20;
@@ -165,8 +183,7 @@ impl Package {
     }
 
     fn add_enum(&mut self, schema: &Schema, of_enum: &EnumType) -> Result<(), GenerateError> {
-        let code = enum_code(self.alloc, &self.crate_name, schema, of_enum)?;
-        let definitions = enum_definitions(self.alloc, &self.crate_name, of_enum)?;
+        let (code, definitions) = enum_files(self.alloc, &self.crate_name, schema, of_enum)?;
         self.add_type(&of_enum.names, code, definitions)
     }
 
@@ -174,12 +191,7 @@ impl Package {
     fn add_roots(&mut self) -> Result<(), GenerateError> {
         let alloc = self.alloc;
         let mut text = String::new(alloc);
-        put(
-            &mut text,
-            "//! The messages of `$`. Generated.\n",
-            &[&self.crate_name],
-        )?;
-        put(&mut text, "#![tactic(auto)]\n\n", &[])?;
+        fill(&mut text, ROOT, &[("crate", &self.crate_name)])?;
         put_sorted(alloc, &mut self.modules, &mut text)?;
         put(&mut text, "\n", &[])?;
         put_sorted(alloc, &mut self.uses, &mut text)?;
@@ -187,8 +199,7 @@ impl Package {
         let mut text = String::new(alloc);
         put_sorted(alloc, &mut self.definitions, &mut text)?;
         self.add(made(alloc, "specs/Lib.antt", &[])?, text)?;
-        let mut text = String::new(alloc);
-        put_readme(&self.crate_name, &mut text)?;
+        let text = filled(alloc, README, &[("crate", &self.crate_name)])?;
         self.add(made(alloc, "README.md", &[])?, text)
     }
 }
@@ -208,33 +219,4 @@ fn put_sorted(
         last = line;
     }
     Ok(())
-}
-
-fn put_readme(crate_name: &str, text: &mut String) -> Result<(), GenerateError> {
-    put(text, "# $\n\n", &[crate_name])?;
-    put(
-        text,
-        "Message types that were generated from schemas. The line of crates.txt is\n\n",
-        &[],
-    )?;
-    put(
-        text,
-        "    $: wire_codec wire_fields bytes\n\n",
-        &[crate_name],
-    )?;
-    put(
-        text,
-        "`rt check` proves of each type that encoding writes exactly the shortest encoding\n",
-        &[],
-    )?;
-    put(
-        text,
-        "of the records that `specs/` tells of a value, and that decoding takes exactly the\n",
-        &[],
-    )?;
-    put(
-        text,
-        "bytes that spell records of its table, within the limits, and gives their value.\n",
-        &[],
-    )
 }
