@@ -1,0 +1,13 @@
+pub mod CodeGeneratorRequest
+pub mod CodeGeneratorResponse
+pub mod CodeGeneratorResponseFile
+pub mod DescriptorProto
+pub mod EnumDescriptorProto
+pub mod EnumValueDescriptorProto
+pub mod FieldDescriptorProto
+pub mod FieldOptions
+pub mod FileDescriptorProto
+pub mod MessageOptions
+pub mod OneofDescriptorProto
+pub mod SourceCodeInfo
+pub mod SourceCodeInfoLocation

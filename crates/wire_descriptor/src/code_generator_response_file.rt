@@ -1,0 +1,98 @@
+//! The message `schema.CodeGeneratorResponse.File`. Generated.
+use bytes::Buf;
+use std::alloc::Global;
+use wire_codec::{
+    DecodeContext, DecodeError, EncodeError, EncodeSink, Message, SizeCache, Tag, UnknownFields,
+};
+use wire_fields::{Implicit, Kind, Known, Rest, Text, keep, measure, write};
+
+/// The message `CodeGeneratorResponseFile`.
+#[derive(Clone, Debug, Drop, PartialEq)]
+pub struct CodeGeneratorResponseFile {
+    pub name: String,
+    pub content: String,
+    /// The fields that the schema lacks, as they came.
+    pub unknown: UnknownFields,
+}
+
+impl Message for CodeGeneratorResponseFile {
+    ghost use Rattle.wire_descriptor.specs.CodeGeneratorResponseFile.{CodeGeneratorResponseFile-Value};
+    ghost use Rattle.wire_descriptor.specs.CodeGeneratorResponseFile.{code_generator_response_file-value};
+    ghost use Rattle.wire_descriptor.specs.CodeGeneratorResponseFile.{code_generator_response_file-shape};
+
+    ghost Value = { CodeGeneratorResponseFile-Value };
+
+    ghost view = { code_generator_response_file-value };
+
+    ghost records = { code_generator_response_file-shape.records };
+
+    ghost default = { code_generator_response_file-shape.default };
+
+    ghost takes = { code_generator_response_file-shape.takes };
+
+    ghost single = { code_generator_response_file-shape.single };
+
+    fn default_value(alloc: Global) -> CodeGeneratorResponseFile {
+        CodeGeneratorResponseFile {
+            name: <Implicit<Text> as Kind>::empty(alloc),
+            content: <Implicit<Text> as Kind>::empty(alloc),
+            unknown: UnknownFields::new(alloc),
+        }
+    }
+
+    fn compute_size(&self, cache: &mut SizeCache) -> Result<u32, EncodeError> {
+        let field_1: Known<Implicit<Text>> = Known {
+            number: 1,
+            held: &self.name,
+        };
+        let field_15: Known<Implicit<Text>> = Known {
+            number: 15,
+            held: &self.content,
+        };
+        let fields_1_to_15 = (field_1, field_15);
+        let rest = Rest {
+            fields: &self.unknown,
+        };
+        measure((fields_1_to_15, rest), cache)
+    }
+
+    fn write_to<S: EncodeSink>(
+        &self,
+        cache: &mut SizeCache,
+        sink: &mut S,
+    ) -> Result<(), EncodeError> {
+        let field_1: Known<Implicit<Text>> = Known {
+            number: 1,
+            held: &self.name,
+        };
+        let field_15: Known<Implicit<Text>> = Known {
+            number: 15,
+            held: &self.content,
+        };
+        let fields_1_to_15 = (field_1, field_15);
+        let rest = Rest {
+            fields: &self.unknown,
+        };
+        write((fields_1_to_15, rest), cache, sink)
+    }
+
+    fn merge_field<B: Buf>(
+        &mut self,
+        alloc: Global,
+        tag: Tag,
+        buf: &mut B,
+        context: &mut DecodeContext,
+    ) -> Result<(), DecodeError> {
+        match tag.field_number() {
+            1 => <Implicit<Text> as Kind>::merge(alloc, tag, &mut self.name, buf, context),
+            15 => <Implicit<Text> as Kind>::merge(alloc, tag, &mut self.content, buf, context),
+            _ => keep(alloc, tag, &mut self.unknown, buf, context),
+        }
+    }
+
+    fn clear(&mut self) {
+        <Implicit<Text> as Kind>::clear(&mut self.name);
+        <Implicit<Text> as Kind>::clear(&mut self.content);
+        self.unknown.clear();
+    }
+}

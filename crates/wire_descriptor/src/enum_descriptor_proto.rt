@@ -1,0 +1,105 @@
+//! The message `schema.EnumDescriptorProto`. Generated.
+use crate::enum_value_descriptor_proto::EnumValueDescriptorProto;
+use bytes::Buf;
+use std::alloc::Global;
+use wire_codec::{
+    DecodeContext, DecodeError, EncodeError, EncodeSink, Message, SizeCache, Tag, UnknownFields,
+};
+use wire_fields::{EachEmbedded, Implicit, Kind, Known, Rest, Text, keep, measure, write};
+
+/// The message `EnumDescriptorProto`.
+#[derive(Clone, Debug, Drop, PartialEq)]
+pub struct EnumDescriptorProto {
+    pub name: String,
+    pub value: Vec<EnumValueDescriptorProto>,
+    /// The fields that the schema lacks, as they came.
+    pub unknown: UnknownFields,
+}
+
+impl Message for EnumDescriptorProto {
+    ghost use Rattle.wire_descriptor.specs.EnumDescriptorProto.{EnumDescriptorProto-Value};
+    ghost use Rattle.wire_descriptor.specs.EnumDescriptorProto.{enum_descriptor_proto-value};
+    ghost use Rattle.wire_descriptor.specs.EnumDescriptorProto.{enum_descriptor_proto-shape};
+
+    ghost Value = { EnumDescriptorProto-Value };
+
+    ghost view = { enum_descriptor_proto-value };
+
+    ghost records = { enum_descriptor_proto-shape.records };
+
+    ghost default = { enum_descriptor_proto-shape.default };
+
+    ghost takes = { enum_descriptor_proto-shape.takes };
+
+    ghost single = { enum_descriptor_proto-shape.single };
+
+    fn default_value(alloc: Global) -> EnumDescriptorProto {
+        EnumDescriptorProto {
+            name: <Implicit<Text> as Kind>::empty(alloc),
+            value: <EachEmbedded<EnumValueDescriptorProto, 64> as Kind>::empty(alloc),
+            unknown: UnknownFields::new(alloc),
+        }
+    }
+
+    fn compute_size(&self, cache: &mut SizeCache) -> Result<u32, EncodeError> {
+        let field_1: Known<Implicit<Text>> = Known {
+            number: 1,
+            held: &self.name,
+        };
+        let field_2: Known<EachEmbedded<EnumValueDescriptorProto, 64>> = Known {
+            number: 2,
+            held: &self.value,
+        };
+        let fields_1_to_2 = (field_1, field_2);
+        let rest = Rest {
+            fields: &self.unknown,
+        };
+        measure((fields_1_to_2, rest), cache)
+    }
+
+    fn write_to<S: EncodeSink>(
+        &self,
+        cache: &mut SizeCache,
+        sink: &mut S,
+    ) -> Result<(), EncodeError> {
+        let field_1: Known<Implicit<Text>> = Known {
+            number: 1,
+            held: &self.name,
+        };
+        let field_2: Known<EachEmbedded<EnumValueDescriptorProto, 64>> = Known {
+            number: 2,
+            held: &self.value,
+        };
+        let fields_1_to_2 = (field_1, field_2);
+        let rest = Rest {
+            fields: &self.unknown,
+        };
+        write((fields_1_to_2, rest), cache, sink)
+    }
+
+    fn merge_field<B: Buf>(
+        &mut self,
+        alloc: Global,
+        tag: Tag,
+        buf: &mut B,
+        context: &mut DecodeContext,
+    ) -> Result<(), DecodeError> {
+        match tag.field_number() {
+            1 => <Implicit<Text> as Kind>::merge(alloc, tag, &mut self.name, buf, context),
+            2 => <EachEmbedded<EnumValueDescriptorProto, 64> as Kind>::merge(
+                alloc,
+                tag,
+                &mut self.value,
+                buf,
+                context,
+            ),
+            _ => keep(alloc, tag, &mut self.unknown, buf, context),
+        }
+    }
+
+    fn clear(&mut self) {
+        <Implicit<Text> as Kind>::clear(&mut self.name);
+        <EachEmbedded<EnumValueDescriptorProto, 64> as Kind>::clear(&mut self.value);
+        self.unknown.clear();
+    }
+}

@@ -1,0 +1,84 @@
+//! The message `schema.FieldOptions`. Generated.
+use bytes::Buf;
+use std::alloc::Global;
+use wire_codec::{
+    DecodeContext, DecodeError, EncodeError, EncodeSink, Message, SizeCache, Tag, UnknownFields,
+};
+use wire_fields::{Bool, Kind, Known, Optional, Rest, keep, measure, write};
+
+/// The message `FieldOptions`.
+#[derive(Clone, Debug, Drop, PartialEq)]
+pub struct FieldOptions {
+    pub packed: Option<bool>,
+    /// The fields that the schema lacks, as they came.
+    pub unknown: UnknownFields,
+}
+
+impl Message for FieldOptions {
+    ghost use Rattle.wire_descriptor.specs.FieldOptions.{FieldOptions-Value};
+    ghost use Rattle.wire_descriptor.specs.FieldOptions.{field_options-value};
+    ghost use Rattle.wire_descriptor.specs.FieldOptions.{field_options-shape};
+
+    ghost Value = { FieldOptions-Value };
+
+    ghost view = { field_options-value };
+
+    ghost records = { field_options-shape.records };
+
+    ghost default = { field_options-shape.default };
+
+    ghost takes = { field_options-shape.takes };
+
+    ghost single = { field_options-shape.single };
+
+    fn default_value(alloc: Global) -> FieldOptions {
+        FieldOptions {
+            packed: <Optional<Bool> as Kind>::empty(alloc),
+            unknown: UnknownFields::new(alloc),
+        }
+    }
+
+    fn compute_size(&self, cache: &mut SizeCache) -> Result<u32, EncodeError> {
+        let field_2: Known<Optional<Bool>> = Known {
+            number: 2,
+            held: &self.packed,
+        };
+        let rest = Rest {
+            fields: &self.unknown,
+        };
+        measure((field_2, rest), cache)
+    }
+
+    fn write_to<S: EncodeSink>(
+        &self,
+        cache: &mut SizeCache,
+        sink: &mut S,
+    ) -> Result<(), EncodeError> {
+        let field_2: Known<Optional<Bool>> = Known {
+            number: 2,
+            held: &self.packed,
+        };
+        let rest = Rest {
+            fields: &self.unknown,
+        };
+        write((field_2, rest), cache, sink)
+    }
+
+    fn merge_field<B: Buf>(
+        &mut self,
+        alloc: Global,
+        tag: Tag,
+        buf: &mut B,
+        context: &mut DecodeContext,
+    ) -> Result<(), DecodeError> {
+        match tag.field_number() {
+            2 => <Optional<Bool> as Kind>::merge(alloc, tag, &mut self.packed, buf, context),
+            _ => keep(alloc, tag, &mut self.unknown, buf, context),
+        }
+    }
+
+    fn clear(&mut self) {
+        <Optional<Bool> as Kind>::clear(&mut self.packed);
+        self.unknown.clear();
+    }
+}

@@ -1,0 +1,241 @@
+//! The message `schema.FileDescriptorProto`. Generated.
+use crate::descriptor_proto::DescriptorProto;
+use crate::enum_descriptor_proto::EnumDescriptorProto;
+use crate::source_code_info::SourceCodeInfo;
+use bytes::Buf;
+use std::alloc::Global;
+use wire_codec::{
+    DecodeContext, DecodeError, EncodeError, EncodeSink, Message, SizeCache, Tag, UnknownFields,
+};
+use wire_fields::{
+    Blob, EachEmbedded, Embedded, Implicit, Int32, Kind, Known, Repeated, Rest, Text, keep,
+    measure, write,
+};
+
+/// The message `FileDescriptorProto`.
+#[derive(Clone, Debug, Drop, PartialEq)]
+pub struct FileDescriptorProto {
+    pub name: String,
+    pub package: String,
+    pub dependency: Vec<String>,
+    pub message_type: Vec<DescriptorProto>,
+    pub enum_type: Vec<EnumDescriptorProto>,
+    /// Not looked into: a file that has one is refused.
+    pub service: Vec<Vec<u8>>,
+    pub extension: Vec<Vec<u8>>,
+    pub source_code_info: Option<Box<SourceCodeInfo>>,
+    pub syntax_: String,
+    pub edition: i32,
+    /// The fields that the schema lacks, as they came.
+    pub unknown: UnknownFields,
+}
+
+impl Message for FileDescriptorProto {
+    ghost use Rattle.wire_descriptor.specs.FileDescriptorProto.{FileDescriptorProto-Value};
+    ghost use Rattle.wire_descriptor.specs.FileDescriptorProto.{file_descriptor_proto-value};
+    ghost use Rattle.wire_descriptor.specs.FileDescriptorProto.{file_descriptor_proto-shape};
+
+    ghost Value = { FileDescriptorProto-Value };
+
+    ghost view = { file_descriptor_proto-value };
+
+    ghost records = { file_descriptor_proto-shape.records };
+
+    ghost default = { file_descriptor_proto-shape.default };
+
+    ghost takes = { file_descriptor_proto-shape.takes };
+
+    ghost single = { file_descriptor_proto-shape.single };
+
+    fn default_value(alloc: Global) -> FileDescriptorProto {
+        FileDescriptorProto {
+            name: <Implicit<Text> as Kind>::empty(alloc),
+            package: <Implicit<Text> as Kind>::empty(alloc),
+            dependency: <Repeated<Text, 24> as Kind>::empty(alloc),
+            message_type: <EachEmbedded<DescriptorProto, 200> as Kind>::empty(alloc),
+            enum_type: <EachEmbedded<EnumDescriptorProto, 72> as Kind>::empty(alloc),
+            service: <Repeated<Blob, 24> as Kind>::empty(alloc),
+            extension: <Repeated<Blob, 24> as Kind>::empty(alloc),
+            source_code_info: <Embedded<SourceCodeInfo> as Kind>::empty(alloc),
+            syntax_: <Implicit<Text> as Kind>::empty(alloc),
+            edition: <Implicit<Int32> as Kind>::empty(alloc),
+            unknown: UnknownFields::new(alloc),
+        }
+    }
+
+    fn compute_size(&self, cache: &mut SizeCache) -> Result<u32, EncodeError> {
+        let field_1: Known<Implicit<Text>> = Known {
+            number: 1,
+            held: &self.name,
+        };
+        let field_2: Known<Implicit<Text>> = Known {
+            number: 2,
+            held: &self.package,
+        };
+        let field_3: Known<Repeated<Text, 24>> = Known {
+            number: 3,
+            held: &self.dependency,
+        };
+        let field_4: Known<EachEmbedded<DescriptorProto, 200>> = Known {
+            number: 4,
+            held: &self.message_type,
+        };
+        let field_5: Known<EachEmbedded<EnumDescriptorProto, 72>> = Known {
+            number: 5,
+            held: &self.enum_type,
+        };
+        let field_6: Known<Repeated<Blob, 24>> = Known {
+            number: 6,
+            held: &self.service,
+        };
+        let field_7: Known<Repeated<Blob, 24>> = Known {
+            number: 7,
+            held: &self.extension,
+        };
+        let field_9: Known<Embedded<SourceCodeInfo>> = Known {
+            number: 9,
+            held: &self.source_code_info,
+        };
+        let field_12: Known<Implicit<Text>> = Known {
+            number: 12,
+            held: &self.syntax_,
+        };
+        let field_14: Known<Implicit<Int32>> = Known {
+            number: 14,
+            held: &self.edition,
+        };
+        let fields_1_to_2 = (field_1, field_2);
+        let fields_3_to_4 = (field_3, field_4);
+        let fields_5_to_6 = (field_5, field_6);
+        let fields_7_to_9 = (field_7, field_9);
+        let fields_12_to_14 = (field_12, field_14);
+        let fields_1_to_4 = (fields_1_to_2, fields_3_to_4);
+        let fields_5_to_9 = (fields_5_to_6, fields_7_to_9);
+        let fields_1_to_9 = (fields_1_to_4, fields_5_to_9);
+        let fields_1_to_14 = (fields_1_to_9, fields_12_to_14);
+        let rest = Rest {
+            fields: &self.unknown,
+        };
+        measure((fields_1_to_14, rest), cache)
+    }
+
+    fn write_to<S: EncodeSink>(
+        &self,
+        cache: &mut SizeCache,
+        sink: &mut S,
+    ) -> Result<(), EncodeError> {
+        let field_1: Known<Implicit<Text>> = Known {
+            number: 1,
+            held: &self.name,
+        };
+        let field_2: Known<Implicit<Text>> = Known {
+            number: 2,
+            held: &self.package,
+        };
+        let field_3: Known<Repeated<Text, 24>> = Known {
+            number: 3,
+            held: &self.dependency,
+        };
+        let field_4: Known<EachEmbedded<DescriptorProto, 200>> = Known {
+            number: 4,
+            held: &self.message_type,
+        };
+        let field_5: Known<EachEmbedded<EnumDescriptorProto, 72>> = Known {
+            number: 5,
+            held: &self.enum_type,
+        };
+        let field_6: Known<Repeated<Blob, 24>> = Known {
+            number: 6,
+            held: &self.service,
+        };
+        let field_7: Known<Repeated<Blob, 24>> = Known {
+            number: 7,
+            held: &self.extension,
+        };
+        let field_9: Known<Embedded<SourceCodeInfo>> = Known {
+            number: 9,
+            held: &self.source_code_info,
+        };
+        let field_12: Known<Implicit<Text>> = Known {
+            number: 12,
+            held: &self.syntax_,
+        };
+        let field_14: Known<Implicit<Int32>> = Known {
+            number: 14,
+            held: &self.edition,
+        };
+        let fields_1_to_2 = (field_1, field_2);
+        let fields_3_to_4 = (field_3, field_4);
+        let fields_5_to_6 = (field_5, field_6);
+        let fields_7_to_9 = (field_7, field_9);
+        let fields_12_to_14 = (field_12, field_14);
+        let fields_1_to_4 = (fields_1_to_2, fields_3_to_4);
+        let fields_5_to_9 = (fields_5_to_6, fields_7_to_9);
+        let fields_1_to_9 = (fields_1_to_4, fields_5_to_9);
+        let fields_1_to_14 = (fields_1_to_9, fields_12_to_14);
+        let rest = Rest {
+            fields: &self.unknown,
+        };
+        write((fields_1_to_14, rest), cache, sink)
+    }
+
+    fn merge_field<B: Buf>(
+        &mut self,
+        alloc: Global,
+        tag: Tag,
+        buf: &mut B,
+        context: &mut DecodeContext,
+    ) -> Result<(), DecodeError> {
+        match tag.field_number() {
+            1 => <Implicit<Text> as Kind>::merge(alloc, tag, &mut self.name, buf, context),
+            2 => <Implicit<Text> as Kind>::merge(alloc, tag, &mut self.package, buf, context),
+            3 => <Repeated<Text, 24> as Kind>::merge(
+                alloc,
+                tag,
+                &mut self.dependency,
+                buf,
+                context,
+            ),
+            4 => <EachEmbedded<DescriptorProto, 200> as Kind>::merge(
+                alloc,
+                tag,
+                &mut self.message_type,
+                buf,
+                context,
+            ),
+            5 => <EachEmbedded<EnumDescriptorProto, 72> as Kind>::merge(
+                alloc,
+                tag,
+                &mut self.enum_type,
+                buf,
+                context,
+            ),
+            6 => <Repeated<Blob, 24> as Kind>::merge(alloc, tag, &mut self.service, buf, context),
+            7 => <Repeated<Blob, 24> as Kind>::merge(alloc, tag, &mut self.extension, buf, context),
+            9 => <Embedded<SourceCodeInfo> as Kind>::merge(
+                alloc,
+                tag,
+                &mut self.source_code_info,
+                buf,
+                context,
+            ),
+            12 => <Implicit<Text> as Kind>::merge(alloc, tag, &mut self.syntax_, buf, context),
+            14 => <Implicit<Int32> as Kind>::merge(alloc, tag, &mut self.edition, buf, context),
+            _ => keep(alloc, tag, &mut self.unknown, buf, context),
+        }
+    }
+
+    fn clear(&mut self) {
+        <Implicit<Text> as Kind>::clear(&mut self.name);
+        <Implicit<Text> as Kind>::clear(&mut self.package);
+        <Repeated<Text, 24> as Kind>::clear(&mut self.dependency);
+        <EachEmbedded<DescriptorProto, 200> as Kind>::clear(&mut self.message_type);
+        <EachEmbedded<EnumDescriptorProto, 72> as Kind>::clear(&mut self.enum_type);
+        <Repeated<Blob, 24> as Kind>::clear(&mut self.service);
+        <Repeated<Blob, 24> as Kind>::clear(&mut self.extension);
+        <Embedded<SourceCodeInfo> as Kind>::clear(&mut self.source_code_info);
+        <Implicit<Text> as Kind>::clear(&mut self.syntax_);
+        <Implicit<Int32> as Kind>::clear(&mut self.edition);
+        self.unknown.clear();
+    }
+}

@@ -1,0 +1,84 @@
+//! The message `schema.MessageOptions`. Generated.
+use bytes::Buf;
+use std::alloc::Global;
+use wire_codec::{
+    DecodeContext, DecodeError, EncodeError, EncodeSink, Message, SizeCache, Tag, UnknownFields,
+};
+use wire_fields::{Bool, Implicit, Kind, Known, Rest, keep, measure, write};
+
+/// The message `MessageOptions`.
+#[derive(Clone, Debug, Drop, PartialEq)]
+pub struct MessageOptions {
+    pub map_entry: bool,
+    /// The fields that the schema lacks, as they came.
+    pub unknown: UnknownFields,
+}
+
+impl Message for MessageOptions {
+    ghost use Rattle.wire_descriptor.specs.MessageOptions.{MessageOptions-Value};
+    ghost use Rattle.wire_descriptor.specs.MessageOptions.{message_options-value};
+    ghost use Rattle.wire_descriptor.specs.MessageOptions.{message_options-shape};
+
+    ghost Value = { MessageOptions-Value };
+
+    ghost view = { message_options-value };
+
+    ghost records = { message_options-shape.records };
+
+    ghost default = { message_options-shape.default };
+
+    ghost takes = { message_options-shape.takes };
+
+    ghost single = { message_options-shape.single };
+
+    fn default_value(alloc: Global) -> MessageOptions {
+        MessageOptions {
+            map_entry: <Implicit<Bool> as Kind>::empty(alloc),
+            unknown: UnknownFields::new(alloc),
+        }
+    }
+
+    fn compute_size(&self, cache: &mut SizeCache) -> Result<u32, EncodeError> {
+        let field_7: Known<Implicit<Bool>> = Known {
+            number: 7,
+            held: &self.map_entry,
+        };
+        let rest = Rest {
+            fields: &self.unknown,
+        };
+        measure((field_7, rest), cache)
+    }
+
+    fn write_to<S: EncodeSink>(
+        &self,
+        cache: &mut SizeCache,
+        sink: &mut S,
+    ) -> Result<(), EncodeError> {
+        let field_7: Known<Implicit<Bool>> = Known {
+            number: 7,
+            held: &self.map_entry,
+        };
+        let rest = Rest {
+            fields: &self.unknown,
+        };
+        write((field_7, rest), cache, sink)
+    }
+
+    fn merge_field<B: Buf>(
+        &mut self,
+        alloc: Global,
+        tag: Tag,
+        buf: &mut B,
+        context: &mut DecodeContext,
+    ) -> Result<(), DecodeError> {
+        match tag.field_number() {
+            7 => <Implicit<Bool> as Kind>::merge(alloc, tag, &mut self.map_entry, buf, context),
+            _ => keep(alloc, tag, &mut self.unknown, buf, context),
+        }
+    }
+
+    fn clear(&mut self) {
+        <Implicit<Bool> as Kind>::clear(&mut self.map_entry);
+        self.unknown.clear();
+    }
+}

@@ -1,0 +1,115 @@
+//! The proofs of a message type: why a record that a field refuses is refused by the message.
+use crate::error::GenerateError;
+use crate::field::Field;
+use crate::imports::definition_imports;
+use crate::words::{Template, Words};
+
+const USES: &str = "\
+Rattle.std.proofs.Common rules
+Rattle.std.proofs.Common sym
+Rattle.std.proofs.Common ◌∙◌
+Rattle.wire_codec.specs.TagView tag_number
+Rattle.wire_fields.specs.Arms arm_err
+Rattle.wire_fields.specs.Arms neither
+Rattle.wire_fields.specs.Arms rest_err
+Rattle.wire_fields.specs.Arms unlike
+Rattle.wire_fields.specs.Shape keeps
+Rattle.$crate$.specs.$name$ $module$-known
+Rattle.$crate$.specs.$name$ $module$-shape
+";
+
+const HEAD: &str = "\
+$imports$use Rattle.$crate$.proofs.$module$.$name$Message.merge_field.Goals as goal
+";
+
+const REFUSED: &str = "
+pub returns-in-$number$-clause-err : goal.returns-in-$number$-clause-err
+returns-in-$number$-clause-err g c =
+    arm_err $module$-shape.takes $step$ $number$ _
+    (sym c.field_number.ensures.number ∙ c.in-$number$.is) _ _
+    (λ charge z p h. (z.0$path$, h.0$firsts$)) _ _ _
+    $call$.result $call$.ensures.err
+";
+
+const TAKEN: &str = "
+pub returns-in-$number$-clause-ok : goal.returns-in-$number$-clause-ok
+returns-in-$number$-clause-ok g c =
+    arm_ok $module$-shape.takes $step$ $number$ _
+    (sym c.field_number.ensures.number ∙ c.in-$number$.is) _ _ _ _
+    (λ charge p h. $taken$) _ _ _ _ _
+    $call$.result $call$.ensures.ok
+";
+
+const REST: &str = "
+pub returns-in_default-clause-err : goal.returns-in_default-clause-err
+returns-in_default-clause-err g c =
+    let n = tag_number c.args.tag in
+    rest_err $module$-known.owns $module$-known.takes keeps _
+    (λ p. $unlike$)
+    _ _ _ _ c.keep.result c.keep.ensures.err
+";
+
+// The search does not find by itself that what a list in many records takes the message takes.
+const USES_OF_TAKEN: &str = "\
+Rattle.std.proofs.Common refl
+Rattle.wire_fields.specs.Arms arm_ok
+";
+
+const OF_ONEOF: Template = ("uses", "Rattle.$crate$.specs.$name$$part$ $definition$\n");
+
+const OF_KIND: Template = (
+    "uses",
+    "Rattle.$crate$.specs.$name$ $module$-$field$-kind\n",
+);
+
+/// The answers of `merge_field`.
+pub(crate) fn answers_of(
+    base: &Words,
+    fields: &[Field],
+    tree: &Words,
+) -> Result<String, GenerateError> {
+    let mut page = Words::like(base);
+    page.copy(tree, &["unlike"]);
+    page.fill_all(&[("uses", USES), ("call", "c.merge")]);
+    for field in fields {
+        page.copy(
+            &field.words,
+            &[
+                "field",
+                "kind",
+                "definition",
+                "part",
+                "step",
+                "path",
+                "firsts",
+                "taken",
+            ],
+        );
+        let (name, template) = if field.oneof.is_some() {
+            OF_ONEOF
+        } else {
+            OF_KIND
+        };
+        page.append(name, template);
+        for number in field.words.get("numbers").split(' ') {
+            page.set("number", number);
+            put_arm(&mut page);
+        }
+    }
+    definition_imports(&mut page);
+    page.fill("text", HEAD);
+    page.append_all(&[("text", "$answers$"), ("text", REST)]);
+    page.finish("text")
+}
+
+// What is to be shown of the record of one number; the first call has no number in its name.
+fn put_arm(page: &mut Words) {
+    if !page.get("answers").is_empty() {
+        page.fill("call", "(c.merge-in-$number$)");
+    }
+    page.append("answers", REFUSED);
+    if page.get("kind").starts_with("Unpacked") {
+        page.append("answers", TAKEN);
+        page.append("uses", USES_OF_TAKEN);
+    }
+}

@@ -1,0 +1,173 @@
+//! The code of a message type.
+use crate::comments::put_comment;
+use crate::error::GenerateError;
+use crate::field::Field;
+use crate::imports::code_imports;
+use crate::schema::{MessageType, Schema};
+use crate::words::{Template, Words};
+
+// The widest line of code.
+const WIDTH: usize = 100;
+
+const USES: &str = "\
+bytes Buf
+std::alloc Global
+wire_codec DecodeContext
+wire_codec DecodeError
+wire_codec EncodeError
+wire_codec EncodeSink
+wire_codec Message
+wire_codec SizeCache
+wire_codec Tag
+wire_codec UnknownFields
+wire_fields Kind
+wire_fields Known
+wire_fields Rest
+wire_fields keep
+wire_fields measure
+wire_fields write
+";
+
+const STRUCT: &str = "\
+#[derive(Clone, Debug, Drop, PartialEq)]
+pub struct $name$ {
+$declared$    /// The fields that the schema lacks, as they came.
+    pub unknown: UnknownFields,
+}
+";
+
+const MESSAGE: &str = "
+impl Message for $name$ {
+    ghost use Rattle.$crate$.specs.$name$.{$name$-Value};
+    ghost use Rattle.$crate$.specs.$name$.{$module$-value};
+    ghost use Rattle.$crate$.specs.$name$.{$module$-shape};
+
+    ghost Value = { $name$-Value };
+
+    ghost view = { $module$-value };
+
+    ghost records = { $module$-shape.records };
+
+    ghost default = { $module$-shape.default };
+
+    ghost takes = { $module$-shape.takes };
+
+    ghost single = { $module$-shape.single };
+
+    fn default_value(alloc: Global) -> $name$ {
+        $name$ {
+$emptied$            unknown: UnknownFields::new(alloc),
+        }
+    }
+
+    fn compute_size(&self, cache: &mut SizeCache) -> Result<u32, EncodeError> {
+$parts$$pairs$        let rest = Rest {
+            fields: &self.unknown,
+        };
+        measure(($local$, rest), cache)
+    }
+
+    fn write_to<S: EncodeSink>(
+        &self,
+        cache: &mut SizeCache,
+        sink: &mut S,
+    ) -> Result<(), EncodeError> {
+$parts$$pairs$        let rest = Rest {
+            fields: &self.unknown,
+        };
+        write(($local$, rest), cache, sink)
+    }
+
+    fn merge_field<B: Buf>(
+        &mut self,
+        alloc: Global,
+        tag: Tag,
+        buf: &mut B,
+        context: &mut DecodeContext,
+    ) -> Result<(), DecodeError> {
+        match tag.field_number() {
+$arms$            _ => keep(alloc, tag, &mut self.unknown, buf, context),
+        }
+    }
+
+    fn clear(&mut self) {
+$cleared$        self.unknown.clear();
+    }
+}
+";
+
+const PART: &str = "        let field_$number$: Known<$kind$> = Known {
+            number: $number$,
+            held: &self.$field$,
+        };
+";
+
+const ARM: &str = "            $number$ => <$kind$ as Kind>::merge(alloc, tag, &mut self.$field$, \
+                   buf, context),\n";
+
+const LONG_ARM: &str = "            $number$ => <$kind$ as Kind>::merge(
+                alloc,
+                tag,
+                &mut self.$field$,
+                buf,
+                context,
+            ),
+";
+
+const OF_FIELD: [Template; 4] = [
+    ("declared", "    pub $field$: $held$,\n"),
+    (
+        "emptied",
+        "            $field$: <$kind$ as Kind>::empty(alloc),\n",
+    ),
+    ("parts", PART),
+    (
+        "cleared",
+        "        <$kind$ as Kind>::clear(&mut self.$field$);\n",
+    ),
+];
+
+/// The module of a message type, whose words the base has.
+pub(crate) fn code_of(
+    base: &Words,
+    schema: &Schema,
+    message: &MessageType,
+    fields: &[Field],
+    tree: &Words,
+) -> Result<String, GenerateError> {
+    let mut page = Words::like(base);
+    page.copy(tree, &["local", "pairs"]);
+    page.set("uses", USES);
+    for field in fields {
+        page.copy(
+            &field.words,
+            &["field", "number", "kind", "held", "at", "code"],
+        );
+        put_field(&mut page, schema, &field.words);
+    }
+    code_imports(&mut page);
+    page.set("full", message.words.get("full").trim_start_matches('.'));
+    page.fill("code", "//! The message `$full$`. Generated.\n$imports$\n");
+    match schema.comment(message.words.get("place")) {
+        "" => page.append("code", "/// The message `$name$`.\n"),
+        comment => put_comment(&mut page, "code", "", comment),
+    }
+    page.append_all(&[("code", STRUCT), ("code", MESSAGE)]);
+    page.finish("code")
+}
+
+// What there is for each field.
+fn put_field(page: &mut Words, schema: &Schema, field: &Words) {
+    page.fill("at", "$place$.2.$at$");
+    let comment = schema.comment(page.get("at"));
+    put_comment(page, "declared", "    ", comment);
+    page.append_all(&OF_FIELD);
+    page.append("uses", "$code$");
+    for number in field.get("numbers").split(' ') {
+        page.set("number", number);
+        page.fill("arm", ARM);
+        // (its line's end counted)
+        let is_short = page.get("arm").len() <= WIDTH + 1;
+        page.append("arms", if is_short { ARM } else { LONG_ARM });
+    }
+}

@@ -1,0 +1,245 @@
+//! Fields of a message type, each with its kind.
+use crate::error::GenerateError;
+use crate::item::{Sort, set_item};
+use crate::kind::{set_always, set_key, set_kind, set_map};
+use crate::names::{type_name, word_name};
+use crate::schema::{MessageType, Schema};
+use crate::words::{Template, Words};
+use std::alloc::Global;
+use wire_descriptor::{DescriptorProto, FieldDescriptorProto};
+
+const LABEL_REQUIRED: i32 = 2;
+
+const LABEL_REPEATED: i32 = 3;
+
+/// A field. Its words are those of its kind, and `field`, its name in code; `at`, its place among
+/// the fields of its descriptor; its `number`, and the `numbers` of all, where it is a oneof; its
+/// part of the `table`, and the `step` of its records.
+#[derive(Drop)]
+pub(crate) struct Field {
+    pub words: Words,
+    /// The fields of a oneof.
+    pub oneof: Option<Oneof>,
+}
+
+/// A oneof, with its fields in the order of their numbers. Its words are those of a type; those of
+/// each field are those of its values, and its name as a `variant` and as a `word`.
+#[derive(Drop)]
+pub(crate) struct Oneof {
+    /// Its place among those of its message.
+    index: i32,
+    pub words: Words,
+    pub variants: Vec<Words>,
+}
+
+/// The fields of a message type, in the order of their numbers.
+pub(crate) fn fields_of(
+    base: &Words,
+    schema: &Schema,
+    message: &MessageType,
+) -> Result<Vec<Field>, GenerateError> {
+    let alloc = base.alloc();
+    let mut order: Vec<(i32, usize)> = Vec::new(alloc);
+    for (place, field) in message.descriptor.field.iter().enumerate() {
+        order.push((field.number, place))?;
+    }
+    order.sort()?;
+    let mut fields = Vec::new(alloc);
+    for (_, place) in order {
+        if let Some(field) = message.descriptor.field.get(place) {
+            let mut words = started(base, message, field)?;
+            words.index("at", place);
+            match field.oneof_index {
+                Some(index) if !field.proto3_optional => {
+                    let variant = variant_of(words, schema, field)?;
+                    add_variant(base, message, index, variant, &mut fields)?;
+                }
+                _ => fields.push(field_of(words, schema, message, field)?)?,
+            }
+        }
+    }
+    names_differ(alloc, &mut fields)?;
+    Ok(fields)
+}
+
+fn names_differ(alloc: Global, fields: &mut [Field]) -> Result<(), GenerateError> {
+    let mut names: Vec<String> = Vec::new(alloc);
+    for field in fields {
+        let name = field.words.get("field");
+        if names.iter().any(|it| it.as_str() == name) {
+            return Err(field.words.refused("$full$: two fields are called $field$"));
+        }
+        names.push(String::from_str(alloc, name)?)?;
+    }
+    Ok(())
+}
+
+// The words of a field but for those of its values.
+fn started(
+    base: &Words,
+    message: &MessageType,
+    field: &FieldDescriptorProto,
+) -> Result<Words, GenerateError> {
+    let mut words = Words::like(base);
+    words.copy(&message.words, &["full", "name", "module"]);
+    words.set("proto", &field.name);
+    words.set("field", &word_name(base.alloc(), &field.name)?);
+    words.number("number", field.number);
+    words.fill("numbers", "$number$");
+    if field.label == LABEL_REQUIRED {
+        return Err(words.refused("$full$.$proto$: required fields are not generated"));
+    }
+    if !field.default_value.is_empty() {
+        return Err(words.refused("$full$.$proto$: default values are not generated"));
+    }
+    Ok(words)
+}
+
+fn field_of(
+    mut words: Words,
+    schema: &Schema,
+    message: &MessageType,
+    field: &FieldDescriptorProto,
+) -> Result<Field, GenerateError> {
+    let entry = match field.type_ {
+        11 => schema.entry(&field.type_name),
+        _ => None,
+    };
+    match entry {
+        Some(entry) => {
+            set_part(schema, &entry.descriptor, 1, &mut words)?;
+            set_key(&mut words);
+            let sort = set_part(schema, &entry.descriptor, 2, &mut words)?;
+            set_map(sort, &mut words);
+        }
+        None => {
+            let sort = set_item(schema, field, &mut words)?;
+            words.number("size", element_size(schema, field));
+            set_kind(message.is_proto3, field, sort, &mut words);
+        }
+    }
+    words.fill_all(&[
+        ("table", "known $number$ $module$-$field$-kind"),
+        ("step", "$module$-$field$-kind.kind.takes"),
+    ]);
+    Ok(Field { words, oneof: None })
+}
+
+// The key, field 1, or the value, field 2, of a map's entries.
+fn set_part(
+    schema: &Schema,
+    entry: &DescriptorProto,
+    number: i32,
+    words: &mut Words,
+) -> Result<Sort, GenerateError> {
+    match entry.field.iter().find(|it| it.number == number) {
+        Some(field) => set_item(schema, field, words),
+        None => Err(words.refused("$full$: a map whose entries lack a field")),
+    }
+}
+
+fn variant_of(
+    mut words: Words,
+    schema: &Schema,
+    field: &FieldDescriptorProto,
+) -> Result<Words, GenerateError> {
+    let sort = set_item(schema, field, &mut words)?;
+    set_always(sort, &mut words);
+    words.set("variant", &type_name(words.alloc(), &field.name)?);
+    words.fill_all(&[("word", "$field$"), ("digits", "$number$")]);
+    Ok(words)
+}
+
+// Puts a field into its oneof, which stands where its first field does.
+fn add_variant(
+    base: &Words,
+    message: &MessageType,
+    index: i32,
+    variant: Words,
+    fields: &mut Vec<Field>,
+) -> Result<(), GenerateError> {
+    for field in fields.iter_mut() {
+        if let Some(oneof) = &mut field.oneof {
+            if oneof.index == index {
+                field.words.set("next", variant.get("number"));
+                field.words.append("numbers", " $next$");
+                oneof.variants.push(variant)?;
+                return Ok(());
+            }
+        }
+    }
+    let mut words = oneof_words(base, message, index)?;
+    words.set("number", variant.get("number"));
+    words.fill("numbers", "$number$");
+    let mut of = Words::like(base);
+    of.copy(&words, &["full", "name", "module", "place"]);
+    let mut variants = Vec::new(base.alloc());
+    variants.push(variant)?;
+    fields.push(Field {
+        words,
+        oneof: Some(Oneof {
+            index,
+            words: of,
+            variants,
+        }),
+    })?;
+    Ok(())
+}
+
+const ONEOF: [Template; 10] = [
+    ("held", "Option<$name$>"),
+    ("kind", "$name$Kind"),
+    ("value", "$name$-Value"),
+    ("bracketed", "$name$-Value"),
+    ("view", "$module$-of m.$field$"),
+    ("definition", "$module$-shape"),
+    ("table", "$module$-shape"),
+    ("step", "$module$-shape.takes"),
+    (
+        "code",
+        "crate::$module$ $name$\ncrate::$module$ $name$Kind\n",
+    ),
+    (
+        "definitions",
+        "$specs$ $name$-Value\n$specs$ $module$-of\n$specs$ $module$-shape\n",
+    ),
+];
+
+// The words of a oneof, as a type and as a field.
+fn oneof_words(base: &Words, message: &MessageType, index: i32) -> Result<Words, GenerateError> {
+    let alloc = base.alloc();
+    let mut words = Words::like(base);
+    words.copy(&message.words, &["full", "name", "module", "place"]);
+    let place = usize::try_from(index).unwrap_or(usize::MAX);
+    let Some(descriptor) = message.descriptor.oneof_decl.get(place) else {
+        return Err(words.refused("$full$: a field of no oneof that is there"));
+    };
+    words.set("field", &word_name(alloc, &descriptor.name)?);
+    words.set("proto", &descriptor.name);
+    words.fill("full", "$full$.$proto$");
+    words.number("index", index);
+    words.fill("place", "$place$.8.$index$");
+    words.set("part", &type_name(alloc, &descriptor.name)?);
+    words.append("name", "$part$");
+    words.set("module", &word_name(alloc, words.get("name"))?);
+    words.fill("specs", "Rattle.$crate$.specs.$name$");
+    words.fill_all(&ONEOF);
+    Ok(words)
+}
+
+// How many bytes a message of this field takes where it stands in a list: those of its fields and
+// of its unknown fields, each rounded up.
+fn element_size(schema: &Schema, field: &FieldDescriptorProto) -> i32 {
+    let mut size: i32 = 24;
+    if let Some(message) = schema.message(&field.type_name) {
+        for field in &message.descriptor.field {
+            let of_field = match (field.label, field.type_) {
+                (LABEL_REPEATED, _) | (_, 9 | 12) => 24,
+                (_, 10 | 11) => 8,
+                _ => 16,
+            };
+            size = size.saturating_add(of_field);
+        }
+    }
+    size
+}

@@ -1,0 +1,238 @@
+//! What one value of a field is.
+use crate::error::GenerateError;
+use crate::scalar::{Scalar, number_type};
+use crate::schema::{MessageType, Schema};
+use crate::words::{Template, Words};
+use wire_descriptor::FieldDescriptorProto;
+
+/// How a value is written.
+#[derive(Clone, Copy, PartialEq, Eq)]
+pub(crate) enum Sort {
+    Number,
+    Text,
+    Message,
+    Group,
+}
+
+// The words of a value: its type in code, `held`, and its name among the `kind`s of fields; as
+// contracts see it, its type `value`, what stands `before` and `behind` one in code, and the same as
+// a function, `view`; its `definition`; the `form` and the `map` of a number, `numeric` where it is
+// one; `order` and `order_numbers` as the key of a map; and lines of names that are brought in, of `code`,
+// of `definitions` and of `ghosts` for clauses.
+const STRING: [Template; 8] = [
+    ("held", "String"),
+    ("kind", "Text"),
+    ("before", "string_bytes "),
+    ("behind", ""),
+    ("view", "(λ s. string_bytes s)"),
+    ("definition", "string"),
+    ("order", "text_map"),
+    ("ghosts", "Rattle.std.specs.Prelude string_bytes\n"),
+];
+
+const BYTES: [Template; 7] = [
+    ("held", "Vec<u8>"),
+    ("kind", "Blob"),
+    ("before", ""),
+    ("behind", ".items"),
+    ("view", "(λ b. b.items)"),
+    ("definition", "any_bytes"),
+    ("ghosts", ""),
+];
+
+const TEXT: [Template; 3] = [("value", "List ℕ"), ("numeric", ""), ("order_numbers", "")];
+
+const OF_TEXT: [Template; 3] = [
+    ("code", "wire_fields $kind$\n"),
+    (
+        "definitions",
+        "Rattle.std.specs.Prelude List\nRattle.std.specs.Prelude ℕ\n$ghosts$",
+    ),
+    (
+        "definitions",
+        "Rattle.wire_fields.specs.Texts $definition$\n",
+    ),
+];
+
+const NUMBER: [Template; 6] = [
+    ("before", ""),
+    ("behind", ""),
+    ("view", "(λ v. v)"),
+    ("definition", "(numeric $form$ $map$)"),
+    ("numeric", "Rattle.wire_fields.specs.Numbers numeric\n"),
+    ("ghosts", ""),
+];
+
+const OF_NUMBER: [Template; 1] = [(
+    "definitions",
+    "Rattle.wire_fields.specs.declared.form.Form.TheVariants $form$\n",
+)];
+
+const OF_FLOAT: [Template; 3] = [
+    ("code", "wire_fields $held$\n"),
+    (
+        "definitions",
+        "Rattle.wire_fields.specs.declared.floats.$held$ $held$\n",
+    ),
+    ("definitions", "Rattle.wire_fields.specs.Floats $map$\n"),
+];
+
+const OF_INTEGER: [Template; 2] = [
+    ("definitions", "Rattle.std.specs.Prelude $value$\n"),
+    ("definitions", "Rattle.wire_codec.specs.ValueMap $map$\n"),
+];
+
+const ENUM: [Template; 5] = [
+    ("held", "EnumValue<$of_name$>"),
+    ("kind", "Enum<$of_name$>"),
+    ("value", "EnumValue $of_name$"),
+    ("form", "Varint"),
+    ("map", "(open_enum $of_module$-number $of_module$-of)"),
+];
+
+const OF_ENUM: [Template; 5] = [
+    (
+        "code",
+        "wire_fields Enum\nwire_codec EnumValue\ncrate::$of_module$ $of_name$\n",
+    ),
+    (
+        "definitions",
+        "Rattle.wire_codec.specs.EnumValue EnumValue\n",
+    ),
+    ("definitions", "Rattle.wire_fields.specs.Enums open_enum\n"),
+    (
+        "definitions",
+        "Rattle.$crate$.specs.declared.$of_module$.$of_name$ $of_name$\n",
+    ),
+    (
+        "definitions",
+        "$specs$ $of_module$-number\n$specs$ $of_module$-of\n",
+    ),
+];
+
+const MESSAGE: [Template; 9] = [
+    ("held", "$of_name$"),
+    ("kind", "$of_name$"),
+    ("value", "$of_name$-Value"),
+    ("before", "$of_module$-value "),
+    ("behind", ""),
+    ("view", "$of_module$-value"),
+    ("definition", "$of_module$-shape"),
+    ("numeric", ""),
+    ("ghosts", "$specs$ $of_module$-value\n"),
+];
+
+const OF_MESSAGE: [Template; 2] = [
+    ("code", "crate::$of_module$ $of_name$\n"),
+    (
+        "definitions",
+        "$specs$ $value$\n$specs$ $view$\n$specs$ $definition$\n",
+    ),
+];
+
+/// Sets the words of a value of this field; those of its message and of the crate are set.
+pub(crate) fn set_item(
+    schema: &Schema,
+    field: &FieldDescriptorProto,
+    words: &mut Words,
+) -> Result<Sort, GenerateError> {
+    let sort = match field.type_ {
+        9 => set_text(&STRING, words),
+        12 => set_text(&BYTES, words),
+        10 | 11 => match schema.message(&field.type_name) {
+            Some(message) => set_message(message, field.type_ == 10, words),
+            None => return Err(foreign(field, words)),
+        },
+        14 => set_enum(schema, field, words)?,
+        number => match number_type(number) {
+            Some(scalar) => set_number(&scalar, words),
+            None => return Err(words.refused("$full$.$proto$: no type is known")),
+        },
+    };
+    bracket(words);
+    Ok(sort)
+}
+
+fn foreign(field: &FieldDescriptorProto, words: &mut Words) -> GenerateError {
+    words.set("of", &field.type_name);
+    words.refused("$full$.$proto$: $of$ is of a file that is not generated with it")
+}
+
+fn set_text(text: &'static [Template], words: &mut Words) -> Sort {
+    words.fill_all(text);
+    words.fill_all(&TEXT);
+    words.append_all(&OF_TEXT);
+    Sort::Text
+}
+
+fn set_number(scalar: &Scalar, words: &mut Words) -> Sort {
+    words.set("held", scalar.held);
+    words.set("kind", scalar.name);
+    words.set("value", scalar.value);
+    words.set("form", scalar.form);
+    words.set("map", scalar.map);
+    words.fill_all(&NUMBER);
+    words.append("code", "wire_fields $kind$\n");
+    words.append_all(&OF_NUMBER);
+    match scalar.value {
+        "DoubleBits" | "FloatBits" => words.append_all(&OF_FLOAT),
+        _ => words.append_all(&OF_INTEGER),
+    }
+    set_order(scalar.value, words);
+    Sort::Number
+}
+
+// Which maps have such keys.
+fn set_order(value: &str, words: &mut Words) {
+    words.fill(
+        "order_numbers",
+        if value == "Bool" { "" } else { " $form$ $map$" },
+    );
+    words.fill(
+        "order",
+        match value {
+            "Bool" => "bool_map",
+            "ℤ" => "signed_map",
+            _ => "unsigned_map",
+        },
+    );
+}
+
+fn set_enum(
+    schema: &Schema,
+    field: &FieldDescriptorProto,
+    words: &mut Words,
+) -> Result<Sort, GenerateError> {
+    let Some(of_enum) = schema.enum_of(&field.type_name) else {
+        return Err(foreign(field, words));
+    };
+    if !of_enum.is_proto3 {
+        return Err(words.refused("$full$.$proto$: closed enums are not generated"));
+    }
+    set_names(&of_enum.words, words);
+    words.fill_all(&ENUM);
+    words.fill_all(&NUMBER);
+    words.append_all(&OF_NUMBER);
+    words.append_all(&OF_ENUM);
+    Ok(Sort::Number)
+}
+
+fn set_message(message: &MessageType, is_group: bool, words: &mut Words) -> Sort {
+    set_names(&message.words, words);
+    words.fill_all(&MESSAGE);
+    words.append_all(&OF_MESSAGE);
+    if is_group { Sort::Group } else { Sort::Message }
+}
+
+// What the type of a field is called.
+fn set_names(of: &Words, words: &mut Words) {
+    words.set("of_name", of.get("name"));
+    words.set("of_module", of.get("module"));
+    words.fill("specs", "Rattle.$crate$.specs.$of_name$");
+}
+
+/// Makes the value's type in brackets, where it has several words, the word `bracketed`.
+pub(crate) fn bracket(words: &mut Words) {
+    let is_one = !words.get("value").contains(' ');
+    words.fill("bracketed", if is_one { "$value$" } else { "($value$)" });
+}

@@ -1,0 +1,201 @@
+//! The kinds of fields.
+use crate::item::{Sort, bracket};
+use crate::words::Words;
+use wire_descriptor::FieldDescriptorProto;
+
+const LABEL_REPEATED: i32 = 3;
+
+/// Templates of a kind of field over the words of its values: names that are brought in, and then
+/// the type that a message holds, the kind, the type as contracts see it, how what a message `m`
+/// holds is seen so, and the definition.
+struct Kind {
+    code: &'static str,
+    definitions: &'static str,
+    held: &'static str,
+    kind: &'static str,
+    value: &'static str,
+    view: &'static str,
+    definition: &'static str,
+}
+
+const IMPLICIT: Kind = Kind {
+    code: "wire_fields Implicit\n",
+    definitions: "Rattle.wire_fields.specs.Presence implicit\n$numeric$",
+    held: "$held$",
+    kind: "Implicit<$kind$>",
+    value: "$value$",
+    view: "$before$m.$field$$behind$",
+    definition: "implicit $definition$",
+};
+
+const OPTIONAL: Kind = Kind {
+    code: "wire_fields Optional\n",
+    definitions: "Rattle.std.specs.Prelude Option\nRattle.std.specs.Prelude option_map\n\
+        Rattle.wire_fields.specs.Presence optional\n$numeric$",
+    held: "Option<$held$>",
+    kind: "Optional<$kind$>",
+    value: "Option $bracketed$",
+    view: "option_map $view$ m.$field$",
+    definition: "optional $definition$",
+};
+
+const EMBEDDED: Kind = Kind {
+    code: "wire_fields Embedded\n",
+    definitions: "Rattle.std.specs.Prelude Option\nRattle.wire_fields.specs.Messages boxed_value\n\
+        Rattle.wire_fields.specs.Messages embedded_once\n",
+    held: "Option<Box<$held$>>",
+    kind: "Embedded<$kind$>",
+    value: "Option $value$",
+    view: "boxed_value $view$ m.$field$",
+    definition: "embedded_once $definition$",
+};
+
+const GROUP: Kind = Kind {
+    code: "wire_fields Group\n",
+    definitions: "Rattle.std.specs.Prelude Option\nRattle.wire_fields.specs.Messages boxed_value\n\
+        Rattle.wire_fields.specs.Messages group_once\n",
+    held: "Option<Box<$held$>>",
+    kind: "Group<$kind$>",
+    value: "Option $value$",
+    view: "boxed_value $view$ m.$field$",
+    definition: "group_once $definition$",
+};
+
+const EACH_EMBEDDED: Kind = Kind {
+    code: "wire_fields EachEmbedded\n",
+    definitions: "Rattle.std.specs.Prelude List\nRattle.std.specs.Prelude map\n\
+        Rattle.wire_fields.specs.Messages embedded_each\n",
+    held: "Vec<$held$>",
+    kind: "EachEmbedded<$kind$, $size$>",
+    value: "List $value$",
+    view: "map $view$ m.$field$.items",
+    definition: "embedded_each $size$ $definition$",
+};
+
+const EACH_GROUP: Kind = Kind {
+    code: "wire_fields EachGroup\n",
+    definitions: "Rattle.std.specs.Prelude List\nRattle.std.specs.Prelude map\n\
+        Rattle.wire_fields.specs.Messages group_each\n",
+    held: "Vec<$held$>",
+    kind: "EachGroup<$kind$, $size$>",
+    value: "List $value$",
+    view: "map $view$ m.$field$.items",
+    definition: "group_each $size$ $definition$",
+};
+
+const PACKED: Kind = Kind {
+    code: "wire_fields Packed\n",
+    definitions: "Rattle.std.specs.Prelude List\nRattle.wire_fields.specs.Packed packed\n",
+    held: "Vec<$held$>",
+    kind: "Packed<$kind$>",
+    value: "List $bracketed$",
+    view: "m.$field$.items",
+    definition: "packed $form$ $map$",
+};
+
+const UNPACKED: Kind = Kind {
+    code: "wire_fields Unpacked\n",
+    definitions: "Rattle.std.specs.Prelude List\nRattle.wire_fields.specs.Packed unpacked\n",
+    held: "Vec<$held$>",
+    kind: "Unpacked<$kind$>",
+    value: "List $bracketed$",
+    view: "m.$field$.items",
+    definition: "unpacked $form$ $map$",
+};
+
+const REPEATED: Kind = Kind {
+    code: "wire_fields Repeated\n",
+    definitions: "Rattle.std.specs.Prelude map\nRattle.wire_fields.specs.Presence repeated\n",
+    held: "Vec<$held$>",
+    kind: "Repeated<$kind$, 24>",
+    value: "List (List ℕ)",
+    view: "map $view$ m.$field$.items",
+    definition: "repeated 24 $definition$",
+};
+
+const MAP: Kind = Kind {
+    code: "std::collections BTreeMap\nwire_fields Map\nwire_fields $presence$\n",
+    definitions: "Rattle.std.specs.Prelude List\nRattle.wire_fields.specs.Maps $key_order$\n\
+        Rattle.wire_fields.specs.Maps viewed\n$of_always$ $always$\n$numeric$",
+    held: "BTreeMap<$key_held$, $held$>",
+    kind: "Map<$key_kind$, $presence$<$kind$>, 64>",
+    value: "List ($key_bracketed$ × $bracketed$)",
+    view: "viewed $key_view$ $view$ m.$field$.entries",
+    definition: "$key_order$ 64$key_numbers$ ($always$ $definition$)",
+};
+
+/// Makes the words of a field of those of its values.
+pub(crate) fn set_kind(
+    is_proto3: bool,
+    field: &FieldDescriptorProto,
+    sort: Sort,
+    words: &mut Words,
+) {
+    let is_repeated = field.label == LABEL_REPEATED;
+    let is_packed = match &field.options {
+        Some(options) => options.packed.unwrap_or(is_proto3),
+        None => is_proto3,
+    };
+    let is_implicit = is_proto3 && !field.proto3_optional;
+    let kind = match sort {
+        Sort::Message if is_repeated => &EACH_EMBEDDED,
+        Sort::Message => &EMBEDDED,
+        Sort::Group if is_repeated => &EACH_GROUP,
+        Sort::Group => &GROUP,
+        Sort::Text if is_repeated => &REPEATED,
+        Sort::Number if is_repeated && is_packed => &PACKED,
+        Sort::Number if is_repeated => &UNPACKED,
+        _ if is_implicit => &IMPLICIT,
+        _ => &OPTIONAL,
+    };
+    put_kind(kind, words);
+}
+
+/// Makes the words of a value those of the key of a map.
+pub(crate) fn set_key(words: &mut Words) {
+    words.fill_all(&[
+        ("key_held", "$held$"),
+        ("key_kind", "$kind$"),
+        ("key_bracketed", "$bracketed$"),
+        ("key_view", "$view$"),
+        ("key_order", "$order$"),
+        ("key_numbers", "$order_numbers$"),
+    ]);
+}
+
+/// Makes the words of a map of those of its key and its values.
+pub(crate) fn set_map(sort: Sort, words: &mut Words) {
+    set_always(sort, words);
+    put_kind(&MAP, words);
+}
+
+/// How a value is there that is always written: `presence` in code, and `always` as a definition.
+pub(crate) fn set_always(sort: Sort, words: &mut Words) {
+    let (presence, always) = match sort {
+        Sort::Message => ("AlwaysEmbedded", "embedded_always"),
+        Sort::Group => ("AlwaysGroup", "group_always"),
+        _ => ("Always", "always"),
+    };
+    words.set("presence", presence);
+    words.set("always", always);
+    let is_plain = always == "always";
+    words.set(
+        "of_always",
+        if is_plain {
+            "Rattle.wire_fields.specs.Presence"
+        } else {
+            "Rattle.wire_fields.specs.Messages"
+        },
+    );
+}
+
+fn put_kind(kind: &Kind, words: &mut Words) {
+    words.append("code", kind.code);
+    words.append("definitions", kind.definitions);
+    words.fill("view", kind.view);
+    words.fill("value", kind.value);
+    words.fill("held", kind.held);
+    words.fill("kind", kind.kind);
+    words.fill("definition", kind.definition);
+    bracket(words);
+}

@@ -1,0 +1,62 @@
+//! A plug-in of protoc: a request on standard input, and on standard output an answer, the files of
+//! a crate with the message types of the schemas.
+#![tactic(auto)]
+
+mod answers;
+mod code;
+mod comments;
+mod definitions;
+mod enums;
+mod error;
+mod field;
+mod imports;
+mod item;
+mod kind;
+mod names;
+mod oneof;
+mod oneof_definitions;
+mod oneof_proofs;
+mod package;
+mod scalar;
+mod schema;
+mod tree;
+mod words;
+
+use error::GenerateError;
+use std::io::{Read, Write};
+use std::process::ExitCode;
+
+fn main(rt: HostRuntime) -> ExitCode {
+    let mut request = Vec::new(rt.alloc());
+    if rt.stdin().read_to_end(&mut request).is_err() {
+        return told(&rt, 3, "reading failed");
+    }
+    let answer = match package::answer(rt.alloc(), &request) {
+        Ok(answer) => answer,
+        Err(error) => return stopped(&rt, &error),
+    };
+    match rt.stdout().write_all(&answer) {
+        Ok(()) => ExitCode::SUCCESS,
+        Err(_) => told(&rt, 4, "writing failed"),
+    }
+}
+
+fn stopped(rt: &impl Eprint, error: &GenerateError) -> ExitCode {
+    match error {
+        GenerateError::Refused(why) => told(rt, 1, why),
+        GenerateError::Request(error) => {
+            let _ = eprintln!(rt; "wire_gen: no request of protoc: {error}");
+            ExitCode::from(1)
+        }
+        GenerateError::Answer(error) => {
+            let _ = eprintln!(rt; "wire_gen: the answer is too large: {error}");
+            ExitCode::from(1)
+        }
+        GenerateError::OutOfMemory => told(rt, 5, "out of memory"),
+    }
+}
+
+fn told(rt: &impl Eprint, status: u8, why: &str) -> ExitCode {
+    let _ = eprintln!(rt; "wire_gen: {why}");
+    ExitCode::from(status)
+}

@@ -1,0 +1,190 @@
+//! The definitions of a oneof.
+use crate::error::GenerateError;
+use crate::field::Oneof;
+use crate::imports::definition_imports;
+use crate::words::{Template, Words};
+
+const USES: &str = "\
+Rattle.std.proofs.Common inl
+Rattle.std.proofs.Common inr
+Rattle.std.specs.Prelude None
+Rattle.std.specs.Prelude Option
+Rattle.std.specs.Prelude Some
+Rattle.std.specs.Prelude ◌⊎◌
+Rattle.wire_codec.specs.Folds Step
+Rattle.wire_codec.specs.Records Records
+Rattle.wire_codec.specs.Records none
+Rattle.wire_fields.specs.Oneof Variants
+Rattle.wire_fields.specs.Oneof either_of
+Rattle.wire_fields.specs.Oneof oneof
+Rattle.wire_fields.specs.Oneof variant
+Rattle.wire_fields.specs.Shape FieldKind
+Rattle.wire_fields.specs.Shape Shape
+Rattle.$crate$.specs.declared.$module$.$name$ $name$
+";
+
+const HEAD: &str = "\
+-- A `$name$` as contracts see it, and the table of its fields. Generated.
+$imports$";
+
+const VALUE: &str = "
+abbrev pub $name$-Value : Type 0
+$name$-Value = Option $sum$
+
+abbrev pub $module$-of : Option $name$ → $name$-Value
+$module$-of None = None
+$ofs$
+$variants$abbrev pub $module$-records : $name$-Value → Records
+$module$-records None = none
+$records$";
+
+const SHAPE: &str = "
+abbrev pub $module$-shape : Shape $name$-Value
+$module$-shape =
+    oneof None $module$-records $all$
+
+-- under whatever number, since the variants have their own
+abbrev pub $module$-kind : FieldKind $name$-Value
+$module$-kind = record {
+  default = None;
+  records = λ n. $module$-records;
+  takes = $module$-shape.takes;
+}
+";
+
+const FRONT: &str = "
+-- all but the last
+abbrev pub $module$-front : Variants $name$-Value
+$module$-front = $front$
+";
+
+const VARIANT: &str = "\
+abbrev pub $word$-of-$module$-as : $name$-Value → Option $bracketed$
+$word$-of-$module$-as None = None
+$befores$$word$-of-$module$-as (Some $one$) = Some x
+$behinds$
+abbrev pub $word$-of-$module$-default : $value$
+$word$-of-$module$-default = $definition$.kind.default
+
+abbrev pub $word$-of-$module$-step : Step $bracketed$
+$word$-of-$module$-step = $definition$.kind.takes
+
+abbrev pub $word$-of-$module$ : Variants $name$-Value
+$word$-of-$module$ =
+    variant $digits$ $definition$ $word$-of-$module$-as (λ x. Some $one$)
+
+";
+
+const OTHER: &str = "$word$-of-$module$-as (Some $injected$) = None\n";
+
+const OF_VARIANT: [Template; 5] = [
+    ("ofs", "$module$-of (Some ($variant$ x)) = Some $seen$\n"),
+    (
+        "records",
+        "$module$-records (Some $one$) = $definition$.kind.records $digits$ x\n",
+    ),
+    ("variants", VARIANT),
+    ("uses", "$of_always$ $always$\n$definitions$$numeric$"),
+    (
+        "uses",
+        "Rattle.$crate$.specs.declared.$module$.$name$.TheVariants $variant$\n",
+    ),
+];
+
+/// The value of a oneof, its table, and what each variant is.
+pub(crate) fn oneof_definitions(base: &Words, oneof: &Oneof) -> Result<String, GenerateError> {
+    let mut page = Words::like(base);
+    page.fill("uses", USES);
+    for variant in oneof.variants.iter().rev() {
+        page.copy(variant, &["bracketed"]);
+        let is_last = page.get("sum").is_empty();
+        page.fill(
+            "sum",
+            if is_last {
+                "$bracketed$"
+            } else {
+                "($bracketed$ ⊎ $sum$)"
+            },
+        );
+    }
+    let last = oneof.variants.len().saturating_sub(1);
+    for (place, variant) in oneof.variants.iter().enumerate() {
+        page.copy(
+            variant,
+            &[
+                "variant",
+                "word",
+                "digits",
+                "value",
+                "bracketed",
+                "before",
+                "behind",
+                "definition",
+                "definitions",
+                "always",
+                "of_always",
+                "numeric",
+            ],
+        );
+        page.fill("definition", "($always$ $definition$)");
+        put_values(&mut page, place, last);
+        page.append_all(&OF_VARIANT);
+        put_tree(&mut page, place);
+    }
+    if last > 0 {
+        page.fill("all", "(either_of $module$-front $word$-of-$module$)");
+    }
+    definition_imports(&mut page);
+    page.append_all(&[("text", HEAD), ("text", VALUE)]);
+    if last > 0 {
+        page.append("text", FRONT);
+    }
+    page.append("text", SHAPE);
+    page.finish("text")
+}
+
+// A value of the variant at this place, of which the sum of types has so many: as it is seen, as
+// `x`, and the lines of the other variants, those before and those behind.
+fn put_values(page: &mut Words, place: usize, last: usize) {
+    page.fill("injected", "$before$x$behind$");
+    let is_word = page.get("injected") == "x";
+    page.fill("injected", if is_word { "x" } else { "($injected$)" });
+    inject(page, place, last);
+    page.fill_all(&[("seen", "$injected$"), ("injected", "x")]);
+    inject(page, place, last);
+    page.fill_all(&[("one", "$injected$"), ("befores", ""), ("behinds", "")]);
+    for before in 0..place {
+        page.set("injected", "other");
+        inject(page, before, last);
+        page.append("befores", OTHER);
+    }
+    if place < last {
+        let behind = place.saturating_add(1);
+        page.set("injected", "other");
+        inject(page, behind, behind);
+        page.append("behinds", OTHER);
+    }
+}
+
+// Puts a value into the part at this place of a sum of types, which leans to the right.
+fn inject(page: &mut Words, place: usize, last: usize) {
+    if place < last {
+        page.fill("injected", "(inl $injected$)");
+    }
+    for _ in 0..place {
+        page.fill("injected", "(inr $injected$)");
+    }
+}
+
+// One variant more in the tree of all, which leans to the left.
+fn put_tree(page: &mut Words, place: usize) {
+    page.fill("front", "$all$");
+    page.fill(
+        "all",
+        if place == 0 {
+            "$word$-of-$module$"
+        } else {
+            "(either_of $front$ $word$-of-$module$)"
+        },
+    );
+}

@@ -1,0 +1,227 @@
+//! The files of a crate.
+use crate::answers::answers_of;
+use crate::code::code_of;
+use crate::definitions::definitions_of;
+use crate::enums::enum_files;
+use crate::error::GenerateError;
+use crate::field::{Oneof, fields_of};
+use crate::oneof::oneof_code;
+use crate::oneof_definitions::oneof_definitions;
+use crate::oneof_proofs::{merge_answers, variant_answers};
+use crate::schema::{EnumType, MessageType, Schema};
+use crate::tree::tree_of;
+use crate::words::Words;
+use std::alloc::Global;
+use wire_codec::{DecodeOptions, Message};
+use wire_descriptor::{CodeGeneratorRequest, CodeGeneratorResponse, CodeGeneratorResponseFile};
+
+const README: &str = "\
+# $crate$
+
+Message types that were generated from schemas. The line of crates.txt is
+
+    $crate$: wire_codec wire_fields bytes
+
+`rt check` proves of each type that encoding writes exactly the shortest encoding of the records
+that `specs/` tells of a value, and that decoding takes exactly the bytes that spell records of its
+table, within the limits, and gives their value.
+";
+
+const ROOT: &str = "\
+//! The messages of `$crate$`. Generated.
+#![tactic(auto)]
+
+$modules$
+$exports$";
+
+// The most fields of a message: a tuple of many more is not proved.
+const MOST_FIELDS: usize = 20;
+
+/// The answer of the plug-in to a request of protoc, as bytes both. What a schema has and a crate
+/// can't have is an error that is answered.
+pub(crate) fn answer(alloc: Global, request: &[u8]) -> Result<Vec<u8>, GenerateError> {
+    let options = DecodeOptions::new();
+    let request = match options.decode_from_slice(alloc, request) {
+        Ok(request) => request,
+        Err(error) => return Err(GenerateError::Request(error)),
+    };
+    let mut response = CodeGeneratorResponse::default_value(alloc);
+    response.supported_features = 1;
+    match files_of(alloc, &request) {
+        Ok(files) => response.file = files,
+        Err(GenerateError::Refused(why)) => response.error = why,
+        Err(error) => return Err(error),
+    }
+    match response.try_encode_to_vec(alloc) {
+        Ok(bytes) => Ok(bytes),
+        Err(error) => Err(GenerateError::Answer(error)),
+    }
+}
+
+fn files_of(
+    alloc: Global,
+    request: &CodeGeneratorRequest,
+) -> Result<Vec<CodeGeneratorResponseFile>, GenerateError> {
+    let mut base = Words::new(alloc);
+    set_crate(&mut base, request)?;
+    let schema = Schema::of(alloc, request)?;
+    let mut package = Package {
+        roots: Words::like(&base),
+        base,
+        files: Vec::new(alloc),
+    };
+    for message in &schema.messages {
+        package.add_message(&schema, message)?;
+    }
+    for of_enum in &schema.enums {
+        package.add_enum(&schema, of_enum)?;
+    }
+    package.add_roots()?;
+    Ok(package.files)
+}
+
+// What the parameter `crate=NAME` says, or else the name of the first file.
+fn set_crate(base: &mut Words, request: &CodeGeneratorRequest) -> Result<(), GenerateError> {
+    let parameter = request.parameter.as_str();
+    if !parameter.is_empty() {
+        let Some(name) = parameter.strip_prefix("crate=") else {
+            base.set("parameter", parameter);
+            return Err(base.refused("the parameter is crate=NAME, and not $parameter$"));
+        };
+        base.set("crate", name);
+        return Ok(());
+    }
+    let Some(file) = request.file_to_generate.first() else {
+        return Err(base.refused("no file is to be generated"));
+    };
+    let path = file.as_str();
+    let path = path.strip_suffix(".proto").unwrap_or(path);
+    let (_, name) = path.rsplit_once('/').unwrap_or(("", path));
+    base.set("crate", name);
+    Ok(())
+}
+
+// The files so far. The words of the roots are lines of the files that name the others.
+#[derive(Drop)]
+struct Package {
+    base: Words,
+    roots: Words,
+    files: Vec<CodeGeneratorResponseFile>,
+}
+
+impl Package {
+    // The words of the crate, and those of a type.
+    fn page(&self, of: &Words) -> Words {
+        let mut page = Words::like(&self.base);
+        page.copy(of, &["full", "name", "module", "place"]);
+        page
+    }
+
+    // A file, whose path is a template.
+    fn add(&mut self, page: &mut Words, path: &str, content: String) -> Result<(), GenerateError> {
+        let mut file = CodeGeneratorResponseFile::default_value(page.alloc());
+        page.fill("file", path);
+        file.name = page.finish("file")?;
+        file.content = content;
+        self.files.push(file)?;
+        Ok(())
+    }
+
+    fn add_message(&mut self, schema: &Schema, message: &MessageType) -> Result<(), GenerateError> {
+        let mut page = self.page(&message.words);
+        let mut fields = fields_of(&self.base, schema, message)?;
+        if fields.is_empty() {
+            return Err(page.refused("$full$: a message without fields"));
+        }
+        if fields.len() > MOST_FIELDS {
+            return Err(page.refused("$full$: more than 20 fields"));
+        }
+        let tree = tree_of(&page, &mut fields)?;
+        let code = code_of(&page, schema, message, &fields, &tree)?;
+        let definitions = definitions_of(&page, &fields, &tree)?;
+        let answers = answers_of(&page, &fields, &tree)?;
+        self.add_type(&mut page, code, definitions)?;
+        for field in &fields {
+            if let Some(oneof) = &field.oneof {
+                self.add_oneof(oneof)?;
+            }
+        }
+        let path = "proofs/$module$/$name$Message/merge_field/Answers.antt";
+        self.add(&mut page, path, answers)
+    }
+
+    fn add_oneof(&mut self, oneof: &Oneof) -> Result<(), GenerateError> {
+        let mut page = self.page(&oneof.words);
+        let code = oneof_code(&page, oneof)?;
+        let definitions = oneof_definitions(&page, oneof)?;
+        self.add_type(&mut page, code, definitions)?;
+        if oneof.variants.len() > 1 {
+            let answers = merge_answers(&page, oneof)?;
+            let path = "proofs/$module$/$name$KindKind/merge/Answers.antt";
+            self.add(&mut page, path, answers)?;
+        }
+        for variant in &oneof.variants {
+            let answers = variant_answers(&page, variant)?;
+            page.copy(variant, &["word"]);
+            self.add(
+                &mut page,
+                "proofs/$module$/merge_$word$/Answers.antt",
+                answers,
+            )?;
+        }
+        Ok(())
+    }
+
+    fn add_enum(&mut self, schema: &Schema, of_enum: &EnumType) -> Result<(), GenerateError> {
+        let mut page = self.page(&of_enum.words);
+        let (code, definitions) = enum_files(&page, schema, of_enum)?;
+        self.add_type(&mut page, code, definitions)
+    }
+
+    // A module of code, and that of its definitions.
+    fn add_type(
+        &mut self,
+        page: &mut Words,
+        code: String,
+        definitions: String,
+    ) -> Result<(), GenerateError> {
+        self.roots.copy(page, &["name", "module"]);
+        self.roots.append_all(&[
+            ("modules", "mod $module$;\n"),
+            ("exports", "pub use $module$::$name$;\n"),
+            ("definitions", "pub mod $name$\n"),
+        ]);
+        self.add(page, "src/$module$.rt", code)?;
+        self.add(page, "specs/$name$.antt", definitions)
+    }
+
+    // The files that name the others.
+    fn add_roots(&mut self) -> Result<(), GenerateError> {
+        let mut roots = Words::like(&self.roots);
+        for name in ["modules", "exports", "definitions"] {
+            sort_lines(&mut roots, name)?;
+        }
+        roots.fill_all(&[("root", ROOT), ("readme", README)]);
+        let root = roots.finish("root")?;
+        let definitions = roots.finish("definitions")?;
+        let readme = roots.finish("readme")?;
+        self.add(&mut roots, "src/lib.rt", root)?;
+        self.add(&mut roots, "specs/Lib.antt", definitions)?;
+        self.add(&mut roots, "README.md", readme)
+    }
+}
+
+// Puts the lines of a word in order, of which no two are equal.
+fn sort_lines(roots: &mut Words, name: &'static str) -> Result<(), GenerateError> {
+    let lines = roots.take(name);
+    let mut count: usize = 0;
+    for line in roots.sorted(&lines) {
+        roots.set("line", line);
+        roots.append(name, "$line$\n");
+        count = count.saturating_add(1);
+    }
+    if count < lines.lines().count() {
+        return Err(roots.refused("two types have one name in $name$"));
+    }
+    Ok(())
+}

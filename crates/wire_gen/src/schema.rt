@@ -1,0 +1,291 @@
+//! The message types and enums of the files that are to be generated.
+use crate::error::GenerateError;
+use crate::names::{type_name, word_name};
+use crate::words::Words;
+use std::alloc::Global;
+use wire_codec::Message;
+use wire_descriptor::{
+    CodeGeneratorRequest, DescriptorProto, EnumDescriptorProto, FieldDescriptorProto,
+    FileDescriptorProto,
+};
+
+// The most message types of one file.
+const MOST_MESSAGES: u32 = 100_000;
+
+/// A message type. Its words are `full`, its name in schemas, as `.package.Outer.Inner`; `name`,
+/// the one in code, and `module`; and `place`, its file and the numbers that lead there.
+#[derive(Drop)]
+pub(crate) struct MessageType {
+    pub words: Words,
+    pub is_proto3: bool,
+    pub descriptor: DescriptorProto,
+}
+
+/// An enum, with the words of a message type.
+#[derive(Drop)]
+pub(crate) struct EnumType {
+    pub words: Words,
+    pub is_proto3: bool,
+    pub descriptor: EnumDescriptorProto,
+}
+
+// What stands before a part of a file.
+#[derive(Drop)]
+struct Comment {
+    place: String,
+    text: String,
+}
+
+#[derive(Drop)]
+pub(crate) struct Schema {
+    alloc: Global,
+    pub messages: Vec<MessageType>,
+    // The types of the entries of maps.
+    entries: Vec<MessageType>,
+    pub enums: Vec<EnumType>,
+    comments: Vec<Comment>,
+}
+
+impl Schema {
+    /// The types of the files that are to be generated.
+    pub(crate) fn of(
+        alloc: Global,
+        request: &CodeGeneratorRequest,
+    ) -> Result<Schema, GenerateError> {
+        let mut schema = Schema {
+            alloc,
+            messages: Vec::new(alloc),
+            entries: Vec::new(alloc),
+            enums: Vec::new(alloc),
+            comments: Vec::new(alloc),
+        };
+        for file in &request.proto_file {
+            if request.file_to_generate.contains(&file.name) {
+                schema.add_file(file)?;
+            }
+        }
+        schema.stop_on_cycles()?;
+        Ok(schema)
+    }
+
+    fn add_file(&mut self, file: &FileDescriptorProto) -> Result<(), GenerateError> {
+        let mut words = Words::new(self.alloc);
+        words.set("file", &file.name);
+        words.set("place", &file.name);
+        if !file.package.is_empty() {
+            words.set("package", &file.package);
+            words.fill("full", ".$package$");
+        }
+        stop_on_rest(file, &mut words)?;
+        self.add_comments(file)?;
+        let is_proto3 = file.syntax_.as_str() == "proto3";
+        self.add_enums(&words, "$place$.5.$index$", &file.enum_type, is_proto3)?;
+        let mut pending = Vec::new(self.alloc);
+        for (index, descriptor) in file.message_type.iter().enumerate() {
+            pending.push(MessageType {
+                words: inner(&words, &descriptor.name, "$place$.4.$index$", index)?,
+                is_proto3,
+                descriptor: descriptor.clone()?,
+            })?;
+        }
+        for _ in 0..MOST_MESSAGES {
+            match pending.pop() {
+                Some(message) => self.add_message(message, &mut pending)?,
+                None => return Ok(()),
+            }
+        }
+        Err(words.refused("$file$: more than 100,000 message types"))
+    }
+
+    // Takes a message type in, and puts those within it to the ones that are to be taken in.
+    fn add_message(
+        &mut self,
+        mut message: MessageType,
+        pending: &mut Vec<MessageType>,
+    ) -> Result<(), GenerateError> {
+        let descriptor = &message.descriptor;
+        if !descriptor.extension_range.is_empty() || !descriptor.extension.is_empty() {
+            return Err(
+                message
+                    .words
+                    .refused("$full$: extensions are not generated"),
+            );
+        }
+        for (index, bytes) in descriptor.nested_type.iter().enumerate() {
+            let descriptor = match DescriptorProto::decode_from_slice(self.alloc, bytes) {
+                Ok(descriptor) => descriptor,
+                Err(error) => return Err(GenerateError::Request(error)),
+            };
+            pending.push(MessageType {
+                words: inner(&message.words, &descriptor.name, "$place$.3.$index$", index)?,
+                is_proto3: message.is_proto3,
+                descriptor,
+            })?;
+        }
+        let enums = &descriptor.enum_type;
+        self.add_enums(
+            &message.words,
+            "$place$.4.$index$",
+            enums,
+            message.is_proto3,
+        )?;
+        let is_entry = match &descriptor.options {
+            Some(options) => options.map_entry,
+            None => false,
+        };
+        if is_entry {
+            self.entries.push(message)?;
+        } else {
+            self.messages.push(message)?;
+        }
+        Ok(())
+    }
+
+    // The enums of a file or a message type, whose places are such.
+    fn add_enums(
+        &mut self,
+        outer: &Words,
+        place: &str,
+        enums: &[EnumDescriptorProto],
+        is_proto3: bool,
+    ) -> Result<(), GenerateError> {
+        for (index, descriptor) in enums.iter().enumerate() {
+            self.enums.push(EnumType {
+                words: inner(outer, &descriptor.name, place, index)?,
+                is_proto3,
+                descriptor: descriptor.clone()?,
+            })?;
+        }
+        Ok(())
+    }
+
+    fn add_comments(&mut self, file: &FileDescriptorProto) -> Result<(), GenerateError> {
+        let Some(info) = &file.source_code_info else {
+            return Ok(());
+        };
+        let mut words = Words::new(self.alloc);
+        for location in &info.location {
+            if location.leading_comments.is_empty() {
+                continue;
+            }
+            words.set("place", &file.name);
+            for number in &location.path {
+                words.number("number", *number);
+                words.append("place", ".$number$");
+            }
+            words.ended()?;
+            self.comments.push(Comment {
+                place: words.take("place"),
+                text: location.leading_comments.clone()?,
+            })?;
+        }
+        Ok(())
+    }
+
+    /// What stands before the part of a file that is at this place.
+    pub(crate) fn comment(&self, place: &str) -> &str {
+        match self.comments.iter().find(|it| it.place.as_str() == place) {
+            Some(comment) => &comment.text,
+            None => "",
+        }
+    }
+
+    // No message type holds itself.
+    fn stop_on_cycles(&mut self) -> Result<(), GenerateError> {
+        let mut settled: Vec<String> = Vec::new(self.alloc);
+        for _ in 0..self.messages.len() {
+            let before = settled.len();
+            for message in &self.messages {
+                let full = message.words.get("full");
+                if !is_among(full, &settled) && self.is_settled(message, &settled) {
+                    settled.push(String::from_str(self.alloc, full)?)?;
+                }
+            }
+            if settled.len() == before {
+                break;
+            }
+        }
+        for message in &mut self.messages {
+            if !is_among(message.words.get("full"), &settled) {
+                let why = "$full$: messages that hold themselves are not generated";
+                return Err(message.words.refused(why));
+            }
+        }
+        Ok(())
+    }
+
+    // Whether all messages that it holds are among these.
+    fn is_settled(&self, message: &MessageType, settled: &[String]) -> bool {
+        for field in &message.descriptor.field {
+            let held = self.held(field);
+            if !held.is_empty() && self.message(held).is_some() && !is_among(held, settled) {
+                return false;
+            }
+        }
+        true
+    }
+
+    // The message that a field holds, as values of a map too; nothing where it holds none.
+    fn held<'a>(&'a self, field: &'a FieldDescriptorProto) -> &'a str {
+        match self.entry(&field.type_name) {
+            Some(entry) => match entry.descriptor.field.iter().find(|it| it.number == 2) {
+                Some(value) => value.type_name.as_str(),
+                None => "",
+            },
+            None => field.type_name.as_str(),
+        }
+    }
+
+    /// The message type of this full name.
+    pub(crate) fn message(&self, full: &str) -> Option<&MessageType> {
+        self.messages.iter().find(|it| it.words.get("full") == full)
+    }
+
+    /// The type of a map's entries of this full name.
+    pub(crate) fn entry(&self, full: &str) -> Option<&MessageType> {
+        self.entries.iter().find(|it| it.words.get("full") == full)
+    }
+
+    /// The enum of this full name.
+    pub(crate) fn enum_of(&self, full: &str) -> Option<&EnumType> {
+        self.enums.iter().find(|it| it.words.get("full") == full)
+    }
+}
+
+fn is_among(name: &str, names: &[String]) -> bool {
+    names.iter().any(|it| it.as_str() == name)
+}
+
+// The words of a type of this name within a file or another type, where it is the one at this
+// index.
+fn inner(outer: &Words, name: &str, place: &str, index: usize) -> Result<Words, GenerateError> {
+    let alloc = outer.alloc();
+    let mut words = Words::like(outer);
+    words.set("name", name);
+    words.index("index", index);
+    words.fill("place", place);
+    words.fill("full", "$full$.$name$");
+    words.append("path", "$name$.");
+    let name = type_name(alloc, words.get("path"))?;
+    let module = word_name(alloc, &name)?;
+    words.set("name", &name);
+    words.set("module", &module);
+    words.ended()?;
+    Ok(words)
+}
+
+// What a file has and a crate can't have.
+fn stop_on_rest(file: &FileDescriptorProto, words: &mut Words) -> Result<(), GenerateError> {
+    let is_known = matches!(file.syntax_.as_str(), "" | "proto2" | "proto3");
+    Err(words.refused(if !file.service.is_empty() {
+        "$file$: services are not generated"
+    } else if !file.extension.is_empty() {
+        "$file$: extensions are not generated"
+    } else if file.edition != 0 {
+        "$file$: editions are not generated"
+    } else if !is_known {
+        "$file$: its syntax is neither proto2 nor proto3"
+    } else {
+        return Ok(());
+    }))
+}

@@ -1,0 +1,210 @@
+//! Named words, and templates that are filled with them.
+use crate::error::GenerateError;
+use std::alloc::Global;
+
+/// Texts by their names. A name between two `$` of a template stands for the word of that name, and
+/// for nothing where there is none. Want of memory is told at the end, by `ended`.
+#[derive(Drop)]
+pub(crate) struct Words {
+    alloc: Global,
+    words: Vec<Word>,
+    is_short: bool,
+}
+
+#[derive(Drop)]
+struct Word {
+    name: &'static str,
+    text: String,
+}
+
+/// The name of a word, and a template.
+pub(crate) type Template = (&'static str, &'static str);
+
+impl Words {
+    /// No words.
+    pub(crate) fn new(alloc: Global) -> Words {
+        Words {
+            alloc,
+            words: Vec::new(alloc),
+            is_short: false,
+        }
+    }
+
+    /// The words of another.
+    pub(crate) fn like(others: &Words) -> Words {
+        let mut words = Words::new(others.alloc);
+        words.set_all(others);
+        words
+    }
+
+    pub(crate) fn alloc(&self) -> Global {
+        self.alloc
+    }
+
+    pub(crate) fn get(&self, name: &str) -> &str {
+        for word in &self.words {
+            if word.name == name {
+                return &word.text;
+            }
+        }
+        ""
+    }
+
+    /// Makes a text the word of this name.
+    pub(crate) fn set(&mut self, name: &'static str, text: &str) {
+        match String::from_str(self.alloc, text) {
+            Ok(text) => self.put(name, text),
+            Err(_) => self.is_short = true,
+        }
+    }
+
+    /// Takes all words of another.
+    pub(crate) fn set_all(&mut self, others: &Words) {
+        self.is_short |= others.is_short;
+        for word in &others.words {
+            self.set(word.name, &word.text);
+        }
+    }
+
+    /// Takes these words of another.
+    pub(crate) fn copy(&mut self, others: &Words, names: &'static [&'static str]) {
+        self.is_short |= others.is_short;
+        for name in names {
+            self.set(name, others.get(name));
+        }
+    }
+
+    /// Makes the digits of a number the word of this name.
+    pub(crate) fn number(&mut self, name: &'static str, number: i32) {
+        match number.to_string(self.alloc) {
+            Ok(text) => self.put(name, text),
+            Err(_) => self.is_short = true,
+        }
+    }
+
+    /// Makes the digits of a place in a list the word of this name.
+    pub(crate) fn index(&mut self, name: &'static str, index: usize) {
+        match index.to_string(self.alloc) {
+            Ok(text) => self.put(name, text),
+            Err(_) => self.is_short = true,
+        }
+    }
+
+    /// Makes a filled template the word of this name.
+    pub(crate) fn fill(&mut self, name: &'static str, template: &str) {
+        let mut text = String::new(self.alloc);
+        self.put_filled(template, &mut text);
+        self.put(name, text);
+    }
+
+    /// Puts a filled template behind the word of this name.
+    pub(crate) fn append(&mut self, name: &'static str, template: &str) {
+        let mut text = self.take(name);
+        self.put_filled(template, &mut text);
+        self.put(name, text);
+    }
+
+    /// Makes each filled template the word of its name, one after another.
+    pub(crate) fn fill_all(&mut self, templates: &'static [Template]) {
+        for (name, template) in templates {
+            self.fill(name, template);
+        }
+    }
+
+    /// Puts each filled template behind the word of its name, one after another.
+    pub(crate) fn append_all(&mut self, templates: &'static [Template]) {
+        for (name, template) in templates {
+            self.append(name, template);
+        }
+    }
+
+    /// Moves each line of the word two columns to the right.
+    pub(crate) fn indent(&mut self, name: &'static str) {
+        let text = self.take(name);
+        let mut moved = String::new(self.alloc);
+        let mut margin = "  ";
+        for line in text.split('\n') {
+            self.push(margin, &mut moved);
+            self.push(line, &mut moved);
+            margin = "\n  ";
+        }
+        self.put(name, moved);
+    }
+
+    /// Takes the word out.
+    pub(crate) fn take(&mut self, name: &str) -> String {
+        for word in &mut self.words {
+            if word.name == name {
+                return std::mem::replace(&mut word.text, String::new(self.alloc));
+            }
+        }
+        String::new(self.alloc)
+    }
+
+    /// The lines of a text in order, each once, and no empty ones.
+    pub(crate) fn sorted<'a>(&mut self, text: &'a str) -> Vec<&'a str> {
+        let mut lines: Vec<&'a str> = Vec::new(self.alloc);
+        for line in text.split('\n') {
+            if !line.is_empty() && lines.push(line).is_err() {
+                self.is_short = true;
+            }
+        }
+        if lines.sort().is_err() {
+            self.is_short = true;
+        }
+        lines.dedup();
+        lines
+    }
+
+    /// A refusal in the words of a template.
+    pub(crate) fn refused(&mut self, template: &str) -> GenerateError {
+        self.fill("refusal", template);
+        match self.ended() {
+            Ok(()) => GenerateError::Refused(self.take("refusal")),
+            Err(error) => error,
+        }
+    }
+
+    /// Whether memory sufficed for all that was asked so far.
+    pub(crate) fn ended(&self) -> Result<(), GenerateError> {
+        if self.is_short {
+            return Err(GenerateError::OutOfMemory);
+        }
+        Ok(())
+    }
+
+    /// The word of this name, where memory sufficed.
+    pub(crate) fn finish(&mut self, name: &str) -> Result<String, GenerateError> {
+        self.ended()?;
+        Ok(self.take(name))
+    }
+
+    fn put(&mut self, name: &'static str, text: String) {
+        for word in &mut self.words {
+            if word.name == name {
+                word.text = text;
+                return;
+            }
+        }
+        if self.words.push(Word { name, text }).is_err() {
+            self.is_short = true;
+        }
+    }
+
+    fn put_filled(&mut self, template: &str, text: &mut String) {
+        let mut is_name = false;
+        for part in template.split('$') {
+            let part = if is_name { self.get(part) } else { part };
+            if text.push_str(part).is_err() {
+                self.is_short = true;
+            }
+            is_name = !is_name;
+        }
+    }
+
+    fn push(&mut self, part: &str, text: &mut String) {
+        if text.push_str(part).is_err() {
+            self.is_short = true;
+        }
+    }
+}

@@ -1,0 +1,4 @@
+pub mod Report
+pub mod ReportLevel
+pub mod ReportOrigin
+pub mod ReportSample
