@@ -55,7 +55,7 @@ Rattle.std.proofs.Common refl
 Rattle.wire_fields.specs.Arms arm_ok
 ";
 
-const OF_ONEOF: Template = ("uses", "Rattle.$crate$.specs.$name$$part$ $definition$\n");
+const OF_ONEOF: Template = ("uses", "$specs$ $definition$\n");
 
 const OF_KIND: Template = (
     "uses",
@@ -78,7 +78,7 @@ pub(crate) fn answers_of(
                 "field",
                 "kind",
                 "definition",
-                "part",
+                "specs",
                 "step",
                 "path",
                 "firsts",

@@ -115,7 +115,7 @@ fn field_of(
         None => {
             let sort = set_item(schema, field, &mut words)?;
             words.number("size", element_size(schema, field));
-            set_kind(message.is_proto3, field, sort, &mut words);
+            set_kind(message.origin.is_proto3, field, sort, &mut words);
         }
     }
     words.fill_all(&[
@@ -209,19 +209,22 @@ const ONEOF: [Template; 10] = [
 fn oneof_words(base: &Words, message: &MessageType, index: i32) -> Result<Words, GenerateError> {
     let alloc = base.alloc();
     let mut words = Words::like(base);
-    words.copy(&message.words, &["full", "name", "module", "place"]);
+    words.copy(&message.words, &["full", "outer", "place"]);
     let place = usize::try_from(index).unwrap_or(usize::MAX);
     let Some(descriptor) = message.descriptor.oneof_decl.get(place) else {
         return Err(words.refused("$full$: a field of no oneof that is there"));
     };
     words.set("field", &word_name(alloc, &descriptor.name)?);
     words.set("proto", &descriptor.name);
-    words.fill("full", "$full$.$proto$");
     words.number("index", index);
-    words.fill("place", "$place$.8.$index$");
-    words.set("part", &type_name(alloc, &descriptor.name)?);
-    words.append("name", "$part$");
-    words.set("module", &word_name(alloc, words.get("name"))?);
+    words.append_all(&[
+        ("full", ".$proto$"),
+        ("place", ".8.$index$"),
+        ("outer", "$proto$"),
+    ]);
+    let name = type_name(alloc, words.get("outer"))?;
+    words.set("module", &word_name(alloc, &name)?);
+    words.set("name", &name);
     words.fill("specs", "Rattle.$crate$.specs.$name$");
     words.fill_all(&ONEOF);
     Ok(words)

@@ -93,7 +93,7 @@ const ENUM: [Template; 5] = [
 const OF_ENUM: [Template; 5] = [
     (
         "code",
-        "wire_fields Enum\nwire_codec EnumValue\ncrate::$of_module$ $of_name$\n",
+        "wire_fields Enum\nwire_codec EnumValue\n$of_path$ $of_name$\n",
     ),
     (
         "definitions",
@@ -102,7 +102,7 @@ const OF_ENUM: [Template; 5] = [
     ("definitions", "Rattle.wire_fields.specs.Enums open_enum\n"),
     (
         "definitions",
-        "Rattle.$crate$.specs.declared.$of_module$.$of_name$ $of_name$\n",
+        "$of_specs$.declared.$of_module$.$of_name$ $of_name$\n",
     ),
     (
         "definitions",
@@ -123,7 +123,7 @@ const MESSAGE: [Template; 9] = [
 ];
 
 const OF_MESSAGE: [Template; 2] = [
-    ("code", "crate::$of_module$ $of_name$\n"),
+    ("code", "$of_path$ $of_name$\n"),
     (
         "definitions",
         "$specs$ $value$\n$specs$ $view$\n$specs$ $definition$\n",
@@ -155,7 +155,7 @@ pub(crate) fn set_item(
 
 fn foreign(field: &FieldDescriptorProto, words: &mut Words) -> GenerateError {
     words.set("of", &field.type_name);
-    words.refused("$full$.$proto$: $of$ is of a file that is not generated with it")
+    words.refused("$full$.$proto$: $of$ is of a file of no crate that is named")
 }
 
 fn set_text(text: &'static [Template], words: &mut Words) -> Sort {
@@ -206,7 +206,7 @@ fn set_enum(
     let Some(of_enum) = schema.enum_of(&field.type_name) else {
         return Err(foreign(field, words));
     };
-    if !of_enum.is_proto3 {
+    if !of_enum.origin.is_proto3 {
         return Err(words.refused("$full$.$proto$: closed enums are not generated"));
     }
     set_names(&of_enum.words, words);
@@ -228,7 +228,20 @@ fn set_message(message: &MessageType, is_group: bool, words: &mut Words) -> Sort
 fn set_names(of: &Words, words: &mut Words) {
     words.set("of_name", of.get("name"));
     words.set("of_module", of.get("module"));
-    words.fill("specs", "Rattle.$crate$.specs.$of_name$");
+    words.set("of_crate", of.get("home"));
+    let is_own = words.get("of_crate") == words.get("crate");
+    words.fill(
+        "of_path",
+        if is_own {
+            "crate::$of_module$"
+        } else {
+            "$of_crate$"
+        },
+    );
+    words.fill_all(&[
+        ("of_specs", "Rattle.$of_crate$.specs"),
+        ("specs", "$of_specs$.$of_name$"),
+    ]);
 }
 
 /// Makes the value's type in brackets, where it has several words, the word `bracketed`.

@@ -63,12 +63,7 @@ impl Kind for $name$Kind {
         None
     }
 
-    fn len(
-        _number: u32,
-        held: &Option<$name$>,
-        cache: &mut SizeCache,
-    ) -> Result<u64, EncodeError> {
-        laws::flat_messages_have_no_sizes();
+$len_head$        laws::flat_messages_have_no_sizes();
         match held {
 $lens$            None => Ok(0),
         }
@@ -140,6 +135,18 @@ fn take_$word$(alloc: Global, held: &mut Option<$name$>) -> $held$
 }
 ";
 
+const LEN: &str = "    \
+    fn len(_number: u32, held: &Option<$name$>, cache: &mut SizeCache) -> Result<u64, EncodeError> {
+";
+
+const LONG_LEN: &str = "    \
+    fn len(
+        _number: u32,
+        held: &Option<$name$>,
+        cache: &mut SizeCache,
+    ) -> Result<u64, EncodeError> {
+";
+
 const OF_VARIANT: [Template; 7] = [
     ("declared", "    $variant$($held$),\n"),
     ("variants", VARIANT),
@@ -172,6 +179,11 @@ pub(crate) fn oneof_code(base: &Words, oneof: &Oneof) -> Result<String, Generate
         page.append_all(&OF_VARIANT);
         put_calls(&mut page);
         put_arm(&mut page, place, last);
+    }
+    page.fill("len_head", LEN);
+    // (its line's end counted)
+    if page.get("len_head").len() > WIDTH + 1 {
+        page.fill("len_head", LONG_LEN);
     }
     ghost_imports(&mut page);
     code_imports(&mut page);

@@ -20,7 +20,7 @@ const README: &str = "\
 
 Message types that were generated from schemas. The line of crates.txt is
 
-    $crate$: wire_codec wire_fields bytes
+    $crate$: wire_codec wire_fields$needs$ bytes
 
 `rt check` proves of each type that encoding writes exactly the shortest encoding of the records
 that `specs/` tells of a value, and that decoding takes exactly the bytes that spell records of its
@@ -64,41 +64,64 @@ fn files_of(
 ) -> Result<Vec<CodeGeneratorResponseFile>, GenerateError> {
     let mut base = Words::new(alloc);
     set_crate(&mut base, request)?;
-    let schema = Schema::of(alloc, request)?;
+    let schema = Schema::of(&base, request)?;
     let mut package = Package {
         roots: Words::like(&base),
         base,
         files: Vec::new(alloc),
     };
     for message in &schema.messages {
-        package.add_message(&schema, message)?;
+        if message.origin.is_own {
+            package.add_message(&schema, message)?;
+        }
     }
     for of_enum in &schema.enums {
-        package.add_enum(&schema, of_enum)?;
+        if of_enum.origin.is_own {
+            package.add_enum(&schema, of_enum)?;
+        }
     }
     package.add_roots()?;
     Ok(package.files)
 }
 
-// What the parameter `crate=NAME` says, or else the name of the first file.
+// What the parameter says: `crate=NAME` is the crate's own name, or else that of the first file, and
+// each `import=PACKAGE=CRATE` names the crate that has another package.
 fn set_crate(base: &mut Words, request: &CodeGeneratorRequest) -> Result<(), GenerateError> {
-    let parameter = request.parameter.as_str();
-    if !parameter.is_empty() {
-        let Some(name) = parameter.strip_prefix("crate=") else {
-            base.set("parameter", parameter);
-            return Err(base.refused("the parameter is crate=NAME, and not $parameter$"));
-        };
-        base.set("crate", name);
-        return Ok(());
+    base.set("crate", first_name(request));
+    for option in request.parameter.split(',') {
+        base.set("option", option);
+        match option.split_once('=') {
+            Some(("crate", name)) => base.set("crate", name),
+            Some(("import", import)) => {
+                let Some((package, home)) = import.split_once('=') else {
+                    return Err(base.refused("an import is import=PACKAGE=CRATE: $option$"));
+                };
+                base.set("package", package);
+                base.set("home", home);
+                base.append_all(&[("imported", "$package$ $home$\n"), ("needs", " $home$")]);
+            }
+            None if option.is_empty() => {}
+            _ => {
+                let why = "parameters are crate=NAME and import=PACKAGE=CRATE: $option$";
+                return Err(base.refused(why));
+            }
+        }
     }
-    let Some(file) = request.file_to_generate.first() else {
+    if base.get("crate").is_empty() {
         return Err(base.refused("no file is to be generated"));
+    }
+    Ok(())
+}
+
+// What the first file is called.
+fn first_name(request: &CodeGeneratorRequest) -> &str {
+    let Some(file) = request.file_to_generate.first() else {
+        return "";
     };
     let path = file.as_str();
     let path = path.strip_suffix(".proto").unwrap_or(path);
     let (_, name) = path.rsplit_once('/').unwrap_or(("", path));
-    base.set("crate", name);
-    Ok(())
+    name
 }
 
 // The files so far. The words of the roots are lines of the files that name the others.

@@ -12,12 +12,21 @@ use wire_descriptor::{
 // The most message types of one file.
 const MOST_MESSAGES: u32 = 100_000;
 
+/// What a type has of its file.
+#[derive(Clone, Copy)]
+pub(crate) struct Origin {
+    pub is_proto3: bool,
+    /// Whether it is generated, and not of another crate.
+    pub is_own: bool,
+}
+
 /// A message type. Its words are `full`, its name in schemas, as `.package.Outer.Inner`; `name`,
-/// the one in code, and `module`; and `place`, its file and the numbers that lead there.
+/// the one in code, and `module`; `outer`, the names of the types that it stands in and its own;
+/// `home`, its crate; and `place`, its file and the numbers that lead there.
 #[derive(Drop)]
 pub(crate) struct MessageType {
     pub words: Words,
-    pub is_proto3: bool,
+    pub origin: Origin,
     pub descriptor: DescriptorProto,
 }
 
@@ -25,7 +34,7 @@ pub(crate) struct MessageType {
 #[derive(Drop)]
 pub(crate) struct EnumType {
     pub words: Words,
-    pub is_proto3: bool,
+    pub origin: Origin,
     pub descriptor: EnumDescriptorProto,
 }
 
@@ -47,11 +56,13 @@ pub(crate) struct Schema {
 }
 
 impl Schema {
-    /// The types of the files that are to be generated.
+    /// The types of the files that are to be generated, and of those whose packages another crate
+    /// has.
     pub(crate) fn of(
-        alloc: Global,
+        base: &Words,
         request: &CodeGeneratorRequest,
     ) -> Result<Schema, GenerateError> {
+        let alloc = base.alloc();
         let mut schema = Schema {
             alloc,
             messages: Vec::new(alloc),
@@ -60,31 +71,48 @@ impl Schema {
             comments: Vec::new(alloc),
         };
         for file in &request.proto_file {
-            if request.file_to_generate.contains(&file.name) {
-                schema.add_file(file)?;
+            let is_own = request.file_to_generate.contains(&file.name);
+            let home = if is_own {
+                base.get("crate")
+            } else {
+                home_of(&file.package, base.get("imported"))
+            };
+            if !home.is_empty() {
+                schema.add_file(file, is_own, home)?;
             }
         }
         schema.stop_on_cycles()?;
         Ok(schema)
     }
 
-    fn add_file(&mut self, file: &FileDescriptorProto) -> Result<(), GenerateError> {
+    fn add_file(
+        &mut self,
+        file: &FileDescriptorProto,
+        is_own: bool,
+        home: &str,
+    ) -> Result<(), GenerateError> {
         let mut words = Words::new(self.alloc);
+        words.set("home", home);
         words.set("file", &file.name);
         words.set("place", &file.name);
         if !file.package.is_empty() {
             words.set("package", &file.package);
             words.fill("full", ".$package$");
         }
-        stop_on_rest(file, &mut words)?;
-        self.add_comments(file)?;
-        let is_proto3 = file.syntax_.as_str() == "proto3";
-        self.add_enums(&words, "$place$.5.$index$", &file.enum_type, is_proto3)?;
+        if is_own {
+            stop_on_rest(file, &mut words)?;
+            self.add_comments(file)?;
+        }
+        let origin = Origin {
+            is_proto3: file.syntax_.as_str() == "proto3",
+            is_own,
+        };
+        self.add_enums(&words, "$place$.5.$index$", &file.enum_type, origin)?;
         let mut pending = Vec::new(self.alloc);
         for (index, descriptor) in file.message_type.iter().enumerate() {
             pending.push(MessageType {
                 words: inner(&words, &descriptor.name, "$place$.4.$index$", index)?,
-                is_proto3,
+                origin,
                 descriptor: descriptor.clone()?,
             })?;
         }
@@ -104,7 +132,8 @@ impl Schema {
         pending: &mut Vec<MessageType>,
     ) -> Result<(), GenerateError> {
         let descriptor = &message.descriptor;
-        if !descriptor.extension_range.is_empty() || !descriptor.extension.is_empty() {
+        let extends = !descriptor.extension_range.is_empty() || !descriptor.extension.is_empty();
+        if extends && message.origin.is_own {
             return Err(
                 message
                     .words
@@ -118,17 +147,12 @@ impl Schema {
             };
             pending.push(MessageType {
                 words: inner(&message.words, &descriptor.name, "$place$.3.$index$", index)?,
-                is_proto3: message.is_proto3,
+                origin: message.origin,
                 descriptor,
             })?;
         }
         let enums = &descriptor.enum_type;
-        self.add_enums(
-            &message.words,
-            "$place$.4.$index$",
-            enums,
-            message.is_proto3,
-        )?;
+        self.add_enums(&message.words, "$place$.4.$index$", enums, message.origin)?;
         let is_entry = match &descriptor.options {
             Some(options) => options.map_entry,
             None => false,
@@ -147,12 +171,12 @@ impl Schema {
         outer: &Words,
         place: &str,
         enums: &[EnumDescriptorProto],
-        is_proto3: bool,
+        origin: Origin,
     ) -> Result<(), GenerateError> {
         for (index, descriptor) in enums.iter().enumerate() {
             self.enums.push(EnumType {
                 words: inner(outer, &descriptor.name, place, index)?,
-                is_proto3,
+                origin,
                 descriptor: descriptor.clone()?,
             })?;
         }
@@ -252,6 +276,18 @@ impl Schema {
     }
 }
 
+// The crate that has a package, of lines of a package and a crate each.
+fn home_of<'a>(package: &str, imported: &'a str) -> &'a str {
+    for line in imported.split('\n') {
+        if let Some((of, home)) = line.split_once(' ') {
+            if of == package {
+                return home;
+            }
+        }
+    }
+    ""
+}
+
 fn is_among(name: &str, names: &[String]) -> bool {
     names.iter().any(|it| it.as_str() == name)
 }
@@ -265,8 +301,8 @@ fn inner(outer: &Words, name: &str, place: &str, index: usize) -> Result<Words, 
     words.index("index", index);
     words.fill("place", place);
     words.fill("full", "$full$.$name$");
-    words.append("path", "$name$.");
-    let name = type_name(alloc, words.get("path"))?;
+    words.append("outer", "$name$.");
+    let name = type_name(alloc, words.get("outer"))?;
     let module = word_name(alloc, &name)?;
     words.set("name", &name);
     words.set("module", &module);

@@ -1,0 +1,82 @@
+//! Messages that are read and written again. Standard input has a line for each: the name of its
+//! type, and its bytes in hexadecimal digits. Standard output gets a line for each: the shortest
+//! encoding of what was read, or why there is none.
+#![tactic(auto)]
+
+use std::alloc::Global;
+use std::io;
+use std::io::Read;
+use std::process::ExitCode;
+use wire_codec::{DecodeError, EncodeError, Message};
+use wire_report::{Report, ReportSample};
+use wire_well_known::{
+    Any, BoolValue, BytesValue, DoubleValue, Duration, FieldMask, FloatValue, Int32Value,
+    Int64Value, StringValue, Timestamp, UInt32Value, UInt64Value,
+};
+
+/// Why a line has no message.
+enum MirrorError {
+    NoType,
+    NoDigits,
+    Refused(DecodeError),
+    TooLarge(EncodeError),
+    OutOfMemory,
+}
+
+fn main(rt: HostRuntime) -> io::Result<ExitCode> {
+    let mut input = String::new(rt.alloc());
+    rt.stdin().read_to_string(&mut input)?;
+    for line in input.lines() {
+        let (name, digits) = line.split_once(' ').unwrap_or((line, ""));
+        match answer(rt.alloc(), name, digits) {
+            Ok(digits) => println!(rt; "{digits}")?,
+            Err(MirrorError::Refused(error)) => println!(rt; "refused: {error}")?,
+            Err(MirrorError::TooLarge(error)) => println!(rt; "too large: {error}")?,
+            Err(MirrorError::NoType) => println!(rt; "no type is called {name}")?,
+            Err(MirrorError::NoDigits) => println!(rt; "no digits: {digits}")?,
+            Err(MirrorError::OutOfMemory) => println!(rt; "out of memory")?,
+        }
+    }
+    Ok(ExitCode::SUCCESS)
+}
+
+fn answer(alloc: Global, name: &str, digits: &str) -> Result<String, MirrorError> {
+    match name {
+        "Report" => mirrored::<Report>(alloc, digits),
+        "ReportSample" => mirrored::<ReportSample>(alloc, digits),
+        "Any" => mirrored::<Any>(alloc, digits),
+        "Duration" => mirrored::<Duration>(alloc, digits),
+        "FieldMask" => mirrored::<FieldMask>(alloc, digits),
+        "Timestamp" => mirrored::<Timestamp>(alloc, digits),
+        "BoolValue" => mirrored::<BoolValue>(alloc, digits),
+        "BytesValue" => mirrored::<BytesValue>(alloc, digits),
+        "DoubleValue" => mirrored::<DoubleValue>(alloc, digits),
+        "FloatValue" => mirrored::<FloatValue>(alloc, digits),
+        "Int32Value" => mirrored::<Int32Value>(alloc, digits),
+        "Int64Value" => mirrored::<Int64Value>(alloc, digits),
+        "StringValue" => mirrored::<StringValue>(alloc, digits),
+        "UInt32Value" => mirrored::<UInt32Value>(alloc, digits),
+        "UInt64Value" => mirrored::<UInt64Value>(alloc, digits),
+        _ => Err(MirrorError::NoType),
+    }
+}
+
+fn mirrored<M: Message>(alloc: Global, digits: &str) -> Result<String, MirrorError> {
+    let bytes = match hex::decode(alloc, digits) {
+        Ok(bytes) => bytes,
+        Err(hex::FromHexError::OutOfMemory) => return Err(MirrorError::OutOfMemory),
+        Err(_) => return Err(MirrorError::NoDigits),
+    };
+    let message = match M::decode_from_slice(alloc, &bytes) {
+        Ok(message) => message,
+        Err(error) => return Err(MirrorError::Refused(error)),
+    };
+    let bytes = match message.try_encode_to_vec(alloc) {
+        Ok(bytes) => bytes,
+        Err(error) => return Err(MirrorError::TooLarge(error)),
+    };
+    match hex::encode(alloc, bytes) {
+        Ok(digits) => Ok(digits),
+        Err(_) => Err(MirrorError::OutOfMemory),
+    }
+}

@@ -1,0 +1,33 @@
+-- A `FieldMask` as contracts see it, and the table of its fields. Generated.
+use Rattle.std.specs.Prelude.{List, map, string_bytes, ℕ}
+use Rattle.wire_codec.specs.Field.{Fields}
+use Rattle.wire_fields.specs.Presence.{repeated}
+use Rattle.wire_fields.specs.Shape.{Lawful, Shape, known, two, unknown}
+use Rattle.wire_fields.specs.Texts.{string}
+use Rattle.wire_well_known.specs.declared.field_mask.FieldMask.{FieldMask}
+
+abbrev pub field_mask-paths-kind : Lawful (List (List ℕ))
+field_mask-paths-kind = repeated 24 string
+
+abbrev pub FieldMask-Known : Type 0
+FieldMask-Known =
+    (List (List ℕ))
+
+abbrev pub FieldMask-Value : Type 0
+FieldMask-Value = FieldMask-Known × Fields
+
+abbrev pub field_mask-value : FieldMask → FieldMask-Value
+field_mask-value m = (
+  map (λ s. string_bytes s) m.paths.items,
+  m.unknown,
+)
+
+abbrev pub paths-of-field_mask : FieldMask-Value → List (List ℕ)
+paths-of-field_mask m = m.0
+
+abbrev pub field_mask-known : Shape FieldMask-Known
+field_mask-known =
+    known 1 field_mask-paths-kind
+
+abbrev pub field_mask-shape : Shape FieldMask-Value
+field_mask-shape = two field_mask-known unknown

@@ -1,0 +1,13 @@
+pub mod Any
+pub mod BoolValue
+pub mod BytesValue
+pub mod DoubleValue
+pub mod Duration
+pub mod FieldMask
+pub mod FloatValue
+pub mod Int32Value
+pub mod Int64Value
+pub mod StringValue
+pub mod Timestamp
+pub mod UInt32Value
+pub mod UInt64Value

@@ -1,0 +1,35 @@
+-- A `UInt64Value` as contracts see it, and the table of its fields. Generated.
+use Rattle.std.specs.Prelude.{ℕ}
+use Rattle.wire_codec.specs.Field.{Fields}
+use Rattle.wire_codec.specs.ValueMap.{uint64}
+use Rattle.wire_fields.specs.Numbers.{numeric}
+use Rattle.wire_fields.specs.Presence.{implicit}
+use Rattle.wire_fields.specs.Shape.{Lawful, Shape, known, two, unknown}
+use Rattle.wire_fields.specs.declared.form.Form.TheVariants.{Varint}
+use Rattle.wire_well_known.specs.declared.uint64_value.UInt64Value.{UInt64Value}
+
+abbrev pub uint64_value-value-kind : Lawful ℕ
+uint64_value-value-kind = implicit (numeric Varint uint64)
+
+abbrev pub UInt64Value-Known : Type 0
+UInt64Value-Known =
+    ℕ
+
+abbrev pub UInt64Value-Value : Type 0
+UInt64Value-Value = UInt64Value-Known × Fields
+
+abbrev pub uint64_value-value : UInt64Value → UInt64Value-Value
+uint64_value-value m = (
+  m.value,
+  m.unknown,
+)
+
+abbrev pub value-of-uint64_value : UInt64Value-Value → ℕ
+value-of-uint64_value m = m.0
+
+abbrev pub uint64_value-known : Shape UInt64Value-Known
+uint64_value-known =
+    known 1 uint64_value-value-kind
+
+abbrev pub uint64_value-shape : Shape UInt64Value-Value
+uint64_value-shape = two uint64_value-known unknown

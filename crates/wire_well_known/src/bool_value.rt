@@ -1,0 +1,84 @@
+//! The message `google.protobuf.BoolValue`. Generated.
+use bytes::Buf;
+use std::alloc::Global;
+use wire_codec::{
+    DecodeContext, DecodeError, EncodeError, EncodeSink, Message, SizeCache, Tag, UnknownFields,
+};
+use wire_fields::{Bool, Implicit, Kind, Known, Rest, keep, measure, write};
+
+/// A `bool` that may be missing.
+#[derive(Clone, Debug, Drop, PartialEq)]
+pub struct BoolValue {
+    pub value: bool,
+    /// The fields that the schema lacks, as they came.
+    pub unknown: UnknownFields,
+}
+
+impl Message for BoolValue {
+    ghost use Rattle.wire_well_known.specs.BoolValue.{BoolValue-Value};
+    ghost use Rattle.wire_well_known.specs.BoolValue.{bool_value-value};
+    ghost use Rattle.wire_well_known.specs.BoolValue.{bool_value-shape};
+
+    ghost Value = { BoolValue-Value };
+
+    ghost view = { bool_value-value };
+
+    ghost records = { bool_value-shape.records };
+
+    ghost default = { bool_value-shape.default };
+
+    ghost takes = { bool_value-shape.takes };
+
+    ghost single = { bool_value-shape.single };
+
+    fn default_value(alloc: Global) -> BoolValue {
+        BoolValue {
+            value: <Implicit<Bool> as Kind>::empty(alloc),
+            unknown: UnknownFields::new(alloc),
+        }
+    }
+
+    fn compute_size(&self, cache: &mut SizeCache) -> Result<u32, EncodeError> {
+        let field_1: Known<Implicit<Bool>> = Known {
+            number: 1,
+            held: &self.value,
+        };
+        let rest = Rest {
+            fields: &self.unknown,
+        };
+        measure((field_1, rest), cache)
+    }
+
+    fn write_to<S: EncodeSink>(
+        &self,
+        cache: &mut SizeCache,
+        sink: &mut S,
+    ) -> Result<(), EncodeError> {
+        let field_1: Known<Implicit<Bool>> = Known {
+            number: 1,
+            held: &self.value,
+        };
+        let rest = Rest {
+            fields: &self.unknown,
+        };
+        write((field_1, rest), cache, sink)
+    }
+
+    fn merge_field<B: Buf>(
+        &mut self,
+        alloc: Global,
+        tag: Tag,
+        buf: &mut B,
+        context: &mut DecodeContext,
+    ) -> Result<(), DecodeError> {
+        match tag.field_number() {
+            1 => <Implicit<Bool> as Kind>::merge(alloc, tag, &mut self.value, buf, context),
+            _ => keep(alloc, tag, &mut self.unknown, buf, context),
+        }
+    }
+
+    fn clear(&mut self) {
+        <Implicit<Bool> as Kind>::clear(&mut self.value);
+        self.unknown.clear();
+    }
+}

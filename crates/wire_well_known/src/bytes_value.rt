@@ -1,0 +1,84 @@
+//! The message `google.protobuf.BytesValue`. Generated.
+use bytes::Buf;
+use std::alloc::Global;
+use wire_codec::{
+    DecodeContext, DecodeError, EncodeError, EncodeSink, Message, SizeCache, Tag, UnknownFields,
+};
+use wire_fields::{Blob, Implicit, Kind, Known, Rest, keep, measure, write};
+
+/// `bytes` that may be missing.
+#[derive(Clone, Debug, Drop, PartialEq)]
+pub struct BytesValue {
+    pub value: Vec<u8>,
+    /// The fields that the schema lacks, as they came.
+    pub unknown: UnknownFields,
+}
+
+impl Message for BytesValue {
+    ghost use Rattle.wire_well_known.specs.BytesValue.{BytesValue-Value};
+    ghost use Rattle.wire_well_known.specs.BytesValue.{bytes_value-value};
+    ghost use Rattle.wire_well_known.specs.BytesValue.{bytes_value-shape};
+
+    ghost Value = { BytesValue-Value };
+
+    ghost view = { bytes_value-value };
+
+    ghost records = { bytes_value-shape.records };
+
+    ghost default = { bytes_value-shape.default };
+
+    ghost takes = { bytes_value-shape.takes };
+
+    ghost single = { bytes_value-shape.single };
+
+    fn default_value(alloc: Global) -> BytesValue {
+        BytesValue {
+            value: <Implicit<Blob> as Kind>::empty(alloc),
+            unknown: UnknownFields::new(alloc),
+        }
+    }
+
+    fn compute_size(&self, cache: &mut SizeCache) -> Result<u32, EncodeError> {
+        let field_1: Known<Implicit<Blob>> = Known {
+            number: 1,
+            held: &self.value,
+        };
+        let rest = Rest {
+            fields: &self.unknown,
+        };
+        measure((field_1, rest), cache)
+    }
+
+    fn write_to<S: EncodeSink>(
+        &self,
+        cache: &mut SizeCache,
+        sink: &mut S,
+    ) -> Result<(), EncodeError> {
+        let field_1: Known<Implicit<Blob>> = Known {
+            number: 1,
+            held: &self.value,
+        };
+        let rest = Rest {
+            fields: &self.unknown,
+        };
+        write((field_1, rest), cache, sink)
+    }
+
+    fn merge_field<B: Buf>(
+        &mut self,
+        alloc: Global,
+        tag: Tag,
+        buf: &mut B,
+        context: &mut DecodeContext,
+    ) -> Result<(), DecodeError> {
+        match tag.field_number() {
+            1 => <Implicit<Blob> as Kind>::merge(alloc, tag, &mut self.value, buf, context),
+            _ => keep(alloc, tag, &mut self.unknown, buf, context),
+        }
+    }
+
+    fn clear(&mut self) {
+        <Implicit<Blob> as Kind>::clear(&mut self.value);
+        self.unknown.clear();
+    }
+}

@@ -1,0 +1,99 @@
+//! The message `google.protobuf.Duration`. Generated.
+use bytes::Buf;
+use std::alloc::Global;
+use wire_codec::{
+    DecodeContext, DecodeError, EncodeError, EncodeSink, Message, SizeCache, Tag, UnknownFields,
+};
+use wire_fields::{Implicit, Int32, Int64, Kind, Known, Rest, keep, measure, write};
+
+/// A span of time.
+#[derive(Clone, Debug, Drop, PartialEq)]
+pub struct Duration {
+    pub seconds: i64,
+    /// Fractions of a second, of the sign of `seconds`, below 1,000,000,000.
+    pub nanos: i32,
+    /// The fields that the schema lacks, as they came.
+    pub unknown: UnknownFields,
+}
+
+impl Message for Duration {
+    ghost use Rattle.wire_well_known.specs.Duration.{Duration-Value};
+    ghost use Rattle.wire_well_known.specs.Duration.{duration-value};
+    ghost use Rattle.wire_well_known.specs.Duration.{duration-shape};
+
+    ghost Value = { Duration-Value };
+
+    ghost view = { duration-value };
+
+    ghost records = { duration-shape.records };
+
+    ghost default = { duration-shape.default };
+
+    ghost takes = { duration-shape.takes };
+
+    ghost single = { duration-shape.single };
+
+    fn default_value(alloc: Global) -> Duration {
+        Duration {
+            seconds: <Implicit<Int64> as Kind>::empty(alloc),
+            nanos: <Implicit<Int32> as Kind>::empty(alloc),
+            unknown: UnknownFields::new(alloc),
+        }
+    }
+
+    fn compute_size(&self, cache: &mut SizeCache) -> Result<u32, EncodeError> {
+        let field_1: Known<Implicit<Int64>> = Known {
+            number: 1,
+            held: &self.seconds,
+        };
+        let field_2: Known<Implicit<Int32>> = Known {
+            number: 2,
+            held: &self.nanos,
+        };
+        let fields_1_to_2 = (field_1, field_2);
+        let rest = Rest {
+            fields: &self.unknown,
+        };
+        measure((fields_1_to_2, rest), cache)
+    }
+
+    fn write_to<S: EncodeSink>(
+        &self,
+        cache: &mut SizeCache,
+        sink: &mut S,
+    ) -> Result<(), EncodeError> {
+        let field_1: Known<Implicit<Int64>> = Known {
+            number: 1,
+            held: &self.seconds,
+        };
+        let field_2: Known<Implicit<Int32>> = Known {
+            number: 2,
+            held: &self.nanos,
+        };
+        let fields_1_to_2 = (field_1, field_2);
+        let rest = Rest {
+            fields: &self.unknown,
+        };
+        write((fields_1_to_2, rest), cache, sink)
+    }
+
+    fn merge_field<B: Buf>(
+        &mut self,
+        alloc: Global,
+        tag: Tag,
+        buf: &mut B,
+        context: &mut DecodeContext,
+    ) -> Result<(), DecodeError> {
+        match tag.field_number() {
+            1 => <Implicit<Int64> as Kind>::merge(alloc, tag, &mut self.seconds, buf, context),
+            2 => <Implicit<Int32> as Kind>::merge(alloc, tag, &mut self.nanos, buf, context),
+            _ => keep(alloc, tag, &mut self.unknown, buf, context),
+        }
+    }
+
+    fn clear(&mut self) {
+        <Implicit<Int64> as Kind>::clear(&mut self.seconds);
+        <Implicit<Int32> as Kind>::clear(&mut self.nanos);
+        self.unknown.clear();
+    }
+}

@@ -1,0 +1,85 @@
+//! The message `google.protobuf.FieldMask`. Generated.
+use bytes::Buf;
+use std::alloc::Global;
+use wire_codec::{
+    DecodeContext, DecodeError, EncodeError, EncodeSink, Message, SizeCache, Tag, UnknownFields,
+};
+use wire_fields::{Kind, Known, Repeated, Rest, Text, keep, measure, write};
+
+/// A choice of fields.
+#[derive(Clone, Debug, Drop, PartialEq)]
+pub struct FieldMask {
+    /// Each the names of fields from a message to one within it, with dots between.
+    pub paths: Vec<String>,
+    /// The fields that the schema lacks, as they came.
+    pub unknown: UnknownFields,
+}
+
+impl Message for FieldMask {
+    ghost use Rattle.wire_well_known.specs.FieldMask.{FieldMask-Value};
+    ghost use Rattle.wire_well_known.specs.FieldMask.{field_mask-value};
+    ghost use Rattle.wire_well_known.specs.FieldMask.{field_mask-shape};
+
+    ghost Value = { FieldMask-Value };
+
+    ghost view = { field_mask-value };
+
+    ghost records = { field_mask-shape.records };
+
+    ghost default = { field_mask-shape.default };
+
+    ghost takes = { field_mask-shape.takes };
+
+    ghost single = { field_mask-shape.single };
+
+    fn default_value(alloc: Global) -> FieldMask {
+        FieldMask {
+            paths: <Repeated<Text, 24> as Kind>::empty(alloc),
+            unknown: UnknownFields::new(alloc),
+        }
+    }
+
+    fn compute_size(&self, cache: &mut SizeCache) -> Result<u32, EncodeError> {
+        let field_1: Known<Repeated<Text, 24>> = Known {
+            number: 1,
+            held: &self.paths,
+        };
+        let rest = Rest {
+            fields: &self.unknown,
+        };
+        measure((field_1, rest), cache)
+    }
+
+    fn write_to<S: EncodeSink>(
+        &self,
+        cache: &mut SizeCache,
+        sink: &mut S,
+    ) -> Result<(), EncodeError> {
+        let field_1: Known<Repeated<Text, 24>> = Known {
+            number: 1,
+            held: &self.paths,
+        };
+        let rest = Rest {
+            fields: &self.unknown,
+        };
+        write((field_1, rest), cache, sink)
+    }
+
+    fn merge_field<B: Buf>(
+        &mut self,
+        alloc: Global,
+        tag: Tag,
+        buf: &mut B,
+        context: &mut DecodeContext,
+    ) -> Result<(), DecodeError> {
+        match tag.field_number() {
+            1 => <Repeated<Text, 24> as Kind>::merge(alloc, tag, &mut self.paths, buf, context),
+            _ => keep(alloc, tag, &mut self.unknown, buf, context),
+        }
+    }
+
+    fn clear(&mut self) {
+        <Repeated<Text, 24> as Kind>::clear(&mut self.paths);
+        self.unknown.clear();
+    }
+}

@@ -1,0 +1,84 @@
+//! The message `google.protobuf.FloatValue`. Generated.
+use bytes::Buf;
+use std::alloc::Global;
+use wire_codec::{
+    DecodeContext, DecodeError, EncodeError, EncodeSink, Message, SizeCache, Tag, UnknownFields,
+};
+use wire_fields::{Float, FloatBits, Implicit, Kind, Known, Rest, keep, measure, write};
+
+/// A `float` that may be missing.
+#[derive(Clone, Debug, Drop, PartialEq)]
+pub struct FloatValue {
+    pub value: FloatBits,
+    /// The fields that the schema lacks, as they came.
+    pub unknown: UnknownFields,
+}
+
+impl Message for FloatValue {
+    ghost use Rattle.wire_well_known.specs.FloatValue.{FloatValue-Value};
+    ghost use Rattle.wire_well_known.specs.FloatValue.{float_value-value};
+    ghost use Rattle.wire_well_known.specs.FloatValue.{float_value-shape};
+
+    ghost Value = { FloatValue-Value };
+
+    ghost view = { float_value-value };
+
+    ghost records = { float_value-shape.records };
+
+    ghost default = { float_value-shape.default };
+
+    ghost takes = { float_value-shape.takes };
+
+    ghost single = { float_value-shape.single };
+
+    fn default_value(alloc: Global) -> FloatValue {
+        FloatValue {
+            value: <Implicit<Float> as Kind>::empty(alloc),
+            unknown: UnknownFields::new(alloc),
+        }
+    }
+
+    fn compute_size(&self, cache: &mut SizeCache) -> Result<u32, EncodeError> {
+        let field_1: Known<Implicit<Float>> = Known {
+            number: 1,
+            held: &self.value,
+        };
+        let rest = Rest {
+            fields: &self.unknown,
+        };
+        measure((field_1, rest), cache)
+    }
+
+    fn write_to<S: EncodeSink>(
+        &self,
+        cache: &mut SizeCache,
+        sink: &mut S,
+    ) -> Result<(), EncodeError> {
+        let field_1: Known<Implicit<Float>> = Known {
+            number: 1,
+            held: &self.value,
+        };
+        let rest = Rest {
+            fields: &self.unknown,
+        };
+        write((field_1, rest), cache, sink)
+    }
+
+    fn merge_field<B: Buf>(
+        &mut self,
+        alloc: Global,
+        tag: Tag,
+        buf: &mut B,
+        context: &mut DecodeContext,
+    ) -> Result<(), DecodeError> {
+        match tag.field_number() {
+            1 => <Implicit<Float> as Kind>::merge(alloc, tag, &mut self.value, buf, context),
+            _ => keep(alloc, tag, &mut self.unknown, buf, context),
+        }
+    }
+
+    fn clear(&mut self) {
+        <Implicit<Float> as Kind>::clear(&mut self.value);
+        self.unknown.clear();
+    }
+}

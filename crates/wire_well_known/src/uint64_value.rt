@@ -1,0 +1,84 @@
+//! The message `google.protobuf.UInt64Value`. Generated.
+use bytes::Buf;
+use std::alloc::Global;
+use wire_codec::{
+    DecodeContext, DecodeError, EncodeError, EncodeSink, Message, SizeCache, Tag, UnknownFields,
+};
+use wire_fields::{Implicit, Kind, Known, Rest, Uint64, keep, measure, write};
+
+/// A `uint64` that may be missing.
+#[derive(Clone, Debug, Drop, PartialEq)]
+pub struct UInt64Value {
+    pub value: u64,
+    /// The fields that the schema lacks, as they came.
+    pub unknown: UnknownFields,
+}
+
+impl Message for UInt64Value {
+    ghost use Rattle.wire_well_known.specs.UInt64Value.{UInt64Value-Value};
+    ghost use Rattle.wire_well_known.specs.UInt64Value.{uint64_value-value};
+    ghost use Rattle.wire_well_known.specs.UInt64Value.{uint64_value-shape};
+
+    ghost Value = { UInt64Value-Value };
+
+    ghost view = { uint64_value-value };
+
+    ghost records = { uint64_value-shape.records };
+
+    ghost default = { uint64_value-shape.default };
+
+    ghost takes = { uint64_value-shape.takes };
+
+    ghost single = { uint64_value-shape.single };
+
+    fn default_value(alloc: Global) -> UInt64Value {
+        UInt64Value {
+            value: <Implicit<Uint64> as Kind>::empty(alloc),
+            unknown: UnknownFields::new(alloc),
+        }
+    }
+
+    fn compute_size(&self, cache: &mut SizeCache) -> Result<u32, EncodeError> {
+        let field_1: Known<Implicit<Uint64>> = Known {
+            number: 1,
+            held: &self.value,
+        };
+        let rest = Rest {
+            fields: &self.unknown,
+        };
+        measure((field_1, rest), cache)
+    }
+
+    fn write_to<S: EncodeSink>(
+        &self,
+        cache: &mut SizeCache,
+        sink: &mut S,
+    ) -> Result<(), EncodeError> {
+        let field_1: Known<Implicit<Uint64>> = Known {
+            number: 1,
+            held: &self.value,
+        };
+        let rest = Rest {
+            fields: &self.unknown,
+        };
+        write((field_1, rest), cache, sink)
+    }
+
+    fn merge_field<B: Buf>(
+        &mut self,
+        alloc: Global,
+        tag: Tag,
+        buf: &mut B,
+        context: &mut DecodeContext,
+    ) -> Result<(), DecodeError> {
+        match tag.field_number() {
+            1 => <Implicit<Uint64> as Kind>::merge(alloc, tag, &mut self.value, buf, context),
+            _ => keep(alloc, tag, &mut self.unknown, buf, context),
+        }
+    }
+
+    fn clear(&mut self) {
+        <Implicit<Uint64> as Kind>::clear(&mut self.value);
+        self.unknown.clear();
+    }
+}
