@@ -20,8 +20,6 @@ wire_codec Message
 wire_codec SizeCache
 wire_codec Tag
 wire_codec UnknownFields
-wire_fields Kind
-wire_fields Known
 wire_fields Rest
 wire_fields keep
 wire_fields measure
@@ -64,7 +62,7 @@ $emptied$            unknown: UnknownFields::new(alloc),
 $parts$$pairs$        let rest = Rest {
             fields: &self.unknown,
         };
-        measure(($local$, rest), cache)
+        measure($whole$, cache)
     }
 
     fn write_to<S: EncodeSink>(
@@ -75,7 +73,7 @@ $parts$$pairs$        let rest = Rest {
 $parts$$pairs$        let rest = Rest {
             fields: &self.unknown,
         };
-        write(($local$, rest), cache, sink)
+        write($whole$, cache, sink)
     }
 
     fn merge_field<B: Buf>(
@@ -85,10 +83,7 @@ $parts$$pairs$        let rest = Rest {
         buf: &mut B,
         context: &mut DecodeContext,
     ) -> Result<(), DecodeError> {
-        match tag.field_number() {
-$arms$            _ => keep(alloc, tag, &mut self.unknown, buf, context),
-        }
-    }
+$merge$    }
 
     fn clear(&mut self) {
 $cleared$        self.unknown.clear();
@@ -114,7 +109,27 @@ const LONG_ARM: &str = "            $number$ => <$kind$ as Kind>::merge(
             ),
 ";
 
-const OF_FIELD: [Template; 4] = [
+const OF_SOME: [Template; 2] = [
+    ("whole", "($local$, rest)"),
+    (
+        "merge",
+        "        match tag.field_number() {
+$arms$            _ => keep(alloc, tag, &mut self.unknown, buf, context),
+        }
+",
+    ),
+];
+
+const OF_NONE: [Template; 2] = [
+    ("whole", "rest"),
+    (
+        "merge",
+        "        keep(alloc, tag, &mut self.unknown, buf, context)\n",
+    ),
+];
+
+const OF_FIELD: [Template; 5] = [
+    ("uses", "$code$wire_fields Kind\nwire_fields Known\n"),
     ("declared", "    pub $field$: $held$,\n"),
     (
         "emptied",
@@ -145,6 +160,11 @@ pub(crate) fn code_of(
         );
         put_field(&mut page, schema, &field.words);
     }
+    page.fill_all(if fields.is_empty() {
+        &OF_NONE
+    } else {
+        &OF_SOME
+    });
     code_imports(&mut page);
     page.set("full", message.words.get("full").trim_start_matches('.'));
     page.fill("code", "//! The message `$full$`. Generated.\n$imports$\n");
@@ -162,7 +182,6 @@ fn put_field(page: &mut Words, schema: &Schema, field: &Words) {
     let comment = schema.comment(page.get("at"));
     put_comment(page, "declared", "    ", comment);
     page.append_all(&OF_FIELD);
-    page.append("uses", "$code$");
     for number in field.get("numbers").split(' ') {
         page.set("number", number);
         page.fill("arm", ARM);

@@ -6,12 +6,14 @@ use crate::words::Words;
 
 const USES: &str = "\
 Rattle.wire_codec.specs.Field Fields
-Rattle.wire_fields.specs.Shape Lawful
 Rattle.wire_fields.specs.Shape Shape
-Rattle.wire_fields.specs.Shape known
-Rattle.wire_fields.specs.Shape two
 Rattle.wire_fields.specs.Shape unknown
 Rattle.$crate$.specs.declared.$module$.$name$ $name$
+";
+
+const USES_OF_KIND: &str = "\
+Rattle.wire_fields.specs.Shape Lawful
+Rattle.wire_fields.specs.Shape known
 ";
 
 const HEAD: &str = "\
@@ -42,6 +44,17 @@ $module$-known =
 
 abbrev pub $module$-shape : Shape $name$-Value
 $module$-shape = two $module$-known unknown
+";
+
+const EMPTY: &str = "\
+abbrev pub $name$-Value : Type 0
+$name$-Value = Fields
+
+abbrev pub $module$-value : $name$ → $name$-Value
+$module$-value m = m.unknown
+
+abbrev pub $module$-shape : Shape $name$-Value
+$module$-shape = unknown
 ";
 
 const KIND: &str = "\
@@ -83,14 +96,18 @@ pub(crate) fn definitions_of(
                 "path",
             ],
         );
-        page.append("uses", "$definitions$");
+        page.append("uses", "$definitions$Rattle.wire_fields.specs.Shape two\n");
         page.append("accessors", ACCESSOR);
         if field.oneof.is_none() {
-            page.append("kinds", KIND);
+            page.append_all(&[("kinds", KIND), ("uses", USES_OF_KIND)]);
         }
     }
     definition_imports(&mut page);
-    page.fill_all(&[("text", HEAD)]);
-    page.append_all(&[("text", VALUE), ("text", SHAPE)]);
+    page.fill("text", HEAD);
+    page.append_all(if fields.is_empty() {
+        &[("text", EMPTY)]
+    } else {
+        &[("text", VALUE), ("text", SHAPE)]
+    });
     page.finish("text")
 }

@@ -153,9 +153,6 @@ impl Package {
     fn add_message(&mut self, schema: &Schema, message: &MessageType) -> Result<(), GenerateError> {
         let mut page = self.page(&message.words);
         let mut fields = fields_of(&self.base, schema, message)?;
-        if fields.is_empty() {
-            return Err(page.refused("$full$: a message without fields"));
-        }
         if fields.len() > MOST_FIELDS {
             return Err(page.refused("$full$: more than 20 fields"));
         }
@@ -168,6 +165,9 @@ impl Package {
             if let Some(oneof) = &field.oneof {
                 self.add_oneof(oneof)?;
             }
+        }
+        if fields.is_empty() {
+            return Ok(());
         }
         let path = "proofs/$module$/$name$Message/merge_field/Answers.antt";
         self.add(&mut page, path, answers)

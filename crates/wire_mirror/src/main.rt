@@ -10,7 +10,7 @@ use std::process::ExitCode;
 use wire_codec::{DecodeError, EncodeError, Message};
 use wire_report::{Report, ReportSample};
 use wire_well_known::{
-    Any, BoolValue, BytesValue, DoubleValue, Duration, FieldMask, FloatValue, Int32Value,
+    Any, BoolValue, BytesValue, DoubleValue, Duration, Empty, FieldMask, FloatValue, Int32Value,
     Int64Value, StringValue, Timestamp, UInt32Value, UInt64Value,
 };
 
@@ -45,6 +45,7 @@ fn answer(alloc: Global, name: &str, digits: &str) -> Result<String, MirrorError
         "Report" => mirrored::<Report>(alloc, digits),
         "ReportSample" => mirrored::<ReportSample>(alloc, digits),
         "Any" => mirrored::<Any>(alloc, digits),
+        "Empty" => mirrored::<Empty>(alloc, digits),
         "Duration" => mirrored::<Duration>(alloc, digits),
         "FieldMask" => mirrored::<FieldMask>(alloc, digits),
         "Timestamp" => mirrored::<Timestamp>(alloc, digits),

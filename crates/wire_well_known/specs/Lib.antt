@@ -3,6 +3,7 @@ pub mod BoolValue
 pub mod BytesValue
 pub mod DoubleValue
 pub mod Duration
+pub mod Empty
 pub mod FieldMask
 pub mod FloatValue
 pub mod Int32Value

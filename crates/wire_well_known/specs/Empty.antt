@@ -1,0 +1,13 @@
+-- A `Empty` as contracts see it, and the table of its fields. Generated.
+use Rattle.wire_codec.specs.Field.{Fields}
+use Rattle.wire_fields.specs.Shape.{Shape, unknown}
+use Rattle.wire_well_known.specs.declared.empty.Empty.{Empty}
+
+abbrev pub Empty-Value : Type 0
+Empty-Value = Fields
+
+abbrev pub empty-value : Empty → Empty-Value
+empty-value m = m.unknown
+
+abbrev pub empty-shape : Shape Empty-Value
+empty-shape = unknown

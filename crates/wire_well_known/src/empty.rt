@@ -1,0 +1,70 @@
+//! The message `google.protobuf.Empty`. Generated.
+use bytes::Buf;
+use std::alloc::Global;
+use wire_codec::{
+    DecodeContext, DecodeError, EncodeError, EncodeSink, Message, SizeCache, Tag, UnknownFields,
+};
+use wire_fields::{Rest, keep, measure, write};
+
+/// A message without fields.
+#[derive(Clone, Debug, Drop, PartialEq)]
+pub struct Empty {
+    /// The fields that the schema lacks, as they came.
+    pub unknown: UnknownFields,
+}
+
+impl Message for Empty {
+    ghost use Rattle.wire_well_known.specs.Empty.{Empty-Value};
+    ghost use Rattle.wire_well_known.specs.Empty.{empty-value};
+    ghost use Rattle.wire_well_known.specs.Empty.{empty-shape};
+
+    ghost Value = { Empty-Value };
+
+    ghost view = { empty-value };
+
+    ghost records = { empty-shape.records };
+
+    ghost default = { empty-shape.default };
+
+    ghost takes = { empty-shape.takes };
+
+    ghost single = { empty-shape.single };
+
+    fn default_value(alloc: Global) -> Empty {
+        Empty {
+            unknown: UnknownFields::new(alloc),
+        }
+    }
+
+    fn compute_size(&self, cache: &mut SizeCache) -> Result<u32, EncodeError> {
+        let rest = Rest {
+            fields: &self.unknown,
+        };
+        measure(rest, cache)
+    }
+
+    fn write_to<S: EncodeSink>(
+        &self,
+        cache: &mut SizeCache,
+        sink: &mut S,
+    ) -> Result<(), EncodeError> {
+        let rest = Rest {
+            fields: &self.unknown,
+        };
+        write(rest, cache, sink)
+    }
+
+    fn merge_field<B: Buf>(
+        &mut self,
+        alloc: Global,
+        tag: Tag,
+        buf: &mut B,
+        context: &mut DecodeContext,
+    ) -> Result<(), DecodeError> {
+        keep(alloc, tag, &mut self.unknown, buf, context)
+    }
+
+    fn clear(&mut self) {
+        self.unknown.clear();
+    }
+}
