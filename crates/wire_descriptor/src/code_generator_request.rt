@@ -3,7 +3,8 @@ use crate::file_descriptor_proto::FileDescriptorProto;
 use bytes::Buf;
 use std::alloc::Global;
 use wire_codec::{
-    DecodeContext, DecodeError, EncodeError, EncodeSink, Message, SizeCache, Tag, UnknownFields,
+    DecodeContext, DecodeError, EncodeError, EncodeSink, Message, MessageName, SizeCache, Tag,
+    UnknownFields,
 };
 use wire_fields::{
     EachEmbedded, Implicit, Kind, Known, Repeated, Rest, Text, keep, measure, write,
@@ -17,6 +18,16 @@ pub struct CodeGeneratorRequest {
     pub proto_file: Vec<FileDescriptorProto>,
     /// The fields that the schema lacks, as they came.
     pub unknown: UnknownFields,
+}
+
+impl MessageName for CodeGeneratorRequest {
+    const PACKAGE: &'static str = "schema";
+
+    const NAME: &'static str = "CodeGeneratorRequest";
+
+    const FULL_NAME: &'static str = "schema.CodeGeneratorRequest";
+
+    const TYPE_URL: &'static str = "type.googleapis.com/schema.CodeGeneratorRequest";
 }
 
 impl Message for CodeGeneratorRequest {

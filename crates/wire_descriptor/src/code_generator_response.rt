@@ -3,7 +3,8 @@ use crate::code_generator_response_file::CodeGeneratorResponseFile;
 use bytes::Buf;
 use std::alloc::Global;
 use wire_codec::{
-    DecodeContext, DecodeError, EncodeError, EncodeSink, Message, SizeCache, Tag, UnknownFields,
+    DecodeContext, DecodeError, EncodeError, EncodeSink, Message, MessageName, SizeCache, Tag,
+    UnknownFields,
 };
 use wire_fields::{EachEmbedded, Implicit, Kind, Known, Rest, Text, Uint64, keep, measure, write};
 
@@ -15,6 +16,16 @@ pub struct CodeGeneratorResponse {
     pub file: Vec<CodeGeneratorResponseFile>,
     /// The fields that the schema lacks, as they came.
     pub unknown: UnknownFields,
+}
+
+impl MessageName for CodeGeneratorResponse {
+    const PACKAGE: &'static str = "schema";
+
+    const NAME: &'static str = "CodeGeneratorResponse";
+
+    const FULL_NAME: &'static str = "schema.CodeGeneratorResponse";
+
+    const TYPE_URL: &'static str = "type.googleapis.com/schema.CodeGeneratorResponse";
 }
 
 impl Message for CodeGeneratorResponse {

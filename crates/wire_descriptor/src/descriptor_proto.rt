@@ -6,7 +6,8 @@ use crate::oneof_descriptor_proto::OneofDescriptorProto;
 use bytes::Buf;
 use std::alloc::Global;
 use wire_codec::{
-    DecodeContext, DecodeError, EncodeError, EncodeSink, Message, SizeCache, Tag, UnknownFields,
+    DecodeContext, DecodeError, EncodeError, EncodeSink, Message, MessageName, SizeCache, Tag,
+    UnknownFields,
 };
 use wire_fields::{
     Blob, EachEmbedded, Embedded, Implicit, Kind, Known, Repeated, Rest, Text, keep, measure, write,
@@ -26,6 +27,16 @@ pub struct DescriptorProto {
     pub oneof_decl: Vec<OneofDescriptorProto>,
     /// The fields that the schema lacks, as they came.
     pub unknown: UnknownFields,
+}
+
+impl MessageName for DescriptorProto {
+    const PACKAGE: &'static str = "schema";
+
+    const NAME: &'static str = "DescriptorProto";
+
+    const FULL_NAME: &'static str = "schema.DescriptorProto";
+
+    const TYPE_URL: &'static str = "type.googleapis.com/schema.DescriptorProto";
 }
 
 impl Message for DescriptorProto {

@@ -3,7 +3,8 @@ use crate::enum_value_descriptor_proto::EnumValueDescriptorProto;
 use bytes::Buf;
 use std::alloc::Global;
 use wire_codec::{
-    DecodeContext, DecodeError, EncodeError, EncodeSink, Message, SizeCache, Tag, UnknownFields,
+    DecodeContext, DecodeError, EncodeError, EncodeSink, Message, MessageName, SizeCache, Tag,
+    UnknownFields,
 };
 use wire_fields::{EachEmbedded, Implicit, Kind, Known, Rest, Text, keep, measure, write};
 
@@ -14,6 +15,16 @@ pub struct EnumDescriptorProto {
     pub value: Vec<EnumValueDescriptorProto>,
     /// The fields that the schema lacks, as they came.
     pub unknown: UnknownFields,
+}
+
+impl MessageName for EnumDescriptorProto {
+    const PACKAGE: &'static str = "schema";
+
+    const NAME: &'static str = "EnumDescriptorProto";
+
+    const FULL_NAME: &'static str = "schema.EnumDescriptorProto";
+
+    const TYPE_URL: &'static str = "type.googleapis.com/schema.EnumDescriptorProto";
 }
 
 impl Message for EnumDescriptorProto {

@@ -2,7 +2,8 @@
 use bytes::Buf;
 use std::alloc::Global;
 use wire_codec::{
-    DecodeContext, DecodeError, EncodeError, EncodeSink, Message, SizeCache, Tag, UnknownFields,
+    DecodeContext, DecodeError, EncodeError, EncodeSink, Message, MessageName, SizeCache, Tag,
+    UnknownFields,
 };
 use wire_fields::{Implicit, Int32, Kind, Known, Rest, Text, keep, measure, write};
 
@@ -13,6 +14,16 @@ pub struct EnumValueDescriptorProto {
     pub number: i32,
     /// The fields that the schema lacks, as they came.
     pub unknown: UnknownFields,
+}
+
+impl MessageName for EnumValueDescriptorProto {
+    const PACKAGE: &'static str = "schema";
+
+    const NAME: &'static str = "EnumValueDescriptorProto";
+
+    const FULL_NAME: &'static str = "schema.EnumValueDescriptorProto";
+
+    const TYPE_URL: &'static str = "type.googleapis.com/schema.EnumValueDescriptorProto";
 }
 
 impl Message for EnumValueDescriptorProto {

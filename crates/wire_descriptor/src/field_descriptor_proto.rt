@@ -3,7 +3,8 @@ use crate::field_options::FieldOptions;
 use bytes::Buf;
 use std::alloc::Global;
 use wire_codec::{
-    DecodeContext, DecodeError, EncodeError, EncodeSink, Message, SizeCache, Tag, UnknownFields,
+    DecodeContext, DecodeError, EncodeError, EncodeSink, Message, MessageName, SizeCache, Tag,
+    UnknownFields,
 };
 use wire_fields::{
     Bool, Embedded, Implicit, Int32, Kind, Known, Optional, Rest, Text, keep, measure, write,
@@ -23,6 +24,16 @@ pub struct FieldDescriptorProto {
     pub proto3_optional: bool,
     /// The fields that the schema lacks, as they came.
     pub unknown: UnknownFields,
+}
+
+impl MessageName for FieldDescriptorProto {
+    const PACKAGE: &'static str = "schema";
+
+    const NAME: &'static str = "FieldDescriptorProto";
+
+    const FULL_NAME: &'static str = "schema.FieldDescriptorProto";
+
+    const TYPE_URL: &'static str = "type.googleapis.com/schema.FieldDescriptorProto";
 }
 
 impl Message for FieldDescriptorProto {

@@ -2,7 +2,8 @@
 use bytes::Buf;
 use std::alloc::Global;
 use wire_codec::{
-    DecodeContext, DecodeError, EncodeError, EncodeSink, Message, SizeCache, Tag, UnknownFields,
+    DecodeContext, DecodeError, EncodeError, EncodeSink, Message, MessageName, SizeCache, Tag,
+    UnknownFields,
 };
 use wire_fields::{Bool, Kind, Known, Optional, Rest, keep, measure, write};
 
@@ -12,6 +13,16 @@ pub struct FieldOptions {
     pub packed: Option<bool>,
     /// The fields that the schema lacks, as they came.
     pub unknown: UnknownFields,
+}
+
+impl MessageName for FieldOptions {
+    const PACKAGE: &'static str = "schema";
+
+    const NAME: &'static str = "FieldOptions";
+
+    const FULL_NAME: &'static str = "schema.FieldOptions";
+
+    const TYPE_URL: &'static str = "type.googleapis.com/schema.FieldOptions";
 }
 
 impl Message for FieldOptions {

@@ -5,7 +5,8 @@ use crate::source_code_info::SourceCodeInfo;
 use bytes::Buf;
 use std::alloc::Global;
 use wire_codec::{
-    DecodeContext, DecodeError, EncodeError, EncodeSink, Message, SizeCache, Tag, UnknownFields,
+    DecodeContext, DecodeError, EncodeError, EncodeSink, Message, MessageName, SizeCache, Tag,
+    UnknownFields,
 };
 use wire_fields::{
     Blob, EachEmbedded, Embedded, Implicit, Int32, Kind, Known, Repeated, Rest, Text, keep,
@@ -28,6 +29,16 @@ pub struct FileDescriptorProto {
     pub edition: i32,
     /// The fields that the schema lacks, as they came.
     pub unknown: UnknownFields,
+}
+
+impl MessageName for FileDescriptorProto {
+    const PACKAGE: &'static str = "schema";
+
+    const NAME: &'static str = "FileDescriptorProto";
+
+    const FULL_NAME: &'static str = "schema.FileDescriptorProto";
+
+    const TYPE_URL: &'static str = "type.googleapis.com/schema.FileDescriptorProto";
 }
 
 impl Message for FileDescriptorProto {

@@ -2,7 +2,8 @@
 use bytes::Buf;
 use std::alloc::Global;
 use wire_codec::{
-    DecodeContext, DecodeError, EncodeError, EncodeSink, Message, SizeCache, Tag, UnknownFields,
+    DecodeContext, DecodeError, EncodeError, EncodeSink, Message, MessageName, SizeCache, Tag,
+    UnknownFields,
 };
 use wire_fields::{Bool, Implicit, Kind, Known, Rest, keep, measure, write};
 
@@ -12,6 +13,16 @@ pub struct MessageOptions {
     pub map_entry: bool,
     /// The fields that the schema lacks, as they came.
     pub unknown: UnknownFields,
+}
+
+impl MessageName for MessageOptions {
+    const PACKAGE: &'static str = "schema";
+
+    const NAME: &'static str = "MessageOptions";
+
+    const FULL_NAME: &'static str = "schema.MessageOptions";
+
+    const TYPE_URL: &'static str = "type.googleapis.com/schema.MessageOptions";
 }
 
 impl Message for MessageOptions {

@@ -2,7 +2,8 @@
 use bytes::Buf;
 use std::alloc::Global;
 use wire_codec::{
-    DecodeContext, DecodeError, EncodeError, EncodeSink, Message, SizeCache, Tag, UnknownFields,
+    DecodeContext, DecodeError, EncodeError, EncodeSink, Message, MessageName, SizeCache, Tag,
+    UnknownFields,
 };
 use wire_fields::{Implicit, Kind, Known, Rest, Text, keep, measure, write};
 
@@ -12,6 +13,16 @@ pub struct OneofDescriptorProto {
     pub name: String,
     /// The fields that the schema lacks, as they came.
     pub unknown: UnknownFields,
+}
+
+impl MessageName for OneofDescriptorProto {
+    const PACKAGE: &'static str = "schema";
+
+    const NAME: &'static str = "OneofDescriptorProto";
+
+    const FULL_NAME: &'static str = "schema.OneofDescriptorProto";
+
+    const TYPE_URL: &'static str = "type.googleapis.com/schema.OneofDescriptorProto";
 }
 
 impl Message for OneofDescriptorProto {

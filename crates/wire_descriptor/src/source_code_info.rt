@@ -3,7 +3,8 @@ use crate::source_code_info_location::SourceCodeInfoLocation;
 use bytes::Buf;
 use std::alloc::Global;
 use wire_codec::{
-    DecodeContext, DecodeError, EncodeError, EncodeSink, Message, SizeCache, Tag, UnknownFields,
+    DecodeContext, DecodeError, EncodeError, EncodeSink, Message, MessageName, SizeCache, Tag,
+    UnknownFields,
 };
 use wire_fields::{EachEmbedded, Kind, Known, Rest, keep, measure, write};
 
@@ -13,6 +14,16 @@ pub struct SourceCodeInfo {
     pub location: Vec<SourceCodeInfoLocation>,
     /// The fields that the schema lacks, as they came.
     pub unknown: UnknownFields,
+}
+
+impl MessageName for SourceCodeInfo {
+    const PACKAGE: &'static str = "schema";
+
+    const NAME: &'static str = "SourceCodeInfo";
+
+    const FULL_NAME: &'static str = "schema.SourceCodeInfo";
+
+    const TYPE_URL: &'static str = "type.googleapis.com/schema.SourceCodeInfo";
 }
 
 impl Message for SourceCodeInfo {

@@ -2,7 +2,8 @@
 use bytes::Buf;
 use std::alloc::Global;
 use wire_codec::{
-    DecodeContext, DecodeError, EncodeError, EncodeSink, Message, SizeCache, Tag, UnknownFields,
+    DecodeContext, DecodeError, EncodeError, EncodeSink, Message, MessageName, SizeCache, Tag,
+    UnknownFields,
 };
 use wire_fields::{Implicit, Int32, Kind, Known, Packed, Rest, Text, keep, measure, write};
 
@@ -14,6 +15,16 @@ pub struct SourceCodeInfoLocation {
     pub leading_comments: String,
     /// The fields that the schema lacks, as they came.
     pub unknown: UnknownFields,
+}
+
+impl MessageName for SourceCodeInfoLocation {
+    const PACKAGE: &'static str = "schema";
+
+    const NAME: &'static str = "SourceCodeInfo.Location";
+
+    const FULL_NAME: &'static str = "schema.SourceCodeInfo.Location";
+
+    const TYPE_URL: &'static str = "type.googleapis.com/schema.SourceCodeInfo.Location";
 }
 
 impl Message for SourceCodeInfoLocation {

@@ -17,6 +17,7 @@ wire_codec DecodeError
 wire_codec EncodeError
 wire_codec EncodeSink
 wire_codec Message
+wire_codec MessageName
 wire_codec SizeCache
 wire_codec Tag
 wire_codec UnknownFields
@@ -31,6 +32,18 @@ const STRUCT: &str = "\
 pub struct $name$ {
 $declared$    /// The fields that the schema lacks, as they came.
     pub unknown: UnknownFields,
+}
+";
+
+const NAME: &str = "
+impl MessageName for $name$ {
+    const PACKAGE: &'static str = \"$package$\";
+
+    const NAME: &'static str = \"$own_name$\";
+
+    const FULL_NAME: &'static str = \"$full$\";
+
+    const TYPE_URL: &'static str = \"type.googleapis.com/$full$\";
 }
 ";
 
@@ -166,13 +179,15 @@ pub(crate) fn code_of(
         &OF_SOME
     });
     code_imports(&mut page);
+    page.set("package", message.words.get("package"));
+    page.set("own_name", message.words.get("outer").trim_end_matches('.'));
     page.set("full", message.words.get("full").trim_start_matches('.'));
     page.fill("code", "//! The message `$full$`. Generated.\n$imports$\n");
     match schema.comment(message.words.get("place")) {
         "" => page.append("code", "/// The message `$name$`.\n"),
         comment => put_comment(&mut page, "code", "", comment),
     }
-    page.append_all(&[("code", STRUCT), ("code", MESSAGE)]);
+    page.append_all(&[("code", STRUCT), ("code", NAME), ("code", MESSAGE)]);
     page.finish("code")
 }
 

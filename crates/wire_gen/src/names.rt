@@ -15,8 +15,8 @@ const WORDS: &str = "abbrev abstract as assumption async await become box break 
 // its value of such a name has an underscore behind it.
 const TYPES: &str = "Always AlwaysEmbedded BTreeMap Blob Bool Box Buf Clone Copy Debug \
     DecodeContext DecodeError Double DoubleBits Drop EachEmbedded EachGroup Embedded EncodeError \
-    EncodeSink Enum EnumValue Enumeration Eq Err FieldKind Fields Fixed32 Fixed64 Float FloatBits Global \
-    Group Hash Implicit Int32 Int64 Kind Known Lawful Lib List Map Message None Ok Option Optional \
+    EncodeSink Enum EnumValue Enumeration Eq Err FieldKind Fields Fixed32 Fixed64 Float \
+    FloatBits Global Group Hash Implicit Int32 Int64 Kind Known Lawful Lib List Map Message None Ok Option Optional \
     Packed PartialEq Records Repeated Rest Result Self Sfixed32 Sfixed64 Shape Sint32 Sint64 Size \
     SizeCache Some Step String Tag Text Type Uint32 Uint64 UnknownFields Unpacked Variants Vec";
 

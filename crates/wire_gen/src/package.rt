@@ -84,8 +84,8 @@ fn files_of(
     Ok(package.files)
 }
 
-// What the parameter says: `crate=NAME` is the crate's own name, or else that of the first file, and
-// each `import=PACKAGE=CRATE` names the crate that has another package.
+// What the parameter says: `crate=NAME` is the crate's own name, or else that of the first file,
+// and each `import=PACKAGE=CRATE` names the crate that has another package.
 fn set_crate(base: &mut Words, request: &CodeGeneratorRequest) -> Result<(), GenerateError> {
     base.set("crate", first_name(request));
     for option in request.parameter.split(',') {

@@ -4,10 +4,10 @@ use crate::error::GenerateError;
 use crate::field::Field;
 use crate::words::{Template, Words};
 
-// Fields in a row, as one part of the tree. Its words are the `low`est and the `high`est number; the
-// `local` of code that has the pair, and the lines of `pairs` that make it; its type `value` as
-// contracts see it, and how a message `m` is seen so, its `view`; the `table`, and why a number is
-// none of it, `unlike`.
+// Fields in a row, as one part of the tree. Its words are the first and the last number, `low` and
+// `high`; the `local` of code that has the pair, and the lines of `pairs` that make it; its type
+// `value` as contracts see it, and how a message `m` is seen so, its `view`; the `table`, and why a
+// number is none of it, `unlike`.
 #[derive(Drop)]
 struct Node {
     first: usize,

@@ -6,8 +6,8 @@ use bytes::Buf;
 use std::alloc::Global;
 use std::collections::BTreeMap;
 use wire_codec::{
-    DecodeContext, DecodeError, EncodeError, EncodeSink, EnumValue, Message, SizeCache, Tag,
-    UnknownFields,
+    DecodeContext, DecodeError, EncodeError, EncodeSink, EnumValue, Message, MessageName,
+    SizeCache, Tag, UnknownFields,
 };
 use wire_fields::{
     Always, AlwaysEmbedded, Blob, Bool, Double, DoubleBits, EachEmbedded, Embedded, Enum, Fixed64,
@@ -36,6 +36,16 @@ pub struct Report {
     pub type_: bool,
     /// The fields that the schema lacks, as they came.
     pub unknown: UnknownFields,
+}
+
+impl MessageName for Report {
+    const PACKAGE: &'static str = "report";
+
+    const NAME: &'static str = "Report";
+
+    const FULL_NAME: &'static str = "report.Report";
+
+    const TYPE_URL: &'static str = "type.googleapis.com/report.Report";
 }
 
 impl Message for Report {

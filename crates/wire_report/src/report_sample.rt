@@ -2,7 +2,8 @@
 use bytes::Buf;
 use std::alloc::Global;
 use wire_codec::{
-    DecodeContext, DecodeError, EncodeError, EncodeSink, Message, SizeCache, Tag, UnknownFields,
+    DecodeContext, DecodeError, EncodeError, EncodeSink, Message, MessageName, SizeCache, Tag,
+    UnknownFields,
 };
 use wire_fields::{
     Double, DoubleBits, Implicit, Int64, Kind, Known, Optional, Rest, Text, keep, measure, write,
@@ -16,6 +17,16 @@ pub struct ReportSample {
     pub count: Option<i64>,
     /// The fields that the schema lacks, as they came.
     pub unknown: UnknownFields,
+}
+
+impl MessageName for ReportSample {
+    const PACKAGE: &'static str = "report";
+
+    const NAME: &'static str = "Report.Sample";
+
+    const FULL_NAME: &'static str = "report.Report.Sample";
+
+    const TYPE_URL: &'static str = "type.googleapis.com/report.Report.Sample";
 }
 
 impl Message for ReportSample {

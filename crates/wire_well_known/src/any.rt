@@ -2,7 +2,8 @@
 use bytes::Buf;
 use std::alloc::Global;
 use wire_codec::{
-    DecodeContext, DecodeError, EncodeError, EncodeSink, Message, SizeCache, Tag, UnknownFields,
+    DecodeContext, DecodeError, EncodeError, EncodeSink, Message, MessageName, SizeCache, Tag,
+    UnknownFields,
 };
 use wire_fields::{Blob, Implicit, Kind, Known, Rest, Text, keep, measure, write};
 
@@ -15,6 +16,16 @@ pub struct Any {
     pub value: Vec<u8>,
     /// The fields that the schema lacks, as they came.
     pub unknown: UnknownFields,
+}
+
+impl MessageName for Any {
+    const PACKAGE: &'static str = "google.protobuf";
+
+    const NAME: &'static str = "Any";
+
+    const FULL_NAME: &'static str = "google.protobuf.Any";
+
+    const TYPE_URL: &'static str = "type.googleapis.com/google.protobuf.Any";
 }
 
 impl Message for Any {

@@ -2,7 +2,8 @@
 use bytes::Buf;
 use std::alloc::Global;
 use wire_codec::{
-    DecodeContext, DecodeError, EncodeError, EncodeSink, Message, SizeCache, Tag, UnknownFields,
+    DecodeContext, DecodeError, EncodeError, EncodeSink, Message, MessageName, SizeCache, Tag,
+    UnknownFields,
 };
 use wire_fields::{Bool, Implicit, Kind, Known, Rest, keep, measure, write};
 
@@ -12,6 +13,16 @@ pub struct BoolValue {
     pub value: bool,
     /// The fields that the schema lacks, as they came.
     pub unknown: UnknownFields,
+}
+
+impl MessageName for BoolValue {
+    const PACKAGE: &'static str = "google.protobuf";
+
+    const NAME: &'static str = "BoolValue";
+
+    const FULL_NAME: &'static str = "google.protobuf.BoolValue";
+
+    const TYPE_URL: &'static str = "type.googleapis.com/google.protobuf.BoolValue";
 }
 
 impl Message for BoolValue {

@@ -2,7 +2,8 @@
 use bytes::Buf;
 use std::alloc::Global;
 use wire_codec::{
-    DecodeContext, DecodeError, EncodeError, EncodeSink, Message, SizeCache, Tag, UnknownFields,
+    DecodeContext, DecodeError, EncodeError, EncodeSink, Message, MessageName, SizeCache, Tag,
+    UnknownFields,
 };
 use wire_fields::{Blob, Implicit, Kind, Known, Rest, keep, measure, write};
 
@@ -12,6 +13,16 @@ pub struct BytesValue {
     pub value: Vec<u8>,
     /// The fields that the schema lacks, as they came.
     pub unknown: UnknownFields,
+}
+
+impl MessageName for BytesValue {
+    const PACKAGE: &'static str = "google.protobuf";
+
+    const NAME: &'static str = "BytesValue";
+
+    const FULL_NAME: &'static str = "google.protobuf.BytesValue";
+
+    const TYPE_URL: &'static str = "type.googleapis.com/google.protobuf.BytesValue";
 }
 
 impl Message for BytesValue {

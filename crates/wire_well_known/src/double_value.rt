@@ -2,7 +2,8 @@
 use bytes::Buf;
 use std::alloc::Global;
 use wire_codec::{
-    DecodeContext, DecodeError, EncodeError, EncodeSink, Message, SizeCache, Tag, UnknownFields,
+    DecodeContext, DecodeError, EncodeError, EncodeSink, Message, MessageName, SizeCache, Tag,
+    UnknownFields,
 };
 use wire_fields::{Double, DoubleBits, Implicit, Kind, Known, Rest, keep, measure, write};
 
@@ -12,6 +13,16 @@ pub struct DoubleValue {
     pub value: DoubleBits,
     /// The fields that the schema lacks, as they came.
     pub unknown: UnknownFields,
+}
+
+impl MessageName for DoubleValue {
+    const PACKAGE: &'static str = "google.protobuf";
+
+    const NAME: &'static str = "DoubleValue";
+
+    const FULL_NAME: &'static str = "google.protobuf.DoubleValue";
+
+    const TYPE_URL: &'static str = "type.googleapis.com/google.protobuf.DoubleValue";
 }
 
 impl Message for DoubleValue {

@@ -2,7 +2,8 @@
 use bytes::Buf;
 use std::alloc::Global;
 use wire_codec::{
-    DecodeContext, DecodeError, EncodeError, EncodeSink, Message, SizeCache, Tag, UnknownFields,
+    DecodeContext, DecodeError, EncodeError, EncodeSink, Message, MessageName, SizeCache, Tag,
+    UnknownFields,
 };
 use wire_fields::{Implicit, Int32, Int64, Kind, Known, Rest, keep, measure, write};
 
@@ -14,6 +15,16 @@ pub struct Duration {
     pub nanos: i32,
     /// The fields that the schema lacks, as they came.
     pub unknown: UnknownFields,
+}
+
+impl MessageName for Duration {
+    const PACKAGE: &'static str = "google.protobuf";
+
+    const NAME: &'static str = "Duration";
+
+    const FULL_NAME: &'static str = "google.protobuf.Duration";
+
+    const TYPE_URL: &'static str = "type.googleapis.com/google.protobuf.Duration";
 }
 
 impl Message for Duration {

@@ -2,7 +2,8 @@
 use bytes::Buf;
 use std::alloc::Global;
 use wire_codec::{
-    DecodeContext, DecodeError, EncodeError, EncodeSink, Message, SizeCache, Tag, UnknownFields,
+    DecodeContext, DecodeError, EncodeError, EncodeSink, Message, MessageName, SizeCache, Tag,
+    UnknownFields,
 };
 use wire_fields::{Rest, keep, measure, write};
 
@@ -11,6 +12,16 @@ use wire_fields::{Rest, keep, measure, write};
 pub struct Empty {
     /// The fields that the schema lacks, as they came.
     pub unknown: UnknownFields,
+}
+
+impl MessageName for Empty {
+    const PACKAGE: &'static str = "google.protobuf";
+
+    const NAME: &'static str = "Empty";
+
+    const FULL_NAME: &'static str = "google.protobuf.Empty";
+
+    const TYPE_URL: &'static str = "type.googleapis.com/google.protobuf.Empty";
 }
 
 impl Message for Empty {

@@ -2,7 +2,8 @@
 use bytes::Buf;
 use std::alloc::Global;
 use wire_codec::{
-    DecodeContext, DecodeError, EncodeError, EncodeSink, Message, SizeCache, Tag, UnknownFields,
+    DecodeContext, DecodeError, EncodeError, EncodeSink, Message, MessageName, SizeCache, Tag,
+    UnknownFields,
 };
 use wire_fields::{Kind, Known, Repeated, Rest, Text, keep, measure, write};
 
@@ -13,6 +14,16 @@ pub struct FieldMask {
     pub paths: Vec<String>,
     /// The fields that the schema lacks, as they came.
     pub unknown: UnknownFields,
+}
+
+impl MessageName for FieldMask {
+    const PACKAGE: &'static str = "google.protobuf";
+
+    const NAME: &'static str = "FieldMask";
+
+    const FULL_NAME: &'static str = "google.protobuf.FieldMask";
+
+    const TYPE_URL: &'static str = "type.googleapis.com/google.protobuf.FieldMask";
 }
 
 impl Message for FieldMask {

@@ -2,7 +2,8 @@
 use bytes::Buf;
 use std::alloc::Global;
 use wire_codec::{
-    DecodeContext, DecodeError, EncodeError, EncodeSink, Message, SizeCache, Tag, UnknownFields,
+    DecodeContext, DecodeError, EncodeError, EncodeSink, Message, MessageName, SizeCache, Tag,
+    UnknownFields,
 };
 use wire_fields::{Float, FloatBits, Implicit, Kind, Known, Rest, keep, measure, write};
 
@@ -12,6 +13,16 @@ pub struct FloatValue {
     pub value: FloatBits,
     /// The fields that the schema lacks, as they came.
     pub unknown: UnknownFields,
+}
+
+impl MessageName for FloatValue {
+    const PACKAGE: &'static str = "google.protobuf";
+
+    const NAME: &'static str = "FloatValue";
+
+    const FULL_NAME: &'static str = "google.protobuf.FloatValue";
+
+    const TYPE_URL: &'static str = "type.googleapis.com/google.protobuf.FloatValue";
 }
 
 impl Message for FloatValue {

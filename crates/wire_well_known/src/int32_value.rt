@@ -2,7 +2,8 @@
 use bytes::Buf;
 use std::alloc::Global;
 use wire_codec::{
-    DecodeContext, DecodeError, EncodeError, EncodeSink, Message, SizeCache, Tag, UnknownFields,
+    DecodeContext, DecodeError, EncodeError, EncodeSink, Message, MessageName, SizeCache, Tag,
+    UnknownFields,
 };
 use wire_fields::{Implicit, Int32, Kind, Known, Rest, keep, measure, write};
 
@@ -12,6 +13,16 @@ pub struct Int32Value {
     pub value: i32,
     /// The fields that the schema lacks, as they came.
     pub unknown: UnknownFields,
+}
+
+impl MessageName for Int32Value {
+    const PACKAGE: &'static str = "google.protobuf";
+
+    const NAME: &'static str = "Int32Value";
+
+    const FULL_NAME: &'static str = "google.protobuf.Int32Value";
+
+    const TYPE_URL: &'static str = "type.googleapis.com/google.protobuf.Int32Value";
 }
 
 impl Message for Int32Value {

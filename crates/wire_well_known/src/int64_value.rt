@@ -2,7 +2,8 @@
 use bytes::Buf;
 use std::alloc::Global;
 use wire_codec::{
-    DecodeContext, DecodeError, EncodeError, EncodeSink, Message, SizeCache, Tag, UnknownFields,
+    DecodeContext, DecodeError, EncodeError, EncodeSink, Message, MessageName, SizeCache, Tag,
+    UnknownFields,
 };
 use wire_fields::{Implicit, Int64, Kind, Known, Rest, keep, measure, write};
 
@@ -12,6 +13,16 @@ pub struct Int64Value {
     pub value: i64,
     /// The fields that the schema lacks, as they came.
     pub unknown: UnknownFields,
+}
+
+impl MessageName for Int64Value {
+    const PACKAGE: &'static str = "google.protobuf";
+
+    const NAME: &'static str = "Int64Value";
+
+    const FULL_NAME: &'static str = "google.protobuf.Int64Value";
+
+    const TYPE_URL: &'static str = "type.googleapis.com/google.protobuf.Int64Value";
 }
 
 impl Message for Int64Value {

@@ -2,7 +2,8 @@
 use bytes::Buf;
 use std::alloc::Global;
 use wire_codec::{
-    DecodeContext, DecodeError, EncodeError, EncodeSink, Message, SizeCache, Tag, UnknownFields,
+    DecodeContext, DecodeError, EncodeError, EncodeSink, Message, MessageName, SizeCache, Tag,
+    UnknownFields,
 };
 use wire_fields::{Implicit, Kind, Known, Rest, Text, keep, measure, write};
 
@@ -12,6 +13,16 @@ pub struct StringValue {
     pub value: String,
     /// The fields that the schema lacks, as they came.
     pub unknown: UnknownFields,
+}
+
+impl MessageName for StringValue {
+    const PACKAGE: &'static str = "google.protobuf";
+
+    const NAME: &'static str = "StringValue";
+
+    const FULL_NAME: &'static str = "google.protobuf.StringValue";
+
+    const TYPE_URL: &'static str = "type.googleapis.com/google.protobuf.StringValue";
 }
 
 impl Message for StringValue {

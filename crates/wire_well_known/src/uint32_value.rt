@@ -2,7 +2,8 @@
 use bytes::Buf;
 use std::alloc::Global;
 use wire_codec::{
-    DecodeContext, DecodeError, EncodeError, EncodeSink, Message, SizeCache, Tag, UnknownFields,
+    DecodeContext, DecodeError, EncodeError, EncodeSink, Message, MessageName, SizeCache, Tag,
+    UnknownFields,
 };
 use wire_fields::{Implicit, Kind, Known, Rest, Uint32, keep, measure, write};
 
@@ -12,6 +13,16 @@ pub struct UInt32Value {
     pub value: u32,
     /// The fields that the schema lacks, as they came.
     pub unknown: UnknownFields,
+}
+
+impl MessageName for UInt32Value {
+    const PACKAGE: &'static str = "google.protobuf";
+
+    const NAME: &'static str = "UInt32Value";
+
+    const FULL_NAME: &'static str = "google.protobuf.UInt32Value";
+
+    const TYPE_URL: &'static str = "type.googleapis.com/google.protobuf.UInt32Value";
 }
 
 impl Message for UInt32Value {

@@ -2,7 +2,8 @@
 use bytes::Buf;
 use std::alloc::Global;
 use wire_codec::{
-    DecodeContext, DecodeError, EncodeError, EncodeSink, Message, SizeCache, Tag, UnknownFields,
+    DecodeContext, DecodeError, EncodeError, EncodeSink, Message, MessageName, SizeCache, Tag,
+    UnknownFields,
 };
 use wire_fields::{Implicit, Kind, Known, Rest, Uint64, keep, measure, write};
 
@@ -12,6 +13,16 @@ pub struct UInt64Value {
     pub value: u64,
     /// The fields that the schema lacks, as they came.
     pub unknown: UnknownFields,
+}
+
+impl MessageName for UInt64Value {
+    const PACKAGE: &'static str = "google.protobuf";
+
+    const NAME: &'static str = "UInt64Value";
+
+    const FULL_NAME: &'static str = "google.protobuf.UInt64Value";
+
+    const TYPE_URL: &'static str = "type.googleapis.com/google.protobuf.UInt64Value";
 }
 
 impl Message for UInt64Value {
