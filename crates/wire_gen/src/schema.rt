@@ -214,23 +214,26 @@ impl Schema {
         }
     }
 
-    // No message type holds itself.
+    // No message type holds itself: each turn leaves those open that hold an open one.
     fn stop_on_cycles(&mut self) -> Result<(), GenerateError> {
-        let mut settled: Vec<String> = Vec::new(self.alloc);
+        let held = self.held_by_each()?;
+        let mut open = self.flags(true)?;
         for _ in 0..self.messages.len() {
-            let before = settled.len();
-            for message in &self.messages {
-                let full = message.words.get("full");
-                if !is_among(full, &settled) && self.is_settled(message, &settled) {
-                    settled.push(String::from_str(self.alloc, full)?)?;
+            let mut next = self.flags(false)?;
+            for (holder, held) in &held {
+                if open.get(*held) == Some(&true) {
+                    if let Some(flag) = next.get_mut(*holder) {
+                        *flag = true;
+                    }
                 }
             }
-            if settled.len() == before {
+            if next == open {
                 break;
             }
+            open = next;
         }
-        for message in &mut self.messages {
-            if !is_among(message.words.get("full"), &settled) {
+        for (message, is_open) in self.messages.iter_mut().zip(open) {
+            if is_open && message.origin.is_own {
                 let why = "$full$: messages that hold themselves are not generated";
                 return Err(message.words.refused(why));
             }
@@ -238,15 +241,28 @@ impl Schema {
         Ok(())
     }
 
-    // Whether all messages that it holds are among these.
-    fn is_settled(&self, message: &MessageType, settled: &[String]) -> bool {
-        for field in &message.descriptor.field {
-            let held = self.held(field);
-            if !held.is_empty() && self.message(held).is_some() && !is_among(held, settled) {
-                return false;
+    // A flag for each message type.
+    fn flags(&self, flag: bool) -> Result<Vec<bool>, GenerateError> {
+        let mut flags = Vec::new(self.alloc);
+        for _ in &self.messages {
+            flags.push(flag)?;
+        }
+        Ok(flags)
+    }
+
+    // The places of message types, each with that of one that it holds.
+    fn held_by_each(&self) -> Result<Vec<(usize, usize)>, GenerateError> {
+        let mut pairs = Vec::new(self.alloc);
+        for (holder, message) in self.messages.iter().enumerate() {
+            for field in &message.descriptor.field {
+                let held = self.held(field);
+                let mut places = self.messages.iter();
+                if let Some(held) = places.position(|it| it.words.get("full") == held) {
+                    pairs.push((holder, held))?;
+                }
             }
         }
-        true
+        Ok(pairs)
     }
 
     // The message that a field holds, as values of a map too; nothing where it holds none.
@@ -286,10 +302,6 @@ fn home_of<'a>(package: &str, imported: &'a str) -> &'a str {
         }
     }
     ""
-}
-
-fn is_among(name: &str, names: &[String]) -> bool {
-    names.iter().any(|it| it.as_str() == name)
 }
 
 // The words of a type of this name within a file or another type, where it is the one at this
