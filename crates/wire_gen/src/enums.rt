@@ -45,7 +45,7 @@ $protos$        }
 
 const DEFINITIONS: &str = "\
 -- The numbers of a `$name$`. Generated.
-use Rattle.std.specs.Prelude.{ℤ, pos, neg, List, [], ◌∷◌, Option}
+use Rattle.std.specs.Prelude.{ℤ, pos$negsuc$, List, [], ◌∷◌, Option}
 use Rattle.wire_codec.specs.EnumNumbers.{first_numbered}
 use Rattle.$crate$.specs.declared.$module$.$name$.{$name$}
 use Rattle.$crate$.specs.declared.$module$.$name$.TheVariants.{$all$}
@@ -96,10 +96,7 @@ pub(crate) fn enum_files(
         page.set("value", &value.name);
         page.set("proto", &descriptor.name);
         page.number("digits", value.number);
-        page.index(
-            "size",
-            usize::try_from(value.number.unsigned_abs()).unwrap_or(usize::MAX),
-        );
+        page.number("below", value.number.saturating_add(1).saturating_neg());
         page.index("index", index);
         put_value(&mut page, schema);
     }
@@ -146,15 +143,11 @@ fn put_value(page: &mut Words, schema: &Schema) {
     page.fill("at", "$place$.2.$index$");
     let comment = schema.comment(page.get("at"));
     put_comment(page, "values", "    ", comment);
-    let is_negative = page.get("digits").starts_with('-');
-    page.fill(
-        "number",
-        if is_negative {
-            "neg $size$"
-        } else {
-            "pos $size$"
-        },
-    );
+    if page.get("digits").starts_with('-') {
+        page.fill_all(&[("number", "negsuc $below$"), ("negsuc", ", negsuc")]);
+    } else {
+        page.fill("number", "pos $digits$");
+    }
     let is_first = page.get("all").is_empty();
     page.set("bar", if is_first { "" } else { " | " });
     page.set("comma", if is_first { "" } else { ", " });

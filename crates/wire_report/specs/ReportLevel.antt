@@ -1,5 +1,5 @@
 -- The numbers of a `ReportLevel`. Generated.
-use Rattle.std.specs.Prelude.{ℤ, pos, neg, List, [], ◌∷◌, Option}
+use Rattle.std.specs.Prelude.{ℤ, pos, List, [], ◌∷◌, Option}
 use Rattle.wire_codec.specs.EnumNumbers.{first_numbered}
 use Rattle.wire_report.specs.declared.report_level.ReportLevel.{ReportLevel}
 use Rattle.wire_report.specs.declared.report_level.ReportLevel.TheVariants.{Low, High, VeryHigh}
