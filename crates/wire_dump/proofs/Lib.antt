@@ -5,3 +5,4 @@ pub mod Put
 pub mod Walk
 pub mod One
 pub mod Escaped
+pub mod Front

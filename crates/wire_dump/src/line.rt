@@ -1,5 +1,5 @@
 //! Lines of a dump, put behind what was put.
-ghost use Rattle.std.specs.Prelude.{◌≡◌, ◌+◌, ◌*◌, ◌^◌, ◌<◌, ◌≤◌, ◌∷◌, ◌++◌, codes, decimal, OnOk};
+ghost use Rattle.std.specs.Prelude.{◌≡◌, ◌+◌, ◌*◌, ◌^◌, ◌<◌, ◌≤◌, ◌∷◌, ◌++◌, codes, decimal, true, OnOk};
 ghost use Rattle.wire_dump.specs.Frames.{frame_opening};
 ghost use Rattle.wire_dump.specs.Lines.{closing, fixed_line, hexadecimal, hexadecimal_digit, indented, line, number_line, opening};
 ghost use Rattle.wire_dump.specs.Places.{range_text};
@@ -66,13 +66,21 @@ fn put_margin(out: &mut Vec<u8>, margin: Margin) -> Result<(), AllocError>
     if !margin.is_shown {
         return Ok(());
     }
-    put_decimal(out, margin.start as u64)?;
+    put_range(out, margin.start, margin.end)
+}
+
+#[inline(never)]
+fn put_range(out: &mut Vec<u8>, start: usize, end: usize) -> Result<(), AllocError>
+    ensures { OnOk result (out.new.items ≡ out.old.items ++ range_text true start end) }
+{
+    put_decimal(out, start as u64)?;
     out.extend_from_slice(b"..")?;
-    put_decimal(out, margin.end as u64)?;
+    put_decimal(out, end as u64)?;
     out.extend_from_slice(b"  ")
 }
 
 // What each line of a record begins with.
+#[inline(always)]
 pub(crate) fn put_head(
     out: &mut Vec<u8>,
     margin: Margin,
@@ -155,6 +163,7 @@ pub(crate) fn put_fixed(
     out.extend_from_slice(b"\n")
 }
 
+#[inline(always)]
 pub(crate) fn put_opening(
     out: &mut Vec<u8>,
     margin: Margin,
@@ -183,6 +192,7 @@ pub(crate) fn put_frame_opening(
     out.extend_from_slice(b" {\n")
 }
 
+#[inline(always)]
 pub(crate) fn put_closing(out: &mut Vec<u8>, margin: Margin, level: u32) -> Result<(), AllocError>
     ensures { OnOk result (out.new.items ≡ out.old.items
         ++ (range_text margin.is_shown margin.start margin.end ++ closing level)) }
