@@ -7,7 +7,7 @@ use Rattle.wire_base.specs.declared.tag.WireType.TheVariants.{StartGroup, Length
 use Rattle.wire_base.specs.Charge.{charge, payload_charge}
 use Rattle.wire_base.specs.Delimited.{IsDelimited}
 use Rattle.wire_base.specs.Field.{Payload, varint, fixed64, fixed32, bytes, group, Fields, none, field, joined, push, type_of}
-use Rattle.wire_base.specs.Limits.{Charge, Fits, both, uncounted}
+use Rattle.wire_base.specs.Limits.{Charge, Fits, uncounted}
 use Rattle.wire_base.specs.Read.{Reads}
 use Rattle.wire_base.specs.RecordLaws.{JoinedAddsUp, JoinedTextsSpell, OnePayload}
 use Rattle.wire_base.specs.Spells.{IsPayload, Spells, SpellsPayload}
@@ -17,7 +17,7 @@ use Rattle.wire_dump.specs.declared.layout.Layout.{Layout}
 use Rattle.wire_dump.specs.declared.layout.Margin.{Margin}
 use Rattle.wire_dump.specs.Dumps.{Dumps, SpellsRecord, nothing, more}
 use Rattle.wire_dump.specs.Dumped.{IsDumped, Puts, RecordLines}
-use Rattle.wire_dump.specs.Front.{IsNoGuess, PutsFront, PutsRecord, TakesRecord}
+use Rattle.wire_dump.specs.Front.{IsNoGuess, PutsFront, TakesRecord}
 use Rattle.wire_dump.specs.Places.{Line, line_of, printed, range_text, width_of}
 use Rattle.wire_dump.proofs.Open.{dumps_push}
 use Rattle.wire_dump.proofs.Put.{IsMargin, line_put, printed-append, width-append}
@@ -324,3 +324,12 @@ front_no_guess one_tag one_payload adds_up y place count all old mid new h guess
       written = guess.written ∙ ap (λ (x : List ℕ). x ++ guess.more) h.written
           ∙ append_assoc old put guess.more;
     }
+
+-- no record begins the bytes, and nothing is put
+pub nothing_begins : (y : Layout) (all old : List ℕ) → ((fs : Fields) → Spells fs all → ⊥)
+    → IsNoGuess y all old old
+nothing_begins y all old never = record {
+  never = λ fs spelled _. never fs spelled;
+  more = [];
+  written = sym (append-nil old);
+}

@@ -6,3 +6,4 @@ pub mod Walk
 pub mod One
 pub mod Escaped
 pub mod Front
+pub mod Decimal

@@ -191,7 +191,11 @@ fn put_guess(
     if count == bytes.len() {
         return Ok(true);
     }
-    put_rest(out, layout, place + count, &bytes[count..])
+    let rest = &bytes[count..];
+    if begins_no_record(rest) {
+        return Ok(false);
+    }
+    put_rest(out, layout, place + count, rest)
 }
 
 // Puts the lines of guessed bytes by a reader, which knows groups and faults.

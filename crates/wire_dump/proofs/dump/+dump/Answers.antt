@@ -10,11 +10,11 @@ use Rattle.wire_read.specs.Reading.{At, Gives, IsAt, IsDone, Stops, at, groups_o
 use Rattle.wire_read.specs.declared.event.Fault.{Fault}
 use Rattle.wire_dump.specs.declared.layout.Layout.{Layout}
 use Rattle.wire_dump.specs.declared.stop.Stop.TheVariants as stops
-use Rattle.wire_dump.specs.Dumped.{IsDumped, IsDumpedFront, ItemLines, Puts, RecordLines, inside}
+use Rattle.wire_dump.specs.Dumped.{IsDumped, ItemLines, Puts, RecordLines, inside}
 use Rattle.wire_dump.specs.Front.{IsNoGuess, TakesRecord}
 use Rattle.wire_dump.specs.Lines.{closing, fixed_line, number_line, opening, string_line}
 use Rattle.wire_dump.specs.Places.{range_text}
-use Rattle.wire_dump.proofs.Front.{front_and_rest, front_begun, front_more, front_no_guess, from_place, payload_taken, stands}
+use Rattle.wire_dump.proofs.Front.{front_and_rest, front_begun, front_more, front_no_guess, from_place, nothing_begins, payload_taken, stands}
 use Rattle.wire_dump.proofs.Put.{IsMargin, line_put, number_lines, eight_lines, four_lines, start_lines, end_lines, no_budget, no_bytes, no_records, message_put, no_guess_begins, no_guess_put}
 use Rattle.wire_dump.proofs.Texts.{cut_out, event_text}
 use Rattle.wire_dump.proofs.Walk.{begun, counted_open, few_open, finished, next_item, stopped}
@@ -290,6 +290,21 @@ put_guess-returns-clause-none t c =
     c.args.place count all old mid new c.in_ok-count.ensures
     (subst (λ (x : List ℕ). IsNoGuess y x mid new) (from_place count all) (h no)))
     c.put_rest.ensures.none
+
+pub put_guess-returns-then-begins_no_record-clause-none :
+    goal.put_guess-returns-then-begins_no_record-clause-none
+put_guess-returns-then-begins_no_record-clause-none t c = λ _.
+    let y = c.args.layout in
+    let all = c.args.bytes.now in
+    let count = c.in_ok-count.count in
+    let old = c.args.out.now.items in
+    let mid = c.put_front.new.out.items in
+    let rest = take (length all - count) (drop count all) in
+    let never : (fs : Fields) → Spells fs rest → ⊥ = search rules in
+    front_no_guess c.one_tag.ensures c.one_payload.ensures c.joined_adds_up.ensures y
+    c.args.place count all old mid mid c.in_ok-count.ensures
+    (nothing_begins y (drop count all) mid
+    (subst (λ (x : List ℕ). (fs : Fields) → Spells fs x → ⊥) (from_place count all) never))
 
 pub put_rest-returns-in-Err-Fault-clause-none : goal.put_rest-returns-in-Err-Fault-clause-none
 put_rest-returns-in-Err-Fault-clause-none t c = λ _.

@@ -1,4 +1,4 @@
-use Rattle.std.proofs.Common.{ℕ, ◌+◌, ◌-◌, length, refl, rules, sym, subst}
+use Rattle.std.proofs.Common.{ℕ, ◌+◌, ◌-◌, length, refl, sym, subst}
 use Rattle.std.specs.Int.{w64}
 use Rattle.wire_base.specs.Fixed.{IsFixed}
 use Rattle.wire_base.specs.Read.{Reads}

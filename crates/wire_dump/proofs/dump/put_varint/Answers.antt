@@ -1,4 +1,4 @@
-use Rattle.std.proofs.Common.{ℕ, ◌+◌, ◌-◌, length, refl}
+use Rattle.std.proofs.Common.{◌+◌, ◌-◌, length, refl}
 use Rattle.wire_base.specs.Field.{varint}
 use Rattle.wire_dump.specs.Dumps.{number}
 use Rattle.wire_dump.specs.Lines.{number_line}
