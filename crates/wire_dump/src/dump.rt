@@ -1,6 +1,6 @@
 //! The lines of all records of bytes.
 ghost use Rattle.std.specs.Prelude.{◌≡◌, ◌≢◌, ◌+◌, ◌*◌, ◌-◌, ◌^◌, ◌<◌, ◌≤◌, [], length, true, false, IsTrue, OnOk, IfOk, Err};
-ghost use Rattle.wire_base.specs.declared.tag.WireType.TheVariants.{Varint, Fixed64, Fixed32, LengthDelimited};
+ghost use Rattle.wire_base.specs.declared.tag.WireType.TheVariants.{LengthDelimited};
 ghost use Rattle.wire_base.specs.Field.{Fields, bytes};
 ghost use Rattle.wire_base.specs.Items.{whole, IsItem};
 ghost use Rattle.wire_base.specs.Limits.{uncounted};
@@ -15,13 +15,12 @@ ghost use Rattle.wire_dump.specs.Front.{IsNoGuess, PutsFront, TakesRecord};
 
 use crate::layout::Layout;
 use crate::line::{put_closing, put_fixed, put_number, put_opening};
+use crate::record::{put_fixed32, put_fixed64, put_varint};
 use crate::stop::Stop;
 use crate::string::put_string;
 use std::alloc::AllocError;
 use wire_base::laws as grammar;
-use wire_codec::{
-    Tag, WireType, decode_fixed32, decode_fixed64, decode_length, decode_varint,
-};
+use wire_codec::{Tag, WireType, decode_length};
 use wire_read::{Event, Reader, Value, laws};
 
 /// Puts the lines of all records of these bytes, which begin at this place of the input. Where a
@@ -148,7 +147,6 @@ fn put_message(
         text.now out.old.items out.new.items) }
 {
     let end = place + text.len();
-    let whole = layout.margin(place, end);
     let start = out.len();
     let payload_place = end - payload.len();
     put_opening(
@@ -162,6 +160,7 @@ fn put_message(
         return put_closing(out, layout.margin(end, end), layout.level);
     }
     out.truncate(start);
+    let whole = layout.margin(place, end);
     put_string(out, whole, layout.level, number, payload)
 }
 
@@ -284,79 +283,7 @@ fn put_record(
     }
 }
 
-// The same behind a tag, for a payload that is a varint.
-#[inline(always)]
-fn put_varint(
-    out: &mut Vec<u8>,
-    layout: Layout,
-    number: u32,
-    place: usize,
-    bytes: &[u8],
-    behind: &[u8],
-) -> Result<usize, AllocError>
-    requires placed { place + length bytes.now < 2 ^ 64 }
-    requires tag { Reads bytes.now (IsTagSpelling number Varint) behind.now }
-    ensures { IfOk result (λ count. TakesRecord layout place bytes.now count
-        out.old.items out.new.items) }
-{
-    let mut rest = behind;
-    let Ok(value) = decode_varint(&mut rest) else {
-        return Ok(0);
-    };
-    let count = bytes.len() - rest.len();
-    let margin = layout.margin(place, place + count);
-    put_number(out, margin, layout.level, number, value)?;
-    Ok(count)
-}
-
-#[inline(always)]
-fn put_fixed64(
-    out: &mut Vec<u8>,
-    layout: Layout,
-    number: u32,
-    place: usize,
-    bytes: &[u8],
-    behind: &[u8],
-) -> Result<usize, AllocError>
-    requires placed { place + length bytes.now < 2 ^ 64 }
-    requires tag { Reads bytes.now (IsTagSpelling number Fixed64) behind.now }
-    ensures { IfOk result (λ count. TakesRecord layout place bytes.now count
-        out.old.items out.new.items) }
-{
-    let mut rest = behind;
-    let Ok(value) = decode_fixed64(&mut rest) else {
-        return Ok(0);
-    };
-    let count = bytes.len() - rest.len();
-    let margin = layout.margin(place, place + count);
-    put_fixed(out, margin, layout.level, number, 16, value)?;
-    Ok(count)
-}
-
-#[inline(always)]
-fn put_fixed32(
-    out: &mut Vec<u8>,
-    layout: Layout,
-    number: u32,
-    place: usize,
-    bytes: &[u8],
-    behind: &[u8],
-) -> Result<usize, AllocError>
-    requires placed { place + length bytes.now < 2 ^ 64 }
-    requires tag { Reads bytes.now (IsTagSpelling number Fixed32) behind.now }
-    ensures { IfOk result (λ count. TakesRecord layout place bytes.now count
-        out.old.items out.new.items) }
-{
-    let mut rest = behind;
-    let Ok(value) = decode_fixed32(&mut rest) else {
-        return Ok(0);
-    };
-    let count = bytes.len() - rest.len();
-    let margin = layout.margin(place, place + count);
-    put_fixed(out, margin, layout.level, number, 8, value as u64)?;
-    Ok(count)
-}
-
+// The same behind a tag, for a payload that has a length.
 #[cycle(dump)]
 #[inline(always)]
 fn put_bytes(

@@ -49,7 +49,7 @@ fn put_decimal(out: &mut Vec<u8>, number: u64) -> Result<(), AllocError>
     put_digits(out, number)
 }
 
-// A number of more than one digit; one of up to four without a buffer.
+// A number of more than one digit; one of up to six without a buffer.
 #[inline(never)]
 fn put_digits(out: &mut Vec<u8>, number: u64) -> Result<(), AllocError>
     requires { 10 ≤ number }
@@ -59,11 +59,31 @@ fn put_digits(out: &mut Vec<u8>, number: u64) -> Result<(), AllocError>
         return put_pair(out, number);
     }
     if number < 10_000 {
-        put_one_or_two(out, number / 100)?;
+        return put_three_or_four(out, number);
+    }
+    if number < 1_000_000 {
+        put_three_or_four(out, number / 100)?;
         return put_pair(out, number % 100);
     }
+    put_long(out, number)
+}
+
+#[inline(never)]
+fn put_long(out: &mut Vec<u8>, number: u64) -> Result<(), AllocError>
+    ensures { OnOk result (out.new.items ≡ out.old.items ++ decimal number) }
+{
     let mut buffer = Buffer::new();
     out.extend_from_slice(buffer.format(number).as_bytes())
+}
+
+#[inline(always)]
+fn put_three_or_four(out: &mut Vec<u8>, number: u64) -> Result<(), AllocError>
+    requires more { 100 ≤ number }
+    requires less { number < 10000 }
+    ensures { OnOk result (out.new.items ≡ out.old.items ++ decimal number) }
+{
+    put_one_or_two(out, number / 100)?;
+    put_pair(out, number % 100)
 }
 
 #[inline(always)]
@@ -187,6 +207,7 @@ fn put_hexadecimal(out: &mut Vec<u8>, width: u32, value: u64) -> Result<(), Allo
     ])
 }
 
+#[inline(always)]
 pub(crate) fn put_number(
     out: &mut Vec<u8>,
     margin: Margin,

@@ -1,7 +1,6 @@
-use Rattle.std.proofs.Common.{◌+◌, ◌/◌, ◌%◌, ◌<◌, ◌≤◌, ℕ, List, [], ◌∷◌, ◌++◌, ap, sym, ◌∙◌, append_assoc, arith, rules}
-use Rattle.std.specs.Fmt.{decimal}
+use Rattle.std.proofs.Common.{◌/◌, ◌%◌, ◌<◌, ◌≤◌, ℕ, List, ◌++◌, ap, sym, ◌∙◌, arith, rules}
 use Rattle.std.proofs.lemmas.Result.{on_ok_weaker}
-use Rattle.wire_dump.proofs.Decimal.{two_digits, two_more}
+use Rattle.wire_dump.proofs.Decimal.{pair_put, two_digits}
 use Rattle.wire_dump.proofs.line.put_digits.Goals as goal
 
 pub returns-then-number-lt100 : goal.returns-then-number-lt100
@@ -13,14 +12,12 @@ returns-then-number-lt100 c =
     (λ e. e ∙ ap (λ (x : List ℕ). old ++ x) (sym (two_digits n c.requires few)))
     c.put_pair.ensures
 
-pub returns-then-number-lt10000 : goal.returns-then-number-lt10000
-returns-then-number-lt10000 c =
+pub returns-then-number-lt1000000 : goal.returns-then-number-lt1000000
+returns-then-number-lt1000000 c =
     let n = c.args.number in
-    let old = c.args.out.now.items in
     let many : 100 ≤ n = search (rules, arith) in
-    let pair = (48 + n % 100 / 10) ∷ (48 + n % 100 % 10) ∷ [] in
-    on_ok_weaker c.put_pair-then-number-lt10000.result
-    (λ e. e ∙ ap (λ (x : List ℕ). x ++ pair) c.in_ok-put_one_or_two.ensures
-    ∙ append_assoc old (decimal (n / 100)) pair
-    ∙ ap (λ (x : List ℕ). old ++ x) (sym (two_more n many (omega arith))))
-    c.put_pair-then-number-lt10000.ensures
+    on_ok_weaker c.put_pair-then-number-lt1000000.result
+    (pair_put n c.args.out.now.items c.put_three_or_four-then-number-lt1000000.new.out.items
+    c.put_pair-then-number-lt1000000.new.out.items many (omega arith)
+    c.in_ok-put_three_or_four.ensures)
+    c.put_pair-then-number-lt1000000.ensures

@@ -4,7 +4,7 @@ use Rattle.wire_dump.specs.Dumps.{number}
 use Rattle.wire_dump.specs.Lines.{number_line}
 use Rattle.wire_dump.proofs.Front.{line_taken}
 use Rattle.wire_dump.proofs.Put.{IsMargin}
-use Rattle.wire_dump.proofs.dump.put_varint.Goals as goal
+use Rattle.wire_dump.proofs.record.put_varint.Goals as goal
 
 pub returns : goal.returns
 returns c =
