@@ -5,3 +5,5 @@ pub mod Put
 pub mod Walk
 pub mod One
 pub mod Escaped
+pub mod Front
+pub mod Decimal

@@ -19,6 +19,7 @@ use Rattle.wire_dump.specs.declared.layout.Margin.{Margin}
 use Rattle.wire_base.specs.Spells.{Spells}
 use Rattle.wire_dump.specs.Dumps.{IsMessage, SpellsRecord, number, eight_bytes, four_bytes, message, string}
 use Rattle.wire_dump.specs.Dumped.{IsDumped, IsDumpedFront, ItemLines, Puts, RecordLines, inside}
+use Rattle.wire_dump.specs.Front.{IsNoGuess}
 use Rattle.wire_dump.specs.Lines.{number_line, fixed_line, string_line, opening, closing}
 use Rattle.wire_dump.specs.Places.{Line, line_of, printed, range_text, width_of}
 use Rattle.wire_dump.proofs.Texts.{payload_last}
@@ -162,7 +163,7 @@ five old a b c d =
 
 pub message_put : (y : Layout) (n place payload_place end : ℕ) (l : Limits)
     (payload text old mid last new : List ℕ) (first tail : Margin)
-    → 0 < y.budget → y.budget ≤ 100 → payload ≢ [] → l ≡ uncounted (min y.budget 100)
+    → 0 < y.budget → payload ≢ [] → l ≡ uncounted (y.budget - 1 + 1)
     → SpellsRecord n (bytes payload) text → end ≡ place + length text
     → payload_place ≡ end - length payload
     → IsMargin y place payload_place first → IsMargin y end end tail
@@ -170,10 +171,10 @@ pub message_put : (y : Layout) (n place payload_place end : ℕ) (l : Limits)
     → IsDumped (inside 1 y) payload_place l payload mid last
     → new ≡ last ++ (range_text tail.is_shown tail.start tail.end ++ closing y.level)
     → Puts y place (RecordLines y n (bytes payload) text) text old new
-message_put y n place payload_place end l payload text old mid last new first tail some few full
+message_put y n place payload_place end l payload text old mid last new first tail some full
     limits is at_end at_payload is_first is_tail puts_first h puts_tail =
     let o = y.has_offsets in
-    let all : min y.budget 100 ≡ y.budget = omega arith in
+    let all : y.budget - 1 + 1 ≡ y.budget = omega (arith, some) in
     let (head, parts) = payload_last n payload text is in
     let sizes : length text ≡ length head + length payload =
     ap length parts ∙ length-append head payload in
@@ -221,33 +222,44 @@ cut_back start old more e =
     let within : start ≤ length old = omega (arith, e) in
     take-append-le start old more within ∙ ap (λ (x : ℕ). take x old) e ∙ take-length old
 
-pub no_message_put : WholeInput → NoListBesideFault → (y : Layout)
-    (n place payload_place start : ℕ) (l : Limits)
-    (payload text old mid last cut new : List ℕ) (head : List ℕ) (whole : Margin) (f : Fault)
-    (groups : List ℕ) → y.budget ≤ 100
-    → l ≡ uncounted (min y.budget 100) → start ≡ length old → mid ≡ old ++ head
+-- what was put for a guess is cut off again
+pub no_guess_put : (y : Layout) (n place start : ℕ) (payload text old mid last cut new : List ℕ)
+    (head : List ℕ) (whole : Margin) → 0 < y.budget → start ≡ length old → mid ≡ old ++ head
     → SpellsRecord n (bytes payload) text → IsMargin y place (place + length text) whole
-    → IsDumpedFront (inside 1 y) payload_place l payload f groups mid last
-    → cut ≡ take start last
+    → IsNoGuess (inside 1 y) payload mid last → cut ≡ take start last
     → new
     ≡ cut ++ (range_text whole.is_shown whole.start whole.end ++ string_line y.level n payload)
     → Puts y place (RecordLines y n (bytes payload) text) text old new
-no_message_put whole_input beside y n place payload_place start l payload text old mid last cut new
-    head whole f groups few limits at_start begun is is_whole h back puts =
-    let all : min y.budget 100 ≡ y.budget = omega arith in
-    let refused : ListFault (uncounted y.budget) by_input payload f.error =
-    subst (λ (x : ℕ). ListFault (uncounted x) by_input payload f.error) all
-    (subst (λ (x : Limits). ListFault x by_input payload f.error) limits h.refused.is.of_list) in
+no_guess_put y n place start payload text old mid last cut new head whole some at_start begun is
+    is_whole h back puts =
+    let levels : y.budget - 1 + 1 ≡ y.budget = omega (arith, some) in
     let no_message : (fs : Fields) → IsMessage y.budget payload fs → ⊥ =
-    λ fs m. beside (uncounted y.budget) by_input payload [] f.error fs refused
-    ((whole_input (charge fs) (uncounted y.budget) fs payload []).1 (m.spelled, m.within, refl)) in
-    let more = printed y.has_offsets payload_place h.lines in
-    let whole_end : last ≡ old ++ (head ++ more) =
-    h.written ∙ ap (λ (x : List ℕ). x ++ more) begun ∙ append_assoc old head more in
+    λ fs m. h.never fs m.spelled
+    (subst (λ (x : ℕ). Fits (charge fs) (uncounted x)) (sym levels) m.within) in
+    let whole_end : last ≡ old ++ (head ++ h.more) =
+    h.written ∙ ap (λ (x : List ℕ). x ++ h.more) begun ∙ append_assoc old head h.more in
     let is_old : cut ≡ old =
     back ∙ ap (λ (x : List ℕ). take start x) whole_end
-    ∙ cut_back start old (head ++ more) at_start in
+    ∙ cut_back start old (head ++ h.more) at_start in
     line_put y place whole text (string_line y.level n payload) old new
     (RecordLines y n (bytes payload) text) (string is no_message refl) is_whole
     (puts ∙ ap (λ (x : List ℕ). x ++ (range_text whole.is_shown whole.start whole.end
     ++ string_line y.level n payload)) is_old)
+
+-- a fault of the bytes
+pub no_guess_begins : WholeInput → NoListBesideFault → (y : Layout) (place : ℕ) (l : Limits)
+    (all old new : List ℕ) (f : Fault) (groups : List ℕ) → y.budget < 100
+    → l ≡ uncounted (min (y.budget + 1) 100) → IsDumpedFront y place l all f groups old new
+    → IsNoGuess y all old new
+no_guess_begins whole_input beside y place l all old new f groups few limits h =
+    let levels : min (y.budget + 1) 100 ≡ y.budget + 1 = omega (arith, few) in
+    let m = uncounted (y.budget + 1) in
+    let are : l ≡ m = limits ∙ ap uncounted levels in
+    let refused : ListFault m by_input all f.error =
+    subst (λ (x : Limits). ListFault x by_input all f.error) are h.refused.is.of_list in
+    record {
+      never = λ fs spelled fits. beside m by_input all [] f.error fs refused
+          ((whole_input (charge fs) m fs all []).1 (spelled, fits, refl));
+      more = printed y.has_offsets place h.lines;
+      written = h.written;
+    }

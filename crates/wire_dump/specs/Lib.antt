@@ -4,6 +4,7 @@ pub mod Places
 pub mod Dumps
 pub mod Refused
 pub mod Dumped
+pub mod Front
 pub mod Frames
 pub mod Shortened
 pub mod Laws

@@ -1,5 +1,5 @@
 //! Lines of a dump, put behind what was put.
-ghost use Rattle.std.specs.Prelude.{◌≡◌, ◌+◌, ◌*◌, ◌^◌, ◌<◌, ◌≤◌, ◌∷◌, ◌++◌, codes, decimal, OnOk};
+ghost use Rattle.std.specs.Prelude.{◌≡◌, ◌+◌, ◌*◌, ◌^◌, ◌<◌, ◌≤◌, ◌/◌, ◌%◌, [], ◌∷◌, ◌++◌, codes, decimal, true, OnOk};
 ghost use Rattle.wire_dump.specs.Frames.{frame_opening};
 ghost use Rattle.wire_dump.specs.Lines.{closing, fixed_line, hexadecimal, hexadecimal_digit, indented, line, number_line, opening};
 ghost use Rattle.wire_dump.specs.Places.{range_text};
@@ -49,12 +49,90 @@ fn put_decimal(out: &mut Vec<u8>, number: u64) -> Result<(), AllocError>
     put_digits(out, number)
 }
 
+// A number of more than one digit; one of up to six without a buffer.
 #[inline(never)]
 fn put_digits(out: &mut Vec<u8>, number: u64) -> Result<(), AllocError>
+    requires { 10 ≤ number }
+    ensures { OnOk result (out.new.items ≡ out.old.items ++ decimal number) }
+{
+    if number < 100 {
+        return put_pair(out, number);
+    }
+    if number < 10_000 {
+        return put_three_or_four(out, number);
+    }
+    if number < 1_000_000 {
+        put_three_or_four(out, number / 100)?;
+        return put_pair(out, number % 100);
+    }
+    put_long(out, number)
+}
+
+#[inline(never)]
+fn put_long(out: &mut Vec<u8>, number: u64) -> Result<(), AllocError>
     ensures { OnOk result (out.new.items ≡ out.old.items ++ decimal number) }
 {
     let mut buffer = Buffer::new();
     out.extend_from_slice(buffer.format(number).as_bytes())
+}
+
+#[inline(always)]
+fn put_three_or_four(out: &mut Vec<u8>, number: u64) -> Result<(), AllocError>
+    requires more { 100 ≤ number }
+    requires less { number < 10000 }
+    ensures { OnOk result (out.new.items ≡ out.old.items ++ decimal number) }
+{
+    put_one_or_two(out, number / 100)?;
+    put_pair(out, number % 100)
+}
+
+#[inline(always)]
+#[tactic(auto, using(std::proofs::lemmas::Fmt::decimal_digit, crate::proofs::Decimal::two_digits))]
+fn put_one_or_two(out: &mut Vec<u8>, number: u64) -> Result<(), AllocError>
+    requires { number < 100 }
+    ensures { OnOk result (out.new.items ≡ out.old.items ++ decimal number) }
+{
+    if number < 10 {
+        out.push(48 + number as u8)?;
+        return Ok(());
+    }
+    put_pair(out, number)
+}
+
+// Two digits, of which the first may be 0.
+#[inline(always)]
+fn put_pair(out: &mut Vec<u8>, number: u64) -> Result<(), AllocError>
+    requires { number < 100 }
+    ensures { OnOk result (out.new.items
+        ≡ out.old.items ++ (48 + number / 10) ∷ (48 + number % 10) ∷ []) }
+{
+    out.extend_from_slice(&[48 + (number / 10) as u8, 48 + (number % 10) as u8])
+}
+
+// A field's number, and what opens what is inside it.
+#[inline(always)]
+#[tactic(auto, using(std::proofs::lemmas::Fmt::decimal_digit))]
+fn put_opened(out: &mut Vec<u8>, number: u32) -> Result<(), AllocError>
+    ensures { OnOk result (out.new.items ≡ out.old.items ++ (decimal number ++ codes " {\n")) }
+{
+    if number < 10 {
+        return out.extend_from_slice(&[48 + number as u8, b' ', b'{', b'\n']);
+    }
+    put_digits(out, number as u64)?;
+    out.extend_from_slice(b" {\n")
+}
+
+// A field's number, and what stands before its value.
+#[inline(always)]
+#[tactic(auto, using(std::proofs::lemmas::Fmt::decimal_digit))]
+fn put_named(out: &mut Vec<u8>, number: u32) -> Result<(), AllocError>
+    ensures { OnOk result (out.new.items ≡ out.old.items ++ (decimal number ++ codes ": ")) }
+{
+    if number < 10 {
+        return out.extend_from_slice(&[48 + number as u8, b':', b' ']);
+    }
+    put_digits(out, number as u64)?;
+    out.extend_from_slice(b": ")
 }
 
 // The places of the bytes that a line is of, where they are shown.
@@ -66,13 +144,21 @@ fn put_margin(out: &mut Vec<u8>, margin: Margin) -> Result<(), AllocError>
     if !margin.is_shown {
         return Ok(());
     }
-    put_decimal(out, margin.start as u64)?;
+    put_range(out, margin.start, margin.end)
+}
+
+#[inline(never)]
+fn put_range(out: &mut Vec<u8>, start: usize, end: usize) -> Result<(), AllocError>
+    ensures { OnOk result (out.new.items ≡ out.old.items ++ range_text true start end) }
+{
+    put_decimal(out, start as u64)?;
     out.extend_from_slice(b"..")?;
-    put_decimal(out, margin.end as u64)?;
+    put_decimal(out, end as u64)?;
     out.extend_from_slice(b"  ")
 }
 
 // What each line of a record begins with.
+#[inline(always)]
 pub(crate) fn put_head(
     out: &mut Vec<u8>,
     margin: Margin,
@@ -121,6 +207,7 @@ fn put_hexadecimal(out: &mut Vec<u8>, width: u32, value: u64) -> Result<(), Allo
     ])
 }
 
+#[inline(always)]
 pub(crate) fn put_number(
     out: &mut Vec<u8>,
     margin: Margin,
@@ -131,8 +218,9 @@ pub(crate) fn put_number(
     ensures { OnOk result (out.new.items ≡ out.old.items
         ++ (range_text margin.is_shown margin.start margin.end ++ number_line level number value)) }
 {
-    put_head(out, margin, level, number)?;
-    out.extend_from_slice(b": ")?;
+    put_margin(out, margin)?;
+    put_indentation(out, level)?;
+    put_named(out, number)?;
     put_decimal(out, value)?;
     out.extend_from_slice(b"\n")
 }
@@ -155,6 +243,7 @@ pub(crate) fn put_fixed(
     out.extend_from_slice(b"\n")
 }
 
+#[inline(always)]
 pub(crate) fn put_opening(
     out: &mut Vec<u8>,
     margin: Margin,
@@ -164,8 +253,9 @@ pub(crate) fn put_opening(
     ensures { OnOk result (out.new.items ≡ out.old.items
         ++ (range_text margin.is_shown margin.start margin.end ++ opening level number)) }
 {
-    put_head(out, margin, level, number)?;
-    out.extend_from_slice(b" {\n")
+    put_margin(out, margin)?;
+    put_indentation(out, level)?;
+    put_opened(out, number)
 }
 
 /// Puts what stands before the records of the frame with this number.
@@ -183,6 +273,7 @@ pub(crate) fn put_frame_opening(
     out.extend_from_slice(b" {\n")
 }
 
+#[inline(always)]
 pub(crate) fn put_closing(out: &mut Vec<u8>, margin: Margin, level: u32) -> Result<(), AllocError>
     ensures { OnOk result (out.new.items ≡ out.old.items
         ++ (range_text margin.is_shown margin.start margin.end ++ closing level)) }

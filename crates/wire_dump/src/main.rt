@@ -9,6 +9,7 @@ mod laws;
 mod layout;
 mod line;
 mod options;
+mod record;
 mod shortest;
 mod stop;
 mod string;

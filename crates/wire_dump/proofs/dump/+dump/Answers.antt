@@ -1,17 +1,21 @@
 use Rattle.std.proofs.Common.{◌≡◌, ℕ, ◌+◌, ◌-◌, ◌^◌, ◌<◌, List, [], ◌++◌, length, arith, rules}
 use Rattle.std.proofs.lemmas.Result.{on_ok_weaker}
-use Rattle.std.proofs.Common.{true, nat_eq, Err, refl, ◌∷◌, subst, sym, ap, ◌∙◌, drop}
-use Rattle.std.proofs.lemmas.Result.{err_from_is_err_and}
+use Rattle.std.proofs.Common.{true, false, nat_eq, Err, refl, ◌∷◌, subst, sym, ap, ◌∙◌, take, drop, length-drop}
+use Rattle.std.proofs.lemmas.List.{length-take-le}
+use Rattle.std.proofs.lemmas.Result.{IfOk-weaker, err_from_is_err_and}
 use Rattle.wire_base.specs.Field.{Fields, bytes}
+use Rattle.wire_base.specs.Limits.{uncounted}
 use Rattle.wire_base.specs.Spells.{Spells}
 use Rattle.wire_read.specs.Reading.{At, Gives, IsAt, IsDone, Stops, at, groups_of, item, limits_of}
 use Rattle.wire_read.specs.declared.event.Fault.{Fault}
 use Rattle.wire_dump.specs.declared.layout.Layout.{Layout}
 use Rattle.wire_dump.specs.declared.stop.Stop.TheVariants as stops
-use Rattle.wire_dump.specs.Dumped.{IsDumped, IsDumpedFront, ItemLines, Puts, RecordLines}
+use Rattle.wire_dump.specs.Dumped.{IsDumped, ItemLines, Puts, RecordLines, inside}
+use Rattle.wire_dump.specs.Front.{IsNoGuess, TakesRecord}
 use Rattle.wire_dump.specs.Lines.{closing, fixed_line, number_line, opening, string_line}
 use Rattle.wire_dump.specs.Places.{range_text}
-use Rattle.wire_dump.proofs.Put.{IsMargin, line_put, number_lines, eight_lines, four_lines, start_lines, end_lines, no_budget, no_bytes, no_records, message_put, no_message_put}
+use Rattle.wire_dump.proofs.Front.{front_and_rest, front_begun, front_more, front_no_guess, from_place, nothing_begins, payload_taken, stands}
+use Rattle.wire_dump.proofs.Put.{IsMargin, line_put, number_lines, eight_lines, four_lines, start_lines, end_lines, no_budget, no_bytes, no_records, message_put, no_guess_begins, no_guess_put}
 use Rattle.wire_dump.proofs.Texts.{cut_out, event_text}
 use Rattle.wire_dump.proofs.Walk.{begun, counted_open, few_open, finished, next_item, stopped}
 use Rattle.wire_dump.proofs.dump.+dump.Goals as goal
@@ -191,61 +195,167 @@ put_payload-returns-then-begins_no_record t c =
     (no_records y n payload text never c.requires.is) is)
     c.put_string-then-begins_no_record.ensures
 
-pub put_message-returns-in-Ok : goal.put_message-returns-in-Ok
-put_message-returns-in-Ok t c =
+pub put_message-returns-then-is_message : goal.put_message-returns-then-is_message
+put_message-returns-then-is_message t c =
     let y = c.args.layout in
     let text = c.args.text.now in
     let payload = c.args.payload.now in
     let end = c.args.place + length text in
     let inner = end - length payload in
+    let levels = uncounted (y.budget - 1 + 1) in
+    let old = c.args.out.now.items in
+    let mid = c.put_opening.new.out.items in
     let first : IsMargin y c.args.place inner c.margin.result = record {
       shown = c.margin.ensures.shown;
       start = c.margin.ensures.start;
       end_is = c.margin.ensures.end;
     } in
-    let last : IsMargin y end end c.margin-in-Ok.result = record {
-      shown = c.margin-in-Ok.ensures.shown;
-      start = c.margin-in-Ok.ensures.start;
-      end_is = c.margin-in-Ok.ensures.end;
+    let last : IsMargin y end end c.margin-then-is_message.result = record {
+      shown = c.margin-then-is_message.ensures.shown;
+      start = c.margin-then-is_message.ensures.start;
+      end_is = c.margin-then-is_message.ensures.end;
     } in
+    let put = c.put_guess.new.out.items in
+    let given : IsDumped c.inside.result inner
+    (uncounted (c.inside.result.budget + 1)) payload mid put =
+    c.in_ok-is_message.ensures.message (search rules) in
+    let dumped : IsDumped (inside 1 y) inner levels payload mid put =
+    subst (λ (z : Layout). IsDumped z inner (uncounted (z.budget + 1)) payload mid put)
+    c.inside.ensures given in
     on_ok_weaker c.put_closing.result
-    (message_put y c.args.number c.args.place inner end (limits_of c.new-reader.result) payload text
-    c.args.out.now.items c.put_opening.new.out.items c.put_records.new.out.items
-    c.put_closing.new.out.items c.margin.result c.margin-in-Ok.result c.requires.some c.requires.shallow
-    c.requires.full
-    c.new-reader.ensures.limits c.requires.is refl refl first last c.in_ok-put_opening.ensures
-    (subst (λ (z : Layout). IsDumped z inner (limits_of c.new-reader.result) payload
-    c.put_opening.new.out.items c.put_records.new.out.items) c.inside.ensures c.in-Ok.ensures.ok))
+    (message_put y c.args.number c.args.place inner end levels payload text old mid put
+    c.put_closing.new.out.items c.margin.result c.margin-then-is_message.result c.requires.some
+    c.requires.full refl c.requires.is refl refl first last c.in_ok-put_opening.ensures dumped)
     c.put_closing.ensures
 
-pub put_message-returns-in-Err-Fault : goal.put_message-returns-in-Err-Fault
-put_message-returns-in-Err-Fault t c =
+pub put_message-returns : goal.put_message-returns
+put_message-returns t c =
     let y = c.args.layout in
     let n = c.args.number in
     let text = c.args.text.now in
     let payload = c.args.payload.now in
     let old = c.args.out.now.items in
+    let mid = c.put_opening.new.out.items in
+    let put = c.put_guess.new.out.items in
     let is : IsMargin y c.args.place (c.args.place + length text) c.margin-whole.result = record {
       shown = c.margin-whole.ensures.shown;
       start = c.margin-whole.ensures.start;
       end_is = c.margin-whole.ensures.end;
     } in
-    let inner = (c.args.place + length text) - length payload in
+    let given : IsNoGuess c.inside.result payload mid put =
+    c.in_ok-is_message.ensures.none (search rules) in
+    let none : IsNoGuess (inside 1 y) payload mid put =
+    subst (λ (z : Layout). IsNoGuess z payload mid put) c.inside.ensures given in
+    on_ok_weaker c.put_string.result
+    (no_guess_put y n c.args.place c.len-start.result payload text old mid put
+    c.truncate.new.self.items c.put_string.new.out.items
+    (range_text c.margin.result.is_shown c.margin.result.start c.margin.result.end
+    ++ opening y.level n) c.margin-whole.result c.requires.some (search rules)
+    c.in_ok-put_opening.ensures c.requires.is is none c.truncate.ensures.items)
+    c.put_string.ensures
+
+-- ---- guesses
+
+pub put_guess-returns-clause-message : goal.put_guess-returns-clause-message
+put_guess-returns-clause-message t c =
+    let y = c.args.layout in
+    let all = c.args.bytes.now in
+    let count = c.in_ok-count.count in
+    let old = c.args.out.now.items in
+    let mid = c.put_front.new.out.items in
+    let new = c.put_rest.new.out.items in
+    let rest = take (length all - count) (drop count all) in
+    IfOk-weaker c.put_rest.result
+    (λ is. is ≡ true
+    → IsDumped y (c.args.place + count) (uncounted (y.budget + 1)) rest mid new)
+    (λ is. is ≡ true → IsDumped y c.args.place (uncounted (y.budget + 1)) all old new)
+    (λ is h yes. front_and_rest c.joined_texts_spell.ensures c.joined_adds_up.ensures y
+    c.args.place count all old mid new c.in_ok-count.ensures
+    (subst (λ (x : List ℕ). IsDumped y (c.args.place + count) (uncounted (y.budget + 1)) x mid new)
+    (from_place count all) (h yes)))
+    c.put_rest.ensures.message
+
+pub put_guess-returns-clause-none : goal.put_guess-returns-clause-none
+put_guess-returns-clause-none t c =
+    let y = c.args.layout in
+    let all = c.args.bytes.now in
+    let count = c.in_ok-count.count in
+    let old = c.args.out.now.items in
+    let mid = c.put_front.new.out.items in
+    let new = c.put_rest.new.out.items in
+    let rest = take (length all - count) (drop count all) in
+    IfOk-weaker c.put_rest.result (λ is. is ≡ false → IsNoGuess y rest mid new)
+    (λ is. is ≡ false → IsNoGuess y all old new)
+    (λ is h no. front_no_guess c.one_tag.ensures c.one_payload.ensures c.joined_adds_up.ensures y
+    c.args.place count all old mid new c.in_ok-count.ensures
+    (subst (λ (x : List ℕ). IsNoGuess y x mid new) (from_place count all) (h no)))
+    c.put_rest.ensures.none
+
+pub put_guess-returns-then-begins_no_record-clause-none :
+    goal.put_guess-returns-then-begins_no_record-clause-none
+put_guess-returns-then-begins_no_record-clause-none t c = λ _.
+    let y = c.args.layout in
+    let all = c.args.bytes.now in
+    let count = c.in_ok-count.count in
+    let old = c.args.out.now.items in
+    let mid = c.put_front.new.out.items in
+    let rest = take (length all - count) (drop count all) in
+    let never : (fs : Fields) → Spells fs rest → ⊥ = search rules in
+    front_no_guess c.one_tag.ensures c.one_payload.ensures c.joined_adds_up.ensures y
+    c.args.place count all old mid mid c.in_ok-count.ensures
+    (nothing_begins y (drop count all) mid
+    (subst (λ (x : List ℕ). (fs : Fields) → Spells fs x → ⊥) (from_place count all) never))
+
+pub put_rest-returns-in-Err-Fault-clause-none : goal.put_rest-returns-in-Err-Fault-clause-none
+put_rest-returns-in-Err-Fault-clause-none t c = λ _.
+    let y = c.args.layout in
+    let all = c.args.bytes.now in
     let f = c.in-Err-Fault.field-0-0 in
     let was : c.put_records.result ≡ Err (stops.Fault f) = search rules in
-    let groups = groups_of c.put_records.new.reader in
-    on_ok_weaker c.put_string.result
-    (no_message_put c.whole_input.ensures c.no_list_beside_fault.ensures y n c.args.place inner
-    c.len-start.result (limits_of c.new-reader.result) payload text old
-    c.put_opening.new.out.items c.put_records.new.out.items c.truncate.new.self.items
-    c.put_string.new.out.items
-    (range_text c.margin.result.is_shown c.margin.result.start c.margin.result.end
-    ++ opening y.level n) c.margin-whole.result f groups c.requires.shallow
-    c.new-reader.ensures.limits (search rules) c.in_ok-put_opening.ensures c.requires.is is
-    (subst (λ (z : Layout). IsDumpedFront z inner (limits_of c.new-reader.result) payload f groups
-    c.put_opening.new.out.items c.put_records.new.out.items) c.inside.ensures
-    (c.put_records.ensures.fault f was)) c.truncate.ensures.items)
-    c.put_string.ensures
+    no_guess_begins c.whole_input.ensures c.no_list_beside_fault.ensures y c.args.place
+    (limits_of c.new-reader.result) all c.args.out.now.items c.put_records.new.out.items f
+    (groups_of c.put_records.new.reader) c.requires.shallow c.new-reader.ensures.limits
+    (c.put_records.ensures.fault f was)
+
+pub put_front-loop-count-init : goal.put_front-loop-count-init
+put_front-loop-count-init t c =
+    front_begun c.args.layout c.args.place c.args.bytes.now c.args.out.now.items
+
+pub put_front-loop-count-preserved : goal.put_front-loop-count-preserved
+put_front-loop-count-preserved t c =
+    let y = c.args.layout in
+    let all = c.args.bytes.now in
+    let count = c.loop-count.count in
+    let mid = c.loop-count.out.items in
+    let new = c.put_record.new.out.items in
+    front_more c.joined_texts_spell.ensures c.joined_adds_up.ensures y c.args.place count
+    c.in_ok-len.len all c.args.out.now.items mid new c.loop-count.invariant
+    (subst (λ (x : List ℕ). TakesRecord y (c.args.place + count) x c.in_ok-len.len mid new)
+    (from_place count all) c.in_ok-len.ensures) (omega arith)
+
+pub put_bytes-put_payload-requires : goal.put_bytes-put_payload-requires
+put_bytes-put_payload-requires t c =
+    let all = c.args.bytes.now in
+    let mid = c.decode_length.new.buf.now in
+    let len = c.in-Ok.len in
+    let count = length all - (length mid - len) in
+    let is : count ≡ length all - length (drop len mid) = omega (arith, length-drop len mid) in
+    let h = stands c.args.number (bytes (take len mid)) all c.args.behind.now (drop len mid) count
+    c.requires.tag c.in-Ok.ensures.payload is in
+    let placed : c.args.place + length (take count all) < 2 ^ 64 =
+    omega (arith, c.requires.placed, h.within, length-take-le count all h.within) in
+    (search rules, (c.requires.room, (c.requires.shallow, (placed, h.spelled))))
+
+pub put_bytes-returns : goal.put_bytes-returns
+put_bytes-returns t c =
+    let all = c.args.bytes.now in
+    let mid = c.decode_length.new.buf.now in
+    let len = c.in-Ok.len in
+    let count = length all - (length mid - len) in
+    let is : count ≡ length all - length (drop len mid) = omega (arith, length-drop len mid) in
+    payload_taken c.args.layout c.args.place c.args.number count len all c.args.behind.now mid
+    (take count all) (take len mid) c.args.out.now.items c.put_payload.new.out.items
+    c.requires.tag c.in-Ok.ensures.payload is refl refl c.in_ok-put_payload.ensures
 
 -- ---- records
 
