@@ -4,23 +4,24 @@ use crate::words::Words;
 /// Of the lines of the word `uses`, the word `imports`: a line a module, `use MODULE.{a, b}`.
 pub(crate) fn definition_imports(page: &mut Words) {
     let uses = page.take("uses");
-    let mut last = "";
-    page.set("imports", "");
+    page.fill_all(&[("imports", ""), ("last", "")]);
     for line in page.sorted(&uses) {
         let (module, name) = line.split_once(' ').unwrap_or((line, ""));
         page.set("of", module);
         page.set("import", name);
+        let is_same = page.get("last") == module;
+        let is_first = page.get("last").is_empty();
         page.append(
             "imports",
-            if module == last {
+            if is_same {
                 ", $import$"
-            } else if last.is_empty() {
+            } else if is_first {
                 "use $of$.{$import$"
             } else {
                 "}\nuse $of$.{$import$"
             },
         );
-        last = module;
+        page.set("last", module);
     }
     page.append("imports", "}\n");
 }
@@ -42,15 +43,16 @@ pub(crate) fn ghost_imports(page: &mut Words) {
 pub(crate) fn code_imports(page: &mut Words) {
     let uses = page.take("uses");
     let lines = page.sorted(&uses);
-    page.set("imports", "");
+    page.fill("imports", "");
     for is_own in [true, false] {
-        let mut last = "";
+        page.fill("last", "");
         for line in &lines {
             let (module, _) = line.split_once(' ').unwrap_or((line, ""));
-            if module != last && module.starts_with("crate::") == is_own {
+            let is_new = page.get("last") != module;
+            if is_new && module.starts_with("crate::") == is_own {
                 put_module(page, module, &lines);
             }
-            last = module;
+            page.set("last", module);
         }
     }
 }
@@ -81,25 +83,26 @@ fn put_module(page: &mut Words, module: &str, lines: &[&str]) {
 fn put_filled(page: &mut Words) {
     let names = page.take("names");
     page.append("imports", "use $of$::{\n");
-    page.set("line", "   ");
-    let mut waiting = "";
+    page.fill_all(&[("line", "   "), ("import", "")]);
     for name in names.split(", ") {
-        if !waiting.is_empty() {
-            put_name(page, waiting, 99);
+        if !page.get("import").is_empty() {
+            put_name(page, 99);
         }
-        waiting = name;
+        page.set("import", name);
     }
-    put_name(page, waiting, 100);
+    put_name(page, 100);
     page.append("imports", "$line$\n};\n");
 }
 
 // Puts a name into the line where it has room, and else into a new one.
-fn put_name(page: &mut Words, name: &str, width: usize) {
-    page.set("import", name);
-    let room = page.get("line").len().saturating_add(name.len());
+fn put_name(page: &mut Words, width: usize) {
+    let room = page
+        .get("line")
+        .len()
+        .saturating_add(page.get("import").len());
     if room.saturating_add(2) > width {
         page.append("imports", "$line$\n");
-        page.set("line", "   ");
+        page.fill("line", "   ");
     }
     page.append("line", " $import$,");
 }

@@ -122,11 +122,11 @@ impl Words {
     pub(crate) fn indent(&mut self, name: &'static str) {
         let text = self.take(name);
         let mut moved = String::new(self.alloc);
-        let mut margin = "  ";
+        let mut is_first = true;
         for line in text.split('\n') {
-            self.push(margin, &mut moved);
+            self.push(if is_first { "  " } else { "\n  " }, &mut moved);
             self.push(line, &mut moved);
-            margin = "\n  ";
+            is_first = false;
         }
         self.put(name, moved);
     }
