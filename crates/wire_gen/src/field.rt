@@ -115,6 +115,9 @@ fn field_of(
         None => {
             let sort = set_item(schema, field, &mut words)?;
             words.number("size", element_size(schema, field));
+            if !words.get("element").is_empty() {
+                words.fill("size", "$element$");
+            }
             set_kind(message.origin.is_proto3, field, sort, &mut words);
         }
     }

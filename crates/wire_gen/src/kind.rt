@@ -107,10 +107,10 @@ const REPEATED: Kind = Kind {
     code: "wire_fields Repeated\n",
     definitions: "Rattle.std.specs.Prelude map\nRattle.wire_fields.specs.Presence repeated\n",
     held: "Vec<$held$>",
-    kind: "Repeated<$kind$, 24>",
+    kind: "Repeated<$kind$, $of_text$>",
     value: "List (List ℕ)",
     view: "map $view$ m.$field$.items",
-    definition: "repeated 24 $definition$",
+    definition: "repeated $of_text$ $definition$",
 };
 
 const MAP: Kind = Kind {
@@ -118,10 +118,10 @@ const MAP: Kind = Kind {
     definitions: "Rattle.std.specs.Prelude List\nRattle.wire_fields.specs.Maps $key_order$\n\
         Rattle.wire_fields.specs.Maps viewed\n$of_always$ $always$\n$numeric$",
     held: "BTreeMap<$key_held$, $held$>",
-    kind: "Map<$key_kind$, $presence$<$kind$>, 64>",
+    kind: "Map<$key_kind$, $presence$<$kind$>, $of_entry$>",
     value: "List ($key_bracketed$ × $bracketed$)",
     view: "viewed $key_view$ $view$ m.$field$.entries",
-    definition: "$key_order$ 64$key_numbers$ ($always$ $definition$)",
+    definition: "$key_order$ $of_entry$$key_numbers$ ($always$ $definition$)",
 };
 
 /// Makes the words of a field of those of its values.

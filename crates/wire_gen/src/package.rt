@@ -85,25 +85,25 @@ fn files_of(
 }
 
 // What the parameter says: `crate=NAME` is the crate's own name, or else that of the first file,
-// and each `import=PACKAGE=CRATE` names the crate that has another package.
+// each `import=PACKAGE=CRATE` names the crate that has another package, and `element=BYTES` is what
+// an element of a list or a map is charged.
 fn set_crate(base: &mut Words, request: &CodeGeneratorRequest) -> Result<(), GenerateError> {
     base.set("crate", first_name(request));
+    base.fill_all(&[("of_text", "24"), ("of_entry", "64")]);
     for option in request.parameter.split(',') {
         base.set("option", option);
         match option.split_once('=') {
             Some(("crate", name)) => base.set("crate", name),
-            Some(("import", import)) => {
-                let Some((package, home)) = import.split_once('=') else {
-                    return Err(base.refused("an import is import=PACKAGE=CRATE: $option$"));
-                };
-                base.set("package", package);
-                base.set("home", home);
-                base.append_all(&[("imported", "$package$ $home$\n"), ("needs", " $home$")]);
+            Some(("import", import)) => set_import(base, import)?,
+            Some(("element", bytes)) if is_size(bytes) => {
+                base.set("element", bytes);
+                base.fill_all(&[("of_text", "$element$"), ("of_entry", "$element$")]);
             }
             None if option.is_empty() => {}
             _ => {
-                let why = "parameters are crate=NAME and import=PACKAGE=CRATE: $option$";
-                return Err(base.refused(why));
+                return Err(base.refused(
+                    "parameters are crate=NAME, import=PACKAGE=CRATE and element=BYTES: $option$",
+                ));
             }
         }
     }
@@ -111,6 +111,22 @@ fn set_crate(base: &mut Words, request: &CodeGeneratorRequest) -> Result<(), Gen
         return Err(base.refused("no file is to be generated"));
     }
     Ok(())
+}
+
+fn set_import(base: &mut Words, import: &str) -> Result<(), GenerateError> {
+    let Some((package, home)) = import.split_once('=') else {
+        return Err(base.refused("an import is import=PACKAGE=CRATE: $option$"));
+    };
+    base.set("package", package);
+    base.set("home", home);
+    base.append_all(&[("imported", "$package$ $home$\n"), ("needs", " $home$")]);
+    Ok(())
+}
+
+// Digits of a number that is at most 999,999,999.
+fn is_size(digits: &str) -> bool {
+    let is_short = !digits.is_empty() && digits.len() < 10 && !digits.starts_with('0');
+    is_short && digits.chars().all(|it| it.is_ascii_digit())
 }
 
 // What the first file is called.
@@ -208,6 +224,10 @@ impl Package {
         code: String,
         definitions: String,
     ) -> Result<(), GenerateError> {
+        page.fill("line", "mod $module$;\n");
+        if self.roots.get("modules").contains(page.get("line")) {
+            return Err(page.refused("$full$: another type is called $name$ too"));
+        }
         self.roots.copy(page, &["name", "module"]);
         self.roots.append_all(&[
             ("modules", "mod $module$;\n"),
@@ -222,7 +242,7 @@ impl Package {
     fn add_roots(&mut self) -> Result<(), GenerateError> {
         let mut roots = Words::like(&self.roots);
         for name in ["modules", "exports", "definitions"] {
-            sort_lines(&mut roots, name)?;
+            sort_lines(&mut roots, name);
         }
         roots.fill_all(&[("root", ROOT), ("readme", README)]);
         let root = roots.finish("root")?;
@@ -234,17 +254,11 @@ impl Package {
     }
 }
 
-// Puts the lines of a word in order, of which no two are equal.
-fn sort_lines(roots: &mut Words, name: &'static str) -> Result<(), GenerateError> {
+// Puts the lines of a word in order.
+fn sort_lines(roots: &mut Words, name: &'static str) {
     let lines = roots.take(name);
-    let mut count: usize = 0;
     for line in roots.sorted(&lines) {
         roots.set("line", line);
         roots.append(name, "$line$\n");
-        count = count.saturating_add(1);
     }
-    if count < lines.lines().count() {
-        return Err(roots.refused("two types have one name in $name$"));
-    }
-    Ok(())
 }
