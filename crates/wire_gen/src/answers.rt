@@ -10,8 +10,6 @@ Rattle.std.proofs.Common sym
 Rattle.std.proofs.Common ◌∙◌
 Rattle.wire_codec.specs.TagView tag_number
 Rattle.wire_fields.specs.Arms arm_err
-Rattle.wire_fields.specs.Arms neither
-Rattle.wire_fields.specs.Arms rest_err
 Rattle.wire_fields.specs.Arms unlike
 Rattle.wire_fields.specs.Shape keeps
 Rattle.$crate$.specs.$name$ $module$-known
@@ -27,7 +25,7 @@ pub returns-in-$number$-clause-err : goal.returns-in-$number$-clause-err
 returns-in-$number$-clause-err g c =
     arm_err $module$-shape.takes $step$ $number$ _
     (sym c.field_number.ensures.number ∙ c.in-$number$.is) _ _
-    (λ charge z p h. (z.0$path$, h.0$firsts$)) _ _ _
+    (λ charge z p h. ($seen$)) _ _ _
     $call$.result $call$.ensures.err
 ";
 
@@ -49,11 +47,37 @@ returns-in_default-clause-err g c =
     _ _ _ _ c.keep.result c.keep.ensures.err
 ";
 
+// The same where a field may leave records to the unknown fields.
+const REST_BESIDE: &str = "
+pub returns-in_default-clause-err : goal.returns-in_default-clause-err
+returns-in_default-clause-err g c =
+    let n = tag_number c.args.tag in
+    arm_err $module$-shape.takes keeps n n refl _ _
+    (λ charge z p h. (
+      z.1,
+      (from_last $module$-known.owns $module$-known.takes keeps_beside n
+          (λ p. $unlike$)
+          _ z charge p h).0,
+    ))
+    _ _ _ c.keep.result c.keep.ensures.err
+";
+
+const USES_OF_BESIDE: &str = "\
+Rattle.std.proofs.Common refl
+Rattle.wire_fields.specs.Arms from_last
+Rattle.wire_fields.specs.Leaving keeps_beside
+";
+
 // The search does not find by itself that what a list in many records takes the message takes.
 const USES_OF_TAKEN: &str = "\
 Rattle.std.proofs.Common refl
 Rattle.wire_fields.specs.Arms arm_ok
 ";
+
+// A field's part of what a message makes of a record, alone and with the unknown fields.
+const INSIDE: &str = "z.0$path$, h.0$firsts$";
+
+const BESIDE: &str = "(z.0$path$, z.1), h$firsts$";
 
 const OF_ONEOF: Template = ("uses", "$specs$ $definition$\n");
 
@@ -70,21 +94,15 @@ pub(crate) fn answers_of(
 ) -> Result<String, GenerateError> {
     let mut page = Words::like(base);
     page.copy(tree, &["unlike"]);
-    page.fill_all(&[("uses", USES), ("call", "c.merge")]);
+    page.fill("uses", USES);
     for field in fields {
         page.copy(
             &field.words,
-            &[
-                "field",
-                "kind",
-                "definition",
-                "specs",
-                "step",
-                "path",
-                "firsts",
-                "taken",
-            ],
+            &["field", "kind", "definition", "specs", "step"],
         );
+        page.copy(&field.words, &["path", "firsts", "taken", "sort"]);
+        let is_beside = page.get("sort") == "Leaving";
+        page.fill("seen", if is_beside { BESIDE } else { INSIDE });
         let (name, template) = if field.oneof.is_some() {
             OF_ONEOF
         } else {
@@ -93,22 +111,47 @@ pub(crate) fn answers_of(
         page.append(name, template);
         for number in field.words.get("numbers").split(' ') {
             page.set("number", number);
+            page.set("call", field.words.get("call"));
             put_arm(&mut page);
         }
     }
+    let leaves = fields
+        .iter()
+        .any(|it| it.words.get("both") == "both_leaving");
+    page.append(
+        "uses",
+        if leaves {
+            USES_OF_BESIDE
+        } else {
+            "Rattle.wire_fields.specs.Arms rest_err\n"
+        },
+    );
+    if page.get("unlike").contains("neither") {
+        page.append("uses", "Rattle.wire_fields.specs.Arms neither\n");
+    }
     definition_imports(&mut page);
     page.fill("text", HEAD);
-    page.append_all(&[("text", "$answers$"), ("text", REST)]);
+    page.append("text", "$answers$");
+    page.append("text", if leaves { REST_BESIDE } else { REST });
     page.finish("text")
 }
 
-// What is to be shown of the record of one number; the first call has no number in its name.
+// What is to be shown of the record of one number; the first call of a function has no number in
+// its name.
 fn put_arm(page: &mut Words) {
-    if !page.get("answers").is_empty() {
-        page.fill("call", "(c.merge-in-$number$)");
-    }
+    page.fill("this", " $call$ ");
+    let is_first = !page.get("calls").contains(page.get("this"));
+    page.append("calls", "$this$");
+    page.fill(
+        "call",
+        if is_first {
+            "c.$call$"
+        } else {
+            "(c.$call$-in-$number$)"
+        },
+    );
     page.append("answers", REFUSED);
-    if page.get("kind").starts_with("Unpacked") {
+    if page.get("kind").starts_with("Unpacked") && page.get("sort") != "Leaving" {
         page.append("answers", TAKEN);
         page.append("uses", USES_OF_TAKEN);
     }

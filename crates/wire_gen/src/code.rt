@@ -122,6 +122,18 @@ const LONG_ARM: &str = "            $number$ => <$kind$ as Kind>::merge(
             ),
 ";
 
+const CLOSED_ARM: &str = "            $number$ => $call$::<$of_name$, B>(tag, \
+                          &mut self.$field$, &mut self.unknown, buf, context),\n";
+
+const LONG_CLOSED_ARM: &str = "            $number$ => $call$::<$of_name$, B>(
+$alloc$                tag,
+                &mut self.$field$,
+                &mut self.unknown,
+                buf,
+                context,
+            ),
+";
+
 const OF_SOME: [Template; 2] = [
     ("whole", "($local$, rest)"),
     (
@@ -169,7 +181,9 @@ pub(crate) fn code_of(
     for field in fields {
         page.copy(
             &field.words,
-            &["field", "number", "kind", "held", "at", "code"],
+            &[
+                "field", "number", "kind", "held", "at", "code", "call", "of_name",
+            ],
         );
         put_field(&mut page, schema, &field.words);
     }
@@ -199,9 +213,33 @@ fn put_field(page: &mut Words, schema: &Schema, field: &Words) {
     page.append_all(&OF_FIELD);
     for number in field.get("numbers").split(' ') {
         page.set("number", number);
-        page.fill("arm", ARM);
-        // (its line's end counted)
-        let is_short = page.get("arm").len() <= WIDTH + 1;
-        page.append("arms", if is_short { ARM } else { LONG_ARM });
+        put_arm(page);
     }
+}
+
+// The call of one number, in one line where it has room there.
+fn put_arm(page: &mut Words) {
+    let is_plain = page.get("call") == "merge";
+    let is_each = page.get("call") == "merge_closed_each";
+    page.fill("arm", if is_plain { ARM } else { CLOSED_ARM });
+    // (its line's end counted)
+    let is_short = page.get("arm").len() <= WIDTH + 1 && !is_each;
+    page.fill(
+        "alloc",
+        if is_each {
+            "                alloc,\n"
+        } else {
+            ""
+        },
+    );
+    page.append(
+        "arms",
+        if is_short {
+            "$arm$"
+        } else if is_plain {
+            LONG_ARM
+        } else {
+            LONG_CLOSED_ARM
+        },
+    );
 }

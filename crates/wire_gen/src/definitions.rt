@@ -2,18 +2,25 @@
 use crate::error::GenerateError;
 use crate::field::Field;
 use crate::imports::definition_imports;
-use crate::words::Words;
+use crate::words::{Template, Words};
 
 const USES: &str = "\
 Rattle.wire_codec.specs.Field Fields
 Rattle.wire_fields.specs.Shape Shape
-Rattle.wire_fields.specs.Shape unknown
 Rattle.$crate$.specs.declared.$module$.$name$ $name$
 ";
 
-const USES_OF_KIND: &str = "\
+// Of a field that leaves nothing to the unknown fields, and of one that may.
+const USES_OF_LAWFUL: &str = "\
 Rattle.wire_fields.specs.Shape Lawful
 Rattle.wire_fields.specs.Shape known
+";
+
+const USES_OF_SHAPE: &str = "Rattle.wire_fields.specs.Shape unknown\n$twice$";
+
+const USES_OF_LEAVING: &str = "\
+Rattle.wire_fields.specs.Leaving Leaving
+Rattle.wire_fields.specs.Leaving with_unknown
 ";
 
 const HEAD: &str = "\
@@ -38,12 +45,12 @@ $tree_view$,
 $accessors$";
 
 const SHAPE: &str = "\
-abbrev pub $module$-known : Shape $name$-Known
+abbrev pub $module$-known : $part$ $name$-Known
 $module$-known =
     $tree_table$
 
 abbrev pub $module$-shape : Shape $name$-Value
-$module$-shape = two $module$-known unknown
+$module$-shape = $whole$
 ";
 
 const EMPTY: &str = "\
@@ -57,8 +64,15 @@ abbrev pub $module$-shape : Shape $name$-Value
 $module$-shape = unknown
 ";
 
+const WHOLE: [Template; 2] = [("part", "Shape"), ("whole", "two $module$-known unknown")];
+
+const LEAVING: [Template; 2] = [
+    ("part", "Leaving"),
+    ("whole", "with_unknown $module$-known"),
+];
+
 const KIND: &str = "\
-abbrev pub $module$-$field$-kind : Lawful $bracketed$
+abbrev pub $module$-$field$-kind : $sort$ $bracketed$
 $module$-$field$-kind = $definition$
 
 ";
@@ -87,20 +101,29 @@ pub(crate) fn definitions_of(
     for field in fields {
         page.copy(
             &field.words,
-            &[
-                "field",
-                "value",
-                "bracketed",
-                "definition",
-                "definitions",
-                "path",
-            ],
+            &["field", "value", "bracketed", "path", "sort"],
         );
-        page.append("uses", "$definitions$Rattle.wire_fields.specs.Shape two\n");
-        page.append("accessors", ACCESSOR);
+        page.copy(&field.words, &["definition", "definitions"]);
+        page.append_all(&[("uses", "$definitions$"), ("accessors", ACCESSOR)]);
+        page.fill("twice", "Rattle.wire_fields.specs.Shape two\n");
         if field.oneof.is_none() {
-            page.append_all(&[("kinds", KIND), ("uses", USES_OF_KIND)]);
+            let is_lawful = page.get("sort") == "Lawful";
+            page.append("kinds", KIND);
+            page.append("uses", if is_lawful { USES_OF_LAWFUL } else { "" });
         }
+    }
+    let leaves = fields
+        .iter()
+        .any(|it| it.words.get("both") == "both_leaving");
+    if leaves {
+        page.append("uses", USES_OF_LEAVING);
+        page.fill_all(&LEAVING);
+    } else {
+        page.append("uses", USES_OF_SHAPE);
+        page.fill_all(&WHOLE);
+    }
+    if page.get("tree_table").contains("both_leaving") {
+        page.append("uses", "Rattle.wire_fields.specs.Leaving both_leaving\n");
     }
     definition_imports(&mut page);
     page.fill("text", HEAD);

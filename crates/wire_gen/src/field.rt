@@ -1,7 +1,7 @@
 //! Fields of a message type, each with its kind.
 use crate::error::GenerateError;
 use crate::item::{Sort, set_item};
-use crate::kind::{set_always, set_key, set_kind, set_map};
+use crate::kind::{set_always, set_closed, set_key, set_kind, set_map};
 use crate::names::{type_name, word_name};
 use crate::schema::{MessageType, Schema};
 use crate::words::{Template, Words};
@@ -59,7 +59,39 @@ pub(crate) fn fields_of(
         }
     }
     names_differ(alloc, &mut fields)?;
+    leave_others(&mut fields);
     Ok(fields)
+}
+
+// Where a field leaves records to the unknown fields, its message is a table of such as may.
+fn leave_others(fields: &mut [Field]) {
+    let leaves = fields.iter().any(|it| !it.words.get("closed").is_empty());
+    for field in fields {
+        if leaves && field.words.get("closed").is_empty() {
+            field.words.fill("table", "leaving_none ($table$)");
+            field.words.append(
+                "definitions",
+                "Rattle.wire_fields.specs.Leaving leaving_none\n",
+            );
+        }
+        // (and how far its proofs stand to the right)
+        if leaves {
+            field
+                .words
+                .fill_all(&[("both", "both_leaving"), ("margin", "          ")]);
+        } else {
+            field.words.fill_all(&[("both", "two"), ("margin", "    ")]);
+        }
+    }
+}
+
+// An enum is closed only where a field is one by itself.
+fn stop_on_closed(words: &mut Words) -> Result<(), GenerateError> {
+    if words.get("closed").is_empty() {
+        return Ok(());
+    }
+    let why = "$full$.$proto$: closed enums in a oneof or a map are not generated";
+    Err(words.refused(why))
 }
 
 fn names_differ(alloc: Global, fields: &mut [Field]) -> Result<(), GenerateError> {
@@ -121,10 +153,10 @@ fn field_of(
             set_kind(message.origin.is_proto3, field, sort, &mut words);
         }
     }
-    words.fill_all(&[
-        ("table", "known $number$ $module$-$field$-kind"),
-        ("step", "$module$-$field$-kind.kind.takes"),
-    ]);
+    words.fill_all(&PLAIN);
+    if !words.get("closed").is_empty() {
+        set_closed(&mut words);
+    }
     Ok(Field { words, oneof: None })
 }
 
@@ -135,10 +167,12 @@ fn set_part(
     number: i32,
     words: &mut Words,
 ) -> Result<Sort, GenerateError> {
-    match entry.field.iter().find(|it| it.number == number) {
-        Some(field) => set_item(schema, field, words),
-        None => Err(words.refused("$full$: a map whose entries lack a field")),
-    }
+    let Some(field) = entry.field.iter().find(|it| it.number == number) else {
+        return Err(words.refused("$full$: a map whose entries lack a field"));
+    };
+    let sort = set_item(schema, field, words)?;
+    stop_on_closed(words)?;
+    Ok(sort)
 }
 
 fn variant_of(
@@ -147,6 +181,7 @@ fn variant_of(
     field: &FieldDescriptorProto,
 ) -> Result<Words, GenerateError> {
     let sort = set_item(schema, field, &mut words)?;
+    stop_on_closed(&mut words)?;
     set_always(sort, &mut words);
     words.set("variant", &type_name(words.alloc(), &field.name)?);
     words.fill_all(&[("word", "$field$"), ("digits", "$number$")]);
@@ -189,7 +224,15 @@ fn add_variant(
     Ok(())
 }
 
-const ONEOF: [Template; 10] = [
+// A field that leaves nothing to the unknown fields, as all but those of closed enums.
+const PLAIN: [Template; 4] = [
+    ("table", "known $number$ $module$-$field$-kind"),
+    ("step", "$module$-$field$-kind.kind.takes"),
+    ("sort", "Lawful"),
+    ("call", "merge"),
+];
+
+const ONEOF: [Template; 11] = [
     ("held", "Option<$name$>"),
     ("kind", "$name$Kind"),
     ("value", "$name$-Value"),
@@ -198,6 +241,7 @@ const ONEOF: [Template; 10] = [
     ("definition", "$module$-shape"),
     ("table", "$module$-shape"),
     ("step", "$module$-shape.takes"),
+    ("call", "merge"),
     (
         "code",
         "crate::$module$ $name$\ncrate::$module$ $name$Kind\n",

@@ -17,7 +17,7 @@ pub(crate) enum Sort {
 // The words of a value: its type in code, `held`, and its name among the `kind`s of fields; as
 // contracts see it, its type `value`, what stands `before` and `behind` one in code, and the same
 // as a function, `view`; its `definition`; the `form` and the `map` of a number, and `numeric`
-// where it is one; `order` and `order_numbers` as the key of a map; and lines of names that are
+// where it is one; `closed`, where it is of an enum that is; `order` and `order_numbers` as the key of a map; and lines of names that are
 // brought in, of `code`, of `definitions`, and `ghosts` of clauses.
 const STRING: [Template; 8] = [
     ("held", "String"),
@@ -206,10 +206,15 @@ fn set_enum(
     let Some(of_enum) = schema.enum_of(&field.type_name) else {
         return Err(foreign(field, words));
     };
-    if !of_enum.origin.is_proto3 {
-        return Err(words.refused("$full$.$proto$: closed enums are not generated"));
-    }
     set_names(&of_enum.words, words);
+    words.fill(
+        "closed",
+        if of_enum.origin.is_proto3 {
+            ""
+        } else {
+            "closed"
+        },
+    );
     words.fill_all(&ENUM);
     words.fill_all(&NUMBER);
     words.append_all(&OF_NUMBER);

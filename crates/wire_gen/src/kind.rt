@@ -1,6 +1,6 @@
 //! The kinds of fields.
 use crate::item::{Sort, bracket};
-use crate::words::Words;
+use crate::words::{Template, Words};
 use wire_descriptor::FieldDescriptorProto;
 
 const LABEL_REPEATED: i32 = 3;
@@ -149,6 +149,65 @@ pub(crate) fn set_kind(
         _ => &OPTIONAL,
     };
     put_kind(kind, words);
+}
+
+const CLOSED: [Template; 5] = [
+    (
+        "definition",
+        "$closed$ $of_module$-number $of_module$-of $number$",
+    ),
+    (
+        "definitions",
+        "$of_specs$.declared.$of_module$.$of_name$ $of_name$\n",
+    ),
+    ("table", "$module$-$field$-kind"),
+    ("step", "$module$-$field$-kind.takes"),
+    ("sort", "Leaving"),
+];
+
+const OF_CLOSED: [Template; 4] = [
+    (
+        "definitions",
+        "$specs$ $of_module$-number\n$specs$ $of_module$-of\n",
+    ),
+    (
+        "definitions",
+        "Rattle.wire_codec.specs.EnumValue EnumValue\n",
+    ),
+    ("definitions", "Rattle.wire_fields.specs.Closed $closed$\n"),
+    ("code", "wire_fields $call$\n"),
+];
+
+/// Makes the words of a field of a closed enum, of those of an open one.
+pub(crate) fn set_closed(words: &mut Words) {
+    let is_once = words.get("kind").starts_with("Optional");
+    let is_packed = words.get("kind").starts_with("Packed");
+    words.fill(
+        "closed",
+        if is_once {
+            "closed_once"
+        } else if is_packed {
+            "closed_packed"
+        } else {
+            "closed_unpacked"
+        },
+    );
+    words.fill_all(&CLOSED);
+    words.fill(
+        "call",
+        if is_once {
+            "merge_closed"
+        } else {
+            "merge_closed_each"
+        },
+    );
+    words.append_all(&OF_CLOSED);
+    if is_once {
+        words.fill("view", "m.$field$");
+        words.append("definitions", "Rattle.std.specs.Prelude Option\n");
+    } else {
+        words.append("definitions", "Rattle.std.specs.Prelude List\n");
+    }
 }
 
 /// Makes the words of a value those of the key of a map.

@@ -5,22 +5,25 @@ use crate::imports::definition_imports;
 use crate::words::{Template, Words};
 
 const USES: &str = "\
-Rattle.std.proofs.Common inl
-Rattle.std.proofs.Common inr
 Rattle.std.specs.Prelude None
 Rattle.std.specs.Prelude Option
 Rattle.std.specs.Prelude Some
-Rattle.std.specs.Prelude ◌⊎◌
 Rattle.wire_codec.specs.Folds Step
 Rattle.wire_codec.specs.Records Records
 Rattle.wire_codec.specs.Records none
 Rattle.wire_fields.specs.Oneof Variants
-Rattle.wire_fields.specs.Oneof either_of
 Rattle.wire_fields.specs.Oneof oneof
 Rattle.wire_fields.specs.Oneof variant
 Rattle.wire_fields.specs.Shape FieldKind
 Rattle.wire_fields.specs.Shape Shape
 Rattle.$crate$.specs.declared.$module$.$name$ $name$
+";
+
+const USES_OF_MANY: &str = "\
+Rattle.std.proofs.Common inl
+Rattle.std.proofs.Common inr
+Rattle.std.specs.Prelude ◌⊎◌
+Rattle.wire_fields.specs.Oneof either_of
 ";
 
 const HEAD: &str = "\
@@ -132,6 +135,7 @@ pub(crate) fn oneof_definitions(base: &Words, oneof: &Oneof) -> Result<String, G
         put_tree(&mut page, place);
     }
     if last > 0 {
+        page.append("uses", USES_OF_MANY);
         page.fill("all", "(either_of $module$-front $word$-of-$module$)");
     }
     definition_imports(&mut page);

@@ -13,7 +13,6 @@ Rattle.wire_codec.specs.TagView tag_number
 Rattle.wire_fields.specs.Arms arm_err
 Rattle.wire_fields.specs.Arms arm_ok
 Rattle.wire_fields.specs.Arms from_last
-Rattle.wire_fields.specs.Arms neither
 Rattle.wire_fields.specs.Arms to_last
 Rattle.wire_fields.specs.Arms unlike
 Rattle.$crate$.specs.$name$ $module$-of
@@ -97,6 +96,9 @@ pub(crate) fn merge_answers(base: &Words, oneof: &Oneof) -> Result<String, Gener
                 "neither _ _ ($unlike$) (unlike n $digits$ (search rules))"
             },
         );
+    }
+    if last > 1 {
+        page.append("uses", "Rattle.wire_fields.specs.Arms neither\n");
     }
     definition_imports(&mut page);
     page.fill("text", HEAD);

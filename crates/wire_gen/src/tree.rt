@@ -37,8 +37,8 @@ const RIGHT: [Template; 6] = [
 const PAIR: [Template; 5] = [
     ("value", "($value$\n    × $right_value$)"),
     ("view", "(\n$view$,\n$right_view$,\n)"),
-    ("table", "two ($table$)\n    ($right_table$)"),
-    ("unlike", "neither _ _ ($unlike$)\n    ($right_unlike$)"),
+    ("table", "$both$ ($table$)\n    ($right_table$)"),
+    ("unlike", "neither _ _ ($unlike$)\n$margin$($right_unlike$)"),
     (
         "pairs",
         "        let fields_$low$_to_$high$ = ($local$, $right_local$);\n",
@@ -99,7 +99,10 @@ pub(crate) fn tree_of(base: &Words, fields: &mut [Field]) -> Result<Words, Gener
 
 fn leaf(place: usize, field: &Words) -> Node {
     let mut words = Words::new(field.alloc());
-    words.copy(field, &["number", "bracketed", "view", "table"]);
+    words.copy(
+        field,
+        &["number", "bracketed", "view", "table", "both", "margin"],
+    );
     words.fill_all(&LEAF);
     let mut is_first = true;
     for number in field.get("numbers").split(' ') {
@@ -109,7 +112,7 @@ fn leaf(place: usize, field: &Words) -> Node {
             if is_first {
                 "unlike n $of$ (search rules)"
             } else {
-                "neither _ _ ($unlike$)\n    (unlike n $of$ (search rules))"
+                "neither _ _ ($unlike$)\n$margin$(unlike n $of$ (search rules))"
             },
         );
         is_first = false;

@@ -1,7 +1,7 @@
 use Rattle.std.proofs.Common.{rules, sym, ◌∙◌}
 use Rattle.wire_codec.specs.TagView.{tag_number}
 use Rattle.wire_descriptor.specs.MessageOptions.{message_options-known, message_options-map_entry-kind, message_options-shape}
-use Rattle.wire_fields.specs.Arms.{arm_err, neither, rest_err, unlike}
+use Rattle.wire_fields.specs.Arms.{arm_err, rest_err, unlike}
 use Rattle.wire_fields.specs.Shape.{keeps}
 use Rattle.wire_descriptor.proofs.message_options.MessageOptionsMessage.merge_field.Goals as goal
 

@@ -1,7 +1,7 @@
 use Rattle.std.proofs.Common.{rules, sym, ◌∙◌}
 use Rattle.wire_codec.specs.TagView.{tag_number}
 use Rattle.wire_descriptor.specs.OneofDescriptorProto.{oneof_descriptor_proto-known, oneof_descriptor_proto-name-kind, oneof_descriptor_proto-shape}
-use Rattle.wire_fields.specs.Arms.{arm_err, neither, rest_err, unlike}
+use Rattle.wire_fields.specs.Arms.{arm_err, rest_err, unlike}
 use Rattle.wire_fields.specs.Shape.{keeps}
 use Rattle.wire_descriptor.proofs.oneof_descriptor_proto.OneofDescriptorProtoMessage.merge_field.Goals as goal
 
