@@ -137,6 +137,7 @@ fn reach(left: &Node, right: &Node, fields: &mut [Field]) {
 
 fn pair(left: Node, right: Node, pairs: &mut Words) -> Node {
     let mut words = left.words;
+    words.copy(&right.words, &[]);
     for (name, of) in &RIGHT {
         words.set(name, right.words.get(of));
     }

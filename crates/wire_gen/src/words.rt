@@ -66,7 +66,7 @@ impl Words {
         }
     }
 
-    /// Takes these words of another.
+    /// Takes these words of another, and with them its want of memory.
     pub(crate) fn copy(&mut self, others: &Words, names: &'static [&'static str]) {
         self.is_short |= others.is_short;
         for name in names {
