@@ -2,6 +2,7 @@
 use crate::error::GenerateError;
 use crate::field::Field;
 use crate::imports::definition_imports;
+use crate::tree::Tree;
 use crate::words::{Template, Words};
 
 const USES: &str = "\
@@ -90,10 +91,10 @@ const OF_KIND: Template = (
 pub(crate) fn answers_of(
     base: &Words,
     fields: &[Field],
-    tree: &Words,
+    tree: &Tree,
 ) -> Result<String, GenerateError> {
     let mut page = Words::like(base);
-    page.copy(tree, &["unlike"]);
+    page.copy(&tree.words, &["unlike"]);
     page.fill("uses", USES);
     for field in fields {
         page.copy(

@@ -4,6 +4,7 @@ use crate::error::GenerateError;
 use crate::field::Field;
 use crate::imports::code_imports;
 use crate::schema::{MessageType, Schema};
+use crate::tree::{Node, Tree};
 use crate::words::{Template, Words};
 
 // The widest line of code.
@@ -72,7 +73,7 @@ $emptied$            unknown: UnknownFields::new(alloc),
     }
 
     fn compute_size(&self, cache: &mut SizeCache) -> Result<u32, EncodeError> {
-$parts$$pairs$        let rest = Rest {
+$lets$        let rest = Rest {
             fields: &self.unknown,
         };
         measure($whole$, cache)
@@ -83,7 +84,7 @@ $parts$$pairs$        let rest = Rest {
         cache: &mut SizeCache,
         sink: &mut S,
     ) -> Result<(), EncodeError> {
-$parts$$pairs$        let rest = Rest {
+$lets$        let rest = Rest {
             fields: &self.unknown,
         };
         write($whole$, cache, sink)
@@ -104,10 +105,39 @@ $cleared$        self.unknown.clear();
 }
 ";
 
-const PART: &str = "        let field_$number$: Known<$kind$> = Known {
+const KNOWN: &str = "        let field_$number$: Known<$kind$> = Known {
             number: $number$,
-            held: &self.$field$,
+            held: &self.$message$$field$,
         };
+";
+
+const PART_LET: &str = "        let $local$ = $part_type$ {
+            message: self,
+        };
+";
+
+// Some fields of a message of many.
+const PART: &str = "
+// The fields $low$ to $high$ of a `$name$`.
+#[derive(Drop)]
+struct $part_type$<'a> {
+    message: &'a $name$,
+}
+
+impl<'a> Parts for $part_type$<'a> {
+    ghost use Rattle.$crate$.specs.$name$.{$part_words$};
+    ghost use Rattle.$crate$.specs.$name$.{$part_words$-value};
+
+    ghost records = { λ p. $part_words$.records ($part_words$-value p.message.now) };
+
+    fn len(&self, cache: &mut SizeCache) -> Result<u64, EncodeError> {
+$lets$        $local$.len(cache)
+    }
+
+    fn put<S: EncodeSink>(&self, cache: &mut SizeCache, sink: &mut S) -> Result<(), EncodeError> {
+$lets$        $local$.put(cache, sink)
+    }
+}
 ";
 
 const ARM: &str = "            $number$ => <$kind$ as Kind>::merge(alloc, tag, &mut self.$field$, \
@@ -153,14 +183,13 @@ const OF_NONE: [Template; 2] = [
     ),
 ];
 
-const OF_FIELD: [Template; 5] = [
+const OF_FIELD: [Template; 4] = [
     ("uses", "$code$wire_fields Kind\nwire_fields Known\n"),
     ("declared", "    pub $field$: $held$,\n"),
     (
         "emptied",
         "            $field$: <$kind$ as Kind>::empty(alloc),\n",
     ),
-    ("parts", PART),
     (
         "cleared",
         "        <$kind$ as Kind>::clear(&mut self.$field$);\n",
@@ -173,10 +202,10 @@ pub(crate) fn code_of(
     schema: &Schema,
     message: &MessageType,
     fields: &[Field],
-    tree: &Words,
+    tree: &Tree,
 ) -> Result<String, GenerateError> {
     let mut page = Words::like(base);
-    page.copy(tree, &["local", "pairs"]);
+    page.copy(&tree.words, &["local"]);
     page.set("uses", USES);
     for field in fields {
         page.copy(
@@ -192,6 +221,9 @@ pub(crate) fn code_of(
     } else {
         &OF_SOME
     });
+    if !tree.parts.is_empty() {
+        page.append("uses", "wire_fields Parts\n");
+    }
     code_imports(&mut page);
     page.set("package", message.words.get("package"));
     page.set("own_name", message.words.get("outer").trim_end_matches('.'));
@@ -201,8 +233,48 @@ pub(crate) fn code_of(
         "" => page.append("code", "/// The message `$name$`.\n"),
         comment => put_comment(&mut page, "code", "", comment),
     }
+    put_lets(&mut page, fields, tree, None);
     page.append_all(&[("code", STRUCT), ("code", NAME), ("code", MESSAGE)]);
+    for part in &tree.parts {
+        page.copy(&part.words, &["low", "high", "local", "part_type", "part_words"]);
+        put_lets(&mut page, fields, tree, Some(part));
+        page.append("code", PART);
+    }
     page.finish("code")
+}
+
+// The lines that make the tuple of a part by itself, or without one that of all fields: first what
+// is in no part within, and the parts, and then the pairs of these.
+fn put_lets(page: &mut Words, fields: &[Field], tree: &Tree, part: Option<&Node>) {
+    page.set("lets", "");
+    page.set("message", if part.is_some() { "message." } else { "" });
+    for (place, field) in fields.iter().enumerate() {
+        if is_within(tree, part, place, place.saturating_add(1)) {
+            page.copy(&field.words, &["field", "number", "kind"]);
+            page.append("lets", KNOWN);
+        }
+        if let Some(inner) = tree.parts.iter().find(|it| it.first == place) {
+            if part.is_none() {
+                page.set("local", inner.words.get("local"));
+                page.set("part_type", inner.words.get("part_type"));
+                page.append("lets", PART_LET);
+            }
+        }
+    }
+    for pair in &tree.pairs {
+        if is_within(tree, part, pair.first, pair.behind) {
+            page.copy(&pair.words, &["pair"]);
+            page.append("lets", "$pair$");
+        }
+    }
+}
+
+// Whether fields in a row stand in a part, or in none.
+fn is_within(tree: &Tree, part: Option<&Node>, first: usize, behind: usize) -> bool {
+    match part {
+        Some(part) => part.has(first, behind),
+        None => !tree.parts.iter().any(|it| it.has(first, behind)),
+    }
 }
 
 // What there is for each field.

@@ -2,6 +2,7 @@
 use crate::error::GenerateError;
 use crate::field::Field;
 use crate::imports::definition_imports;
+use crate::tree::Tree;
 use crate::words::{Template, Words};
 
 const USES: &str = "\
@@ -28,6 +29,23 @@ const HEAD: &str = "\
 $imports$
 $kinds$";
 
+const PART_VALUE: &str = "\
+abbrev pub $part_value$ : Type 0
+$part_value$ =
+    $tree_value$
+
+abbrev pub $part_words$-value : $name$ → $part_value$
+$part_words$-value m = $tree_view$
+
+";
+
+const PART_SHAPE: &str = "\
+abbrev pub $part_words$ : $part$ $part_value$
+$part_words$ =
+    $tree_table$
+
+";
+
 const VALUE: &str = "\
 abbrev pub $name$-Known : Type 0
 $name$-Known =
@@ -42,7 +60,7 @@ $tree_view$,
   m.unknown,
 )
 
-$accessors$";
+$accessors$$shapes$";
 
 const SHAPE: &str = "\
 abbrev pub $module$-known : $part$ $name$-Known
@@ -87,17 +105,10 @@ $field$-of-$module$ m = m.0$path$
 pub(crate) fn definitions_of(
     base: &Words,
     fields: &[Field],
-    tree: &Words,
+    tree: &Tree,
 ) -> Result<String, GenerateError> {
     let mut page = Words::like(base);
-    page.set_all(tree);
-    page.fill_all(&[
-        ("tree_value", "$value$"),
-        ("tree_view", "$view$"),
-        ("tree_table", "$table$"),
-        ("uses", USES),
-    ]);
-    page.indent("tree_view");
+    page.fill("uses", USES);
     for field in fields {
         page.copy(
             &field.words,
@@ -122,6 +133,12 @@ pub(crate) fn definitions_of(
         page.append("uses", USES_OF_SHAPE);
         page.fill_all(&WHOLE);
     }
+    for part in &tree.parts {
+        put_tree(&mut page, &part.words);
+        page.append_all(&[("values", PART_VALUE), ("shapes", PART_SHAPE)]);
+    }
+    put_tree(&mut page, &tree.words);
+    page.indent("tree_view");
     if page.get("tree_table").contains("both_leaving") {
         page.append("uses", "Rattle.wire_fields.specs.Leaving both_leaving\n");
     }
@@ -130,7 +147,17 @@ pub(crate) fn definitions_of(
     page.append_all(if fields.is_empty() {
         &[("text", EMPTY)]
     } else {
-        &[("text", VALUE), ("text", SHAPE)]
+        &[("text", "$values$"), ("text", VALUE), ("text", SHAPE)]
     });
     page.finish("text")
+}
+
+// The words of a part of the tree, or of its root.
+fn put_tree(page: &mut Words, tree: &Words) {
+    page.copy(tree, &["value", "view", "table", "part_words", "part_value"]);
+    page.fill_all(&[
+        ("tree_value", "$value$"),
+        ("tree_view", "$view$"),
+        ("tree_table", "$table$"),
+    ]);
 }

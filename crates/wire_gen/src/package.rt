@@ -34,8 +34,8 @@ const ROOT: &str = "\
 $modules$
 $exports$";
 
-// The most fields of a message: a tuple of many more is not proved.
-const MOST_FIELDS: usize = 20;
+// The most fields of a message: a copy of many more is not proved.
+const MOST_FIELDS: usize = 40;
 
 /// The answer of the plug-in to a request of protoc, as bytes both. What a schema has and a crate
 /// can't have is an error that is answered.
@@ -170,7 +170,7 @@ impl Package {
         let mut page = self.page(&message.words);
         let mut fields = fields_of(&self.base, schema, message)?;
         if fields.len() > MOST_FIELDS {
-            return Err(page.refused("$full$: more than 20 fields"));
+            return Err(page.refused("$full$: more than 40 fields"));
         }
         let tree = tree_of(&page, &mut fields)?;
         let code = code_of(&page, schema, message, &fields, &tree)?;

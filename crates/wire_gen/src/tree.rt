@@ -4,15 +4,34 @@ use crate::error::GenerateError;
 use crate::field::Field;
 use crate::words::{Template, Words};
 
-// Fields in a row, as one part of the tree. Its words are the first and the last number, `low` and
-// `high`; the `local` of code that has the pair, and the lines of `pairs` that make it; its type
-// `value` as contracts see it, and how a message `m` is seen so, its `view`; the `table`, and why a
-// number is none of it, `unlike`.
+// The fields of a part by itself: a tuple of many more is not proved.
+const PART: usize = 16;
+
+/// The fields of a message as a tree. Its words are those of the root but for its numbers.
 #[derive(Drop)]
-struct Node {
-    first: usize,
-    behind: usize,
-    words: Words,
+pub(crate) struct Tree {
+    pub words: Words,
+    /// The pairs, an inner one before the one that it is in; the word `pair` of each makes it.
+    pub pairs: Vec<Node>,
+    /// Where there are many fields, those of sixteen in a row that have a type of their own.
+    pub parts: Vec<Node>,
+}
+
+/// Fields in a row, as one part of the tree. Its words are the first and the last number, `low` and
+/// `high`; the `local` of code that has the pair; its type `value` as contracts see it, and how a
+/// message `m` is seen so, its `view`; the `table`, and why a number is none of it, `unlike`.
+#[derive(Drop)]
+pub(crate) struct Node {
+    pub first: usize,
+    pub behind: usize,
+    pub words: Words,
+}
+
+impl Node {
+    /// Whether all these fields are in a row.
+    pub(crate) fn has(&self, first: usize, behind: usize) -> bool {
+        self.first <= first && behind <= self.behind
+    }
 }
 
 const LEAF: [Template; 6] = [
@@ -40,9 +59,23 @@ const PAIR: [Template; 5] = [
     ("table", "$both$ ($table$)\n    ($right_table$)"),
     ("unlike", "neither _ _ ($unlike$)\n$margin$($right_unlike$)"),
     (
-        "pairs",
+        "pair",
         "        let fields_$low$_to_$high$ = ($local$, $right_local$);\n",
     ),
+];
+
+// What a part by itself is called, in code and in definitions, and its value.
+const NAMES: [Template; 3] = [
+    ("part_type", "$name$Fields$low$To$high$"),
+    ("part_words", "$module$-fields-$low$-to-$high$"),
+    ("part_value", "$name$-Fields-$low$-To-$high$"),
+];
+
+// The name in the place of what it is.
+const NAMED: [Template; 3] = [
+    ("value", "$part_value$"),
+    ("view", "$part_words$-value m"),
+    ("table", "$part_words$"),
 ];
 
 // How the fields are reached that stand in the first of a pair, and in the second: the `path`, the
@@ -59,15 +92,18 @@ const SECOND: [Template; 3] = [
     ("taken", "($taken$, refl)"),
 ];
 
-/// The words of the tree of these fields: `local` and `pairs`, `value`, `view`, `table`, `unlike`.
-/// Each field is told its `path`.
-pub(crate) fn tree_of(base: &Words, fields: &mut [Field]) -> Result<Words, GenerateError> {
+/// The tree of these fields. Each field is told its `path`.
+pub(crate) fn tree_of(base: &Words, fields: &mut [Field]) -> Result<Tree, GenerateError> {
     let alloc = base.alloc();
-    let mut pairs = Words::new(alloc);
+    let mut tree = Tree {
+        words: Words::new(alloc),
+        pairs: Vec::new(alloc),
+        parts: Vec::new(alloc),
+    };
     let mut nodes = Vec::new(alloc);
     for (place, field) in fields.iter_mut().enumerate() {
         field.words.fill("taken", "(h, refl)");
-        nodes.push(leaf(place, &field.words))?;
+        nodes.push(leaf(base, place, &field.words))?;
     }
     // Each turn halves the number of nodes.
     for _ in 0..usize::BITS {
@@ -80,7 +116,7 @@ pub(crate) fn tree_of(base: &Words, fields: &mut [Field]) -> Result<Words, Gener
             match left.take() {
                 Some(first) => {
                     reach(&first, &node, fields);
-                    next.push(pair(first, node, &mut pairs))?;
+                    next.push(tree.pair(first, node, fields.len())?)?;
                 }
                 None => left = Some(node),
             }
@@ -91,14 +127,15 @@ pub(crate) fn tree_of(base: &Words, fields: &mut [Field]) -> Result<Words, Gener
         nodes = next;
     }
     if let Some(root) = nodes.pop() {
-        pairs.copy(&root.words, &["local", "value", "view", "table", "unlike"]);
+        tree.words = root.words;
     }
-    pairs.ended()?;
-    Ok(pairs)
+    tree.words.ended()?;
+    Ok(tree)
 }
 
-fn leaf(place: usize, field: &Words) -> Node {
+fn leaf(base: &Words, place: usize, field: &Words) -> Node {
     let mut words = Words::new(field.alloc());
+    words.copy(base, &["name", "module"]);
     words.copy(
         field,
         &["number", "bracketed", "view", "table", "both", "margin"],
@@ -135,21 +172,37 @@ fn reach(left: &Node, right: &Node, fields: &mut [Field]) {
     }
 }
 
-fn pair(left: Node, right: Node, pairs: &mut Words) -> Node {
-    let mut words = left.words;
-    words.copy(&right.words, &[]);
-    for (name, of) in &RIGHT {
-        words.set(name, right.words.get(of));
-    }
-    words.indent("view");
-    words.indent("right_view");
-    words.fill_all(&PAIR);
-    words.fill("local", "fields_$low$_to_$high$");
-    pairs.set("pair", words.get("pairs"));
-    pairs.append("pairs", "$pair$");
-    Node {
-        first: left.first,
-        behind: right.behind,
-        words,
+impl Tree {
+    // A pair of these, which is a part by itself where it has the fields of one and there are more.
+    fn pair(&mut self, left: Node, right: Node, count: usize) -> Result<Node, GenerateError> {
+        let (first, behind) = (left.first, right.behind);
+        let mut words = left.words;
+        words.copy(&right.words, &[]);
+        for (name, of) in &RIGHT {
+            words.set(name, right.words.get(of));
+        }
+        words.indent("view");
+        words.indent("right_view");
+        words.fill_all(&PAIR);
+        words.fill("local", "fields_$low$_to_$high$");
+        self.pairs.push(Node {
+            first,
+            behind,
+            words: Words::like(&words),
+        })?;
+        if behind.saturating_sub(first) == PART && PART < count {
+            words.fill_all(&NAMES);
+            self.parts.push(Node {
+                first,
+                behind,
+                words: Words::like(&words),
+            })?;
+            words.fill_all(&NAMED);
+        }
+        Ok(Node {
+            first,
+            behind,
+            words,
+        })
     }
 }
