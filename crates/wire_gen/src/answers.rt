@@ -12,7 +12,6 @@ Rattle.std.proofs.Common ◌∙◌
 Rattle.wire_codec.specs.TagView tag_number
 Rattle.wire_fields.specs.Arms arm_err
 Rattle.wire_fields.specs.Arms unlike
-Rattle.wire_fields.specs.Shape keeps
 Rattle.$crate$.specs.$name$ $module$-known
 Rattle.$crate$.specs.$name$ $module$-shape
 ";
@@ -48,6 +47,17 @@ returns-in_default-clause-err g c =
     _ _ _ _ c.keep.result c.keep.ensures.err
 ";
 
+// The same where they are not kept.
+const REST_DROPPED: &str = "
+pub returns-in_default-clause-err : goal.returns-in_default-clause-err
+returns-in_default-clause-err g c =
+    let n = tag_number c.args.tag in
+    rest_err $module$-known.owns $module$-known.takes drops _
+    (λ p. $unlike$)
+    _ _ _ _ c.pass_over.result
+    (IfErr-weaker c.pass_over.result _ _ (λ e none other. none) c.pass_over.ensures.err)
+";
+
 // The same where a field may leave records to the unknown fields.
 const REST_BESIDE: &str = "
 pub returns-in_default-clause-err : goal.returns-in_default-clause-err
@@ -63,7 +73,19 @@ returns-in_default-clause-err g c =
     _ _ _ c.keep.result c.keep.ensures.err
 ";
 
+const USES_OF_REST: &str = "\
+Rattle.wire_fields.specs.Arms rest_err
+Rattle.wire_fields.specs.Shape keeps
+";
+
+const USES_OF_DROPPED: &str = "\
+Rattle.std.proofs.lemmas.Result IfErr-weaker
+Rattle.wire_fields.specs.Arms rest_err
+Rattle.wire_fields.specs.Dropped drops
+";
+
 const USES_OF_BESIDE: &str = "\
+Rattle.wire_fields.specs.Shape keeps
 Rattle.std.proofs.Common refl
 Rattle.wire_fields.specs.Arms from_last
 Rattle.wire_fields.specs.Leaving keeps_beside
@@ -119,12 +141,15 @@ pub(crate) fn answers_of(
     let leaves = fields
         .iter()
         .any(|it| it.words.get("both") == "both_leaving");
+    let is_kept = page.get("unknown") == "keep";
     page.append(
         "uses",
         if leaves {
             USES_OF_BESIDE
+        } else if is_kept {
+            USES_OF_REST
         } else {
-            "Rattle.wire_fields.specs.Arms rest_err\n"
+            USES_OF_DROPPED
         },
     );
     if page.get("unlike").contains("neither") {
@@ -133,7 +158,16 @@ pub(crate) fn answers_of(
     definition_imports(&mut page);
     page.fill("text", HEAD);
     page.append("text", "$answers$");
-    page.append("text", if leaves { REST_BESIDE } else { REST });
+    page.append(
+        "text",
+        if leaves {
+            REST_BESIDE
+        } else if is_kept {
+            REST
+        } else {
+            REST_DROPPED
+        },
+    );
     page.finish("text")
 }
 

@@ -21,19 +21,13 @@ wire_codec Message
 wire_codec MessageName
 wire_codec SizeCache
 wire_codec Tag
-wire_codec UnknownFields
-wire_fields Rest
-wire_fields keep
 wire_fields measure
 wire_fields write
 ";
 
 const STRUCT: &str = "\
 #[derive(Clone, Debug, Drop, PartialEq)]
-pub struct $name$ {
-$declared$    /// The fields that the schema lacks, as they came.
-    pub unknown: UnknownFields,
-}
+pub struct $name$ {$declared$}
 ";
 
 const NAME: &str = "
@@ -66,17 +60,12 @@ impl Message for $name$ {
 
     ghost single = { $module$-shape.single };
 
-    fn default_value(alloc: Global) -> $name$ {
-        $name$ {
-$emptied$            unknown: UnknownFields::new(alloc),
-        }
+    fn default_value($alloc$: Global) -> $name$ {
+        $name$ {$emptied$}
     }
 
     fn compute_size(&self, cache: &mut SizeCache) -> Result<u32, EncodeError> {
-$lets$        let rest = Rest {
-            fields: &self.unknown,
-        };
-        measure($whole$, cache)
+$lets$        measure($whole$, cache)
     }
 
     fn write_to<S: EncodeSink>(
@@ -84,24 +73,19 @@ $lets$        let rest = Rest {
         cache: &mut SizeCache,
         sink: &mut S,
     ) -> Result<(), EncodeError> {
-$lets$        let rest = Rest {
-            fields: &self.unknown,
-        };
-        write($whole$, cache, sink)
+$lets$        write($whole$, cache, sink)
     }
 
     fn merge_field<B: Buf>(
         &mut self,
-        alloc: Global,
+        $alloc$: Global,
         tag: Tag,
         buf: &mut B,
         context: &mut DecodeContext,
     ) -> Result<(), DecodeError> {
 $merge$    }
 
-    fn clear(&mut self) {
-$cleared$        self.unknown.clear();
-    }
+    fn clear(&mut self) {$cleared$}
 }
 ";
 
@@ -156,7 +140,7 @@ const CLOSED_ARM: &str = "            $number$ => $call$::<$of_name$, B>(tag, \
                           &mut self.$field$, &mut self.unknown, buf, context),\n";
 
 const LONG_CLOSED_ARM: &str = "            $number$ => $call$::<$of_name$, B>(
-$alloc$                tag,
+$first$                tag,
                 &mut self.$field$,
                 &mut self.unknown,
                 buf,
@@ -164,24 +148,46 @@ $alloc$                tag,
             ),
 ";
 
-const OF_SOME: [Template; 2] = [
-    ("whole", "($local$, rest)"),
+const OF_SOME: [Template; 3] = [
+    ("alloc", "alloc"),
+    ("whole", "($local$, $rest$)"),
     (
         "merge",
-        "        match tag.field_number() {
-$arms$            _ => keep(alloc, tag, &mut self.unknown, buf, context),
-        }
-",
+        "        match tag.field_number() {\n$arms$            _ => $keep$,\n        }\n",
     ),
 ];
 
-const OF_NONE: [Template; 2] = [
-    ("whole", "rest"),
+const OF_NONE: [Template; 2] = [("whole", "$rest$"), ("merge", "        $keep$\n")];
+
+// What becomes of the records that the schema lacks.
+const KEPT: [Template; 6] = [
     (
-        "merge",
-        "        keep(alloc, tag, &mut self.unknown, buf, context)\n",
+        "uses",
+        "wire_codec UnknownFields\nwire_fields Rest\nwire_fields keep\n",
     ),
+    (
+        "declared",
+        "    /// The fields that the schema lacks, as they came.\n    pub unknown: UnknownFields,\n",
+    ),
+    (
+        "emptied",
+        "            unknown: UnknownFields::new(alloc),\n",
+    ),
+    ("cleared", "        self.unknown.clear();\n"),
+    ("keep", "keep(alloc, tag, &mut self.unknown, buf, context)"),
+    ("rest", "rest"),
 ];
+
+const DROPPED: [Template; 3] = [
+    ("uses", "wire_fields Dropped\nwire_fields pass_over\n"),
+    ("keep", "pass_over(tag, buf, context)"),
+    ("rest", "Dropped"),
+];
+
+const REST_LET: &str = "        let rest = Rest {
+            fields: &self.unknown,
+        };
+";
 
 const OF_FIELD: [Template; 4] = [
     ("uses", "$code$wire_fields Kind\nwire_fields Known\n"),
@@ -216,11 +222,17 @@ pub(crate) fn code_of(
         );
         put_field(&mut page, schema, &field.words);
     }
+    let is_kept = page.get("unknown") == "keep";
+    page.append_all(if is_kept { &KEPT } else { &DROPPED });
+    page.set("alloc", if is_kept { "alloc" } else { "_alloc" });
     page.fill_all(if fields.is_empty() {
         &OF_NONE
     } else {
         &OF_SOME
     });
+    for name in ["declared", "emptied", "cleared"] {
+        put_in_braces(&mut page, name);
+    }
     if !tree.parts.is_empty() {
         page.append("uses", "wire_fields Parts\n");
     }
@@ -236,11 +248,30 @@ pub(crate) fn code_of(
     put_lets(&mut page, fields, tree, None);
     page.append_all(&[("code", STRUCT), ("code", NAME), ("code", MESSAGE)]);
     for part in &tree.parts {
-        page.copy(&part.words, &["low", "high", "local", "part_type", "part_words"]);
+        page.copy(
+            &part.words,
+            &["low", "high", "local", "part_type", "part_words"],
+        );
         put_lets(&mut page, fields, tree, Some(part));
         page.append("code", PART);
     }
     page.finish("code")
+}
+
+// Puts lines where they stand between braces: on lines of their own.
+fn put_in_braces(page: &mut Words, name: &'static str) {
+    let lines = page.take(name);
+    if !lines.is_empty() {
+        page.set("lines", &lines);
+        page.fill(
+            name,
+            match name {
+                "declared" => "\n$lines$",
+                "emptied" => "\n$lines$        ",
+                _ => "\n$lines$    ",
+            },
+        );
+    }
 }
 
 // The lines that make the tuple of a part by itself, or without one that of all fields: first what
@@ -266,6 +297,9 @@ fn put_lets(page: &mut Words, fields: &[Field], tree: &Tree, part: Option<&Node>
             page.copy(&pair.words, &["pair"]);
             page.append("lets", "$pair$");
         }
+    }
+    if part.is_none() && page.get("rest") == "rest" {
+        page.append("lets", REST_LET);
     }
 }
 
@@ -297,7 +331,7 @@ fn put_arm(page: &mut Words) {
     // (its line's end counted)
     let is_short = page.get("arm").len() <= WIDTH + 1 && !is_each;
     page.fill(
-        "alloc",
+        "first",
         if is_each {
             "                alloc,\n"
         } else {

@@ -6,10 +6,27 @@ use crate::tree::Tree;
 use crate::words::{Template, Words};
 
 const USES: &str = "\
-Rattle.wire_codec.specs.Field Fields
 Rattle.wire_fields.specs.Shape Shape
 Rattle.$crate$.specs.declared.$module$.$name$ $name$
 ";
+
+// What the records come to that the schema lacks.
+const KEPT: [Template; 4] = [
+    ("uses", "Rattle.wire_codec.specs.Field Fields\n"),
+    ("kept", "Fields"),
+    ("kept_view", "m.unknown"),
+    ("rest", "unknown"),
+];
+
+const DROPPED: [Template; 4] = [
+    (
+        "uses",
+        "Rattle.std.specs.Prelude ⊤\nRattle.wire_fields.specs.Dropped dropped\n",
+    ),
+    ("kept", "⊤"),
+    ("kept_view", "tt"),
+    ("rest", "dropped"),
+];
 
 // Of a field that leaves nothing to the unknown fields, and of one that may.
 const USES_OF_LAWFUL: &str = "\
@@ -17,7 +34,7 @@ Rattle.wire_fields.specs.Shape Lawful
 Rattle.wire_fields.specs.Shape known
 ";
 
-const USES_OF_SHAPE: &str = "Rattle.wire_fields.specs.Shape unknown\n$twice$";
+const USES_OF_SHAPE: &str = "$uses_of_kept$$twice$";
 
 const USES_OF_LEAVING: &str = "\
 Rattle.wire_fields.specs.Leaving Leaving
@@ -52,12 +69,12 @@ $name$-Known =
     $tree_value$
 
 abbrev pub $name$-Value : Type 0
-$name$-Value = $name$-Known × Fields
+$name$-Value = $name$-Known × $kept$
 
 abbrev pub $module$-value : $name$ → $name$-Value
 $module$-value m = (
 $tree_view$,
-  m.unknown,
+  $kept_view$,
 )
 
 $accessors$$shapes$";
@@ -73,16 +90,16 @@ $module$-shape = $whole$
 
 const EMPTY: &str = "\
 abbrev pub $name$-Value : Type 0
-$name$-Value = Fields
+$name$-Value = $kept$
 
 abbrev pub $module$-value : $name$ → $name$-Value
-$module$-value m = m.unknown
+$module$-value m = $kept_view$
 
 abbrev pub $module$-shape : Shape $name$-Value
-$module$-shape = unknown
+$module$-shape = $rest$
 ";
 
-const WHOLE: [Template; 2] = [("part", "Shape"), ("whole", "two $module$-known unknown")];
+const WHOLE: [Template; 2] = [("part", "Shape"), ("whole", "two $module$-known $rest$")];
 
 const LEAVING: [Template; 2] = [
     ("part", "Leaving"),
@@ -109,6 +126,11 @@ pub(crate) fn definitions_of(
 ) -> Result<String, GenerateError> {
     let mut page = Words::like(base);
     page.fill("uses", USES);
+    let is_kept = page.get("unknown") == "keep";
+    page.append_all(if is_kept { &KEPT } else { &DROPPED });
+    if is_kept {
+        page.fill("uses_of_kept", "Rattle.wire_fields.specs.Shape unknown\n");
+    }
     for field in fields {
         page.copy(
             &field.words,
@@ -154,7 +176,10 @@ pub(crate) fn definitions_of(
 
 // The words of a part of the tree, or of its root.
 fn put_tree(page: &mut Words, tree: &Words) {
-    page.copy(tree, &["value", "view", "table", "part_words", "part_value"]);
+    page.copy(
+        tree,
+        &["value", "view", "table", "part_words", "part_value"],
+    );
     page.fill_all(&[
         ("tree_value", "$value$"),
         ("tree_view", "$view$"),

@@ -155,6 +155,10 @@ fn field_of(
     }
     words.fill_all(&PLAIN);
     if !words.get("closed").is_empty() {
+        if words.get("unknown") == "drop" {
+            let why = "$full$.$proto$: closed enums are not generated with unknown=drop";
+            return Err(words.refused(why));
+        }
         set_closed(&mut words);
     }
     Ok(Field { words, oneof: None })

@@ -85,16 +85,17 @@ fn files_of(
 }
 
 // What the parameter says: `crate=NAME` is the crate's own name, or else that of the first file,
-// each `import=PACKAGE=CRATE` names the crate that has another package, and `element=BYTES` is what
-// an element of a list or a map is charged.
+// each `import=PACKAGE=CRATE` names the crate that has another package, `element=BYTES` is what an
+// element of a list or a map is charged, and `unknown=` whether fields that a schema lacks are kept.
 fn set_crate(base: &mut Words, request: &CodeGeneratorRequest) -> Result<(), GenerateError> {
     base.set("crate", first_name(request));
-    base.fill_all(&[("of_text", "24"), ("of_entry", "64")]);
+    base.fill_all(&[("of_text", "24"), ("of_entry", "64"), ("unknown", "keep")]);
     for option in request.parameter.split(',') {
         base.set("option", option);
         match option.split_once('=') {
             Some(("crate", name)) => base.set("crate", name),
             Some(("import", import)) => set_import(base, import)?,
+            Some(("unknown", choice @ ("keep" | "drop"))) => base.set("unknown", choice),
             Some(("element", bytes)) if is_size(bytes) => {
                 base.set("element", bytes);
                 base.fill_all(&[("of_text", "$element$"), ("of_entry", "$element$")]);
@@ -102,7 +103,8 @@ fn set_crate(base: &mut Words, request: &CodeGeneratorRequest) -> Result<(), Gen
             None if option.is_empty() => {}
             _ => {
                 return Err(base.refused(
-                    "parameters are crate=NAME, import=PACKAGE=CRATE and element=BYTES: $option$",
+                    "parameters are crate=NAME, import=PACKAGE=CRATE, element=BYTES and \
+                    unknown=keep or drop: $option$",
                 ));
             }
         }
