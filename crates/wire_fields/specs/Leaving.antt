@@ -1,18 +1,19 @@
 -- Fields that leave some records, or a part of these, to the unknown fields of their message.
 use Rattle.std.proofs.Common.{◌≡◌, ap, ◌∙◌, sym}
-use Rattle.std.specs.Prelude.{ℕ, Bool, true, ◌==◌, ◌||◌}
+use Rattle.std.specs.Prelude.{ℕ, Bool, true, false, ◌==◌, ◌||◌}
 use Rattle.wire_codec.specs.Field.{Payload, Fields, type_of, none}
 use Rattle.wire_codec.specs.Folds.{Step, IsSingle}
 use Rattle.wire_codec.specs.Records.{Records, joined_records, of_fields}
 use Rattle.wire_codec.specs.Tag.{wire_number}
 use Rattle.wire_codec.specs.TakingLaws.{OneReading}
 use Rattle.wire_codec.specs.WireType.{WireType}
-use Rattle.wire_codec.specs.WireType.TheVariants.{LengthDelimited}
+use Rattle.wire_codec.specs.WireType.TheVariants.{Varint, Fixed64, LengthDelimited, StartGroup}
+use Rattle.wire_codec.specs.WireType.TheVariants.{Fixed32}
 use Rattle.wire_fields.specs.declared.leaving.OwnTypes.{OwnTypes}
 use Rattle.wire_fields.specs.declared.leaving.OwnTypes.TheVariants.{One, OrPacked}
 use Rattle.wire_fields.specs.Oneof.{choice, single_choice}
 use Rattle.wire_fields.specs.Shape.{Owns, either, single_either, same_pair, keeps, keeps_single}
-use Rattle.wire_fields.specs.Shape.{Lawful, Shape}
+use Rattle.wire_fields.specs.Shape.{Lawful, Shape, known}
 
 -- ---- beside the unknown fields
 
@@ -29,25 +30,19 @@ pub record Leaving (V : Type 0) : Type 1 where
   pub takes : Step (V × Fields)
   pub single : OneReading → IsSingle takes
 
--- fields that leave nothing
-abbrev pub leaving_none : {V : Type 0} → Shape V → Leaving V
-leaving_none s = record {
+-- fields that leave the records that are not their own
+abbrev pub leaving_other : {V : Type 0} → Owns → Shape V → Leaving V
+leaving_other own s = record {
   owns = s.owns;
   default = s.default;
   records = s.records;
-  takes = or_kept (λ p. true) s.takes;
-  single = λ reading. single_either (λ n p. true) s.takes keeps (s.single reading) keeps_single;
+  takes = either own s.takes keeps;
+  single = λ reading. single_either own s.takes keeps (s.single reading) keeps_single;
 }
 
--- one field of this number, which leaves the records that are not its own
-abbrev pub leaving_other : {V : Type 0} → (Payload → Bool) → ℕ → Lawful V → Leaving V
-leaving_other own n f = record {
-  owns = λ k p. k == n;
-  default = f.kind.default;
-  records = f.kind.records n;
-  takes = or_kept own f.kind.takes;
-  single = λ reading. single_either (λ k p. own p) f.kind.takes keeps (f.single reading) keeps_single;
-}
+-- fields that leave nothing
+abbrev pub leaving_none : {V : Type 0} → Shape V → Leaving V
+leaving_none = leaving_other (λ n p. true)
 
 -- ---- two parts
 
@@ -129,4 +124,40 @@ has_type (OrPacked t) w = is_type t w || is_type LengthDelimited w
 
 -- one field of this number, which leaves the records of other wire types than these
 abbrev pub leaving_types : {V : Type 0} → OwnTypes → ℕ → Lawful V → Leaving V
-leaving_types types = leaving_other (λ p. has_type types (type_of p))
+leaving_types types n f = leaving_other (λ k p. has_type types (type_of p)) (known n f)
+
+-- the numbers of a oneof, each with its wire types: that of a variant, and those of the others
+abbrev pub own_where : Bool → Bool → Bool → Bool
+own_where true own others = own
+own_where false own others = others
+
+abbrev pub own_at : OwnTypes → ℕ → Owns → Owns
+own_at types k others n p = own_where (n == k) (has_type types (type_of p)) (others n p)
+
+abbrev pub own_none : Owns
+own_none n p = false
+
+-- the wire types of each kind of field
+abbrev pub of_varint : OwnTypes
+of_varint = One Varint
+
+abbrev pub of_fixed64 : OwnTypes
+of_fixed64 = One Fixed64
+
+abbrev pub of_fixed32 : OwnTypes
+of_fixed32 = One Fixed32
+
+abbrev pub of_bytes : OwnTypes
+of_bytes = One LengthDelimited
+
+abbrev pub of_group : OwnTypes
+of_group = One StartGroup
+
+abbrev pub of_varints : OwnTypes
+of_varints = OrPacked Varint
+
+abbrev pub of_fixed64s : OwnTypes
+of_fixed64s = OrPacked Fixed64
+
+abbrev pub of_fixed32s : OwnTypes
+of_fixed32s = OrPacked Fixed32

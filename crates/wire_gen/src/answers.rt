@@ -126,7 +126,7 @@ pub(crate) fn answers_of(
         page.copy(&field.words, &["path", "firsts", "taken", "sort"]);
         let is_beside = page.get("sort") == "Leaving";
         page.fill("seen", if is_beside { BESIDE } else { INSIDE });
-        let (name, template) = if field.oneof.is_some() {
+        let (name, template) = if field.oneof.is_some() && !is_beside {
             OF_ONEOF
         } else {
             OF_KIND

@@ -148,6 +148,17 @@ $first$                tag,
             ),
 ";
 
+const KEEPING_ARM: &str = "            $number$ => merge_or_keep::<$kind$, B>(
+                alloc,
+                tag,
+                OwnTypes::$own_types$,
+                &mut self.$field$,
+                &mut self.unknown,
+                buf,
+                context,
+            ),
+";
+
 const OF_SOME: [Template; 3] = [
     ("alloc", "alloc"),
     ("whole", "($local$, $rest$)"),
@@ -317,14 +328,19 @@ fn put_field(page: &mut Words, schema: &Schema, field: &Words) {
     let comment = schema.comment(page.get("at"));
     put_comment(page, "declared", "    ", comment);
     page.append_all(&OF_FIELD);
+    let mut types = field.get("all_types").split(' ');
     for number in field.get("numbers").split(' ') {
         page.set("number", number);
+        page.set("own_types", types.next().unwrap_or(field.get("own_types")));
         put_arm(page);
     }
 }
 
 // The call of one number, in one line where it has room there.
 fn put_arm(page: &mut Words) {
+    if page.get("call") == "merge_or_keep" {
+        return page.append("arms", KEEPING_ARM);
+    }
     let is_plain = page.get("call") == "merge";
     let is_each = page.get("call") == "merge_closed_each";
     page.fill("arm", if is_plain { ARM } else { CLOSED_ARM });

@@ -139,7 +139,7 @@ pub(crate) fn definitions_of(
         page.copy(&field.words, &["definition", "definitions"]);
         page.append_all(&[("uses", "$definitions$"), ("accessors", ACCESSOR)]);
         page.fill("twice", "Rattle.wire_fields.specs.Shape two\n");
-        if field.oneof.is_none() {
+        if field.oneof.is_none() || page.get("sort") == "Leaving" {
             let is_lawful = page.get("sort") == "Lawful";
             page.append("kinds", KIND);
             page.append("uses", if is_lawful { USES_OF_LAWFUL } else { "" });

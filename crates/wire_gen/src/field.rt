@@ -1,7 +1,7 @@
 //! Fields of a message type, each with its kind.
 use crate::error::GenerateError;
 use crate::item::{Sort, set_item};
-use crate::kind::{set_always, set_closed, set_key, set_kind, set_map};
+use crate::kind::{set_always, set_closed, set_keeping, set_key, set_kind, set_map, set_types};
 use crate::names::{type_name, word_name};
 use crate::schema::{MessageType, Schema};
 use crate::words::{Template, Words};
@@ -65,9 +65,9 @@ pub(crate) fn fields_of(
 
 // Where a field leaves records to the unknown fields, its message is a table of such as may.
 fn leave_others(fields: &mut [Field]) {
-    let leaves = fields.iter().any(|it| !it.words.get("closed").is_empty());
+    let leaves = fields.iter().any(|it| it.words.get("sort") == "Leaving");
     for field in fields {
-        if leaves && field.words.get("closed").is_empty() {
+        if leaves && field.words.get("sort") != "Leaving" {
             field.words.fill("table", "leaving_none ($table$)");
             field.words.append(
                 "definitions",
@@ -143,6 +143,8 @@ fn field_of(
             set_key(&mut words);
             let sort = set_part(schema, &entry.descriptor, 2, &mut words)?;
             set_map(sort, &mut words);
+            words.set("wire_type", "LengthDelimited");
+            set_types(false, &mut words);
         }
         None => {
             let sort = set_item(schema, field, &mut words)?;
@@ -151,15 +153,20 @@ fn field_of(
                 words.fill("size", "$element$");
             }
             set_kind(message.origin.is_proto3, field, sort, &mut words);
+            let is_number = matches!(sort, Sort::Number);
+            set_types(is_number && field.label == LABEL_REPEATED, &mut words);
         }
     }
     words.fill_all(&PLAIN);
     if !words.get("closed").is_empty() {
-        if words.get("unknown") == "drop" {
-            let why = "$full$.$proto$: closed enums are not generated with unknown=drop";
+        if words.get("unknown") == "drop" || words.get("mismatch") == "keep" {
+            let why = "$full$.$proto$: closed enums are not generated with unknown=drop and \
+                mismatch=keep";
             return Err(words.refused(why));
         }
         set_closed(&mut words);
+    } else if words.get("mismatch") == "keep" {
+        set_keeping(&mut words);
     }
     Ok(Field { words, oneof: None })
 }
@@ -187,6 +194,7 @@ fn variant_of(
     let sort = set_item(schema, field, &mut words)?;
     stop_on_closed(&mut words)?;
     set_always(sort, &mut words);
+    set_types(false, &mut words);
     words.set("variant", &type_name(words.alloc(), &field.name)?);
     words.fill_all(&[("word", "$field$"), ("digits", "$number$")]);
     Ok(words)
@@ -203,8 +211,7 @@ fn add_variant(
     for field in fields.iter_mut() {
         if let Some(oneof) = &mut field.oneof {
             if oneof.index == index {
-                field.words.set("next", variant.get("number"));
-                field.words.append("numbers", " $next$");
+                put_number(&mut field.words, &variant);
                 oneof.variants.push(variant)?;
                 return Ok(());
             }
@@ -212,7 +219,7 @@ fn add_variant(
     }
     let mut words = oneof_words(base, message, index)?;
     words.set("number", variant.get("number"));
-    words.fill("numbers", "$number$");
+    put_number(&mut words, &variant);
     let mut of = Words::like(base);
     of.copy(&words, &["full", "name", "module", "place"]);
     let mut variants = Vec::new(base.alloc());
@@ -227,6 +234,46 @@ fn add_variant(
     })?;
     Ok(())
 }
+
+// The numbers of a oneof are a list, and the wire types that go with them.
+fn put_number(words: &mut Words, variant: &Words) {
+    words.set("next", variant.get("number"));
+    words.copy(variant, &["types", "own_types"]);
+    let is_first = words.get("numbers").is_empty();
+    words.append("numbers", if is_first { "$next$" } else { " $next$" });
+    if words.get("mismatch") != "keep" {
+        return;
+    }
+    words.set("others", "own_none");
+    if !is_first {
+        words.fill("others", "($own$)");
+    }
+    words.fill("own", "own_at $types$ $next$ $others$");
+    words.append("all_types", "$own_types$ ");
+    words.append_all(&OF_KEEPING_ONEOF);
+    words.fill_all(&KEEPING_ONEOF);
+}
+
+const OF_KEEPING_ONEOF: [Template; 3] = [
+    ("definitions", "Rattle.wire_fields.specs.Leaving $types$\n"),
+    (
+        "definitions",
+        "Rattle.wire_fields.specs.Leaving leaving_other\nRattle.wire_fields.specs.Leaving own_at\n\
+        Rattle.wire_fields.specs.Leaving own_none\n",
+    ),
+    (
+        "code",
+        "wire_codec WireType\nwire_fields OwnTypes\nwire_fields merge_or_keep\n",
+    ),
+];
+
+const KEEPING_ONEOF: [Template; 5] = [
+    ("definition", "leaving_other ($own$) $module$-shape"),
+    ("table", "$holder$-$field$-kind"),
+    ("step", "$holder$-$field$-kind.takes"),
+    ("sort", "Leaving"),
+    ("call", "merge_or_keep"),
+];
 
 // A field that leaves nothing to the unknown fields, as all but those of closed enums.
 const PLAIN: [Template; 4] = [
@@ -267,6 +314,7 @@ fn oneof_words(base: &Words, message: &MessageType, index: i32) -> Result<Words,
     };
     words.set("field", &word_name(alloc, &descriptor.name)?);
     words.set("proto", &descriptor.name);
+    words.set("holder", message.words.get("module"));
     words.number("index", index);
     words.append_all(&[
         ("full", ".$proto$"),

@@ -17,7 +17,7 @@ pub(crate) enum Sort {
 // The words of a value: its type in code, `held`, and its name among the `kind`s of fields; as
 // contracts see it, its type `value`, what stands `before` and `behind` one in code, and the same
 // as a function, `view`; its `definition`; the `form` and the `map` of a number, and `numeric`
-// where it is one; `closed`, where it is of an enum that is; `order` and `order_numbers` as the key of a map; and lines of names that are
+// where it is one; the `wire_type` of its records; `closed`, where it is of an enum that is; `order` and `order_numbers` as the key of a map; and lines of names that are
 // brought in, of `code`, of `definitions`, and `ghosts` of clauses.
 const STRING: [Template; 8] = [
     ("held", "String"),
@@ -40,7 +40,12 @@ const BYTES: [Template; 7] = [
     ("ghosts", ""),
 ];
 
-const TEXT: [Template; 3] = [("value", "List ℕ"), ("numeric", ""), ("order_numbers", "")];
+const TEXT: [Template; 4] = [
+    ("value", "List ℕ"),
+    ("numeric", ""),
+    ("order_numbers", ""),
+    ("wire_type", "LengthDelimited"),
+];
 
 const OF_TEXT: [Template; 3] = [
     ("code", "wire_fields $kind$\n"),
@@ -54,7 +59,8 @@ const OF_TEXT: [Template; 3] = [
     ),
 ];
 
-const NUMBER: [Template; 6] = [
+const NUMBER: [Template; 7] = [
+    ("wire_type", "$form$"),
     ("before", ""),
     ("behind", ""),
     ("view", "(λ v. v)"),
@@ -226,7 +232,12 @@ fn set_message(message: &MessageType, is_group: bool, words: &mut Words) -> Sort
     set_names(&message.words, words);
     words.fill_all(&MESSAGE);
     words.append_all(&OF_MESSAGE);
-    if is_group { Sort::Group } else { Sort::Message }
+    if is_group {
+        words.set("wire_type", "StartGroup");
+        return Sort::Group;
+    }
+    words.set("wire_type", "LengthDelimited");
+    Sort::Message
 }
 
 // What the type of a field is called.

@@ -10,7 +10,7 @@ use crate::oneof_definitions::oneof_definitions;
 use crate::oneof_proofs::{merge_answers, variant_answers};
 use crate::schema::{EnumType, MessageType, Schema};
 use crate::tree::tree_of;
-use crate::words::Words;
+use crate::words::{Template, Words};
 use std::alloc::Global;
 use wire_codec::{DecodeOptions, Message};
 use wire_descriptor::{CodeGeneratorRequest, CodeGeneratorResponse, CodeGeneratorResponseFile};
@@ -86,16 +86,18 @@ fn files_of(
 
 // What the parameter says: `crate=NAME` is the crate's own name, or else that of the first file,
 // each `import=PACKAGE=CRATE` names the crate that has another package, `element=BYTES` is what an
-// element of a list or a map is charged, and `unknown=` whether fields that a schema lacks are kept.
+// element of a list or a map is charged, `unknown=` whether fields that a schema lacks are kept, and
+// `mismatch=` whether records of other wire types are refused, or kept with these.
 fn set_crate(base: &mut Words, request: &CodeGeneratorRequest) -> Result<(), GenerateError> {
     base.set("crate", first_name(request));
-    base.fill_all(&[("of_text", "24"), ("of_entry", "64"), ("unknown", "keep")]);
+    base.fill_all(&DEFAULTS);
     for option in request.parameter.split(',') {
         base.set("option", option);
         match option.split_once('=') {
             Some(("crate", name)) => base.set("crate", name),
             Some(("import", import)) => set_import(base, import)?,
             Some(("unknown", choice @ ("keep" | "drop"))) => base.set("unknown", choice),
+            Some(("mismatch", choice @ ("keep" | "refuse"))) => base.set("mismatch", choice),
             Some(("element", bytes)) if is_size(bytes) => {
                 base.set("element", bytes);
                 base.fill_all(&[("of_text", "$element$"), ("of_entry", "$element$")]);
@@ -103,8 +105,8 @@ fn set_crate(base: &mut Words, request: &CodeGeneratorRequest) -> Result<(), Gen
             None if option.is_empty() => {}
             _ => {
                 return Err(base.refused(
-                    "parameters are crate=NAME, import=PACKAGE=CRATE, element=BYTES and \
-                    unknown=keep or drop: $option$",
+                    "parameters are crate=NAME, import=PACKAGE=CRATE, element=BYTES, \
+                    unknown=keep or drop, and mismatch=refuse or keep: $option$",
                 ));
             }
         }
@@ -112,8 +114,18 @@ fn set_crate(base: &mut Words, request: &CodeGeneratorRequest) -> Result<(), Gen
     if base.get("crate").is_empty() {
         return Err(base.refused("no file is to be generated"));
     }
+    if base.get("unknown") == "drop" && base.get("mismatch") == "keep" {
+        return Err(base.refused("mismatch=keep wants unknown=keep"));
+    }
     Ok(())
 }
+
+const DEFAULTS: [Template; 4] = [
+    ("of_text", "24"),
+    ("of_entry", "64"),
+    ("unknown", "keep"),
+    ("mismatch", "refuse"),
+];
 
 fn set_import(base: &mut Words, import: &str) -> Result<(), GenerateError> {
     let Some((package, home)) = import.split_once('=') else {
