@@ -6,11 +6,13 @@ pub mod Enums
 pub mod Floats
 pub mod Leaving
 pub mod Maps
+pub mod MapsBack
 pub mod Measuring
 pub mod MessageBack
 pub mod Messages
 pub mod Numbers
 pub mod Oneof
+pub mod OneofBack
 pub mod Packed
 pub mod PackedBack
 pub mod Presence
@@ -18,3 +20,4 @@ pub mod Scalar
 pub mod ScalarBack
 pub mod Shape
 pub mod Texts
+pub mod TypesBack
