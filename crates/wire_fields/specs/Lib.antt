@@ -4,6 +4,7 @@ pub mod Closed
 pub mod Dropped
 pub mod Enums
 pub mod Floats
+pub mod Grounds
 pub mod Leaving
 pub mod Maps
 pub mod MapsBack
@@ -16,8 +17,9 @@ pub mod OneofBack
 pub mod Packed
 pub mod PackedBack
 pub mod Presence
+pub mod Ranges
+pub mod Returned
 pub mod Scalar
 pub mod ScalarBack
 pub mod Shape
 pub mod Texts
-pub mod TypesBack

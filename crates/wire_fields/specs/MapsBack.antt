@@ -7,7 +7,6 @@ use Rattle.std.specs.declared.cmp.Ordering.TheVariants.{Greater}
 use Rattle.wire_codec.specs.Field.{Fields, none, field, joined}
 use Rattle.wire_codec.specs.FieldNumber.{IsFieldNumber}
 use Rattle.wire_codec.specs.Folds.{Folds}
-use Rattle.wire_codec.specs.InRange.{AreFitting, AreNumbered}
 use Rattle.wire_codec.specs.Laws.{FieldsArePlain}
 use Rattle.wire_codec.specs.Limits.{Charge, both, nested, no_charge, element_of}
 use Rattle.wire_codec.specs.LimitsLaws.{ChargesAddUp}
@@ -15,9 +14,8 @@ use Rattle.wire_codec.specs.RecordLaws.{ShortestTextSpells}
 use Rattle.wire_codec.specs.Records as values
 use Rattle.wire_codec.specs.Records.{plain, text_size, joined_records}
 use Rattle.wire_fields.specs.Back.{AllAre, FoldsBack, KindBack, plain_joined}
-use Rattle.wire_fields.specs.Maps.{EntryOf, entry_records, entry_takes, entry_default, each_entry, puts_entry, map_kind}
+use Rattle.wire_fields.specs.Maps.{entry_records, entry_takes, entry_default, each_entry, map_kind}
 use Rattle.wire_fields.specs.MessageBack.{prefixed_back}
-use Rattle.wire_fields.specs.Messages.{length_prefixed, gathers}
 use Rattle.wire_fields.specs.OneofBack.{AlwaysBack}
 use Rattle.wire_fields.specs.Scalar.{ScalarType, scalar_record}
 use Rattle.wire_fields.specs.ScalarBack.{ScalarBack}
@@ -36,7 +34,7 @@ Ascend order [] = Unit {0}
 Ascend order (e ∷ es) = AreAbove order e.0 es × Ascend order es
 
 -- the keys of the second list are above those of the first
-Follow : {K V : Type 0} → (K → K → Ordering) → List (K × V) → List (K × V) → Type 0
+abbrev Follow : {K V : Type 0} → (K → K → Ordering) → List (K × V) → List (K × V) → Type 0
 Follow order [] es = Unit {0}
 Follow order (b ∷ bs) es = AreAbove order b.0 es × Follow order bs es
 
@@ -75,7 +73,7 @@ module _ {K V : Type 0} (key : ScalarType K) (value : FieldKind V) (HoldsKey : K
 
   module _ (same : FieldsArePlain) (charges : ChargesAddUp) (spells : ShortestTextSpells)
       (key_back : ScalarBack key HoldsKey) (value_back : AlwaysBack value HoldsValue charge_of) where
-    entry_fields : K × V → Fields
+    abbrev entry_fields : K × V → Fields
     entry_fields e = field 1 (key.payload e.0) (field 2 (value_back.payload e.1) none)
 
     plain_entry : (e : K × V) → plain (entry_records key value e) ≡ entry_fields e
@@ -95,13 +93,15 @@ module _ {K V : Type 0} (key : ScalarType K) (value : FieldKind V) (HoldsKey : K
         subst (λ fs. FoldsBack (entry_takes key value) (entry_default key value) fs (charge_of e.1)
         (e, tt)) (sym (plain_entry e))
         (record {
-          fitting = (key_back.fitting e.0 h.key_held, value_back.fitting e.1 h.value_held, tt);
+          fitting = (key_back.fitting e.0 h.key_held, (value_back.fitting e.1 h.value_held, tt));
           numbered = (
             number 1 (omega arith) (omega arith),
             key_back.numbered e.0 h.key_held,
-            number 2 (omega arith) (omega arith),
-            value_back.numbered e.1 h.value_held,
-            tt,
+            (
+              number 2 (omega arith) (omega arith),
+              value_back.numbered e.1 h.value_held,
+              tt,
+            ),
           );
           folded = (
             ((e.0, value.default), tt),

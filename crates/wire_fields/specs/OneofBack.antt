@@ -1,5 +1,5 @@
 -- What is written of a oneof is read back: one record of the variant that stands.
-use Rattle.std.proofs.Common.{◌≡◌, ℕ, refl, sym, ◌∙◌, subst}
+use Rattle.std.proofs.Common.{◌≡◌, ℕ, refl, sym, subst}
 use Rattle.wire_codec.specs.Field.{Payload, none, field}
 use Rattle.wire_codec.specs.FieldNumber.{IsFieldNumber}
 use Rattle.wire_codec.specs.InRange.{IsPayloadFitting, IsPayloadNumbered}

@@ -13,6 +13,7 @@ mod enums;
 mod floats;
 mod form;
 mod kind;
+pub mod laws;
 mod leaving;
 mod map;
 mod map_entry;
