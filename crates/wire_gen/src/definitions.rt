@@ -99,6 +99,74 @@ abbrev pub $module$-shape : Shape $name$-Value
 $module$-shape = $rest$
 ";
 
+const RANGE: &str = "
+-- what is read back once it is written
+abbrev pub $module$-range : Range $name$-Value
+$module$-range =
+    $whole_range$
+
+pub $module$-returned : Grounds → Returned $module$-shape $module$-range
+$module$-returned g =
+    $whole_returned$
+";
+
+const USES_OF_RANGE: &str = "\
+Rattle.wire_fields.specs.Grounds Grounds
+Rattle.wire_fields.specs.Ranges Range
+Rattle.wire_fields.specs.Returned Returned
+";
+
+const USES_OF_KNOWN: &str = "\
+Rattle.std.proofs.Common arith
+Rattle.std.proofs.Common refl
+Rattle.wire_fields.specs.Ranges pair_range
+Rattle.wire_fields.specs.Returned known_returned
+";
+
+// Of a message that keeps other fields, and of one that drops them, with fields and without.
+const KEPT_RANGE: [Template; 3] = [
+    (
+        "whole_range",
+        "pair_range ($range$)\n    (others_range $module$-known.owns)",
+    ),
+    ("whole_returned", "whole_returned g ($returned$)"),
+    (
+        "uses",
+        "Rattle.wire_fields.specs.Ranges others_range\n\
+        Rattle.wire_fields.specs.Returned whole_returned\n",
+    ),
+];
+
+const DROPPED_RANGE: [Template; 3] = [
+    ("whole_range", "pair_range ($range$)\n    dropped_range"),
+    ("whole_returned", "dropping_returned g ($returned$)"),
+    (
+        "uses",
+        "Rattle.wire_fields.specs.Ranges dropped_range\n\
+        Rattle.wire_fields.specs.Returned dropping_returned\n",
+    ),
+];
+
+const EMPTY_RANGE: [Template; 3] = [
+    ("whole_range", "unknown_range"),
+    ("whole_returned", "unknown_returned g"),
+    (
+        "uses",
+        "Rattle.wire_fields.specs.Ranges unknown_range\n\
+        Rattle.wire_fields.specs.Returned unknown_returned\n",
+    ),
+];
+
+const EMPTY_DROPPED_RANGE: [Template; 3] = [
+    ("whole_range", "dropped_range"),
+    ("whole_returned", "nothing_returned"),
+    (
+        "uses",
+        "Rattle.wire_fields.specs.Ranges dropped_range\n\
+        Rattle.wire_fields.specs.Returned nothing_returned\n",
+    ),
+];
+
 const WHOLE: [Template; 2] = [("part", "Shape"), ("whole", "two $module$-known $rest$")];
 
 const LEAVING: [Template; 2] = [
@@ -109,6 +177,12 @@ const LEAVING: [Template; 2] = [
 const KIND: &str = "\
 abbrev pub $module$-$field$-kind : $sort$ $bracketed$
 $module$-$field$-kind = $definition$
+
+";
+
+const FIELD_RANGE: &str = "\
+abbrev pub $module$-$field$-range : Range $bracketed$
+$module$-$field$-range = $own_range$
 
 ";
 
@@ -123,6 +197,7 @@ pub(crate) fn definitions_of(
     base: &Words,
     fields: &[Field],
     tree: &Tree,
+    is_read_back: bool,
 ) -> Result<String, GenerateError> {
     let mut page = Words::like(base);
     page.fill("uses", USES);
@@ -136,12 +211,13 @@ pub(crate) fn definitions_of(
             &field.words,
             &["field", "value", "bracketed", "path", "sort"],
         );
-        page.copy(&field.words, &["definition", "definitions"]);
+        page.copy(&field.words, &["definition", "definitions", "own_range"]);
         page.append_all(&[("uses", "$definitions$"), ("accessors", ACCESSOR)]);
         page.fill("twice", "Rattle.wire_fields.specs.Shape two\n");
         if field.oneof.is_none() || page.get("sort") == "Leaving" {
             let is_lawful = page.get("sort") == "Lawful";
             page.append("kinds", KIND);
+            page.append("kinds", if is_read_back { FIELD_RANGE } else { "" });
             page.append("uses", if is_lawful { USES_OF_LAWFUL } else { "" });
         }
     }
@@ -164,6 +240,9 @@ pub(crate) fn definitions_of(
     if page.get("tree_table").contains("both_leaving") {
         page.append("uses", "Rattle.wire_fields.specs.Leaving both_leaving\n");
     }
+    if is_read_back {
+        put_range(&mut page, fields, tree, is_kept);
+    }
     definition_imports(&mut page);
     page.fill("text", HEAD);
     page.append_all(if fields.is_empty() {
@@ -171,7 +250,38 @@ pub(crate) fn definitions_of(
     } else {
         &[("text", "$values$"), ("text", VALUE), ("text", SHAPE)]
     });
+    if is_read_back {
+        page.append("text", RANGE);
+    }
     page.finish("text")
+}
+
+// What is read back of the message.
+fn put_range(page: &mut Words, fields: &[Field], tree: &Tree, is_kept: bool) {
+    page.copy(&tree.words, &["range", "returned", "apart"]);
+    page.append("uses", USES_OF_RANGE);
+    if !fields.is_empty() {
+        page.append("uses", USES_OF_KNOWN);
+    }
+    for field in fields {
+        page.copy(&field.words, &["returned_uses"]);
+        page.append("uses", "$returned_uses$");
+    }
+    if page.get("returned").contains("two_returned") {
+        page.append("uses", "Rattle.wire_fields.specs.Returned two_returned\n");
+    }
+    if page.get("returned").contains("elim h") {
+        page.append(
+            "uses",
+            "Rattle.std.proofs.Common inl\nRattle.std.proofs.Common inr\n",
+        );
+    }
+    page.append_all(match (fields.is_empty(), is_kept) {
+        (false, true) => &KEPT_RANGE,
+        (false, false) => &DROPPED_RANGE,
+        (true, true) => &EMPTY_RANGE,
+        (true, false) => &EMPTY_DROPPED_RANGE,
+    });
 }
 
 // The words of a part of the tree, or of its root.

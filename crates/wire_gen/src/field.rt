@@ -241,6 +241,14 @@ fn put_number(words: &mut Words, variant: &Words) {
     words.copy(variant, &["types", "own_types"]);
     let is_first = words.get("numbers").is_empty();
     words.append("numbers", if is_first { "$next$" } else { " $next$" });
+    words.fill(
+        "apart",
+        if is_first {
+            "rw h refl"
+        } else {
+            "elim h [ inl h ↦ $apart$ | inr h ↦ rw h refl ]"
+        },
+    );
     if words.get("mismatch") != "keep" {
         return;
     }
@@ -276,14 +284,28 @@ const KEEPING_ONEOF: [Template; 5] = [
 ];
 
 // A field that leaves nothing to the unknown fields, as all but those of closed enums.
-const PLAIN: [Template; 4] = [
+const PLAIN: [Template; 8] = [
+    ("own_range", "$range$"),
+    ("range", "$module$-$field$-range"),
+    (
+        "returned",
+        "known_returned g $number$ $module$-$field$-kind $module$-$field$-range\n    \
+        (omega arith) (omega arith) ($kind_returned$)",
+    ),
+    ("apart", "rw h refl"),
     ("table", "known $number$ $module$-$field$-kind"),
     ("step", "$module$-$field$-kind.kind.takes"),
     ("sort", "Lawful"),
     ("call", "merge"),
 ];
 
-const ONEOF: [Template; 11] = [
+const ONEOF: [Template; 14] = [
+    ("range", "$module$-range"),
+    ("returned", "$module$-returned g"),
+    (
+        "returned_uses",
+        "$specs$ $module$-range\n$specs$ $module$-returned\n",
+    ),
     ("held", "Option<$name$>"),
     ("kind", "$name$Kind"),
     ("value", "$name$-Value"),

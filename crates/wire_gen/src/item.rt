@@ -40,11 +40,22 @@ const BYTES: [Template; 7] = [
     ("ghosts", ""),
 ];
 
-const TEXT: [Template; 4] = [
+const TEXT: [Template; 9] = [
     ("value", "List ℕ"),
     ("numeric", ""),
     ("order_numbers", ""),
     ("wire_type", "LengthDelimited"),
+    ("item_range", "$definition$_range"),
+    ("item_back", "$definition$_back"),
+    (
+        "range_uses",
+        "Rattle.wire_fields.specs.Ranges $item_range$\n",
+    ),
+    (
+        "back_uses",
+        "Rattle.wire_fields.specs.Grounds $item_back$\n",
+    ),
+    ("scalar_uses", "$back_uses$"),
 ];
 
 const OF_TEXT: [Template; 3] = [
@@ -74,6 +85,22 @@ const OF_NUMBER: [Template; 1] = [(
     "Rattle.wire_fields.specs.declared.form.Form.TheVariants $form$\n",
 )];
 
+// Of a number that is none of an enum.
+const RANGE: [Template; 6] = [
+    ("item_range", "$map$_range"),
+    (
+        "range_uses",
+        "Rattle.wire_fields.specs.Ranges $item_range$\n",
+    ),
+    ("number_back", "($map$_back g)"),
+    ("back_uses", "Rattle.wire_fields.specs.Grounds $map$_back\n"),
+    ("item_back", "(numeric_back $number_back$)"),
+    (
+        "scalar_uses",
+        "$back_uses$Rattle.wire_fields.specs.Grounds numeric_back\n",
+    ),
+];
+
 const OF_FLOAT: [Template; 3] = [
     ("code", "wire_fields $held$\n"),
     (
@@ -88,7 +115,22 @@ const OF_INTEGER: [Template; 2] = [
     ("definitions", "Rattle.wire_codec.specs.ValueMap $map$\n"),
 ];
 
-const ENUM: [Template; 5] = [
+const ENUM: [Template; 11] = [
+    (
+        "item_range",
+        "(enum_range $of_module$-number $of_module$-of)",
+    ),
+    ("range_uses", "Rattle.wire_fields.specs.Ranges enum_range\n"),
+    (
+        "number_back",
+        "(enum_back g $of_module$-number $of_module$-of)",
+    ),
+    ("back_uses", "Rattle.wire_fields.specs.Grounds enum_back\n"),
+    ("item_back", "(numeric_back $number_back$)"),
+    (
+        "scalar_uses",
+        "$back_uses$Rattle.wire_fields.specs.Grounds numeric_back\n",
+    ),
     ("held", "EnumValue<$of_name$>"),
     ("kind", "Enum<$of_name$>"),
     ("value", "EnumValue $of_name$"),
@@ -116,7 +158,14 @@ const OF_ENUM: [Template; 5] = [
     ),
 ];
 
-const MESSAGE: [Template; 9] = [
+const MESSAGE: [Template; 13] = [
+    ("scalar_uses", ""),
+    ("item_range", "$of_module$-range"),
+    ("item_back", "($of_module$-returned g)"),
+    (
+        "range_uses",
+        "$specs$ $of_module$-range\n$specs$ $of_module$-returned\n",
+    ),
     ("held", "$of_name$"),
     ("kind", "$of_name$"),
     ("value", "$of_name$-Value"),
@@ -178,6 +227,7 @@ fn set_number(scalar: &Scalar, words: &mut Words) -> Sort {
     words.set("form", scalar.form);
     words.set("map", scalar.map);
     words.fill_all(&NUMBER);
+    words.fill_all(&RANGE);
     words.append("code", "wire_fields $kind$\n");
     words.append_all(&OF_NUMBER);
     match scalar.value {

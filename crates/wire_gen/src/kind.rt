@@ -16,6 +16,15 @@ struct Kind {
     value: &'static str,
     view: &'static str,
     definition: &'static str,
+    back: Back,
+}
+
+/// Which values of a kind are read back, and why: templates of a range and of the proof. Both stand
+/// in `module`s of names that are brought in.
+struct Back {
+    range: &'static str,
+    returned: &'static str,
+    uses: &'static str,
 }
 
 const IMPLICIT: Kind = Kind {
@@ -26,6 +35,11 @@ const IMPLICIT: Kind = Kind {
     value: "$value$",
     view: "$before$m.$field$$behind$",
     definition: "implicit $definition$",
+    back: Back {
+        range: "$item_range$",
+        returned: "implicit_returned g _ _ $item_back$",
+        uses: "Rattle.wire_fields.specs.Returned implicit_returned\n$range_uses$$scalar_uses$",
+    },
 };
 
 const OPTIONAL: Kind = Kind {
@@ -37,6 +51,12 @@ const OPTIONAL: Kind = Kind {
     value: "Option $bracketed$",
     view: "option_map $view$ m.$field$",
     definition: "optional $definition$",
+    back: Back {
+        range: "optional_range $item_range$",
+        returned: "optional_returned g _ _ $item_back$",
+        uses: "Rattle.wire_fields.specs.Returned optional_returned\n\
+            Rattle.wire_fields.specs.Ranges optional_range\n$range_uses$$scalar_uses$",
+    },
 };
 
 const EMBEDDED: Kind = Kind {
@@ -48,6 +68,12 @@ const EMBEDDED: Kind = Kind {
     value: "Option $value$",
     view: "boxed_value $view$ m.$field$",
     definition: "embedded_once $definition$",
+    back: Back {
+        range: "once_range $of_module$-shape $item_range$",
+        returned: "embedded_once_returned g _ _ $item_back$",
+        uses: "Rattle.wire_fields.specs.Returned embedded_once_returned\n\
+            Rattle.wire_fields.specs.Ranges once_range\n$range_uses$",
+    },
 };
 
 const GROUP: Kind = Kind {
@@ -59,6 +85,12 @@ const GROUP: Kind = Kind {
     value: "Option $value$",
     view: "boxed_value $view$ m.$field$",
     definition: "group_once $definition$",
+    back: Back {
+        range: "once_range $of_module$-shape $item_range$",
+        returned: "group_once_returned g _ _ $item_back$",
+        uses: "Rattle.wire_fields.specs.Returned group_once_returned\n\
+            Rattle.wire_fields.specs.Ranges once_range\n$range_uses$",
+    },
 };
 
 const EACH_EMBEDDED: Kind = Kind {
@@ -70,6 +102,12 @@ const EACH_EMBEDDED: Kind = Kind {
     value: "List $value$",
     view: "map $view$ m.$field$.items",
     definition: "embedded_each $size$ $definition$",
+    back: Back {
+        range: "each_range $size$ $of_module$-shape $item_range$",
+        returned: "embedded_each_returned g _ _ $item_back$ $size$",
+        uses: "Rattle.wire_fields.specs.Returned embedded_each_returned\n\
+            Rattle.wire_fields.specs.Ranges each_range\n$range_uses$",
+    },
 };
 
 const EACH_GROUP: Kind = Kind {
@@ -81,6 +119,12 @@ const EACH_GROUP: Kind = Kind {
     value: "List $value$",
     view: "map $view$ m.$field$.items",
     definition: "group_each $size$ $definition$",
+    back: Back {
+        range: "each_range $size$ $of_module$-shape $item_range$",
+        returned: "group_each_returned g _ _ $item_back$ $size$",
+        uses: "Rattle.wire_fields.specs.Returned group_each_returned\n\
+            Rattle.wire_fields.specs.Ranges each_range\n$range_uses$",
+    },
 };
 
 const PACKED: Kind = Kind {
@@ -91,6 +135,12 @@ const PACKED: Kind = Kind {
     value: "List $bracketed$",
     view: "m.$field$.items",
     definition: "packed $form$ $map$",
+    back: Back {
+        range: "packed_range $form$ $map$ $item_range$",
+        returned: "packed_returned g _ _ $item_range$ $number_back$",
+        uses: "Rattle.wire_fields.specs.Returned packed_returned\n\
+            Rattle.wire_fields.specs.Ranges packed_range\n$range_uses$$back_uses$",
+    },
 };
 
 const UNPACKED: Kind = Kind {
@@ -101,6 +151,12 @@ const UNPACKED: Kind = Kind {
     value: "List $bracketed$",
     view: "m.$field$.items",
     definition: "unpacked $form$ $map$",
+    back: Back {
+        range: "unpacked_range $item_range$",
+        returned: "unpacked_returned g _ _ $item_range$ $number_back$",
+        uses: "Rattle.wire_fields.specs.Returned unpacked_returned\n\
+            Rattle.wire_fields.specs.Ranges unpacked_range\n$range_uses$$back_uses$",
+    },
 };
 
 const REPEATED: Kind = Kind {
@@ -111,6 +167,12 @@ const REPEATED: Kind = Kind {
     value: "List (List ℕ)",
     view: "map $view$ m.$field$.items",
     definition: "repeated $of_text$ $definition$",
+    back: Back {
+        range: "repeated_range $of_text$ $item_range$",
+        returned: "repeated_returned g _ _ $item_back$ $of_text$",
+        uses: "Rattle.wire_fields.specs.Returned repeated_returned\n\
+            Rattle.wire_fields.specs.Ranges repeated_range\n$range_uses$$scalar_uses$",
+    },
 };
 
 const MAP: Kind = Kind {
@@ -122,6 +184,12 @@ const MAP: Kind = Kind {
     value: "List ($key_bracketed$ × $bracketed$)",
     view: "viewed $key_view$ $view$ m.$field$.entries",
     definition: "$key_order$ $of_entry$$key_numbers$ ($always$ $definition$)",
+    back: Back {
+        range: "$key_order$_range $of_entry$$key_numbers$ ($always$ $plain$) $key_range_there$$always_range$",
+        returned: "map_returned g _ _ _ _ $key_range$ $always_range$ $key_back$\n    ($always_returned$)",
+        uses: "Rattle.wire_fields.specs.Returned map_returned\n\
+            Rattle.wire_fields.specs.Ranges $key_order$_range\n$key_uses$$range_uses$$scalar_uses$$always_uses$",
+    },
 };
 
 /// Makes the words of a field of those of its values.
@@ -266,7 +334,14 @@ pub(crate) fn set_key(words: &mut Words) {
         ("key_view", "$view$"),
         ("key_order", "$order$"),
         ("key_numbers", "$order_numbers$"),
+        ("key_range", "$item_range$"),
+        ("key_back", "$item_back$"),
+        ("key_uses", "$range_uses$$scalar_uses$"),
+        ("key_range_there", ""),
     ]);
+    if !words.get("order_numbers").is_empty() {
+        words.fill("key_range_there", "$item_range$ ");
+    }
 }
 
 /// Makes the words of a map of those of its key and its values.
@@ -274,6 +349,29 @@ pub(crate) fn set_map(sort: Sort, words: &mut Words) {
     set_always(sort, words);
     put_kind(&MAP, words);
 }
+
+// What is read back of a value that is always written.
+const ALWAYS_SCALAR: [Template; 3] = [
+    ("always_range", "$item_range$"),
+    ("always_returned", "always_returned g _ _ $item_back$"),
+    (
+        "always_uses",
+        "Rattle.wire_fields.specs.Returned always_returned\n",
+    ),
+];
+
+const ALWAYS_MESSAGE: [Template; 3] = [
+    (
+        "always_range",
+        "(always_range $of_module$-shape $item_range$)",
+    ),
+    ("always_returned", "$always$_returned g _ _ $item_back$"),
+    (
+        "always_uses",
+        "Rattle.wire_fields.specs.Ranges always_range\n\
+        Rattle.wire_fields.specs.Returned $always$_returned\n",
+    ),
+];
 
 /// How a value is there that is always written: `presence` in code, and `always` as a definition.
 pub(crate) fn set_always(sort: Sort, words: &mut Words) {
@@ -285,6 +383,12 @@ pub(crate) fn set_always(sort: Sort, words: &mut Words) {
     words.set("presence", presence);
     words.set("always", always);
     let is_plain = always == "always";
+    words.fill("plain", "$definition$");
+    words.fill_all(if is_plain {
+        &ALWAYS_SCALAR
+    } else {
+        &ALWAYS_MESSAGE
+    });
     words.set(
         "of_always",
         if is_plain {
@@ -296,6 +400,9 @@ pub(crate) fn set_always(sort: Sort, words: &mut Words) {
 }
 
 fn put_kind(kind: &Kind, words: &mut Words) {
+    words.append("returned_uses", kind.back.uses);
+    words.fill("range", kind.back.range);
+    words.fill("kind_returned", kind.back.returned);
     words.append("code", kind.code);
     words.append("definitions", kind.definitions);
     words.fill("view", kind.view);

@@ -55,6 +55,86 @@ $module$-kind = record {
 }
 ";
 
+const RANGE: &str = "
+-- what is read back once it is written
+abbrev pub $module$-holds : $name$-Value → Type 0
+$module$-holds None = Unit {0}
+$holds$
+abbrev pub $module$-charge : $name$-Value → Charge
+$module$-charge None = no_charge
+$charges$
+abbrev pub $module$-range : Range $name$-Value
+$module$-range = record { Holds = $module$-holds; charge_of = $module$-charge }
+
+$module$-folds : Grounds → (m : $name$-Value) → $module$-holds m
+    → FoldsBack $module$-shape.takes $module$-shape.default (plain ($module$-shape.records m))
+    ($module$-charge m) m
+$module$-folds g None h = record { fitting = tt; numbered = tt; folded = (refl, refl) }
+$folds$
+abbrev pub $module$-numbers : ℕ → Type 0
+$module$-numbers n = $numbers$
+
+$module$-have : Grounds → (m : $name$-Value)
+    → AllAre $module$-numbers (plain ($module$-shape.records m))
+$module$-have g None = tt
+$haves$
+abbrev pub $module$-returned : Grounds → Returned $module$-shape $module$-range
+$module$-returned g = record {
+  Has = $module$-numbers;
+  back = record {
+    back = $module$-folds g;
+    has = λ m h. $module$-have g m;
+    own = λ n p h. $apart$;
+  };
+}
+";
+
+const USES_OF_RANGE: &str = "\
+Rattle.std.proofs.Common arith
+Rattle.std.proofs.Common refl
+Rattle.std.proofs.Common ◌≡◌
+Rattle.std.specs.Prelude ℕ
+Rattle.wire_codec.specs.Limits Charge
+Rattle.wire_codec.specs.Limits no_charge
+Rattle.wire_codec.specs.Records plain
+Rattle.wire_fields.specs.Back AllAre
+Rattle.wire_fields.specs.Back FoldsBack
+Rattle.wire_fields.specs.Grounds Grounds
+Rattle.wire_fields.specs.OneofBack variant_back
+Rattle.wire_fields.specs.OneofBack variant_has
+Rattle.wire_fields.specs.Ranges Range
+Rattle.wire_fields.specs.Returned Returned
+";
+
+// What is read back of a variant.
+const OF_RETURNED: [Template; 5] = [
+    (
+        "holds",
+        "$module$-holds (Some $one$) = $always_range$.Holds x\n",
+    ),
+    (
+        "charges",
+        "$module$-charge (Some $one$) = $always_range$.charge_of x\n",
+    ),
+    (
+        "folds",
+        "$module$-folds g (Some $one$) h =
+    variant_back g.charges $module$-shape $definition$.kind $always_range$.Holds
+    $always_range$.charge_of ($always_returned$) (λ x. Some $one$) $digits$ x refl
+    (g.number $digits$ (omega arith) (omega arith)) h (λ c p k. (x, k, refl))
+",
+    ),
+    (
+        "haves",
+        "$module$-have g (Some $one$) =
+    variant_has g.charges $module$-shape $definition$.kind $always_range$.Holds
+    $always_range$.charge_of ($always_returned$) (λ x. Some $one$) $digits$ x refl
+    $module$-numbers $own$
+",
+    ),
+    ("uses", "$range_uses$$scalar_uses$$always_uses$"),
+];
+
 const FRONT: &str = "
 -- all but the last
 abbrev pub $module$-front : Variants $name$-Value
@@ -95,7 +175,11 @@ const OF_VARIANT: [Template; 5] = [
 ];
 
 /// The value of a oneof, its table, and what each variant is.
-pub(crate) fn oneof_definitions(base: &Words, oneof: &Oneof) -> Result<String, GenerateError> {
+pub(crate) fn oneof_definitions(
+    base: &Words,
+    oneof: &Oneof,
+    is_read_back: bool,
+) -> Result<String, GenerateError> {
     let mut page = Words::like(base);
     page.fill("uses", USES);
     for variant in oneof.variants.iter().rev() {
@@ -127,12 +211,24 @@ pub(crate) fn oneof_definitions(base: &Words, oneof: &Oneof) -> Result<String, G
                 "always",
                 "of_always",
                 "numeric",
+                "always_range",
+                "always_returned",
+                "always_uses",
+                "range_uses",
+                "scalar_uses",
             ],
         );
         page.fill("definition", "($always$ $definition$)");
         put_values(&mut page, place, last);
         page.append_all(&OF_VARIANT);
         put_tree(&mut page, place);
+        put_numbers(&mut page, place, last);
+        if is_read_back {
+            page.append_all(&OF_RETURNED);
+        }
+    }
+    if is_read_back {
+        page.append("uses", USES_OF_RANGE);
     }
     if last > 0 {
         page.append("uses", USES_OF_MANY);
@@ -144,7 +240,25 @@ pub(crate) fn oneof_definitions(base: &Words, oneof: &Oneof) -> Result<String, G
         page.append("text", FRONT);
     }
     page.append("text", SHAPE);
+    if is_read_back {
+        page.append("text", RANGE);
+    }
     page.finish("text")
+}
+
+// One number more of a sum that leans to the left, which this variant's is `own` of.
+fn put_numbers(page: &mut Words, place: usize, last: usize) {
+    page.fill("own", "refl");
+    if place > 0 {
+        page.fill("own", "(inr $own$)");
+        page.fill("numbers", "($numbers$ ⊎ (n ≡ $digits$))");
+        page.fill("apart", "elim h [ inl h ↦ $apart$ | inr h ↦ rw h refl ]");
+    } else {
+        page.fill_all(&[("numbers", "(n ≡ $digits$)"), ("apart", "rw h refl")]);
+    }
+    for _ in place..last {
+        page.fill("own", "(inl $own$)");
+    }
 }
 
 // A value of the variant at this place, of which the sum of types has so many: as it is seen, as

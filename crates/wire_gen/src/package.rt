@@ -34,6 +34,38 @@ const ROOT: &str = "\
 $modules$
 $exports$";
 
+const LAWS: &str = "\
+//! Laws of the message types: each function is a theorem, and does nothing. Generated.
+ghost use Rattle.wire_fields.specs.Returned.{ReadsBack};
+$law_uses$
+use wire_codec::laws::text_decodes;
+use wire_fields::laws::grounds;
+$laws$";
+
+const LAW_USES: &str = "\
+ghost use Rattle.$crate$.specs.$name$.{$module$-range};
+ghost use Rattle.$crate$.specs.$name$.{$module$-shape};
+";
+
+const LAW: &str = "
+/// What is written of a `$name$` in range decodes to it, where the limits suffice.
+pub fn $module$_reads_back()
+    ensures { ReadsBack $module$-shape $module$-range }
+{
+    grounds();
+    text_decodes::<crate::$name$>();
+}
+";
+
+const LAW_ANSWERS: &str = "\
+use Rattle.$crate$.specs.$name$.{$module$-returned}
+use Rattle.wire_fields.specs.Returned.{reads_back}
+use Rattle.$crate$.proofs.laws.$module$_reads_back.Goals as goal
+
+pub returns : goal.returns
+returns c = reads_back ($module$-returned c.grounds.ensures) c.text_decodes.ensures
+";
+
 // The most fields of a message: a copy of many more is not proved.
 const MOST_FIELDS: usize = 40;
 
@@ -188,12 +220,15 @@ impl Package {
         }
         let tree = tree_of(&page, &mut fields)?;
         let code = code_of(&page, schema, message, &fields, &tree)?;
-        let definitions = definitions_of(&page, &fields, &tree)?;
+        let definitions = definitions_of(&page, &fields, &tree, message.is_read_back)?;
         let answers = answers_of(&page, &fields, &tree)?;
         self.add_type(&mut page, code, definitions)?;
+        if message.is_read_back {
+            self.add_law(&mut page)?;
+        }
         for field in &fields {
             if let Some(oneof) = &field.oneof {
-                self.add_oneof(oneof)?;
+                self.add_oneof(oneof, message.is_read_back)?;
             }
         }
         if fields.is_empty() {
@@ -203,10 +238,10 @@ impl Package {
         self.add(&mut page, path, answers)
     }
 
-    fn add_oneof(&mut self, oneof: &Oneof) -> Result<(), GenerateError> {
+    fn add_oneof(&mut self, oneof: &Oneof, is_read_back: bool) -> Result<(), GenerateError> {
         let mut page = self.page(&oneof.words);
         let code = oneof_code(&page, oneof)?;
-        let definitions = oneof_definitions(&page, oneof)?;
+        let definitions = oneof_definitions(&page, oneof, is_read_back)?;
         self.add_type(&mut page, code, definitions)?;
         if oneof.variants.len() > 1 {
             let answers = merge_answers(&page, oneof)?;
@@ -252,11 +287,32 @@ impl Package {
         self.add(page, "specs/$name$.antt", definitions)
     }
 
+    // A law, and its proof.
+    fn add_law(&mut self, page: &mut Words) -> Result<(), GenerateError> {
+        self.roots.copy(page, &["name", "module"]);
+        self.roots
+            .append_all(&[("law_uses", LAW_USES), ("laws", LAW)]);
+        page.fill("answers", LAW_ANSWERS);
+        let answers = page.finish("answers")?;
+        self.add(
+            page,
+            "proofs/laws/$module$_reads_back/Answers.antt",
+            answers,
+        )
+    }
+
     // The files that name the others.
     fn add_roots(&mut self) -> Result<(), GenerateError> {
         let mut roots = Words::like(&self.roots);
         for name in ["modules", "exports", "definitions"] {
             sort_lines(&mut roots, name);
+        }
+        if !roots.get("laws").is_empty() {
+            sort_lines(&mut roots, "law_uses");
+            roots.append("modules", "pub mod laws;\n");
+            roots.fill("text", LAWS);
+            let laws = roots.finish("text")?;
+            self.add(&mut roots, "src/laws.rt", laws)?;
         }
         roots.fill_all(&[("root", ROOT), ("readme", README)]);
         let root = roots.finish("root")?;

@@ -28,6 +28,8 @@ pub(crate) struct MessageType {
     pub words: Words,
     pub origin: Origin,
     pub descriptor: DescriptorProto,
+    /// Whether a law says that what is written of it is read back.
+    pub is_read_back: bool,
 }
 
 /// An enum, with the words of a message type.
@@ -82,6 +84,7 @@ impl Schema {
             }
         }
         schema.stop_on_cycles()?;
+        schema.find_read_back(base.get("mismatch") == "refuse")?;
         Ok(schema)
     }
 
@@ -114,6 +117,7 @@ impl Schema {
                 words: inner(&words, &descriptor.name, "$place$.4.$index$", index)?,
                 origin,
                 descriptor: descriptor.clone()?,
+                is_read_back: true,
             })?;
         }
         for _ in 0..MOST_MESSAGES {
@@ -149,6 +153,7 @@ impl Schema {
                 words: inner(&message.words, &descriptor.name, "$place$.3.$index$", index)?,
                 origin: message.origin,
                 descriptor,
+                is_read_back: true,
             })?;
         }
         let enums = &descriptor.enum_type;
@@ -239,6 +244,36 @@ impl Schema {
             }
         }
         Ok(())
+    }
+
+    // Closed enums and records of other wire types are left to the unknown fields, and of these no
+    // law is there, nor of what holds such a message.
+    fn find_read_back(&mut self, is_refusing: bool) -> Result<(), GenerateError> {
+        let held = self.held_by_each()?;
+        let mut flags = self.flags(is_refusing)?;
+        for (message, flag) in self.messages.iter().zip(flags.iter_mut()) {
+            *flag &= !message.descriptor.field.iter().any(|it| self.is_closed(it));
+        }
+        for _ in 0..self.messages.len() {
+            for (holder, held) in &held {
+                if flags.get(*held) == Some(&false) {
+                    if let Some(flag) = flags.get_mut(*holder) {
+                        *flag = false;
+                    }
+                }
+            }
+        }
+        for (message, flag) in self.messages.iter_mut().zip(flags) {
+            message.is_read_back = flag;
+        }
+        Ok(())
+    }
+
+    fn is_closed(&self, field: &FieldDescriptorProto) -> bool {
+        match self.enum_of(&field.type_name) {
+            Some(of_enum) => field.type_ == 14 && !of_enum.origin.is_proto3,
+            None => false,
+        }
     }
 
     // A flag for each message type.

@@ -19,7 +19,9 @@ pub(crate) struct Tree {
 
 /// Fields in a row, as one part of the tree. Its words are the first and the last number, `low` and
 /// `high`; the `local` of code that has the pair; its type `value` as contracts see it, and how a
-/// message `m` is seen so, its `view`; the `table`, and why a number is none of it, `unlike`.
+/// message `m` is seen so, its `view`; the `table`, and why a number is none of it, `unlike`; the
+/// `range` of values that are read back, why they are, `returned`, and why a number `h` that is one
+/// of it is none of others, `apart`.
 #[derive(Drop)]
 pub(crate) struct Node {
     pub first: usize,
@@ -34,30 +36,45 @@ impl Node {
     }
 }
 
-const LEAF: [Template; 6] = [
+const LEAF: [Template; 9] = [
     ("low", "$number$"),
     ("high", "$number$"),
     ("local", "field_$number$"),
     ("value", "$bracketed$"),
     ("view", "$view$"),
     ("table", "$table$"),
+    ("range", "$range$"),
+    ("returned", "$returned$"),
+    ("apart", "$apart$"),
 ];
 
 // What is taken over from the right part of a pair.
-const RIGHT: [Template; 6] = [
+const RIGHT: [Template; 9] = [
     ("right_local", "local"),
     ("right_value", "value"),
     ("right_view", "view"),
     ("right_table", "table"),
     ("right_unlike", "unlike"),
+    ("right_range", "range"),
+    ("right_returned", "returned"),
+    ("right_apart", "apart"),
     ("high", "high"),
 ];
 
-const PAIR: [Template; 5] = [
+const PAIR: [Template; 8] = [
     ("value", "($value$\n    × $right_value$)"),
     ("view", "(\n$view$,\n$right_view$,\n)"),
     ("table", "$both$ ($table$)\n    ($right_table$)"),
     ("unlike", "neither _ _ ($unlike$)\n$margin$($right_unlike$)"),
+    ("range", "pair_range ($range$)\n    ($right_range$)"),
+    (
+        "returned",
+        "two_returned g ($returned$)\n    ($right_returned$)\n    (λ n p h. $right_apart$)",
+    ),
+    (
+        "apart",
+        "elim h [ inl h ↦ $apart$ | inr h ↦ $right_apart$ ]",
+    ),
     (
         "pair",
         "        let fields_$low$_to_$high$ = ($local$, $right_local$);\n",
@@ -140,6 +157,7 @@ fn leaf(base: &Words, place: usize, field: &Words) -> Node {
         field,
         &["number", "bracketed", "view", "table", "both", "margin"],
     );
+    words.copy(field, &["range", "returned", "apart"]);
     words.fill_all(&LEAF);
     let mut is_first = true;
     for number in field.get("numbers").split(' ') {
