@@ -129,7 +129,7 @@ const KEPT_RANGE: [Template; 3] = [
         "whole_range",
         "pair_range ($range$)\n    (others_range $module$-known.owns)",
     ),
-    ("whole_returned", "whole_returned g ($returned$)"),
+    ("whole_returned", "whole_returned g\n    ($returned$)"),
     (
         "uses",
         "Rattle.wire_fields.specs.Ranges others_range\n\
@@ -139,7 +139,7 @@ const KEPT_RANGE: [Template; 3] = [
 
 const DROPPED_RANGE: [Template; 3] = [
     ("whole_range", "pair_range ($range$)\n    dropped_range"),
-    ("whole_returned", "dropping_returned g ($returned$)"),
+    ("whole_returned", "dropping_returned g\n    ($returned$)"),
     (
         "uses",
         "Rattle.wire_fields.specs.Ranges dropped_range\n\
@@ -182,7 +182,8 @@ $module$-$field$-kind = $definition$
 
 const FIELD_RANGE: &str = "\
 abbrev pub $module$-$field$-range : Range $bracketed$
-$module$-$field$-range = $own_range$
+$module$-$field$-range =
+    $own_range$
 
 ";
 

@@ -160,7 +160,7 @@ fn field_of(
     words.fill_all(&PLAIN);
     if !words.get("closed").is_empty() {
         if words.get("unknown") == "drop" || words.get("mismatch") == "keep" {
-            let why = "$full$.$proto$: closed enums are not generated with unknown=drop and \
+            let why = "$full$.$proto$: closed enums are not generated with unknown=drop or \
                 mismatch=keep";
             return Err(words.refused(why));
         }
@@ -246,7 +246,7 @@ fn put_number(words: &mut Words, variant: &Words) {
         if is_first {
             "rw h refl"
         } else {
-            "elim h [ inl h ↦ $apart$ | inr h ↦ rw h refl ]"
+            "elim h [ inl h ↦ $apart$\n    | inr h ↦ rw h refl ]"
         },
     );
     if words.get("mismatch") != "keep" {
@@ -290,7 +290,7 @@ const PLAIN: [Template; 8] = [
     (
         "returned",
         "known_returned g $number$ $module$-$field$-kind $module$-$field$-range\n    \
-        (omega arith) (omega arith) ($kind_returned$)",
+        (omega arith) (omega arith)\n    ($kind_returned$)",
     ),
     ("apart", "rw h refl"),
     ("table", "known $number$ $module$-$field$-kind"),

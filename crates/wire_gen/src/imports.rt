@@ -1,29 +1,32 @@
 //! The names that a file brings in: lines of a module and a name each.
 use crate::words::Words;
 
-/// Of the lines of the word `uses`, the word `imports`: a line a module, `use MODULE.{a, b}`.
+/// Of the lines of the word `uses`, the word `imports`: lines `use MODULE.{a, b}`, of at most a
+/// hundred columns where a name leaves room.
 pub(crate) fn definition_imports(page: &mut Words) {
     let uses = page.take("uses");
-    page.fill_all(&[("imports", ""), ("last", "")]);
+    page.fill_all(&[("imports", ""), ("last", ""), ("line", "")]);
     for line in page.sorted(&uses) {
         let (module, name) = line.split_once(' ').unwrap_or((line, ""));
         page.set("of", module);
         page.set("import", name);
+        page.fill("more", "$line$, $import$");
         let is_same = page.get("last") == module;
-        let is_first = page.get("last").is_empty();
-        page.append(
-            "imports",
-            if is_same {
-                ", $import$"
-            } else if is_first {
-                "use $of$.{$import$"
-            } else {
-                "}\nuse $of$.{$import$"
-            },
-        );
+        if is_same && page.get("more").len() < 100 {
+            page.fill("line", "$more$");
+        } else {
+            end_import(page);
+            page.fill("line", "use $of$.{$import$");
+        }
         page.set("last", module);
     }
-    page.append("imports", "}\n");
+    end_import(page);
+}
+
+fn end_import(page: &mut Words) {
+    if !page.get("line").is_empty() {
+        page.append("imports", "$line$}\n");
+    }
 }
 
 /// Of the lines of the word `ghosts`, the word `ghost_imports`, as clauses bring names in.

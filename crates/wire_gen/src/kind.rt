@@ -185,8 +185,8 @@ const MAP: Kind = Kind {
     view: "viewed $key_view$ $view$ m.$field$.entries",
     definition: "$key_order$ $of_entry$$key_numbers$ ($always$ $definition$)",
     back: Back {
-        range: "$key_order$_range $of_entry$$key_numbers$ ($always$ $plain$) $key_range_there$$always_range$",
-        returned: "map_returned g _ _ _ _ $key_range$ $always_range$ $key_back$\n    ($always_returned$)",
+        range: "$key_order$_range $of_entry$$key_numbers$ ($always$ $plain$)\n    $key_range_there$$always_range$",
+        returned: "map_returned g _ _ _ _ $key_range$\n    $always_range$ $key_back$\n    ($always_returned$)",
         uses: "Rattle.wire_fields.specs.Returned map_returned\n\
             Rattle.wire_fields.specs.Ranges $key_order$_range\n$key_uses$$range_uses$$scalar_uses$$always_uses$",
     },

@@ -67,8 +67,8 @@ abbrev pub $module$-range : Range $name$-Value
 $module$-range = record { Holds = $module$-holds; charge_of = $module$-charge }
 
 $module$-folds : Grounds → (m : $name$-Value) → $module$-holds m
-    → FoldsBack $module$-shape.takes $module$-shape.default (plain ($module$-shape.records m))
-    ($module$-charge m) m
+    → FoldsBack $module$-shape.takes $module$-shape.default
+    (plain ($module$-shape.records m)) ($module$-charge m) m
 $module$-folds g None h = record { fitting = tt; numbered = tt; folded = (refl, refl) }
 $folds$
 abbrev pub $module$-numbers : ℕ → Type 0
@@ -110,25 +110,29 @@ Rattle.wire_fields.specs.Returned Returned
 const OF_RETURNED: [Template; 5] = [
     (
         "holds",
-        "$module$-holds (Some $one$) = $always_range$.Holds x\n",
+        "$module$-holds (Some $one$) =\n    $always_range$.Holds x\n",
     ),
     (
         "charges",
-        "$module$-charge (Some $one$) = $always_range$.charge_of x\n",
+        "$module$-charge (Some $one$) =\n    $always_range$.charge_of x\n",
     ),
     (
         "folds",
         "$module$-folds g (Some $one$) h =
-    variant_back g.charges $module$-shape $definition$.kind $always_range$.Holds
-    $always_range$.charge_of ($always_returned$) (λ x. Some $one$) $digits$ x refl
+    variant_back g.charges $module$-shape $definition$.kind
+    $always_range$.Holds
+    $always_range$.charge_of
+    ($always_returned$) (λ x. Some $one$) $digits$ x refl
     (g.number $digits$ (omega arith) (omega arith)) h (λ c p k. (x, k, refl))
 ",
     ),
     (
         "haves",
         "$module$-have g (Some $one$) =
-    variant_has g.charges $module$-shape $definition$.kind $always_range$.Holds
-    $always_range$.charge_of ($always_returned$) (λ x. Some $one$) $digits$ x refl
+    variant_has g.charges $module$-shape $definition$.kind
+    $always_range$.Holds
+    $always_range$.charge_of
+    ($always_returned$) (λ x. Some $one$) $digits$ x refl
     $module$-numbers $own$
 ",
     ),
@@ -154,7 +158,8 @@ $word$-of-$module$-step = $definition$.kind.takes
 
 abbrev pub $word$-of-$module$ : Variants $name$-Value
 $word$-of-$module$ =
-    variant $digits$ $definition$ $word$-of-$module$-as (λ x. Some $one$)
+    variant $digits$ $definition$ $word$-of-$module$-as
+    (λ x. Some $one$)
 
 ";
 
@@ -252,7 +257,10 @@ fn put_numbers(page: &mut Words, place: usize, last: usize) {
     if place > 0 {
         page.fill("own", "(inr $own$)");
         page.fill("numbers", "($numbers$ ⊎ (n ≡ $digits$))");
-        page.fill("apart", "elim h [ inl h ↦ $apart$ | inr h ↦ rw h refl ]");
+        page.fill(
+            "apart",
+            "elim h [ inl h ↦ $apart$\n    | inr h ↦ rw h refl ]",
+        );
     } else {
         page.fill_all(&[("numbers", "(n ≡ $digits$)"), ("apart", "rw h refl")]);
     }

@@ -60,7 +60,8 @@ returns-in_default-clause-err g c =
 const TAKEN: &str = "\
 use Rattle.std.proofs.Common.{refl, subst, sym}
 use Rattle.std.proofs.lemmas.Result.{err_from_is_err_and}
-use Rattle.$crate$.specs.$name$.{$module$-of, $word$-of-$module$, $word$-of-$module$-step}
+use Rattle.$crate$.specs.$name$.{$module$-of, $word$-of-$module$}
+use Rattle.$crate$.specs.$name$.{$word$-of-$module$-step}
 use Rattle.wire_codec.specs.TagView.{tag_number}
 use Rattle.wire_fields.specs.Arms.{untaken}
 use Rattle.$crate$.proofs.$module$.merge_$word$.Goals as goal

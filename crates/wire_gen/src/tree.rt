@@ -69,11 +69,11 @@ const PAIR: [Template; 8] = [
     ("range", "pair_range ($range$)\n    ($right_range$)"),
     (
         "returned",
-        "two_returned g ($returned$)\n    ($right_returned$)\n    (λ n p h. $right_apart$)",
+        "two_returned g\n    ($returned$)\n    ($right_returned$)\n    (λ n p h. $right_apart$)",
     ),
     (
         "apart",
-        "elim h [ inl h ↦ $apart$ | inr h ↦ $right_apart$ ]",
+        "elim h [ inl h ↦ $apart$\n    | inr h ↦ $right_apart$ ]",
     ),
     (
         "pair",
