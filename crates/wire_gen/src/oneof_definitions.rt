@@ -66,7 +66,7 @@ $charges$
 abbrev pub $module$-range : Range $name$-Value
 $module$-range = record { Holds = $module$-holds; charge_of = $module$-charge }
 
-$module$-folds : Grounds → (m : $name$-Value) → $module$-holds m
+pub $module$-folds : Grounds → (m : $name$-Value) → $module$-holds m
     → FoldsBack $module$-shape.takes $module$-shape.default
     (plain ($module$-shape.records m)) ($module$-charge m) m
 $module$-folds g None h = record { fitting = tt; numbered = tt; folded = (refl, refl) }
@@ -74,7 +74,7 @@ $folds$
 abbrev pub $module$-numbers : ℕ → Type 0
 $module$-numbers n = $numbers$
 
-$module$-have : Grounds → (m : $name$-Value)
+pub $module$-have : Grounds → (m : $name$-Value)
     → AllAre $module$-numbers (plain ($module$-shape.records m))
 $module$-have g None = tt
 $haves$
