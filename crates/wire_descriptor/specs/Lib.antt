@@ -3,10 +3,13 @@ pub mod CodeGeneratorResponse
 pub mod CodeGeneratorResponseFile
 pub mod DescriptorProto
 pub mod EnumDescriptorProto
+pub mod EnumOptions
 pub mod EnumValueDescriptorProto
+pub mod FeatureSet
 pub mod FieldDescriptorProto
 pub mod FieldOptions
 pub mod FileDescriptorProto
+pub mod FileOptions
 pub mod MessageOptions
 pub mod OneofDescriptorProto
 pub mod SourceCodeInfo

@@ -51,7 +51,7 @@ impl Message for CodeGeneratorRequest {
         CodeGeneratorRequest {
             file_to_generate: <Repeated<Text, 24> as Kind>::empty(alloc),
             parameter: <Implicit<Text> as Kind>::empty(alloc),
-            proto_file: <EachEmbedded<FileDescriptorProto, 240> as Kind>::empty(alloc),
+            proto_file: <EachEmbedded<FileDescriptorProto, 248> as Kind>::empty(alloc),
             unknown: UnknownFields::new(alloc),
         }
     }
@@ -65,7 +65,7 @@ impl Message for CodeGeneratorRequest {
             number: 2,
             held: &self.parameter,
         };
-        let field_15: Known<EachEmbedded<FileDescriptorProto, 240>> = Known {
+        let field_15: Known<EachEmbedded<FileDescriptorProto, 248>> = Known {
             number: 15,
             held: &self.proto_file,
         };
@@ -90,7 +90,7 @@ impl Message for CodeGeneratorRequest {
             number: 2,
             held: &self.parameter,
         };
-        let field_15: Known<EachEmbedded<FileDescriptorProto, 240>> = Known {
+        let field_15: Known<EachEmbedded<FileDescriptorProto, 248>> = Known {
             number: 15,
             held: &self.proto_file,
         };
@@ -118,7 +118,7 @@ impl Message for CodeGeneratorRequest {
                 context,
             ),
             2 => <Implicit<Text> as Kind>::merge(alloc, tag, &mut self.parameter, buf, context),
-            15 => <EachEmbedded<FileDescriptorProto, 240> as Kind>::merge(
+            15 => <EachEmbedded<FileDescriptorProto, 248> as Kind>::merge(
                 alloc,
                 tag,
                 &mut self.proto_file,
@@ -132,7 +132,7 @@ impl Message for CodeGeneratorRequest {
     fn clear(&mut self) {
         <Repeated<Text, 24> as Kind>::clear(&mut self.file_to_generate);
         <Implicit<Text> as Kind>::clear(&mut self.parameter);
-        <EachEmbedded<FileDescriptorProto, 240> as Kind>::clear(&mut self.proto_file);
+        <EachEmbedded<FileDescriptorProto, 248> as Kind>::clear(&mut self.proto_file);
         self.unknown.clear();
     }
 }

@@ -6,13 +6,17 @@ use wire_codec::{
     DecodeContext, DecodeError, EncodeError, EncodeSink, Message, MessageName, SizeCache, Tag,
     UnknownFields,
 };
-use wire_fields::{EachEmbedded, Implicit, Kind, Known, Rest, Text, Uint64, keep, measure, write};
+use wire_fields::{
+    EachEmbedded, Implicit, Int32, Kind, Known, Rest, Text, Uint64, keep, measure, write,
+};
 
 /// The message `CodeGeneratorResponse`.
 #[derive(Clone, Debug, Drop, PartialEq)]
 pub struct CodeGeneratorResponse {
     pub error: String,
     pub supported_features: u64,
+    pub minimum_edition: i32,
+    pub maximum_edition: i32,
     pub file: Vec<CodeGeneratorResponseFile>,
     /// The fields that the schema lacks, as they came.
     pub unknown: UnknownFields,
@@ -49,6 +53,8 @@ impl Message for CodeGeneratorResponse {
         CodeGeneratorResponse {
             error: <Implicit<Text> as Kind>::empty(alloc),
             supported_features: <Implicit<Uint64> as Kind>::empty(alloc),
+            minimum_edition: <Implicit<Int32> as Kind>::empty(alloc),
+            maximum_edition: <Implicit<Int32> as Kind>::empty(alloc),
             file: <EachEmbedded<CodeGeneratorResponseFile, 72> as Kind>::empty(alloc),
             unknown: UnknownFields::new(alloc),
         }
@@ -63,12 +69,22 @@ impl Message for CodeGeneratorResponse {
             number: 2,
             held: &self.supported_features,
         };
+        let field_3: Known<Implicit<Int32>> = Known {
+            number: 3,
+            held: &self.minimum_edition,
+        };
+        let field_4: Known<Implicit<Int32>> = Known {
+            number: 4,
+            held: &self.maximum_edition,
+        };
         let field_15: Known<EachEmbedded<CodeGeneratorResponseFile, 72>> = Known {
             number: 15,
             held: &self.file,
         };
         let fields_1_to_2 = (field_1, field_2);
-        let fields_1_to_15 = (fields_1_to_2, field_15);
+        let fields_3_to_4 = (field_3, field_4);
+        let fields_1_to_4 = (fields_1_to_2, fields_3_to_4);
+        let fields_1_to_15 = (fields_1_to_4, field_15);
         let rest = Rest {
             fields: &self.unknown,
         };
@@ -88,12 +104,22 @@ impl Message for CodeGeneratorResponse {
             number: 2,
             held: &self.supported_features,
         };
+        let field_3: Known<Implicit<Int32>> = Known {
+            number: 3,
+            held: &self.minimum_edition,
+        };
+        let field_4: Known<Implicit<Int32>> = Known {
+            number: 4,
+            held: &self.maximum_edition,
+        };
         let field_15: Known<EachEmbedded<CodeGeneratorResponseFile, 72>> = Known {
             number: 15,
             held: &self.file,
         };
         let fields_1_to_2 = (field_1, field_2);
-        let fields_1_to_15 = (fields_1_to_2, field_15);
+        let fields_3_to_4 = (field_3, field_4);
+        let fields_1_to_4 = (fields_1_to_2, fields_3_to_4);
+        let fields_1_to_15 = (fields_1_to_4, field_15);
         let rest = Rest {
             fields: &self.unknown,
         };
@@ -116,6 +142,20 @@ impl Message for CodeGeneratorResponse {
                 buf,
                 context,
             ),
+            3 => <Implicit<Int32> as Kind>::merge(
+                alloc,
+                tag,
+                &mut self.minimum_edition,
+                buf,
+                context,
+            ),
+            4 => <Implicit<Int32> as Kind>::merge(
+                alloc,
+                tag,
+                &mut self.maximum_edition,
+                buf,
+                context,
+            ),
             15 => <EachEmbedded<CodeGeneratorResponseFile, 72> as Kind>::merge(
                 alloc,
                 tag,
@@ -130,6 +170,8 @@ impl Message for CodeGeneratorResponse {
     fn clear(&mut self) {
         <Implicit<Text> as Kind>::clear(&mut self.error);
         <Implicit<Uint64> as Kind>::clear(&mut self.supported_features);
+        <Implicit<Int32> as Kind>::clear(&mut self.minimum_edition);
+        <Implicit<Int32> as Kind>::clear(&mut self.maximum_edition);
         <EachEmbedded<CodeGeneratorResponseFile, 72> as Kind>::clear(&mut self.file);
         self.unknown.clear();
     }

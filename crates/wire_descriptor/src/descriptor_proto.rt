@@ -22,7 +22,7 @@ pub struct DescriptorProto {
     pub nested_type: Vec<Vec<u8>>,
     pub enum_type: Vec<EnumDescriptorProto>,
     pub extension_range: Vec<Vec<u8>>,
-    pub extension: Vec<Vec<u8>>,
+    pub extension: Vec<FieldDescriptorProto>,
     pub options: Option<Box<MessageOptions>>,
     pub oneof_decl: Vec<OneofDescriptorProto>,
     /// The fields that the schema lacks, as they came.
@@ -59,11 +59,11 @@ impl Message for DescriptorProto {
     fn default_value(alloc: Global) -> DescriptorProto {
         DescriptorProto {
             name: <Implicit<Text> as Kind>::empty(alloc),
-            field: <EachEmbedded<FieldDescriptorProto, 184> as Kind>::empty(alloc),
+            field: <EachEmbedded<FieldDescriptorProto, 208> as Kind>::empty(alloc),
             nested_type: <Repeated<Blob, 24> as Kind>::empty(alloc),
-            enum_type: <EachEmbedded<EnumDescriptorProto, 72> as Kind>::empty(alloc),
+            enum_type: <EachEmbedded<EnumDescriptorProto, 80> as Kind>::empty(alloc),
             extension_range: <Repeated<Blob, 24> as Kind>::empty(alloc),
-            extension: <Repeated<Blob, 24> as Kind>::empty(alloc),
+            extension: <EachEmbedded<FieldDescriptorProto, 208> as Kind>::empty(alloc),
             options: <Embedded<MessageOptions> as Kind>::empty(alloc),
             oneof_decl: <EachEmbedded<OneofDescriptorProto, 48> as Kind>::empty(alloc),
             unknown: UnknownFields::new(alloc),
@@ -75,7 +75,7 @@ impl Message for DescriptorProto {
             number: 1,
             held: &self.name,
         };
-        let field_2: Known<EachEmbedded<FieldDescriptorProto, 184>> = Known {
+        let field_2: Known<EachEmbedded<FieldDescriptorProto, 208>> = Known {
             number: 2,
             held: &self.field,
         };
@@ -83,7 +83,7 @@ impl Message for DescriptorProto {
             number: 3,
             held: &self.nested_type,
         };
-        let field_4: Known<EachEmbedded<EnumDescriptorProto, 72>> = Known {
+        let field_4: Known<EachEmbedded<EnumDescriptorProto, 80>> = Known {
             number: 4,
             held: &self.enum_type,
         };
@@ -91,7 +91,7 @@ impl Message for DescriptorProto {
             number: 5,
             held: &self.extension_range,
         };
-        let field_6: Known<Repeated<Blob, 24>> = Known {
+        let field_6: Known<EachEmbedded<FieldDescriptorProto, 208>> = Known {
             number: 6,
             held: &self.extension,
         };
@@ -125,7 +125,7 @@ impl Message for DescriptorProto {
             number: 1,
             held: &self.name,
         };
-        let field_2: Known<EachEmbedded<FieldDescriptorProto, 184>> = Known {
+        let field_2: Known<EachEmbedded<FieldDescriptorProto, 208>> = Known {
             number: 2,
             held: &self.field,
         };
@@ -133,7 +133,7 @@ impl Message for DescriptorProto {
             number: 3,
             held: &self.nested_type,
         };
-        let field_4: Known<EachEmbedded<EnumDescriptorProto, 72>> = Known {
+        let field_4: Known<EachEmbedded<EnumDescriptorProto, 80>> = Known {
             number: 4,
             held: &self.enum_type,
         };
@@ -141,7 +141,7 @@ impl Message for DescriptorProto {
             number: 5,
             held: &self.extension_range,
         };
-        let field_6: Known<Repeated<Blob, 24>> = Known {
+        let field_6: Known<EachEmbedded<FieldDescriptorProto, 208>> = Known {
             number: 6,
             held: &self.extension,
         };
@@ -175,7 +175,7 @@ impl Message for DescriptorProto {
     ) -> Result<(), DecodeError> {
         match tag.field_number() {
             1 => <Implicit<Text> as Kind>::merge(alloc, tag, &mut self.name, buf, context),
-            2 => <EachEmbedded<FieldDescriptorProto, 184> as Kind>::merge(
+            2 => <EachEmbedded<FieldDescriptorProto, 208> as Kind>::merge(
                 alloc,
                 tag,
                 &mut self.field,
@@ -189,7 +189,7 @@ impl Message for DescriptorProto {
                 buf,
                 context,
             ),
-            4 => <EachEmbedded<EnumDescriptorProto, 72> as Kind>::merge(
+            4 => <EachEmbedded<EnumDescriptorProto, 80> as Kind>::merge(
                 alloc,
                 tag,
                 &mut self.enum_type,
@@ -203,7 +203,13 @@ impl Message for DescriptorProto {
                 buf,
                 context,
             ),
-            6 => <Repeated<Blob, 24> as Kind>::merge(alloc, tag, &mut self.extension, buf, context),
+            6 => <EachEmbedded<FieldDescriptorProto, 208> as Kind>::merge(
+                alloc,
+                tag,
+                &mut self.extension,
+                buf,
+                context,
+            ),
             7 => <Embedded<MessageOptions> as Kind>::merge(
                 alloc,
                 tag,
@@ -224,11 +230,11 @@ impl Message for DescriptorProto {
 
     fn clear(&mut self) {
         <Implicit<Text> as Kind>::clear(&mut self.name);
-        <EachEmbedded<FieldDescriptorProto, 184> as Kind>::clear(&mut self.field);
+        <EachEmbedded<FieldDescriptorProto, 208> as Kind>::clear(&mut self.field);
         <Repeated<Blob, 24> as Kind>::clear(&mut self.nested_type);
-        <EachEmbedded<EnumDescriptorProto, 72> as Kind>::clear(&mut self.enum_type);
+        <EachEmbedded<EnumDescriptorProto, 80> as Kind>::clear(&mut self.enum_type);
         <Repeated<Blob, 24> as Kind>::clear(&mut self.extension_range);
-        <Repeated<Blob, 24> as Kind>::clear(&mut self.extension);
+        <EachEmbedded<FieldDescriptorProto, 208> as Kind>::clear(&mut self.extension);
         <Embedded<MessageOptions> as Kind>::clear(&mut self.options);
         <EachEmbedded<OneofDescriptorProto, 48> as Kind>::clear(&mut self.oneof_decl);
         self.unknown.clear();

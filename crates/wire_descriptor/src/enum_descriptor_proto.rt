@@ -1,4 +1,5 @@
 //! The message `schema.EnumDescriptorProto`. Generated.
+use crate::enum_options::EnumOptions;
 use crate::enum_value_descriptor_proto::EnumValueDescriptorProto;
 use bytes::Buf;
 use std::alloc::Global;
@@ -6,13 +7,16 @@ use wire_codec::{
     DecodeContext, DecodeError, EncodeError, EncodeSink, Message, MessageName, SizeCache, Tag,
     UnknownFields,
 };
-use wire_fields::{EachEmbedded, Implicit, Kind, Known, Rest, Text, keep, measure, write};
+use wire_fields::{
+    EachEmbedded, Embedded, Implicit, Kind, Known, Rest, Text, keep, measure, write,
+};
 
 /// The message `EnumDescriptorProto`.
 #[derive(Clone, Debug, Drop, PartialEq)]
 pub struct EnumDescriptorProto {
     pub name: String,
     pub value: Vec<EnumValueDescriptorProto>,
+    pub options: Option<Box<EnumOptions>>,
     /// The fields that the schema lacks, as they came.
     pub unknown: UnknownFields,
 }
@@ -48,6 +52,7 @@ impl Message for EnumDescriptorProto {
         EnumDescriptorProto {
             name: <Implicit<Text> as Kind>::empty(alloc),
             value: <EachEmbedded<EnumValueDescriptorProto, 64> as Kind>::empty(alloc),
+            options: <Embedded<EnumOptions> as Kind>::empty(alloc),
             unknown: UnknownFields::new(alloc),
         }
     }
@@ -61,11 +66,16 @@ impl Message for EnumDescriptorProto {
             number: 2,
             held: &self.value,
         };
+        let field_3: Known<Embedded<EnumOptions>> = Known {
+            number: 3,
+            held: &self.options,
+        };
         let fields_1_to_2 = (field_1, field_2);
+        let fields_1_to_3 = (fields_1_to_2, field_3);
         let rest = Rest {
             fields: &self.unknown,
         };
-        measure((fields_1_to_2, rest), cache)
+        measure((fields_1_to_3, rest), cache)
     }
 
     fn write_to<S: EncodeSink>(
@@ -81,11 +91,16 @@ impl Message for EnumDescriptorProto {
             number: 2,
             held: &self.value,
         };
+        let field_3: Known<Embedded<EnumOptions>> = Known {
+            number: 3,
+            held: &self.options,
+        };
         let fields_1_to_2 = (field_1, field_2);
+        let fields_1_to_3 = (fields_1_to_2, field_3);
         let rest = Rest {
             fields: &self.unknown,
         };
-        write((fields_1_to_2, rest), cache, sink)
+        write((fields_1_to_3, rest), cache, sink)
     }
 
     fn merge_field<B: Buf>(
@@ -104,6 +119,13 @@ impl Message for EnumDescriptorProto {
                 buf,
                 context,
             ),
+            3 => <Embedded<EnumOptions> as Kind>::merge(
+                alloc,
+                tag,
+                &mut self.options,
+                buf,
+                context,
+            ),
             _ => keep(alloc, tag, &mut self.unknown, buf, context),
         }
     }
@@ -111,6 +133,7 @@ impl Message for EnumDescriptorProto {
     fn clear(&mut self) {
         <Implicit<Text> as Kind>::clear(&mut self.name);
         <EachEmbedded<EnumValueDescriptorProto, 64> as Kind>::clear(&mut self.value);
+        <Embedded<EnumOptions> as Kind>::clear(&mut self.options);
         self.unknown.clear();
     }
 }

@@ -14,6 +14,8 @@ use wire_fields::{
 #[derive(Clone, Debug, Drop, PartialEq)]
 pub struct FieldDescriptorProto {
     pub name: String,
+    /// Of an extension, the message that it extends.
+    pub extendee: String,
     pub number: i32,
     pub label: i32,
     pub type_: i32,
@@ -56,6 +58,7 @@ impl Message for FieldDescriptorProto {
     fn default_value(alloc: Global) -> FieldDescriptorProto {
         FieldDescriptorProto {
             name: <Implicit<Text> as Kind>::empty(alloc),
+            extendee: <Implicit<Text> as Kind>::empty(alloc),
             number: <Implicit<Int32> as Kind>::empty(alloc),
             label: <Implicit<Int32> as Kind>::empty(alloc),
             type_: <Implicit<Int32> as Kind>::empty(alloc),
@@ -73,6 +76,10 @@ impl Message for FieldDescriptorProto {
             number: 1,
             held: &self.name,
         };
+        let field_2: Known<Implicit<Text>> = Known {
+            number: 2,
+            held: &self.extendee,
+        };
         let field_3: Known<Implicit<Int32>> = Known {
             number: 3,
             held: &self.number,
@@ -105,14 +112,15 @@ impl Message for FieldDescriptorProto {
             number: 17,
             held: &self.proto3_optional,
         };
-        let fields_1_to_3 = (field_1, field_3);
-        let fields_4_to_5 = (field_4, field_5);
-        let fields_6_to_7 = (field_6, field_7);
-        let fields_8_to_9 = (field_8, field_9);
-        let fields_1_to_5 = (fields_1_to_3, fields_4_to_5);
-        let fields_6_to_9 = (fields_6_to_7, fields_8_to_9);
-        let fields_1_to_9 = (fields_1_to_5, fields_6_to_9);
-        let fields_1_to_17 = (fields_1_to_9, field_17);
+        let fields_1_to_2 = (field_1, field_2);
+        let fields_3_to_4 = (field_3, field_4);
+        let fields_5_to_6 = (field_5, field_6);
+        let fields_7_to_8 = (field_7, field_8);
+        let fields_9_to_17 = (field_9, field_17);
+        let fields_1_to_4 = (fields_1_to_2, fields_3_to_4);
+        let fields_5_to_8 = (fields_5_to_6, fields_7_to_8);
+        let fields_1_to_8 = (fields_1_to_4, fields_5_to_8);
+        let fields_1_to_17 = (fields_1_to_8, fields_9_to_17);
         let rest = Rest {
             fields: &self.unknown,
         };
@@ -128,6 +136,10 @@ impl Message for FieldDescriptorProto {
             number: 1,
             held: &self.name,
         };
+        let field_2: Known<Implicit<Text>> = Known {
+            number: 2,
+            held: &self.extendee,
+        };
         let field_3: Known<Implicit<Int32>> = Known {
             number: 3,
             held: &self.number,
@@ -160,14 +172,15 @@ impl Message for FieldDescriptorProto {
             number: 17,
             held: &self.proto3_optional,
         };
-        let fields_1_to_3 = (field_1, field_3);
-        let fields_4_to_5 = (field_4, field_5);
-        let fields_6_to_7 = (field_6, field_7);
-        let fields_8_to_9 = (field_8, field_9);
-        let fields_1_to_5 = (fields_1_to_3, fields_4_to_5);
-        let fields_6_to_9 = (fields_6_to_7, fields_8_to_9);
-        let fields_1_to_9 = (fields_1_to_5, fields_6_to_9);
-        let fields_1_to_17 = (fields_1_to_9, field_17);
+        let fields_1_to_2 = (field_1, field_2);
+        let fields_3_to_4 = (field_3, field_4);
+        let fields_5_to_6 = (field_5, field_6);
+        let fields_7_to_8 = (field_7, field_8);
+        let fields_9_to_17 = (field_9, field_17);
+        let fields_1_to_4 = (fields_1_to_2, fields_3_to_4);
+        let fields_5_to_8 = (fields_5_to_6, fields_7_to_8);
+        let fields_1_to_8 = (fields_1_to_4, fields_5_to_8);
+        let fields_1_to_17 = (fields_1_to_8, fields_9_to_17);
         let rest = Rest {
             fields: &self.unknown,
         };
@@ -183,6 +196,7 @@ impl Message for FieldDescriptorProto {
     ) -> Result<(), DecodeError> {
         match tag.field_number() {
             1 => <Implicit<Text> as Kind>::merge(alloc, tag, &mut self.name, buf, context),
+            2 => <Implicit<Text> as Kind>::merge(alloc, tag, &mut self.extendee, buf, context),
             3 => <Implicit<Int32> as Kind>::merge(alloc, tag, &mut self.number, buf, context),
             4 => <Implicit<Int32> as Kind>::merge(alloc, tag, &mut self.label, buf, context),
             5 => <Implicit<Int32> as Kind>::merge(alloc, tag, &mut self.type_, buf, context),
@@ -209,6 +223,7 @@ impl Message for FieldDescriptorProto {
 
     fn clear(&mut self) {
         <Implicit<Text> as Kind>::clear(&mut self.name);
+        <Implicit<Text> as Kind>::clear(&mut self.extendee);
         <Implicit<Int32> as Kind>::clear(&mut self.number);
         <Implicit<Int32> as Kind>::clear(&mut self.label);
         <Implicit<Int32> as Kind>::clear(&mut self.type_);

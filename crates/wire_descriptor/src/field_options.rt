@@ -1,16 +1,18 @@
 //! The message `schema.FieldOptions`. Generated.
+use crate::feature_set::FeatureSet;
 use bytes::Buf;
 use std::alloc::Global;
 use wire_codec::{
     DecodeContext, DecodeError, EncodeError, EncodeSink, Message, MessageName, SizeCache, Tag,
     UnknownFields,
 };
-use wire_fields::{Bool, Kind, Known, Optional, Rest, keep, measure, write};
+use wire_fields::{Bool, Embedded, Kind, Known, Optional, Rest, keep, measure, write};
 
 /// The message `FieldOptions`.
 #[derive(Clone, Debug, Drop, PartialEq)]
 pub struct FieldOptions {
     pub packed: Option<bool>,
+    pub features: Option<Box<FeatureSet>>,
     /// The fields that the schema lacks, as they came.
     pub unknown: UnknownFields,
 }
@@ -45,6 +47,7 @@ impl Message for FieldOptions {
     fn default_value(alloc: Global) -> FieldOptions {
         FieldOptions {
             packed: <Optional<Bool> as Kind>::empty(alloc),
+            features: <Embedded<FeatureSet> as Kind>::empty(alloc),
             unknown: UnknownFields::new(alloc),
         }
     }
@@ -54,10 +57,15 @@ impl Message for FieldOptions {
             number: 2,
             held: &self.packed,
         };
+        let field_21: Known<Embedded<FeatureSet>> = Known {
+            number: 21,
+            held: &self.features,
+        };
+        let fields_2_to_21 = (field_2, field_21);
         let rest = Rest {
             fields: &self.unknown,
         };
-        measure((field_2, rest), cache)
+        measure((fields_2_to_21, rest), cache)
     }
 
     fn write_to<S: EncodeSink>(
@@ -69,10 +77,15 @@ impl Message for FieldOptions {
             number: 2,
             held: &self.packed,
         };
+        let field_21: Known<Embedded<FeatureSet>> = Known {
+            number: 21,
+            held: &self.features,
+        };
+        let fields_2_to_21 = (field_2, field_21);
         let rest = Rest {
             fields: &self.unknown,
         };
-        write((field_2, rest), cache, sink)
+        write((fields_2_to_21, rest), cache, sink)
     }
 
     fn merge_field<B: Buf>(
@@ -84,12 +97,20 @@ impl Message for FieldOptions {
     ) -> Result<(), DecodeError> {
         match tag.field_number() {
             2 => <Optional<Bool> as Kind>::merge(alloc, tag, &mut self.packed, buf, context),
+            21 => <Embedded<FeatureSet> as Kind>::merge(
+                alloc,
+                tag,
+                &mut self.features,
+                buf,
+                context,
+            ),
             _ => keep(alloc, tag, &mut self.unknown, buf, context),
         }
     }
 
     fn clear(&mut self) {
         <Optional<Bool> as Kind>::clear(&mut self.packed);
+        <Embedded<FeatureSet> as Kind>::clear(&mut self.features);
         self.unknown.clear();
     }
 }

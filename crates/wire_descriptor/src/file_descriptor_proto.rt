@@ -1,6 +1,8 @@
 //! The message `schema.FileDescriptorProto`. Generated.
 use crate::descriptor_proto::DescriptorProto;
 use crate::enum_descriptor_proto::EnumDescriptorProto;
+use crate::field_descriptor_proto::FieldDescriptorProto;
+use crate::file_options::FileOptions;
 use crate::source_code_info::SourceCodeInfo;
 use bytes::Buf;
 use std::alloc::Global;
@@ -23,7 +25,8 @@ pub struct FileDescriptorProto {
     pub enum_type: Vec<EnumDescriptorProto>,
     /// Not looked into: a file that has one is refused.
     pub service: Vec<Vec<u8>>,
-    pub extension: Vec<Vec<u8>>,
+    pub extension: Vec<FieldDescriptorProto>,
+    pub options: Option<Box<FileOptions>>,
     pub source_code_info: Option<Box<SourceCodeInfo>>,
     pub syntax_: String,
     pub edition: i32,
@@ -64,9 +67,10 @@ impl Message for FileDescriptorProto {
             package: <Implicit<Text> as Kind>::empty(alloc),
             dependency: <Repeated<Text, 24> as Kind>::empty(alloc),
             message_type: <EachEmbedded<DescriptorProto, 200> as Kind>::empty(alloc),
-            enum_type: <EachEmbedded<EnumDescriptorProto, 72> as Kind>::empty(alloc),
+            enum_type: <EachEmbedded<EnumDescriptorProto, 80> as Kind>::empty(alloc),
             service: <Repeated<Blob, 24> as Kind>::empty(alloc),
-            extension: <Repeated<Blob, 24> as Kind>::empty(alloc),
+            extension: <EachEmbedded<FieldDescriptorProto, 208> as Kind>::empty(alloc),
+            options: <Embedded<FileOptions> as Kind>::empty(alloc),
             source_code_info: <Embedded<SourceCodeInfo> as Kind>::empty(alloc),
             syntax_: <Implicit<Text> as Kind>::empty(alloc),
             edition: <Implicit<Int32> as Kind>::empty(alloc),
@@ -91,7 +95,7 @@ impl Message for FileDescriptorProto {
             number: 4,
             held: &self.message_type,
         };
-        let field_5: Known<EachEmbedded<EnumDescriptorProto, 72>> = Known {
+        let field_5: Known<EachEmbedded<EnumDescriptorProto, 80>> = Known {
             number: 5,
             held: &self.enum_type,
         };
@@ -99,9 +103,13 @@ impl Message for FileDescriptorProto {
             number: 6,
             held: &self.service,
         };
-        let field_7: Known<Repeated<Blob, 24>> = Known {
+        let field_7: Known<EachEmbedded<FieldDescriptorProto, 208>> = Known {
             number: 7,
             held: &self.extension,
+        };
+        let field_8: Known<Embedded<FileOptions>> = Known {
+            number: 8,
+            held: &self.options,
         };
         let field_9: Known<Embedded<SourceCodeInfo>> = Known {
             number: 9,
@@ -118,12 +126,13 @@ impl Message for FileDescriptorProto {
         let fields_1_to_2 = (field_1, field_2);
         let fields_3_to_4 = (field_3, field_4);
         let fields_5_to_6 = (field_5, field_6);
-        let fields_7_to_9 = (field_7, field_9);
-        let fields_12_to_14 = (field_12, field_14);
+        let fields_7_to_8 = (field_7, field_8);
+        let fields_9_to_12 = (field_9, field_12);
         let fields_1_to_4 = (fields_1_to_2, fields_3_to_4);
-        let fields_5_to_9 = (fields_5_to_6, fields_7_to_9);
-        let fields_1_to_9 = (fields_1_to_4, fields_5_to_9);
-        let fields_1_to_14 = (fields_1_to_9, fields_12_to_14);
+        let fields_5_to_8 = (fields_5_to_6, fields_7_to_8);
+        let fields_9_to_14 = (fields_9_to_12, field_14);
+        let fields_1_to_8 = (fields_1_to_4, fields_5_to_8);
+        let fields_1_to_14 = (fields_1_to_8, fields_9_to_14);
         let rest = Rest {
             fields: &self.unknown,
         };
@@ -151,7 +160,7 @@ impl Message for FileDescriptorProto {
             number: 4,
             held: &self.message_type,
         };
-        let field_5: Known<EachEmbedded<EnumDescriptorProto, 72>> = Known {
+        let field_5: Known<EachEmbedded<EnumDescriptorProto, 80>> = Known {
             number: 5,
             held: &self.enum_type,
         };
@@ -159,9 +168,13 @@ impl Message for FileDescriptorProto {
             number: 6,
             held: &self.service,
         };
-        let field_7: Known<Repeated<Blob, 24>> = Known {
+        let field_7: Known<EachEmbedded<FieldDescriptorProto, 208>> = Known {
             number: 7,
             held: &self.extension,
+        };
+        let field_8: Known<Embedded<FileOptions>> = Known {
+            number: 8,
+            held: &self.options,
         };
         let field_9: Known<Embedded<SourceCodeInfo>> = Known {
             number: 9,
@@ -178,12 +191,13 @@ impl Message for FileDescriptorProto {
         let fields_1_to_2 = (field_1, field_2);
         let fields_3_to_4 = (field_3, field_4);
         let fields_5_to_6 = (field_5, field_6);
-        let fields_7_to_9 = (field_7, field_9);
-        let fields_12_to_14 = (field_12, field_14);
+        let fields_7_to_8 = (field_7, field_8);
+        let fields_9_to_12 = (field_9, field_12);
         let fields_1_to_4 = (fields_1_to_2, fields_3_to_4);
-        let fields_5_to_9 = (fields_5_to_6, fields_7_to_9);
-        let fields_1_to_9 = (fields_1_to_4, fields_5_to_9);
-        let fields_1_to_14 = (fields_1_to_9, fields_12_to_14);
+        let fields_5_to_8 = (fields_5_to_6, fields_7_to_8);
+        let fields_9_to_14 = (fields_9_to_12, field_14);
+        let fields_1_to_8 = (fields_1_to_4, fields_5_to_8);
+        let fields_1_to_14 = (fields_1_to_8, fields_9_to_14);
         let rest = Rest {
             fields: &self.unknown,
         };
@@ -214,7 +228,7 @@ impl Message for FileDescriptorProto {
                 buf,
                 context,
             ),
-            5 => <EachEmbedded<EnumDescriptorProto, 72> as Kind>::merge(
+            5 => <EachEmbedded<EnumDescriptorProto, 80> as Kind>::merge(
                 alloc,
                 tag,
                 &mut self.enum_type,
@@ -222,7 +236,20 @@ impl Message for FileDescriptorProto {
                 context,
             ),
             6 => <Repeated<Blob, 24> as Kind>::merge(alloc, tag, &mut self.service, buf, context),
-            7 => <Repeated<Blob, 24> as Kind>::merge(alloc, tag, &mut self.extension, buf, context),
+            7 => <EachEmbedded<FieldDescriptorProto, 208> as Kind>::merge(
+                alloc,
+                tag,
+                &mut self.extension,
+                buf,
+                context,
+            ),
+            8 => <Embedded<FileOptions> as Kind>::merge(
+                alloc,
+                tag,
+                &mut self.options,
+                buf,
+                context,
+            ),
             9 => <Embedded<SourceCodeInfo> as Kind>::merge(
                 alloc,
                 tag,
@@ -241,9 +268,10 @@ impl Message for FileDescriptorProto {
         <Implicit<Text> as Kind>::clear(&mut self.package);
         <Repeated<Text, 24> as Kind>::clear(&mut self.dependency);
         <EachEmbedded<DescriptorProto, 200> as Kind>::clear(&mut self.message_type);
-        <EachEmbedded<EnumDescriptorProto, 72> as Kind>::clear(&mut self.enum_type);
+        <EachEmbedded<EnumDescriptorProto, 80> as Kind>::clear(&mut self.enum_type);
         <Repeated<Blob, 24> as Kind>::clear(&mut self.service);
-        <Repeated<Blob, 24> as Kind>::clear(&mut self.extension);
+        <EachEmbedded<FieldDescriptorProto, 208> as Kind>::clear(&mut self.extension);
+        <Embedded<FileOptions> as Kind>::clear(&mut self.options);
         <Embedded<SourceCodeInfo> as Kind>::clear(&mut self.source_code_info);
         <Implicit<Text> as Kind>::clear(&mut self.syntax_);
         <Implicit<Int32> as Kind>::clear(&mut self.edition);

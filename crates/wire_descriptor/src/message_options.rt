@@ -1,16 +1,18 @@
 //! The message `schema.MessageOptions`. Generated.
+use crate::feature_set::FeatureSet;
 use bytes::Buf;
 use std::alloc::Global;
 use wire_codec::{
     DecodeContext, DecodeError, EncodeError, EncodeSink, Message, MessageName, SizeCache, Tag,
     UnknownFields,
 };
-use wire_fields::{Bool, Implicit, Kind, Known, Rest, keep, measure, write};
+use wire_fields::{Bool, Embedded, Implicit, Kind, Known, Rest, keep, measure, write};
 
 /// The message `MessageOptions`.
 #[derive(Clone, Debug, Drop, PartialEq)]
 pub struct MessageOptions {
     pub map_entry: bool,
+    pub features: Option<Box<FeatureSet>>,
     /// The fields that the schema lacks, as they came.
     pub unknown: UnknownFields,
 }
@@ -45,6 +47,7 @@ impl Message for MessageOptions {
     fn default_value(alloc: Global) -> MessageOptions {
         MessageOptions {
             map_entry: <Implicit<Bool> as Kind>::empty(alloc),
+            features: <Embedded<FeatureSet> as Kind>::empty(alloc),
             unknown: UnknownFields::new(alloc),
         }
     }
@@ -54,10 +57,15 @@ impl Message for MessageOptions {
             number: 7,
             held: &self.map_entry,
         };
+        let field_12: Known<Embedded<FeatureSet>> = Known {
+            number: 12,
+            held: &self.features,
+        };
+        let fields_7_to_12 = (field_7, field_12);
         let rest = Rest {
             fields: &self.unknown,
         };
-        measure((field_7, rest), cache)
+        measure((fields_7_to_12, rest), cache)
     }
 
     fn write_to<S: EncodeSink>(
@@ -69,10 +77,15 @@ impl Message for MessageOptions {
             number: 7,
             held: &self.map_entry,
         };
+        let field_12: Known<Embedded<FeatureSet>> = Known {
+            number: 12,
+            held: &self.features,
+        };
+        let fields_7_to_12 = (field_7, field_12);
         let rest = Rest {
             fields: &self.unknown,
         };
-        write((field_7, rest), cache, sink)
+        write((fields_7_to_12, rest), cache, sink)
     }
 
     fn merge_field<B: Buf>(
@@ -84,12 +97,20 @@ impl Message for MessageOptions {
     ) -> Result<(), DecodeError> {
         match tag.field_number() {
             7 => <Implicit<Bool> as Kind>::merge(alloc, tag, &mut self.map_entry, buf, context),
+            12 => <Embedded<FeatureSet> as Kind>::merge(
+                alloc,
+                tag,
+                &mut self.features,
+                buf,
+                context,
+            ),
             _ => keep(alloc, tag, &mut self.unknown, buf, context),
         }
     }
 
     fn clear(&mut self) {
         <Implicit<Bool> as Kind>::clear(&mut self.map_entry);
+        <Embedded<FeatureSet> as Kind>::clear(&mut self.features);
         self.unknown.clear();
     }
 }

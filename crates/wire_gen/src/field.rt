@@ -1,5 +1,6 @@
 //! Fields of a message type, each with its kind.
 use crate::error::GenerateError;
+use crate::features::Features;
 use crate::item::{Sort, set_item};
 use crate::kind::{set_always, set_closed, set_keeping, set_key, set_kind, set_map, set_types};
 use crate::names::{type_name, word_name};
@@ -47,14 +48,15 @@ pub(crate) fn fields_of(
     let mut fields = Vec::new(alloc);
     for (_, place) in order {
         if let Some(field) = message.descriptor.field.get(place) {
-            let mut words = started(base, message, field)?;
+            let mut words = started(base, &message.words, field)?;
             words.index("at", place);
+            let features = features_of(message.origin.features, field, &mut words)?;
             match field.oneof_index {
                 Some(index) if !field.proto3_optional => {
-                    let variant = variant_of(words, schema, field)?;
+                    let variant = variant_of(words, schema, features, field)?;
                     add_variant(base, message, index, variant, &mut fields)?;
                 }
-                _ => fields.push(field_of(words, schema, message, field)?)?,
+                _ => fields.push(field_of(words, schema, features, field)?)?,
             }
         }
     }
@@ -106,21 +108,34 @@ fn names_differ(alloc: Global, fields: &mut [Field]) -> Result<(), GenerateError
     Ok(())
 }
 
-// The words of a field but for those of its values.
-fn started(
+/// The features of a field of a message, or of an extension.
+pub(crate) fn features_of(
+    outer: Features,
+    field: &FieldDescriptorProto,
+    words: &mut Words,
+) -> Result<Features, GenerateError> {
+    let features = match &field.options {
+        Some(options) => outer.with(options.features.as_deref(), words)?,
+        None => outer,
+    };
+    if features.is_required() || field.label == LABEL_REQUIRED {
+        return Err(words.refused("$full$.$proto$: required fields are not generated"));
+    }
+    Ok(features)
+}
+
+/// The words of a field but for those of its values.
+pub(crate) fn started(
     base: &Words,
-    message: &MessageType,
+    message: &Words,
     field: &FieldDescriptorProto,
 ) -> Result<Words, GenerateError> {
     let mut words = Words::like(base);
-    words.copy(&message.words, &["full", "name", "module"]);
+    words.copy(message, &["full", "name", "module"]);
     words.set("proto", &field.name);
     words.set("field", &word_name(base.alloc(), &field.name)?);
     words.number("number", field.number);
     words.fill("numbers", "$number$");
-    if field.label == LABEL_REQUIRED {
-        return Err(words.refused("$full$.$proto$: required fields are not generated"));
-    }
     if !field.default_value.is_empty() {
         return Err(words.refused("$full$.$proto$: default values are not generated"));
     }
@@ -130,33 +145,10 @@ fn started(
 fn field_of(
     mut words: Words,
     schema: &Schema,
-    message: &MessageType,
+    features: Features,
     field: &FieldDescriptorProto,
 ) -> Result<Field, GenerateError> {
-    let entry = match field.type_ {
-        11 => schema.entry(&field.type_name),
-        _ => None,
-    };
-    match entry {
-        Some(entry) => {
-            set_part(schema, &entry.descriptor, 1, &mut words)?;
-            set_key(&mut words);
-            let sort = set_part(schema, &entry.descriptor, 2, &mut words)?;
-            set_map(sort, &mut words);
-            words.set("wire_type", "LengthDelimited");
-            set_types(false, &mut words);
-        }
-        None => {
-            let sort = set_item(schema, field, &mut words)?;
-            words.number("size", element_size(schema, field));
-            if !words.get("element").is_empty() {
-                words.fill("size", "$element$");
-            }
-            set_kind(message.origin.is_proto3, field, sort, &mut words);
-            let is_number = matches!(sort, Sort::Number);
-            set_types(is_number && field.label == LABEL_REPEATED, &mut words);
-        }
-    }
+    set_field(schema, features, field, &mut words)?;
     words.fill_all(&PLAIN);
     if !words.get("closed").is_empty() {
         if words.get("unknown") == "drop" || words.get("mismatch") == "keep" {
@@ -171,9 +163,44 @@ fn field_of(
     Ok(Field { words, oneof: None })
 }
 
+/// Sets the words of the kind of a field, as an open one where it is of a closed enum.
+pub(crate) fn set_field(
+    schema: &Schema,
+    features: Features,
+    field: &FieldDescriptorProto,
+    words: &mut Words,
+) -> Result<(), GenerateError> {
+    let entry = match field.type_ {
+        11 => schema.entry(&field.type_name),
+        _ => None,
+    };
+    match entry {
+        Some(entry) => {
+            set_part(schema, features, &entry.descriptor, 1, words)?;
+            set_key(words);
+            let sort = set_part(schema, features, &entry.descriptor, 2, words)?;
+            set_map(sort, words);
+            words.set("wire_type", "LengthDelimited");
+            set_types(false, words);
+        }
+        None => {
+            let sort = set_item(schema, features, field, words)?;
+            words.number("size", element_size(schema, field));
+            if !words.get("element").is_empty() {
+                words.fill("size", "$element$");
+            }
+            set_kind(features, field, sort, words);
+            let is_number = matches!(sort, Sort::Number);
+            set_types(is_number && field.label == LABEL_REPEATED, words);
+        }
+    }
+    Ok(())
+}
+
 // The key, field 1, or the value, field 2, of a map's entries.
 fn set_part(
     schema: &Schema,
+    features: Features,
     entry: &DescriptorProto,
     number: i32,
     words: &mut Words,
@@ -181,7 +208,8 @@ fn set_part(
     let Some(field) = entry.field.iter().find(|it| it.number == number) else {
         return Err(words.refused("$full$: a map whose entries lack a field"));
     };
-    let sort = set_item(schema, field, words)?;
+    // (entries are length-prefixed, and so are messages in them)
+    let sort = set_item(schema, features.prefixed(), field, words)?;
     stop_on_closed(words)?;
     Ok(sort)
 }
@@ -189,9 +217,10 @@ fn set_part(
 fn variant_of(
     mut words: Words,
     schema: &Schema,
+    features: Features,
     field: &FieldDescriptorProto,
 ) -> Result<Words, GenerateError> {
-    let sort = set_item(schema, field, &mut words)?;
+    let sort = set_item(schema, features, field, &mut words)?;
     stop_on_closed(&mut words)?;
     set_always(sort, &mut words);
     set_types(false, &mut words);

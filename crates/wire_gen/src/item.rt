@@ -1,5 +1,6 @@
 //! What one value of a field is.
 use crate::error::GenerateError;
+use crate::features::Features;
 use crate::scalar::{Scalar, number_type};
 use crate::schema::{MessageType, Schema};
 use crate::words::{Template, Words};
@@ -188,6 +189,7 @@ const OF_MESSAGE: [Template; 2] = [
 /// Sets the words of a value of this field; those of its message and of the crate are set.
 pub(crate) fn set_item(
     schema: &Schema,
+    features: Features,
     field: &FieldDescriptorProto,
     words: &mut Words,
 ) -> Result<Sort, GenerateError> {
@@ -195,7 +197,9 @@ pub(crate) fn set_item(
         9 => set_text(&STRING, words),
         12 => set_text(&BYTES, words),
         10 | 11 => match schema.message(&field.type_name) {
-            Some(message) => set_message(message, field.type_ == 10, words),
+            Some(message) => {
+                set_message(message, field.type_ == 10 || features.is_delimited(), words)
+            }
             None => return Err(foreign(field, words)),
         },
         14 => set_enum(schema, field, words)?,
@@ -265,10 +269,10 @@ fn set_enum(
     set_names(&of_enum.words, words);
     words.fill(
         "closed",
-        if of_enum.origin.is_proto3 {
-            ""
-        } else {
+        if of_enum.origin.features.is_closed() {
             "closed"
+        } else {
+            ""
         },
     );
     words.fill_all(&ENUM);

@@ -1,4 +1,5 @@
 //! The kinds of fields.
+use crate::features::Features;
 use crate::item::{Sort, bracket};
 use crate::words::{Template, Words};
 use wire_descriptor::FieldDescriptorProto;
@@ -194,17 +195,17 @@ const MAP: Kind = Kind {
 
 /// Makes the words of a field of those of its values.
 pub(crate) fn set_kind(
-    is_proto3: bool,
+    features: Features,
     field: &FieldDescriptorProto,
     sort: Sort,
     words: &mut Words,
 ) {
     let is_repeated = field.label == LABEL_REPEATED;
     let is_packed = match &field.options {
-        Some(options) => options.packed.unwrap_or(is_proto3),
-        None => is_proto3,
+        Some(options) => options.packed.unwrap_or(features.is_packed()),
+        None => features.is_packed(),
     };
-    let is_implicit = is_proto3 && !field.proto3_optional;
+    let is_implicit = features.is_implicit() && !field.proto3_optional;
     let kind = match sort {
         Sort::Message if is_repeated => &EACH_EMBEDDED,
         Sort::Message => &EMBEDDED,

@@ -8,6 +8,8 @@ mod comments;
 mod definitions;
 mod enums;
 mod error;
+mod extensions;
+mod features;
 mod field;
 mod imports;
 mod item;

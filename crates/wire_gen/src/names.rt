@@ -5,7 +5,7 @@ use std::alloc::Global;
 // Words of the language, of clauses, and of what stands in each generated module. A field or a
 // module of such a name has an underscore behind it.
 const WORDS: &str = "abbrev abstract as assumption async await become box break bytes const \
-    continue core crate data do dyn elim else ensures enum extern false final fn for ghost ground \
+    continue core crate data do dyn elim else ensures enum extensions extern false final fn for ghost ground \
     if impl in instance laws let lib loop macro main match mod module move mut opaque open override \
     priv pub record ref requires return rw self specs static std struct super syntax then trait \
     true try type typeof unknown unsafe unsized use virtual where while wire_codec wire_fields \

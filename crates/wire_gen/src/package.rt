@@ -4,6 +4,8 @@ use crate::code::code_of;
 use crate::definitions::definitions_of;
 use crate::enums::enum_files;
 use crate::error::GenerateError;
+use crate::extensions::extensions_of;
+use crate::features::{FIRST_EDITION, LAST_EDITION};
 use crate::field::{Oneof, fields_of};
 use crate::oneof::oneof_code;
 use crate::oneof_definitions::oneof_definitions;
@@ -69,6 +71,11 @@ returns c = reads_back ($module$-returned c.grounds.ensures) c.text_decodes.ensu
 // The most fields of a message: a copy of many more is not proved.
 const MOST_FIELDS: usize = 40;
 
+// Features of a plug-in, as protoc asks for them.
+const OPTIONAL_OF_PROTO3: u64 = 1;
+
+const EDITIONS: u64 = 2;
+
 /// The answer of the plug-in to a request of protoc, as bytes both. What a schema has and a crate
 /// can't have is an error that is answered.
 pub(crate) fn answer(alloc: Global, request: &[u8]) -> Result<Vec<u8>, GenerateError> {
@@ -78,7 +85,9 @@ pub(crate) fn answer(alloc: Global, request: &[u8]) -> Result<Vec<u8>, GenerateE
         Err(error) => return Err(GenerateError::Request(error)),
     };
     let mut response = CodeGeneratorResponse::default_value(alloc);
-    response.supported_features = 1;
+    response.supported_features = OPTIONAL_OF_PROTO3 | EDITIONS;
+    response.minimum_edition = FIRST_EDITION;
+    response.maximum_edition = LAST_EDITION;
     match files_of(alloc, &request) {
         Ok(files) => response.file = files,
         Err(GenerateError::Refused(why)) => response.error = why,
@@ -112,6 +121,7 @@ fn files_of(
             package.add_enum(&schema, of_enum)?;
         }
     }
+    package.add_extensions(&schema)?;
     package.add_roots()?;
     Ok(package.files)
 }
@@ -285,6 +295,19 @@ impl Package {
         ]);
         self.add(page, "src/$module$.rt", code)?;
         self.add(page, "specs/$name$.antt", definitions)
+    }
+
+    fn add_extensions(&mut self, schema: &Schema) -> Result<(), GenerateError> {
+        let code = extensions_of(&self.base, schema)?;
+        if code.is_empty() {
+            return Ok(());
+        }
+        self.roots.append_all(&[
+            ("needs", " wire_extensions"),
+            ("modules", "pub mod extensions;\n"),
+        ]);
+        let mut page = Words::like(&self.base);
+        self.add(&mut page, "src/extensions.rt", code)
     }
 
     // A law, and its proof.

@@ -1,5 +1,6 @@
 //! The message types and enums of the files that are to be generated.
 use crate::error::GenerateError;
+use crate::features::Features;
 use crate::names::{type_name, word_name};
 use crate::words::Words;
 use std::alloc::Global;
@@ -15,7 +16,7 @@ const MOST_MESSAGES: u32 = 100_000;
 /// What a type has of its file.
 #[derive(Clone, Copy)]
 pub(crate) struct Origin {
-    pub is_proto3: bool,
+    pub features: Features,
     /// Whether it is generated, and not of another crate.
     pub is_own: bool,
 }
@@ -40,6 +41,14 @@ pub(crate) struct EnumType {
     pub descriptor: EnumDescriptorProto,
 }
 
+/// An extension, with the words of what it stands in, and its own `at`.
+#[derive(Drop)]
+pub(crate) struct Extension {
+    pub words: Words,
+    pub origin: Origin,
+    pub descriptor: FieldDescriptorProto,
+}
+
 // What stands before a part of a file.
 #[derive(Drop)]
 struct Comment {
@@ -54,6 +63,7 @@ pub(crate) struct Schema {
     // The types of the entries of maps.
     entries: Vec<MessageType>,
     pub enums: Vec<EnumType>,
+    pub extensions: Vec<Extension>,
     comments: Vec<Comment>,
 }
 
@@ -70,6 +80,7 @@ impl Schema {
             messages: Vec::new(alloc),
             entries: Vec::new(alloc),
             enums: Vec::new(alloc),
+            extensions: Vec::new(alloc),
             comments: Vec::new(alloc),
         };
         for file in &request.proto_file {
@@ -107,9 +118,10 @@ impl Schema {
             self.add_comments(file)?;
         }
         let origin = Origin {
-            is_proto3: file.syntax_.as_str() == "proto3",
+            features: Features::of_file(file, &mut words)?,
             is_own,
         };
+        self.add_extensions(&words, "$place$.7.$index$", &file.extension, origin)?;
         self.add_enums(&words, "$place$.5.$index$", &file.enum_type, origin)?;
         let mut pending = Vec::new(self.alloc);
         for (index, descriptor) in file.message_type.iter().enumerate() {
@@ -136,14 +148,17 @@ impl Schema {
         pending: &mut Vec<MessageType>,
     ) -> Result<(), GenerateError> {
         let descriptor = &message.descriptor;
-        let extends = !descriptor.extension_range.is_empty() || !descriptor.extension.is_empty();
-        if extends && message.origin.is_own {
-            return Err(
-                message
-                    .words
-                    .refused("$full$: extensions are not generated"),
-            );
+        if let Some(options) = &descriptor.options {
+            let features = options.features.as_deref();
+            message.origin.features = message.origin.features.with(features, &mut message.words)?;
         }
+        let extensions = &descriptor.extension;
+        self.add_extensions(
+            &message.words,
+            "$place$.6.$index$",
+            extensions,
+            message.origin,
+        )?;
         for (index, bytes) in descriptor.nested_type.iter().enumerate() {
             let descriptor = match DescriptorProto::decode_from_slice(self.alloc, bytes) {
                 Ok(descriptor) => descriptor,
@@ -179,8 +194,35 @@ impl Schema {
         origin: Origin,
     ) -> Result<(), GenerateError> {
         for (index, descriptor) in enums.iter().enumerate() {
+            let mut words = inner(outer, &descriptor.name, place, index)?;
+            let mut origin = origin;
+            if let Some(options) = &descriptor.options {
+                let features = options.features.as_deref();
+                origin.features = origin.features.with(features, &mut words)?;
+            }
             self.enums.push(EnumType {
-                words: inner(outer, &descriptor.name, place, index)?,
+                words,
+                origin,
+                descriptor: descriptor.clone()?,
+            })?;
+        }
+        Ok(())
+    }
+
+    // The extensions that a file or a message type declares, whose places are such.
+    fn add_extensions(
+        &mut self,
+        outer: &Words,
+        place: &str,
+        extensions: &[FieldDescriptorProto],
+        origin: Origin,
+    ) -> Result<(), GenerateError> {
+        for (index, descriptor) in extensions.iter().enumerate() {
+            let mut words = Words::like(outer);
+            words.index("index", index);
+            words.fill("at", place);
+            self.extensions.push(Extension {
+                words,
                 origin,
                 descriptor: descriptor.clone()?,
             })?;
@@ -271,7 +313,7 @@ impl Schema {
 
     fn is_closed(&self, field: &FieldDescriptorProto) -> bool {
         match self.enum_of(&field.type_name) {
-            Some(of_enum) => field.type_ == 14 && !of_enum.origin.is_proto3,
+            Some(of_enum) => field.type_ == 14 && of_enum.origin.features.is_closed(),
             None => false,
         }
     }
@@ -359,16 +401,8 @@ fn inner(outer: &Words, name: &str, place: &str, index: usize) -> Result<Words, 
 
 // What a file has and a crate can't have.
 fn stop_on_rest(file: &FileDescriptorProto, words: &mut Words) -> Result<(), GenerateError> {
-    let is_known = matches!(file.syntax_.as_str(), "" | "proto2" | "proto3");
-    Err(words.refused(if !file.service.is_empty() {
-        "$file$: services are not generated"
-    } else if !file.extension.is_empty() {
-        "$file$: extensions are not generated"
-    } else if file.edition != 0 {
-        "$file$: editions are not generated"
-    } else if !is_known {
-        "$file$: its syntax is neither proto2 nor proto3"
-    } else {
+    if file.service.is_empty() {
         return Ok(());
-    }))
+    }
+    Err(words.refused("$file$: services are not generated"))
 }

@@ -1,17 +1,25 @@
 -- A `ReportOrigin` as contracts see it, and the table of its fields. Generated.
-use Rattle.std.proofs.Common.{inl, inr}
+use Rattle.std.proofs.Common.{arith, inl, inr, refl, ◌≡◌}
 use Rattle.std.specs.Prelude.{List, None, Option, Some, string_bytes, ℕ, ◌⊎◌}
 use Rattle.wire_codec.specs.Folds.{Step}
-use Rattle.wire_codec.specs.Records.{Records, none}
+use Rattle.wire_codec.specs.Limits.{Charge, no_charge}
+use Rattle.wire_codec.specs.Records.{Records, none, plain}
 use Rattle.wire_codec.specs.ValueMap.{uint64}
+use Rattle.wire_fields.specs.Back.{AllAre, FoldsBack}
+use Rattle.wire_fields.specs.Grounds.{Grounds, numeric_back, string_back, uint64_back}
 use Rattle.wire_fields.specs.Messages.{embedded_always}
 use Rattle.wire_fields.specs.Numbers.{numeric}
 use Rattle.wire_fields.specs.Oneof.{Variants, either_of, oneof, variant}
+use Rattle.wire_fields.specs.OneofBack.{variant_back, variant_has}
 use Rattle.wire_fields.specs.Presence.{always}
+use Rattle.wire_fields.specs.Ranges.{Range, always_range, string_range, uint64_range}
+use Rattle.wire_fields.specs.Returned.{Returned, always_returned, embedded_always_returned}
 use Rattle.wire_fields.specs.Shape.{FieldKind, Shape}
 use Rattle.wire_fields.specs.Texts.{string}
 use Rattle.wire_fields.specs.declared.form.Form.TheVariants.{Varint}
-use Rattle.wire_report.specs.ReportSample.{ReportSample-Value, report_sample-shape, report_sample-value}
+use Rattle.wire_report.specs.ReportSample.{ReportSample-Value, report_sample-range}
+use Rattle.wire_report.specs.ReportSample.{report_sample-returned, report_sample-shape}
+use Rattle.wire_report.specs.ReportSample.{report_sample-value}
 use Rattle.wire_report.specs.declared.report_origin.ReportOrigin.{ReportOrigin}
 use Rattle.wire_report.specs.declared.report_origin.ReportOrigin.TheVariants.{Device, File, Sample}
 
@@ -37,7 +45,8 @@ file-of-report_origin-step = (always string).kind.takes
 
 abbrev pub file-of-report_origin : Variants ReportOrigin-Value
 file-of-report_origin =
-    variant 13 (always string) file-of-report_origin-as (λ x. Some (inl x))
+    variant 13 (always string) file-of-report_origin-as
+    (λ x. Some (inl x))
 
 abbrev pub device-of-report_origin-as : ReportOrigin-Value → Option ℕ
 device-of-report_origin-as None = None
@@ -53,7 +62,8 @@ device-of-report_origin-step = (always (numeric Varint uint64)).kind.takes
 
 abbrev pub device-of-report_origin : Variants ReportOrigin-Value
 device-of-report_origin =
-    variant 14 (always (numeric Varint uint64)) device-of-report_origin-as (λ x. Some (inr (inl x)))
+    variant 14 (always (numeric Varint uint64)) device-of-report_origin-as
+    (λ x. Some (inr (inl x)))
 
 abbrev pub sample-of-report_origin-as : ReportOrigin-Value → Option ReportSample-Value
 sample-of-report_origin-as None = None
@@ -69,7 +79,8 @@ sample-of-report_origin-step = (embedded_always report_sample-shape).kind.takes
 
 abbrev pub sample-of-report_origin : Variants ReportOrigin-Value
 sample-of-report_origin =
-    variant 16 (embedded_always report_sample-shape) sample-of-report_origin-as (λ x. Some (inr (inr x)))
+    variant 16 (embedded_always report_sample-shape) sample-of-report_origin-as
+    (λ x. Some (inr (inr x)))
 
 abbrev pub report_origin-records : ReportOrigin-Value → Records
 report_origin-records None = none
@@ -91,4 +102,86 @@ report_origin-kind = record {
   default = None;
   records = λ n. report_origin-records;
   takes = report_origin-shape.takes;
+}
+
+-- what is read back once it is written
+abbrev pub report_origin-holds : ReportOrigin-Value → Type 0
+report_origin-holds None = Unit {0}
+report_origin-holds (Some (inl x)) =
+    string_range.Holds x
+report_origin-holds (Some (inr (inl x))) =
+    uint64_range.Holds x
+report_origin-holds (Some (inr (inr x))) =
+    (always_range report_sample-shape report_sample-range).Holds x
+
+abbrev pub report_origin-charge : ReportOrigin-Value → Charge
+report_origin-charge None = no_charge
+report_origin-charge (Some (inl x)) =
+    string_range.charge_of x
+report_origin-charge (Some (inr (inl x))) =
+    uint64_range.charge_of x
+report_origin-charge (Some (inr (inr x))) =
+    (always_range report_sample-shape report_sample-range).charge_of x
+
+abbrev pub report_origin-range : Range ReportOrigin-Value
+report_origin-range = record { Holds = report_origin-holds; charge_of = report_origin-charge }
+
+pub report_origin-folds : Grounds → (m : ReportOrigin-Value) → report_origin-holds m
+    → FoldsBack report_origin-shape.takes report_origin-shape.default
+    (plain (report_origin-shape.records m)) (report_origin-charge m) m
+report_origin-folds g None h = record { fitting = tt; numbered = tt; folded = (refl, refl) }
+report_origin-folds g (Some (inl x)) h =
+    variant_back g.charges report_origin-shape (always string).kind
+    string_range.Holds
+    string_range.charge_of
+    (always_returned g _ _ string_back) (λ x. Some (inl x)) 13 x refl
+    (g.number 13 (omega arith) (omega arith)) h (λ c p k. (x, k, refl))
+report_origin-folds g (Some (inr (inl x))) h =
+    variant_back g.charges report_origin-shape (always (numeric Varint uint64)).kind
+    uint64_range.Holds
+    uint64_range.charge_of
+    (always_returned g _ _ (numeric_back (uint64_back g))) (λ x. Some (inr (inl x))) 14 x refl
+    (g.number 14 (omega arith) (omega arith)) h (λ c p k. (x, k, refl))
+report_origin-folds g (Some (inr (inr x))) h =
+    variant_back g.charges report_origin-shape (embedded_always report_sample-shape).kind
+    (always_range report_sample-shape report_sample-range).Holds
+    (always_range report_sample-shape report_sample-range).charge_of
+    (embedded_always_returned g _ _ (report_sample-returned g)) (λ x. Some (inr (inr x))) 16 x refl
+    (g.number 16 (omega arith) (omega arith)) h (λ c p k. (x, k, refl))
+
+abbrev pub report_origin-numbers : ℕ → Type 0
+report_origin-numbers n = (((n ≡ 13) ⊎ (n ≡ 14)) ⊎ (n ≡ 16))
+
+pub report_origin-have : Grounds → (m : ReportOrigin-Value)
+    → AllAre report_origin-numbers (plain (report_origin-shape.records m))
+report_origin-have g None = tt
+report_origin-have g (Some (inl x)) =
+    variant_has g.charges report_origin-shape (always string).kind
+    string_range.Holds
+    string_range.charge_of
+    (always_returned g _ _ string_back) (λ x. Some (inl x)) 13 x refl
+    report_origin-numbers (inl (inl refl))
+report_origin-have g (Some (inr (inl x))) =
+    variant_has g.charges report_origin-shape (always (numeric Varint uint64)).kind
+    uint64_range.Holds
+    uint64_range.charge_of
+    (always_returned g _ _ (numeric_back (uint64_back g))) (λ x. Some (inr (inl x))) 14 x refl
+    report_origin-numbers (inl (inr refl))
+report_origin-have g (Some (inr (inr x))) =
+    variant_has g.charges report_origin-shape (embedded_always report_sample-shape).kind
+    (always_range report_sample-shape report_sample-range).Holds
+    (always_range report_sample-shape report_sample-range).charge_of
+    (embedded_always_returned g _ _ (report_sample-returned g)) (λ x. Some (inr (inr x))) 16 x refl
+    report_origin-numbers (inr refl)
+
+abbrev pub report_origin-returned : Grounds → Returned report_origin-shape report_origin-range
+report_origin-returned g = record {
+  Has = report_origin-numbers;
+  back = record {
+    back = report_origin-folds g;
+    has = λ m h. report_origin-have g m;
+    own = λ n p h. elim h [ inl h ↦ elim h [ inl h ↦ rw h refl
+    | inr h ↦ rw h refl ]
+    | inr h ↦ rw h refl ];
+  };
 }

@@ -5,6 +5,7 @@ mod report;
 mod report_level;
 mod report_origin;
 mod report_sample;
+pub mod laws;
 
 pub use report::Report;
 pub use report_level::ReportLevel;

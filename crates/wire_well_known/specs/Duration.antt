@@ -1,9 +1,14 @@
 -- A `Duration` as contracts see it, and the table of its fields. Generated.
+use Rattle.std.proofs.Common.{arith, refl}
 use Rattle.std.specs.Prelude.{ℤ}
 use Rattle.wire_codec.specs.Field.{Fields}
 use Rattle.wire_codec.specs.ValueMap.{int32, int64}
+use Rattle.wire_fields.specs.Grounds.{Grounds, int32_back, int64_back, numeric_back}
 use Rattle.wire_fields.specs.Numbers.{numeric}
 use Rattle.wire_fields.specs.Presence.{implicit}
+use Rattle.wire_fields.specs.Ranges.{Range, int32_range, int64_range, others_range, pair_range}
+use Rattle.wire_fields.specs.Returned.{Returned, implicit_returned, known_returned, two_returned}
+use Rattle.wire_fields.specs.Returned.{whole_returned}
 use Rattle.wire_fields.specs.Shape.{Lawful, Shape, known, two, unknown}
 use Rattle.wire_fields.specs.declared.form.Form.TheVariants.{Varint}
 use Rattle.wire_well_known.specs.declared.duration.Duration.{Duration}
@@ -11,8 +16,16 @@ use Rattle.wire_well_known.specs.declared.duration.Duration.{Duration}
 abbrev pub duration-seconds-kind : Lawful ℤ
 duration-seconds-kind = implicit (numeric Varint int64)
 
+abbrev pub duration-seconds-range : Range ℤ
+duration-seconds-range =
+    int64_range
+
 abbrev pub duration-nanos-kind : Lawful ℤ
 duration-nanos-kind = implicit (numeric Varint int32)
+
+abbrev pub duration-nanos-range : Range ℤ
+duration-nanos-range =
+    int32_range
 
 abbrev pub Duration-Known : Type 0
 Duration-Known =
@@ -44,3 +57,22 @@ duration-known =
 
 abbrev pub duration-shape : Shape Duration-Value
 duration-shape = two duration-known unknown
+
+-- what is read back once it is written
+abbrev pub duration-range : Range Duration-Value
+duration-range =
+    pair_range (pair_range (duration-seconds-range)
+    (duration-nanos-range))
+    (others_range duration-known.owns)
+
+pub duration-returned : Grounds → Returned duration-shape duration-range
+duration-returned g =
+    whole_returned g
+    (two_returned g
+    (known_returned g 1 duration-seconds-kind duration-seconds-range
+    (omega arith) (omega arith)
+    (implicit_returned g _ _ (numeric_back (int64_back g))))
+    (known_returned g 2 duration-nanos-kind duration-nanos-range
+    (omega arith) (omega arith)
+    (implicit_returned g _ _ (numeric_back (int32_back g))))
+    (λ n p h. rw h refl))

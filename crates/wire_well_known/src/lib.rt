@@ -15,6 +15,7 @@ mod string_value;
 mod timestamp;
 mod uint32_value;
 mod uint64_value;
+pub mod laws;
 
 pub use any::Any;
 pub use bool_value::BoolValue;

@@ -1,6 +1,7 @@
 use Rattle.std.proofs.Common.{refl, subst, sym}
 use Rattle.std.proofs.lemmas.Result.{err_from_is_err_and}
-use Rattle.wire_report.specs.ReportOrigin.{report_origin-of, device-of-report_origin, device-of-report_origin-step}
+use Rattle.wire_report.specs.ReportOrigin.{report_origin-of, device-of-report_origin}
+use Rattle.wire_report.specs.ReportOrigin.{device-of-report_origin-step}
 use Rattle.wire_codec.specs.TagView.{tag_number}
 use Rattle.wire_fields.specs.Arms.{untaken}
 use Rattle.wire_report.proofs.report_origin.merge_device.Goals as goal

@@ -1,6 +1,10 @@
 use Rattle.std.proofs.Common.{rules, sym, ◌∙◌}
 use Rattle.wire_codec.specs.TagView.{tag_number}
-use Rattle.wire_descriptor.specs.CodeGeneratorRequest.{code_generator_request-file_to_generate-kind, code_generator_request-known, code_generator_request-parameter-kind, code_generator_request-proto_file-kind, code_generator_request-shape}
+use Rattle.wire_descriptor.specs.CodeGeneratorRequest.{code_generator_request-file_to_generate-kind}
+use Rattle.wire_descriptor.specs.CodeGeneratorRequest.{code_generator_request-known}
+use Rattle.wire_descriptor.specs.CodeGeneratorRequest.{code_generator_request-parameter-kind}
+use Rattle.wire_descriptor.specs.CodeGeneratorRequest.{code_generator_request-proto_file-kind}
+use Rattle.wire_descriptor.specs.CodeGeneratorRequest.{code_generator_request-shape}
 use Rattle.wire_fields.specs.Arms.{arm_err, neither, rest_err, unlike}
 use Rattle.wire_fields.specs.Shape.{keeps}
 use Rattle.wire_descriptor.proofs.code_generator_request.CodeGeneratorRequestMessage.merge_field.Goals as goal

@@ -1,6 +1,12 @@
 use Rattle.std.proofs.Common.{rules, sym, ◌∙◌}
 use Rattle.wire_codec.specs.TagView.{tag_number}
-use Rattle.wire_descriptor.specs.CodeGeneratorResponse.{code_generator_response-error-kind, code_generator_response-file-kind, code_generator_response-known, code_generator_response-shape, code_generator_response-supported_features-kind}
+use Rattle.wire_descriptor.specs.CodeGeneratorResponse.{code_generator_response-error-kind}
+use Rattle.wire_descriptor.specs.CodeGeneratorResponse.{code_generator_response-file-kind}
+use Rattle.wire_descriptor.specs.CodeGeneratorResponse.{code_generator_response-known}
+use Rattle.wire_descriptor.specs.CodeGeneratorResponse.{code_generator_response-maximum_edition-kind}
+use Rattle.wire_descriptor.specs.CodeGeneratorResponse.{code_generator_response-minimum_edition-kind}
+use Rattle.wire_descriptor.specs.CodeGeneratorResponse.{code_generator_response-shape}
+use Rattle.wire_descriptor.specs.CodeGeneratorResponse.{code_generator_response-supported_features-kind}
 use Rattle.wire_fields.specs.Arms.{arm_err, neither, rest_err, unlike}
 use Rattle.wire_fields.specs.Shape.{keeps}
 use Rattle.wire_descriptor.proofs.code_generator_response.CodeGeneratorResponseMessage.merge_field.Goals as goal
@@ -9,15 +15,29 @@ pub returns-in-1-clause-err : goal.returns-in-1-clause-err
 returns-in-1-clause-err g c =
     arm_err code_generator_response-shape.takes code_generator_response-error-kind.kind.takes 1 _
     (sym c.field_number.ensures.number ∙ c.in-1.is) _ _
-    (λ charge z p h. (z.0.0.0, h.0.0.0)) _ _ _
+    (λ charge z p h. (z.0.0.0.0, h.0.0.0.0)) _ _ _
     c.merge.result c.merge.ensures.err
 
 pub returns-in-2-clause-err : goal.returns-in-2-clause-err
 returns-in-2-clause-err g c =
     arm_err code_generator_response-shape.takes code_generator_response-supported_features-kind.kind.takes 2 _
     (sym c.field_number.ensures.number ∙ c.in-2.is) _ _
-    (λ charge z p h. (z.0.0.1, h.0.0.0)) _ _ _
+    (λ charge z p h. (z.0.0.0.1, h.0.0.0.0)) _ _ _
     (c.merge-in-2).result (c.merge-in-2).ensures.err
+
+pub returns-in-3-clause-err : goal.returns-in-3-clause-err
+returns-in-3-clause-err g c =
+    arm_err code_generator_response-shape.takes code_generator_response-minimum_edition-kind.kind.takes 3 _
+    (sym c.field_number.ensures.number ∙ c.in-3.is) _ _
+    (λ charge z p h. (z.0.0.1.0, h.0.0.0.0)) _ _ _
+    (c.merge-in-3).result (c.merge-in-3).ensures.err
+
+pub returns-in-4-clause-err : goal.returns-in-4-clause-err
+returns-in-4-clause-err g c =
+    arm_err code_generator_response-shape.takes code_generator_response-maximum_edition-kind.kind.takes 4 _
+    (sym c.field_number.ensures.number ∙ c.in-4.is) _ _
+    (λ charge z p h. (z.0.0.1.1, h.0.0.0.0)) _ _ _
+    (c.merge-in-4).result (c.merge-in-4).ensures.err
 
 pub returns-in-15-clause-err : goal.returns-in-15-clause-err
 returns-in-15-clause-err g c =
@@ -30,7 +50,9 @@ pub returns-in_default-clause-err : goal.returns-in_default-clause-err
 returns-in_default-clause-err g c =
     let n = tag_number c.args.tag in
     rest_err code_generator_response-known.owns code_generator_response-known.takes keeps _
-    (λ p. neither _ _ (neither _ _ (unlike n 1 (search rules))
+    (λ p. neither _ _ (neither _ _ (neither _ _ (unlike n 1 (search rules))
     (unlike n 2 (search rules)))
+    (neither _ _ (unlike n 3 (search rules))
+    (unlike n 4 (search rules))))
     (unlike n 15 (search rules)))
     _ _ _ _ c.keep.result c.keep.ensures.err

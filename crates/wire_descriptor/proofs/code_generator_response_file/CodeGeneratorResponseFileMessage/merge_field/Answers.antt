@@ -1,6 +1,9 @@
 use Rattle.std.proofs.Common.{rules, sym, ◌∙◌}
 use Rattle.wire_codec.specs.TagView.{tag_number}
-use Rattle.wire_descriptor.specs.CodeGeneratorResponseFile.{code_generator_response_file-content-kind, code_generator_response_file-known, code_generator_response_file-name-kind, code_generator_response_file-shape}
+use Rattle.wire_descriptor.specs.CodeGeneratorResponseFile.{code_generator_response_file-content-kind}
+use Rattle.wire_descriptor.specs.CodeGeneratorResponseFile.{code_generator_response_file-known}
+use Rattle.wire_descriptor.specs.CodeGeneratorResponseFile.{code_generator_response_file-name-kind}
+use Rattle.wire_descriptor.specs.CodeGeneratorResponseFile.{code_generator_response_file-shape}
 use Rattle.wire_fields.specs.Arms.{arm_err, neither, rest_err, unlike}
 use Rattle.wire_fields.specs.Shape.{keeps}
 use Rattle.wire_descriptor.proofs.code_generator_response_file.CodeGeneratorResponseFileMessage.merge_field.Goals as goal

@@ -1,6 +1,15 @@
 use Rattle.std.proofs.Common.{rules, sym, ◌∙◌}
 use Rattle.wire_codec.specs.TagView.{tag_number}
-use Rattle.wire_descriptor.specs.DescriptorProto.{descriptor_proto-enum_type-kind, descriptor_proto-extension-kind, descriptor_proto-extension_range-kind, descriptor_proto-field-kind, descriptor_proto-known, descriptor_proto-name-kind, descriptor_proto-nested_type-kind, descriptor_proto-oneof_decl-kind, descriptor_proto-options-kind, descriptor_proto-shape}
+use Rattle.wire_descriptor.specs.DescriptorProto.{descriptor_proto-enum_type-kind}
+use Rattle.wire_descriptor.specs.DescriptorProto.{descriptor_proto-extension-kind}
+use Rattle.wire_descriptor.specs.DescriptorProto.{descriptor_proto-extension_range-kind}
+use Rattle.wire_descriptor.specs.DescriptorProto.{descriptor_proto-field-kind}
+use Rattle.wire_descriptor.specs.DescriptorProto.{descriptor_proto-known}
+use Rattle.wire_descriptor.specs.DescriptorProto.{descriptor_proto-name-kind}
+use Rattle.wire_descriptor.specs.DescriptorProto.{descriptor_proto-nested_type-kind}
+use Rattle.wire_descriptor.specs.DescriptorProto.{descriptor_proto-oneof_decl-kind}
+use Rattle.wire_descriptor.specs.DescriptorProto.{descriptor_proto-options-kind}
+use Rattle.wire_descriptor.specs.DescriptorProto.{descriptor_proto-shape}
 use Rattle.wire_fields.specs.Arms.{arm_err, neither, rest_err, unlike}
 use Rattle.wire_fields.specs.Shape.{keeps}
 use Rattle.wire_descriptor.proofs.descriptor_proto.DescriptorProtoMessage.merge_field.Goals as goal

@@ -1,6 +1,9 @@
 use Rattle.std.proofs.Common.{rules, sym, ◌∙◌}
 use Rattle.wire_codec.specs.TagView.{tag_number}
-use Rattle.wire_descriptor.specs.EnumValueDescriptorProto.{enum_value_descriptor_proto-known, enum_value_descriptor_proto-name-kind, enum_value_descriptor_proto-number-kind, enum_value_descriptor_proto-shape}
+use Rattle.wire_descriptor.specs.EnumValueDescriptorProto.{enum_value_descriptor_proto-known}
+use Rattle.wire_descriptor.specs.EnumValueDescriptorProto.{enum_value_descriptor_proto-name-kind}
+use Rattle.wire_descriptor.specs.EnumValueDescriptorProto.{enum_value_descriptor_proto-number-kind}
+use Rattle.wire_descriptor.specs.EnumValueDescriptorProto.{enum_value_descriptor_proto-shape}
 use Rattle.wire_fields.specs.Arms.{arm_err, neither, rest_err, unlike}
 use Rattle.wire_fields.specs.Shape.{keeps}
 use Rattle.wire_descriptor.proofs.enum_value_descriptor_proto.EnumValueDescriptorProtoMessage.merge_field.Goals as goal

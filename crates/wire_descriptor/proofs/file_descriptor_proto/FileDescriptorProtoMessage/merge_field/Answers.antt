@@ -1,6 +1,18 @@
 use Rattle.std.proofs.Common.{rules, sym, ◌∙◌}
 use Rattle.wire_codec.specs.TagView.{tag_number}
-use Rattle.wire_descriptor.specs.FileDescriptorProto.{file_descriptor_proto-dependency-kind, file_descriptor_proto-edition-kind, file_descriptor_proto-enum_type-kind, file_descriptor_proto-extension-kind, file_descriptor_proto-known, file_descriptor_proto-message_type-kind, file_descriptor_proto-name-kind, file_descriptor_proto-package-kind, file_descriptor_proto-service-kind, file_descriptor_proto-shape, file_descriptor_proto-source_code_info-kind, file_descriptor_proto-syntax_-kind}
+use Rattle.wire_descriptor.specs.FileDescriptorProto.{file_descriptor_proto-dependency-kind}
+use Rattle.wire_descriptor.specs.FileDescriptorProto.{file_descriptor_proto-edition-kind}
+use Rattle.wire_descriptor.specs.FileDescriptorProto.{file_descriptor_proto-enum_type-kind}
+use Rattle.wire_descriptor.specs.FileDescriptorProto.{file_descriptor_proto-extension-kind}
+use Rattle.wire_descriptor.specs.FileDescriptorProto.{file_descriptor_proto-known}
+use Rattle.wire_descriptor.specs.FileDescriptorProto.{file_descriptor_proto-message_type-kind}
+use Rattle.wire_descriptor.specs.FileDescriptorProto.{file_descriptor_proto-name-kind}
+use Rattle.wire_descriptor.specs.FileDescriptorProto.{file_descriptor_proto-options-kind}
+use Rattle.wire_descriptor.specs.FileDescriptorProto.{file_descriptor_proto-package-kind}
+use Rattle.wire_descriptor.specs.FileDescriptorProto.{file_descriptor_proto-service-kind}
+use Rattle.wire_descriptor.specs.FileDescriptorProto.{file_descriptor_proto-shape}
+use Rattle.wire_descriptor.specs.FileDescriptorProto.{file_descriptor_proto-source_code_info-kind}
+use Rattle.wire_descriptor.specs.FileDescriptorProto.{file_descriptor_proto-syntax_-kind}
 use Rattle.wire_fields.specs.Arms.{arm_err, neither, rest_err, unlike}
 use Rattle.wire_fields.specs.Shape.{keeps}
 use Rattle.wire_descriptor.proofs.file_descriptor_proto.FileDescriptorProtoMessage.merge_field.Goals as goal
@@ -54,18 +66,25 @@ returns-in-7-clause-err g c =
     (λ charge z p h. (z.0.0.1.1.0, h.0.0.0.0.0)) _ _ _
     (c.merge-in-7).result (c.merge-in-7).ensures.err
 
+pub returns-in-8-clause-err : goal.returns-in-8-clause-err
+returns-in-8-clause-err g c =
+    arm_err file_descriptor_proto-shape.takes file_descriptor_proto-options-kind.kind.takes 8 _
+    (sym c.field_number.ensures.number ∙ c.in-8.is) _ _
+    (λ charge z p h. (z.0.0.1.1.1, h.0.0.0.0.0)) _ _ _
+    (c.merge-in-8).result (c.merge-in-8).ensures.err
+
 pub returns-in-9-clause-err : goal.returns-in-9-clause-err
 returns-in-9-clause-err g c =
     arm_err file_descriptor_proto-shape.takes file_descriptor_proto-source_code_info-kind.kind.takes 9 _
     (sym c.field_number.ensures.number ∙ c.in-9.is) _ _
-    (λ charge z p h. (z.0.0.1.1.1, h.0.0.0.0.0)) _ _ _
+    (λ charge z p h. (z.0.1.0.0, h.0.0.0.0)) _ _ _
     (c.merge-in-9).result (c.merge-in-9).ensures.err
 
 pub returns-in-12-clause-err : goal.returns-in-12-clause-err
 returns-in-12-clause-err g c =
     arm_err file_descriptor_proto-shape.takes file_descriptor_proto-syntax_-kind.kind.takes 12 _
     (sym c.field_number.ensures.number ∙ c.in-12.is) _ _
-    (λ charge z p h. (z.0.1.0, h.0.0.0)) _ _ _
+    (λ charge z p h. (z.0.1.0.1, h.0.0.0.0)) _ _ _
     (c.merge-in-12).result (c.merge-in-12).ensures.err
 
 pub returns-in-14-clause-err : goal.returns-in-14-clause-err
@@ -86,7 +105,8 @@ returns-in_default-clause-err g c =
     (neither _ _ (neither _ _ (unlike n 5 (search rules))
     (unlike n 6 (search rules)))
     (neither _ _ (unlike n 7 (search rules))
-    (unlike n 9 (search rules)))))
-    (neither _ _ (unlike n 12 (search rules))
+    (unlike n 8 (search rules)))))
+    (neither _ _ (neither _ _ (unlike n 9 (search rules))
+    (unlike n 12 (search rules)))
     (unlike n 14 (search rules))))
     _ _ _ _ c.keep.result c.keep.ensures.err

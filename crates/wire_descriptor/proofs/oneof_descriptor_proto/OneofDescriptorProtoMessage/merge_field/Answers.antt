@@ -1,6 +1,8 @@
 use Rattle.std.proofs.Common.{rules, sym, ◌∙◌}
 use Rattle.wire_codec.specs.TagView.{tag_number}
-use Rattle.wire_descriptor.specs.OneofDescriptorProto.{oneof_descriptor_proto-known, oneof_descriptor_proto-name-kind, oneof_descriptor_proto-shape}
+use Rattle.wire_descriptor.specs.OneofDescriptorProto.{oneof_descriptor_proto-known}
+use Rattle.wire_descriptor.specs.OneofDescriptorProto.{oneof_descriptor_proto-name-kind}
+use Rattle.wire_descriptor.specs.OneofDescriptorProto.{oneof_descriptor_proto-shape}
 use Rattle.wire_fields.specs.Arms.{arm_err, rest_err, unlike}
 use Rattle.wire_fields.specs.Shape.{keeps}
 use Rattle.wire_descriptor.proofs.oneof_descriptor_proto.OneofDescriptorProtoMessage.merge_field.Goals as goal

@@ -1,6 +1,8 @@
 use Rattle.std.proofs.Common.{rules, sym, ◌∙◌}
 use Rattle.wire_codec.specs.TagView.{tag_number}
-use Rattle.wire_descriptor.specs.SourceCodeInfo.{source_code_info-known, source_code_info-location-kind, source_code_info-shape}
+use Rattle.wire_descriptor.specs.SourceCodeInfo.{source_code_info-known}
+use Rattle.wire_descriptor.specs.SourceCodeInfo.{source_code_info-location-kind}
+use Rattle.wire_descriptor.specs.SourceCodeInfo.{source_code_info-shape}
 use Rattle.wire_fields.specs.Arms.{arm_err, rest_err, unlike}
 use Rattle.wire_fields.specs.Shape.{keeps}
 use Rattle.wire_descriptor.proofs.source_code_info.SourceCodeInfoMessage.merge_field.Goals as goal

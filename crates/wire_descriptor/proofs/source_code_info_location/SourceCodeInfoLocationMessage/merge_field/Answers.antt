@@ -1,6 +1,9 @@
 use Rattle.std.proofs.Common.{rules, sym, ◌∙◌}
 use Rattle.wire_codec.specs.TagView.{tag_number}
-use Rattle.wire_descriptor.specs.SourceCodeInfoLocation.{source_code_info_location-known, source_code_info_location-leading_comments-kind, source_code_info_location-path-kind, source_code_info_location-shape}
+use Rattle.wire_descriptor.specs.SourceCodeInfoLocation.{source_code_info_location-known}
+use Rattle.wire_descriptor.specs.SourceCodeInfoLocation.{source_code_info_location-leading_comments-kind}
+use Rattle.wire_descriptor.specs.SourceCodeInfoLocation.{source_code_info_location-path-kind}
+use Rattle.wire_descriptor.specs.SourceCodeInfoLocation.{source_code_info_location-shape}
 use Rattle.wire_fields.specs.Arms.{arm_err, neither, rest_err, unlike}
 use Rattle.wire_fields.specs.Shape.{keeps}
 use Rattle.wire_descriptor.proofs.source_code_info_location.SourceCodeInfoLocationMessage.merge_field.Goals as goal

@@ -2,7 +2,11 @@ use Rattle.std.proofs.Common.{refl, rules, sym, ◌∙◌}
 use Rattle.wire_codec.specs.TagView.{tag_number}
 use Rattle.wire_fields.specs.Arms.{arm_err, arm_ok, neither, rest_err, unlike}
 use Rattle.wire_fields.specs.Shape.{keeps}
-use Rattle.wire_report.specs.Report.{report-host-kind, report-known, report-labels-kind, report-last-kind, report-level-kind, report-load-kind, report-notes-kind, report-offsets-kind, report-ports-kind, report-samples-kind, report-sent_at-kind, report-shape, report-signature-kind, report-type_-kind, report-worst-kind}
+use Rattle.wire_report.specs.Report.{report-host-kind, report-known, report-labels-kind}
+use Rattle.wire_report.specs.Report.{report-last-kind, report-level-kind, report-load-kind}
+use Rattle.wire_report.specs.Report.{report-notes-kind, report-offsets-kind, report-ports-kind}
+use Rattle.wire_report.specs.Report.{report-samples-kind, report-sent_at-kind, report-shape}
+use Rattle.wire_report.specs.Report.{report-signature-kind, report-type_-kind, report-worst-kind}
 use Rattle.wire_report.specs.ReportOrigin.{report_origin-shape}
 use Rattle.wire_report.proofs.report.ReportMessage.merge_field.Goals as goal
 

@@ -1,7 +1,9 @@
 use Rattle.std.proofs.Common.{refl, rules, sym, ◌∙◌}
 use Rattle.wire_codec.specs.TagView.{tag_number}
 use Rattle.wire_fields.specs.Arms.{arm_err, arm_ok, from_last, neither, to_last, unlike}
-use Rattle.wire_report.specs.ReportOrigin.{device-of-report_origin, file-of-report_origin, report_origin-front, report_origin-kind, report_origin-of, sample-of-report_origin}
+use Rattle.wire_report.specs.ReportOrigin.{device-of-report_origin, file-of-report_origin}
+use Rattle.wire_report.specs.ReportOrigin.{report_origin-front, report_origin-kind}
+use Rattle.wire_report.specs.ReportOrigin.{report_origin-of, sample-of-report_origin}
 use Rattle.wire_report.proofs.report_origin.ReportOriginKindKind.merge.Goals as goal
 
 pub returns-in-13-clause-err : goal.returns-in-13-clause-err

@@ -2,7 +2,9 @@ use Rattle.std.proofs.Common.{rules, sym, ◌∙◌}
 use Rattle.wire_codec.specs.TagView.{tag_number}
 use Rattle.wire_fields.specs.Arms.{arm_err, neither, rest_err, unlike}
 use Rattle.wire_fields.specs.Shape.{keeps}
-use Rattle.wire_report.specs.ReportSample.{report_sample-count-kind, report_sample-known, report_sample-name-kind, report_sample-shape, report_sample-value-kind}
+use Rattle.wire_report.specs.ReportSample.{report_sample-count-kind, report_sample-known}
+use Rattle.wire_report.specs.ReportSample.{report_sample-name-kind, report_sample-shape}
+use Rattle.wire_report.specs.ReportSample.{report_sample-value-kind}
 use Rattle.wire_report.proofs.report_sample.ReportSampleMessage.merge_field.Goals as goal
 
 pub returns-in-1-clause-err : goal.returns-in-1-clause-err

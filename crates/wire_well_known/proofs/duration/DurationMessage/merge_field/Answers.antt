@@ -2,7 +2,8 @@ use Rattle.std.proofs.Common.{rules, sym, ◌∙◌}
 use Rattle.wire_codec.specs.TagView.{tag_number}
 use Rattle.wire_fields.specs.Arms.{arm_err, neither, rest_err, unlike}
 use Rattle.wire_fields.specs.Shape.{keeps}
-use Rattle.wire_well_known.specs.Duration.{duration-known, duration-nanos-kind, duration-seconds-kind, duration-shape}
+use Rattle.wire_well_known.specs.Duration.{duration-known, duration-nanos-kind}
+use Rattle.wire_well_known.specs.Duration.{duration-seconds-kind, duration-shape}
 use Rattle.wire_well_known.proofs.duration.DurationMessage.merge_field.Goals as goal
 
 pub returns-in-1-clause-err : goal.returns-in-1-clause-err

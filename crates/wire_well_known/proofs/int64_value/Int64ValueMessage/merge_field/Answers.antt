@@ -2,7 +2,8 @@ use Rattle.std.proofs.Common.{rules, sym, ◌∙◌}
 use Rattle.wire_codec.specs.TagView.{tag_number}
 use Rattle.wire_fields.specs.Arms.{arm_err, rest_err, unlike}
 use Rattle.wire_fields.specs.Shape.{keeps}
-use Rattle.wire_well_known.specs.Int64Value.{int64_value-known, int64_value-shape, int64_value-value-kind}
+use Rattle.wire_well_known.specs.Int64Value.{int64_value-known, int64_value-shape}
+use Rattle.wire_well_known.specs.Int64Value.{int64_value-value-kind}
 use Rattle.wire_well_known.proofs.int64_value.Int64ValueMessage.merge_field.Goals as goal
 
 pub returns-in-1-clause-err : goal.returns-in-1-clause-err

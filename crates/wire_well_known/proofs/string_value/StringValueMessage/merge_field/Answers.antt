@@ -2,7 +2,8 @@ use Rattle.std.proofs.Common.{rules, sym, ◌∙◌}
 use Rattle.wire_codec.specs.TagView.{tag_number}
 use Rattle.wire_fields.specs.Arms.{arm_err, rest_err, unlike}
 use Rattle.wire_fields.specs.Shape.{keeps}
-use Rattle.wire_well_known.specs.StringValue.{string_value-known, string_value-shape, string_value-value-kind}
+use Rattle.wire_well_known.specs.StringValue.{string_value-known, string_value-shape}
+use Rattle.wire_well_known.specs.StringValue.{string_value-value-kind}
 use Rattle.wire_well_known.proofs.string_value.StringValueMessage.merge_field.Goals as goal
 
 pub returns-in-1-clause-err : goal.returns-in-1-clause-err

@@ -1,0 +1,128 @@
+//! What the syntax or the edition of a file leaves to its parts, as fields of a `FeatureSet`.
+use crate::error::GenerateError;
+use crate::words::Words;
+use wire_descriptor::{FeatureSet, FileDescriptorProto};
+
+/// The editions that are known: proto2, and that of 2023.
+pub(crate) const FIRST_EDITION: i32 = 998;
+
+pub(crate) const LAST_EDITION: i32 = 1000;
+
+const EDITION_2023: i32 = 1000;
+
+// Values of the features.
+const EXPLICIT: i32 = 1;
+
+const IMPLICIT: i32 = 2;
+
+const LEGACY_REQUIRED: i32 = 3;
+
+const OPEN: i32 = 1;
+
+const CLOSED: i32 = 2;
+
+const PACKED: i32 = 1;
+
+const EXPANDED: i32 = 2;
+
+const VERIFY: i32 = 2;
+
+const LENGTH_PREFIXED: i32 = 1;
+
+const DELIMITED: i32 = 2;
+
+const ALLOW: i32 = 1;
+
+/// The features of a part of a file.
+#[derive(Clone, Copy)]
+pub(crate) struct Features {
+    presence: i32,
+    enum_type: i32,
+    repeated: i32,
+    encoding: i32,
+}
+
+impl Features {
+    /// Those of a file.
+    pub(crate) fn of_file(
+        file: &FileDescriptorProto,
+        words: &mut Words,
+    ) -> Result<Features, GenerateError> {
+        let of_syntax = match file.syntax_.as_str() {
+            "" | "proto2" => Features::of(EXPLICIT, CLOSED, EXPANDED),
+            "proto3" => Features::of(IMPLICIT, OPEN, PACKED),
+            "editions" if file.edition == EDITION_2023 => Features::of(EXPLICIT, OPEN, PACKED),
+            _ => return Err(words.refused("$file$: no syntax or edition that is known")),
+        };
+        match &file.options {
+            Some(options) => of_syntax.with(options.features.as_deref(), words),
+            None => Ok(of_syntax),
+        }
+    }
+
+    fn of(presence: i32, enum_type: i32, repeated: i32) -> Features {
+        Features {
+            presence,
+            enum_type,
+            repeated,
+            encoding: LENGTH_PREFIXED,
+        }
+    }
+
+    /// The same but for what a part says itself.
+    pub(crate) fn with(
+        self,
+        set: Option<&FeatureSet>,
+        words: &mut Words,
+    ) -> Result<Features, GenerateError> {
+        let Some(set) = set else {
+            return Ok(self);
+        };
+        if !matches!(set.utf8_validation, 0 | VERIFY) {
+            return Err(words.refused("$full$: strings that are no UTF-8 are not generated"));
+        }
+        if !matches!(set.json_format, 0 | ALLOW) {
+            return Err(words.refused("$full$: the feature json_format is not known"));
+        }
+        Ok(Features {
+            presence: or_else(set.field_presence, self.presence),
+            enum_type: or_else(set.enum_type, self.enum_type),
+            repeated: or_else(set.repeated_field_encoding, self.repeated),
+            encoding: or_else(set.message_encoding, self.encoding),
+        })
+    }
+
+    /// The same with messages behind their length.
+    pub(crate) fn prefixed(self) -> Features {
+        Features {
+            encoding: LENGTH_PREFIXED,
+            ..self
+        }
+    }
+
+    /// Whether a number or a text is there only where it is none that is the default.
+    pub(crate) fn is_implicit(self) -> bool {
+        self.presence == IMPLICIT
+    }
+
+    pub(crate) fn is_required(self) -> bool {
+        self.presence == LEGACY_REQUIRED
+    }
+
+    pub(crate) fn is_closed(self) -> bool {
+        self.enum_type == CLOSED
+    }
+
+    pub(crate) fn is_packed(self) -> bool {
+        self.repeated == PACKED
+    }
+
+    pub(crate) fn is_delimited(self) -> bool {
+        self.encoding == DELIMITED
+    }
+}
+
+// What a set says, where it says something.
+fn or_else(said: i32, otherwise: i32) -> i32 {
+    if said == 0 { otherwise } else { said }
+}

@@ -1,0 +1,6 @@
+use Rattle.wire_well_known.specs.BoolValue.{bool_value-returned}
+use Rattle.wire_fields.specs.Returned.{reads_back}
+use Rattle.wire_well_known.proofs.laws.bool_value_reads_back.Goals as goal
+
+pub returns : goal.returns
+returns c = reads_back (bool_value-returned c.grounds.ensures) c.text_decodes.ensures
