@@ -1,0 +1,5 @@
+pub mod Agreeing
+pub mod Folding
+pub mod OneRecord
+pub mod Records
+pub mod Storing

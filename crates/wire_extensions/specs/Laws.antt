@@ -1,0 +1,56 @@
+-- What holds of the definitions themselves. Each statement is proved as the contract of a law of
+-- src/laws.rt.
+use Rattle.std.specs.Prelude.{◌≡◌, ◌≢◌, ℕ, Bool, true, false, Option}
+use Rattle.wire_codec.specs.Field.{Payload, Fields, none, field, joined}
+use Rattle.wire_codec.specs.Folds.{Step, Folds, IsSingle}
+use Rattle.wire_codec.specs.InRange.{AreNumbered}
+use Rattle.wire_codec.specs.Limits.{Limits, Charge, both}
+use Rattle.wire_codec.specs.Records.{Records, plain}
+use Rattle.wire_fields.specs.declared.leaving.OwnTypes.{OwnTypes}
+use Rattle.wire_fields.specs.Back.{FoldsBack}
+use Rattle.wire_fields.specs.Shape.{Owns, FieldKind, either, keeps}
+use Rattle.wire_extensions.specs.Extension.{owned, others, replaced, is_own, Stores}
+
+-- each record is owned, or none is
+abbrev pub AllOwned : Owns → Bool → Fields → Type 0
+AllOwned owns b none = Unit {0}
+AllOwned owns b (field n p rest) = (owns n p ≡ b) × AllOwned owns b rest
+
+-- What stands in the place of the extension's records: they are its own, and the other records are
+-- as they were, so that what was put before is gone, and another extension has what it had.
+pub record OneLeavesOthers : Type 0 where
+  pub own : (owns : Owns) (fs more : Fields) → AllOwned owns true more
+      → owned owns (replaced owns fs more) ≡ more
+  pub rest : (owns : Owns) (fs more : Fields) → AllOwned owns true more
+      → others owns (replaced owns fs more) ≡ others owns fs
+  pub again : (owns : Owns) (fs first more : Fields) → AllOwned owns true first
+      → replaced owns (replaced owns fs first) more ≡ replaced owns fs more
+  pub other : (owns apart : Owns) (fs more : Fields)
+      → ((n : ℕ) (p : Payload) → owns n p ≡ true → apart n p ≡ false)
+      → AllOwned owns true more → owned apart (replaced owns fs more) ≡ owned apart fs
+  pub cleared : (owns : Owns) (fs : Fields) → owned owns (others owns fs) ≡ none
+  -- no record is owned by two extensions of two numbers
+  pub numbers : (n k : ℕ) (s t : Option OwnTypes) → n ≢ k → (j : ℕ) (p : Payload)
+      → is_own n s j p ≡ true → is_own k t j p ≡ false
+
+-- A value whose records are in range, fold back to it and are the extension's own is what `get`
+-- finds where `set` has put it, and nothing else is.
+abbrev pub GetOfSet : {V : Type 0} → FieldKind V → Type 0
+GetOfSet {V} k =
+    (n : ℕ) (owns : Owns) (l : Limits) (fs stored : Fields) (v : V) (c : Charge)
+    → FoldsBack k.takes k.default (plain (k.records n v)) c v
+    → AllOwned owns true (plain (k.records n v)) → Stores (k.records n v) l stored
+    → AreNumbered (owned owns (replaced owns fs stored))
+    × Folds k.takes k.default (owned owns (replaced owns fs stored)) c v
+    × (IsSingle k.takes → (d : Charge) (u : V)
+    → Folds k.takes k.default (owned owns (replaced owns fs stored)) d u → u ≡ v)
+
+-- A message that declares the field makes of records what the extension makes of them: the field's
+-- value is the fold of the extension's records, and the unknown fields are all others.
+pub record AgreesWithMessage {V : Type 0} (takes : Step V) : Type 0 where
+  pub declared : (owns : Owns) (m z : V) (u w fs : Fields) (c : Charge)
+      → Folds (either owns takes keeps) (m, u) fs c (z, w)
+      → (w ≡ joined u (others owns fs)) × ((d : Charge) × Folds takes m (owned owns fs) d z)
+  pub undeclared : (owns : Owns) (m z : V) (u fs : Fields) (d : Charge)
+      → Folds takes m (owned owns fs) d z
+      → (c : Charge) × Folds (either owns takes keeps) (m, u) fs c (z, joined u (others owns fs))

@@ -1,0 +1,24 @@
+//! Laws of the definitions that the contracts cite: each function is a theorem, and does nothing.
+ghost use Rattle.wire_extensions.specs.Laws.{AgreesWithMessage, GetOfSet, OneLeavesOthers};
+
+use wire_codec::laws;
+use wire_fields::Kind;
+
+/// What one extension puts is all that it has then, and leaves the records of others as they were.
+pub fn one_leaves_others()
+    ensures { OneLeavesOthers }
+{}
+
+/// A value that was set is what is got.
+pub fn get_of_set<K: Kind>()
+    ensures { GetOfSet K.kind }
+{
+    laws::grammar::one_spelled();
+    laws::grammar::shortest_text_spells();
+    one_leaves_others();
+}
+
+/// A message that declares a field of the kind makes of records what the extension makes of them.
+pub fn agrees_with_message<K: Kind>()
+    ensures { AgreesWithMessage K.kind.takes }
+{}
