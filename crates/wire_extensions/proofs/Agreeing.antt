@@ -1,9 +1,11 @@
 -- A message that declares a field makes of records what the extension makes of them.
 use Rattle.std.proofs.Common.{◌≡◌, ℕ, Bool, true, false, refl, sym, ap, ◌∙◌, subst, inl, inr}
+use Rattle.std.specs.Prelude.{◌==◌, ◌&&◌}
 use Rattle.wire_codec.specs.Charge.{payload_charge}
-use Rattle.wire_codec.specs.Field.{Payload, Fields, none, field, joined, push}
+use Rattle.wire_codec.specs.Field.{Payload, Fields, none, field, joined, push, type_of}
 use Rattle.wire_codec.specs.Folds.{Step, Folds}
 use Rattle.wire_codec.specs.Limits.{Charge, both, no_charge}
+use Rattle.wire_fields.specs.Leaving.{has_type}
 use Rattle.wire_fields.specs.Shape.{Owns, on, either, keeps, same_pair}
 use Rattle.wire_extensions.proofs.Records.{either_way, own_is, own_not, others_own, others_not, joined_none, push_joined}
 use Rattle.wire_extensions.specs.Extension.{owned, others}
@@ -94,8 +96,31 @@ module _ {V : Type 0} (takes : Step V) (owns : Owns) where
         )
   ]
 
+-- ---- other wire types
+
+-- a step that is taken where another is
+folds_as : {V : Type 0} (one other : Step V)
+    → ((m z : V) (n : ℕ) (p : Payload) (c : Charge) → one m n p c z → other m n p c z)
+    → (m z : V) (fs : Fields) (c : Charge) → Folds one m fs c z → Folds other m fs c z
+folds_as one other so m z none c h = h
+folds_as one other so m z (field n p fs) c (mid, first, rest, step, more, sum) =
+    (mid, first, rest, so m mid n p first step, folds_as one other so mid z fs rest more, sum)
+
+-- what is taken of a number and of a type is taken of both
+on_both : (A B : Type 0) (a b : Bool) → on a (on b A B) B → on (a && b) A B
+on_both A B true b h = h
+on_both A B false b h = h
+
+on_each : (A B : Type 0) (a b : Bool) → on (a && b) A B → on a (on b A B) B
+on_each A B true b h = h
+on_each A B false b h = h
+
 pub agrees_with_message_lemma : {V : Type 0} (takes : Step V) → AgreesWithMessage takes
 agrees_with_message_lemma takes = record {
   declared = λ owns. declared takes owns;
   undeclared = λ owns. undeclared takes owns;
+  leaving = λ n types m z fs c. (
+    folds_as _ _ (λ m z k p c. on_both _ _ (k == n) (has_type types (type_of p))) m z fs c,
+    folds_as _ _ (λ m z k p c. on_each _ _ (k == n) (has_type types (type_of p))) m z fs c,
+  );
 }

@@ -1,14 +1,18 @@
 -- The records that are owned and all others, record by record.
 use Rattle.std.proofs.Common.{◌≡◌, ◌≢◌, ◌⊎◌, ℕ, Bool, true, false, cond, refl, sym, ap, ◌∙◌, subst, List, [], ◌∷◌, inl, inr}
+use Rattle.std.proofs.lemmas.Bool.{eqb-true}
 use Rattle.std.proofs.lemmas.Bool.Decides.{eqb_tells}
 use Rattle.std.specs.List.{filter}
-use Rattle.std.specs.Prelude.{◌==◌, ◌&&◌, not, Option}
+use Rattle.std.specs.Prelude.{◌==◌, ◌&&◌, not, Option, Some, None}
 use Rattle.wire_codec.specs.Field.{Payload, Fields, none, field, joined, push, type_of}
+use Rattle.wire_codec.specs.FieldNumber.{IsFieldNumber}
+use Rattle.wire_codec.specs.InRange.{AreNumbered, IsPayloadNumbered}
 use Rattle.wire_codec.specs.UnknownField.{UnknownField}
 use Rattle.wire_codec.specs.UnknownFields.{payload_of, fields_of}
 use Rattle.wire_fields.specs.declared.leaving.OwnTypes.{OwnTypes}
+use Rattle.wire_fields.specs.Leaving.{has_type}
 use Rattle.wire_fields.specs.Shape.{Owns}
-use Rattle.wire_extensions.specs.Extension.{owned, others, replaced, has_own_type, is_own}
+use Rattle.wire_extensions.specs.Extension.{owned, others, replaced, is_own}
 use Rattle.wire_extensions.specs.Laws.{AllOwned, OneLeavesOthers}
 
 pub either_way : (b : Bool) → (b ≡ true) ⊎ (b ≡ false)
@@ -152,18 +156,32 @@ not_both : (a b : Bool) → a ≡ false → (a && b) ≡ false
 not_both true b h = absurd cc
 not_both false b h = refl
 
-pub numbers_differ : (n k : ℕ) (s t : Option OwnTypes) → n ≢ k → (j : ℕ) (p : Payload)
+own_number : (n : ℕ) (s : Option OwnTypes) (j : ℕ) (p : Payload) → is_own n s j p ≡ true → j ≡ n
+own_number n None j p h = eqb-true j n h
+own_number n (Some types) j p h = eqb-true j n (first_of_both (j == n) (has_type types (type_of p)) h)
+
+other_number : (n : ℕ) (s : Option OwnTypes) (j : ℕ) (p : Payload) → (j == n) ≡ false
+    → is_own n s j p ≡ false
+other_number n None j p h = h
+other_number n (Some types) j p h = not_both (j == n) (has_type types (type_of p)) h
+
+numbers_differ : (n k : ℕ) (s t : Option OwnTypes) → n ≢ k → (j : ℕ) (p : Payload)
     → is_own n s j p ≡ true → is_own k t j p ≡ false
 numbers_differ n k s t other j p own =
-    let same = first_of_both (j == n) (has_own_type s (type_of p)) own in
-    not_both (j == k) (has_own_type t (type_of p))
-    (elim (eqb_tells j k) [
-      | inl e ↦ absurd (elim (eqb_tells j n) [
-          | inl h ↦ other (sym h.1 ∙ e.1)
-          | inr h ↦ cc
-        ])
+    other_number k t j p (elim (eqb_tells j k) [
+      | inl e ↦ absurd (other (sym (own_number n s j p own) ∙ e.1))
       | inr e ↦ e.0
     ])
+
+numbered_one : (b : Bool) (n : ℕ) (p : Payload) (rest : Fields) → IsFieldNumber n
+    → IsPayloadNumbered p → AreNumbered rest → AreNumbered (cond b (field n p rest) rest)
+numbered_one true n p rest number payload h = (number, payload, h)
+numbered_one false n p rest number payload h = h
+
+numbered : (owns : Owns) (fs : Fields) → AreNumbered fs → AreNumbered (owned owns fs)
+numbered owns none h = tt
+numbered owns (field n p rest) h =
+    numbered_one (owns n p) n p (owned owns rest) h.0 h.1 (numbered owns rest h.2)
 
 pub one_leaves_others_lemma : OneLeavesOthers
 one_leaves_others_lemma = record {
@@ -172,5 +190,8 @@ one_leaves_others_lemma = record {
   again = λ owns fs first more h. ap (λ x. joined x more) (rest_replaced owns fs first h);
   other = λ owns apart fs more differ h. other_replaced owns apart differ fs more h;
   cleared = none_left;
+  added = λ owns fs more h. owned_joined owns fs more
+      ∙ ap (λ x. joined (owned owns fs) x) (all_own owns more h);
+  numbered = numbered;
   numbers = numbers_differ;
 }

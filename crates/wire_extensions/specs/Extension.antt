@@ -1,12 +1,11 @@
 -- An extension: which records are its own, what they are worth, and what is put in their place.
-use Rattle.std.specs.Prelude.{◌≡◌, ℕ, ◌≤◌, Bool, true, cond, ◌==◌, ◌&&◌, Option, Some, None}
+use Rattle.std.specs.Prelude.{ℕ, ◌≤◌, cond, ◌==◌, ◌&&◌, Option, Some, None}
 use Rattle.wire_codec.specs.Charge.{charge}
 use Rattle.wire_codec.specs.Field.{Payload, Fields, none, field, joined, type_of}
 use Rattle.wire_codec.specs.Folds.{Step, Folds}
 use Rattle.wire_codec.specs.Limits.{Limits, Charge, Fits}
 use Rattle.wire_codec.specs.Records.{Records, text, text_size}
 use Rattle.wire_codec.specs.Spells.{Spells}
-use Rattle.wire_codec.specs.WireType.{WireType}
 use Rattle.wire_fields.specs.declared.leaving.OwnTypes.{OwnTypes}
 use Rattle.wire_fields.specs.Leaving.{has_type}
 use Rattle.wire_fields.specs.Shape.{Owns, FieldKind}
@@ -27,14 +26,11 @@ others owns (field n p rest) = cond (owns n p) (others owns rest) (field n p (ot
 abbrev pub replaced : Owns → Fields → Fields → Fields
 replaced owns fs more = joined (others owns fs) more
 
--- any wire type, or one of these
-abbrev pub has_own_type : Option OwnTypes → WireType → Bool
-has_own_type None w = true
-has_own_type (Some types) w = has_type types w
-
--- the records of an extension: those of its number that have a wire type of its own
+-- the records of an extension: those of its number, or where it names wire types, those of its
+-- number that have one of these
 abbrev pub is_own : ℕ → Option OwnTypes → Owns
-is_own n types k p = k == n && has_own_type types (type_of p)
+is_own n None k p = k == n
+is_own n (Some types) k p = k == n && has_type types (type_of p)
 
 -- ---- values
 

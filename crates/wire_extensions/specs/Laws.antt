@@ -1,13 +1,15 @@
 -- What holds of the definitions themselves. Each statement is proved as the contract of a law of
 -- src/laws.rt.
-use Rattle.std.specs.Prelude.{◌≡◌, ◌≢◌, ℕ, Bool, true, false, Option}
-use Rattle.wire_codec.specs.Field.{Payload, Fields, none, field, joined}
+use Rattle.std.specs.Prelude.{◌≡◌, ◌≢◌, ◌↔◌, ◌==◌, ℕ, Bool, true, false, Option, Some}
+use Rattle.wire_codec.specs.Field.{Payload, Fields, none, field, joined, type_of}
 use Rattle.wire_codec.specs.Folds.{Step, Folds, IsSingle}
 use Rattle.wire_codec.specs.InRange.{AreNumbered}
-use Rattle.wire_codec.specs.Limits.{Limits, Charge, both}
-use Rattle.wire_codec.specs.Records.{Records, plain}
+use Rattle.wire_codec.specs.Limits.{Limits, Charge}
+use Rattle.wire_codec.specs.Records.{plain}
 use Rattle.wire_fields.specs.declared.leaving.OwnTypes.{OwnTypes}
 use Rattle.wire_fields.specs.Back.{FoldsBack}
+use Rattle.wire_fields.specs.Leaving.{has_type, or_kept, keeps_beside}
+use Rattle.wire_fields.specs.Oneof.{choice}
 use Rattle.wire_fields.specs.Shape.{Owns, FieldKind, either, keeps}
 use Rattle.wire_extensions.specs.Extension.{owned, others, replaced, is_own, Stores}
 
@@ -29,7 +31,12 @@ pub record OneLeavesOthers : Type 0 where
       → ((n : ℕ) (p : Payload) → owns n p ≡ true → apart n p ≡ false)
       → AllOwned owns true more → owned apart (replaced owns fs more) ≡ owned apart fs
   pub cleared : (owns : Owns) (fs : Fields) → owned owns (others owns fs) ≡ none
-  -- no record is owned by two extensions of two numbers
+  -- what is added stands behind what was there
+  pub added : (owns : Owns) (fs more : Fields) → AllOwned owns true more
+      → owned owns (joined fs more) ≡ joined (owned owns fs) more
+  -- records that were decoded have numbers in range, and so have those of one extension
+  pub numbered : (owns : Owns) (fs : Fields) → AreNumbered fs → AreNumbered (owned owns fs)
+  -- two extensions of different numbers are apart
   pub numbers : (n k : ℕ) (s t : Option OwnTypes) → n ≢ k → (j : ℕ) (p : Payload)
       → is_own n s j p ≡ true → is_own k t j p ≡ false
 
@@ -46,7 +53,9 @@ GetOfSet {V} k =
     → Folds k.takes k.default (owned owns (replaced owns fs stored)) d u → u ≡ v)
 
 -- A message that declares the field makes of records what the extension makes of them: the field's
--- value is the fold of the extension's records, and the unknown fields are all others.
+-- value is the fold of the extension's records, and the unknown fields are all others. With
+-- `is_own n None` the step here is that of a message of `known n` and `unknown`; one that has
+-- `leaving_types` takes the same as with these types.
 pub record AgreesWithMessage {V : Type 0} (takes : Step V) : Type 0 where
   pub declared : (owns : Owns) (m z : V) (u w fs : Fields) (c : Charge)
       → Folds (either owns takes keeps) (m, u) fs c (z, w)
@@ -54,3 +63,7 @@ pub record AgreesWithMessage {V : Type 0} (takes : Step V) : Type 0 where
   pub undeclared : (owns : Owns) (m z : V) (u fs : Fields) (d : Charge)
       → Folds takes m (owned owns fs) d z
       → (c : Charge) × Folds (either owns takes keeps) (m, u) fs c (z, joined u (others owns fs))
+  pub leaving : (n : ℕ) (types : OwnTypes) (m z : V × Fields) (fs : Fields) (c : Charge)
+      → Folds (choice (λ k p. k == n) (or_kept (λ p. has_type types (type_of p)) takes)
+      keeps_beside) m fs c z
+      ↔ Folds (either (is_own n (Some types)) takes keeps) m fs c z
