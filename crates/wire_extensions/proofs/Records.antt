@@ -10,6 +10,7 @@ use Rattle.wire_codec.specs.InRange.{AreNumbered, IsPayloadNumbered}
 use Rattle.wire_codec.specs.UnknownField.{UnknownField}
 use Rattle.wire_codec.specs.UnknownFields.{payload_of, fields_of}
 use Rattle.wire_fields.specs.declared.leaving.OwnTypes.{OwnTypes}
+use Rattle.wire_fields.specs.Back.{AllAre}
 use Rattle.wire_fields.specs.Leaving.{has_type}
 use Rattle.wire_fields.specs.Shape.{Owns}
 use Rattle.wire_extensions.specs.Extension.{owned, others, replaced, is_own}
@@ -103,21 +104,21 @@ module _ (owns : Owns) where
         ∙ sym (ap (λ fs. joined fs (others owns gs)) (others_not owns n p rest e))
   ]
 
-  all_own : (fs : Fields) → AllOwned owns true fs → owned owns fs ≡ fs
+  all_own : (fs : Fields) → AllOwned owns fs → owned owns fs ≡ fs
   all_own none h = refl
   all_own (field n p rest) h = own_is owns n p rest h.0 ∙ ap (field n p) (all_own rest h.1)
 
-  no_others : (fs : Fields) → AllOwned owns true fs → others owns fs ≡ none
+  no_others : (fs : Fields) → AllOwned owns fs → others owns fs ≡ none
   no_others none h = refl
   no_others (field n p rest) h = others_own owns n p rest h.0 ∙ no_others rest h.1
 
-  pub own_replaced : (fs more : Fields) → AllOwned owns true more
+  pub own_replaced : (fs more : Fields) → AllOwned owns more
       → owned owns (replaced owns fs more) ≡ more
   own_replaced fs more h =
       owned_joined (others owns fs) more
       ∙ ap (λ x. joined x (owned owns more)) (none_left fs) ∙ all_own more h
 
-  rest_replaced : (fs more : Fields) → AllOwned owns true more
+  rest_replaced : (fs more : Fields) → AllOwned owns more
       → others owns (replaced owns fs more) ≡ others owns fs
   rest_replaced fs more h =
       others_joined (others owns fs) more
@@ -137,11 +138,11 @@ module _ (owns apart : Owns)
         ∙ ap (λ fs. cond (apart n p) (field n p fs) fs) (left rest)
   ]
 
-  no_own : (fs : Fields) → AllOwned owns true fs → owned apart fs ≡ none
+  no_own : (fs : Fields) → AllOwned owns fs → owned apart fs ≡ none
   no_own none h = refl
   no_own (field n p rest) h = own_not apart n p rest (differ n p h.0) ∙ no_own rest h.1
 
-  other_replaced : (fs more : Fields) → AllOwned owns true more
+  other_replaced : (fs more : Fields) → AllOwned owns more
       → owned apart (replaced owns fs more) ≡ owned apart fs
   other_replaced fs more h =
       owned_joined apart (others owns fs) more
@@ -173,6 +174,13 @@ numbers_differ n k s t other j p own =
       | inr e ↦ e.0
     ])
 
+same_number : (n j : ℕ) → j ≡ n → (j == n) ≡ true
+same_number n j h = elim (eqb_tells j n) [ inl e ↦ e.0 | inr e ↦ absurd (e.1 h) ]
+
+all_of_number : (n : ℕ) (fs : Fields) → AllAre (λ j. j ≡ n) fs → AllOwned (is_own n None) fs
+all_of_number n none h = tt
+all_of_number n (field j p rest) h = (same_number n j h.0, all_of_number n rest h.1)
+
 numbered_one : (b : Bool) (n : ℕ) (p : Payload) (rest : Fields) → IsFieldNumber n
     → IsPayloadNumbered p → AreNumbered rest → AreNumbered (cond b (field n p rest) rest)
 numbered_one true n p rest number payload h = (number, payload, h)
@@ -193,5 +201,6 @@ one_leaves_others_lemma = record {
   added = λ owns fs more h. owned_joined owns fs more
       ∙ ap (λ x. joined (owned owns fs) x) (all_own owns more h);
   numbered = numbered;
+  all = all_of_number;
   numbers = numbers_differ;
 }

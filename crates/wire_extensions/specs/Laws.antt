@@ -1,41 +1,43 @@
 -- What holds of the definitions themselves. Each statement is proved as the contract of a law of
 -- src/laws.rt.
-use Rattle.std.specs.Prelude.{◌≡◌, ◌≢◌, ◌↔◌, ◌==◌, ℕ, Bool, true, false, Option, Some}
+use Rattle.std.specs.Prelude.{◌≡◌, ◌≢◌, ◌↔◌, ◌==◌, ℕ, true, false, Option, Some, None}
 use Rattle.wire_codec.specs.Field.{Payload, Fields, none, field, joined, type_of}
 use Rattle.wire_codec.specs.Folds.{Step, Folds, IsSingle}
 use Rattle.wire_codec.specs.InRange.{AreNumbered}
 use Rattle.wire_codec.specs.Limits.{Limits, Charge}
 use Rattle.wire_codec.specs.Records.{plain}
 use Rattle.wire_fields.specs.declared.leaving.OwnTypes.{OwnTypes}
-use Rattle.wire_fields.specs.Back.{FoldsBack}
+use Rattle.wire_fields.specs.Back.{AllAre, FoldsBack}
 use Rattle.wire_fields.specs.Leaving.{has_type, or_kept, keeps_beside}
 use Rattle.wire_fields.specs.Oneof.{choice}
 use Rattle.wire_fields.specs.Shape.{Owns, FieldKind, either, keeps}
 use Rattle.wire_extensions.specs.Extension.{owned, others, replaced, is_own, Stores}
 
--- each record is owned, or none is
-abbrev pub AllOwned : Owns → Bool → Fields → Type 0
-AllOwned owns b none = Unit {0}
-AllOwned owns b (field n p rest) = (owns n p ≡ b) × AllOwned owns b rest
+-- each record is owned
+abbrev pub AllOwned : Owns → Fields → Type 0
+AllOwned owns none = Unit {0}
+AllOwned owns (field n p rest) = (owns n p ≡ true) × AllOwned owns rest
 
 -- What stands in the place of the extension's records: they are its own, and the other records are
 -- as they were, so that what was put before is gone, and another extension has what it had.
 pub record OneLeavesOthers : Type 0 where
-  pub own : (owns : Owns) (fs more : Fields) → AllOwned owns true more
+  pub own : (owns : Owns) (fs more : Fields) → AllOwned owns more
       → owned owns (replaced owns fs more) ≡ more
-  pub rest : (owns : Owns) (fs more : Fields) → AllOwned owns true more
+  pub rest : (owns : Owns) (fs more : Fields) → AllOwned owns more
       → others owns (replaced owns fs more) ≡ others owns fs
-  pub again : (owns : Owns) (fs first more : Fields) → AllOwned owns true first
+  pub again : (owns : Owns) (fs first more : Fields) → AllOwned owns first
       → replaced owns (replaced owns fs first) more ≡ replaced owns fs more
   pub other : (owns apart : Owns) (fs more : Fields)
       → ((n : ℕ) (p : Payload) → owns n p ≡ true → apart n p ≡ false)
-      → AllOwned owns true more → owned apart (replaced owns fs more) ≡ owned apart fs
+      → AllOwned owns more → owned apart (replaced owns fs more) ≡ owned apart fs
   pub cleared : (owns : Owns) (fs : Fields) → owned owns (others owns fs) ≡ none
   -- what is added stands behind what was there
-  pub added : (owns : Owns) (fs more : Fields) → AllOwned owns true more
+  pub added : (owns : Owns) (fs more : Fields) → AllOwned owns more
       → owned owns (joined fs more) ≡ joined (owned owns fs) more
   -- records that were decoded have numbers in range, and so have those of one extension
   pub numbered : (owns : Owns) (fs : Fields) → AreNumbered fs → AreNumbered (owned owns fs)
+  -- the records of its number are an extension's own where it names no wire types
+  pub all : (n : ℕ) (fs : Fields) → AllAre (λ j. j ≡ n) fs → AllOwned (is_own n None) fs
   -- two extensions of different numbers are apart
   pub numbers : (n k : ℕ) (s t : Option OwnTypes) → n ≢ k → (j : ℕ) (p : Payload)
       → is_own n s j p ≡ true → is_own k t j p ≡ false
@@ -46,7 +48,7 @@ abbrev pub GetOfSet : {V : Type 0} → FieldKind V → Type 0
 GetOfSet {V} k =
     (n : ℕ) (owns : Owns) (l : Limits) (fs stored : Fields) (v : V) (c : Charge)
     → FoldsBack k.takes k.default (plain (k.records n v)) c v
-    → AllOwned owns true (plain (k.records n v)) → Stores (k.records n v) l stored
+    → AllOwned owns (plain (k.records n v)) → Stores (k.records n v) l stored
     → AreNumbered (owned owns (replaced owns fs stored))
     × Folds k.takes k.default (owned owns (replaced owns fs stored)) c v
     × (IsSingle k.takes → (d : Charge) (u : V)

@@ -116,9 +116,9 @@ impl<K: Kind> Extension<K> {
         fields.widths_fit();
         let mut held = K::empty(alloc);
         let mut text = Vec::new(alloc);
-        for field in fields.iter() {
-            if self.owns(field) {
-                take_record::<K>(alloc, field, &mut text, &mut held, context)?;
+        for record in fields.iter() {
+            if self.owns(record) {
+                take_record::<K>(alloc, record, &mut text, &mut held, context)?;
             }
         }
         Ok(held)
