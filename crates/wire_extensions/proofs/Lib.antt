@@ -1,5 +1,6 @@
 pub mod Agreeing
 pub mod Folding
 pub mod OneRecord
+pub mod Priority
 pub mod Records
 pub mod Storing

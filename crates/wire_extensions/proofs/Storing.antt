@@ -14,10 +14,10 @@ use Rattle.wire_codec.specs.Records.{Records, plain, text}
 use Rattle.wire_codec.specs.Refusal.{ListRefusal}
 use Rattle.wire_codec.specs.Spells.{Spells}
 use Rattle.wire_fields.specs.Back.{FoldsBack}
-use Rattle.wire_fields.specs.Shape.{Owns, FieldKind}
+use Rattle.wire_fields.specs.Shape.{FieldKind}
 use Rattle.wire_extensions.proofs.Records.{own_replaced}
 use Rattle.wire_extensions.specs.Extension.{owned, replaced, Stores, NotStored}
-use Rattle.wire_extensions.specs.Laws.{AllOwned, GetOfSet}
+use Rattle.wire_extensions.specs.Laws.{GetOfSet, StoredArePlain}
 
 -- what is refused is not there
 pub not_stored : WholeInput → NoListBesideFault → (rs : Records) (l : Limits) (bytes : List ℕ)
@@ -39,14 +39,18 @@ folds_once takes single (field n p fs) m y z c d
     folds_once takes single fs mid y z rest behind folded
     (subst (λ v. Folds takes v fs behind z) (sym (one.1 refl)) others)
 
-pub get_of_set_lemma : OneSpelled → ShortestTextSpells → {V : Type 0} (k : FieldKind V) → GetOfSet k
-get_of_set_lemma one spells k n owns l fs stored v c back own h =
-    let rs = k.records n v in
-    let same = one stored (plain rs) (text rs) h.spelled
-    (spells (plain rs) back.fitting back.numbered) in
-    let is = ap (λ x. owned owns (replaced owns fs x)) same ∙ own_replaced owns fs (plain rs) own in (
-      subst AreNumbered (sym is) back.numbered,
-      subst (λ x. Folds k.takes k.default x c v) (sym is) back.folded,
-      λ single d u folded. folds_once k.takes single (plain rs) k.default v u c d back.folded
-          (subst (λ x. Folds k.takes k.default x d u) is folded),
-    )
+pub stored_are_plain_lemma : OneSpelled → ShortestTextSpells → StoredArePlain
+stored_are_plain_lemma one spells rs l stored fitting numbered h =
+    one stored (plain rs) (text rs) h.spelled (spells (plain rs) fitting numbered)
+
+pub get_of_set_lemma : StoredArePlain → {V : Type 0} (k : FieldKind V) → GetOfSet k
+get_of_set_lemma are_plain k n owns l fs stored v c back own h =
+    let rs = plain (k.records n v) in
+    let same = are_plain (k.records n v) l stored back.fitting back.numbered h in
+    let is = ap (λ x. owned owns (replaced owns fs x)) same ∙ own_replaced owns fs rs own in
+    record {
+      numbered = subst AreNumbered (sym is) back.numbered;
+      folded = subst (λ x. Folds k.takes k.default x c v) (sym is) back.folded;
+      only = λ single d u folded. folds_once k.takes single rs k.default v u c d back.folded
+          (subst (λ x. Folds k.takes k.default x d u) is folded);
+    }

@@ -3,9 +3,9 @@
 use Rattle.std.specs.Prelude.{◌≡◌, ◌≢◌, ◌↔◌, ◌==◌, ℕ, true, false, Option, Some, None}
 use Rattle.wire_codec.specs.Field.{Payload, Fields, none, field, joined, type_of}
 use Rattle.wire_codec.specs.Folds.{Step, Folds, IsSingle}
-use Rattle.wire_codec.specs.InRange.{AreNumbered}
+use Rattle.wire_codec.specs.InRange.{AreFitting, AreNumbered}
 use Rattle.wire_codec.specs.Limits.{Limits, Charge}
-use Rattle.wire_codec.specs.Records.{plain}
+use Rattle.wire_codec.specs.Records.{Records, plain}
 use Rattle.wire_fields.specs.declared.leaving.OwnTypes.{OwnTypes}
 use Rattle.wire_fields.specs.Back.{AllAre, FoldsBack}
 use Rattle.wire_fields.specs.Leaving.{has_type, or_kept, keeps_beside}
@@ -42,17 +42,28 @@ pub record OneLeavesOthers : Type 0 where
   pub numbers : (n k : ℕ) (s t : Option OwnTypes) → n ≢ k → (j : ℕ) (p : Payload)
       → is_own n s j p ≡ true → is_own k t j p ≡ false
 
+-- records in range are stored as they are
+abbrev pub StoredArePlain : Type 0
+StoredArePlain =
+    (rs : Records) (l : Limits) (stored : Fields) → AreFitting (plain rs) → AreNumbered (plain rs)
+    → Stores rs l stored → stored ≡ plain rs
+
+-- of these records the extension makes this value, and no other
+pub record IsGot {V : Type 0} (k : FieldKind V) (owns : Owns) (fs : Fields) (c : Charge) (v : V)
+    : Type 0 where
+  pub numbered : AreNumbered (owned owns fs)
+  pub folded : Folds k.takes k.default (owned owns fs) c v
+  pub only : IsSingle k.takes → (d : Charge) (u : V) → Folds k.takes k.default (owned owns fs) d u
+      → u ≡ v
+
 -- A value whose records are in range, fold back to it and are the extension's own is what `get`
--- finds where `set` has put it, and nothing else is.
+-- finds where `set` has put it.
 abbrev pub GetOfSet : {V : Type 0} → FieldKind V → Type 0
 GetOfSet {V} k =
     (n : ℕ) (owns : Owns) (l : Limits) (fs stored : Fields) (v : V) (c : Charge)
     → FoldsBack k.takes k.default (plain (k.records n v)) c v
     → AllOwned owns (plain (k.records n v)) → Stores (k.records n v) l stored
-    → AreNumbered (owned owns (replaced owns fs stored))
-    × Folds k.takes k.default (owned owns (replaced owns fs stored)) c v
-    × (IsSingle k.takes → (d : Charge) (u : V)
-    → Folds k.takes k.default (owned owns (replaced owns fs stored)) d u → u ≡ v)
+    → IsGot k owns (replaced owns fs stored) c v
 
 -- A message that declares the field makes of records what the extension makes of them: the field's
 -- value is the fold of the extension's records, and the unknown fields are all others. With

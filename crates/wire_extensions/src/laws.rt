@@ -1,5 +1,5 @@
 //! Laws of the definitions that the contracts cite: each function is a theorem, and does nothing.
-ghost use Rattle.wire_extensions.specs.Laws.{AgreesWithMessage, GetOfSet, OneLeavesOthers};
+ghost use Rattle.wire_extensions.specs.Laws.{AgreesWithMessage, GetOfSet, OneLeavesOthers, StoredArePlain};
 
 use wire_codec::laws;
 use wire_fields::Kind;
@@ -9,13 +9,19 @@ pub fn one_leaves_others()
     ensures { OneLeavesOthers }
 {}
 
+/// Records in range are stored as they are.
+pub fn stored_are_plain()
+    ensures { StoredArePlain }
+{
+    laws::grammar::one_spelled();
+    laws::grammar::shortest_text_spells();
+}
+
 /// A value that was set is what is got.
 pub fn get_of_set<K: Kind>()
     ensures { GetOfSet K.kind }
 {
-    laws::grammar::one_spelled();
-    laws::grammar::shortest_text_spells();
-    one_leaves_others();
+    stored_are_plain();
 }
 
 /// A message that declares a field of the kind makes of records what the extension makes of them.

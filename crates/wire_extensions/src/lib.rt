@@ -5,6 +5,7 @@
 //! documents.
 #![tactic(auto)]
 
+pub mod callers;
 mod extension;
 pub mod laws;
 mod putting;
