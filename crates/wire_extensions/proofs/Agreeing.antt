@@ -67,14 +67,14 @@ module _ {V : Type 0} (takes : Step V) (owns : Owns) where
           both first next.0,
           subst (λ x. Folds (either owns takes keeps) (m, u) (field n p fs)
               (both first next.0) (z, joined u x)) (sym (others_own owns n p fs e)) (
-            (mid, u),
-            first,
-            next.0,
-            subst (λ b. on b (takes m n p first mid × (u ≡ u)) (keeps u n p first u × (mid ≡ m)))
-                (sym e) (step, refl),
-            next.1,
-            refl,
-          ),
+                (mid, u),
+                first,
+                next.0,
+                subst (λ b. on b (takes m n p first mid × (u ≡ u)) (keeps u n p first u × (mid ≡ m)))
+                    (sym e) (step, refl),
+                next.1,
+                refl,
+              ),
         )
     | inr e ↦
         let next = undeclared m z (push u n p) fs d
@@ -85,14 +85,14 @@ module _ {V : Type 0} (takes : Step V) (owns : Owns) where
           subst (λ x. Folds (either owns takes keeps) (m, u) (field n p fs)
               (both first next.0) (z, x))
               (push_joined u n p (others owns fs) ∙ sym (ap (joined u) (others_not owns n p fs e))) (
-            (m, after),
-            first,
-            next.0,
-            subst (λ b. on b (takes m n p first m × (after ≡ u))
-                (keeps u n p first after × (m ≡ m))) (sym e) ((refl, refl), refl),
-            next.1,
-            refl,
-          ),
+                (m, after),
+                first,
+                next.0,
+                subst (λ b. on b (takes m n p first m × (after ≡ u))
+                    (keeps u n p first after × (m ≡ m))) (sym e) ((refl, refl), refl),
+                next.1,
+                refl,
+              ),
         )
   ]
 

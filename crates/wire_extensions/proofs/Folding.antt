@@ -7,7 +7,7 @@ use Rattle.wire_codec.specs.Limits.{Limits, Charge, Fits, left_after, both, no_c
 use Rattle.wire_codec.specs.LimitsLaws.{ChargesAddUp, LimitsAddUp}
 use Rattle.wire_codec.specs.Taking.{IsCharged}
 use Rattle.wire_fields.specs.Shape.{Owns, FieldKind}
-use Rattle.wire_extensions.specs.Extension.{owned, IsValue, NoValue, TakesOne, TakesNone}
+use Rattle.wire_extensions.specs.Extension.{owned, IsValue, TakesOne, TakesNone}
 
 -- what a charge before it and this one make, where the value is reached in one way
 pub record Left {V : Type 0} (takes : Step V) (v : V) (rest : Fields) (before c : Charge) (z : V)

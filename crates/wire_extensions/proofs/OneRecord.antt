@@ -1,5 +1,5 @@
 -- A record that is read from its own text.
-use Rattle.std.proofs.Common.{◌≡◌, ℕ, List, [], ◌++◌, refl, sym, ap, ◌∙◌, subst}
+use Rattle.std.proofs.Common.{◌≡◌, ℕ, List, [], ◌++◌, sym, ap, ◌∙◌, subst}
 use Rattle.std.proofs.lemmas.List.{append-nil}
 use Rattle.wire_codec.specs.DecodeError.{DecodeError}
 use Rattle.wire_codec.specs.Field.{Payload, none, field, type_of}

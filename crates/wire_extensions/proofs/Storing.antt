@@ -1,5 +1,5 @@
 -- The text of a value as unknown fields.
-use Rattle.std.proofs.Common.{◌≡◌, ◌≢◌, ◌⊎◌, ℕ, Bool, true, List, [], refl, sym, ap, ◌∙◌, subst, inl, inr}
+use Rattle.std.proofs.Common.{◌≡◌, ◌≢◌, ℕ, List, [], refl, sym, ap, ◌∙◌, subst, inl, inr}
 use Rattle.wire_codec.specs.DecodeError.{DecodeError}
 use Rattle.wire_codec.specs.DecodeError.TheVariants.{OutOfMemory}
 use Rattle.wire_codec.specs.Charge.{charge}
@@ -8,15 +8,14 @@ use Rattle.wire_codec.specs.FaultLaws.{NoListBesideFault}
 use Rattle.wire_codec.specs.Field.{Fields, none, field}
 use Rattle.wire_codec.specs.Folds.{Step, Folds, IsSingle}
 use Rattle.wire_codec.specs.InRange.{AreNumbered}
-use Rattle.wire_codec.specs.Limits.{Limits, Charge, both}
+use Rattle.wire_codec.specs.Limits.{Limits, Charge}
 use Rattle.wire_codec.specs.RecordLaws.{OneSpelled, ShortestTextSpells, WholeInput}
 use Rattle.wire_codec.specs.Records.{Records, plain, text}
 use Rattle.wire_codec.specs.Refusal.{ListRefusal}
 use Rattle.wire_codec.specs.Spells.{Spells}
-use Rattle.wire_fields.specs.Back.{FoldsBack}
 use Rattle.wire_fields.specs.Shape.{FieldKind}
 use Rattle.wire_extensions.proofs.Records.{own_replaced}
-use Rattle.wire_extensions.specs.Extension.{owned, replaced, Stores, NotStored}
+use Rattle.wire_extensions.specs.Extension.{owned, replaced, NotStored}
 use Rattle.wire_extensions.specs.Laws.{GetOfSet, StoredArePlain}
 
 -- what is refused is not there

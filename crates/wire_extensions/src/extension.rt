@@ -11,13 +11,11 @@ ghost use Rattle.wire_codec.specs.UnknownFields.{payload_of};
 ghost use Rattle.wire_extensions.specs.Extension.{is_own, owned, others, replaced};
 ghost use Rattle.wire_extensions.specs.Extension.{IsValue, NoValue, Stores, NotStored};
 
-use crate::record::{take_record, type_of};
 use crate::putting::{append, stored};
+use crate::record::{take_record, type_of};
 use std::alloc::Global;
 use std::marker::PhantomData;
-use wire_codec::{
-    DecodeContext, DecodeError, MAX_FIELD_NUMBER, UnknownField, UnknownFields, laws,
-};
+use wire_codec::{DecodeContext, DecodeError, MAX_FIELD_NUMBER, UnknownField, UnknownFields, laws};
 use wire_fields::{Kind, OwnTypes};
 
 /// A field that a message type does not declare: its number and its kind, as

@@ -12,6 +12,3 @@ mod putting;
 mod record;
 
 pub use extension::Extension;
-
-#[cfg(test)]
-mod tests;

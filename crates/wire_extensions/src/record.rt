@@ -10,9 +10,7 @@ ghost use Rattle.wire_codec.specs.UnknownFields.{payload_of};
 ghost use Rattle.wire_extensions.specs.Extension.{TakesOne, TakesNone};
 
 use std::alloc::Global;
-use wire_codec::{
-    DecodeContext, DecodeError, Tag, UnknownField, UnknownFieldData, WireType, laws,
-};
+use wire_codec::{DecodeContext, DecodeError, Tag, UnknownField, UnknownFieldData, WireType, laws};
 use wire_fields::Kind;
 
 // The wire type in the tag of a record.
@@ -50,9 +48,7 @@ pub(crate) fn take_record<K: Kind>(
     laws::grammar::payload_is_field();
     laws::grammar::shortest_text_spells();
     text.clear();
-    field
-        .write_to(text)
-        .map_err(|_| DecodeError::OutOfMemory)?;
+    field.write_to(text).map_err(|_| DecodeError::OutOfMemory)?;
     let mut buf = text.as_slice();
     let tag = Tag::decode(&mut buf)?;
     K::merge(alloc, tag, held, &mut buf, context)

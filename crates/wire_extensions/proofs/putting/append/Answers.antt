@@ -11,7 +11,7 @@ loop-field-preserved c =
     let rest = fields_of (into_iter_items c.next.new.self) in
     let f = c.in-Some.field in
     let pushed : c.push.new.self ≡ push c.loop-field.fields f.number (payload_of f.value)
-        = search rules in
+    = search rules in
     record {
       next = tt;
       finite = tt;

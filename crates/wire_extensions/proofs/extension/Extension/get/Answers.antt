@@ -1,4 +1,4 @@
-use Rattle.std.proofs.Common.{◌≡◌, ◌∙◌, rules, true, sym, ap, subst}
+use Rattle.std.proofs.Common.{◌≡◌, ◌∙◌, rules, true, ap, subst}
 use Rattle.std.proofs.lemmas.List.{nil_from_length}
 use Rattle.std.proofs.lemmas.Result.{err_from_is_err_and}
 use Rattle.std.specs.Slice.Iter.{iter_rest}
@@ -12,7 +12,7 @@ use Rattle.wire_extensions.proofs.extension.Extension.get.Goals as goal
 pub loop-record-init : goal.loop-record-init
 loop-record-init g c =
     let whole : fields_of (iter_rest c.into_iter-record-iterator.result) ≡ c.args.fields.now
-        = search rules in
+    = search rules in
     record {
       next = tt;
       finite = tt;
