@@ -7,7 +7,8 @@ use Rattle.wire_codec.specs.Folds.{Step, Folds}
 use Rattle.wire_codec.specs.Limits.{Charge, both, no_charge}
 use Rattle.wire_fields.specs.Leaving.{has_type}
 use Rattle.wire_fields.specs.Shape.{Owns, on, either, keeps, same_pair}
-use Rattle.wire_extensions.proofs.Records.{either_way, own_is, own_not, others_own, others_not, joined_none, push_joined}
+use Rattle.wire_extensions.proofs.Records.{either_way, own_is, own_not, others_own, others_not}
+use Rattle.wire_extensions.proofs.Records.{joined_none, push_joined}
 use Rattle.wire_extensions.specs.Extension.{owned, others}
 use Rattle.wire_extensions.specs.Laws.{AgreesWithMessage}
 
@@ -70,8 +71,8 @@ module _ {V : Type 0} (takes : Step V) (owns : Owns) where
                 (mid, u),
                 first,
                 next.0,
-                subst (λ b. on b (takes m n p first mid × (u ≡ u)) (keeps u n p first u × (mid ≡ m)))
-                    (sym e) (step, refl),
+                subst (λ b. on b (takes m n p first mid × (u ≡ u))
+                    (keeps u n p first u × (mid ≡ m))) (sym e) (step, refl),
                 next.1,
                 refl,
               ),
@@ -84,7 +85,8 @@ module _ {V : Type 0} (takes : Step V) (owns : Owns) where
           both first next.0,
           subst (λ x. Folds (either owns takes keeps) (m, u) (field n p fs)
               (both first next.0) (z, x))
-              (push_joined u n p (others owns fs) ∙ sym (ap (joined u) (others_not owns n p fs e))) (
+              (push_joined u n p (others owns fs)
+              ∙ sym (ap (joined u) (others_not owns n p fs e))) (
                 (m, after),
                 first,
                 next.0,

@@ -81,7 +81,8 @@ module _ (limits : LimitsAddUp) (charges : ChargesAddUp) {V : Type 0} (takes : S
       let h = subst (Follows takes l m all k v) is given in
       let left = h.back single c z folded in
       let (mid, first, more, step, folded_on, sum) = left.folded in
-      let inside = (limits.both_fit l h.charge left.charge).0 (subst (λ x. Fits x l) left.sum fits) in
+      let inside = (limits.both_fit l h.charge left.charge).0
+      (subst (λ x. Fits x l) left.sum fits) in
       let here = (limits.both_fit k first more).0 (subst (λ x. Fits x k) sum
       (subst (Fits left.charge) (sym h.left) inside.1)) in
       untaken first mid (record { step = step; fits = here.0 })

@@ -1,5 +1,6 @@
 -- The records that are owned and all others, record by record.
-use Rattle.std.proofs.Common.{◌≡◌, ◌≢◌, ◌⊎◌, ℕ, Bool, true, false, cond, refl, sym, ap, ◌∙◌, List, [], ◌∷◌, inl, inr}
+use Rattle.std.proofs.Common.{◌≡◌, ◌≢◌, ◌⊎◌, ℕ, Bool, true, false, cond, refl, sym, ap, ◌∙◌}
+use Rattle.std.proofs.Common.{List, [], ◌∷◌, inl, inr}
 use Rattle.std.proofs.lemmas.Bool.{eqb-true}
 use Rattle.std.proofs.lemmas.Bool.Decides.{eqb_tells}
 use Rattle.std.specs.List.{filter}
@@ -159,7 +160,8 @@ not_both false b h = refl
 
 own_number : (n : ℕ) (s : Option OwnTypes) (j : ℕ) (p : Payload) → is_own n s j p ≡ true → j ≡ n
 own_number n None j p h = eqb-true j n h
-own_number n (Some types) j p h = eqb-true j n (first_of_both (j == n) (has_type types (type_of p)) h)
+own_number n (Some types) j p h =
+    eqb-true j n (first_of_both (j == n) (has_type types (type_of p)) h)
 
 other_number : (n : ℕ) (s : Option OwnTypes) (j : ℕ) (p : Payload) → (j == n) ≡ false
     → is_own n s j p ≡ false

@@ -1,5 +1,6 @@
 //! Laws of the definitions that the contracts cite: each function is a theorem, and does nothing.
-ghost use Rattle.wire_extensions.specs.Laws.{AgreesWithMessage, GetOfSet, OneLeavesOthers, StoredArePlain};
+ghost use Rattle.wire_extensions.specs.Laws.{AgreesWithMessage, GetOfSet};
+ghost use Rattle.wire_extensions.specs.Laws.{OneLeavesOthers, StoredArePlain};
 
 use wire_codec::laws;
 use wire_fields::Kind;

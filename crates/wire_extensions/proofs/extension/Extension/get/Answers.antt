@@ -37,8 +37,8 @@ loop-record-preserved-in-Continue-1 g c =
       follows = λ numbered.
           let h = c.loop-record.invariant.follows numbered in
           let one = c.in_ok-take_record.ensures.ok (subst AreNumbered is h.numbered).1 in
-          one_more c.limits_add_up.ensures c.charges_add_up.ensures g.K.Kind.kind.takes _ _ _ _ _ _ _
-          _ _ _ _ one.charge h is one.taken one.left;
+          one_more c.limits_add_up.ensures c.charges_add_up.ensures g.K.Kind.kind.takes
+          _ _ _ _ _ _ _ _ _ _ _ one.charge h is one.taken one.left;
       grew = c.counts_fall.ensures.again _ _ _ c.loop-record.invariant.grew
           c.take_record.ensures.counts;
     }
