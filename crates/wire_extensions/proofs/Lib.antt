@@ -3,4 +3,5 @@ pub mod Folding
 pub mod OneRecord
 pub mod Priority
 pub mod Records
+pub mod Results
 pub mod Storing

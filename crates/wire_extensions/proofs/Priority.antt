@@ -1,7 +1,7 @@
 -- A priority, a number of explicit presence, is read back.
 use Rattle.std.proofs.Common.{◌≡◌, ℤ}
 use Rattle.std.specs.Int.{w32}
-use Rattle.std.specs.Prelude.{FitsSigned, Option, None, Some, option_map, Result, Ok, Err, OnOk}
+use Rattle.std.specs.Prelude.{FitsSigned, Option, None, Some, option_map}
 use Rattle.wire_codec.specs.Laws.{FieldsArePlain}
 use Rattle.wire_codec.specs.Limits.{no_charge}
 use Rattle.wire_codec.specs.LimitsLaws.{ChargesAddUp}
@@ -24,8 +24,3 @@ pub same_option : {T : Type 0} (o : Option T) (v : T) → option_map (λ v. v) o
     → o ≡ Some v
 same_option None v h = absurd cc
 same_option (Some x) v h = h
-
--- what holds at whatever answer
-pub at_any : {T E P : Type 0} (r : Result T E) → P → OnOk r P
-at_any (Ok x) p = p
-at_any (Err e) p = tt

@@ -39,6 +39,11 @@ module _ (owns : Owns) (n : ℕ) (p : Payload) (rest : Fields) where
 pub not_none : (k : ℕ) (p : Payload) (rest fs : Fields) → fs ≡ field k p rest → fs ≢ none
 not_none k p rest fs h e = absurd cc
 
+-- a list that is not some list is none
+pub none_is : (fs : Fields) → (fs ≢ none → ⊥) → fs ≡ none
+none_is none h = refl
+none_is (field n p rest) h = absurd (h (not_none n p rest (field n p rest) refl))
+
 -- ---- what is kept
 
 kept_one : (b : Bool) (f : UnknownField) (ys : List UnknownField) (zs : Fields) → fields_of ys ≡ zs
@@ -125,6 +130,16 @@ module _ (owns : Owns) where
       others_joined (others owns fs) more
       ∙ ap (λ x. joined (others owns (others owns fs)) x) (no_others more h)
       ∙ joined_none (others owns (others owns fs)) ∙ twice fs
+
+  -- where nothing is owned, all are others
+  pub all_others : (fs : Fields) → owned owns fs ≡ none → others owns fs ≡ fs
+  all_others none h = refl
+  all_others (field n p rest) h = elim (either_way (owns n p)) [
+    | inl e ↦ absurd (not_none n p (owned owns rest) (owned owns (field n p rest))
+        (own_is owns n p rest e) h)
+    | inr e ↦ others_not owns n p rest e
+        ∙ ap (field n p) (all_others rest (sym (own_not owns n p rest e) ∙ h))
+  ]
 
 -- ---- another extension
 

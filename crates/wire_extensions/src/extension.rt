@@ -12,7 +12,7 @@ ghost use Rattle.wire_codec.specs.UnknownFields.{payload_of};
 ghost use Rattle.wire_extensions.specs.Extension.{is_own, owned, others, replaced};
 ghost use Rattle.wire_extensions.specs.Extension.{IsValue, NoValue, Stores, NotStored};
 
-use crate::putting::{append, stored};
+use crate::putting::{append, put_behind, stored};
 use crate::record::{take_record, type_of};
 use std::alloc::Global;
 use std::marker::PhantomData;
@@ -125,8 +125,9 @@ impl<K: Kind> Extension<K> {
 
     /// Puts the records of the value behind all others, in the place of the extension's own.
     /// `MessageTooLarge` where they are more than 2,147,483,647 bytes, `RecursionLimitExceeded`
-    /// where groups nest more than 100 deep, or `OutOfMemory`; the fields are then as they were. It
-    /// takes memory for a copy of the fields.
+    /// where groups nest more than 100 deep, or `OutOfMemory`; the fields are then as they were. So
+    /// that they are, records that are replaced, and several new ones, take memory for a copy of
+    /// the fields.
     pub fn set(
         &self,
         alloc: Global,
@@ -141,6 +142,9 @@ impl<K: Kind> Extension<K> {
         ensures unchanged { OnErr result (fields.new ≡ fields.old) }
     {
         let more = stored::<K>(alloc, self.number, held)?;
+        if !self.has(fields) {
+            return put_behind(fields, more);
+        }
         let mut next = fields.clone()?;
         self.clear(&mut next);
         append(&mut next, more)?;
@@ -170,10 +174,6 @@ impl<K: Kind> Extension<K> {
             (K.kind.records self.now.number (K.view held.now)) (counted 100 (2 ^ 64 - 1))) }
         ensures unchanged { OnErr result (fields.new ≡ fields.old) }
     {
-        let more = stored::<K>(alloc, self.number, held)?;
-        let mut next = fields.clone()?;
-        append(&mut next, more)?;
-        *fields = next;
-        Ok(())
+        put_behind(fields, stored::<K>(alloc, self.number, held)?)
     }
 }

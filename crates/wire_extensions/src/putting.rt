@@ -1,7 +1,7 @@
 //! The records of a value, put among unknown fields.
-ghost use Rattle.std.specs.Prelude.{◌≡◌, ◌≢◌, ◌^◌, ◌-◌, OnOk, IfOk, IfErr};
+ghost use Rattle.std.specs.Prelude.{◌≡◌, ◌≢◌, ◌^◌, ◌-◌, ◌<◌, OnOk, OnErr, IfOk, IfErr};
 ghost use Rattle.wire_codec.specs.DecodeError.TheVariants.{OutOfMemory};
-ghost use Rattle.wire_codec.specs.Field.{joined};
+ghost use Rattle.wire_codec.specs.Field.{joined, count_top};
 ghost use Rattle.wire_codec.specs.FieldNumber.{IsFieldNumber};
 ghost use Rattle.wire_codec.specs.Limits.{counted};
 ghost use Rattle.wire_extensions.specs.Extension.{Stores, NotStored};
@@ -37,10 +37,31 @@ pub(crate) fn stored<K: Kind>(
     UnknownFields::decode_from_slice_within(alloc, &text, &mut context)
 }
 
-// Puts records behind others. Where memory runs out some of them are there.
+// Puts records behind others. Where memory runs out nothing changes: several are put into a copy
+// first.
+pub(crate) fn put_behind(
+    fields: &mut UnknownFields,
+    more: UnknownFields,
+) -> Result<(), DecodeError>
+    ensures ok { OnOk result (fields.new ≡ joined fields.old more) }
+    ensures err { IfErr result (λ e. e ≡ OutOfMemory) }
+    ensures unchanged { OnErr result (fields.new ≡ fields.old) }
+{
+    if more.len() < 2 {
+        return append(fields, more);
+    }
+    let mut next = fields.clone()?;
+    append(&mut next, more)?;
+    *fields = next;
+    Ok(())
+}
+
+// Puts records behind others, one by one. Where memory runs out some of them are there, but none
+// where there is one at most.
 pub(crate) fn append(fields: &mut UnknownFields, more: UnknownFields) -> Result<(), DecodeError>
     ensures ok { OnOk result (fields.new ≡ joined fields.old more) }
     ensures err { IfErr result (λ e. e ≡ OutOfMemory) }
+    ensures unchanged { count_top more < 2 → OnErr result (fields.new ≡ fields.old) }
 {
     for field in more {
         fields.push(field).map_err(|_| DecodeError::OutOfMemory)?;
