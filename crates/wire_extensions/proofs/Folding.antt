@@ -1,13 +1,15 @@
 -- What a value makes of the records that are left, and of all of them.
 use Rattle.std.proofs.Common.{◌≡◌, ℕ, refl, sym, ap, ◌∙◌, subst}
-use Rattle.wire_codec.specs.Field.{Payload, Fields, none, field}
+use Rattle.wire_codec.specs.Field.{Payload, Fields, none, field, joined}
 use Rattle.wire_codec.specs.Folds.{Step, Folds, IsSingle}
 use Rattle.wire_codec.specs.InRange.{AreNumbered}
 use Rattle.wire_codec.specs.Limits.{Limits, Charge, Fits, left_after, both, no_charge}
 use Rattle.wire_codec.specs.LimitsLaws.{ChargesAddUp, LimitsAddUp}
 use Rattle.wire_codec.specs.Taking.{IsCharged}
 use Rattle.wire_fields.specs.Shape.{Owns, FieldKind}
+use Rattle.wire_extensions.proofs.Records.{one_leaves_others_lemma}
 use Rattle.wire_extensions.specs.Extension.{owned, IsValue, TakesOne, TakesNone}
+use Rattle.wire_extensions.specs.Laws.{GetOfAdd}
 
 -- what a charge before it and this one make, where the value is reached in one way
 pub record Left {V : Type 0} (takes : Step V) (v : V) (rest : Fields) (before c : Charge) (z : V)
@@ -110,3 +112,27 @@ as_value k owns fs l after v h = record {
   taken = record { folded = h.taken.0; fits = h.taken.1 };
   left = h.left;
 }
+
+-- ---- one list behind another
+
+folds_joined : ChargesAddUp → {V : Type 0} (takes : Step V) (fs gs : Fields) (m v z : V)
+    (c d : Charge) → Folds takes m fs c v → Folds takes v gs d z
+    → Folds takes m (joined fs gs) (both c d) z
+folds_joined charges takes none gs m v z c d h k =
+    subst (λ x. Folds takes m gs x z)
+    (sym (ap (λ (x : Charge). both x d) h.0 ∙ charges.nothing_first d))
+    (subst (λ x. Folds takes x gs d z) h.1 k)
+folds_joined charges takes (field n p fs) gs m v z c d (mid, first, rest, step, more, sum) k = (
+  mid,
+  first,
+  both rest d,
+  step,
+  folds_joined charges takes fs gs mid v z rest d more k,
+  ap (λ (x : Charge). both x d) sum ∙ charges.assoc first rest d,
+)
+
+pub get_of_add_lemma : ChargesAddUp → {V : Type 0} (k : FieldKind V) → GetOfAdd k
+get_of_add_lemma charges k owns fs more v z c d own before behind =
+    subst (λ x. Folds k.takes k.default x (both c d) z)
+    (sym (one_leaves_others_lemma.added owns fs more own))
+    (folds_joined charges k.takes (owned owns fs) more k.default v z c d before behind)

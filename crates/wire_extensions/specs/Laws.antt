@@ -4,7 +4,7 @@ use Rattle.std.specs.Prelude.{◌≡◌, ◌≢◌, ◌↔◌, ◌==◌, ℕ, tr
 use Rattle.wire_codec.specs.Field.{Payload, Fields, none, field, joined, type_of}
 use Rattle.wire_codec.specs.Folds.{Step, Folds, IsSingle}
 use Rattle.wire_codec.specs.InRange.{AreFitting, AreNumbered}
-use Rattle.wire_codec.specs.Limits.{Limits, Charge}
+use Rattle.wire_codec.specs.Limits.{Limits, Charge, both}
 use Rattle.wire_codec.specs.Records.{Records, plain}
 use Rattle.wire_fields.specs.declared.leaving.OwnTypes.{OwnTypes}
 use Rattle.wire_fields.specs.Back.{AllAre, FoldsBack}
@@ -64,6 +64,13 @@ GetOfSet {V} k =
     → FoldsBack k.takes k.default (plain (k.records n v)) c v
     → AllOwned owns (plain (k.records n v)) → Stores (k.records n v) l stored
     → IsGot k owns (replaced owns fs stored) c v
+
+-- Where records of the extension's own are added, its value is what the value before makes of them.
+abbrev pub GetOfAdd : {V : Type 0} → FieldKind V → Type 0
+GetOfAdd {V} k =
+    (owns : Owns) (fs more : Fields) (v z : V) (c d : Charge) → AllOwned owns more
+    → Folds k.takes k.default (owned owns fs) c v → Folds k.takes v more d z
+    → Folds k.takes k.default (owned owns (joined fs more)) (both c d) z
 
 -- A message that declares the field makes of records what the extension makes of them: the field's
 -- value is the fold of the extension's records, and the unknown fields are all others. With

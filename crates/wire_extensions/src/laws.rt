@@ -1,5 +1,5 @@
 //! Laws of the definitions that the contracts cite: each function is a theorem, and does nothing.
-ghost use Rattle.wire_extensions.specs.Laws.{AgreesWithMessage, GetOfSet};
+ghost use Rattle.wire_extensions.specs.Laws.{AgreesWithMessage, GetOfAdd, GetOfSet};
 ghost use Rattle.wire_extensions.specs.Laws.{OneLeavesOthers, StoredArePlain};
 
 use wire_codec::laws;
@@ -23,6 +23,13 @@ pub fn get_of_set<K: Kind>()
     ensures { GetOfSet K.kind }
 {
     stored_are_plain();
+}
+
+/// What the value before makes of the records that are added is what is got.
+pub fn get_of_add<K: Kind>()
+    ensures { GetOfAdd K.kind }
+{
+    laws::grammar::charges_add_up();
 }
 
 /// A message that declares a field of the kind makes of records what the extension makes of them.
