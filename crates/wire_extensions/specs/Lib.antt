@@ -1,0 +1,3 @@
+pub mod Extension
+pub mod Laws
+pub mod ReadBack

@@ -1,0 +1,202 @@
+#!/usr/bin/python3
+"""Writes stdin and stdout of crates/wire_extension_rows: calls of extensions, and what protoc's
+Python makes of them. Run it at the top of the repository:
+
+    protoc --python_out=/tmp rows/extensions.proto
+    PYTHONPATH=/tmp/rows /usr/bin/python3 rows/extensions.py
+
+with protoc 3.21.12 and python3-protobuf 4.21.12. Python writes fields in the order of their numbers,
+so a value is put where the message has none of a greater number.
+"""
+import random
+
+import extensions_pb2 as pb
+
+random.seed(7)
+BY_NAME = {name: it for name, it in (
+    (name, getattr(pb, name)) for name in (
+        "priority", "title", "scores", "steps", "visits", "labels", "extra", "stamp", "flag",
+        "counters", "picture"))}
+REPEATED = ("scores", "steps", "labels", "counters")
+
+
+def varint(x):
+    out = bytearray()
+    while x > 127:
+        out.append(x % 128 + 128)
+        x //= 128
+    return bytes(out + bytes([x]))
+
+
+def record(n, wire, payload):
+    return varint(8 * n + wire) + payload
+
+
+def some_number():
+    return random.choice([0, 1, 2, 5, 127, 128, 300, 2**31 - 1, 2**32, 2**63, 2**64 - 1])
+
+
+def counter():
+    """A counter that is not left out, with an unknown field now and then."""
+    parts = [record(1, 0, varint(random.choice([1, 7, 300, 2**64 - 1])))]
+    if random.random() < 0.3:
+        parts.append(record(9, 0, varint(4)))
+    return b"".join(parts)
+
+
+def delimited(n, payload):
+    return record(n, 2, varint(len(payload)) + payload)
+
+
+def own(name):
+    """A record of this extension."""
+    n = BY_NAME[name].number
+    if name in ("priority", "flag"):
+        return record(n, 0, varint(some_number()))
+    if name in ("scores", "steps"):
+        if random.random() < 0.5:
+            return record(n, 0, varint(some_number()))
+        return delimited(n, b"".join(varint(some_number()) for _ in range(random.randrange(4))))
+    if name in ("title", "labels"):
+        return delimited(n, random.choice(["", "a", "héllo", "two words"]).encode())
+    if name == "picture":
+        return delimited(n, random.choice([b"", b"\0", b"\xff\xfe"]))
+    if name in ("visits", "counters"):
+        return delimited(n, counter())
+    if name == "extra":
+        return record(n, 3, counter()) + record(n, 4, b"")
+    return record(n, 1, random.randbytes(8))
+
+
+def foreign(name):
+    """A record of this number with a wire type that the extension does not have."""
+    n = BY_NAME[name].number
+    return record(n, 5, random.randbytes(4))
+
+
+def parsed(data):
+    return pb.Extended.FromString(data)
+
+
+def written(message):
+    return message.SerializeToString(deterministic=True).hex() or "-"
+
+
+def value_of(message, name):
+    """A message that has this extension alone."""
+    alone = pb.Extended()
+    put(alone, message, name)
+    return alone
+
+
+def put(message, source, name):
+    it = BY_NAME[name]
+    message.ClearExtension(it)
+    add(message, source, name)
+
+
+def add(message, source, name):
+    it = BY_NAME[name]
+    if name in REPEATED:
+        message.Extensions[it].MergeFrom(source.Extensions[it])
+    elif source.HasExtension(it):
+        if it.message_type:
+            message.Extensions[it].MergeFrom(source.Extensions[it])
+        else:
+            message.Extensions[it] = source.Extensions[it]
+
+
+def shuffled(names):
+    return [own(name) for name in names]
+
+
+def canonical(below):
+    """Records of other extensions of smaller numbers, as Python writes them."""
+    names = [it for it in BY_NAME if BY_NAME[it].number < below]
+    message = parsed(b"".join(shuffled(random.sample(names, min(len(names), 3)))))
+    return message.SerializeToString(deterministic=True)
+
+
+def records_of(data):
+    """The records of a message, each with its text."""
+    out, at = [], 0
+    while at < len(data):
+        start = at
+        tag, at = read_varint(data, at)
+        at = skipped(data, at, tag)
+        out.append(data[start:at])
+    return out
+
+
+def read_varint(data, at):
+    value, shift = 0, 0
+    while True:
+        byte = data[at]
+        value, at, shift = value | (byte & 127) << shift, at + 1, shift + 7
+        if byte < 128:
+            return value, at
+
+
+def skipped(data, at, tag):
+    wire = tag % 8
+    if wire == 0:
+        return read_varint(data, at)[1]
+    if wire == 1:
+        return at + 8
+    if wire == 5:
+        return at + 4
+    if wire == 2:
+        length, at = read_varint(data, at)
+        return at + length
+    while True:
+        inner, at = read_varint(data, at)
+        if inner % 8 == 4:
+            return at
+        at = skipped(data, at, inner)
+
+
+def rows():
+    for name in BY_NAME:
+        for _ in range(12):
+            names = random.choices(list(BY_NAME), k=3) + [name] * random.randrange(4)
+            parts = shuffled(names) + [foreign(name)] * random.randrange(2)
+            random.shuffle(parts)
+            data = b"".join(parts)
+            message = parsed(data)
+            yield f"get {name} {data.hex() or '-'}", written(value_of(message, name))
+            has = len(message.Extensions[BY_NAME[name]]) > 0 if name in REPEATED \
+                else message.HasExtension(BY_NAME[name])
+            if has or name not in ("scores", "steps"):
+                yield f"has {name} {data.hex() or '-'}", "yes" if has else "no"
+        for _ in range(8):
+            # The other records are as Python writes them; those of the extension lie anywhere.
+            others = canonical(BY_NAME[name].number)
+            parts = records_of(others)
+            for _ in range(random.randrange(4)):
+                parts.insert(random.randrange(len(parts) + 1), own(name))
+            data, source = b"".join(parts), b"".join(own(name) for _ in range(random.randrange(3)))
+            message, given = parsed(data), parsed(source)
+            message.ClearExtension(BY_NAME[name])
+            yield f"clear {name} {data.hex() or '-'}", written(message)
+            put(message, given, name)
+            yield f"set {name} {data.hex() or '-'} {source.hex() or '-'}", written(message)
+            if name in ("labels", "counters", "scores"):
+                message = parsed(others)
+                put(message, given, name)
+                before = message.SerializeToString(deterministic=True)
+                add(message, given, name)
+                yield f"add {name} {before.hex() or '-'} {source.hex() or '-'}", written(message)
+    yield f"get strict {own('priority').hex()}{foreign('priority').hex()}", \
+        "refused: wire type mismatch on field 100: expected 0, got 5"
+
+
+def main():
+    pairs = list(rows())
+    with open("crates/wire_extension_rows/stdin", "w") as out:
+        out.writelines(f"{row}\n" for row, _ in pairs)
+    with open("crates/wire_extension_rows/stdout", "w") as out:
+        out.writelines(f"{answer}\n" for _, answer in pairs)
+    print(f"{len(pairs)} rows")
+
+
+main()
