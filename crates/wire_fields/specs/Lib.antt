@@ -4,11 +4,15 @@ pub mod Closed
 pub mod Dropped
 pub mod Enums
 pub mod Floats
+pub mod Least
 pub mod Leaving
 pub mod Maps
 pub mod Measuring
 pub mod MessageBack
 pub mod Messages
+pub mod Nest
+pub mod NestPayload
+pub mod NestTable
 pub mod Numbers
 pub mod Oneof
 pub mod Packed
