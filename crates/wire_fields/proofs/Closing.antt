@@ -1,11 +1,11 @@
 -- Numbers of closed enums: what they add, and what is kept of them.
-use Rattle.std.proofs.Common.{◌≡◌, ◌⊎◌, inl, inr, ℕ, ℤ, suc, ◌+◌, ◌<◌, List, [], ◌∷◌, get_or, length, map, drop, add-one, drop-cons, refl, sym, ap, ◌∙◌, subst}
+use Rattle.std.proofs.Common.{◌≡◌, ◌⊎◌, inl, inr, ℕ, ℤ, ◌+◌, ◌<◌, List, [], ◌∷◌, get_or, length, map, drop, add-one, drop-cons, refl, sym, ap, ◌∙◌, subst}
 use Rattle.std.proofs.lemmas.List.{map-id}
 use Rattle.std.specs.Prelude.{Option, Some, None, Result, Ok, Err, OnOk}
 use Rattle.wire_codec.specs.EnumValue.{EnumValue}
 use Rattle.wire_codec.specs.EnumValue.TheVariants.{Known}
 use Rattle.wire_codec.specs.Field.{Payload, Fields, varint, fixed64, fixed32, bytes, group}
-use Rattle.wire_codec.specs.Limits.{Limits, Charge, Fits, NoCountGrew, left_after, no_charge, one_field}
+use Rattle.wire_codec.specs.Limits.{Limits, Fits, NoCountGrew, left_after, no_charge, one_field}
 use Rattle.wire_codec.specs.LimitsLaws.{LimitsAddUp, CountsFall}
 use Rattle.wire_codec.specs.Packed.{SpellsEach}
 use Rattle.wire_codec.specs.Taking.{TakesRecord, IsCharged, NotTaken}

@@ -1,6 +1,5 @@
 -- Records that are passed over.
 use Rattle.std.proofs.Common.{◌≡◌, ℕ, List, refl, sym, subst, arith}
-use Rattle.std.specs.Prelude.{⊤}
 use Rattle.wire_codec.specs.Charge.{payload_charge}
 use Rattle.wire_codec.specs.DecodeError.{DecodeError}
 use Rattle.wire_codec.specs.Fault.{PayloadFault}

@@ -4,6 +4,9 @@ pub mod Keeping
 pub mod Maps
 pub mod Measuring
 pub mod Messages
+pub mod NestPayloads
+pub mod NestTaken
+pub mod Nests
 pub mod NumberTexts
 pub mod OwnOrLeft
 pub mod PackedRecords

@@ -28,7 +28,7 @@ recorded_twice : (t : Tape) (a b : List ℕ) → recorded (recorded t a) b ≡ r
 recorded_twice t a b =
     ap (λ (ns : List ℕ). record { sizes = ns; cursor = t.cursor }) (append_assoc t.sizes a b)
 
-nothing_recorded : (t : Tape) → t ≡ recorded t []
+pub nothing_recorded : (t : Tape) → t ≡ recorded t []
 nothing_recorded t =
     ap (λ (ns : List ℕ). record { sizes = ns; cursor = t.cursor }) (sym (append-nil t.sizes))
 

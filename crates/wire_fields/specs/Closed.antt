@@ -1,5 +1,5 @@
 -- Closed enums: a number that the enum does not have is kept as an unknown field.
-use Rattle.std.proofs.Common.{◌≡◌, ap, ◌∙◌, sym, subst, List, [], ◌∷◌, ◌++◌}
+use Rattle.std.proofs.Common.{◌≡◌, ap, ◌∙◌, sym, List, [], ◌∷◌, ◌++◌}
 use Rattle.std.specs.Prelude.{ℕ, ℤ, Option, Some, None, ◌==◌}
 use Rattle.wire_codec.specs.EnumValue.{EnumValue}
 use Rattle.wire_codec.specs.EnumValue.TheVariants.{Known}

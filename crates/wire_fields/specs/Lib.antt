@@ -5,12 +5,16 @@ pub mod Dropped
 pub mod Enums
 pub mod Floats
 pub mod Grounds
+pub mod Least
 pub mod Leaving
 pub mod Maps
 pub mod MapsBack
 pub mod Measuring
 pub mod MessageBack
 pub mod Messages
+pub mod Nest
+pub mod NestPayload
+pub mod NestTable
 pub mod Numbers
 pub mod Oneof
 pub mod OneofBack

@@ -1,4 +1,4 @@
-use Rattle.std.proofs.Common.{◌+◌, ◌∙◌, drop}
+use Rattle.std.proofs.Common.{◌∙◌}
 use Rattle.std.proofs.lemmas.Result.{err_from_is_err_and}
 use Rattle.wire_fields.proofs.Closing.{next_number, one_sorted, one_left, one_fits, rest_fits}
 use Rattle.wire_fields.proofs.Closing.{one_grew, one_fits_first}

@@ -1,4 +1,3 @@
-use Rattle.std.proofs.Common.{rules}
 use Rattle.std.proofs.lemmas.Result.{IfErr-weaker, on_ok_weaker}
 use Rattle.wire_fields.proofs.Dropping.{passed, not_passed}
 use Rattle.wire_fields.proofs.dropped.pass_over.Goals as goal

@@ -1,0 +1,119 @@
+-- What a message that holds itself takes, by the place of the record.
+use Rattle.std.proofs.Common.{◌≡◌, ℕ, zero, suc, List, [], refl, sym, ap, ◌∙◌, subst}
+use Rattle.std.specs.Prelude.{Result, Ok, Err, OnOk}
+use Rattle.wire_codec.specs.Folds.{Step, IsSingle}
+use Rattle.wire_codec.specs.Limits.{Limits}
+use Rattle.wire_codec.specs.Taking.{TakesRecord, IsCharged, NotTaken}
+use Rattle.wire_codec.specs.TakingLaws.{OneReading}
+use Rattle.wire_codec.specs.WireType.{WireType}
+use Rattle.wire_fields.specs.declared.recursive.Place.{Place}
+use Rattle.wire_fields.specs.declared.recursive.Place.TheVariants.{Leaf}
+use Rattle.wire_fields.specs.Least.{rolled, unrolled}
+use Rattle.wire_fields.specs.Messages.{length_prefixed, inside}
+use Rattle.wire_fields.specs.Nest.{Nest, nest, Rows, done, row, leaf_of, rows_of, rows_with, with_row}
+use Rattle.wire_fields.specs.NestTable.{Table, level, takes_at, nest_takes, owned, grows}
+
+-- ---- rows
+
+rows_with_twice : {L : Type 0} (i : ℕ) (ms ks : List (Nest L)) (rs : Rows L)
+    → rows_with i ms (rows_with i ks rs) ≡ rows_with i ms rs
+rows_with_twice i ms ks done = refl
+rows_with_twice zero ms ks (row r rs) = refl
+rows_with_twice {L} (suc i) ms ks (row r rs) =
+    ap (λ (x : Rows L). row r x) (rows_with_twice i ms ks rs)
+
+-- values that agree beside a row agree with the same row
+pub same_beside : {L : Type 0} (i : ℕ) (ms : List (Nest L)) (a b : Nest L)
+    → with_row i [] a ≡ with_row i [] b → with_row i ms a ≡ with_row i ms b
+same_beside {L} i ms a b e =
+    ap (nest (leaf_of a)) (sym (rows_with_twice i ms [] (rows_of a)))
+    ∙ ap (with_row i ms) e
+    ∙ ap (nest (leaf_of b)) (rows_with_twice i ms [] (rows_of b))
+
+pub both_ok : {T E P Q R : Type 0} (r : Result T E) → (P → Q → R) → OnOk r P → OnOk r Q → OnOk r R
+both_ok (Ok x) f p q = f p q
+both_ok (Err e) f p q = tt
+
+-- ---- places
+
+module _ {L : Type 0} (t : Table L) (reading : OneReading) (single : IsSingle t.takes) (l : Limits)
+    (n : ℕ) (w : WireType) (m : Nest L) (old : List ℕ) (place : Place) (is : t.place n ≡ place) where
+  pub placed_taken : (k : Limits) (z : Nest L) (new : List ℕ)
+      → IsCharged l k (λ c. TakesRecord (takes_at t (nest_takes t) place) l n w m old c z new)
+      → IsCharged l k (λ c. TakesRecord (nest_takes t) l n w m old c z new)
+  placed_taken k z new h = record {
+    charge = h.charge;
+    taken = record {
+      payload = h.taken.payload;
+      read = h.taken.read;
+      step = rolled (level t) (grows t reading single) m z n h.taken.payload h.charge
+          (subst (λ x. takes_at t (nest_takes t) x m n h.taken.payload h.charge z) (sym is)
+          h.taken.step);
+    };
+    left = h.left;
+  }
+
+  pub not_placed : NotTaken (TakesRecord (takes_at t (nest_takes t) place) l n w m old)
+      → NotTaken (TakesRecord (nest_takes t) l n w m old)
+  not_placed none c z new h = none c z new (record {
+    payload = h.payload;
+    read = h.read;
+    step = subst (λ x. takes_at t (nest_takes t) x m n h.payload c z) is
+        (unrolled (level t) (grows t reading single) m z n h.payload c h.step);
+  })
+
+-- into the leaf
+module _ {L : Type 0} (t : Table L) (step : Step (Nest L)) (l : Limits) (n : ℕ) (w : WireType)
+    (m : Nest L) (old : List ℕ) where
+  pub leaf_taken : (k : Limits) (z : Nest L) (new : List ℕ) → rows_of z ≡ rows_of m
+      → IsCharged l k (λ c. TakesRecord t.takes l n w (leaf_of m) old c (leaf_of z) new)
+      → IsCharged l k (λ c. TakesRecord (takes_at t step Leaf) l n w m old c z new)
+  leaf_taken k z new rows h = record {
+    charge = h.charge;
+    taken = record {
+      payload = h.taken.payload;
+      read = h.taken.read;
+      step = (h.taken.step, rows);
+    };
+    left = h.left;
+  }
+
+  pub no_leaf : NotTaken (TakesRecord t.takes l n w (leaf_of m) old)
+      → NotTaken (TakesRecord (takes_at t step Leaf) l n w m old)
+  no_leaf none c z new h =
+      none c (leaf_of z) new (record { payload = h.payload; read = h.read; step = h.step.0 })
+
+-- into a message, at its own charge
+module _ {V : Type 0} (start : V → V) (put : V → V → V) (step : Step V) (l : Limits) (n : ℕ)
+    (w : WireType) (m from : V) (old : List ℕ) (from_is : from ≡ start m) where
+  pub owned_taken : (k : Limits) (after z : V) (new : List ℕ) → z ≡ put m after
+      → IsCharged l k (λ c. TakesRecord (inside length_prefixed step) l n w from old c after new)
+      → IsCharged l k (λ c. TakesRecord (owned start put (λ one. one) step) l n w m old c z new)
+  owned_taken k after z new is h = record {
+    charge = h.charge;
+    taken = record {
+      payload = h.taken.payload;
+      read = h.taken.read;
+      step = (
+        after,
+        h.charge,
+        subst (λ x. inside length_prefixed step x n h.taken.payload h.charge after) from_is
+            h.taken.step,
+        refl,
+        is,
+      );
+    };
+    left = h.left;
+  }
+
+  pub not_owned : NotTaken (TakesRecord (inside length_prefixed step) l n w from old)
+      → NotTaken (TakesRecord (owned start put (λ one. one) step) l n w m old)
+  not_owned none c z new h =
+      let (after, one, inner, charged, is) = h.step in
+      none c after new (record {
+        payload = h.payload;
+        read = h.read;
+        step = subst (λ x. inside length_prefixed step x n h.payload c after) (sym from_is)
+            (subst (λ x. inside length_prefixed step (start m) n h.payload x after) (sym charged)
+            inner);
+      })

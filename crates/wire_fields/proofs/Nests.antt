@@ -1,0 +1,78 @@
+-- Messages that hold themselves: their rows, written one behind another.
+use Rattle.std.proofs.Common.{◌≡◌, List, ℕ, zero, suc, ◌+◌, ◌<◌, ◌≤◌, add-one, refl, sym, ap, ◌∙◌, arith}
+use Rattle.wire_codec.specs.Records.{Records, none, joined_records, text_size}
+use Rattle.wire_codec.specs.Sizes.{cut_sizes}
+use Rattle.wire_codec.specs.Tape.{Tape, recorded}
+use Rattle.wire_fields.specs.Measuring.{Measures}
+use Rattle.wire_fields.specs.Messages.{length_prefixed, message_record, message_each}
+use Rattle.wire_fields.specs.Nest.{Nest, nest, Rows, done, row, Row, end, ahead, listed, row_of}
+use Rattle.wire_fields.specs.Nest.{row_listed, leaf_of, rows_of, rows_row, row_at, count_rows, row_count, listed_row}
+use Rattle.wire_fields.specs.NestTable.{Table, nest_records, rows_records, row_records}
+use Rattle.wire_fields.proofs.Measuring.{Splits, IsMeasuredTo, nothing_recorded}
+
+abbrev rows_from : {L : Type 0} → ℕ → Rows L → Rows L
+rows_from zero rs = rs
+rows_from (suc i) done = done
+rows_from (suc i) (row r rs) = rows_from i rs
+
+-- the records of a value from the row at i on
+abbrev pub left_at : {L : Type 0} → Table L → Nest L → ℕ → Records
+left_at t m i = rows_records t (leaf_of m) i (rows_from i (rows_of m))
+
+first_row : {L : Type 0} (i : ℕ) (rs : Rows L) → i < count_rows rs
+    → rows_from i rs ≡ row (row_of (rows_row i rs)) (rows_from (suc i) rs)
+first_row i done h = absurd (omega (arith, h))
+first_row {L} zero (row r rs) h = ap (λ (x : Row L). row x rs) (sym (row_listed r))
+first_row (suc i) (row r rs) h = first_row i rs (omega (arith, h))
+
+no_more_rows : {L : Type 0} (i : ℕ) (rs : Rows L) → count_rows rs ≤ i → rows_from i rs ≡ done
+no_more_rows zero done h = refl
+no_more_rows (suc i) done h = refl
+no_more_rows zero (row r rs) h = absurd (omega (arith, h))
+no_more_rows (suc i) (row r rs) h = no_more_rows i rs (omega (arith, h))
+
+-- a row of records is that of its messages, one by one
+each_of_row : {L : Type 0} (t : Table L) (n : ℕ) (r : Row L)
+    → row_records t n r ≡ message_each length_prefixed (nest_records t) n (listed r)
+each_of_row t n end = refl
+each_of_row t n (ahead m ms) =
+    ap (joined_records (message_record length_prefixed n (nest_records t m))) (each_of_row t n ms)
+
+module _ {L : Type 0} (t : Table L) where
+  -- the first run, and the rows
+  pub first_run : (m : Nest L) → Splits (nest_records t m) (t.run 0 (leaf_of m)) (left_at t m 0)
+  first_run (nest l rows) = record { is = refl }
+
+  -- behind the row at i, with its number
+  abbrev pub behind_row : Nest L → ℕ → Records
+  behind_row m i = joined_records (t.run (i + 1) (leaf_of m)) (left_at t m (i + 1))
+
+  pub next_row : (m : Nest L) (i n : ℕ) (ms : List (Nest L)) → i < row_count m → n ≡ t.number i
+      → ms ≡ row_at i m → Splits (left_at t m i)
+      (message_each length_prefixed (nest_records t) n ms) (behind_row m i)
+  next_row m i n ms h n_is ms_is = rw (n_is, ms_is, add-one) (record {
+    is = ap (rows_records t (leaf_of m) i) (first_row i (rows_of m) h)
+        ∙ ap (λ (x : Records). joined_records x (joined_records (t.run (suc i) (leaf_of m))
+        (left_at t m (suc i))))
+        (each_of_row t (t.number i) (row_of (row_at i m))
+        ∙ ap (message_each length_prefixed (nest_records t) (t.number i)) (listed_row (row_at i m)));
+  })
+
+  pub next_run : (m : Nest L) (i : ℕ)
+      → Splits (behind_row m i) (t.run (i + 1) (leaf_of m)) (left_at t m (i + 1))
+  next_run m i = record { is = refl }
+
+  -- behind the last row
+  pub no_rows : (m : Nest L) (i : ℕ) → row_count m ≤ i → left_at t m i ≡ none
+  no_rows m i h = ap (rows_records t (leaf_of m) i) (no_more_rows i (rows_of m) h)
+
+-- nothing is left to measure
+pub measured_all : (whole left : Records) (old now : Tape) (len : ℕ) → left ≡ none
+    → IsMeasuredTo whole left old now len → Measures whole old now len
+measured_all whole left old now len is w =
+    let nothing : text_size none ≡ 0 = refl in
+    record {
+      size = omega (arith, w.size, ap text_size is, nothing);
+      sizes = nothing_recorded now ∙ ap (λ (rs : Records). recorded now (cut_sizes rs)) (sym is)
+          ∙ w.sizes;
+    }

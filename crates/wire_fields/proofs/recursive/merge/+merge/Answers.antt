@@ -1,0 +1,187 @@
+use Rattle.std.proofs.Common.{[], ◌∷◌, refl, sym, ap, ◌∙◌, arith}
+use Rattle.std.proofs.lemmas.Result.{err_from_is_err_and, IfErr-weaker, on_ok_weaker}
+use Rattle.wire_codec.specs.Ending.{by_limit}
+use Rattle.wire_codec.specs.Limits.{outer}
+use Rattle.wire_codec.proofs.Lists.{at_start, at_end, no_tag, no_record, one_more, not_ended}
+use Rattle.wire_fields.specs.Messages.{length_prefixed}
+use Rattle.wire_fields.specs.NestTable.{nest_takes, nest_single, empty_of, one_of, with_one, with_more}
+use Rattle.wire_fields.proofs.Messages.{embedded_taken, no_embedded, each_taken, no_room, no_more}
+use Rattle.wire_fields.proofs.NestPayloads.{charged_within, not_within, ran_past}
+use Rattle.wire_fields.proofs.NestTaken.{placed_taken, not_placed, leaf_taken, no_leaf}
+use Rattle.wire_fields.proofs.NestTaken.{owned_taken, not_owned, same_beside, both_ok}
+use Rattle.wire_fields.proofs.recursive.merge.+merge.Goals as goal
+
+-- ---- records up to a limit
+
+pub merge_payload-loop-alloc-init : goal.merge_payload-loop-alloc-init
+merge_payload-loop-alloc-init g t c = record {
+  follows = at_start c.records_in_order.ensures (nest_takes g.T.Recursive.table)
+      (by_limit c.args.rest) _ _ _;
+  kept = refl;
+}
+
+pub merge_payload-returns-in_err-tag-clause-err : goal.merge_payload-returns-in_err-tag-clause-err
+merge_payload-returns-in_err-tag-clause-err g t c =
+    let p = err_from_is_err_and c.from_residual.result c.from_residual.ensures.1 in
+    rw (p.1, p.2) (λ other. λ charge z new h. no_tag c.records_in_order.ensures
+    (nest_takes g.T.Recursive.table) _ _ _ _ _ _ _ _ c.loop-alloc.invariant.follows
+    (λ new ended. omega (arith, c.remaining.ensures, c.loop-alloc-test.true, ended.0))
+    c.in_err-tag.ensures.fault charge z new h.list)
+
+pub merge_payload-loop-alloc-preserved : goal.merge_payload-loop-alloc-preserved
+merge_payload-loop-alloc-preserved g t c =
+    let taken = c.in_ok-merge_nest.ensures.ok in
+    let reading = c.records_in_order.ensures.reading in
+    record {
+      follows = one_more c.records_in_order.ensures (nest_takes g.T.Recursive.table)
+          (nest_single g.T.Recursive.table reading (g.met.T.Recursive.single reading))
+          (by_limit c.args.rest) _ _ _ _ _ _ _ _ _ _ _ _ _ c.loop-alloc.invariant.follows
+          (omega (arith, c.remaining.ensures, c.loop-alloc-test.true)) c.in_ok-tag.ensures.ok tt
+          taken.taken taken.left;
+      kept = c.in_ok-merge_nest.ensures.kept ∙ c.in_ok-tag.ensures.kept
+          ∙ c.loop-alloc.invariant.kept;
+    }
+
+pub merge_payload-returns-in_err-merge_nest-clause-err
+    : goal.merge_payload-returns-in_err-merge_nest-clause-err
+merge_payload-returns-in_err-merge_nest-clause-err g t c =
+    let p = err_from_is_err_and c.from_residual-in_err-merge_nest.result
+    c.from_residual-in_err-merge_nest.ensures.1 in
+    rw (p.1, p.2) (λ other. λ charge z new h. no_record c.records_in_order.ensures
+    (nest_takes g.T.Recursive.table) (by_limit c.args.rest) _ _ _ _ _ _ _ _ _
+    c.loop-alloc.invariant.follows c.in_ok-tag.ensures.ok
+    (not_ended c.records_in_order.ensures (by_limit c.args.rest) _ _ _ _
+    (omega (arith, c.remaining.ensures, c.loop-alloc-test.true)) c.in_ok-tag.ensures.ok tt)
+    (c.in_err-merge_nest.ensures.err other) charge z new h.list)
+
+pub merge_payload-returns-then-remaining-rest-clause-err
+    : goal.merge_payload-returns-then-remaining-rest-clause-err
+merge_payload-returns-then-remaining-rest-clause-err g t c = λ other.
+    let whole = at_end c.records_in_order.ensures (nest_takes g.T.Recursive.table)
+    (by_limit c.args.rest) _ _ _ _ _ _ _ c.loop-alloc.invariant.follows
+    (omega (arith, c.remaining.ensures, c.loop-alloc-test.false), refl) in
+    ran_past (nest_takes g.T.Recursive.table) c.one_list.ensures _ _ _ _ _ _ _
+    (omega (arith, c.remaining-2.ensures, c.if-remaining-rest.true)) whole.taken
+
+pub merge_payload-returns-clause-ok : goal.merge_payload-returns-clause-ok
+merge_payload-returns-clause-ok g t c =
+    let whole = at_end c.records_in_order.ensures (nest_takes g.T.Recursive.table)
+    (by_limit c.args.rest) _ _ _ _ _ _ _ c.loop-alloc.invariant.follows
+    (omega (arith, c.remaining.ensures, c.loop-alloc-test.false), refl) in (
+      whole.charge,
+      record {
+        list = whole.taken;
+        within = omega (arith, c.remaining-2.ensures, c.if-remaining-rest.false);
+      },
+      rw (c.ascend.ensures) (ap outer whole.left),
+    )
+
+-- ---- an embedded message
+
+pub merge_embedded-returns-in_err-rest-clause-err : goal.merge_embedded-returns-in_err-rest-clause-err
+merge_embedded-returns-in_err-rest-clause-err g t c =
+    let p = err_from_is_err_and c.from_residual-in_err-rest.result
+    c.from_residual-in_err-rest.ensures.1 in
+    rw (p.1, p.2) (λ other. no_embedded (nest_takes g.T.Recursive.table) c.whole_input.ensures
+    c.levels_and_counts.ensures.levels _ _ _ _ _ (c.in_err-rest.ensures.err _))
+
+pub merge_embedded-returns-clause-ok : goal.merge_embedded-returns-clause-ok
+merge_embedded-returns-clause-ok g t c =
+    on_ok_weaker c.merge_payload.result (λ taken. embedded_taken (nest_takes g.T.Recursive.table)
+    c.whole_input.ensures c.levels_and_counts.ensures.levels _ _ _ _ _ _ _ _
+    c.in_ok-check_wire_type.ensures.ok (charged_within (nest_takes g.T.Recursive.table)
+    c.delimited_is_read.ensures _ _ _ _ _ _ c.in_ok-rest.ensures.ok
+    c.levels_and_counts.ensures.levels _ _ _ taken)) c.merge_payload.ensures.ok
+
+pub merge_embedded-returns-clause-err : goal.merge_embedded-returns-clause-err
+merge_embedded-returns-clause-err g t c =
+    IfErr-weaker c.merge_payload.result _ _ (λ e none other. no_embedded
+    (nest_takes g.T.Recursive.table) c.whole_input.ensures c.levels_and_counts.ensures.levels
+    _ _ _ _ _ (not_within (nest_takes g.T.Recursive.table) c.delimited_is_read.ensures
+    _ _ _ _ _ _ c.in_ok-rest.ensures.ok (none other))) c.merge_payload.ensures.err
+
+-- ---- records, by their place
+
+pub merge_nest-returns-in-Leaf-clause-ok : goal.merge_nest-returns-in-Leaf-clause-ok
+merge_nest-returns-in-Leaf-clause-ok g t c =
+    let table = g.T.Recursive.table in
+    let reading = c.records_in_order.ensures.reading in
+    let place = ap table.place (sym c.field_number.ensures.number) ∙ sym c.in-Leaf.ensures.is in
+    both_ok c.merge_leaf.result (λ h rows. placed_taken table reading
+    (g.met.T.Recursive.single reading) _ _ _ _ _ _ place _ _ _
+    (leaf_taken table (nest_takes table) _ _ _ _ _ _ _ _ rows h)) c.merge_leaf.ensures.ok
+    c.merge_leaf.ensures.rows
+
+pub merge_nest-returns-in-Leaf-clause-err : goal.merge_nest-returns-in-Leaf-clause-err
+merge_nest-returns-in-Leaf-clause-err g t c =
+    let table = g.T.Recursive.table in
+    let reading = c.records_in_order.ensures.reading in
+    let place = ap table.place (sym c.field_number.ensures.number) ∙ sym c.in-Leaf.ensures.is in
+    IfErr-weaker c.merge_leaf.result _ _ (λ e none other. not_placed table reading
+    (g.met.T.Recursive.single reading) _ _ _ _ _ _ place
+    (no_leaf table (nest_takes table) _ _ _ _ _ (none other))) c.merge_leaf.ensures.err
+
+pub merge_nest-returns-in_err-merge_embedded-in-Once-clause-err
+    : goal.merge_nest-returns-in_err-merge_embedded-in-Once-clause-err
+merge_nest-returns-in_err-merge_embedded-in-Once-clause-err g t c =
+    let p = err_from_is_err_and c.from_residual.result c.from_residual.ensures.1 in
+    let table = g.T.Recursive.table in
+    let reading = c.records_in_order.ensures.reading in
+    let place = ap table.place (sym c.field_number.ensures.number) ∙ sym c.in-Once.ensures.is in
+    rw (p.1, p.2) (λ other. not_placed table reading (g.met.T.Recursive.single reading) _ _ _ _ _ _
+    place (not_owned (one_of table c.in-Once.row) (with_one c.in-Once.row) (nest_takes table)
+    _ _ _ _ _ _ c.take-own.ensures.result (c.in_err-merge_embedded-in-Once.ensures.err other)))
+
+pub merge_nest-returns-in_ok-merge_embedded-in-Once-clause-ok
+    : goal.merge_nest-returns-in_ok-merge_embedded-in-Once-clause-ok
+merge_nest-returns-in_ok-merge_embedded-in-Once-clause-ok g t c =
+    let table = g.T.Recursive.table in
+    let reading = c.records_in_order.ensures.reading in
+    let place = ap table.place (sym c.field_number.ensures.number) ∙ sym c.in-Once.ensures.is in
+    on_ok_weaker c.put.result (λ is. placed_taken table reading (g.met.T.Recursive.single reading)
+    _ _ _ _ _ _ place _ _ _ (owned_taken (one_of table c.in-Once.row) (with_one c.in-Once.row)
+    (nest_takes table) _ _ _ _ _ _ c.take-own.ensures.result _ _ _ _
+    (is ∙ same_beside c.in-Once.row (g.T.Recursive.view c.merge_embedded.new.message ∷ [])
+    (g.T.Recursive.view c.take-own.new.self) (g.T.Recursive.view c.args.message.now)
+    c.take-own.ensures.others)
+    c.in_ok-merge_embedded-in-Once.ensures.ok)) c.put.ensures.ok
+
+pub merge_nest-returns-in_err-register_element_memory-in-Each-clause-err
+    : goal.merge_nest-returns-in_err-register_element_memory-in-Each-clause-err
+merge_nest-returns-in_err-register_element_memory-in-Each-clause-err g t c =
+    let r = c.from_residual-in_err-register_element_memory-in-Each in
+    let p = err_from_is_err_and r.result r.ensures.1 in
+    let table = g.T.Recursive.table in
+    let reading = c.records_in_order.ensures.reading in
+    let place = ap table.place (sym c.field_number.ensures.number) ∙ sym c.in-Each.ensures.is in
+    rw (p.1, p.2) (λ other. not_placed table reading (g.met.T.Recursive.single reading) _ _ _ _ _ _
+    place (no_room c.in-Each.bytes length_prefixed (nest_takes table) (empty_of table)
+    (with_more c.in-Each.row) c.limits_add_up.ensures _ _ _ _ (empty_of table) _
+    (λ i. empty_of table) c.in_err-register_element_memory-in-Each.ensures.none_left))
+
+pub merge_nest-returns-in_err-merge_embedded-in-Each-clause-err
+    : goal.merge_nest-returns-in_err-merge_embedded-in-Each-clause-err
+merge_nest-returns-in_err-merge_embedded-in-Each-clause-err g t c =
+    let r = c.from_residual-in_err-merge_embedded-in-Each in
+    let p = err_from_is_err_and r.result r.ensures.1 in
+    let table = g.T.Recursive.table in
+    let reading = c.records_in_order.ensures.reading in
+    let place = ap table.place (sym c.field_number.ensures.number) ∙ sym c.in-Each.ensures.is in
+    rw (p.1, p.2) (λ other. not_placed table reading (g.met.T.Recursive.single reading) _ _ _ _ _ _
+    place (no_more c.in-Each.bytes length_prefixed (nest_takes table) (empty_of table)
+    (with_more c.in-Each.row) c.limits_add_up.ensures _ _ _ _ _ _ c.empty-own.ensures _
+    c.in_ok-register_element_memory-in-Each.ensures.ok
+    (c.in_err-merge_embedded-in-Each.ensures.err other)))
+
+pub merge_nest-returns-in_ok-merge_embedded-in-Each-clause-ok
+    : goal.merge_nest-returns-in_ok-merge_embedded-in-Each-clause-ok
+merge_nest-returns-in_ok-merge_embedded-in-Each-clause-ok g t c =
+    let table = g.T.Recursive.table in
+    let reading = c.records_in_order.ensures.reading in
+    let place = ap table.place (sym c.field_number.ensures.number) ∙ sym c.in-Each.ensures.is in
+    on_ok_weaker c.push.result (λ is. placed_taken table reading (g.met.T.Recursive.single reading)
+    _ _ _ _ _ _ place _ _ _ (each_taken c.in-Each.bytes length_prefixed (nest_takes table)
+    (empty_of table) (with_more c.in-Each.row) c.limits_add_up.ensures _ _ _ _ _ _
+    c.empty-own.ensures _ _ _ _ _ c.in_ok-register_element_memory-in-Each.ensures.ok
+    c.in_ok-register_element_memory-in-Each.ensures.taken is
+    c.in_ok-merge_embedded-in-Each.ensures.ok)) c.push.ensures.ok

@@ -1,0 +1,29 @@
+use Rattle.std.proofs.Common.{◌≡◌, ◌+◌, ◌*◌, length}
+use Rattle.wire_codec.specs.Ending.{by_limit}
+use Rattle.wire_codec.proofs.Lists.{Follows}
+use Rattle.wire_fields.specs.NestTable.{nest_takes}
+use Rattle.wire_fields.proofs.recursive.merge.+merge.Given as goal
+
+-- ---- levels: a level down is less, whatever is called there
+
+abbrev pub decreases-merge_embedded : goal.decreases-merge_embedded
+decreases-merge_embedded g l = 3 * l.context.now.depth + 1
+
+abbrev pub decreases-merge_nest : goal.decreases-merge_nest
+decreases-merge_nest g l = 3 * l.context.now.depth + 2
+
+abbrev pub decreases-merge_payload : goal.decreases-merge_payload
+decreases-merge_payload g l = 3 * l.context.now.depth + 3
+
+-- ---- what is taken from here on is what is taken from the start
+
+abbrev pub invariant-merge_payload-loop-alloc : goal.invariant-merge_payload-loop-alloc
+invariant-merge_payload-loop-alloc g l = record {
+  follows : Follows (nest_takes g.T.Recursive.table) (by_limit l.fn.rest) l.fn.context
+      (g.T.Recursive.view l.fn.message) (g.B.Buf.unread l.fn.buf) l.context
+      (g.T.Recursive.view l.message) (g.B.Buf.unread l.buf);
+  kept : g.B.Buf.kept l.buf ≡ g.B.Buf.kept l.fn.buf;
+}
+
+abbrev pub decreases-merge_payload-loop-alloc : goal.decreases-merge_payload-loop-alloc
+decreases-merge_payload-loop-alloc g l = length (g.B.Buf.unread l.buf)

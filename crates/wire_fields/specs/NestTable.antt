@@ -1,0 +1,158 @@
+-- A message type that holds itself, as a table: its records, and what it makes of a record.
+use Rattle.std.proofs.Common.{◌≡◌, ℕ, suc, [], ◌∷◌, ◌++◌, ◌<◌, ap, ◌∙◌, sym}
+use Rattle.std.specs.Prelude.{Bool, true, false}
+use Rattle.wire_codec.specs.Folds.{Step, IsSingle}
+use Rattle.wire_codec.specs.Limits.{Charge, both, element_of}
+use Rattle.wire_codec.specs.Records.{Records, none, joined_records}
+use Rattle.wire_codec.specs.TakingLaws.{OneReading}
+use Rattle.wire_fields.specs.declared.recursive.Place.{Place}
+use Rattle.wire_fields.specs.declared.recursive.Place.TheVariants.{Leaf, Once, Each}
+use Rattle.wire_fields.specs.Least.{Within, at_some, Rising, Grows, least, least_single, inside_more, inside_finite}
+use Rattle.wire_fields.specs.Messages.{length_prefixed, inside, or_else, inside_single}
+use Rattle.wire_fields.specs.Messages.{message_record}
+use Rattle.wire_fields.specs.Nest.{Nest, nest, Rows, done, row, Row, end, ahead, leaf_of, rows_of}
+use Rattle.wire_fields.specs.Nest.{row_at, with_row, first_of, empty_rows, same_nest}
+
+-- The fields of the type itself are embedded messages, each with a row of the value. All other
+-- fields, with the unknown ones, are the leaf, which is a table as of any message; they are written
+-- in runs: before the first row, behind the first, and so on.
+pub record Table (L : Type 0) : Type 1 where
+  pub default : L
+  pub takes : Step L
+  pub run : ℕ → L → Records
+  -- how many rows there are, their field numbers, and which have one message at most
+  pub rows : ℕ
+  pub number : ℕ → ℕ
+  pub once : ℕ → Bool
+  -- where the records of a field number go
+  pub place : ℕ → Place
+
+-- there is such a row
+abbrev pub IsThere : {L : Type 0} → Table L → Place → Type 0
+IsThere t Leaf = Unit {0}
+IsThere t (Once i) = (i < t.rows) × (t.once i ≡ true)
+IsThere t (Each i bytes) = (i < t.rows) × (t.once i ≡ false)
+
+-- one place or another
+abbrev pub if_number : Bool → Place → Place → Place
+if_number true here there = here
+if_number false here there = there
+
+-- the value of no records
+abbrev pub empty_of : {L : Type 0} → Table L → Nest L
+empty_of t = nest t.default (empty_rows t.rows)
+
+-- ---- records
+
+abbrev mutual
+  pub nest_records : {L : Type 0} → Table L → Nest L → Records
+  nest_records t (nest l rows) = joined_records (t.run 0 l) (rows_records t l 0 rows)
+
+  -- the rows from the one at i on, and the runs behind them
+  pub rows_records : {L : Type 0} → Table L → L → ℕ → Rows L → Records
+  rows_records t l i done = none
+  rows_records t l i (row r rs) =
+      joined_records (row_records t (t.number i) r)
+      (joined_records (t.run (suc i) l) (rows_records t l (suc i) rs))
+
+  -- an embedded message for each
+  pub row_records : {L : Type 0} → Table L → ℕ → Row L → Records
+  row_records t n end = none
+  row_records t n (ahead m ms) =
+      joined_records (message_record length_prefixed n (nest_records t m)) (row_records t n ms)
+
+-- ---- what is taken
+
+-- a message of the type itself takes the payload, and is put into the value with its charge
+abbrev pub owned : {V : Type 0} → (V → V) → (V → V → V) → (Charge → Charge) → Step V → Step V
+owned {V} start put price step m n p c z =
+    (after : V) × (one : Charge) × inside length_prefixed step (start m) n p one after
+    × (c ≡ price one) × (z ≡ put m after)
+
+-- the message of a row that has one at most, or a new one
+abbrev pub one_of : {L : Type 0} → Table L → ℕ → Nest L → Nest L
+one_of t i m = or_else (empty_of t) (first_of (row_at i m))
+
+abbrev pub with_one : {L : Type 0} → ℕ → Nest L → Nest L → Nest L
+with_one i m after = with_row i (after ∷ []) m
+
+abbrev pub with_more : {L : Type 0} → ℕ → Nest L → Nest L → Nest L
+with_more i m after = with_row i (row_at i m ++ after ∷ []) m
+
+-- the charge of one of many, with that for its place in memory
+abbrev pub placed : ℕ → Charge → Charge
+placed bytes one = both (element_of bytes) one
+
+-- A record of the leaf is the leaf's, and the rows stay. Once: the message that is there takes the
+-- payload, or a new one does. Each: a new one does, which is charged for its place in memory
+-- besides, and is put behind those that are there.
+abbrev pub takes_at : {L : Type 0} → Table L → Step (Nest L) → Place → Step (Nest L)
+takes_at t step Leaf m n p c z =
+    t.takes (leaf_of m) n p c (leaf_of z) × (rows_of z ≡ rows_of m)
+takes_at t step (Once i) m n p c z =
+    owned (one_of t i) (with_one i) (λ one. one) step m n p c z
+takes_at t step (Each i bytes) m n p c z =
+    owned (λ m. empty_of t) (with_more i) (placed bytes) step m n p c z
+
+-- what a value makes of a record, by what those in it make of theirs
+abbrev pub level : {L : Type 0} → Table L → Step (Nest L) → Step (Nest L)
+level t step m n p c z = takes_at t step (t.place n) m n p c z
+
+abbrev pub nest_takes : {L : Type 0} → Table L → Step (Nest L)
+nest_takes t = least (level t)
+
+-- ---- single
+
+module _ {V : Type 0} (start : V → V) (put : V → V → V) (price : Charge → Charge) where
+  owned_more : (a b : Step V) → Within a b
+      → Within (owned start put price a) (owned start put price b)
+  owned_more a b on m z n p c (after, one, h, charged, is) =
+      (after, one, inside_more a b on length_prefixed (start m) after n p one h, charged, is)
+
+  owned_finite : (chain : ℕ → Step V) → Rising chain
+      → Within (owned start put price (at_some chain)) (at_some (λ h. owned start put price (chain h)))
+  owned_finite chain rising m z n p c (after, one, h, charged, is) =
+      let (k, s) = inside_finite chain rising length_prefixed (start m) after n p one h in
+      (k, (after, one, s, charged, is))
+
+  owned_single : OneReading → (a : Step V) → IsSingle a → IsSingle (owned start put price a)
+  owned_single reading a single m u z w n p c d (after, one, h, charged, is) (after_2, one_2, k, charged_2, is_2) =
+      let agree = inside_single length_prefixed a reading single (start m) (start u) after after_2 n
+      p one one_2 h k in (
+        charged ∙ ap price agree.0 ∙ sym charged_2,
+        λ e. is ∙ ap (put m) (agree.1 (ap start e)) ∙ ap (λ (x : V). put x after_2) e ∙ sym is_2,
+      )
+
+module _ {L : Type 0} (t : Table L) (reading : OneReading) (single : IsSingle t.takes) where
+  at_more : (place : Place) (a b : Step (Nest L)) → Within a b
+      → Within (takes_at t a place) (takes_at t b place)
+  at_more Leaf a b on m z n p c h = h
+  at_more (Once i) a b on m z n p c h = owned_more (one_of t i) (with_one i) (λ one. one) a b on m z n p c h
+  at_more (Each i bytes) a b on m z n p c h = owned_more (λ m. empty_of t) (with_more i) (placed bytes) a b on m z n p c h
+
+  at_finite : (place : Place) (chain : ℕ → Step (Nest L)) → Rising chain
+      → Within (takes_at t (at_some chain) place) (at_some (λ h. takes_at t (chain h) place))
+  at_finite Leaf chain rising m z n p c h = (0, h)
+  at_finite (Once i) chain rising m z n p c h = owned_finite (one_of t i) (with_one i) (λ one. one) chain rising m z n p c h
+  at_finite (Each i bytes) chain rising m z n p c h = owned_finite (λ m. empty_of t) (with_more i) (placed bytes) chain rising m z n p c h
+
+  at_single : (place : Place) (a : Step (Nest L)) → IsSingle a → IsSingle (takes_at t a place)
+  at_single Leaf a one m u z w n p c d h k =
+      let same = single (leaf_of m) (leaf_of u) (leaf_of z) (leaf_of w) n p c d h.0 k.0 in (
+        same.0,
+        λ e. same_nest z w (same.1 (ap leaf_of e)) (h.1 ∙ ap rows_of e ∙ sym k.1),
+      )
+  at_single (Once i) a one m u z w n p c d h k =
+      owned_single (one_of t i) (with_one i) (λ one. one) reading a one m u z w n p c d h k
+  at_single (Each i bytes) a one m u z w n p c d h k =
+      owned_single (λ m. empty_of t) (with_more i) (placed bytes) reading a one m u z w n p c d h k
+
+  pub grows : Grows (level t)
+  grows = record {
+    more = λ a b on m z n p c h. at_more (t.place n) a b on m z n p c h;
+    single = λ a one m u z w n p c d h k. at_single (t.place n) a one m u z w n p c d h k;
+    finite = λ chain rising m z n p c h. at_finite (t.place n) chain rising m z n p c h;
+  }
+
+  pub nest_single : IsSingle (nest_takes t)
+  nest_single = least_single (level t) grows

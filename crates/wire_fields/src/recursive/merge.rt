@@ -1,0 +1,135 @@
+//! A message that holds itself, from bytes.
+ghost use Rattle.std.specs.Prelude.{◌≡◌, ◌≢◌, ◌-◌, ◌^◌, ◌<◌, OnOk, OnErr, IfOk, IfErr};
+ghost use Rattle.wire_codec.specs.DecodeError.TheVariants.{OutOfMemory};
+ghost use Rattle.wire_codec.specs.Limits.{Charge, NoCountGrew, left_after, outer};
+ghost use Rattle.wire_codec.specs.Nested.{TakesEmbedded};
+ghost use Rattle.wire_codec.specs.TagView.{tag_number, tag_type};
+ghost use Rattle.wire_codec.specs.Taking.{TakesRecord, IsCharged, NotTaken};
+ghost use Rattle.wire_fields.specs.Messages.{length_prefixed, inside};
+ghost use Rattle.wire_fields.specs.Nest.{Nest};
+ghost use Rattle.wire_fields.specs.NestPayload.{Enters, TakesWithin};
+ghost use Rattle.wire_fields.specs.NestTable.{nest_takes};
+
+use super::{Place, Recursive};
+use bytes::Buf;
+use std::alloc::Global;
+use wire_codec::{
+    DecodeContext, DecodeError, MAX_MESSAGE_BYTES, Tag, WireType, check_wire_type, decode_length,
+    laws,
+};
+
+/// What `merge_field` of a message that holds itself does.
+#[cycle(merge)]
+pub fn merge_nest<T: Recursive, B: Buf>(
+    message: &mut T,
+    alloc: Global,
+    tag: Tag,
+    buf: &mut B,
+    context: &mut DecodeContext,
+) -> Result<(), DecodeError>
+    ensures ok { OnOk result (IsCharged context.old context.new (λ c.
+        TakesRecord (nest_takes T.table) context.old (tag_number tag) (tag_type tag)
+        (T.view message.old) (B.unread buf.old) c (T.view message.new) (B.unread buf.new))) }
+    ensures err { IfErr result (λ e. e ≢ OutOfMemory → NotTaken
+        (TakesRecord (nest_takes T.table) context.old (tag_number tag) (tag_type tag)
+        (T.view message.old) (B.unread buf.old))) }
+    ensures counts { OnErr result (NoCountGrew context.old context.new) }
+    ensures kept { B.kept buf.new ≡ B.kept buf.old }
+{
+    laws::records_in_order();
+    laws::grammar::limits_add_up();
+    match T::place(tag.field_number()) {
+        Place::Leaf => message.merge_leaf(alloc, tag, buf, context),
+        Place::Once(row) => {
+            let mut own = message.take(alloc, row);
+            merge_embedded(&mut own, alloc, tag, buf, context)?;
+            message.put(alloc, row, own)
+        }
+        Place::Each(row, bytes) => {
+            context.register_element_memory(bytes)?;
+            let mut own = T::empty(alloc);
+            merge_embedded(&mut own, alloc, tag, buf, context)?;
+            message.push(row, own)
+        }
+    }
+}
+
+// Reads the payload behind this tag and takes its records into the message, one level down.
+#[cycle(merge)]
+fn merge_embedded<T: Recursive, B: Buf>(
+    message: &mut T,
+    alloc: Global,
+    tag: Tag,
+    buf: &mut B,
+    context: &mut DecodeContext,
+) -> Result<(), DecodeError>
+    ensures ok { OnOk result (IsCharged context.old context.new (λ c.
+        TakesRecord (inside length_prefixed (nest_takes T.table)) context.old (tag_number tag)
+        (tag_type tag) (T.view message.old) (B.unread buf.old) c (T.view message.new)
+        (B.unread buf.new))) }
+    ensures err { IfErr result (λ e. e ≢ OutOfMemory → NotTaken
+        (TakesRecord (inside length_prefixed (nest_takes T.table)) context.old (tag_number tag)
+        (tag_type tag) (T.view message.old) (B.unread buf.old))) }
+    ensures counts { OnErr result (NoCountGrew context.old context.new) }
+    ensures kept { B.kept buf.new ≡ B.kept buf.old }
+{
+    laws::grammar::whole_input();
+    laws::delimited_is_read();
+    laws::levels_and_counts();
+    check_wire_type(tag, WireType::LengthDelimited)?;
+    let rest = enter_payload::<T, B>(buf, context)?;
+    merge_payload(message, alloc, buf, context, rest)
+}
+
+// Takes a level, and reads the length of an embedded message: answers how many bytes stand behind
+// its payload.
+fn enter_payload<T: Recursive, B: Buf>(
+    buf: &mut B,
+    context: &mut DecodeContext,
+) -> Result<usize, DecodeError>
+    ensures ok { IfOk result (Enters context.old context.new (B.unread buf.old)
+        (B.unread buf.new)) }
+    ensures room { OnOk result (context.new.depth < 2 ^ 32 - 1) }
+    ensures err { OnErr result ((m : Nest T.Leaf)
+        → NotTaken (TakesEmbedded (nest_takes T.table) context.old m (B.unread buf.old))) }
+    ensures counts { OnErr result (NoCountGrew context.old context.new) }
+    ensures kept { B.kept buf.new ≡ B.kept buf.old }
+{
+    laws::delimited_is_read();
+    laws::levels_and_counts();
+    context.descend()?;
+    let len = decode_length(buf, Some(MAX_MESSAGE_BYTES as usize))?;
+    Ok(buf.remaining() - len)
+}
+
+// Takes the records of a payload with `rest` bytes behind it, and gives its level back. A record
+// that runs past the payload is refused.
+#[cycle(merge)]
+fn merge_payload<T: Recursive, B: Buf>(
+    message: &mut T,
+    alloc: Global,
+    buf: &mut B,
+    context: &mut DecodeContext,
+    rest: usize,
+) -> Result<(), DecodeError>
+    requires { context.old.depth < 2 ^ 32 - 1 }
+    ensures ok { OnOk result ((c : Charge) × TakesWithin (nest_takes T.table) context.old rest
+        (T.view message.old) (B.unread buf.old) c (T.view message.new) (B.unread buf.new)
+        × (context.new ≡ outer (left_after context.old c))) }
+    ensures err { IfErr result (λ e. e ≢ OutOfMemory → NotTaken (TakesWithin (nest_takes T.table)
+        context.old rest (T.view message.old) (B.unread buf.old))) }
+    ensures counts { OnErr result (NoCountGrew context.old context.new) }
+    ensures kept { B.kept buf.new ≡ B.kept buf.old }
+{
+    laws::records_in_order();
+    laws::grammar::one_list();
+    while buf.remaining() > rest {
+        let tag = Tag::decode(buf)?;
+        merge_nest(message, alloc, tag, buf, context)?;
+    }
+    if buf.remaining() < rest {
+        return Err(DecodeError::UnexpectedEof);
+    }
+    context.ascend();
+    Ok(())
+}

@@ -1,0 +1,87 @@
+//! A message that holds itself, written.
+ghost use Rattle.std.specs.Prelude.{◌≡◌, ◌≤◌, length, map, OnOk};
+ghost use Rattle.wire_codec.specs.FieldNumber.{IsFieldNumber};
+ghost use Rattle.wire_codec.specs.Records.{text, text_size};
+ghost use Rattle.wire_codec.specs.Sizes.{sizes};
+ghost use Rattle.wire_codec.specs.Tape.{NextAre, advanced};
+ghost use Rattle.wire_codec.specs.Writes.{Writes};
+ghost use Rattle.wire_fields.specs.Messages.{length_prefixed, message_record, message_each};
+ghost use Rattle.wire_fields.specs.NestTable.{nest_records};
+
+use super::Recursive;
+use wire_codec::{EncodeError, EncodeSink, SizeCache, laws, put_len_delimited_header};
+
+/// What `write_to` of a message that holds itself does.
+#[cycle(write)]
+pub fn write_nest<T: Recursive, S: EncodeSink>(
+    message: &T,
+    cache: &mut SizeCache,
+    sink: &mut S,
+) -> Result<(), EncodeError>
+    requires sizes { NextAre (sizes (nest_records T.table (T.view message.now))) cache.old }
+    requires size { text_size (nest_records T.table (T.view message.now)) ≤ 2147483647 }
+    ensures written { Writes S.most (text (nest_records T.table (T.view message.now)))
+        (S.bytes_of sink.old) (S.bytes_of sink.new) result }
+    ensures read { OnOk result (cache.new ≡ advanced cache.old
+        (length (sizes (nest_records T.table (T.view message.now))))) }
+{
+    laws::joined_records_add_up();
+    laws::piece_by_piece();
+    message.put_run(0, cache, sink)?;
+    for row in 0..T::rows() {
+        put_row(T::number(row), message.row(row), cache, sink)?;
+        message.put_run(row + 1, cache, sink)?;
+    }
+    Ok(())
+}
+
+// Writes the records of a row.
+#[cycle(write)]
+fn put_row<T: Recursive, S: EncodeSink>(
+    number: u32,
+    messages: &[T],
+    cache: &mut SizeCache,
+    sink: &mut S,
+) -> Result<(), EncodeError>
+    requires number { IsFieldNumber number }
+    requires sizes { NextAre (sizes (message_each length_prefixed (nest_records T.table) number
+        (map T.view messages.now))) cache.old }
+    requires size { text_size (message_each length_prefixed (nest_records T.table) number
+        (map T.view messages.now)) ≤ 2147483647 }
+    ensures written { Writes S.most (text (message_each length_prefixed (nest_records T.table)
+        number (map T.view messages.now))) (S.bytes_of sink.old) (S.bytes_of sink.new) result }
+    ensures read { OnOk result (cache.new ≡ advanced cache.old (length (sizes
+        (message_each length_prefixed (nest_records T.table) number (map T.view messages.now))))) }
+{
+    laws::joined_records_add_up();
+    laws::piece_by_piece();
+    for message in messages {
+        put_embedded(number, message, cache, sink)?;
+    }
+    Ok(())
+}
+
+// Writes an embedded message: its size, which the cache has next, and its encoding.
+#[cycle(write)]
+fn put_embedded<T: Recursive, S: EncodeSink>(
+    number: u32,
+    message: &T,
+    cache: &mut SizeCache,
+    sink: &mut S,
+) -> Result<(), EncodeError>
+    requires number { IsFieldNumber number }
+    requires sizes { NextAre (sizes (message_record length_prefixed number
+        (nest_records T.table (T.view message.now)))) cache.old }
+    requires size { text_size (message_record length_prefixed number
+        (nest_records T.table (T.view message.now))) ≤ 2147483647 }
+    ensures written { Writes S.most (text (message_record length_prefixed number
+        (nest_records T.table (T.view message.now)))) (S.bytes_of sink.old) (S.bytes_of sink.new)
+        result }
+    ensures read { OnOk result (cache.new ≡ advanced cache.old (length (sizes
+        (message_record length_prefixed number (nest_records T.table (T.view message.now)))))) }
+{
+    laws::piece_by_piece();
+    let len = cache.consume_next();
+    put_len_delimited_header(number, u64::from(len), sink)?;
+    write_nest(message, cache, sink)
+}
