@@ -90,9 +90,9 @@ abbrev pub field_descriptor_proto-proto3_optional-range : Range Bool
 field_descriptor_proto-proto3_optional-range =
     bool_range
 
-abbrev pub FieldDescriptorProto-Known : Type 0
-FieldDescriptorProto-Known =
-    (((((List ℕ)
+abbrev pub FieldDescriptorProto-Fields-1-To-8 : Type 0
+FieldDescriptorProto-Fields-1-To-8 =
+    ((((List ℕ)
     × (List ℕ))
     × (ℤ
     × ℤ))
@@ -100,6 +100,34 @@ FieldDescriptorProto-Known =
     × (List ℕ))
     × ((List ℕ)
     × (Option FieldOptions-Value))))
+
+abbrev pub field_descriptor_proto-fields-1-to-8-value : FieldDescriptorProto → FieldDescriptorProto-Fields-1-To-8
+field_descriptor_proto-fields-1-to-8-value m = (
+  (
+    (
+      string_bytes m.name,
+      string_bytes m.extendee,
+    ),
+    (
+      m.number,
+      m.label,
+    ),
+  ),
+  (
+    (
+      m.type_,
+      string_bytes m.type_name,
+    ),
+    (
+      string_bytes m.default_value,
+      boxed_value field_options-value m.options,
+    ),
+  ),
+)
+
+abbrev pub FieldDescriptorProto-Known : Type 0
+FieldDescriptorProto-Known =
+    (FieldDescriptorProto-Fields-1-To-8
     × ((Option ℤ)
     × Bool))
 
@@ -109,28 +137,7 @@ FieldDescriptorProto-Value = FieldDescriptorProto-Known × Fields
 abbrev pub field_descriptor_proto-value : FieldDescriptorProto → FieldDescriptorProto-Value
 field_descriptor_proto-value m = (
   (
-    (
-      (
-        (
-          string_bytes m.name,
-          string_bytes m.extendee,
-        ),
-        (
-          m.number,
-          m.label,
-        ),
-      ),
-      (
-        (
-          m.type_,
-          string_bytes m.type_name,
-        ),
-        (
-          string_bytes m.default_value,
-          boxed_value field_options-value m.options,
-        ),
-      ),
-    ),
+    field_descriptor_proto-fields-1-to-8-value m,
     (
       option_map (λ v. v) m.oneof_index,
       m.proto3_optional,
@@ -169,16 +176,20 @@ oneof_index-of-field_descriptor_proto m = m.0.1.0
 abbrev pub proto3_optional-of-field_descriptor_proto : FieldDescriptorProto-Value → Bool
 proto3_optional-of-field_descriptor_proto m = m.0.1.1
 
-abbrev pub field_descriptor_proto-known : Shape FieldDescriptorProto-Known
-field_descriptor_proto-known =
-    two (two (two (two (known 1 field_descriptor_proto-name-kind)
+abbrev pub field_descriptor_proto-fields-1-to-8 : Shape FieldDescriptorProto-Fields-1-To-8
+field_descriptor_proto-fields-1-to-8 =
+    two (two (two (known 1 field_descriptor_proto-name-kind)
     (known 2 field_descriptor_proto-extendee-kind))
     (two (known 3 field_descriptor_proto-number-kind)
     (known 4 field_descriptor_proto-label-kind)))
     (two (two (known 5 field_descriptor_proto-type_-kind)
     (known 6 field_descriptor_proto-type_name-kind))
     (two (known 7 field_descriptor_proto-default_value-kind)
-    (known 8 field_descriptor_proto-options-kind))))
+    (known 8 field_descriptor_proto-options-kind)))
+
+abbrev pub field_descriptor_proto-known : Shape FieldDescriptorProto-Known
+field_descriptor_proto-known =
+    two (field_descriptor_proto-fields-1-to-8)
     (two (known 9 field_descriptor_proto-oneof_index-kind)
     (known 17 field_descriptor_proto-proto3_optional-kind))
 

@@ -114,9 +114,9 @@ abbrev pub file_descriptor_proto-edition-range : Range ℤ
 file_descriptor_proto-edition-range =
     int32_range
 
-abbrev pub FileDescriptorProto-Known : Type 0
-FileDescriptorProto-Known =
-    (((((List ℕ)
+abbrev pub FileDescriptorProto-Fields-1-To-8 : Type 0
+FileDescriptorProto-Fields-1-To-8 =
+    ((((List ℕ)
     × (List ℕ))
     × ((List (List ℕ))
     × (List DescriptorProto-Value)))
@@ -124,6 +124,34 @@ FileDescriptorProto-Known =
     × (List (List ℕ)))
     × ((List FieldDescriptorProto-Value)
     × (Option FileOptions-Value))))
+
+abbrev pub file_descriptor_proto-fields-1-to-8-value : FileDescriptorProto → FileDescriptorProto-Fields-1-To-8
+file_descriptor_proto-fields-1-to-8-value m = (
+  (
+    (
+      string_bytes m.name,
+      string_bytes m.package,
+    ),
+    (
+      map (λ s. string_bytes s) m.dependency.items,
+      map descriptor_proto-value m.message_type.items,
+    ),
+  ),
+  (
+    (
+      map enum_descriptor_proto-value m.enum_type.items,
+      map (λ b. b.items) m.service.items,
+    ),
+    (
+      map field_descriptor_proto-value m.extension.items,
+      boxed_value file_options-value m.options,
+    ),
+  ),
+)
+
+abbrev pub FileDescriptorProto-Known : Type 0
+FileDescriptorProto-Known =
+    (FileDescriptorProto-Fields-1-To-8
     × (((Option SourceCodeInfo-Value)
     × (List ℕ))
     × ℤ))
@@ -134,28 +162,7 @@ FileDescriptorProto-Value = FileDescriptorProto-Known × Fields
 abbrev pub file_descriptor_proto-value : FileDescriptorProto → FileDescriptorProto-Value
 file_descriptor_proto-value m = (
   (
-    (
-      (
-        (
-          string_bytes m.name,
-          string_bytes m.package,
-        ),
-        (
-          map (λ s. string_bytes s) m.dependency.items,
-          map descriptor_proto-value m.message_type.items,
-        ),
-      ),
-      (
-        (
-          map enum_descriptor_proto-value m.enum_type.items,
-          map (λ b. b.items) m.service.items,
-        ),
-        (
-          map field_descriptor_proto-value m.extension.items,
-          boxed_value file_options-value m.options,
-        ),
-      ),
-    ),
+    file_descriptor_proto-fields-1-to-8-value m,
     (
       (
         boxed_value source_code_info-value m.source_code_info,
@@ -200,16 +207,20 @@ syntax_-of-file_descriptor_proto m = m.0.1.0.1
 abbrev pub edition-of-file_descriptor_proto : FileDescriptorProto-Value → ℤ
 edition-of-file_descriptor_proto m = m.0.1.1
 
-abbrev pub file_descriptor_proto-known : Shape FileDescriptorProto-Known
-file_descriptor_proto-known =
-    two (two (two (two (known 1 file_descriptor_proto-name-kind)
+abbrev pub file_descriptor_proto-fields-1-to-8 : Shape FileDescriptorProto-Fields-1-To-8
+file_descriptor_proto-fields-1-to-8 =
+    two (two (two (known 1 file_descriptor_proto-name-kind)
     (known 2 file_descriptor_proto-package-kind))
     (two (known 3 file_descriptor_proto-dependency-kind)
     (known 4 file_descriptor_proto-message_type-kind)))
     (two (two (known 5 file_descriptor_proto-enum_type-kind)
     (known 6 file_descriptor_proto-service-kind))
     (two (known 7 file_descriptor_proto-extension-kind)
-    (known 8 file_descriptor_proto-options-kind))))
+    (known 8 file_descriptor_proto-options-kind)))
+
+abbrev pub file_descriptor_proto-known : Shape FileDescriptorProto-Known
+file_descriptor_proto-known =
+    two (file_descriptor_proto-fields-1-to-8)
     (two (two (known 9 file_descriptor_proto-source_code_info-kind)
     (known 12 file_descriptor_proto-syntax_-kind))
     (known 14 file_descriptor_proto-edition-kind))

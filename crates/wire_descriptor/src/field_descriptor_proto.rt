@@ -7,7 +7,7 @@ use wire_codec::{
     UnknownFields,
 };
 use wire_fields::{
-    Bool, Embedded, Implicit, Int32, Kind, Known, Optional, Rest, Text, keep, measure, write,
+    Bool, Embedded, Implicit, Int32, Kind, Known, Optional, Parts, Rest, Text, keep, measure, write,
 };
 
 /// The message `FieldDescriptorProto`.
@@ -72,37 +72,8 @@ impl Message for FieldDescriptorProto {
     }
 
     fn compute_size(&self, cache: &mut SizeCache) -> Result<u32, EncodeError> {
-        let field_1: Known<Implicit<Text>> = Known {
-            number: 1,
-            held: &self.name,
-        };
-        let field_2: Known<Implicit<Text>> = Known {
-            number: 2,
-            held: &self.extendee,
-        };
-        let field_3: Known<Implicit<Int32>> = Known {
-            number: 3,
-            held: &self.number,
-        };
-        let field_4: Known<Implicit<Int32>> = Known {
-            number: 4,
-            held: &self.label,
-        };
-        let field_5: Known<Implicit<Int32>> = Known {
-            number: 5,
-            held: &self.type_,
-        };
-        let field_6: Known<Implicit<Text>> = Known {
-            number: 6,
-            held: &self.type_name,
-        };
-        let field_7: Known<Implicit<Text>> = Known {
-            number: 7,
-            held: &self.default_value,
-        };
-        let field_8: Known<Embedded<FieldOptions>> = Known {
-            number: 8,
-            held: &self.options,
+        let fields_1_to_8 = FieldDescriptorProtoFields1To8 {
+            message: self,
         };
         let field_9: Known<Optional<Int32>> = Known {
             number: 9,
@@ -112,14 +83,7 @@ impl Message for FieldDescriptorProto {
             number: 17,
             held: &self.proto3_optional,
         };
-        let fields_1_to_2 = (field_1, field_2);
-        let fields_3_to_4 = (field_3, field_4);
-        let fields_5_to_6 = (field_5, field_6);
-        let fields_7_to_8 = (field_7, field_8);
         let fields_9_to_17 = (field_9, field_17);
-        let fields_1_to_4 = (fields_1_to_2, fields_3_to_4);
-        let fields_5_to_8 = (fields_5_to_6, fields_7_to_8);
-        let fields_1_to_8 = (fields_1_to_4, fields_5_to_8);
         let fields_1_to_17 = (fields_1_to_8, fields_9_to_17);
         let rest = Rest {
             fields: &self.unknown,
@@ -132,37 +96,8 @@ impl Message for FieldDescriptorProto {
         cache: &mut SizeCache,
         sink: &mut S,
     ) -> Result<(), EncodeError> {
-        let field_1: Known<Implicit<Text>> = Known {
-            number: 1,
-            held: &self.name,
-        };
-        let field_2: Known<Implicit<Text>> = Known {
-            number: 2,
-            held: &self.extendee,
-        };
-        let field_3: Known<Implicit<Int32>> = Known {
-            number: 3,
-            held: &self.number,
-        };
-        let field_4: Known<Implicit<Int32>> = Known {
-            number: 4,
-            held: &self.label,
-        };
-        let field_5: Known<Implicit<Int32>> = Known {
-            number: 5,
-            held: &self.type_,
-        };
-        let field_6: Known<Implicit<Text>> = Known {
-            number: 6,
-            held: &self.type_name,
-        };
-        let field_7: Known<Implicit<Text>> = Known {
-            number: 7,
-            held: &self.default_value,
-        };
-        let field_8: Known<Embedded<FieldOptions>> = Known {
-            number: 8,
-            held: &self.options,
+        let fields_1_to_8 = FieldDescriptorProtoFields1To8 {
+            message: self,
         };
         let field_9: Known<Optional<Int32>> = Known {
             number: 9,
@@ -172,14 +107,7 @@ impl Message for FieldDescriptorProto {
             number: 17,
             held: &self.proto3_optional,
         };
-        let fields_1_to_2 = (field_1, field_2);
-        let fields_3_to_4 = (field_3, field_4);
-        let fields_5_to_6 = (field_5, field_6);
-        let fields_7_to_8 = (field_7, field_8);
         let fields_9_to_17 = (field_9, field_17);
-        let fields_1_to_4 = (fields_1_to_2, fields_3_to_4);
-        let fields_5_to_8 = (fields_5_to_6, fields_7_to_8);
-        let fields_1_to_8 = (fields_1_to_4, fields_5_to_8);
         let fields_1_to_17 = (fields_1_to_8, fields_9_to_17);
         let rest = Rest {
             fields: &self.unknown,
@@ -233,5 +161,104 @@ impl Message for FieldDescriptorProto {
         <Optional<Int32> as Kind>::clear(&mut self.oneof_index);
         <Implicit<Bool> as Kind>::clear(&mut self.proto3_optional);
         self.unknown.clear();
+    }
+}
+
+// The fields 1 to 8 of a `FieldDescriptorProto`.
+#[derive(Drop)]
+struct FieldDescriptorProtoFields1To8<'a> {
+    message: &'a FieldDescriptorProto,
+}
+
+impl<'a> Parts for FieldDescriptorProtoFields1To8<'a> {
+    ghost use Rattle.wire_descriptor.specs.FieldDescriptorProto.{field_descriptor_proto-fields-1-to-8};
+    ghost use Rattle.wire_descriptor.specs.FieldDescriptorProto.{field_descriptor_proto-fields-1-to-8-value};
+
+    ghost records = { λ p. field_descriptor_proto-fields-1-to-8.records (field_descriptor_proto-fields-1-to-8-value p.message.now) };
+
+    fn len(&self, cache: &mut SizeCache) -> Result<u64, EncodeError> {
+        let field_1: Known<Implicit<Text>> = Known {
+            number: 1,
+            held: &self.message.name,
+        };
+        let field_2: Known<Implicit<Text>> = Known {
+            number: 2,
+            held: &self.message.extendee,
+        };
+        let field_3: Known<Implicit<Int32>> = Known {
+            number: 3,
+            held: &self.message.number,
+        };
+        let field_4: Known<Implicit<Int32>> = Known {
+            number: 4,
+            held: &self.message.label,
+        };
+        let field_5: Known<Implicit<Int32>> = Known {
+            number: 5,
+            held: &self.message.type_,
+        };
+        let field_6: Known<Implicit<Text>> = Known {
+            number: 6,
+            held: &self.message.type_name,
+        };
+        let field_7: Known<Implicit<Text>> = Known {
+            number: 7,
+            held: &self.message.default_value,
+        };
+        let field_8: Known<Embedded<FieldOptions>> = Known {
+            number: 8,
+            held: &self.message.options,
+        };
+        let fields_1_to_2 = (field_1, field_2);
+        let fields_3_to_4 = (field_3, field_4);
+        let fields_5_to_6 = (field_5, field_6);
+        let fields_7_to_8 = (field_7, field_8);
+        let fields_1_to_4 = (fields_1_to_2, fields_3_to_4);
+        let fields_5_to_8 = (fields_5_to_6, fields_7_to_8);
+        let fields_1_to_8 = (fields_1_to_4, fields_5_to_8);
+        fields_1_to_8.len(cache)
+    }
+
+    fn put<S: EncodeSink>(&self, cache: &mut SizeCache, sink: &mut S) -> Result<(), EncodeError> {
+        let field_1: Known<Implicit<Text>> = Known {
+            number: 1,
+            held: &self.message.name,
+        };
+        let field_2: Known<Implicit<Text>> = Known {
+            number: 2,
+            held: &self.message.extendee,
+        };
+        let field_3: Known<Implicit<Int32>> = Known {
+            number: 3,
+            held: &self.message.number,
+        };
+        let field_4: Known<Implicit<Int32>> = Known {
+            number: 4,
+            held: &self.message.label,
+        };
+        let field_5: Known<Implicit<Int32>> = Known {
+            number: 5,
+            held: &self.message.type_,
+        };
+        let field_6: Known<Implicit<Text>> = Known {
+            number: 6,
+            held: &self.message.type_name,
+        };
+        let field_7: Known<Implicit<Text>> = Known {
+            number: 7,
+            held: &self.message.default_value,
+        };
+        let field_8: Known<Embedded<FieldOptions>> = Known {
+            number: 8,
+            held: &self.message.options,
+        };
+        let fields_1_to_2 = (field_1, field_2);
+        let fields_3_to_4 = (field_3, field_4);
+        let fields_5_to_6 = (field_5, field_6);
+        let fields_7_to_8 = (field_7, field_8);
+        let fields_1_to_4 = (fields_1_to_2, fields_3_to_4);
+        let fields_5_to_8 = (fields_5_to_6, fields_7_to_8);
+        let fields_1_to_8 = (fields_1_to_4, fields_5_to_8);
+        fields_1_to_8.put(cache, sink)
     }
 }

@@ -11,7 +11,7 @@ use wire_codec::{
     UnknownFields,
 };
 use wire_fields::{
-    Blob, EachEmbedded, Embedded, Implicit, Int32, Kind, Known, Repeated, Rest, Text, keep,
+    Blob, EachEmbedded, Embedded, Implicit, Int32, Kind, Known, Parts, Repeated, Rest, Text, keep,
     measure, write,
 };
 
@@ -79,37 +79,8 @@ impl Message for FileDescriptorProto {
     }
 
     fn compute_size(&self, cache: &mut SizeCache) -> Result<u32, EncodeError> {
-        let field_1: Known<Implicit<Text>> = Known {
-            number: 1,
-            held: &self.name,
-        };
-        let field_2: Known<Implicit<Text>> = Known {
-            number: 2,
-            held: &self.package,
-        };
-        let field_3: Known<Repeated<Text, 24>> = Known {
-            number: 3,
-            held: &self.dependency,
-        };
-        let field_4: Known<EachEmbedded<DescriptorProto, 200>> = Known {
-            number: 4,
-            held: &self.message_type,
-        };
-        let field_5: Known<EachEmbedded<EnumDescriptorProto, 80>> = Known {
-            number: 5,
-            held: &self.enum_type,
-        };
-        let field_6: Known<Repeated<Blob, 24>> = Known {
-            number: 6,
-            held: &self.service,
-        };
-        let field_7: Known<EachEmbedded<FieldDescriptorProto, 208>> = Known {
-            number: 7,
-            held: &self.extension,
-        };
-        let field_8: Known<Embedded<FileOptions>> = Known {
-            number: 8,
-            held: &self.options,
+        let fields_1_to_8 = FileDescriptorProtoFields1To8 {
+            message: self,
         };
         let field_9: Known<Embedded<SourceCodeInfo>> = Known {
             number: 9,
@@ -123,15 +94,8 @@ impl Message for FileDescriptorProto {
             number: 14,
             held: &self.edition,
         };
-        let fields_1_to_2 = (field_1, field_2);
-        let fields_3_to_4 = (field_3, field_4);
-        let fields_5_to_6 = (field_5, field_6);
-        let fields_7_to_8 = (field_7, field_8);
         let fields_9_to_12 = (field_9, field_12);
-        let fields_1_to_4 = (fields_1_to_2, fields_3_to_4);
-        let fields_5_to_8 = (fields_5_to_6, fields_7_to_8);
         let fields_9_to_14 = (fields_9_to_12, field_14);
-        let fields_1_to_8 = (fields_1_to_4, fields_5_to_8);
         let fields_1_to_14 = (fields_1_to_8, fields_9_to_14);
         let rest = Rest {
             fields: &self.unknown,
@@ -144,37 +108,8 @@ impl Message for FileDescriptorProto {
         cache: &mut SizeCache,
         sink: &mut S,
     ) -> Result<(), EncodeError> {
-        let field_1: Known<Implicit<Text>> = Known {
-            number: 1,
-            held: &self.name,
-        };
-        let field_2: Known<Implicit<Text>> = Known {
-            number: 2,
-            held: &self.package,
-        };
-        let field_3: Known<Repeated<Text, 24>> = Known {
-            number: 3,
-            held: &self.dependency,
-        };
-        let field_4: Known<EachEmbedded<DescriptorProto, 200>> = Known {
-            number: 4,
-            held: &self.message_type,
-        };
-        let field_5: Known<EachEmbedded<EnumDescriptorProto, 80>> = Known {
-            number: 5,
-            held: &self.enum_type,
-        };
-        let field_6: Known<Repeated<Blob, 24>> = Known {
-            number: 6,
-            held: &self.service,
-        };
-        let field_7: Known<EachEmbedded<FieldDescriptorProto, 208>> = Known {
-            number: 7,
-            held: &self.extension,
-        };
-        let field_8: Known<Embedded<FileOptions>> = Known {
-            number: 8,
-            held: &self.options,
+        let fields_1_to_8 = FileDescriptorProtoFields1To8 {
+            message: self,
         };
         let field_9: Known<Embedded<SourceCodeInfo>> = Known {
             number: 9,
@@ -188,15 +123,8 @@ impl Message for FileDescriptorProto {
             number: 14,
             held: &self.edition,
         };
-        let fields_1_to_2 = (field_1, field_2);
-        let fields_3_to_4 = (field_3, field_4);
-        let fields_5_to_6 = (field_5, field_6);
-        let fields_7_to_8 = (field_7, field_8);
         let fields_9_to_12 = (field_9, field_12);
-        let fields_1_to_4 = (fields_1_to_2, fields_3_to_4);
-        let fields_5_to_8 = (fields_5_to_6, fields_7_to_8);
         let fields_9_to_14 = (fields_9_to_12, field_14);
-        let fields_1_to_8 = (fields_1_to_4, fields_5_to_8);
         let fields_1_to_14 = (fields_1_to_8, fields_9_to_14);
         let rest = Rest {
             fields: &self.unknown,
@@ -276,5 +204,104 @@ impl Message for FileDescriptorProto {
         <Implicit<Text> as Kind>::clear(&mut self.syntax_);
         <Implicit<Int32> as Kind>::clear(&mut self.edition);
         self.unknown.clear();
+    }
+}
+
+// The fields 1 to 8 of a `FileDescriptorProto`.
+#[derive(Drop)]
+struct FileDescriptorProtoFields1To8<'a> {
+    message: &'a FileDescriptorProto,
+}
+
+impl<'a> Parts for FileDescriptorProtoFields1To8<'a> {
+    ghost use Rattle.wire_descriptor.specs.FileDescriptorProto.{file_descriptor_proto-fields-1-to-8};
+    ghost use Rattle.wire_descriptor.specs.FileDescriptorProto.{file_descriptor_proto-fields-1-to-8-value};
+
+    ghost records = { λ p. file_descriptor_proto-fields-1-to-8.records (file_descriptor_proto-fields-1-to-8-value p.message.now) };
+
+    fn len(&self, cache: &mut SizeCache) -> Result<u64, EncodeError> {
+        let field_1: Known<Implicit<Text>> = Known {
+            number: 1,
+            held: &self.message.name,
+        };
+        let field_2: Known<Implicit<Text>> = Known {
+            number: 2,
+            held: &self.message.package,
+        };
+        let field_3: Known<Repeated<Text, 24>> = Known {
+            number: 3,
+            held: &self.message.dependency,
+        };
+        let field_4: Known<EachEmbedded<DescriptorProto, 200>> = Known {
+            number: 4,
+            held: &self.message.message_type,
+        };
+        let field_5: Known<EachEmbedded<EnumDescriptorProto, 80>> = Known {
+            number: 5,
+            held: &self.message.enum_type,
+        };
+        let field_6: Known<Repeated<Blob, 24>> = Known {
+            number: 6,
+            held: &self.message.service,
+        };
+        let field_7: Known<EachEmbedded<FieldDescriptorProto, 208>> = Known {
+            number: 7,
+            held: &self.message.extension,
+        };
+        let field_8: Known<Embedded<FileOptions>> = Known {
+            number: 8,
+            held: &self.message.options,
+        };
+        let fields_1_to_2 = (field_1, field_2);
+        let fields_3_to_4 = (field_3, field_4);
+        let fields_5_to_6 = (field_5, field_6);
+        let fields_7_to_8 = (field_7, field_8);
+        let fields_1_to_4 = (fields_1_to_2, fields_3_to_4);
+        let fields_5_to_8 = (fields_5_to_6, fields_7_to_8);
+        let fields_1_to_8 = (fields_1_to_4, fields_5_to_8);
+        fields_1_to_8.len(cache)
+    }
+
+    fn put<S: EncodeSink>(&self, cache: &mut SizeCache, sink: &mut S) -> Result<(), EncodeError> {
+        let field_1: Known<Implicit<Text>> = Known {
+            number: 1,
+            held: &self.message.name,
+        };
+        let field_2: Known<Implicit<Text>> = Known {
+            number: 2,
+            held: &self.message.package,
+        };
+        let field_3: Known<Repeated<Text, 24>> = Known {
+            number: 3,
+            held: &self.message.dependency,
+        };
+        let field_4: Known<EachEmbedded<DescriptorProto, 200>> = Known {
+            number: 4,
+            held: &self.message.message_type,
+        };
+        let field_5: Known<EachEmbedded<EnumDescriptorProto, 80>> = Known {
+            number: 5,
+            held: &self.message.enum_type,
+        };
+        let field_6: Known<Repeated<Blob, 24>> = Known {
+            number: 6,
+            held: &self.message.service,
+        };
+        let field_7: Known<EachEmbedded<FieldDescriptorProto, 208>> = Known {
+            number: 7,
+            held: &self.message.extension,
+        };
+        let field_8: Known<Embedded<FileOptions>> = Known {
+            number: 8,
+            held: &self.message.options,
+        };
+        let fields_1_to_2 = (field_1, field_2);
+        let fields_3_to_4 = (field_3, field_4);
+        let fields_5_to_6 = (field_5, field_6);
+        let fields_7_to_8 = (field_7, field_8);
+        let fields_1_to_4 = (fields_1_to_2, fields_3_to_4);
+        let fields_5_to_8 = (fields_5_to_6, fields_7_to_8);
+        let fields_1_to_8 = (fields_1_to_4, fields_5_to_8);
+        fields_1_to_8.put(cache, sink)
     }
 }

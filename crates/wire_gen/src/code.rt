@@ -96,7 +96,7 @@ const KNOWN: &str = "        let field_$number$: Known<$kind$> = Known {
 ";
 
 const PART_LET: &str = "        let $local$ = $part_type$ {
-            message: self,
+            message: $itself$,
         };
 ";
 
@@ -259,11 +259,11 @@ pub(crate) fn code_of(
     put_lets(&mut page, fields, tree, None);
     page.append_all(&[("code", STRUCT), ("code", NAME), ("code", MESSAGE)]);
     for part in &tree.parts {
+        put_lets(&mut page, fields, tree, Some(part));
         page.copy(
             &part.words,
             &["low", "high", "local", "part_type", "part_words"],
         );
-        put_lets(&mut page, fields, tree, Some(part));
         page.append("code", PART);
     }
     page.finish("code")
@@ -285,40 +285,39 @@ fn put_in_braces(page: &mut Words, name: &'static str) {
     }
 }
 
-// The lines that make the tuple of a part by itself, or without one that of all fields: first what
-// is in no part within, and the parts, and then the pairs of these.
+// The lines that make the tuple of a part by itself, or without one that of all fields: first the
+// fields, and the parts within, and then the pairs of these.
 fn put_lets(page: &mut Words, fields: &[Field], tree: &Tree, part: Option<&Node>) {
     page.set("lets", "");
     page.set("message", if part.is_some() { "message." } else { "" });
+    page.set(
+        "itself",
+        if part.is_some() {
+            "self.message"
+        } else {
+            "self"
+        },
+    );
     for (place, field) in fields.iter().enumerate() {
-        if is_within(tree, part, place, place.saturating_add(1)) {
+        if tree.has(part, place, place.saturating_add(1)) {
             page.copy(&field.words, &["field", "number", "kind"]);
             page.append("lets", KNOWN);
         }
-        if let Some(inner) = tree.parts.iter().find(|it| it.first == place) {
-            if part.is_none() {
-                page.set("local", inner.words.get("local"));
-                page.set("part_type", inner.words.get("part_type"));
+        for inner in &tree.parts {
+            if inner.first == place && tree.has_part(part, inner) {
+                page.copy(&inner.words, &["local", "part_type"]);
                 page.append("lets", PART_LET);
             }
         }
     }
     for pair in &tree.pairs {
-        if is_within(tree, part, pair.first, pair.behind) {
+        if tree.has(part, pair.first, pair.behind) {
             page.copy(&pair.words, &["pair"]);
             page.append("lets", "$pair$");
         }
     }
     if part.is_none() && page.get("rest") == "rest" {
         page.append("lets", REST_LET);
-    }
-}
-
-// Whether fields in a row stand in a part, or in none.
-fn is_within(tree: &Tree, part: Option<&Node>, first: usize, behind: usize) -> bool {
-    match part {
-        Some(part) => part.has(first, behind),
-        None => !tree.parts.iter().any(|it| it.has(first, behind)),
     }
 }
 
@@ -331,7 +330,15 @@ fn put_field(page: &mut Words, schema: &Schema, field: &Words) {
     let mut types = field.get("all_types").split(' ');
     for number in field.get("numbers").split(' ') {
         page.set("number", number);
-        page.set("own_types", types.next().unwrap_or(field.get("own_types")));
+        let own = types.next().unwrap_or("");
+        page.set(
+            "own_types",
+            if own.is_empty() {
+                field.get("own_types")
+            } else {
+                own
+            },
+        );
         put_arm(page);
     }
 }

@@ -349,6 +349,7 @@ pub(crate) fn set_key(words: &mut Words) {
 pub(crate) fn set_map(sort: Sort, words: &mut Words) {
     set_always(sort, words);
     put_kind(&MAP, words);
+    words.set("maps", "m");
 }
 
 // What is read back of a value that is always written.

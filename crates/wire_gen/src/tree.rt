@@ -4,8 +4,11 @@ use crate::error::GenerateError;
 use crate::field::Field;
 use crate::words::{Template, Words};
 
-// The fields of a part by itself: a tuple of many more is not proved.
-const PART: usize = 16;
+// The fields of a part by itself, where there are more: a tuple of many kinds is not proved. Maps
+// count for more.
+const PART: usize = 8;
+
+const PART_OF_MAPS: usize = 4;
 
 /// The fields of a message as a tree. Its words are those of the root but for its numbers.
 #[derive(Drop)]
@@ -13,7 +16,8 @@ pub(crate) struct Tree {
     pub words: Words,
     /// The pairs, an inner one before the one that it is in; the word `pair` of each makes it.
     pub pairs: Vec<Node>,
-    /// Where there are many fields, those of sixteen in a row that have a type of their own.
+    /// Where there are many fields, those in a row that have a type of their own, an inner one
+    /// before the one that it is in.
     pub parts: Vec<Node>,
 }
 
@@ -30,13 +34,41 @@ pub(crate) struct Node {
 }
 
 impl Node {
-    /// Whether all these fields are in a row.
-    pub(crate) fn has(&self, first: usize, behind: usize) -> bool {
+    // Whether all these fields are in a row.
+    fn has(&self, first: usize, behind: usize) -> bool {
         self.first <= first && behind <= self.behind
+    }
+
+    // Whether it is a part within another.
+    fn is_in(&self, other: &Node) -> bool {
+        other.has(self.first, self.behind) && !self.has(other.first, other.behind)
     }
 }
 
-const LEAF: [Template; 9] = [
+impl Tree {
+    /// Whether fields in a row stand in a part, or in the whole where that is none, and in no part
+    /// within that.
+    pub(crate) fn has(&self, part: Option<&Node>, first: usize, behind: usize) -> bool {
+        match part {
+            Some(part) => {
+                let mut inner = self.parts.iter().filter(|it| it.is_in(part));
+                part.has(first, behind) && !inner.any(|it| it.has(first, behind))
+            }
+            None => !self.parts.iter().any(|it| it.has(first, behind)),
+        }
+    }
+
+    /// The same of a part.
+    pub(crate) fn has_part(&self, part: Option<&Node>, inner: &Node) -> bool {
+        let mut between = self.parts.iter().filter(|it| inner.is_in(it));
+        match part {
+            Some(part) => inner.is_in(part) && !between.any(|it| it.is_in(part)),
+            None => between.next().is_none(),
+        }
+    }
+}
+
+const LEAF: [Template; 10] = [
     ("low", "$number$"),
     ("high", "$number$"),
     ("local", "field_$number$"),
@@ -46,10 +78,11 @@ const LEAF: [Template; 9] = [
     ("range", "$range$"),
     ("returned", "$returned$"),
     ("apart", "$apart$"),
+    ("maps", "$maps$"),
 ];
 
 // What is taken over from the right part of a pair.
-const RIGHT: [Template; 9] = [
+const RIGHT: [Template; 10] = [
     ("right_local", "local"),
     ("right_value", "value"),
     ("right_view", "view"),
@@ -58,14 +91,16 @@ const RIGHT: [Template; 9] = [
     ("right_range", "range"),
     ("right_returned", "returned"),
     ("right_apart", "apart"),
+    ("right_maps", "maps"),
     ("high", "high"),
 ];
 
-const PAIR: [Template; 8] = [
+const PAIR: [Template; 9] = [
     ("value", "($value$\n    × $right_value$)"),
     ("view", "(\n$view$,\n$right_view$,\n)"),
     ("table", "$both$ ($table$)\n    ($right_table$)"),
     ("unlike", "neither _ _ ($unlike$)\n$margin$($right_unlike$)"),
+    ("maps", "$maps$$right_maps$"),
     ("range", "pair_range ($range$)\n    ($right_range$)"),
     (
         "returned",
@@ -157,7 +192,7 @@ fn leaf(base: &Words, place: usize, field: &Words) -> Node {
         field,
         &["number", "bracketed", "view", "table", "both", "margin"],
     );
-    words.copy(field, &["range", "returned", "apart"]);
+    words.copy(field, &["range", "returned", "apart", "maps"]);
     words.fill_all(&LEAF);
     let mut is_first = true;
     for number in field.get("numbers").split(' ') {
@@ -208,7 +243,10 @@ impl Tree {
             behind,
             words: Words::like(&words),
         })?;
-        if behind.saturating_sub(first) == PART && PART < count {
+        let maps = words.get("maps").len();
+        let most = if maps > 1 { PART_OF_MAPS } else { PART };
+        let len = behind.saturating_sub(first);
+        if most < count && (len == most || len == PART) {
             words.fill_all(&NAMES);
             self.parts.push(Node {
                 first,

@@ -131,16 +131,51 @@ abbrev pub report-type_-range : Range Bool
 report-type_-range =
     bool_range
 
-abbrev pub Report-Known : Type 0
-Report-Known =
-    (((((List ℕ)
+abbrev pub Report-Fields-5-To-8 : Type 0
+Report-Fields-5-To-8 =
+    (((List ((List ℕ) × (List ℕ)))
+    × (List (ℤ × ReportSample-Value)))
+    × ((Option DoubleBits)
+    × (List ℤ)))
+
+abbrev pub report-fields-5-to-8-value : Report → Report-Fields-5-To-8
+report-fields-5-to-8-value m = (
+  (
+    viewed (λ s. string_bytes s) (λ s. string_bytes s) m.labels.entries,
+    viewed (λ v. v) report_sample-value m.last.entries,
+  ),
+  (
+    option_map (λ v. v) m.load,
+    m.offsets.items,
+  ),
+)
+
+abbrev pub Report-Fields-1-To-8 : Type 0
+Report-Fields-1-To-8 =
+    ((((List ℕ)
     × ℕ)
     × ((EnumValue ReportLevel)
     × (List ReportSample-Value)))
-    × (((List ((List ℕ) × (List ℕ)))
-    × (List (ℤ × ReportSample-Value)))
-    × ((Option DoubleBits)
-    × (List ℤ))))
+    × Report-Fields-5-To-8)
+
+abbrev pub report-fields-1-to-8-value : Report → Report-Fields-1-To-8
+report-fields-1-to-8-value m = (
+  (
+    (
+      string_bytes m.host,
+      m.sent_at,
+    ),
+    (
+      m.level,
+      map report_sample-value m.samples.items,
+    ),
+  ),
+  report-fields-5-to-8-value m,
+)
+
+abbrev pub Report-Known : Type 0
+Report-Known =
+    (Report-Fields-1-To-8
     × ((((List ℕ)
     × (List (List ℕ)))
     × ((List ℕ)
@@ -154,28 +189,7 @@ Report-Value = Report-Known × Fields
 abbrev pub report-value : Report → Report-Value
 report-value m = (
   (
-    (
-      (
-        (
-          string_bytes m.host,
-          m.sent_at,
-        ),
-        (
-          m.level,
-          map report_sample-value m.samples.items,
-        ),
-      ),
-      (
-        (
-          viewed (λ s. string_bytes s) (λ s. string_bytes s) m.labels.entries,
-          viewed (λ v. v) report_sample-value m.last.entries,
-        ),
-        (
-          option_map (λ v. v) m.load,
-          m.offsets.items,
-        ),
-      ),
-    ),
+    report-fields-1-to-8-value m,
     (
       (
         (
@@ -238,16 +252,24 @@ origin-of-report m = m.0.1.1.0
 abbrev pub type_-of-report : Report-Value → Bool
 type_-of-report m = m.0.1.1.1
 
-abbrev pub report-known : Shape Report-Known
-report-known =
-    two (two (two (two (known 1 report-host-kind)
+abbrev pub report-fields-5-to-8 : Shape Report-Fields-5-To-8
+report-fields-5-to-8 =
+    two (two (known 5 report-labels-kind)
+    (known 6 report-last-kind))
+    (two (known 7 report-load-kind)
+    (known 8 report-offsets-kind))
+
+abbrev pub report-fields-1-to-8 : Shape Report-Fields-1-To-8
+report-fields-1-to-8 =
+    two (two (two (known 1 report-host-kind)
     (known 2 report-sent_at-kind))
     (two (known 3 report-level-kind)
     (known 4 report-samples-kind)))
-    (two (two (known 5 report-labels-kind)
-    (known 6 report-last-kind))
-    (two (known 7 report-load-kind)
-    (known 8 report-offsets-kind))))
+    (report-fields-5-to-8)
+
+abbrev pub report-known : Shape Report-Known
+report-known =
+    two (report-fields-1-to-8)
     (two (two (two (known 9 report-ports-kind)
     (known 10 report-notes-kind))
     (two (known 11 report-signature-kind)

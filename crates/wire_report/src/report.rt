@@ -11,8 +11,8 @@ use wire_codec::{
 };
 use wire_fields::{
     Always, AlwaysEmbedded, Blob, Bool, Double, DoubleBits, EachEmbedded, Embedded, Enum, Fixed64,
-    Implicit, Kind, Known, Map, Optional, Packed, Repeated, Rest, Sint32, Text, Uint32, Unpacked,
-    keep, measure, write,
+    Implicit, Kind, Known, Map, Optional, Packed, Parts, Repeated, Rest, Sint32, Text, Uint32,
+    Unpacked, keep, measure, write,
 };
 
 /// A report, with fields of each common kind.
@@ -86,37 +86,8 @@ impl Message for Report {
     }
 
     fn compute_size(&self, cache: &mut SizeCache) -> Result<u32, EncodeError> {
-        let field_1: Known<Implicit<Text>> = Known {
-            number: 1,
-            held: &self.host,
-        };
-        let field_2: Known<Implicit<Fixed64>> = Known {
-            number: 2,
-            held: &self.sent_at,
-        };
-        let field_3: Known<Implicit<Enum<ReportLevel>>> = Known {
-            number: 3,
-            held: &self.level,
-        };
-        let field_4: Known<EachEmbedded<ReportSample, 80>> = Known {
-            number: 4,
-            held: &self.samples,
-        };
-        let field_5: Known<Map<Text, Always<Text>, 64>> = Known {
-            number: 5,
-            held: &self.labels,
-        };
-        let field_6: Known<Map<Sint32, AlwaysEmbedded<ReportSample>, 64>> = Known {
-            number: 6,
-            held: &self.last,
-        };
-        let field_7: Known<Optional<Double>> = Known {
-            number: 7,
-            held: &self.load,
-        };
-        let field_8: Known<Packed<Sint32>> = Known {
-            number: 8,
-            held: &self.offsets,
+        let fields_1_to_8 = ReportFields1To8 {
+            message: self,
         };
         let field_9: Known<Unpacked<Uint32>> = Known {
             number: 9,
@@ -142,17 +113,10 @@ impl Message for Report {
             number: 15,
             held: &self.type_,
         };
-        let fields_1_to_2 = (field_1, field_2);
-        let fields_3_to_4 = (field_3, field_4);
-        let fields_5_to_6 = (field_5, field_6);
-        let fields_7_to_8 = (field_7, field_8);
         let fields_9_to_10 = (field_9, field_10);
         let fields_11_to_12 = (field_11, field_12);
         let fields_13_to_15 = (field_13, field_15);
-        let fields_1_to_4 = (fields_1_to_2, fields_3_to_4);
-        let fields_5_to_8 = (fields_5_to_6, fields_7_to_8);
         let fields_9_to_12 = (fields_9_to_10, fields_11_to_12);
-        let fields_1_to_8 = (fields_1_to_4, fields_5_to_8);
         let fields_9_to_15 = (fields_9_to_12, fields_13_to_15);
         let fields_1_to_15 = (fields_1_to_8, fields_9_to_15);
         let rest = Rest {
@@ -166,37 +130,8 @@ impl Message for Report {
         cache: &mut SizeCache,
         sink: &mut S,
     ) -> Result<(), EncodeError> {
-        let field_1: Known<Implicit<Text>> = Known {
-            number: 1,
-            held: &self.host,
-        };
-        let field_2: Known<Implicit<Fixed64>> = Known {
-            number: 2,
-            held: &self.sent_at,
-        };
-        let field_3: Known<Implicit<Enum<ReportLevel>>> = Known {
-            number: 3,
-            held: &self.level,
-        };
-        let field_4: Known<EachEmbedded<ReportSample, 80>> = Known {
-            number: 4,
-            held: &self.samples,
-        };
-        let field_5: Known<Map<Text, Always<Text>, 64>> = Known {
-            number: 5,
-            held: &self.labels,
-        };
-        let field_6: Known<Map<Sint32, AlwaysEmbedded<ReportSample>, 64>> = Known {
-            number: 6,
-            held: &self.last,
-        };
-        let field_7: Known<Optional<Double>> = Known {
-            number: 7,
-            held: &self.load,
-        };
-        let field_8: Known<Packed<Sint32>> = Known {
-            number: 8,
-            held: &self.offsets,
+        let fields_1_to_8 = ReportFields1To8 {
+            message: self,
         };
         let field_9: Known<Unpacked<Uint32>> = Known {
             number: 9,
@@ -222,17 +157,10 @@ impl Message for Report {
             number: 15,
             held: &self.type_,
         };
-        let fields_1_to_2 = (field_1, field_2);
-        let fields_3_to_4 = (field_3, field_4);
-        let fields_5_to_6 = (field_5, field_6);
-        let fields_7_to_8 = (field_7, field_8);
         let fields_9_to_10 = (field_9, field_10);
         let fields_11_to_12 = (field_11, field_12);
         let fields_13_to_15 = (field_13, field_15);
-        let fields_1_to_4 = (fields_1_to_2, fields_3_to_4);
-        let fields_5_to_8 = (fields_5_to_6, fields_7_to_8);
         let fields_9_to_12 = (fields_9_to_10, fields_11_to_12);
-        let fields_1_to_8 = (fields_1_to_4, fields_5_to_8);
         let fields_9_to_15 = (fields_9_to_12, fields_13_to_15);
         let fields_1_to_15 = (fields_1_to_8, fields_9_to_15);
         let rest = Rest {
@@ -315,5 +243,131 @@ impl Message for Report {
         <ReportOriginKind as Kind>::clear(&mut self.origin);
         <Implicit<Bool> as Kind>::clear(&mut self.type_);
         self.unknown.clear();
+    }
+}
+
+// The fields 5 to 8 of a `Report`.
+#[derive(Drop)]
+struct ReportFields5To8<'a> {
+    message: &'a Report,
+}
+
+impl<'a> Parts for ReportFields5To8<'a> {
+    ghost use Rattle.wire_report.specs.Report.{report-fields-5-to-8};
+    ghost use Rattle.wire_report.specs.Report.{report-fields-5-to-8-value};
+
+    ghost records = { λ p. report-fields-5-to-8.records (report-fields-5-to-8-value p.message.now) };
+
+    fn len(&self, cache: &mut SizeCache) -> Result<u64, EncodeError> {
+        let field_5: Known<Map<Text, Always<Text>, 64>> = Known {
+            number: 5,
+            held: &self.message.labels,
+        };
+        let field_6: Known<Map<Sint32, AlwaysEmbedded<ReportSample>, 64>> = Known {
+            number: 6,
+            held: &self.message.last,
+        };
+        let field_7: Known<Optional<Double>> = Known {
+            number: 7,
+            held: &self.message.load,
+        };
+        let field_8: Known<Packed<Sint32>> = Known {
+            number: 8,
+            held: &self.message.offsets,
+        };
+        let fields_5_to_6 = (field_5, field_6);
+        let fields_7_to_8 = (field_7, field_8);
+        let fields_5_to_8 = (fields_5_to_6, fields_7_to_8);
+        fields_5_to_8.len(cache)
+    }
+
+    fn put<S: EncodeSink>(&self, cache: &mut SizeCache, sink: &mut S) -> Result<(), EncodeError> {
+        let field_5: Known<Map<Text, Always<Text>, 64>> = Known {
+            number: 5,
+            held: &self.message.labels,
+        };
+        let field_6: Known<Map<Sint32, AlwaysEmbedded<ReportSample>, 64>> = Known {
+            number: 6,
+            held: &self.message.last,
+        };
+        let field_7: Known<Optional<Double>> = Known {
+            number: 7,
+            held: &self.message.load,
+        };
+        let field_8: Known<Packed<Sint32>> = Known {
+            number: 8,
+            held: &self.message.offsets,
+        };
+        let fields_5_to_6 = (field_5, field_6);
+        let fields_7_to_8 = (field_7, field_8);
+        let fields_5_to_8 = (fields_5_to_6, fields_7_to_8);
+        fields_5_to_8.put(cache, sink)
+    }
+}
+
+// The fields 1 to 8 of a `Report`.
+#[derive(Drop)]
+struct ReportFields1To8<'a> {
+    message: &'a Report,
+}
+
+impl<'a> Parts for ReportFields1To8<'a> {
+    ghost use Rattle.wire_report.specs.Report.{report-fields-1-to-8};
+    ghost use Rattle.wire_report.specs.Report.{report-fields-1-to-8-value};
+
+    ghost records = { λ p. report-fields-1-to-8.records (report-fields-1-to-8-value p.message.now) };
+
+    fn len(&self, cache: &mut SizeCache) -> Result<u64, EncodeError> {
+        let field_1: Known<Implicit<Text>> = Known {
+            number: 1,
+            held: &self.message.host,
+        };
+        let field_2: Known<Implicit<Fixed64>> = Known {
+            number: 2,
+            held: &self.message.sent_at,
+        };
+        let field_3: Known<Implicit<Enum<ReportLevel>>> = Known {
+            number: 3,
+            held: &self.message.level,
+        };
+        let field_4: Known<EachEmbedded<ReportSample, 80>> = Known {
+            number: 4,
+            held: &self.message.samples,
+        };
+        let fields_5_to_8 = ReportFields5To8 {
+            message: self.message,
+        };
+        let fields_1_to_2 = (field_1, field_2);
+        let fields_3_to_4 = (field_3, field_4);
+        let fields_1_to_4 = (fields_1_to_2, fields_3_to_4);
+        let fields_1_to_8 = (fields_1_to_4, fields_5_to_8);
+        fields_1_to_8.len(cache)
+    }
+
+    fn put<S: EncodeSink>(&self, cache: &mut SizeCache, sink: &mut S) -> Result<(), EncodeError> {
+        let field_1: Known<Implicit<Text>> = Known {
+            number: 1,
+            held: &self.message.host,
+        };
+        let field_2: Known<Implicit<Fixed64>> = Known {
+            number: 2,
+            held: &self.message.sent_at,
+        };
+        let field_3: Known<Implicit<Enum<ReportLevel>>> = Known {
+            number: 3,
+            held: &self.message.level,
+        };
+        let field_4: Known<EachEmbedded<ReportSample, 80>> = Known {
+            number: 4,
+            held: &self.message.samples,
+        };
+        let fields_5_to_8 = ReportFields5To8 {
+            message: self.message,
+        };
+        let fields_1_to_2 = (field_1, field_2);
+        let fields_3_to_4 = (field_3, field_4);
+        let fields_1_to_4 = (fields_1_to_2, fields_3_to_4);
+        let fields_1_to_8 = (fields_1_to_4, fields_5_to_8);
+        fields_1_to_8.put(cache, sink)
     }
 }
