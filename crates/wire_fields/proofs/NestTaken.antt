@@ -10,25 +10,25 @@ use Rattle.wire_fields.specs.declared.recursive.Place.{Place}
 use Rattle.wire_fields.specs.declared.recursive.Place.TheVariants.{Leaf}
 use Rattle.wire_fields.specs.Least.{rolled, unrolled}
 use Rattle.wire_fields.specs.Messages.{length_prefixed, inside}
-use Rattle.wire_fields.specs.Nest.{Nest, nest, Rows, done, row, leaf_of, rows_of, rows_with, with_row}
+use Rattle.wire_fields.specs.Nest.{Nest, nest, Rows, done, row, Row, end, row_of, leaf_of, rows_of}
+use Rattle.wire_fields.specs.Nest.{set_rows, with_row}
 use Rattle.wire_fields.specs.NestTable.{Table, level, takes_at, nest_takes, owned, grows}
 
 -- ---- rows
 
-rows_with_twice : {L : Type 0} (i : ℕ) (ms ks : List (Nest L)) (rs : Rows L)
-    → rows_with i ms (rows_with i ks rs) ≡ rows_with i ms rs
-rows_with_twice i ms ks done = refl
-rows_with_twice zero ms ks (row r rs) = refl
-rows_with_twice {L} (suc i) ms ks (row r rs) =
-    ap (λ (x : Rows L). row r x) (rows_with_twice i ms ks rs)
+set_twice : {L : Type 0} (i : ℕ) (r q : Row L) (rs : Rows L)
+    → set_rows i r (set_rows i q rs) ≡ set_rows i r rs
+set_twice i r q done = refl
+set_twice zero r q (row p rs) = refl
+set_twice {L} (suc i) r q (row p rs) = ap (λ (x : Rows L). row p x) (set_twice i r q rs)
 
 -- values that agree beside a row agree with the same row
 pub same_beside : {L : Type 0} (i : ℕ) (ms : List (Nest L)) (a b : Nest L)
     → with_row i [] a ≡ with_row i [] b → with_row i ms a ≡ with_row i ms b
-same_beside {L} i ms a b e =
-    ap (nest (leaf_of a)) (sym (rows_with_twice i ms [] (rows_of a)))
+same_beside i ms a b e =
+    ap (nest (leaf_of a)) (sym (set_twice i (row_of ms) end (rows_of a)))
     ∙ ap (with_row i ms) e
-    ∙ ap (nest (leaf_of b)) (rows_with_twice i ms [] (rows_of b))
+    ∙ ap (nest (leaf_of b)) (set_twice i (row_of ms) end (rows_of b))
 
 pub both_ok : {T E P Q R : Type 0} (r : Result T E) → (P → Q → R) → OnOk r P → OnOk r Q → OnOk r R
 both_ok (Ok x) f p q = f p q

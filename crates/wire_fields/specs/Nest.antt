@@ -1,5 +1,6 @@
 -- Values that hold values of their own type.
-use Rattle.std.proofs.Common.{◌≡◌, ℕ, zero, suc, ◌+◌, ◌<◌, ◌≤◌, List, [], ◌∷◌, get_or, length, map}
+use Rattle.std.proofs.Common.{◌≡◌, ℕ, zero, suc, ◌+◌, ◌<◌, ◌≤◌, List, [], ◌∷◌, get_or, length, map, ◌++◌, sym}
+use Rattle.std.proofs.lemmas.List.{map-append}
 use Rattle.std.proofs.Common.{refl, ap, ◌∙◌, arith}
 use Rattle.std.specs.Prelude.{Option, Some, None, Box, box_value}
 use Rattle.std.specs.declared.alloc.Global.{Global}
@@ -60,14 +61,26 @@ rows_row (suc i) (row r rs) = rows_row i rs
 abbrev pub row_at : {L : Type 0} → ℕ → Nest L → List (Nest L)
 row_at i m = rows_row i (rows_of m)
 
-abbrev pub rows_with : {L : Type 0} → ℕ → List (Nest L) → Rows L → Rows L
-rows_with i ms done = done
-rows_with zero ms (row r rs) = row (row_of ms) rs
-rows_with (suc i) ms (row r rs) = row r (rows_with i ms rs)
+abbrev pub set_rows : {L : Type 0} → ℕ → Row L → Rows L → Rows L
+set_rows i r done = done
+set_rows zero r (row q rs) = row r rs
+set_rows (suc i) r (row q rs) = row q (set_rows i r rs)
 
--- the same value with these in the row
+-- the same value with another row, and with these in the row
+abbrev pub set_row : {L : Type 0} → ℕ → Row L → Nest L → Nest L
+set_row i r m = nest (leaf_of m) (set_rows i r (rows_of m))
+
 abbrev pub with_row : {L : Type 0} → ℕ → List (Nest L) → Nest L → Nest L
-with_row i ms m = nest (leaf_of m) (rows_with i ms (rows_of m))
+with_row i ms m = set_row i (row_of ms) m
+
+-- a message is put behind those of a row
+pub row_pushed : {T L : Type 0} (view : T → Nest L) (i : ℕ) (m : Nest L) (ms ks : List T) (t : T)
+    → row_at i m ≡ map view ms → ks ≡ ms ++ t ∷ []
+    → set_row i (row_of (map view ks)) m ≡ with_row i (row_at i m ++ view t ∷ []) m
+row_pushed {T} {L} view i m ms ks t row_is is =
+    ap (λ (x : List T). set_row i (row_of (map view x)) m) is
+    ∙ ap (λ (x : List (Nest L)). set_row i (row_of x) m) (map-append view ms (t ∷ [])
+    ∙ ap (λ (x : List (Nest L)). x ++ view t ∷ []) (sym row_is))
 
 abbrev pub count_rows : {L : Type 0} → Rows L → ℕ
 count_rows done = 0

@@ -48,7 +48,7 @@ pub use number::Number;
 pub use packed::{Packed, Unpacked};
 pub use parts::{Known, Parts, Rest, measure, write};
 pub use presence::{Always, Implicit, Optional};
-pub use recursive::{Place, Recursive, merge_nest, nest_size, write_nest};
+pub use recursive::{Place, Recursive, merge_nest, nest_size, push_message, write_nest};
 pub use repeated::Repeated;
 pub use scalar::{Numeric, Scalar};
 pub use text::{Blob, Text};

@@ -39,6 +39,14 @@ pub enum Place {
     Each(usize, usize),
 }
 
+/// Puts a message behind others. Refused where memory runs out.
+pub fn push_message<T: Drop>(messages: &mut Vec<T>, message: T) -> Result<(), DecodeError>
+    ensures ok { OnOk result (messages.new.items ≡ messages.old.items ++ message ∷ []) }
+    ensures err { IfErr result (λ e. e ≡ errors.OutOfMemory) }
+{
+    messages.push(message).map_err(|_| DecodeError::OutOfMemory)
+}
+
 /// A message type that holds itself. Each field of its own type, optional or repeated, is a row of
 /// messages. All other fields, and the unknown ones, are its leaf. The leaf's fields are written in
 /// runs: before the first row, behind the first, and so on, by the order of the numbers.

@@ -10,3 +10,4 @@ pub mod ProfileBack
 pub mod Pulse
 pub mod Reading
 pub mod Signal
+pub mod Tree

@@ -12,6 +12,7 @@ mod profile;
 mod pulse;
 mod reading;
 mod signal;
+mod tree;
 
 pub use card::Card;
 pub use contact::{Contact, ContactKind};
@@ -23,3 +24,4 @@ pub use profile::Profile;
 pub use pulse::Pulse;
 pub use reading::Reading;
 pub use signal::Signal;
+pub use tree::Tree;
