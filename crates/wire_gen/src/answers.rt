@@ -13,26 +13,51 @@ Rattle.wire_codec.specs.TagView tag_number
 Rattle.wire_fields.specs.Arms arm_err
 Rattle.wire_fields.specs.Arms unlike
 Rattle.$crate$.specs.$name$ $module$-known
-Rattle.$crate$.specs.$name$ $module$-shape
-";
+Rattle.$crate$.specs.$name$ $whole$
+$whole_uses$";
 
 const HEAD: &str = "\
-$imports$use Rattle.$crate$.proofs.$module$.$name$Message.merge_field.Goals as goal
+$imports$use Rattle.$crate$.proofs.$module$.$goals$.Goals as goal
 ";
+
+// Of a message, and of the leaf of one that holds itself.
+const OF_WHOLE: [Template; 5] = [
+    ("goals", "$name$Message.merge_field"),
+    ("whole", "$module$-shape"),
+    ("before", ""),
+    ("behind", ""),
+    ("whole_uses", ""),
+];
+
+const OF_LEAF: [Template; 5] = [
+    ("goals", "$name$Recursive.merge_leaf"),
+    ("whole", "$module$-leaf"),
+    (
+        "before",
+        "rw (fold_out-$name$ $name$-Value $module$-one c.args.self.now)\n    (",
+    ),
+    ("behind", ")"),
+    (
+        "whole_uses",
+        "Rattle.$crate$.specs.$name$ $name$-Value\n\
+        Rattle.$crate$.specs.$name$ $module$-one\n\
+        Rattle.$crate$.specs.declared.$module$.$name$ fold_out-$name$\n",
+    ),
+];
 
 const REFUSED: &str = "
 pub returns-in-$number$-clause-err : goal.returns-in-$number$-clause-err
 returns-in-$number$-clause-err g c =
-    arm_err $module$-shape.takes $step$ $number$ _
+    $before$arm_err $whole$.takes $step$ $number$ _
     (sym c.field_number.ensures.number ∙ c.in-$number$.is) _ _
     (λ charge z p h. ($seen$)) _ _ _
-    $call$.result $call$.ensures.err
+    $call$.result $call$.ensures.err$behind$
 ";
 
 const TAKEN: &str = "
 pub returns-in-$number$-clause-ok : goal.returns-in-$number$-clause-ok
 returns-in-$number$-clause-ok g c =
-    arm_ok $module$-shape.takes $step$ $number$ _
+    arm_ok $whole$.takes $step$ $number$ _
     (sym c.field_number.ensures.number ∙ c.in-$number$.is) _ _ _ _
     (λ charge p h. $taken$) _ _ _ _ _
     $call$.result $call$.ensures.ok
@@ -42,9 +67,9 @@ const REST: &str = "
 pub returns-in_default-clause-err : goal.returns-in_default-clause-err
 returns-in_default-clause-err g c =
     let n = tag_number c.args.tag in
-    rest_err $module$-known.owns $module$-known.takes keeps _
+    $before$rest_err $module$-known.owns $module$-known.takes keeps _
     (λ p. $unlike$)
-    _ _ _ _ c.keep.result c.keep.ensures.err
+    _ _ _ _ c.keep.result c.keep.ensures.err$behind$
 ";
 
 // The same where they are not kept.
@@ -109,14 +134,26 @@ const OF_KIND: Template = (
     "Rattle.$crate$.specs.$name$ $module$-$field$-kind\n",
 );
 
+// Of a number of a oneof that leaves records of other wire types.
+const KEEPING_STEP: &str = "(or_kept (λ p. has_type $types$ (type_of p)) $shape$.takes)";
+
+const OF_KEEPING: [Template; 1] = [(
+    "uses",
+    "$specs$ $shape$\nRattle.wire_codec.specs.Field type_of\n\
+    Rattle.wire_fields.specs.Leaving $types$\nRattle.wire_fields.specs.Leaving has_type\n\
+    Rattle.wire_fields.specs.Leaving or_kept\n",
+)];
+
 /// The answers of `merge_field`.
 pub(crate) fn answers_of(
     base: &Words,
     fields: &[Field],
     tree: &Tree,
+    is_recursive: bool,
 ) -> Result<String, GenerateError> {
     let mut page = Words::like(base);
     page.copy(&tree.words, &["unlike"]);
+    page.fill_all(if is_recursive { &OF_LEAF } else { &OF_WHOLE });
     page.fill("uses", USES);
     for field in fields {
         page.copy(
@@ -126,15 +163,29 @@ pub(crate) fn answers_of(
         page.copy(&field.words, &["path", "firsts", "taken", "sort"]);
         let is_beside = page.get("sort") == "Leaving";
         page.fill("seen", if is_beside { BESIDE } else { INSIDE });
-        let (name, template) = if field.oneof.is_some() && !is_beside {
-            OF_ONEOF
-        } else {
+        let (name, template) = if field.oneof.is_none() {
             OF_KIND
+        } else {
+            OF_ONEOF
         };
-        page.append(name, template);
+        page.append(
+            name,
+            if is_beside && field.oneof.is_some() {
+                ""
+            } else {
+                template
+            },
+        );
+        let mut types = field.words.get("all_own").split(' ');
         for number in field.words.get("numbers").split(' ') {
             page.set("number", number);
             page.set("call", field.words.get("call"));
+            page.set("types", types.next().unwrap_or(""));
+            if is_beside && field.oneof.is_some() {
+                page.copy(&field.words, &["shape", "specs"]);
+                page.append_all(&OF_KEEPING);
+                page.fill("step", KEEPING_STEP);
+            }
             put_arm(&mut page);
         }
     }

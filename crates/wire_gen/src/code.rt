@@ -95,8 +95,10 @@ const KNOWN: &str = "        let field_$number$: Known<$kind$> = Known {
         };
 ";
 
-const PART_LET: &str = "        let $local$ = $part_type$ {
-            message: $itself$,
+const PART_LET: &str = "        let $local$ = $part_type$ { message: self };\n";
+
+const INNER_LET: &str = "        let $local$ = $part_type$ {
+            message: self.message,
         };
 ";
 
@@ -233,31 +235,13 @@ pub(crate) fn code_of(
         );
         put_field(&mut page, schema, &field.words);
     }
-    let is_kept = page.get("unknown") == "keep";
-    page.append_all(if is_kept { &KEPT } else { &DROPPED });
-    page.set("alloc", if is_kept { "alloc" } else { "_alloc" });
-    page.fill_all(if fields.is_empty() {
-        &OF_NONE
-    } else {
-        &OF_SOME
-    });
-    for name in ["declared", "emptied", "cleared"] {
-        put_in_braces(&mut page, name);
-    }
     if !tree.parts.is_empty() {
         page.append("uses", "wire_fields Parts\n");
     }
-    code_imports(&mut page);
-    page.set("package", message.words.get("package"));
-    page.set("own_name", message.words.get("outer").trim_end_matches('.'));
-    page.set("full", message.words.get("full").trim_start_matches('.'));
-    page.fill("code", "//! The message `$full$`. Generated.\n$imports$\n");
-    match schema.comment(message.words.get("place")) {
-        "" => page.append("code", "/// The message `$name$`.\n"),
-        comment => put_comment(&mut page, "code", "", comment),
-    }
+    set_rest(&mut page, fields.is_empty());
+    put_head(&mut page, schema, message);
     put_lets(&mut page, fields, tree, None);
-    page.append_all(&[("code", STRUCT), ("code", NAME), ("code", MESSAGE)]);
+    page.append("code", MESSAGE);
     for part in &tree.parts {
         put_lets(&mut page, fields, tree, Some(part));
         page.copy(
@@ -267,6 +251,34 @@ pub(crate) fn code_of(
         page.append("code", PART);
     }
     page.finish("code")
+}
+
+/// What becomes of the records that the schema lacks, and the words that stand on that.
+pub(crate) fn set_rest(page: &mut Words, is_empty: bool) {
+    let is_kept = page.get("unknown") == "keep";
+    page.append_all(if is_kept { &KEPT } else { &DROPPED });
+    page.set("alloc", if is_kept { "alloc" } else { "_alloc" });
+    page.fill_all(if is_empty { &OF_NONE } else { &OF_SOME });
+    for name in ["declared", "emptied", "cleared"] {
+        put_in_braces(page, name);
+    }
+}
+
+/// The head of the module of a message type: what it brings in, the struct, and its names.
+pub(crate) fn put_head(page: &mut Words, schema: &Schema, message: &MessageType) {
+    code_imports(page);
+    page.set("package", message.words.get("package"));
+    page.set("own_name", message.words.get("outer").trim_end_matches('.'));
+    page.set("full", message.words.get("full").trim_start_matches('.'));
+    page.fill(
+        "code",
+        "//! The message `$full$`. Generated.\n$head_ghosts$$imports$\n",
+    );
+    match schema.comment(message.words.get("place")) {
+        "" => page.append("code", "/// The message `$name$`.\n"),
+        comment => put_comment(page, "code", "", comment),
+    }
+    page.append_all(&[("code", STRUCT), ("code", NAME)]);
 }
 
 // Puts lines where they stand between braces: on lines of their own.
@@ -306,7 +318,7 @@ fn put_lets(page: &mut Words, fields: &[Field], tree: &Tree, part: Option<&Node>
         for inner in &tree.parts {
             if inner.first == place && tree.has_part(part, inner) {
                 page.copy(&inner.words, &["local", "part_type"]);
-                page.append("lets", PART_LET);
+                page.append("lets", if part.is_some() { INNER_LET } else { PART_LET });
             }
         }
     }
@@ -321,11 +333,16 @@ fn put_lets(page: &mut Words, fields: &[Field], tree: &Tree, part: Option<&Node>
     }
 }
 
-// What there is for each field.
-fn put_field(page: &mut Words, schema: &Schema, field: &Words) {
+/// Puts the comment of the field at this place before what is declared next.
+pub(crate) fn put_field_comment(page: &mut Words, schema: &Schema) {
     page.fill("at", "$place$.2.$at$");
     let comment = schema.comment(page.get("at"));
     put_comment(page, "declared", "    ", comment);
+}
+
+/// What there is for each field.
+pub(crate) fn put_field(page: &mut Words, schema: &Schema, field: &Words) {
+    put_field_comment(page, schema);
     page.append_all(&OF_FIELD);
     let mut types = field.get("all_types").split(' ');
     for number in field.get("numbers").split(' ') {

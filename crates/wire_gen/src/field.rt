@@ -287,6 +287,7 @@ fn put_number(words: &mut Words, variant: &Words) {
     }
     words.fill("own", "own_at $types$ $next$ $others$");
     words.append("all_types", "$own_types$ ");
+    words.append("all_own", "$types$ ");
     words.append_all(&OF_KEEPING_ONEOF);
     words.fill_all(&KEEPING_ONEOF);
 }
@@ -304,7 +305,8 @@ const OF_KEEPING_ONEOF: [Template; 3] = [
     ),
 ];
 
-const KEEPING_ONEOF: [Template; 5] = [
+const KEEPING_ONEOF: [Template; 6] = [
+    ("shape", "$module$-shape"),
     ("definition", "leaving_other ($own$) $module$-shape"),
     ("table", "$holder$-$field$-kind"),
     ("step", "$holder$-$field$-kind.takes"),

@@ -19,6 +19,8 @@ mod oneof;
 mod oneof_definitions;
 mod oneof_proofs;
 mod package;
+mod recursive;
+mod recursive_definitions;
 mod scalar;
 mod schema;
 mod tree;

@@ -6,10 +6,12 @@ use crate::enums::enum_files;
 use crate::error::GenerateError;
 use crate::extensions::extensions_of;
 use crate::features::{FIRST_EDITION, LAST_EDITION};
-use crate::field::{Oneof, fields_of};
+use crate::field::{Field, Oneof, fields_of};
 use crate::oneof::oneof_code;
 use crate::oneof_definitions::oneof_definitions;
 use crate::oneof_proofs::{merge_answers, variant_answers};
+use crate::recursive::{is_row, leaf_tree, recursive_code};
+use crate::recursive_definitions::{recursive_definitions, row_answers};
 use crate::schema::{EnumType, MessageType, Schema};
 use crate::tree::tree_of;
 use crate::words::{Template, Words};
@@ -228,10 +230,13 @@ impl Package {
         if fields.len() > MOST_FIELDS {
             return Err(page.refused("$full$: more than 40 fields"));
         }
+        if message.is_recursive {
+            return self.add_recursive(schema, message, fields);
+        }
         let tree = tree_of(&page, &mut fields)?;
         let code = code_of(&page, schema, message, &fields, &tree)?;
         let definitions = definitions_of(&page, &fields, &tree, message.is_read_back)?;
-        let answers = answers_of(&page, &fields, &tree)?;
+        let answers = answers_of(&page, &fields, &tree, false)?;
         self.add_type(&mut page, code, definitions)?;
         if message.is_read_back {
             self.add_law(&mut page)?;
@@ -246,6 +251,41 @@ impl Package {
         }
         let path = "proofs/$module$/$name$Message/merge_field/Answers.antt";
         self.add(&mut page, path, answers)
+    }
+
+    // A message type that holds itself: some of these fields are of its own type.
+    fn add_recursive(
+        &mut self,
+        schema: &Schema,
+        message: &MessageType,
+        fields: Vec<Field>,
+    ) -> Result<(), GenerateError> {
+        let mut page = self.page(&message.words);
+        let (fields, tree) = leaf_tree(&mut page, fields)?;
+        let code = recursive_code(&page, schema, message, &fields)?;
+        let definitions = recursive_definitions(&page, &fields, &tree)?;
+        let mut leaf = Vec::new(page.alloc());
+        let [of_row, of_push] = row_answers(&page, &fields)?;
+        for field in fields {
+            if !is_row(&field) {
+                leaf.push(field)?;
+            }
+        }
+        let answers = answers_of(&page, &leaf, &tree, true)?;
+        self.add_type(&mut page, code, definitions)?;
+        for field in &leaf {
+            if let Some(oneof) = &field.oneof {
+                self.add_oneof(oneof, false)?;
+            }
+        }
+        let folder = "proofs/$module$/$name$Recursive";
+        page.fill("folder", folder);
+        self.add(&mut page, "$folder$/merge_leaf/Answers.antt", answers)?;
+        if !of_row.is_empty() {
+            self.add(&mut page, "$folder$/row/Answers.antt", of_row)?;
+            self.add(&mut page, "$folder$/push/Answers.antt", of_push)?;
+        }
+        Ok(())
     }
 
     fn add_oneof(&mut self, oneof: &Oneof, is_read_back: bool) -> Result<(), GenerateError> {
@@ -326,13 +366,15 @@ impl Package {
 
     // The files that name the others.
     fn add_roots(&mut self) -> Result<(), GenerateError> {
+        if !self.roots.get("laws").is_empty() {
+            self.roots.append("modules", "mod laws;\n");
+        }
         let mut roots = Words::like(&self.roots);
         for name in ["modules", "exports", "definitions"] {
             sort_lines(&mut roots, name);
         }
         if !roots.get("laws").is_empty() {
             sort_lines(&mut roots, "law_uses");
-            roots.append("modules", "pub mod laws;\n");
             roots.fill("text", LAWS);
             let laws = roots.finish("text")?;
             self.add(&mut roots, "src/laws.rt", laws)?;
@@ -352,6 +394,14 @@ fn sort_lines(roots: &mut Words, name: &'static str) {
     let lines = roots.take(name);
     for line in roots.sorted(&lines) {
         roots.set("line", line);
-        roots.append(name, "$line$\n");
+        let is_public = matches!(line, "mod extensions;" | "mod laws;");
+        roots.append(
+            name,
+            if is_public {
+                "pub $line$\n"
+            } else {
+                "$line$\n"
+            },
+        );
     }
 }

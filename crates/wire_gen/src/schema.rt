@@ -31,6 +31,8 @@ pub(crate) struct MessageType {
     pub descriptor: DescriptorProto,
     /// Whether a law says that what is written of it is read back.
     pub is_read_back: bool,
+    /// Whether it holds messages of its own type.
+    pub is_recursive: bool,
 }
 
 /// An enum, with the words of a message type.
@@ -130,6 +132,7 @@ impl Schema {
                 origin,
                 descriptor: descriptor.clone()?,
                 is_read_back: true,
+                is_recursive: false,
             })?;
         }
         for _ in 0..MOST_MESSAGES {
@@ -169,6 +172,7 @@ impl Schema {
                 origin: message.origin,
                 descriptor,
                 is_read_back: true,
+                is_recursive: false,
             })?;
         }
         let enums = &descriptor.enum_type;
@@ -261,14 +265,15 @@ impl Schema {
         }
     }
 
-    // No message type holds itself: each turn leaves those open that hold an open one.
+    // No message types hold one another: each turn leaves those open that hold an open one beside
+    // themselves.
     fn stop_on_cycles(&mut self) -> Result<(), GenerateError> {
         let held = self.held_by_each()?;
         let mut open = self.flags(true)?;
         for _ in 0..self.messages.len() {
             let mut next = self.flags(false)?;
             for (holder, held) in &held {
-                if open.get(*held) == Some(&true) {
+                if holder != held && open.get(*held) == Some(&true) {
                     if let Some(flag) = next.get_mut(*holder) {
                         *flag = true;
                     }
@@ -281,20 +286,26 @@ impl Schema {
         }
         for (message, is_open) in self.messages.iter_mut().zip(open) {
             if is_open && message.origin.is_own {
-                let why = "$full$: messages that hold themselves are not generated";
+                let why = "$full$: messages that hold one another are not generated";
                 return Err(message.words.refused(why));
+            }
+        }
+        for (holder, held) in held {
+            if let Some(message) = self.messages.get_mut(holder) {
+                message.is_recursive |= holder == held;
             }
         }
         Ok(())
     }
 
     // Closed enums and records of other wire types are left to the unknown fields, and of these no
-    // law is there, nor of what holds such a message.
+    // law is there, nor of messages that hold themselves, nor of what holds such a message.
     fn find_read_back(&mut self, is_refusing: bool) -> Result<(), GenerateError> {
         let held = self.held_by_each()?;
         let mut flags = self.flags(is_refusing)?;
         for (message, flag) in self.messages.iter().zip(flags.iter_mut()) {
-            *flag &= !message.descriptor.field.iter().any(|it| self.is_closed(it));
+            let has_closed = message.descriptor.field.iter().any(|it| self.is_closed(it));
+            *flag &= !has_closed && !message.is_recursive;
         }
         for _ in 0..self.messages.len() {
             for (holder, held) in &held {

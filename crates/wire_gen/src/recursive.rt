@@ -1,0 +1,433 @@
+//! The code of a message type that holds itself: its fields of its own type are rows, and all others
+//! its leaf, which is written in runs between the rows.
+use crate::code::{put_field, put_field_comment, put_head, set_rest};
+use crate::error::GenerateError;
+use crate::field::Field;
+use crate::schema::{MessageType, Schema};
+use crate::tree::{Tree, tree_of};
+use crate::words::{Template, Words};
+
+const USES: &str = "\
+bytes Buf
+std::alloc Global
+wire_codec DecodeContext
+wire_codec DecodeError
+wire_codec EncodeError
+wire_codec EncodeSink
+wire_codec Message
+wire_codec MessageName
+wire_codec SizeCache
+wire_codec Tag
+wire_fields Parts
+wire_fields Place
+wire_fields Recursive
+wire_fields merge_nest
+wire_fields nest_size
+wire_fields write_nest
+";
+
+const RECURSIVE: &str = "
+impl Recursive for $name$ {
+    ghost use Rattle.$crate$.specs.$name$.{$name$-Leaf};
+    ghost use Rattle.$crate$.specs.$name$.{$module$-counted};
+    ghost use Rattle.$crate$.specs.$name$.{$module$-leaf};
+    ghost use Rattle.$crate$.specs.$name$.{$module$-table};
+
+    ghost Leaf = { $name$-Leaf };
+
+    ghost view = { $module$-value };
+
+    ghost table = { $module$-table };
+
+    ghost counted = { $module$-counted };
+
+    ghost single = { $module$-leaf.single };
+
+    fn empty(alloc: Global) -> $name$ {
+        $name$ {$emptied$}
+    }
+
+    fn rows() -> usize {
+        $count$
+    }
+
+    fn number($row_of_number$: usize) -> u32 {
+$numbers_of_rows$    }
+
+    fn place(number: u32) -> Place {
+        match number {
+$places$            _ => Place::Leaf,
+        }
+    }
+
+    fn row(&self, row: usize) -> &[$name$] {
+        match row {
+$rows$            _ => &[],
+        }
+    }
+
+$take$
+$put$
+$push$
+    fn run_len(&self, run: usize, cache: &mut SizeCache) -> Result<u64, EncodeError> {
+        match run {
+$lens$        }
+    }
+
+    fn put_run<S: EncodeSink>(
+        &self,
+        run: usize,
+        cache: &mut SizeCache,
+        sink: &mut S,
+    ) -> Result<(), EncodeError> {
+        match run {
+$puts$        }
+    }
+
+    fn merge_leaf<B: Buf>(
+        &mut self,
+        alloc: Global,
+        tag: Tag,
+        buf: &mut B,
+        context: &mut DecodeContext,
+    ) -> Result<(), DecodeError> {
+$merge$    }
+}
+
+impl Message for $name$ {
+    ghost use Rattle.$crate$.specs.$name$.{$name$-Value};
+    ghost use Rattle.$crate$.specs.$name$.{$module$-shape};
+
+    ghost Value = { $name$-Value };
+
+    ghost view = { $module$-value };
+
+    ghost records = { $module$-shape.records };
+
+    ghost default = { $module$-shape.default };
+
+    ghost takes = { $module$-shape.takes };
+
+    ghost single = { $module$-shape.single };
+
+    fn default_value(alloc: Global) -> $name$ {
+        $name$::empty(alloc)
+    }
+
+    fn compute_size(&self, cache: &mut SizeCache) -> Result<u32, EncodeError> {
+        nest_size(self, cache)
+    }
+
+    fn write_to<S: EncodeSink>(
+        &self,
+        cache: &mut SizeCache,
+        sink: &mut S,
+    ) -> Result<(), EncodeError> {
+        write_nest(self, cache, sink)
+    }
+
+    fn merge_field<B: Buf>(
+        &mut self,
+        alloc: Global,
+        tag: Tag,
+        buf: &mut B,
+        context: &mut DecodeContext,
+    ) -> Result<(), DecodeError> {
+        merge_nest(self, alloc, tag, buf, context)
+    }
+
+    fn clear(&mut self) {$cleared$}
+}
+";
+
+const OF_ONCE: [Template; 7] = [
+    ("declared", "    pub $field$: Option<Box<$name$>>,\n"),
+    ("emptied", "            $field$: None,\n"),
+    ("cleared", "        self.$field$ = None;\n"),
+    ("places", "            $number$ => Place::Once($row$),\n"),
+    (
+        "rows",
+        "            $row$ => {
+                match &self.$field$ {
+                    Some(message) => from_ref(message),
+                    None => &[],
+                }
+            }
+",
+    ),
+    (
+        "takes",
+        "            $row$ => {
+                match self.$field$.take() {
+                    Some(message) => Box::into_inner(message),
+                    None => $name$::empty(alloc),
+                }
+            }
+",
+    ),
+    (
+        "onces",
+        "            $row$ => {
+                self.$field$ = Some(Box::new(alloc, message)?);
+                Ok(())
+            }
+",
+    ),
+];
+
+const OF_EACH: [Template; 6] = [
+    ("declared", "    pub $field$: Vec<$name$>,\n"),
+    ("emptied", "            $field$: Vec::new(alloc),\n"),
+    ("cleared", "        self.$field$.clear();\n"),
+    (
+        "places",
+        "            $number$ => Place::Each($row$, $size$),\n",
+    ),
+    ("rows", "            $row$ => &self.$field$,\n"),
+    (
+        "eaches",
+        "            $row$ => push_message(&mut self.$field$, message),\n",
+    ),
+];
+
+const TAKE: &str = "    fn take(&mut self, alloc: Global, row: usize) -> $name$ {
+        match row {
+$takes$            _ => $name$::empty(alloc),
+        }
+    }
+";
+
+const NO_TAKE: &str = "    fn take(&mut self, alloc: Global, _row: usize) -> $name$ {
+        $name$::empty(alloc)
+    }
+";
+
+const PUT: &str =
+    "    fn put(&mut self, alloc: Global, row: usize, message: $name$) -> Result<(), DecodeError> {
+        match row {
+$onces$            _ => Ok(()),
+        }
+    }
+";
+
+const NO_PUT: &str = "    fn put(
+        &mut self,
+        _alloc: Global,
+        _row: usize,
+        _message: $name$,
+    ) -> Result<(), DecodeError> {
+        Ok(())
+    }
+";
+
+const PUSH: &str = "    fn push(&mut self, row: usize, message: $name$) -> Result<(), DecodeError> {
+        match row {
+$eaches$            _ => Ok(()),
+        }
+    }
+";
+
+const NO_PUSH: &str =
+    "    fn push(&mut self, _row: usize, _message: $name$) -> Result<(), DecodeError> {
+        Ok(())
+    }
+";
+
+const RUN_FIELD: &str = "                let field_$number$: Known<$kind$> = Known {
+                    number: $number$,
+                    held: &self.$field$,
+                };
+";
+
+const RUN_REST: &str = "                let rest = Rest {
+                    fields: &self.unknown,
+                };
+";
+
+/// The module of a message type that holds itself, whose words the base has.
+pub(crate) fn recursive_code(
+    base: &Words,
+    schema: &Schema,
+    message: &MessageType,
+    fields: &[Field],
+) -> Result<String, GenerateError> {
+    let mut page = Words::like(base);
+    page.set("uses", USES);
+    let mut count: usize = 0;
+    for field in fields {
+        if is_row(field) {
+            page.copy(&field.words, &["field", "number", "size", "at"]);
+            page.index("row", count);
+            put_run(&mut page, false);
+            put_row(&mut page, schema, field);
+            count = count.saturating_add(1);
+        } else {
+            put_leaf(&mut page, schema, field);
+        }
+    }
+    put_run(&mut page, true);
+    page.index("count", count);
+    put_rows(&mut page, count);
+    set_rest(&mut page, false);
+    page.fill(
+        "head_ghosts",
+        "ghost use Rattle.$crate$.specs.$name$.{$module$-value};\n\n",
+    );
+    put_head(&mut page, schema, message);
+    page.append("code", RECURSIVE);
+    page.finish("code")
+}
+
+/// Whether a field is of its message's own type.
+pub(crate) fn is_row(field: &Field) -> bool {
+    !field.words.get("is_row").is_empty()
+}
+
+fn put_row(page: &mut Words, schema: &Schema, field: &Field) {
+    put_field_comment(page, schema);
+    let is_each = field.words.get("kind").starts_with("Each");
+    if is_each {
+        page.append_all(&OF_EACH);
+        page.append("uses", "wire_fields push_message\n");
+    } else {
+        page.append_all(&OF_ONCE);
+        page.append("uses", "std::slice from_ref\n");
+    }
+    page.fill("last_number", "$number$");
+    page.append("numbered", "            $row$ => $number$,\n");
+}
+
+// A field of the leaf: one of its run, and an arm.
+fn put_leaf(page: &mut Words, schema: &Schema, field: &Field) {
+    page.copy(
+        &field.words,
+        &["field", "number", "kind", "held", "at", "code", "call"],
+    );
+    put_field(page, schema, &field.words);
+    page.copy(&field.words, &["number"]);
+    page.append("run_lets", RUN_FIELD);
+    put_in_run(page, "field_$number$");
+}
+
+// Puts a part behind those of the run so far.
+fn put_in_run(page: &mut Words, part: &str) {
+    page.fill("part", part);
+    let is_first = page.get("run").is_empty();
+    page.fill(
+        "run",
+        if is_first {
+            "$part$"
+        } else {
+            "($run$, $part$)"
+        },
+    );
+}
+
+// The arms of a run that ends.
+fn put_run(page: &mut Words, is_last: bool) {
+    if is_last {
+        page.append("run_lets", RUN_REST);
+        put_in_run(page, "rest");
+    }
+    page.set("run_at", "_");
+    if !is_last {
+        page.fill("run_at", "$row$");
+    }
+    if page.get("run").is_empty() {
+        page.append("lens", "            $run_at$ => Ok(0),\n");
+        page.append("puts", "            $run_at$ => Ok(()),\n");
+        return;
+    }
+    page.append(
+        "lens",
+        "            $run_at$ => {\n$run_lets$                $run$.len(cache)\n            }\n",
+    );
+    page.append(
+        "puts",
+        "            $run_at$ => {\n$run_lets$                $run$.put(cache, sink)\n            }\n",
+    );
+    page.fill_all(&[("run", ""), ("run_lets", "")]);
+}
+
+// The calls of rows, of which some may be for no row.
+fn put_rows(page: &mut Words, count: usize) {
+    page.set("row_of_number", if count > 1 { "row" } else { "_row" });
+    page.fill(
+        "numbers_of_rows",
+        if count > 1 {
+            "        match row {\n$numbered$            _ => $last_number$,\n        }\n"
+        } else {
+            "        $last_number$\n"
+        },
+    );
+    let has_once = !page.get("onces").is_empty();
+    page.fill("take", if has_once { TAKE } else { NO_TAKE });
+    page.fill("put", if has_once { PUT } else { NO_PUT });
+    let has_each = !page.get("eaches").is_empty();
+    page.fill("push", if has_each { PUSH } else { NO_PUSH });
+}
+
+/// Tells the fields of a message's own type that they are rows, and makes the tree of the others.
+pub(crate) fn leaf_tree(
+    base: &mut Words,
+    fields: Vec<Field>,
+) -> Result<(Vec<Field>, Tree), GenerateError> {
+    let alloc = base.alloc();
+    let mut order = Vec::new(alloc);
+    let (mut rows, mut leaf) = (Vec::new(alloc), Vec::new(alloc));
+    for mut field in fields {
+        if is_own(base, &field.words) {
+            field.words.set("is_row", "is_row");
+        } else if holds_own(base, &field) {
+            return Err(base.refused(BY_OTHER));
+        }
+        order.push(is_row(&field))?;
+        if is_row(&field) {
+            rows.push(field)?;
+        } else {
+            leaf.push(field)?;
+        }
+    }
+    let is_plain = base.get("unknown") == "keep" && base.get("mismatch") == "refuse";
+    let leaves = leaf.iter().any(|it| it.words.get("sort") == "Leaving");
+    if !is_plain || leaves || leaf.is_empty() || leaf.len() > MOST_LEAVES {
+        return Err(base.refused(NO_LEAF));
+    }
+    let tree = tree_of(base, &mut leaf)?;
+    let (mut rows, mut leaf) = (rows.into_iter(), leaf.into_iter());
+    let mut fields = Vec::new(alloc);
+    for is_row in order {
+        let next = if is_row { rows.next() } else { leaf.next() };
+        if let Some(field) = next {
+            fields.push(field)?;
+        }
+    }
+    Ok((fields, tree))
+}
+
+const BY_OTHER: &str =
+    "$full$: a message that holds itself by a map, a oneof or a group is not generated";
+
+const NO_LEAF: &str = "$full$: a message that holds itself has one to eight other fields, and \
+                       neither closed enums, unknown=drop nor mismatch=keep";
+
+// The most other fields: the runs of these are tuples.
+const MOST_LEAVES: usize = 8;
+
+// Whether a field is an embedded message of the type itself, or a list of these.
+fn is_own(base: &Words, field: &Words) -> bool {
+    let kind = field.get("kind");
+    let is_embedded = kind.starts_with("Embedded<") || kind.starts_with("EachEmbedded<");
+    is_embedded && field.get("of_name") == base.get("name")
+}
+
+// Whether another kind of field has the type itself.
+fn holds_own(base: &Words, field: &Field) -> bool {
+    match &field.oneof {
+        Some(oneof) => oneof
+            .variants
+            .iter()
+            .any(|it| it.get("of_name") == base.get("name")),
+        None => field.words.get("of_name") == base.get("name"),
+    }
+}

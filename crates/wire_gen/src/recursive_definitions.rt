@@ -1,0 +1,315 @@
+//! The definitions and the proofs of a message type that holds itself.
+use crate::error::GenerateError;
+use crate::field::Field;
+use crate::imports::definition_imports;
+use crate::recursive::is_row;
+use crate::tree::Tree;
+use crate::words::{Template, Words};
+
+const USES: &str = "\
+Rattle.std.proofs.Common ap
+Rattle.std.proofs.Common suc
+Rattle.std.proofs.Common zero
+Rattle.std.proofs.Common ◌≡◌
+Rattle.std.specs.Prelude Bool
+Rattle.std.specs.Prelude false
+Rattle.std.specs.Prelude true
+Rattle.std.specs.Prelude ◌==◌
+Rattle.std.specs.Prelude ℕ
+Rattle.wire_codec.specs.Field Fields
+Rattle.wire_codec.specs.Folds IsSingle
+Rattle.wire_codec.specs.Records Records
+Rattle.wire_codec.specs.Records joined_records
+Rattle.wire_codec.specs.Records none
+Rattle.wire_codec.specs.TakingLaws OneReading
+Rattle.wire_fields.specs.Nest Nest
+Rattle.wire_fields.specs.Nest boxed_row
+Rattle.wire_fields.specs.Nest done
+Rattle.wire_fields.specs.Nest nest
+Rattle.wire_fields.specs.Nest row
+Rattle.wire_fields.specs.Nest row_count
+Rattle.wire_fields.specs.Nest row_of
+Rattle.wire_fields.specs.NestTable Table
+Rattle.wire_fields.specs.NestTable empty_of
+Rattle.wire_fields.specs.NestTable if_number
+Rattle.wire_fields.specs.NestTable nest_records
+Rattle.wire_fields.specs.NestTable nest_single
+Rattle.wire_fields.specs.NestTable nest_takes
+Rattle.wire_fields.specs.Shape Lawful
+Rattle.wire_fields.specs.Shape Shape
+Rattle.wire_fields.specs.Shape known
+Rattle.wire_fields.specs.Shape two
+Rattle.wire_fields.specs.Shape unknown
+Rattle.wire_fields.specs.declared.recursive.Place Place
+Rattle.wire_fields.specs.declared.recursive.Place.TheVariants Each
+Rattle.wire_fields.specs.declared.recursive.Place.TheVariants Leaf
+Rattle.wire_fields.specs.declared.recursive.Place.TheVariants Once
+Rattle.$crate$.specs.declared.$module$.$name$ $name$
+Rattle.$crate$.specs.declared.$module$.$name$ $name$-F
+Rattle.$crate$.specs.declared.$module$.$name$ fold-$name$
+Rattle.$crate$.specs.declared.$module$.$name$ fold_out-$name$
+Rattle.$crate$.specs.declared.$module$.$name$ out-$name$
+";
+
+const KIND: &str = "\
+abbrev pub $module$-$field$-kind : Lawful $bracketed$
+$module$-$field$-kind = $definition$
+
+";
+
+const TEXT: &str = "\
+-- A `$name$` as contracts see it, and its table: its leaf, and rows of messages of its own type.
+-- Generated.
+$imports$
+$kinds$abbrev pub $name$-Known : Type 0
+$name$-Known =
+    $value$
+
+abbrev pub $name$-Leaf : Type 0
+$name$-Leaf = $name$-Known × Fields
+
+abbrev pub $name$-Value : Type 0
+$name$-Value = Nest $name$-Leaf
+
+-- one message, with values in the places of those that it holds
+abbrev pub $module$-one : $name$-F $name$-Value → $name$-Value
+$module$-one m =
+    nest (
+$view$,
+      m.unknown,
+    )
+    $row_views$
+
+abbrev pub $module$-value : $name$ → $name$-Value
+$module$-value = fold-$name$ $name$-Value $module$-one
+
+abbrev pub $module$-known : Shape $name$-Known
+$module$-known =
+    $table$
+
+abbrev pub $module$-leaf : Shape $name$-Leaf
+$module$-leaf = two $module$-known unknown
+
+-- the records of the leaf before the first row, behind the first, and so on
+abbrev pub $module$-run : ℕ → $name$-Leaf → Records
+$runs$
+abbrev pub $module$-number : ℕ → ℕ
+$numbers$
+abbrev pub $module$-once : ℕ → Bool
+$onces$
+abbrev pub $module$-place : ℕ → Place
+$module$-place n = $places$
+
+abbrev pub $module$-table : Table $name$-Leaf
+$module$-table = record {
+  default = $module$-leaf.default;
+  takes = $module$-leaf.takes;
+  run = $module$-run;
+  rows = $count$;
+  number = $module$-number;
+  once = $module$-once;
+  place = $module$-place;
+}
+
+pub $module$-counted : (m : $name$) → row_count ($module$-value m) ≡ $count$
+$module$-counted m = ap row_count (fold_out-$name$ $name$-Value $module$-one m)
+
+pub $module$-single : OneReading → IsSingle (nest_takes $module$-table)
+$module$-single reading = nest_single $module$-table reading ($module$-leaf.single reading)
+
+abbrev pub $module$-shape : Shape $name$-Value
+$module$-shape = record {
+  owns = λ n p. true;
+  default = empty_of $module$-table;
+  records = nest_records $module$-table;
+  takes = nest_takes $module$-table;
+  single = $module$-single;
+}
+";
+
+/// The value of a message type that holds itself, and its table.
+pub(crate) fn recursive_definitions(
+    base: &Words,
+    fields: &[Field],
+    tree: &Tree,
+) -> Result<String, GenerateError> {
+    let mut page = Words::like(base);
+    page.fill("uses", USES);
+    page.fill_all(&[("at", "zero"), ("at_least", "i")]);
+    let mut count: usize = 0;
+    for field in fields {
+        page.copy(
+            &field.words,
+            &["field", "number", "bracketed", "definition"],
+        );
+        page.copy(&field.words, &["definitions", "table", "path"]);
+        if is_row(field) {
+            put_run(&mut page, "$at$");
+            if count > 0 {
+                put_number(&mut page, "$at_before$");
+            }
+            let is_each = field.words.get("kind").starts_with("Each");
+            page.set("of_row", field.words.get("number"));
+            page.set("is_once", if is_each { "false" } else { "true" });
+            page.fill_all(&[("at_before", "$at$"), ("least_before", "$at_least$")]);
+            page.fill_all(&[("at", "(suc $at$)"), ("at_least", "(suc $at_least$)")]);
+            count = count.saturating_add(1);
+        } else {
+            page.append("uses", "$definitions$");
+            page.append("kinds", if field.oneof.is_none() { KIND } else { "" });
+            put_in_run(&mut page, "($table$).records l.0$path$");
+        }
+    }
+    put_in_run(&mut page, "unknown.records l.1");
+    put_run(&mut page, "$at_least$");
+    put_number(&mut page, "$least_before$");
+    page.index("count", count);
+    put_rows(&mut page, fields, count);
+    page.copy(&tree.words, &["value", "view", "table"]);
+    for _ in 0..3 {
+        page.indent("view");
+    }
+    definition_imports(&mut page);
+    page.fill("text", TEXT);
+    page.finish("text")
+}
+
+// Puts the records of a field behind those of the run so far.
+fn put_in_run(page: &mut Words, part: &str) {
+    page.fill("part", part);
+    let is_first = page.get("run").is_empty();
+    page.fill(
+        "run",
+        if is_first {
+            "$part$"
+        } else {
+            "joined_records ($run$)\n    ($part$)"
+        },
+    );
+}
+
+// The line of a run that ends, which is the one here.
+fn put_run(page: &mut Words, at: &str) {
+    page.fill("here", at);
+    if page.get("run").is_empty() {
+        page.append("runs", "$module$-run $here$ l = none\n");
+    } else {
+        page.append("runs", "$module$-run $here$ l =\n    $run$\n");
+    }
+    page.set("run", "");
+}
+
+// The lines of a row's number, and of whether it has one message at most.
+fn put_number(page: &mut Words, at: &str) {
+    page.fill("here", at);
+    page.append_all(&[
+        ("numbers", "$module$-number $here$ = $of_row$\n"),
+        ("onces", "$module$-once $here$ = $is_once$\n"),
+    ]);
+}
+
+const OF_EACH: [Template; 2] = [
+    ("here", "Each $row$ $size$"),
+    ("row_view", "m.$field$.items"),
+];
+
+const OF_ONCE: [Template; 2] = [
+    ("here", "Once $row$"),
+    ("row_view", "(boxed_row m.$field$)"),
+];
+
+// Where records go, and the rows as they are seen, from the last one on.
+fn put_rows(page: &mut Words, fields: &[Field], count: usize) {
+    page.fill_all(&[("places", "Leaf"), ("row_views", "done")]);
+    let mut row = count;
+    for field in fields.iter().rev() {
+        if is_row(field) {
+            row = row.saturating_sub(1);
+            page.index("row", row);
+            page.copy(&field.words, &["field", "number", "size"]);
+            let is_each = field.words.get("kind").starts_with("Each");
+            page.fill_all(if is_each { &OF_EACH } else { &OF_ONCE });
+            page.fill_all(&[
+                ("places", "if_number (n == $number$) ($here$) ($places$)"),
+                ("row_views", "(row (row_of $row_view$) $row_views$)"),
+            ]);
+        }
+    }
+}
+
+const ROW_HEAD: &str = "\
+use Rattle.std.proofs.Common.{◌∙◌, ap, map, sym}
+use Rattle.wire_fields.specs.Nest.{listed_row}
+use Rattle.$crate$.specs.$name$.{$name$-Value, $module$-one, $module$-value}
+use Rattle.$crate$.specs.declared.$module$.$name$.{fold_out-$name$}
+use Rattle.$crate$.proofs.$module$.$name$Recursive.row.Goals as goal
+";
+
+const ROW: &str = "
+pub returns-in-$row$ : goal.returns-in-$row$
+returns-in-$row$ c =
+    rw (c.in-$row$.is, fold_out-$name$ $name$-Value $module$-one c.args.self.now)
+    (ap (map $module$-value) $call$.ensures.value ∙ sym (listed_row _))
+";
+
+const PUSH_HEAD: &str = "\
+use Rattle.std.proofs.Common.{◌∙◌}
+use Rattle.std.proofs.lemmas.Result.{on_ok_weaker}
+use Rattle.wire_fields.specs.Nest.{listed_row, row_pushed}
+use Rattle.$crate$.specs.$name$.{$name$-Value, $module$-one, $module$-value}
+use Rattle.$crate$.specs.declared.$module$.$name$.{$name$, out-$name$, fold_out-$name$}
+use Rattle.$crate$.specs.declared.$module$.$name$.TheFolds.{fold-roll-$name$, map-$name$}
+use Rattle.$crate$.proofs.$module$.$name$Recursive.push.Goals as goal
+";
+
+const PUSH: &str = "
+pub returns-in-$row$-clause-ok : goal.returns-in-$row$-clause-ok
+returns-in-$row$-clause-ok c =
+    on_ok_weaker $call$.result (λ pushed. rw (
+      c.in-$row$.is,
+      fold_out-$name$ $name$-Value $module$-one c.args.self.now,
+    ) (fold-roll-$name$ $name$-Value $module$-one _
+    ∙ row_pushed $module$-value $row$
+    ($module$-one (map-$name$ $name$ $name$-Value $module$-value (out-$name$ c.args.self.now)))
+    _ _ c.args.message (listed_row _) pushed)) $call$.ensures.ok
+";
+
+/// The answers of `row`, and those of `push`; nothing where there is no row of many messages.
+pub(crate) fn row_answers(base: &Words, fields: &[Field]) -> Result<[String; 2], GenerateError> {
+    let mut page = Words::like(base);
+    let mut row: usize = 0;
+    let mut is_first = true;
+    for field in fields {
+        if is_row(field) {
+            if field.words.get("kind").starts_with("Each") {
+                page.index("row", row);
+                page.fill(
+                    "call",
+                    if is_first {
+                        "c.deref"
+                    } else {
+                        "c.deref-in-$row$"
+                    },
+                );
+                page.append("rows", ROW);
+                page.fill(
+                    "call",
+                    if is_first {
+                        "c.push_message"
+                    } else {
+                        "c.push_message-in-$row$"
+                    },
+                );
+                page.append("pushes", PUSH);
+                is_first = false;
+            }
+            row = row.saturating_add(1);
+        }
+    }
+    if is_first {
+        return Ok([page.finish("rows")?, page.finish("pushes")?]);
+    }
+    page.fill_all(&[("of_row", ROW_HEAD), ("of_push", PUSH_HEAD)]);
+    page.append_all(&[("of_row", "$rows$"), ("of_push", "$pushes$")]);
+    Ok([page.finish("of_row")?, page.finish("of_push")?])
+}
