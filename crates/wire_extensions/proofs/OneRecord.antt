@@ -48,7 +48,7 @@ module _ (order : RecordsInOrder) (n : ℕ) (p : Payload) (text : List ℕ) wher
     taken c z new h is =
         let same = order.reading.tag text is.behind rest n k (type_of p) w is.tag tag in
         let read : Reads rest (IsPayload k w p) []
-            = rw (sym same.0, sym same.1, sym same.2) is.payload in
+        = rw (sym same.0, sym same.1, sym same.2) is.payload in
         let one = order.reading.payload k w p h.payload rest [] new read h.read.read in
         record {
           step = rw (same.0, one.0) h.step;

@@ -1,5 +1,5 @@
 -- A priority, a number of explicit presence, is read back.
-use Rattle.std.proofs.Common.{◌≡◌, ℤ}
+use Rattle.std.proofs.Common.{◌≡◌}
 use Rattle.std.specs.Int.{w32}
 use Rattle.std.specs.Prelude.{FitsSigned, Option, None, Some, option_map}
 use Rattle.wire_codec.specs.Laws.{FieldsArePlain}

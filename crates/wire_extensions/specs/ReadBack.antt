@@ -6,12 +6,12 @@ use Rattle.wire_codec.specs.Field.{Fields}
 use Rattle.wire_codec.specs.FieldNumber.{IsFieldNumber}
 use Rattle.wire_codec.specs.Folds.{IsSingle}
 use Rattle.wire_codec.specs.InRange.{AreNumbered}
-use Rattle.wire_codec.specs.Limits.{Limits, Charge}
+use Rattle.wire_codec.specs.Limits.{Limits, Charge, Fits}
 use Rattle.wire_codec.specs.Records.{plain}
 use Rattle.wire_codec.specs.Taking.{IsCharged}
 use Rattle.wire_fields.specs.Back.{KindBack}
 use Rattle.wire_fields.specs.Shape.{FieldKind}
-use Rattle.wire_extensions.specs.Extension.{is_own, owned, others, replaced, IsValue, Stores}
+use Rattle.wire_extensions.specs.Extension.{is_own, owned, others, replaced, IsValue, NoValue, Stores}
 use Rattle.wire_extensions.specs.Laws.{AllOwned, GetOfSet, OneLeavesOthers, StoredArePlain}
 
 -- the records of v, which are of number n, were put among others
@@ -32,6 +32,15 @@ module _ {V : Type 0} (k : FieldKind V) (Holds : V → Type 0) (charge_of : V �
         (back.back n number v holds) own stored in
         let taken = got h.numbered in
         h.only single taken.charge read taken.taken.folded
+
+    pub value_there : GetOfSet k → IsSingle k.takes → (before : Limits) → Fits (charge_of v) before
+        → (AreNumbered (owned (is_own n None) (replaced (is_own n None) fs more))
+        → IsSingle k.takes → NoValue k (is_own n None) (replaced (is_own n None) fs more) before)
+        → ⊥
+    value_there get_of_set single before fits none =
+        let h = get_of_set n (is_own n None) l fs more v (charge_of v)
+        (back.back n number v holds) own stored in
+        none h.numbered single (charge_of v) v (record { folded = h.folded; fits = fits })
 
     pub others_left : StoredArePlain → others (is_own n None) (replaced (is_own n None) fs more)
         ≡ others (is_own n None) fs

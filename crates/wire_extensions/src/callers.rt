@@ -1,6 +1,12 @@
 //! Callers of extensions, which `CALLING.md` shows.
-ghost use Rattle.std.specs.Prelude.{◌≡◌, None, Some, OnOk, IfOk};
-ghost use Rattle.wire_extensions.specs.Extension.{is_own, others};
+ghost use Rattle.std.specs.Prelude.{◌≡◌, ◌≢◌, ◌^◌, ◌-◌, None, Some, OnOk, IfOk, IfErr};
+ghost use Rattle.wire_codec.specs.DecodeError.TheVariants.{OutOfMemory};
+ghost use Rattle.wire_codec.specs.Limits.{counted};
+ghost use Rattle.wire_codec.specs.ValueMap.{int32};
+ghost use Rattle.wire_fields.specs.declared.form.Form.TheVariants.{Varint};
+ghost use Rattle.wire_fields.specs.Numbers.{numeric};
+ghost use Rattle.wire_fields.specs.Presence.{optional};
+ghost use Rattle.wire_extensions.specs.Extension.{is_own, others, NotStored};
 
 use crate::extension::Extension;
 use crate::laws as extensions;
@@ -9,7 +15,7 @@ use wire_codec::{DecodeContext, DecodeError, UnknownFields, laws};
 use wire_fields::{Int32, Optional};
 
 /// Puts the priority, which is the extension 100, and reads it again. What stands in other fields
-/// stays as it was.
+/// stays as it was. Refused where memory runs out, or where its record cannot be put.
 pub fn put_priority(
     alloc: Global,
     fields: &mut UnknownFields,
@@ -18,9 +24,13 @@ pub fn put_priority(
     ensures same { IfOk result (λ read. read ≡ Some priority) }
     ensures others { OnOk result
         (others (is_own 100 None) fields.new ≡ others (is_own 100 None) fields.old) }
+    ensures memory { IfErr result (λ e. e ≢ OutOfMemory → NotStored
+        ((optional (numeric Varint int32)).kind.records 100 (Some priority))
+        (counted 100 (2 ^ 64 - 1))) }
 {
     laws::fields_are_plain();
     laws::grammar::charges_add_up();
+    laws::grammar::limits_add_up();
     laws::scalar::values_read_back();
     extensions::one_leaves_others();
     extensions::stored_are_plain();

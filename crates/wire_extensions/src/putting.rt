@@ -39,10 +39,7 @@ pub(crate) fn stored<K: Kind>(
 
 // Puts records behind others. Where memory runs out nothing changes: several are put into a copy
 // first.
-pub(crate) fn put_behind(
-    fields: &mut UnknownFields,
-    more: UnknownFields,
-) -> Result<(), DecodeError>
+pub(crate) fn put_behind(fields: &mut UnknownFields, more: UnknownFields) -> Result<(), DecodeError>
     ensures ok { OnOk result (fields.new ≡ joined fields.old more) }
     ensures err { IfErr result (λ e. e ≡ OutOfMemory) }
     ensures unchanged { OnErr result (fields.new ≡ fields.old) }

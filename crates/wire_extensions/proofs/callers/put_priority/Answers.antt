@@ -1,5 +1,5 @@
 use Rattle.std.proofs.Common.{rules, to_z-of_z}
-use Rattle.std.proofs.lemmas.Result.{IfOk-weaker}
+use Rattle.std.proofs.lemmas.Result.{IfOk-weaker, IfErr-weaker}
 use Rattle.std.specs.Prelude.{Some}
 use Rattle.wire_codec.specs.FieldNumber.{IsFieldNumber}
 use Rattle.wire_codec.specs.ValueMap.{int32}
@@ -8,7 +8,7 @@ use Rattle.wire_fields.specs.Numbers.{numeric}
 use Rattle.wire_fields.specs.Presence.{some_single}
 use Rattle.wire_extensions.proofs.Priority.{priority_back, same_option}
 use Rattle.wire_extensions.proofs.Results.{at_ok}
-use Rattle.wire_extensions.specs.ReadBack.{value_read, others_left}
+use Rattle.wire_extensions.specs.ReadBack.{value_read, value_there, others_left}
 use Rattle.wire_extensions.proofs.callers.put_priority.Goals as goal
 
 pub returns-clause-same : goal.returns-clause-same
@@ -36,3 +36,17 @@ returns-clause-others c =
     at_ok c.get.result (rw put
     (others_left _ _ _ back c.one_leaves_others.ensures 100 number (Some c.args.priority)
     c.ranges.priority c.args.fields.now more _ stored c.stored_are_plain.ensures))
+
+pub returns-clause-memory : goal.returns-clause-memory
+returns-clause-memory c =
+    let own = c.in-Some.ensures.some in
+    let back = priority_back c.fields_are_plain.ensures c.charges_add_up.ensures
+    c.values_read_back.ensures.int32 in
+    let number : IsFieldNumber 100 = search rules in
+    let (more, stored, put) =
+    rw (own.0, own.1, to_z-of_z c.ranges.priority) at c.in_ok-set.ensures.ok in
+    IfErr-weaker c.get.result _ _ (λ e none other. absurd
+    (value_there _ _ _ back c.one_leaves_others.ensures 100 number (Some c.args.priority)
+    c.ranges.priority c.args.fields.now more _ stored c.get_of_set.ensures
+    (some_single (numeric Varint int32)) _ (c.limits_add_up.ensures.nothing_fits _) (none other)))
+    (rw (own.0, own.1, put) at c.get.ensures.err)

@@ -10,7 +10,7 @@ use Rattle.wire_extensions.proofs.putting.append.Goals as goal
 pub loop-field-init : goal.loop-field-init
 loop-field-init c =
     let whole : fields_of (into_iter_items c.into_iter-field-iterator.result) ≡ c.args.more
-        = search rules in
+    = search rules in
     record {
       next = tt;
       finite = tt;
@@ -24,7 +24,7 @@ loop-field-preserved c =
     let rest = fields_of (into_iter_items c.next.new.self) in
     let f = c.in-Some.field in
     let pushed : c.push.new.self ≡ push c.loop-field.fields f.number (payload_of f.value)
-        = search rules in
+    = search rules in
     let one = ap (λ x. count_top (fields_of x)) c.in-Some.ensures.steps.0 in
     record {
       next = tt;

@@ -13,6 +13,9 @@ returns-then-not-has-clause-ok g c =
     let no : c.has.result ≡ false = search rules in
     let empty = none_is (owned owns c.args.fields.now)
     (λ some. let yes = c.has.ensures.1 some in cc) in
-    on_ok_weaker c.put_behind.result (λ h. (more, c.in_ok-more.ensures.ok,
-    h ∙ ap (λ x. joined x more) (sym (all_others owns c.args.fields.now empty))))
+    on_ok_weaker c.put_behind.result (λ h. (
+      more,
+      c.in_ok-more.ensures.ok,
+      h ∙ ap (λ x. joined x more) (sym (all_others owns c.args.fields.now empty)),
+    ))
     c.put_behind.ensures.ok
