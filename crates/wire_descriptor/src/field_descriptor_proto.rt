@@ -72,9 +72,7 @@ impl Message for FieldDescriptorProto {
     }
 
     fn compute_size(&self, cache: &mut SizeCache) -> Result<u32, EncodeError> {
-        let fields_1_to_8 = FieldDescriptorProtoFields1To8 {
-            message: self,
-        };
+        let fields_1_to_8 = FieldDescriptorProtoFields1To8 { message: self };
         let field_9: Known<Optional<Int32>> = Known {
             number: 9,
             held: &self.oneof_index,
@@ -96,9 +94,7 @@ impl Message for FieldDescriptorProto {
         cache: &mut SizeCache,
         sink: &mut S,
     ) -> Result<(), EncodeError> {
-        let fields_1_to_8 = FieldDescriptorProtoFields1To8 {
-            message: self,
-        };
+        let fields_1_to_8 = FieldDescriptorProtoFields1To8 { message: self };
         let field_9: Known<Optional<Int32>> = Known {
             number: 9,
             held: &self.oneof_index,

@@ -79,9 +79,7 @@ impl Message for FileDescriptorProto {
     }
 
     fn compute_size(&self, cache: &mut SizeCache) -> Result<u32, EncodeError> {
-        let fields_1_to_8 = FileDescriptorProtoFields1To8 {
-            message: self,
-        };
+        let fields_1_to_8 = FileDescriptorProtoFields1To8 { message: self };
         let field_9: Known<Embedded<SourceCodeInfo>> = Known {
             number: 9,
             held: &self.source_code_info,
@@ -108,9 +106,7 @@ impl Message for FileDescriptorProto {
         cache: &mut SizeCache,
         sink: &mut S,
     ) -> Result<(), EncodeError> {
-        let fields_1_to_8 = FileDescriptorProtoFields1To8 {
-            message: self,
-        };
+        let fields_1_to_8 = FileDescriptorProtoFields1To8 { message: self };
         let field_9: Known<Embedded<SourceCodeInfo>> = Known {
             number: 9,
             held: &self.source_code_info,

@@ -13,11 +13,11 @@ mod field_descriptor_proto;
 mod field_options;
 mod file_descriptor_proto;
 mod file_options;
+pub mod laws;
 mod message_options;
 mod oneof_descriptor_proto;
 mod source_code_info;
 mod source_code_info_location;
-pub mod laws;
 
 pub use code_generator_request::CodeGeneratorRequest;
 pub use code_generator_response::CodeGeneratorResponse;

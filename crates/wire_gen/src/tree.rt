@@ -39,6 +39,10 @@ impl Node {
         self.first <= first && behind <= self.behind
     }
 
+    fn len(&self) -> usize {
+        self.behind.saturating_sub(self.first)
+    }
+
     // Whether it is a part within another.
     fn is_in(&self, other: &Node) -> bool {
         other.has(self.first, self.behind) && !self.has(other.first, other.behind)
@@ -227,9 +231,14 @@ fn reach(left: &Node, right: &Node, fields: &mut [Field]) {
 
 impl Tree {
     // A pair of these, which is a part by itself where it has the fields of one and there are more.
-    fn pair(&mut self, left: Node, right: Node, count: usize) -> Result<Node, GenerateError> {
+    fn pair(&mut self, left: Node, mut right: Node, count: usize) -> Result<Node, GenerateError> {
         let (first, behind) = (left.first, right.behind);
         let mut words = left.words;
+        // (with a closed enum the search finds only what a part by itself has)
+        let is_leaving = words.get("both") == "both_leaving";
+        if is_leaving && left.behind.saturating_sub(first) >= PART && right.len() < PART {
+            self.part(&mut right)?;
+        }
         words.copy(&right.words, &[]);
         for (name, of) in &RIGHT {
             words.set(name, right.words.get(of));
@@ -245,20 +254,27 @@ impl Tree {
         })?;
         let maps = words.get("maps").len();
         let most = if maps > 1 { PART_OF_MAPS } else { PART };
-        let len = behind.saturating_sub(first);
-        if most < count && (len == most || len == PART) {
-            words.fill_all(&NAMES);
-            self.parts.push(Node {
-                first,
-                behind,
-                words: Words::like(&words),
-            })?;
-            words.fill_all(&NAMED);
-        }
-        Ok(Node {
+        let mut node = Node {
             first,
             behind,
             words,
-        })
+        };
+        let len = node.len();
+        if most < count && (len == most || len == PART) {
+            self.part(&mut node)?;
+        }
+        Ok(node)
+    }
+
+    // Makes a part by itself of fields in a row.
+    fn part(&mut self, node: &mut Node) -> Result<(), GenerateError> {
+        node.words.fill_all(&NAMES);
+        self.parts.push(Node {
+            first: node.first,
+            behind: node.behind,
+            words: Words::like(&node.words),
+        })?;
+        node.words.fill_all(&NAMED);
+        Ok(())
     }
 }

@@ -1,11 +1,11 @@
 //! The messages of `wire_report`. Generated.
 #![tactic(auto)]
 
+pub mod laws;
 mod report;
 mod report_level;
 mod report_origin;
 mod report_sample;
-pub mod laws;
 
 pub use report::Report;
 pub use report_level::ReportLevel;

@@ -86,9 +86,7 @@ impl Message for Report {
     }
 
     fn compute_size(&self, cache: &mut SizeCache) -> Result<u32, EncodeError> {
-        let fields_1_to_8 = ReportFields1To8 {
-            message: self,
-        };
+        let fields_1_to_8 = ReportFields1To8 { message: self };
         let field_9: Known<Unpacked<Uint32>> = Known {
             number: 9,
             held: &self.ports,
@@ -130,9 +128,7 @@ impl Message for Report {
         cache: &mut SizeCache,
         sink: &mut S,
     ) -> Result<(), EncodeError> {
-        let fields_1_to_8 = ReportFields1To8 {
-            message: self,
-        };
+        let fields_1_to_8 = ReportFields1To8 { message: self };
         let field_9: Known<Unpacked<Uint32>> = Known {
             number: 9,
             held: &self.ports,

@@ -11,11 +11,11 @@ mod field_mask;
 mod float_value;
 mod int32_value;
 mod int64_value;
+pub mod laws;
 mod string_value;
 mod timestamp;
 mod uint32_value;
 mod uint64_value;
-pub mod laws;
 
 pub use any::Any;
 pub use bool_value::BoolValue;
