@@ -1,7 +1,8 @@
 -- A record that a field takes is one that its message takes, and one that a field refuses is one
 -- that its message refuses. The arms of `merge_field` cite these: `arm_err` that of a known field,
--- and `rest_err` the last one; `arm_ok` is for an arm that the prover does not find.
-use Rattle.std.proofs.Common.{◌≡◌, ◌≢◌, ℕ, List, sym, subst, Bool, true, false, inl, inr}
+-- and `rest_err` the last one; `arm_ok` is for an arm that the prover does not find, with `to_rest`
+-- for the last one.
+use Rattle.std.proofs.Common.{◌≡◌, ◌≢◌, ℕ, List, refl, sym, subst, Bool, true, false, inl, inr}
 use Rattle.std.proofs.lemmas.Bool.Decides.{eqb_tells}
 use Rattle.std.specs.Prelude.{Result, Ok, Err, OnOk, IfErr, ◌==◌, ◌||◌}
 use Rattle.wire_codec.specs.DecodeError.{DecodeError}
@@ -61,6 +62,12 @@ module _ {A B : Type 0} (owns : Owns) (one : Step A) (other : Step B) (n : ℕ)
   to_other c z p h =
       (subst (λ b. on b (one m.0 n p c z.0 × (z.1 ≡ m.1)) (other m.1 n p c z.1 × (z.0 ≡ m.0)))
       (is p) h).0
+
+  pub to_rest : (c : Charge) (z : B) (p : Payload) → other m.1 n p c z
+      → either owns one other m n p c (m.0, z)
+  to_rest c z p h =
+      subst (λ b. on b (one m.0 n p c m.0 × (z ≡ m.1)) (other m.1 n p c z × (m.0 ≡ m.0)))
+      (sym (is p)) (h, refl)
 
   pub rest_err : {R : Type 0} (l : Limits) (w : WireType) (old : List ℕ) (r : Result R DecodeError)
       → IfErr r (λ e. e ≢ OutOfMemory → NotTaken (TakesRecord other l n w m.1 old))

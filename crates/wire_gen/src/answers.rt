@@ -72,6 +72,26 @@ returns-in_default-clause-err g c =
     _ _ _ _ c.keep.result c.keep.ensures.err$behind$
 ";
 
+// Of many fields the search does not find that what is kept is none of theirs.
+const MANY: usize = 16;
+
+const REST_TAKEN: &str = "
+pub returns-in_default-clause-ok : goal.returns-in_default-clause-ok
+returns-in_default-clause-ok g c =
+    let n = tag_number c.args.tag in
+    arm_ok $whole$.takes keeps n n refl _ _ _ _
+    (λ charge p h. to_rest $module$-known.owns $module$-known.takes keeps n
+    (λ p. $unlike$)
+    _ charge _ p h)
+    _ _ _ _ _ c.keep.result c.keep.ensures.ok
+";
+
+const USES_OF_REST_TAKEN: &str = "\
+Rattle.std.proofs.Common refl
+Rattle.wire_fields.specs.Arms arm_ok
+Rattle.wire_fields.specs.Arms to_rest
+";
+
 // The same where they are not kept.
 const REST_DROPPED: &str = "
 pub returns-in_default-clause-err : goal.returns-in_default-clause-err
@@ -206,9 +226,14 @@ pub(crate) fn answers_of(
     if page.get("unlike").contains("neither") {
         page.append("uses", "Rattle.wire_fields.specs.Arms neither\n");
     }
+    let is_large = fields.len() > MANY && is_kept && !leaves;
+    if is_large {
+        page.append("uses", USES_OF_REST_TAKEN);
+    }
     definition_imports(&mut page);
     page.fill("text", HEAD);
     page.append("text", "$answers$");
+    page.append("text", if is_large { REST_TAKEN } else { "" });
     page.append(
         "text",
         if leaves {
