@@ -118,13 +118,15 @@ module _ {V : Type 0} (start : V → V) (put : V → V → V) (price : Charge �
       (after, one, inside_more a b on length_prefixed (start m) after n p one h, charged, is)
 
   owned_finite : (chain : ℕ → Step V) → Rising chain
-      → Within (owned start put price (at_some chain)) (at_some (λ h. owned start put price (chain h)))
+      → Within (owned start put price (at_some chain))
+      (at_some (λ h. owned start put price (chain h)))
   owned_finite chain rising m z n p c (after, one, h, charged, is) =
       let (k, s) = inside_finite chain rising length_prefixed (start m) after n p one h in
       (k, (after, one, s, charged, is))
 
   owned_single : OneReading → (a : Step V) → IsSingle a → IsSingle (owned start put price a)
-  owned_single reading a single m u z w n p c d (after, one, h, charged, is) (after_2, one_2, k, charged_2, is_2) =
+  owned_single reading a single m u z w n p c d (after, one, h, charged, is)
+      (after_2, one_2, k, charged_2, is_2) =
       let agree = inside_single length_prefixed a reading single (start m) (start u) after after_2 n
       p one one_2 h k in (
         charged ∙ ap price agree.0 ∙ sym charged_2,
@@ -135,14 +137,18 @@ module _ {L : Type 0} (t : Table L) (reading : OneReading) (single : IsSingle t.
   at_more : (place : Place) (a b : Step (Nest L)) → Within a b
       → Within (takes_at t a place) (takes_at t b place)
   at_more Leaf a b on m z n p c h = h
-  at_more (Once i) a b on m z n p c h = owned_more (one_of t i) (with_one t i) (λ one. one) a b on m z n p c h
-  at_more (Each i bytes) a b on m z n p c h = owned_more (λ m. empty_of t) (with_more i) (placed bytes) a b on m z n p c h
+  at_more (Once i) a b on m z n p c h =
+      owned_more (one_of t i) (with_one t i) (λ one. one) a b on m z n p c h
+  at_more (Each i bytes) a b on m z n p c h =
+      owned_more (λ m. empty_of t) (with_more i) (placed bytes) a b on m z n p c h
 
   at_finite : (place : Place) (chain : ℕ → Step (Nest L)) → Rising chain
       → Within (takes_at t (at_some chain) place) (at_some (λ h. takes_at t (chain h) place))
   at_finite Leaf chain rising m z n p c h = (0, h)
-  at_finite (Once i) chain rising m z n p c h = owned_finite (one_of t i) (with_one t i) (λ one. one) chain rising m z n p c h
-  at_finite (Each i bytes) chain rising m z n p c h = owned_finite (λ m. empty_of t) (with_more i) (placed bytes) chain rising m z n p c h
+  at_finite (Once i) chain rising m z n p c h =
+      owned_finite (one_of t i) (with_one t i) (λ one. one) chain rising m z n p c h
+  at_finite (Each i bytes) chain rising m z n p c h =
+      owned_finite (λ m. empty_of t) (with_more i) (placed bytes) chain rising m z n p c h
 
   at_single : (place : Place) (a : Step (Nest L)) → IsSingle a → IsSingle (takes_at t a place)
   at_single Leaf a one m u z w n p c d h k =

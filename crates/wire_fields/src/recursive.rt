@@ -91,12 +91,13 @@ pub trait Recursive: Drop {
         ensures others { with_row row [] (table.beside row (view self.new))
             ≡ with_row row [] (table.beside row (view self.old)) };
 
-    /// Makes a message the one of such a row. Of a oneof that the row is of, it is then the one that
-    /// stands. Refused where memory runs out.
+    /// Makes a message the one of such a row, in the place of the others of a oneof. Refused where
+    /// memory runs out.
     fn put(&mut self, alloc: Global, row: usize, message: Self) -> Result<(), DecodeError>
         requires in_range { row < table.rows }
         requires once { table.once row ≡ true }
-        ensures ok { OnOk result (view self.new ≡ with_one table row (view self.old) (view message)) }
+        ensures ok { OnOk result (view self.new
+            ≡ with_one table row (view self.old) (view message)) }
         ensures err { IfErr result (λ e. e ≡ errors.OutOfMemory) };
 
     /// Puts a message behind those of any other row. Refused where memory runs out.

@@ -12,7 +12,7 @@ use Rattle.wire_fields.specs.declared.recursive.Place.TheVariants.{Leaf, Once, E
 use Rattle.wire_fields.specs.Nest.{Nest, nest, Rows, row, end, done, row_of, row_count, leaf_of, rows_of, set_rows}
 use Rattle.wire_fields.specs.NestTable.{Table, if_number, nest_takes, nest_single}
 use Rattle.wire_fields.specs.Numbers.{numeric}
-use Rattle.wire_fields.specs.Oneof.{Variants, variant, either_of, oneof}
+use Rattle.wire_fields.specs.Oneof.{variant, either_of, oneof}
 use Rattle.wire_fields.specs.Presence.{implicit, always}
 use Rattle.wire_fields.specs.Shape.{Shape, known, two, unknown}
 use Rattle.wire_fields.specs.Texts.{string}

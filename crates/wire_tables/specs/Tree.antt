@@ -14,7 +14,7 @@ use Rattle.wire_fields.specs.Presence.{implicit}
 use Rattle.wire_fields.specs.Shape.{Shape, known, two, unknown}
 use Rattle.wire_fields.specs.Texts.{string}
 use Rattle.wire_tables.specs.Counter.{CounterValue, counter_value, counter}
-use Rattle.wire_tables.specs.declared.tree.Tree.{Tree, Tree-F, fold-Tree, out-Tree, fold_out-Tree}
+use Rattle.wire_tables.specs.declared.tree.Tree.{Tree, Tree-F, fold-Tree, fold_out-Tree}
 
 -- its name and visits
 abbrev pub TreeKnown : Type 0

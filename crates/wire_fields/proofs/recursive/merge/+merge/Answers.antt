@@ -78,7 +78,8 @@ merge_payload-returns-clause-ok g t c =
 
 -- ---- an embedded message
 
-pub merge_embedded-returns-in_err-rest-clause-err : goal.merge_embedded-returns-in_err-rest-clause-err
+pub merge_embedded-returns-in_err-rest-clause-err
+    : goal.merge_embedded-returns-in_err-rest-clause-err
 merge_embedded-returns-in_err-rest-clause-err g t c =
     let p = err_from_is_err_and c.from_residual-in_err-rest.result
     c.from_residual-in_err-rest.ensures.1 in
