@@ -37,7 +37,8 @@ both_ok (Err e) f p q = tt
 -- ---- places
 
 module _ {L : Type 0} (t : Table L) (reading : OneReading) (single : IsSingle t.takes) (l : Limits)
-    (n : ℕ) (w : WireType) (m : Nest L) (old : List ℕ) (place : Place) (is : t.place n ≡ place) where
+    (n : ℕ) (w : WireType) (m : Nest L) (old : List ℕ) (place : Place)
+    (is : t.place n ≡ place) where
   pub placed_taken : (k : Limits) (z : Nest L) (new : List ℕ)
       → IsCharged l k (λ c. TakesRecord (takes_at t (nest_takes t) place) l n w m old c z new)
       → IsCharged l k (λ c. TakesRecord (nest_takes t) l n w m old c z new)
@@ -65,7 +66,8 @@ module _ {L : Type 0} (t : Table L) (reading : OneReading) (single : IsSingle t.
 -- into the leaf
 module _ {L : Type 0} (t : Table L) (step : Step (Nest L)) (l : Limits) (n : ℕ) (w : WireType)
     (m : Nest L) (old : List ℕ) where
-  pub leaf_taken : (k : Limits) (z : Nest L) (new : List ℕ) → rows_of z ≡ rows_of m
+  pub leaf_taken : (k : Limits) (z : Nest L) (new : List ℕ)
+      → rows_of z ≡ t.rows_beside n (rows_of m)
       → IsCharged l k (λ c. TakesRecord t.takes l n w (leaf_of m) old c (leaf_of z) new)
       → IsCharged l k (λ c. TakesRecord (takes_at t step Leaf) l n w m old c z new)
   leaf_taken k z new rows h = record {

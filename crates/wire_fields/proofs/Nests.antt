@@ -55,7 +55,8 @@ module _ {L : Type 0} (t : Table L) where
         ∙ ap (λ (x : Records). joined_records x (joined_records (t.run (suc i) (leaf_of m))
         (left_at t m (suc i))))
         (each_of_row t (t.number i) (row_of (row_at i m))
-        ∙ ap (message_each length_prefixed (nest_records t) (t.number i)) (listed_row (row_at i m)));
+        ∙ ap (message_each length_prefixed (nest_records t) (t.number i))
+        (listed_row (row_at i m)));
   })
 
   pub next_run : (m : Nest L) (i : ℕ)

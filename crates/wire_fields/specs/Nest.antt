@@ -6,7 +6,7 @@ use Rattle.std.specs.Prelude.{Option, Some, None, Box, box_value}
 use Rattle.std.specs.declared.alloc.Global.{Global}
 
 mutual
-  -- the leaf, which is all that is not of the type itself, and a row of values for each field that is
+  -- the leaf, which is all that is not of the type itself, and a row for each field that is
   pub data Nest (L : Type 0) : Type 0 where
     nest : L → Rows L → Nest L
 

@@ -26,6 +26,10 @@ pub record Table (L : Type 0) : Type 1 where
   pub once : ℕ → Bool
   -- where the records of a field number go
   pub place : ℕ → Place
+  -- what stays of a value beside the message of a row that has one at most, and which rows stay
+  -- beside the leaf's field of a number: all, but for the others of a oneof
+  pub beside : ℕ → Nest L → Nest L
+  pub rows_beside : ℕ → Rows L → Rows L
 
 -- there is such a row
 abbrev pub IsThere : {L : Type 0} → Table L → Place → Type 0
@@ -37,6 +41,10 @@ IsThere t (Each i bytes) = (i < t.rows) × (t.once i ≡ false)
 abbrev pub if_number : Bool → Place → Place → Place
 if_number true here there = here
 if_number false here there = there
+
+-- all stays
+abbrev pub as_it_was : {V : Type 0} → ℕ → V → V
+as_it_was n v = v
 
 -- the value of no records
 abbrev pub empty_of : {L : Type 0} → Table L → Nest L
@@ -73,8 +81,8 @@ owned {V} start put price step m n p c z =
 abbrev pub one_of : {L : Type 0} → Table L → ℕ → Nest L → Nest L
 one_of t i m = or_else (empty_of t) (first_of (row_at i m))
 
-abbrev pub with_one : {L : Type 0} → ℕ → Nest L → Nest L → Nest L
-with_one i m after = with_row i (after ∷ []) m
+abbrev pub with_one : {L : Type 0} → Table L → ℕ → Nest L → Nest L → Nest L
+with_one t i m after = with_row i (after ∷ []) (t.beside i m)
 
 abbrev pub with_more : {L : Type 0} → ℕ → Nest L → Nest L → Nest L
 with_more i m after = with_row i (row_at i m ++ after ∷ []) m
@@ -83,14 +91,14 @@ with_more i m after = with_row i (row_at i m ++ after ∷ []) m
 abbrev pub placed : ℕ → Charge → Charge
 placed bytes one = both (element_of bytes) one
 
--- A record of the leaf is the leaf's, and the rows stay. Once: the message that is there takes the
+-- A record of the leaf is the leaf's. Once: the message that is there takes the
 -- payload, or a new one does. Each: a new one does, which is charged for its place in memory
 -- besides, and is put behind those that are there.
 abbrev pub takes_at : {L : Type 0} → Table L → Step (Nest L) → Place → Step (Nest L)
 takes_at t step Leaf m n p c z =
-    t.takes (leaf_of m) n p c (leaf_of z) × (rows_of z ≡ rows_of m)
+    t.takes (leaf_of m) n p c (leaf_of z) × (rows_of z ≡ t.rows_beside n (rows_of m))
 takes_at t step (Once i) m n p c z =
-    owned (one_of t i) (with_one i) (λ one. one) step m n p c z
+    owned (one_of t i) (with_one t i) (λ one. one) step m n p c z
 takes_at t step (Each i bytes) m n p c z =
     owned (λ m. empty_of t) (with_more i) (placed bytes) step m n p c z
 
@@ -110,13 +118,15 @@ module _ {V : Type 0} (start : V → V) (put : V → V → V) (price : Charge �
       (after, one, inside_more a b on length_prefixed (start m) after n p one h, charged, is)
 
   owned_finite : (chain : ℕ → Step V) → Rising chain
-      → Within (owned start put price (at_some chain)) (at_some (λ h. owned start put price (chain h)))
+      → Within (owned start put price (at_some chain))
+      (at_some (λ h. owned start put price (chain h)))
   owned_finite chain rising m z n p c (after, one, h, charged, is) =
       let (k, s) = inside_finite chain rising length_prefixed (start m) after n p one h in
       (k, (after, one, s, charged, is))
 
   owned_single : OneReading → (a : Step V) → IsSingle a → IsSingle (owned start put price a)
-  owned_single reading a single m u z w n p c d (after, one, h, charged, is) (after_2, one_2, k, charged_2, is_2) =
+  owned_single reading a single m u z w n p c d (after, one, h, charged, is)
+      (after_2, one_2, k, charged_2, is_2) =
       let agree = inside_single length_prefixed a reading single (start m) (start u) after after_2 n
       p one one_2 h k in (
         charged ∙ ap price agree.0 ∙ sym charged_2,
@@ -127,23 +137,28 @@ module _ {L : Type 0} (t : Table L) (reading : OneReading) (single : IsSingle t.
   at_more : (place : Place) (a b : Step (Nest L)) → Within a b
       → Within (takes_at t a place) (takes_at t b place)
   at_more Leaf a b on m z n p c h = h
-  at_more (Once i) a b on m z n p c h = owned_more (one_of t i) (with_one i) (λ one. one) a b on m z n p c h
-  at_more (Each i bytes) a b on m z n p c h = owned_more (λ m. empty_of t) (with_more i) (placed bytes) a b on m z n p c h
+  at_more (Once i) a b on m z n p c h =
+      owned_more (one_of t i) (with_one t i) (λ one. one) a b on m z n p c h
+  at_more (Each i bytes) a b on m z n p c h =
+      owned_more (λ m. empty_of t) (with_more i) (placed bytes) a b on m z n p c h
 
   at_finite : (place : Place) (chain : ℕ → Step (Nest L)) → Rising chain
       → Within (takes_at t (at_some chain) place) (at_some (λ h. takes_at t (chain h) place))
   at_finite Leaf chain rising m z n p c h = (0, h)
-  at_finite (Once i) chain rising m z n p c h = owned_finite (one_of t i) (with_one i) (λ one. one) chain rising m z n p c h
-  at_finite (Each i bytes) chain rising m z n p c h = owned_finite (λ m. empty_of t) (with_more i) (placed bytes) chain rising m z n p c h
+  at_finite (Once i) chain rising m z n p c h =
+      owned_finite (one_of t i) (with_one t i) (λ one. one) chain rising m z n p c h
+  at_finite (Each i bytes) chain rising m z n p c h =
+      owned_finite (λ m. empty_of t) (with_more i) (placed bytes) chain rising m z n p c h
 
   at_single : (place : Place) (a : Step (Nest L)) → IsSingle a → IsSingle (takes_at t a place)
   at_single Leaf a one m u z w n p c d h k =
       let same = single (leaf_of m) (leaf_of u) (leaf_of z) (leaf_of w) n p c d h.0 k.0 in (
         same.0,
-        λ e. same_nest z w (same.1 (ap leaf_of e)) (h.1 ∙ ap rows_of e ∙ sym k.1),
+        λ e. same_nest z w (same.1 (ap leaf_of e)) (h.1
+            ∙ ap (λ (x : Nest L). t.rows_beside n (rows_of x)) e ∙ sym k.1),
       )
   at_single (Once i) a one m u z w n p c d h k =
-      owned_single (one_of t i) (with_one i) (λ one. one) reading a one m u z w n p c d h k
+      owned_single (one_of t i) (with_one t i) (λ one. one) reading a one m u z w n p c d h k
   at_single (Each i bytes) a one m u z w n p c d h k =
       owned_single (λ m. empty_of t) (with_more i) (placed bytes) reading a one m u z w n p c d h k
 

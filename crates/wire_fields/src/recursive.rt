@@ -15,7 +15,7 @@ ghost use Rattle.wire_codec.specs.Tape.{NextAre, advanced};
 ghost use Rattle.wire_codec.specs.Writes.{Writes};
 ghost use Rattle.wire_fields.specs.Measuring.{Measures};
 ghost use Rattle.wire_fields.specs.Nest.{Nest, leaf_of, rows_of, row_at, with_row, row_count};
-ghost use Rattle.wire_fields.specs.NestTable.{Table, IsThere, empty_of, one_of};
+ghost use Rattle.wire_fields.specs.NestTable.{Table, IsThere, empty_of, one_of, with_one};
 
 mod merge;
 mod size;
@@ -88,13 +88,16 @@ pub trait Recursive: Drop {
         requires in_range { row < table.rows }
         requires once { table.once row ≡ true }
         ensures result { view result ≡ one_of table row (view self.old) }
-        ensures others { with_row row [] (view self.new) ≡ with_row row [] (view self.old) };
+        ensures others { with_row row [] (table.beside row (view self.new))
+            ≡ with_row row [] (table.beside row (view self.old)) };
 
-    /// Makes a message the one of such a row. Refused where memory runs out.
+    /// Makes a message the one of such a row, in the place of the others of a oneof. Refused where
+    /// memory runs out.
     fn put(&mut self, alloc: Global, row: usize, message: Self) -> Result<(), DecodeError>
         requires in_range { row < table.rows }
         requires once { table.once row ≡ true }
-        ensures ok { OnOk result (view self.new ≡ with_row row (view message ∷ []) (view self.old)) }
+        ensures ok { OnOk result (view self.new
+            ≡ with_one table row (view self.old) (view message)) }
         ensures err { IfErr result (λ e. e ≡ errors.OutOfMemory) };
 
     /// Puts a message behind those of any other row. Refused where memory runs out.
@@ -127,7 +130,8 @@ pub trait Recursive: Drop {
         ensures read { OnOk result (cache.new ≡ advanced cache.old
             (length (sizes (table.run run (leaf_of (view self.now)))))) };
 
-    /// Takes a record into the leaf, as `Message::merge_field`. The rows stay.
+    /// Takes a record into the leaf, as `Message::merge_field`. The rows stay, but for those of a
+    /// oneof that the field is of.
     fn merge_leaf<B: Buf>(
         &mut self,
         alloc: Global,
@@ -139,7 +143,8 @@ pub trait Recursive: Drop {
             TakesRecord table.takes context.old (tag_number tag) (tag_type tag)
             (leaf_of (view self.old)) (B.unread buf.old) c (leaf_of (view self.new))
             (B.unread buf.new))) }
-        ensures rows { OnOk result (rows_of (view self.new) ≡ rows_of (view self.old)) }
+        ensures rows { OnOk result (rows_of (view self.new)
+            ≡ table.rows_beside (tag_number tag) (rows_of (view self.old))) }
         ensures err { IfErr result (λ e. e ≢ errors.OutOfMemory → NotTaken
             (TakesRecord table.takes context.old (tag_number tag) (tag_type tag)
             (leaf_of (view self.old)) (B.unread buf.old))) }

@@ -9,5 +9,6 @@ pub mod Profile
 pub mod ProfileBack
 pub mod Pulse
 pub mod Reading
+pub mod Rule
 pub mod Signal
 pub mod Tree

@@ -9,12 +9,12 @@ use Rattle.wire_fields.specs.declared.recursive.Place.{Place}
 use Rattle.wire_fields.specs.declared.recursive.Place.TheVariants.{Leaf, Once, Each}
 use Rattle.wire_fields.specs.Messages.{embedded_once, boxed_value}
 use Rattle.wire_fields.specs.Nest.{Nest, nest, row, done, row_of, boxed_row, row_count}
-use Rattle.wire_fields.specs.NestTable.{Table, if_number, nest_records, nest_takes, nest_single}
+use Rattle.wire_fields.specs.NestTable.{Table, if_number, as_it_was, nest_takes, nest_single}
 use Rattle.wire_fields.specs.Presence.{implicit}
 use Rattle.wire_fields.specs.Shape.{Shape, known, two, unknown}
 use Rattle.wire_fields.specs.Texts.{string}
 use Rattle.wire_tables.specs.Counter.{CounterValue, counter_value, counter}
-use Rattle.wire_tables.specs.declared.tree.Tree.{Tree, Tree-F, fold-Tree, out-Tree, fold_out-Tree}
+use Rattle.wire_tables.specs.declared.tree.Tree.{Tree, Tree-F, fold-Tree, fold_out-Tree}
 
 -- its name and visits
 abbrev pub TreeKnown : Type 0
@@ -73,6 +73,8 @@ tree = record {
   number = tree_number;
   once = tree_once;
   place = tree_place;
+  beside = as_it_was;
+  rows_beside = as_it_was;
 }
 
 pub tree_counted : (m : Tree) → row_count (tree_value m) ≡ 2

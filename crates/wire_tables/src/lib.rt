@@ -11,6 +11,7 @@ mod meter;
 mod profile;
 mod pulse;
 mod reading;
+mod rule;
 mod signal;
 mod tree;
 
@@ -23,5 +24,6 @@ pub use meter::Meter;
 pub use profile::Profile;
 pub use pulse::Pulse;
 pub use reading::Reading;
+pub use rule::{Rule, RuleTest};
 pub use signal::Signal;
 pub use tree::Tree;

@@ -78,7 +78,8 @@ merge_payload-returns-clause-ok g t c =
 
 -- ---- an embedded message
 
-pub merge_embedded-returns-in_err-rest-clause-err : goal.merge_embedded-returns-in_err-rest-clause-err
+pub merge_embedded-returns-in_err-rest-clause-err
+    : goal.merge_embedded-returns-in_err-rest-clause-err
 merge_embedded-returns-in_err-rest-clause-err g t c =
     let p = err_from_is_err_and c.from_residual-in_err-rest.result
     c.from_residual-in_err-rest.ensures.1 in
@@ -129,7 +130,7 @@ merge_nest-returns-in_err-merge_embedded-in-Once-clause-err g t c =
     let reading = c.records_in_order.ensures.reading in
     let place = ap table.place (sym c.field_number.ensures.number) ∙ sym c.in-Once.ensures.is in
     rw (p.1, p.2) (λ other. not_placed table reading (g.met.T.Recursive.single reading) _ _ _ _ _ _
-    place (not_owned (one_of table c.in-Once.row) (with_one c.in-Once.row) (nest_takes table)
+    place (not_owned (one_of table c.in-Once.row) (with_one table c.in-Once.row) (nest_takes table)
     _ _ _ _ _ _ c.take-own.ensures.result (c.in_err-merge_embedded-in-Once.ensures.err other)))
 
 pub merge_nest-returns-in_ok-merge_embedded-in-Once-clause-ok
@@ -139,10 +140,11 @@ merge_nest-returns-in_ok-merge_embedded-in-Once-clause-ok g t c =
     let reading = c.records_in_order.ensures.reading in
     let place = ap table.place (sym c.field_number.ensures.number) ∙ sym c.in-Once.ensures.is in
     on_ok_weaker c.put.result (λ is. placed_taken table reading (g.met.T.Recursive.single reading)
-    _ _ _ _ _ _ place _ _ _ (owned_taken (one_of table c.in-Once.row) (with_one c.in-Once.row)
+    _ _ _ _ _ _ place _ _ _ (owned_taken (one_of table c.in-Once.row) (with_one table c.in-Once.row)
     (nest_takes table) _ _ _ _ _ _ c.take-own.ensures.result _ _ _ _
     (is ∙ same_beside c.in-Once.row (g.T.Recursive.view c.merge_embedded.new.message ∷ [])
-    (g.T.Recursive.view c.take-own.new.self) (g.T.Recursive.view c.args.message.now)
+    (table.beside c.in-Once.row (g.T.Recursive.view c.take-own.new.self))
+    (table.beside c.in-Once.row (g.T.Recursive.view c.args.message.now))
     c.take-own.ensures.others)
     c.in_ok-merge_embedded-in-Once.ensures.ok)) c.put.ensures.ok
 
