@@ -30,6 +30,7 @@ Rattle.wire_fields.specs.Nest row
 Rattle.wire_fields.specs.Nest row_count
 Rattle.wire_fields.specs.Nest row_of
 Rattle.wire_fields.specs.NestTable Table
+Rattle.wire_fields.specs.NestTable as_it_was
 Rattle.wire_fields.specs.NestTable empty_of
 Rattle.wire_fields.specs.NestTable if_number
 Rattle.wire_fields.specs.NestTable nest_records
@@ -48,7 +49,6 @@ Rattle.$crate$.specs.declared.$module$.$name$ $name$
 Rattle.$crate$.specs.declared.$module$.$name$ $name$-F
 Rattle.$crate$.specs.declared.$module$.$name$ fold-$name$
 Rattle.$crate$.specs.declared.$module$.$name$ fold_out-$name$
-Rattle.$crate$.specs.declared.$module$.$name$ out-$name$
 ";
 
 const KIND: &str = "\
@@ -109,6 +109,8 @@ $module$-table = record {
   number = $module$-number;
   once = $module$-once;
   place = $module$-place;
+  beside = as_it_was;
+  rows_beside = as_it_was;
 }
 
 pub $module$-counted : (m : $name$) → row_count ($module$-value m) ≡ $count$
