@@ -83,28 +83,27 @@ pub trait Recursive: Drop {
         requires { row < table.rows }
         ensures { map view result.now ≡ row_at row (view self.now) };
 
-    /// Moves the message out of a row that has one at most, or makes a new one.
+    /// Moves the message out of a row that has one at most, or makes a new one. What it does for any
+    /// other row is open.
     fn take(&mut self, alloc: Global, row: usize) -> Self
-        requires in_range { row < table.rows }
-        requires once { table.once row ≡ true }
-        ensures result { view result ≡ one_of table row (view self.old) }
-        ensures others { with_row row [] (table.beside row (view self.new))
+        ensures result { row < table.rows → table.once row ≡ true
+            → view result ≡ one_of table row (view self.old) }
+        ensures others { row < table.rows → table.once row ≡ true
+            → with_row row [] (table.beside row (view self.new))
             ≡ with_row row [] (table.beside row (view self.old)) };
 
-    /// Makes a message the one of such a row, in the place of the others of a oneof. Refused where
-    /// memory runs out.
+    /// Makes a message the one of such a row, in the place of the others of a oneof. What it does for
+    /// any other row is open. Refused where memory runs out.
     fn put(&mut self, alloc: Global, row: usize, message: Self) -> Result<(), DecodeError>
-        requires in_range { row < table.rows }
-        requires once { table.once row ≡ true }
-        ensures ok { OnOk result (view self.new
-            ≡ with_one table row (view self.old) (view message)) }
+        ensures ok { row < table.rows → table.once row ≡ true
+            → OnOk result (view self.new ≡ with_one table row (view self.old) (view message)) }
         ensures err { IfErr result (λ e. e ≡ errors.OutOfMemory) };
 
-    /// Puts a message behind those of any other row. Refused where memory runs out.
+    /// Puts a message behind those of a row that has many. What it does for any other row is open.
+    /// Refused where memory runs out.
     fn push(&mut self, row: usize, message: Self) -> Result<(), DecodeError>
-        requires in_range { row < table.rows }
-        requires each { table.once row ≡ false }
-        ensures ok { OnOk result (view self.new
+        ensures ok { row < table.rows → table.once row ≡ false
+            → OnOk result (view self.new
             ≡ with_row row (row_at row (view self.old) ++ view message ∷ []) (view self.old)) }
         ensures err { IfErr result (λ e. e ≡ errors.OutOfMemory) };
 

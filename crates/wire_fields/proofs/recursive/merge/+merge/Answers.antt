@@ -125,28 +125,30 @@ merge_nest-returns-in-Leaf-clause-err g t c =
 pub merge_nest-returns-in_err-merge_embedded-in-Once-clause-err
     : goal.merge_nest-returns-in_err-merge_embedded-in-Once-clause-err
 merge_nest-returns-in_err-merge_embedded-in-Once-clause-err g t c =
+    let there = c.in-Once.ensures.there in
     let p = err_from_is_err_and c.from_residual.result c.from_residual.ensures.1 in
     let table = g.T.Recursive.table in
     let reading = c.records_in_order.ensures.reading in
     let place = ap table.place (sym c.field_number.ensures.number) ∙ sym c.in-Once.ensures.is in
     rw (p.1, p.2) (λ other. not_placed table reading (g.met.T.Recursive.single reading) _ _ _ _ _ _
     place (not_owned (one_of table c.in-Once.row) (with_one table c.in-Once.row) (nest_takes table)
-    _ _ _ _ _ _ c.take-own.ensures.result (c.in_err-merge_embedded-in-Once.ensures.err other)))
+    _ _ _ _ _ _ (c.take-own.ensures.result there.0 there.1) (c.in_err-merge_embedded-in-Once.ensures.err other)))
 
 pub merge_nest-returns-in_ok-merge_embedded-in-Once-clause-ok
     : goal.merge_nest-returns-in_ok-merge_embedded-in-Once-clause-ok
 merge_nest-returns-in_ok-merge_embedded-in-Once-clause-ok g t c =
+    let there = c.in-Once.ensures.there in
     let table = g.T.Recursive.table in
     let reading = c.records_in_order.ensures.reading in
     let place = ap table.place (sym c.field_number.ensures.number) ∙ sym c.in-Once.ensures.is in
     on_ok_weaker c.put.result (λ is. placed_taken table reading (g.met.T.Recursive.single reading)
     _ _ _ _ _ _ place _ _ _ (owned_taken (one_of table c.in-Once.row) (with_one table c.in-Once.row)
-    (nest_takes table) _ _ _ _ _ _ c.take-own.ensures.result _ _ _ _
+    (nest_takes table) _ _ _ _ _ _ (c.take-own.ensures.result there.0 there.1) _ _ _ _
     (is ∙ same_beside c.in-Once.row (g.T.Recursive.view c.merge_embedded.new.message ∷ [])
     (table.beside c.in-Once.row (g.T.Recursive.view c.take-own.new.self))
     (table.beside c.in-Once.row (g.T.Recursive.view c.args.message.now))
-    c.take-own.ensures.others)
-    c.in_ok-merge_embedded-in-Once.ensures.ok)) c.put.ensures.ok
+    (c.take-own.ensures.others there.0 there.1))
+    c.in_ok-merge_embedded-in-Once.ensures.ok)) (c.put.ensures.ok there.0 there.1)
 
 pub merge_nest-returns-in_err-register_element_memory-in-Each-clause-err
     : goal.merge_nest-returns-in_err-register_element_memory-in-Each-clause-err
@@ -178,6 +180,7 @@ merge_nest-returns-in_err-merge_embedded-in-Each-clause-err g t c =
 pub merge_nest-returns-in_ok-merge_embedded-in-Each-clause-ok
     : goal.merge_nest-returns-in_ok-merge_embedded-in-Each-clause-ok
 merge_nest-returns-in_ok-merge_embedded-in-Each-clause-ok g t c =
+    let there = c.in-Each.ensures.there in
     let table = g.T.Recursive.table in
     let reading = c.records_in_order.ensures.reading in
     let place = ap table.place (sym c.field_number.ensures.number) ∙ sym c.in-Each.ensures.is in
@@ -186,4 +189,4 @@ merge_nest-returns-in_ok-merge_embedded-in-Each-clause-ok g t c =
     (empty_of table) (with_more c.in-Each.row) c.limits_add_up.ensures _ _ _ _ _ _
     c.empty-own.ensures _ _ _ _ _ c.in_ok-register_element_memory-in-Each.ensures.ok
     c.in_ok-register_element_memory-in-Each.ensures.taken is
-    c.in_ok-merge_embedded-in-Each.ensures.ok)) c.push.ensures.ok
+    c.in_ok-merge_embedded-in-Each.ensures.ok)) (c.push.ensures.ok there.0 there.1)

@@ -9,7 +9,7 @@ use Rattle.wire_tables.proofs.rule.RuleRecursive.push.Goals as goal
 
 pub returns-in-1-clause-ok : goal.returns-in-1-clause-ok
 returns-in-1-clause-ok c =
-    on_ok_weaker c.push_message.result (λ pushed. rw (
+    λ here many. on_ok_weaker c.push_message.result (λ pushed. rw (
       c.in-1.is,
       fold_out-Rule TestValue RuleValue
           one_test one_rule c.args.self.now,

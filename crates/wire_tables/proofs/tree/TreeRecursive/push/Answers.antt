@@ -8,7 +8,7 @@ use Rattle.wire_tables.proofs.tree.TreeRecursive.push.Goals as goal
 
 pub returns-in-0-clause-ok : goal.returns-in-0-clause-ok
 returns-in-0-clause-ok c =
-    on_ok_weaker c.push_message.result (λ pushed. rw (
+    λ here many. on_ok_weaker c.push_message.result (λ pushed. rw (
       c.in-0.is,
       fold_out-Tree TreeValue one_tree
           c.args.self.now,
