@@ -267,7 +267,7 @@ use Rattle.$crate$.proofs.$module$.$name$Recursive.push.Goals as goal
 const PUSH: &str = "
 pub returns-in-$row$-clause-ok : goal.returns-in-$row$-clause-ok
 returns-in-$row$-clause-ok c =
-    on_ok_weaker $call$.result (λ pushed. rw (
+    λ here many. on_ok_weaker $call$.result (λ pushed. rw (
       c.in-$row$.is,
       fold_out-$name$ $name$-Value $module$-one c.args.self.now,
     ) (fold-roll-$name$ $name$-Value $module$-one _
