@@ -142,8 +142,10 @@ code_generator_response-returned g =
     (omega arith) (omega arith)
     (implicit_returned g _ _ (numeric_back (int32_back g))))
     (λ n p h. rw h refl))
-    (λ n p h. elim h [ inl h ↦ rw h refl
-    | inr h ↦ rw h refl ]))
+    (λ n p h. elim h [
+      | inl h ↦ rw h refl
+      | inr h ↦ rw h refl
+    ]))
     (known_returned g 15 code_generator_response-file-kind code_generator_response-file-range
     (omega arith) (omega arith)
     (embedded_each_returned g _ _ (code_generator_response_file-returned g) 72))

@@ -201,8 +201,10 @@ descriptor_proto-returned g =
     (omega arith) (omega arith)
     (embedded_each_returned g _ _ (enum_descriptor_proto-returned g) 80))
     (λ n p h. rw h refl))
-    (λ n p h. elim h [ inl h ↦ rw h refl
-    | inr h ↦ rw h refl ]))
+    (λ n p h. elim h [
+      | inl h ↦ rw h refl
+      | inr h ↦ rw h refl
+    ]))
     (two_returned g
     (two_returned g
     (known_returned g 5 descriptor_proto-extension_range-kind descriptor_proto-extension_range-range
@@ -220,9 +222,17 @@ descriptor_proto-returned g =
     (omega arith) (omega arith)
     (embedded_each_returned g _ _ (oneof_descriptor_proto-returned g) 48))
     (λ n p h. rw h refl))
-    (λ n p h. elim h [ inl h ↦ rw h refl
-    | inr h ↦ rw h refl ]))
-    (λ n p h. elim h [ inl h ↦ elim h [ inl h ↦ rw h refl
-    | inr h ↦ rw h refl ]
-    | inr h ↦ elim h [ inl h ↦ rw h refl
-    | inr h ↦ rw h refl ] ]))
+    (λ n p h. elim h [
+      | inl h ↦ rw h refl
+      | inr h ↦ rw h refl
+    ]))
+    (λ n p h. elim h [
+      | inl h ↦ elim h [
+        | inl h ↦ rw h refl
+        | inr h ↦ rw h refl
+      ]
+      | inr h ↦ elim h [
+        | inl h ↦ rw h refl
+        | inr h ↦ rw h refl
+      ]
+    ]))

@@ -150,8 +150,10 @@ feature_set-returned g =
     (omega arith) (omega arith)
     (implicit_returned g _ _ (numeric_back (int32_back g))))
     (λ n p h. rw h refl))
-    (λ n p h. elim h [ inl h ↦ rw h refl
-    | inr h ↦ rw h refl ]))
+    (λ n p h. elim h [
+      | inl h ↦ rw h refl
+      | inr h ↦ rw h refl
+    ]))
     (two_returned g
     (known_returned g 5 feature_set-message_encoding-kind feature_set-message_encoding-range
     (omega arith) (omega arith)
@@ -160,5 +162,7 @@ feature_set-returned g =
     (omega arith) (omega arith)
     (implicit_returned g _ _ (numeric_back (int32_back g))))
     (λ n p h. rw h refl))
-    (λ n p h. elim h [ inl h ↦ rw h refl
-    | inr h ↦ rw h refl ]))
+    (λ n p h. elim h [
+      | inl h ↦ rw h refl
+      | inr h ↦ rw h refl
+    ]))

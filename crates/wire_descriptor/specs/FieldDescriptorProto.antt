@@ -233,8 +233,10 @@ field_descriptor_proto-returned g =
     (omega arith) (omega arith)
     (implicit_returned g _ _ (numeric_back (int32_back g))))
     (λ n p h. rw h refl))
-    (λ n p h. elim h [ inl h ↦ rw h refl
-    | inr h ↦ rw h refl ]))
+    (λ n p h. elim h [
+      | inl h ↦ rw h refl
+      | inr h ↦ rw h refl
+    ]))
     (two_returned g
     (two_returned g
     (known_returned g 5 field_descriptor_proto-type_-kind field_descriptor_proto-type_-range
@@ -252,12 +254,20 @@ field_descriptor_proto-returned g =
     (omega arith) (omega arith)
     (embedded_once_returned g _ _ (field_options-returned g)))
     (λ n p h. rw h refl))
-    (λ n p h. elim h [ inl h ↦ rw h refl
-    | inr h ↦ rw h refl ]))
-    (λ n p h. elim h [ inl h ↦ elim h [ inl h ↦ rw h refl
-    | inr h ↦ rw h refl ]
-    | inr h ↦ elim h [ inl h ↦ rw h refl
-    | inr h ↦ rw h refl ] ]))
+    (λ n p h. elim h [
+      | inl h ↦ rw h refl
+      | inr h ↦ rw h refl
+    ]))
+    (λ n p h. elim h [
+      | inl h ↦ elim h [
+        | inl h ↦ rw h refl
+        | inr h ↦ rw h refl
+      ]
+      | inr h ↦ elim h [
+        | inl h ↦ rw h refl
+        | inr h ↦ rw h refl
+      ]
+    ]))
     (two_returned g
     (known_returned g 9 field_descriptor_proto-oneof_index-kind field_descriptor_proto-oneof_index-range
     (omega arith) (omega arith)
@@ -266,5 +276,7 @@ field_descriptor_proto-returned g =
     (omega arith) (omega arith)
     (implicit_returned g _ _ (numeric_back (bool_back g))))
     (λ n p h. rw h refl))
-    (λ n p h. elim h [ inl h ↦ rw h refl
-    | inr h ↦ rw h refl ]))
+    (λ n p h. elim h [
+      | inl h ↦ rw h refl
+      | inr h ↦ rw h refl
+    ]))

@@ -266,8 +266,10 @@ file_descriptor_proto-returned g =
     (omega arith) (omega arith)
     (embedded_each_returned g _ _ (descriptor_proto-returned g) 200))
     (λ n p h. rw h refl))
-    (λ n p h. elim h [ inl h ↦ rw h refl
-    | inr h ↦ rw h refl ]))
+    (λ n p h. elim h [
+      | inl h ↦ rw h refl
+      | inr h ↦ rw h refl
+    ]))
     (two_returned g
     (two_returned g
     (known_returned g 5 file_descriptor_proto-enum_type-kind file_descriptor_proto-enum_type-range
@@ -285,12 +287,20 @@ file_descriptor_proto-returned g =
     (omega arith) (omega arith)
     (embedded_once_returned g _ _ (file_options-returned g)))
     (λ n p h. rw h refl))
-    (λ n p h. elim h [ inl h ↦ rw h refl
-    | inr h ↦ rw h refl ]))
-    (λ n p h. elim h [ inl h ↦ elim h [ inl h ↦ rw h refl
-    | inr h ↦ rw h refl ]
-    | inr h ↦ elim h [ inl h ↦ rw h refl
-    | inr h ↦ rw h refl ] ]))
+    (λ n p h. elim h [
+      | inl h ↦ rw h refl
+      | inr h ↦ rw h refl
+    ]))
+    (λ n p h. elim h [
+      | inl h ↦ elim h [
+        | inl h ↦ rw h refl
+        | inr h ↦ rw h refl
+      ]
+      | inr h ↦ elim h [
+        | inl h ↦ rw h refl
+        | inr h ↦ rw h refl
+      ]
+    ]))
     (two_returned g
     (two_returned g
     (known_returned g 9 file_descriptor_proto-source_code_info-kind file_descriptor_proto-source_code_info-range
@@ -304,6 +314,10 @@ file_descriptor_proto-returned g =
     (omega arith) (omega arith)
     (implicit_returned g _ _ (numeric_back (int32_back g))))
     (λ n p h. rw h refl))
-    (λ n p h. elim h [ inl h ↦ elim h [ inl h ↦ rw h refl
-    | inr h ↦ rw h refl ]
-    | inr h ↦ rw h refl ]))
+    (λ n p h. elim h [
+      | inl h ↦ elim h [
+        | inl h ↦ rw h refl
+        | inr h ↦ rw h refl
+      ]
+      | inr h ↦ rw h refl
+    ]))

@@ -270,14 +270,7 @@ fn put_number(words: &mut Words, variant: &Words) {
     words.copy(variant, &["types", "own_types"]);
     let is_first = words.get("numbers").is_empty();
     words.append("numbers", if is_first { "$next$" } else { " $next$" });
-    words.fill(
-        "apart",
-        if is_first {
-            "rw h refl"
-        } else {
-            "elim h [ inl h ↦ $apart$\n    | inr h ↦ rw h refl ]"
-        },
-    );
+    put_apart(words, is_first);
     if words.get("mismatch") != "keep" {
         return;
     }
@@ -313,6 +306,19 @@ const KEEPING_ONEOF: [Template; 6] = [
     ("sort", "Leaving"),
     ("call", "merge_or_keep"),
 ];
+
+/// Why a number `h` of a oneof is none of others, for one number more.
+pub(crate) fn put_apart(words: &mut Words, is_first: bool) {
+    words.indent_rest("apart");
+    words.fill(
+        "apart",
+        if is_first {
+            "rw h refl"
+        } else {
+            "elim h [\n      | inl h ↦ $apart$\n      | inr h ↦ rw h refl\n    ]"
+        },
+    );
+}
 
 // A field that leaves nothing to the unknown fields, as all but those of closed enums.
 const PLAIN: [Template; 8] = [

@@ -1,6 +1,6 @@
 //! The definitions of a oneof.
 use crate::error::GenerateError;
-use crate::field::Oneof;
+use crate::field::{Oneof, put_apart};
 use crate::imports::definition_imports;
 use crate::words::{Template, Words};
 
@@ -254,15 +254,12 @@ pub(crate) fn oneof_definitions(
 // One number more of a sum that leans to the left, which this variant's is `own` of.
 fn put_numbers(page: &mut Words, place: usize, last: usize) {
     page.fill("own", "refl");
+    put_apart(page, place == 0);
     if place > 0 {
         page.fill("own", "(inr $own$)");
         page.fill("numbers", "($numbers$ ⊎ (n ≡ $digits$))");
-        page.fill(
-            "apart",
-            "elim h [ inl h ↦ $apart$\n    | inr h ↦ rw h refl ]",
-        );
     } else {
-        page.fill_all(&[("numbers", "(n ≡ $digits$)"), ("apart", "rw h refl")]);
+        page.fill("numbers", "(n ≡ $digits$)");
     }
     for _ in place..last {
         page.fill("own", "(inl $own$)");

@@ -112,7 +112,7 @@ const PAIR: [Template; 9] = [
     ),
     (
         "apart",
-        "elim h [ inl h ↦ $apart$\n    | inr h ↦ $right_apart$ ]",
+        "elim h [\n      | inl h ↦ $apart$\n      | inr h ↦ $right_in$\n    ]",
     ),
     (
         "pair",
@@ -245,6 +245,9 @@ impl Tree {
         }
         words.indent("view");
         words.indent("right_view");
+        words.indent_rest("apart");
+        words.set("right_in", right.words.get("apart"));
+        words.indent_rest("right_in");
         words.fill_all(&PAIR);
         words.fill("local", "fields_$low$_to_$high$");
         self.pairs.push(Node {

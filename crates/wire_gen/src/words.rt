@@ -120,11 +120,20 @@ impl Words {
 
     /// Moves each line of the word two columns to the right.
     pub(crate) fn indent(&mut self, name: &'static str) {
+        self.move_lines(name, "  ");
+    }
+
+    /// The same of all but the first line.
+    pub(crate) fn indent_rest(&mut self, name: &'static str) {
+        self.move_lines(name, "");
+    }
+
+    fn move_lines(&mut self, name: &'static str, first: &str) {
         let text = self.take(name);
         let mut moved = String::new(self.alloc);
         let mut is_first = true;
         for line in text.split('\n') {
-            self.push(if is_first { "  " } else { "\n  " }, &mut moved);
+            self.push(if is_first { first } else { "\n  " }, &mut moved);
             self.push(line, &mut moved);
             is_first = false;
         }

@@ -321,8 +321,10 @@ report-returned g =
     (omega arith) (omega arith)
     (embedded_each_returned g _ _ (report_sample-returned g) 80))
     (λ n p h. rw h refl))
-    (λ n p h. elim h [ inl h ↦ rw h refl
-    | inr h ↦ rw h refl ]))
+    (λ n p h. elim h [
+      | inl h ↦ rw h refl
+      | inr h ↦ rw h refl
+    ]))
     (two_returned g
     (two_returned g
     (known_returned g 5 report-labels-kind report-labels-range
@@ -344,12 +346,20 @@ report-returned g =
     (omega arith) (omega arith)
     (packed_returned g _ _ sint32_range (sint32_back g)))
     (λ n p h. rw h refl))
-    (λ n p h. elim h [ inl h ↦ rw h refl
-    | inr h ↦ rw h refl ]))
-    (λ n p h. elim h [ inl h ↦ elim h [ inl h ↦ rw h refl
-    | inr h ↦ rw h refl ]
-    | inr h ↦ elim h [ inl h ↦ rw h refl
-    | inr h ↦ rw h refl ] ]))
+    (λ n p h. elim h [
+      | inl h ↦ rw h refl
+      | inr h ↦ rw h refl
+    ]))
+    (λ n p h. elim h [
+      | inl h ↦ elim h [
+        | inl h ↦ rw h refl
+        | inr h ↦ rw h refl
+      ]
+      | inr h ↦ elim h [
+        | inl h ↦ rw h refl
+        | inr h ↦ rw h refl
+      ]
+    ]))
     (two_returned g
     (two_returned g
     (two_returned g
@@ -368,23 +378,45 @@ report-returned g =
     (omega arith) (omega arith)
     (embedded_once_returned g _ _ (report_sample-returned g)))
     (λ n p h. rw h refl))
-    (λ n p h. elim h [ inl h ↦ rw h refl
-    | inr h ↦ rw h refl ]))
+    (λ n p h. elim h [
+      | inl h ↦ rw h refl
+      | inr h ↦ rw h refl
+    ]))
     (two_returned g
     (report_origin-returned g)
     (known_returned g 15 report-type_-kind report-type_-range
     (omega arith) (omega arith)
     (implicit_returned g _ _ (numeric_back (bool_back g))))
     (λ n p h. rw h refl))
-    (λ n p h. elim h [ inl h ↦ elim h [ inl h ↦ elim h [ inl h ↦ rw h refl
-    | inr h ↦ rw h refl ]
-    | inr h ↦ rw h refl ]
-    | inr h ↦ rw h refl ]))
-    (λ n p h. elim h [ inl h ↦ elim h [ inl h ↦ elim h [ inl h ↦ rw h refl
-    | inr h ↦ rw h refl ]
-    | inr h ↦ elim h [ inl h ↦ rw h refl
-    | inr h ↦ rw h refl ] ]
-    | inr h ↦ elim h [ inl h ↦ elim h [ inl h ↦ elim h [ inl h ↦ rw h refl
-    | inr h ↦ rw h refl ]
-    | inr h ↦ rw h refl ]
-    | inr h ↦ rw h refl ] ]))
+    (λ n p h. elim h [
+      | inl h ↦ elim h [
+        | inl h ↦ elim h [
+          | inl h ↦ rw h refl
+          | inr h ↦ rw h refl
+        ]
+        | inr h ↦ rw h refl
+      ]
+      | inr h ↦ rw h refl
+    ]))
+    (λ n p h. elim h [
+      | inl h ↦ elim h [
+        | inl h ↦ elim h [
+          | inl h ↦ rw h refl
+          | inr h ↦ rw h refl
+        ]
+        | inr h ↦ elim h [
+          | inl h ↦ rw h refl
+          | inr h ↦ rw h refl
+        ]
+      ]
+      | inr h ↦ elim h [
+        | inl h ↦ elim h [
+          | inl h ↦ elim h [
+            | inl h ↦ rw h refl
+            | inr h ↦ rw h refl
+          ]
+          | inr h ↦ rw h refl
+        ]
+        | inr h ↦ rw h refl
+      ]
+    ]))

@@ -180,8 +180,12 @@ report_origin-returned g = record {
   back = record {
     back = report_origin-folds g;
     has = λ m h. report_origin-have g m;
-    own = λ n p h. elim h [ inl h ↦ elim h [ inl h ↦ rw h refl
-    | inr h ↦ rw h refl ]
-    | inr h ↦ rw h refl ];
+    own = λ n p h. elim h [
+      | inl h ↦ elim h [
+        | inl h ↦ rw h refl
+        | inr h ↦ rw h refl
+      ]
+      | inr h ↦ rw h refl
+    ];
   };
 }
