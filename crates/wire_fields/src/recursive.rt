@@ -83,8 +83,8 @@ pub trait Recursive: Drop {
         requires { row < table.rows }
         ensures { map view result.now ≡ row_at row (view self.now) };
 
-    /// Moves the message out of a row that has one at most, or makes a new one. What it does for any
-    /// other row is open.
+    /// Moves the message out of a row that has one at most, or makes a new one. For any other row
+    /// it is open what is done.
     fn take(&mut self, alloc: Global, row: usize) -> Self
         ensures result { row < table.rows → table.once row ≡ true
             → view result ≡ one_of table row (view self.old) }
@@ -92,15 +92,15 @@ pub trait Recursive: Drop {
             → with_row row [] (table.beside row (view self.new))
             ≡ with_row row [] (table.beside row (view self.old)) };
 
-    /// Makes a message the one of such a row, in the place of the others of a oneof. What it does for
-    /// any other row is open. Refused where memory runs out.
+    /// Makes a message the one of such a row, in the place of the others of a oneof. For any other
+    /// row it is open what is done. Refused where memory runs out.
     fn put(&mut self, alloc: Global, row: usize, message: Self) -> Result<(), DecodeError>
         ensures ok { row < table.rows → table.once row ≡ true
             → OnOk result (view self.new ≡ with_one table row (view self.old) (view message)) }
         ensures err { IfErr result (λ e. e ≡ errors.OutOfMemory) };
 
-    /// Puts a message behind those of a row that has many. What it does for any other row is open.
-    /// Refused where memory runs out.
+    /// Puts a message behind those of a row that has many. For any other row it is open what is
+    /// done. Refused where memory runs out.
     fn push(&mut self, row: usize, message: Self) -> Result<(), DecodeError>
         ensures ok { row < table.rows → table.once row ≡ false
             → OnOk result (view self.new

@@ -132,7 +132,8 @@ merge_nest-returns-in_err-merge_embedded-in-Once-clause-err g t c =
     let place = ap table.place (sym c.field_number.ensures.number) ∙ sym c.in-Once.ensures.is in
     rw (p.1, p.2) (λ other. not_placed table reading (g.met.T.Recursive.single reading) _ _ _ _ _ _
     place (not_owned (one_of table c.in-Once.row) (with_one table c.in-Once.row) (nest_takes table)
-    _ _ _ _ _ _ (c.take-own.ensures.result there.0 there.1) (c.in_err-merge_embedded-in-Once.ensures.err other)))
+    _ _ _ _ _ _
+    (c.take-own.ensures.result there.0 there.1) (c.in_err-merge_embedded-in-Once.ensures.err other)))
 
 pub merge_nest-returns-in_ok-merge_embedded-in-Once-clause-ok
     : goal.merge_nest-returns-in_ok-merge_embedded-in-Once-clause-ok
