@@ -287,10 +287,10 @@ pub(crate) fn row_answers(base: &Words, fields: &[Field]) -> Result<[String; 2],
                 page.index("row", row);
                 page.fill(
                     "call",
-                    if is_first {
+                    if row == 0 {
                         "c.deref"
                     } else {
-                        "c.deref-in-$row$"
+                        "(c.deref-in-$row$)"
                     },
                 );
                 page.append("rows", ROW);
@@ -299,7 +299,7 @@ pub(crate) fn row_answers(base: &Words, fields: &[Field]) -> Result<[String; 2],
                     if is_first {
                         "c.push_message"
                     } else {
-                        "c.push_message-in-$row$"
+                        "(c.push_message-in-$row$)"
                     },
                 );
                 page.append("pushes", PUSH);
