@@ -150,11 +150,12 @@ impl Schema {
         mut message: MessageType,
         pending: &mut Vec<MessageType>,
     ) -> Result<(), GenerateError> {
-        let descriptor = &message.descriptor;
-        if let Some(options) = &descriptor.options {
-            let features = options.features.as_deref();
-            message.origin.features = message.origin.features.with(features, &mut message.words)?;
+        if let Some(options) = &message.descriptor.options {
+            let mut words = Words::like(&message.words);
+            let features = message.origin.features;
+            message.origin.features = features.with(options.features.as_deref(), &mut words)?;
         }
+        let descriptor = &message.descriptor;
         let extensions = &descriptor.extension;
         self.add_extensions(
             &message.words,

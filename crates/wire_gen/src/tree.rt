@@ -156,6 +156,7 @@ pub(crate) fn tree_of(base: &Words, fields: &mut [Field]) -> Result<Tree, Genera
         pairs: Vec::new(alloc),
         parts: Vec::new(alloc),
     };
+    let mut words = Words::new(alloc);
     let mut nodes = Vec::new(alloc);
     for (place, field) in fields.iter_mut().enumerate() {
         field.words.fill("taken", "(h, refl)");
@@ -183,10 +184,15 @@ pub(crate) fn tree_of(base: &Words, fields: &mut [Field]) -> Result<Tree, Genera
         nodes = next;
     }
     if let Some(root) = nodes.pop() {
-        tree.words = root.words;
+        words.set_all(&root.words);
     }
-    tree.words.ended()?;
-    Ok(tree)
+    words.ended()?;
+    let Tree { pairs, parts, .. } = tree;
+    Ok(Tree {
+        words,
+        pairs,
+        parts,
+    })
 }
 
 fn leaf(base: &Words, place: usize, field: &Words) -> Node {
@@ -232,11 +238,11 @@ fn reach(left: &Node, right: &Node, fields: &mut [Field]) {
 impl Tree {
     // A pair of these, which is a part by itself where it has the fields of one and there are more.
     fn pair(&mut self, left: Node, mut right: Node, count: usize) -> Result<Node, GenerateError> {
-        let (first, behind) = (left.first, right.behind);
+        let (first, between, behind) = (left.first, left.behind, right.behind);
         let mut words = left.words;
         // (with a closed enum the search finds only what a part by itself has)
         let is_leaving = words.get("both") == "both_leaving";
-        if is_leaving && left.behind.saturating_sub(first) >= PART && right.len() < PART {
+        if is_leaving && between.saturating_sub(first) >= PART && right.len() < PART {
             self.part(&mut right)?;
         }
         words.copy(&right.words, &[]);
