@@ -147,22 +147,13 @@ impl Schema {
     // Takes a message type in, and puts those within it to the ones that are to be taken in.
     fn add_message(
         &mut self,
-        mut message: MessageType,
+        message: MessageType,
         pending: &mut Vec<MessageType>,
     ) -> Result<(), GenerateError> {
-        if let Some(options) = &message.descriptor.options {
-            let mut words = Words::like(&message.words);
-            let features = message.origin.features;
-            message.origin.features = features.with(options.features.as_deref(), &mut words)?;
-        }
+        let origin = own_origin(&message)?;
         let descriptor = &message.descriptor;
         let extensions = &descriptor.extension;
-        self.add_extensions(
-            &message.words,
-            "$place$.6.$index$",
-            extensions,
-            message.origin,
-        )?;
+        self.add_extensions(&message.words, "$place$.6.$index$", extensions, origin)?;
         for (index, bytes) in descriptor.nested_type.iter().enumerate() {
             let descriptor = match DescriptorProto::decode_from_slice(self.alloc, bytes) {
                 Ok(descriptor) => descriptor,
@@ -170,17 +161,24 @@ impl Schema {
             };
             pending.push(MessageType {
                 words: inner(&message.words, &descriptor.name, "$place$.3.$index$", index)?,
-                origin: message.origin,
+                origin,
                 descriptor,
                 is_read_back: true,
                 is_recursive: false,
             })?;
         }
         let enums = &descriptor.enum_type;
-        self.add_enums(&message.words, "$place$.4.$index$", enums, message.origin)?;
+        self.add_enums(&message.words, "$place$.4.$index$", enums, origin)?;
         let is_entry = match &descriptor.options {
             Some(options) => options.map_entry,
             None => false,
+        };
+        let message = MessageType {
+            words: message.words,
+            origin,
+            descriptor: message.descriptor,
+            is_read_back: true,
+            is_recursive: false,
         };
         if is_entry {
             self.entries.push(message)?;
@@ -409,6 +407,19 @@ fn inner(outer: &Words, name: &str, place: &str, index: usize) -> Result<Words, 
     words.set("module", &module);
     words.ended()?;
     Ok(words)
+}
+
+// What a type has of its file, but for what it says itself.
+fn own_origin(message: &MessageType) -> Result<Origin, GenerateError> {
+    let Some(options) = &message.descriptor.options else {
+        return Ok(message.origin);
+    };
+    let mut words = Words::like(&message.words);
+    let features = message.origin.features;
+    Ok(Origin {
+        features: features.with(options.features.as_deref(), &mut words)?,
+        is_own: message.origin.is_own,
+    })
 }
 
 // What a file has and a crate can't have.
