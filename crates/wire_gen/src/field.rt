@@ -2,7 +2,8 @@
 use crate::error::GenerateError;
 use crate::features::Features;
 use crate::item::{Sort, set_item};
-use crate::kind::{set_always, set_closed, set_keeping, set_key, set_kind, set_map, set_types};
+use crate::keeping::{put_number, set_keeping, set_types};
+use crate::kind::{set_always, set_closed, set_key, set_kind, set_map};
 use crate::names::{type_name, word_name};
 use crate::schema::{MessageType, Schema};
 use crate::words::{Template, Words};
@@ -263,49 +264,6 @@ fn add_variant(
     })?;
     Ok(())
 }
-
-// The numbers of a oneof are a list, and the wire types that go with them.
-fn put_number(words: &mut Words, variant: &Words) {
-    words.set("next", variant.get("number"));
-    words.copy(variant, &["types", "own_types"]);
-    let is_first = words.get("numbers").is_empty();
-    words.append("numbers", if is_first { "$next$" } else { " $next$" });
-    put_apart(words, is_first);
-    if words.get("mismatch") != "keep" {
-        return;
-    }
-    words.set("others", "own_none");
-    if !is_first {
-        words.fill("others", "($own$)");
-    }
-    words.fill("own", "own_at $types$ $next$ $others$");
-    words.append("all_types", "$own_types$ ");
-    words.append("all_own", "$types$ ");
-    words.append_all(&OF_KEEPING_ONEOF);
-    words.fill_all(&KEEPING_ONEOF);
-}
-
-const OF_KEEPING_ONEOF: [Template; 3] = [
-    ("definitions", "Rattle.wire_fields.specs.Leaving $types$\n"),
-    (
-        "definitions",
-        "Rattle.wire_fields.specs.Leaving leaving_other\nRattle.wire_fields.specs.Leaving own_at\n\
-        Rattle.wire_fields.specs.Leaving own_none\n",
-    ),
-    (
-        "code",
-        "wire_codec WireType\nwire_fields OwnTypes\nwire_fields merge_or_keep\n",
-    ),
-];
-
-const KEEPING_ONEOF: [Template; 6] = [
-    ("shape", "$module$-shape"),
-    ("definition", "leaving_other ($own$) $module$-shape"),
-    ("table", "$holder$-$field$-kind"),
-    ("step", "$holder$-$field$-kind.takes"),
-    ("sort", "Leaving"),
-    ("call", "merge_or_keep"),
-];
 
 /// Why a number `h` of a oneof is none of others, for one number more.
 pub(crate) fn put_apart(words: &mut Words, is_first: bool) {

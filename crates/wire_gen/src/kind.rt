@@ -279,53 +279,6 @@ pub(crate) fn set_closed(words: &mut Words) {
     }
 }
 
-const KEEPING: [Template; 5] = [
-    (
-        "definition",
-        "leaving_types $types$ $number$ ($definition$)",
-    ),
-    ("table", "$module$-$field$-kind"),
-    ("step", "$module$-$field$-kind.takes"),
-    ("sort", "Leaving"),
-    ("call", "merge_or_keep"),
-];
-
-const OF_KEEPING: [Template; 3] = [
-    ("definitions", "Rattle.wire_fields.specs.Leaving $types$\n"),
-    (
-        "definitions",
-        "Rattle.wire_fields.specs.Leaving leaving_types\n",
-    ),
-    (
-        "code",
-        "wire_codec WireType\nwire_fields OwnTypes\nwire_fields merge_or_keep\n",
-    ),
-];
-
-/// Sets the wire types of a field, `types` in definitions and `own_types` in code. A list of numbers
-/// has that of bytes, too.
-pub(crate) fn set_types(is_list: bool, words: &mut Words) {
-    let types = match words.get("wire_type") {
-        "Fixed64" => "of_fixed64",
-        "Fixed32" => "of_fixed32",
-        "LengthDelimited" => "of_bytes",
-        "StartGroup" => "of_group",
-        _ => "of_varint",
-    };
-    words.set("types", types);
-    words.fill("own_types", "One(WireType::$wire_type$)");
-    if is_list {
-        words.fill("types", "$types$s");
-        words.fill("own_types", "OrPacked(WireType::$wire_type$)");
-    }
-}
-
-/// Makes the words of a field those of one that leaves records of other wire types.
-pub(crate) fn set_keeping(words: &mut Words) {
-    words.fill_all(&KEEPING);
-    words.append_all(&OF_KEEPING);
-}
-
 /// Makes the words of a value those of the key of a map.
 pub(crate) fn set_key(words: &mut Words) {
     words.fill_all(&[

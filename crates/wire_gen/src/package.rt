@@ -7,11 +7,13 @@ use crate::error::GenerateError;
 use crate::extensions::extensions_of;
 use crate::features::{FIRST_EDITION, LAST_EDITION};
 use crate::field::{Field, Oneof, fields_of};
+use crate::laws_pages::{LAW, LAW_ANSWERS, LAW_USES, LAWS};
 use crate::oneof::oneof_code;
 use crate::oneof_definitions::oneof_definitions;
 use crate::oneof_proofs::{merge_answers, variant_answers};
-use crate::recursive::{is_row, leaf_tree, recursive_code};
+use crate::recursive::recursive_code;
 use crate::recursive_definitions::{recursive_definitions, row_answers};
+use crate::rows::{is_row, leaf_tree};
 use crate::schema::{EnumType, MessageType, Schema};
 use crate::tree::tree_of;
 use crate::words::{Template, Words};
@@ -37,38 +39,6 @@ const ROOT: &str = "\
 
 $modules$
 $exports$";
-
-const LAWS: &str = "\
-//! Laws of the message types: each function is a theorem, and does nothing. Generated.
-ghost use Rattle.wire_fields.specs.Returned.{ReadsBack};
-$law_uses$
-use wire_codec::laws::text_decodes;
-use wire_fields::laws::grounds;
-$laws$";
-
-const LAW_USES: &str = "\
-ghost use Rattle.$crate$.specs.$name$.{$module$-range};
-ghost use Rattle.$crate$.specs.$name$.{$module$-shape};
-";
-
-const LAW: &str = "
-/// What is written of a `$name$` in range decodes to it, where the limits suffice.
-pub fn $module$_reads_back()
-    ensures { ReadsBack $module$-shape $module$-range }
-{
-    grounds();
-    text_decodes::<crate::$name$>();
-}
-";
-
-const LAW_ANSWERS: &str = "\
-use Rattle.$crate$.specs.$name$.{$module$-returned}
-use Rattle.wire_fields.specs.Returned.{reads_back}
-use Rattle.$crate$.proofs.laws.$module$_reads_back.Goals as goal
-
-pub returns : goal.returns
-returns c = reads_back ($module$-returned c.grounds.ensures) c.text_decodes.ensures
-";
 
 // The most fields of a message: a copy of many more is not proved.
 const MOST_FIELDS: usize = 40;

@@ -2,7 +2,7 @@
 use crate::error::GenerateError;
 use crate::field::Field;
 use crate::imports::definition_imports;
-use crate::recursive::is_row;
+use crate::rows::is_row;
 use crate::tree::Tree;
 use crate::words::{Template, Words};
 

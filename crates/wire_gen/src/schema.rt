@@ -1,7 +1,7 @@
 //! The message types and enums of the files that are to be generated.
 use crate::error::GenerateError;
 use crate::features::Features;
-use crate::names::{type_name, word_name};
+use crate::origin::{home_of, inner, own_origin, stop_on_rest};
 use crate::words::Words;
 use std::alloc::Global;
 use wire_codec::Message;
@@ -377,55 +377,4 @@ impl Schema {
     pub(crate) fn enum_of(&self, full: &str) -> Option<&EnumType> {
         self.enums.iter().find(|it| it.words.get("full") == full)
     }
-}
-
-// The crate that has a package, of lines of a package and a crate each.
-fn home_of<'a>(package: &str, imported: &'a str) -> &'a str {
-    for line in imported.split('\n') {
-        if let Some((of, home)) = line.split_once(' ') {
-            if of == package {
-                return home;
-            }
-        }
-    }
-    ""
-}
-
-// The words of a type of this name within a file or another type, where it is the one at this
-// index.
-fn inner(outer: &Words, name: &str, place: &str, index: usize) -> Result<Words, GenerateError> {
-    let alloc = outer.alloc();
-    let mut words = Words::like(outer);
-    words.set("name", name);
-    words.index("index", index);
-    words.fill("place", place);
-    words.fill("full", "$full$.$name$");
-    words.append("outer", "$name$.");
-    let name = type_name(alloc, words.get("outer"))?;
-    let module = word_name(alloc, &name)?;
-    words.set("name", &name);
-    words.set("module", &module);
-    words.ended()?;
-    Ok(words)
-}
-
-// What a type has of its file, but for what it says itself.
-fn own_origin(message: &MessageType) -> Result<Origin, GenerateError> {
-    let Some(options) = &message.descriptor.options else {
-        return Ok(message.origin);
-    };
-    let mut words = Words::like(&message.words);
-    let features = message.origin.features;
-    Ok(Origin {
-        features: features.with(options.features.as_deref(), &mut words)?,
-        is_own: message.origin.is_own,
-    })
-}
-
-// What a file has and a crate can't have.
-fn stop_on_rest(file: &FileDescriptorProto, words: &mut Words) -> Result<(), GenerateError> {
-    if file.service.is_empty() {
-        return Ok(());
-    }
-    Err(words.refused("$file$: services are not generated"))
 }

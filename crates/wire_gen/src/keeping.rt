@@ -1,0 +1,93 @@
+//! Fields that leave records of other wire types to the unknown fields.
+use crate::field::put_apart;
+use crate::words::{Template, Words};
+
+const KEEPING: [Template; 5] = [
+    (
+        "definition",
+        "leaving_types $types$ $number$ ($definition$)",
+    ),
+    ("table", "$module$-$field$-kind"),
+    ("step", "$module$-$field$-kind.takes"),
+    ("sort", "Leaving"),
+    ("call", "merge_or_keep"),
+];
+
+const OF_KEEPING: [Template; 3] = [
+    ("definitions", "Rattle.wire_fields.specs.Leaving $types$\n"),
+    (
+        "definitions",
+        "Rattle.wire_fields.specs.Leaving leaving_types\n",
+    ),
+    (
+        "code",
+        "wire_codec WireType\nwire_fields OwnTypes\nwire_fields merge_or_keep\n",
+    ),
+];
+
+/// Sets the wire types of a field, `types` in definitions and `own_types` in code. A list of numbers
+/// has that of bytes, too.
+pub(crate) fn set_types(is_list: bool, words: &mut Words) {
+    let types = match words.get("wire_type") {
+        "Fixed64" => "of_fixed64",
+        "Fixed32" => "of_fixed32",
+        "LengthDelimited" => "of_bytes",
+        "StartGroup" => "of_group",
+        _ => "of_varint",
+    };
+    words.set("types", types);
+    words.fill("own_types", "One(WireType::$wire_type$)");
+    if is_list {
+        words.fill("types", "$types$s");
+        words.fill("own_types", "OrPacked(WireType::$wire_type$)");
+    }
+}
+
+/// Makes the words of a field those of one that leaves records of other wire types.
+pub(crate) fn set_keeping(words: &mut Words) {
+    words.fill_all(&KEEPING);
+    words.append_all(&OF_KEEPING);
+}
+
+/// The numbers of a oneof are a list, and the wire types that go with them.
+pub(crate) fn put_number(words: &mut Words, variant: &Words) {
+    words.set("next", variant.get("number"));
+    words.copy(variant, &["types", "own_types"]);
+    let is_first = words.get("numbers").is_empty();
+    words.append("numbers", if is_first { "$next$" } else { " $next$" });
+    put_apart(words, is_first);
+    if words.get("mismatch") != "keep" {
+        return;
+    }
+    words.set("others", "own_none");
+    if !is_first {
+        words.fill("others", "($own$)");
+    }
+    words.fill("own", "own_at $types$ $next$ $others$");
+    words.append("all_types", "$own_types$ ");
+    words.append("all_own", "$types$ ");
+    words.append_all(&OF_KEEPING_ONEOF);
+    words.fill_all(&KEEPING_ONEOF);
+}
+
+const OF_KEEPING_ONEOF: [Template; 3] = [
+    ("definitions", "Rattle.wire_fields.specs.Leaving $types$\n"),
+    (
+        "definitions",
+        "Rattle.wire_fields.specs.Leaving leaving_other\nRattle.wire_fields.specs.Leaving own_at\n\
+        Rattle.wire_fields.specs.Leaving own_none\n",
+    ),
+    (
+        "code",
+        "wire_codec WireType\nwire_fields OwnTypes\nwire_fields merge_or_keep\n",
+    ),
+];
+
+const KEEPING_ONEOF: [Template; 6] = [
+    ("shape", "$module$-shape"),
+    ("definition", "leaving_other ($own$) $module$-shape"),
+    ("table", "$holder$-$field$-kind"),
+    ("step", "$holder$-$field$-kind.takes"),
+    ("sort", "Leaving"),
+    ("call", "merge_or_keep"),
+];

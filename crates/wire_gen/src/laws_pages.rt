@@ -1,0 +1,33 @@
+//! The laws of the messages of a crate, and their proofs.
+
+pub(crate) const LAWS: &str = "\
+//! Laws of the message types: each function is a theorem, and does nothing. Generated.
+ghost use Rattle.wire_fields.specs.Returned.{ReadsBack};
+$law_uses$
+use wire_codec::laws::text_decodes;
+use wire_fields::laws::grounds;
+$laws$";
+
+pub(crate) const LAW_USES: &str = "\
+ghost use Rattle.$crate$.specs.$name$.{$module$-range};
+ghost use Rattle.$crate$.specs.$name$.{$module$-shape};
+";
+
+pub(crate) const LAW: &str = "
+/// What is written of a `$name$` in range decodes to it, where the limits suffice.
+pub fn $module$_reads_back()
+    ensures { ReadsBack $module$-shape $module$-range }
+{
+    grounds();
+    text_decodes::<crate::$name$>();
+}
+";
+
+pub(crate) const LAW_ANSWERS: &str = "\
+use Rattle.$crate$.specs.$name$.{$module$-returned}
+use Rattle.wire_fields.specs.Returned.{reads_back}
+use Rattle.$crate$.proofs.laws.$module$_reads_back.Goals as goal
+
+pub returns : goal.returns
+returns c = reads_back ($module$-returned c.grounds.ensures) c.text_decodes.ensures
+";

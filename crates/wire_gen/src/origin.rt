@@ -1,0 +1,65 @@
+//! What a type has of its file.
+use crate::error::GenerateError;
+use crate::names::{type_name, word_name};
+use crate::schema::{MessageType, Origin};
+use crate::words::Words;
+use wire_descriptor::FileDescriptorProto;
+
+/// The crate that has a package, of lines of a package and a crate each.
+pub(crate) fn home_of<'a>(package: &str, imported: &'a str) -> &'a str {
+    for line in imported.split('\n') {
+        if let Some((of, home)) = line.split_once(' ') {
+            if of == package {
+                return home;
+            }
+        }
+    }
+    ""
+}
+
+/// The words of a type of this name within a file or another type, where it is the one at this
+/// index.
+pub(crate) fn inner(
+    outer: &Words,
+    name: &str,
+    place: &str,
+    index: usize,
+) -> Result<Words, GenerateError> {
+    let alloc = outer.alloc();
+    let mut words = Words::like(outer);
+    words.set("name", name);
+    words.index("index", index);
+    words.fill("place", place);
+    words.fill("full", "$full$.$name$");
+    words.append("outer", "$name$.");
+    let name = type_name(alloc, words.get("outer"))?;
+    let module = word_name(alloc, &name)?;
+    words.set("name", &name);
+    words.set("module", &module);
+    words.ended()?;
+    Ok(words)
+}
+
+/// What a type has of its file, but for what it says itself.
+pub(crate) fn own_origin(message: &MessageType) -> Result<Origin, GenerateError> {
+    let Some(options) = &message.descriptor.options else {
+        return Ok(message.origin);
+    };
+    let mut words = Words::like(&message.words);
+    let features = message.origin.features;
+    Ok(Origin {
+        features: features.with(options.features.as_deref(), &mut words)?,
+        is_own: message.origin.is_own,
+    })
+}
+
+/// What a file has and a crate can't have.
+pub(crate) fn stop_on_rest(
+    file: &FileDescriptorProto,
+    words: &mut Words,
+) -> Result<(), GenerateError> {
+    if file.service.is_empty() {
+        return Ok(());
+    }
+    Err(words.refused("$file$: services are not generated"))
+}

@@ -1,0 +1,75 @@
+//! Which fields of a message are of its own type.
+use crate::error::GenerateError;
+use crate::field::Field;
+use crate::tree::{Tree, tree_of};
+use crate::words::Words;
+
+/// Whether a field is of its message's own type.
+pub(crate) fn is_row(field: &Field) -> bool {
+    !field.words.get("is_row").is_empty()
+}
+
+/// Tells the fields of a message's own type that they are rows, and makes the tree of the others.
+pub(crate) fn leaf_tree(
+    base: &mut Words,
+    fields: Vec<Field>,
+) -> Result<(Vec<Field>, Tree), GenerateError> {
+    let alloc = base.alloc();
+    let mut order = Vec::new(alloc);
+    let (mut rows, mut leaf) = (Vec::new(alloc), Vec::new(alloc));
+    for mut field in fields {
+        if is_own(base, &field.words) {
+            field.words.set("is_row", "is_row");
+        } else if holds_own(base, &field) {
+            return Err(base.refused(BY_OTHER));
+        }
+        order.push(is_row(&field))?;
+        if is_row(&field) {
+            rows.push(field)?;
+        } else {
+            leaf.push(field)?;
+        }
+    }
+    let is_plain = base.get("unknown") == "keep" && base.get("mismatch") == "refuse";
+    let leaves = leaf.iter().any(|it| it.words.get("sort") == "Leaving");
+    if !is_plain || leaves || leaf.is_empty() || leaf.len() > MOST_LEAVES {
+        return Err(base.refused(NO_LEAF));
+    }
+    let tree = tree_of(base, &mut leaf)?;
+    let (mut rows, mut leaf) = (rows.into_iter(), leaf.into_iter());
+    let mut fields = Vec::new(alloc);
+    for is_row in order {
+        let next = if is_row { rows.next() } else { leaf.next() };
+        if let Some(field) = next {
+            fields.push(field)?;
+        }
+    }
+    Ok((fields, tree))
+}
+
+const BY_OTHER: &str =
+    "$full$: a message that holds itself by a map, a oneof or a group is not generated";
+
+const NO_LEAF: &str = "$full$: a message that holds itself has one to eight other fields, and \
+                       neither closed enums, unknown=drop nor mismatch=keep";
+
+// The most other fields: the runs of these are tuples.
+const MOST_LEAVES: usize = 8;
+
+// Whether a field is an embedded message of the type itself, or a list of these.
+fn is_own(base: &Words, field: &Words) -> bool {
+    let kind = field.get("kind");
+    let is_embedded = kind.starts_with("Embedded<") || kind.starts_with("EachEmbedded<");
+    is_embedded && field.get("of_name") == base.get("name")
+}
+
+// Whether another kind of field has the type itself.
+fn holds_own(base: &Words, field: &Field) -> bool {
+    match &field.oneof {
+        Some(oneof) => oneof
+            .variants
+            .iter()
+            .any(|it| it.get("of_name") == base.get("name")),
+        None => field.words.get("of_name") == base.get("name"),
+    }
+}
