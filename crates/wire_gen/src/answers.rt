@@ -136,7 +136,7 @@ Rattle.wire_fields.specs.Arms from_last
 Rattle.wire_fields.specs.Leaving keeps_beside
 ";
 
-// The search does not find by itself that what a list in many records takes the message takes.
+// The search does not find by itself that what a list of numbers takes the message takes.
 const USES_OF_TAKEN: &str = "\
 Rattle.std.proofs.Common refl
 Rattle.wire_fields.specs.Arms arm_ok
@@ -262,7 +262,9 @@ fn put_arm(page: &mut Words) {
         },
     );
     page.append("answers", REFUSED);
-    if page.get("kind").starts_with("Unpacked") && page.get("sort") != "Leaving" {
+    let kind = page.get("kind");
+    let is_list = kind.starts_with("Unpacked") || kind.starts_with("Packed");
+    if is_list && page.get("sort") != "Leaving" {
         page.append("answers", TAKEN);
         page.append("uses", USES_OF_TAKEN);
     }

@@ -100,6 +100,14 @@ impl Features {
         }
     }
 
+    /// The same with open enums.
+    pub(crate) fn with_open_enums(self) -> Features {
+        Features {
+            enum_type: OPEN,
+            ..self
+        }
+    }
+
     /// Whether a number or a text is there only where it is none that is the default.
     pub(crate) fn is_implicit(self) -> bool {
         self.presence == IMPLICIT

@@ -93,7 +93,7 @@ fn stop_on_closed(words: &mut Words) -> Result<(), GenerateError> {
     if words.get("closed").is_empty() {
         return Ok(());
     }
-    let why = "$full$.$proto$: closed enums in a oneof or a map are not generated";
+    let why = "$full$.$proto$: closed enums in a oneof or a map want enums=open";
     Err(words.refused(why))
 }
 

@@ -22,6 +22,7 @@ mod oneof_definitions;
 mod oneof_proofs;
 mod origin;
 mod package;
+mod parameters;
 mod recursive;
 mod recursive_definitions;
 mod rows;

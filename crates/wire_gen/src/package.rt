@@ -11,6 +11,7 @@ use crate::laws_pages::{LAW, LAW_ANSWERS, LAW_USES, LAWS};
 use crate::oneof::oneof_code;
 use crate::oneof_definitions::oneof_definitions;
 use crate::oneof_proofs::{merge_answers, variant_answers};
+use crate::parameters::set_crate;
 use crate::recursive::recursive_code;
 use crate::recursive_definitions::{recursive_definitions, row_answers};
 use crate::rows::{is_row, leaf_tree};
@@ -96,76 +97,6 @@ fn files_of(
     package.add_extensions(&schema)?;
     package.add_roots()?;
     Ok(package.files)
-}
-
-// What the parameter says: `crate=NAME` is the crate's own name, or else that of the first file,
-// each `import=PACKAGE=CRATE` names the crate that has another package, `element=BYTES` is what an
-// element of a list or a map is charged, `unknown=` whether fields that a schema lacks are kept, and
-// `mismatch=` whether records of other wire types are refused, or kept with these.
-fn set_crate(base: &mut Words, request: &CodeGeneratorRequest) -> Result<(), GenerateError> {
-    base.set("crate", first_name(request));
-    base.fill_all(&DEFAULTS);
-    for option in request.parameter.split(',') {
-        base.set("option", option);
-        match option.split_once('=') {
-            Some(("crate", name)) => base.set("crate", name),
-            Some(("import", import)) => set_import(base, import)?,
-            Some(("unknown", choice @ ("keep" | "drop"))) => base.set("unknown", choice),
-            Some(("mismatch", choice @ ("keep" | "refuse"))) => base.set("mismatch", choice),
-            Some(("element", bytes)) if is_size(bytes) => {
-                base.set("element", bytes);
-                base.fill_all(&[("of_text", "$element$"), ("of_entry", "$element$")]);
-            }
-            None if option.is_empty() => {}
-            _ => {
-                return Err(base.refused(
-                    "parameters are crate=NAME, import=PACKAGE=CRATE, element=BYTES, \
-                    unknown=keep or drop, and mismatch=refuse or keep: $option$",
-                ));
-            }
-        }
-    }
-    if base.get("crate").is_empty() {
-        return Err(base.refused("no file is to be generated"));
-    }
-    if base.get("unknown") == "drop" && base.get("mismatch") == "keep" {
-        return Err(base.refused("mismatch=keep wants unknown=keep"));
-    }
-    Ok(())
-}
-
-const DEFAULTS: [Template; 4] = [
-    ("of_text", "24"),
-    ("of_entry", "64"),
-    ("unknown", "keep"),
-    ("mismatch", "refuse"),
-];
-
-fn set_import(base: &mut Words, import: &str) -> Result<(), GenerateError> {
-    let Some((package, home)) = import.split_once('=') else {
-        return Err(base.refused("an import is import=PACKAGE=CRATE: $option$"));
-    };
-    base.set("package", package);
-    base.set("home", home);
-    base.append_all(&[("imported", "$package$ $home$\n"), ("needs", " $home$")]);
-    Ok(())
-}
-
-// Digits of a number that is at most 999,999,999.
-fn is_size(digits: &str) -> bool {
-    let is_short = !digits.is_empty() && digits.len() < 10 && !digits.starts_with('0');
-    is_short && digits.chars().all(|it| it.is_ascii_digit())
-}
-
-// What the first file is called.
-fn first_name(request: &CodeGeneratorRequest) -> &str {
-    let Some(file) = request.file_to_generate.first() else {
-        return "";
-    };
-    let path = file.as_str();
-    let path = path.strip_suffix(".proto").unwrap_or(path);
-    let (_, name) = path.rsplit_once('/').unwrap_or(("", path));
-    name
 }
 
 // The files so far. The words of the roots are lines of the files that name the others.

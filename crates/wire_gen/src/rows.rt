@@ -48,7 +48,7 @@ pub(crate) fn leaf_tree(
 }
 
 const BY_OTHER: &str =
-    "$full$: a message that holds itself by a map, a oneof or a group is not generated";
+    "$full$: a message that holds itself by a map, a oneof or a group wants encoded=FIELD";
 
 const NO_LEAF: &str = "$full$: a message that holds itself has one to eight other fields, and \
                        neither closed enums, unknown=drop nor mismatch=keep";

@@ -2,6 +2,7 @@
 use crate::error::GenerateError;
 use crate::features::Features;
 use crate::origin::{home_of, inner, own_origin, stop_on_rest};
+use crate::parameters::adapt;
 use crate::words::Words;
 use std::alloc::Global;
 use wire_codec::Message;
@@ -62,8 +63,8 @@ struct Comment {
 pub(crate) struct Schema {
     alloc: Global,
     pub messages: Vec<MessageType>,
-    // The types of the entries of maps.
-    entries: Vec<MessageType>,
+    /// The types of the entries of maps.
+    pub entries: Vec<MessageType>,
     pub enums: Vec<EnumType>,
     pub extensions: Vec<Extension>,
     comments: Vec<Comment>,
@@ -96,6 +97,7 @@ impl Schema {
                 schema.add_file(file, is_own, home)?;
             }
         }
+        adapt(base, &mut schema)?;
         schema.stop_on_cycles()?;
         schema.find_read_back(base.get("mismatch") == "refuse")?;
         Ok(schema)
@@ -285,7 +287,9 @@ impl Schema {
         }
         for (message, is_open) in self.messages.iter_mut().zip(open) {
             if is_open && message.origin.is_own {
-                let why = "$full$: messages that hold one another are not generated";
+                let why =
+                    "$full$: messages that hold one another want encoded=FIELD, of one between \
+                           them";
                 return Err(message.words.refused(why));
             }
         }

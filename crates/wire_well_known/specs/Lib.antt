@@ -8,7 +8,12 @@ pub mod FieldMask
 pub mod FloatValue
 pub mod Int32Value
 pub mod Int64Value
+pub mod ListValue
+pub mod NullValue
 pub mod StringValue
+pub mod Struct
 pub mod Timestamp
 pub mod UInt32Value
 pub mod UInt64Value
+pub mod Value
+pub mod ValueKind

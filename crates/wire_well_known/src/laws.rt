@@ -20,14 +20,20 @@ ghost use Rattle.wire_well_known.specs.Int32Value.{int32_value-range};
 ghost use Rattle.wire_well_known.specs.Int32Value.{int32_value-shape};
 ghost use Rattle.wire_well_known.specs.Int64Value.{int64_value-range};
 ghost use Rattle.wire_well_known.specs.Int64Value.{int64_value-shape};
+ghost use Rattle.wire_well_known.specs.ListValue.{list_value-range};
+ghost use Rattle.wire_well_known.specs.ListValue.{list_value-shape};
 ghost use Rattle.wire_well_known.specs.StringValue.{string_value-range};
 ghost use Rattle.wire_well_known.specs.StringValue.{string_value-shape};
+ghost use Rattle.wire_well_known.specs.Struct.{struct_-range};
+ghost use Rattle.wire_well_known.specs.Struct.{struct_-shape};
 ghost use Rattle.wire_well_known.specs.Timestamp.{timestamp-range};
 ghost use Rattle.wire_well_known.specs.Timestamp.{timestamp-shape};
 ghost use Rattle.wire_well_known.specs.UInt32Value.{uint32_value-range};
 ghost use Rattle.wire_well_known.specs.UInt32Value.{uint32_value-shape};
 ghost use Rattle.wire_well_known.specs.UInt64Value.{uint64_value-range};
 ghost use Rattle.wire_well_known.specs.UInt64Value.{uint64_value-shape};
+ghost use Rattle.wire_well_known.specs.Value.{value-range};
+ghost use Rattle.wire_well_known.specs.Value.{value-shape};
 
 use wire_codec::laws::text_decodes;
 use wire_fields::laws::grounds;
@@ -62,6 +68,30 @@ pub fn field_mask_reads_back()
 {
     grounds();
     text_decodes::<crate::FieldMask>();
+}
+
+/// What is written of a `ListValue` in range decodes to it, where the limits suffice.
+pub fn list_value_reads_back()
+    ensures { ReadsBack list_value-shape list_value-range }
+{
+    grounds();
+    text_decodes::<crate::ListValue>();
+}
+
+/// What is written of a `Value` in range decodes to it, where the limits suffice.
+pub fn value_reads_back()
+    ensures { ReadsBack value-shape value-range }
+{
+    grounds();
+    text_decodes::<crate::Value>();
+}
+
+/// What is written of a `Struct` in range decodes to it, where the limits suffice.
+pub fn struct__reads_back()
+    ensures { ReadsBack struct_-shape struct_-range }
+{
+    grounds();
+    text_decodes::<crate::Struct>();
 }
 
 /// What is written of a `Timestamp` in range decodes to it, where the limits suffice.

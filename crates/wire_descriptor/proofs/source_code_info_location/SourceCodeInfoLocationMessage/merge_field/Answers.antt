@@ -1,10 +1,10 @@
-use Rattle.std.proofs.Common.{rules, sym, ◌∙◌}
+use Rattle.std.proofs.Common.{refl, rules, sym, ◌∙◌}
 use Rattle.wire_codec.specs.TagView.{tag_number}
 use Rattle.wire_descriptor.specs.SourceCodeInfoLocation.{source_code_info_location-known}
 use Rattle.wire_descriptor.specs.SourceCodeInfoLocation.{source_code_info_location-leading_comments-kind}
 use Rattle.wire_descriptor.specs.SourceCodeInfoLocation.{source_code_info_location-path-kind}
 use Rattle.wire_descriptor.specs.SourceCodeInfoLocation.{source_code_info_location-shape}
-use Rattle.wire_fields.specs.Arms.{arm_err, neither, rest_err, unlike}
+use Rattle.wire_fields.specs.Arms.{arm_err, arm_ok, neither, rest_err, unlike}
 use Rattle.wire_fields.specs.Shape.{keeps}
 use Rattle.wire_descriptor.proofs.source_code_info_location.SourceCodeInfoLocationMessage.merge_field.Goals as goal
 
@@ -14,6 +14,13 @@ returns-in-1-clause-err g c =
     (sym c.field_number.ensures.number ∙ c.in-1.is) _ _
     (λ charge z p h. (z.0.0, h.0.0)) _ _ _
     c.merge.result c.merge.ensures.err
+
+pub returns-in-1-clause-ok : goal.returns-in-1-clause-ok
+returns-in-1-clause-ok g c =
+    arm_ok source_code_info_location-shape.takes source_code_info_location-path-kind.kind.takes 1 _
+    (sym c.field_number.ensures.number ∙ c.in-1.is) _ _ _ _
+    (λ charge p h. ((h, refl), refl)) _ _ _ _ _
+    c.merge.result c.merge.ensures.ok
 
 pub returns-in-3-clause-err : goal.returns-in-3-clause-err
 returns-in-3-clause-err g c =

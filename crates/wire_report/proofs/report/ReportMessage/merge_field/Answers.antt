@@ -66,6 +66,13 @@ returns-in-8-clause-err g c =
     (λ charge z p h. (z.0.0.1.1.1, h.0.0.0.0.0)) _ _ _
     (c.merge-in-8).result (c.merge-in-8).ensures.err
 
+pub returns-in-8-clause-ok : goal.returns-in-8-clause-ok
+returns-in-8-clause-ok g c =
+    arm_ok report-shape.takes report-offsets-kind.kind.takes 8 _
+    (sym c.field_number.ensures.number ∙ c.in-8.is) _ _ _ _
+    (λ charge p h. (((((h, refl), refl), refl), refl), refl)) _ _ _ _ _
+    (c.merge-in-8).result (c.merge-in-8).ensures.ok
+
 pub returns-in-9-clause-err : goal.returns-in-9-clause-err
 returns-in-9-clause-err g c =
     arm_err report-shape.takes report-ports-kind.kind.takes 9 _

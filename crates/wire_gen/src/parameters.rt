@@ -1,0 +1,176 @@
+//! What the parameter of a request says.
+use crate::error::GenerateError;
+use crate::field::features_of;
+use crate::schema::{MessageType, Schema};
+use crate::words::{Template, Words};
+use std::alloc::Global;
+use wire_descriptor::CodeGeneratorRequest;
+
+/// Sets the words of a crate. `crate=NAME` is its own name, or else that of the first file; each
+/// `import=PACKAGE=CRATE` names the crate that has another package; `element=BYTES` is what an
+/// element of a list or a map is charged; `unknown=` whether fields that a schema lacks are kept;
+/// `mismatch=` whether records of other wire types are refused, or kept with these; `enums=open`
+/// takes closed enums as open ones; and each `encoded=FIELD` names a field of messages that is held
+/// as the bytes of their encodings.
+pub(crate) fn set_crate(
+    base: &mut Words,
+    request: &CodeGeneratorRequest,
+) -> Result<(), GenerateError> {
+    base.set("crate", first_name(request));
+    base.fill_all(&DEFAULTS);
+    for option in request.parameter.split(',') {
+        base.set("option", option);
+        match option.split_once('=') {
+            Some((name, choice)) => set_parameter(base, name, choice)?,
+            None if option.is_empty() => {}
+            None => return Err(base.refused(PARAMETERS)),
+        }
+    }
+    if base.get("crate").is_empty() {
+        return Err(base.refused("no file is to be generated"));
+    }
+    if base.get("unknown") == "drop" && base.get("mismatch") == "keep" {
+        return Err(base.refused("mismatch=keep wants unknown=keep"));
+    }
+    Ok(())
+}
+
+const DEFAULTS: [Template; 4] = [
+    ("of_text", "24"),
+    ("of_entry", "64"),
+    ("unknown", "keep"),
+    ("mismatch", "refuse"),
+];
+
+const PARAMETERS: &str = "\
+    parameters are crate=NAME, import=PACKAGE=CRATE, element=BYTES, unknown=keep or drop, \
+    mismatch=refuse or keep, enums=open, and encoded=FIELD: $option$";
+
+fn set_parameter(base: &mut Words, name: &str, choice: &str) -> Result<(), GenerateError> {
+    match (name, choice) {
+        ("crate", _) => base.set("crate", choice),
+        ("import", _) => set_import(base, choice)?,
+        ("unknown", "keep" | "drop") => base.set("unknown", choice),
+        ("mismatch", "keep" | "refuse") => base.set("mismatch", choice),
+        ("enums", "open") => base.set("enums", choice),
+        ("element", _) if is_size(choice) => {
+            base.set("element", choice);
+            base.fill_all(&[("of_text", "$element$"), ("of_entry", "$element$")]);
+        }
+        ("encoded", _) => {
+            base.set("name", choice);
+            base.append("encoded", ".$name$\n");
+        }
+        _ => return Err(base.refused(PARAMETERS)),
+    }
+    Ok(())
+}
+
+fn set_import(base: &mut Words, import: &str) -> Result<(), GenerateError> {
+    let Some((package, home)) = import.split_once('=') else {
+        return Err(base.refused("an import is import=PACKAGE=CRATE: $option$"));
+    };
+    base.set("package", package);
+    base.set("home", home);
+    base.append_all(&[("imported", "$package$ $home$\n"), ("needs", " $home$")]);
+    Ok(())
+}
+
+// Digits of a number that is at most 999,999,999.
+fn is_size(digits: &str) -> bool {
+    let is_short = !digits.is_empty() && digits.len() < 10 && !digits.starts_with('0');
+    is_short && digits.chars().all(|it| it.is_ascii_digit())
+}
+
+// What the first file is called.
+fn first_name(request: &CodeGeneratorRequest) -> &str {
+    let Some(file) = request.file_to_generate.first() else {
+        return "";
+    };
+    let path = file.as_str();
+    let path = path.strip_suffix(".proto").unwrap_or(path);
+    let (_, name) = path.rsplit_once('/').unwrap_or(("", path));
+    name
+}
+
+/// Makes the types of the schema those that the parameter asks for.
+pub(crate) fn adapt(base: &Words, schema: &mut Schema) -> Result<(), GenerateError> {
+    if base.get("enums") == "open" {
+        for of_enum in &mut schema.enums {
+            of_enum.origin.features = of_enum.origin.features.with_open_enums();
+        }
+    }
+    for name in base.get("encoded").split('\n') {
+        if let Some((owner, field)) = name.rsplit_once('.') {
+            hold_encoded(base, schema, owner, field)?;
+        }
+    }
+    Ok(())
+}
+
+// Makes a field of messages, or the values of a map, one of bytes.
+fn hold_encoded(
+    base: &Words,
+    schema: &mut Schema,
+    owner: &str,
+    field: &str,
+) -> Result<(), GenerateError> {
+    let mut words = Words::like(base);
+    words.set("full", owner);
+    words.set("proto", field);
+    let held = held_by(base.alloc(), schema, owner, field)?;
+    let is_found = match schema.entry(&held) {
+        Some(_) => make_bytes(&mut schema.entries, &held, "value", &mut words)?,
+        None => make_bytes(&mut schema.messages, owner, field, &mut words)?,
+    };
+    if is_found {
+        return Ok(());
+    }
+    Err(words.refused("$full$.$proto$: encoded= wants a field of messages behind their length"))
+}
+
+// The name of the type that a field has.
+fn held_by(
+    alloc: Global,
+    schema: &Schema,
+    owner: &str,
+    field: &str,
+) -> Result<String, GenerateError> {
+    let held = match schema.message(owner) {
+        Some(message) => match message
+            .descriptor
+            .field
+            .iter()
+            .find(|it| it.name.as_str() == field)
+        {
+            Some(found) => found.type_name.as_str(),
+            None => "",
+        },
+        None => "",
+    };
+    Ok(String::from_str(alloc, held)?)
+}
+
+// Whether the type has such a field of messages, which is one of bytes then.
+fn make_bytes(
+    types: &mut [MessageType],
+    owner: &str,
+    field: &str,
+    words: &mut Words,
+) -> Result<bool, GenerateError> {
+    for of_type in types {
+        if of_type.words.get("full") != owner {
+            continue;
+        }
+        let outer = of_type.origin.features;
+        for found in &mut of_type.descriptor.field {
+            if found.name.as_str() == field && found.type_ == 11 {
+                let is_delimited = features_of(outer, found, words)?.is_delimited();
+                found.type_ = 12;
+                found.type_name.clear();
+                return Ok(!is_delimited);
+            }
+        }
+    }
+    Ok(false)
+}
