@@ -168,6 +168,8 @@ fn make_bytes(
                 let is_delimited = features_of(outer, found, words)?.is_delimited();
                 found.type_ = 12;
                 found.type_name.clear();
+                // (an empty encoding is a message too)
+                found.proto3_optional = found.oneof_index.is_none();
                 return Ok(!is_delimited);
             }
         }
