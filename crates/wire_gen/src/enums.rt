@@ -122,7 +122,11 @@ fn values_of(
 ) -> Result<Vec<Named>, GenerateError> {
     let mut values: Vec<Named> = Vec::new(alloc);
     for value in &of_enum.descriptor.value {
-        let name = value_name(alloc, &value.name)?;
+        let mut name = value_name(alloc, &value.name)?;
+        // (a clause has one name for one thing)
+        if name.as_str() == page.get("name") {
+            name.push('_')?;
+        }
         for other in &values {
             if other.number == value.number || other.name == name {
                 page.set("proto", &value.name);

@@ -235,12 +235,13 @@ fn add_variant(
     base: &Words,
     message: &MessageType,
     index: i32,
-    variant: Words,
+    mut variant: Words,
     fields: &mut Vec<Field>,
 ) -> Result<(), GenerateError> {
     for field in fields.iter_mut() {
         if let Some(oneof) = &mut field.oneof {
             if oneof.index == index {
+                tell_apart(&mut variant, &oneof.words);
                 put_number(&mut field.words, &variant);
                 oneof.variants.push(variant)?;
                 return Ok(());
@@ -248,6 +249,7 @@ fn add_variant(
         }
     }
     let mut words = oneof_words(base, message, index)?;
+    tell_apart(&mut variant, &words);
     words.set("number", variant.get("number"));
     put_number(&mut words, &variant);
     let mut of = Words::like(base);
@@ -263,6 +265,13 @@ fn add_variant(
         }),
     })?;
     Ok(())
+}
+
+// In a clause a variant is not called as its oneof.
+fn tell_apart(variant: &mut Words, oneof: &Words) {
+    if variant.get("variant") == oneof.get("name") {
+        variant.append("variant", "_");
+    }
 }
 
 /// Why a number `h` of a oneof is none of others, for one number more.

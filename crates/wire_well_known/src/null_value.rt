@@ -4,13 +4,13 @@ use wire_codec::Enumeration;
 /// The one value of null.
 #[derive(Clone, Copy, Debug, PartialEq, Eq, Hash)]
 pub enum NullValue {
-    NullValue = 0,
+    NullValue_ = 0,
 }
 
 impl Enumeration for NullValue {
     ghost use Rattle.std.specs.Prelude.{codes};
     ghost use Rattle.wire_codec.specs.EnumNumbers.{first_numbered_keeps};
-    ghost use Rattle.wire_well_known.specs.declared.null_value.NullValue.TheVariants.{NullValue};
+    ghost use Rattle.wire_well_known.specs.declared.null_value.NullValue.TheVariants.{NullValue_};
     ghost use Rattle.wire_well_known.specs.NullValue.{null_value-number};
     ghost use Rattle.wire_well_known.specs.NullValue.{null_value-of};
     ghost use Rattle.wire_well_known.specs.NullValue.{null_value-values};
@@ -19,13 +19,13 @@ impl Enumeration for NullValue {
 
     ghost of_number = { null_value-of };
 
-    ghost name = { elim [ NullValue ↦ codes "NULL_VALUE" ] };
+    ghost name = { elim [ NullValue_ ↦ codes "NULL_VALUE" ] };
 
     ghost keeps_number = { first_numbered_keeps null_value-number null_value-values };
 
     fn from_i32(value: i32) -> Option<NullValue> {
         match value {
-            0 => Some(NullValue::NullValue),
+            0 => Some(NullValue::NullValue_),
             _ => None,
         }
     }
@@ -36,7 +36,7 @@ impl Enumeration for NullValue {
 
     fn proto_name(&self) -> &'static str {
         match self {
-            NullValue::NullValue => "NULL_VALUE",
+            NullValue::NullValue_ => "NULL_VALUE",
         }
     }
 }
