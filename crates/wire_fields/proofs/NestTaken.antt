@@ -9,7 +9,7 @@ use Rattle.wire_codec.specs.WireType.{WireType}
 use Rattle.wire_fields.specs.declared.recursive.Place.{Place}
 use Rattle.wire_fields.specs.declared.recursive.Place.TheVariants.{Leaf}
 use Rattle.wire_fields.specs.Least.{rolled, unrolled}
-use Rattle.wire_fields.specs.Messages.{length_prefixed, inside}
+use Rattle.wire_fields.specs.Messages.{Encoding, inside}
 use Rattle.wire_fields.specs.Nest.{Nest, nest, Rows, done, row, Row, end, row_of, leaf_of, rows_of}
 use Rattle.wire_fields.specs.Nest.{set_rows, with_row}
 use Rattle.wire_fields.specs.NestTable.{Table, level, takes_at, nest_takes, owned, grows}
@@ -86,11 +86,11 @@ module _ {L : Type 0} (t : Table L) (step : Step (Nest L)) (l : Limits) (n : ℕ
       none c (leaf_of z) new (record { payload = h.payload; read = h.read; step = h.step.0 })
 
 -- into a message, at its own charge
-module _ {V : Type 0} (start : V → V) (put : V → V → V) (step : Step V) (l : Limits) (n : ℕ)
-    (w : WireType) (m from : V) (old : List ℕ) (from_is : from ≡ start m) where
+module _ {V : Type 0} (encoding : Encoding) (start : V → V) (put : V → V → V) (step : Step V)
+    (l : Limits) (n : ℕ) (w : WireType) (m from : V) (old : List ℕ) (from_is : from ≡ start m) where
   pub owned_taken : (k : Limits) (after z : V) (new : List ℕ) → z ≡ put m after
-      → IsCharged l k (λ c. TakesRecord (inside length_prefixed step) l n w from old c after new)
-      → IsCharged l k (λ c. TakesRecord (owned start put (λ one. one) step) l n w m old c z new)
+      → IsCharged l k (λ c. TakesRecord (inside encoding step) l n w from old c after new)
+      → IsCharged l k (λ c. TakesRecord (owned encoding start put (λ one. one) step) l n w m old c z new)
   owned_taken k after z new is h = record {
     charge = h.charge;
     taken = record {
@@ -99,7 +99,7 @@ module _ {V : Type 0} (start : V → V) (put : V → V → V) (step : Step V) (l
       step = (
         after,
         h.charge,
-        subst (λ x. inside length_prefixed step x n h.taken.payload h.charge after) from_is
+        subst (λ x. inside encoding step x n h.taken.payload h.charge after) from_is
             h.taken.step,
         refl,
         is,
@@ -108,14 +108,14 @@ module _ {V : Type 0} (start : V → V) (put : V → V → V) (step : Step V) (l
     left = h.left;
   }
 
-  pub not_owned : NotTaken (TakesRecord (inside length_prefixed step) l n w from old)
-      → NotTaken (TakesRecord (owned start put (λ one. one) step) l n w m old)
+  pub not_owned : NotTaken (TakesRecord (inside encoding step) l n w from old)
+      → NotTaken (TakesRecord (owned encoding start put (λ one. one) step) l n w m old)
   not_owned none c z new h =
       let (after, one, inner, charged, is) = h.step in
       none c after new (record {
         payload = h.payload;
         read = h.read;
-        step = subst (λ x. inside length_prefixed step x n h.payload c after) (sym from_is)
-            (subst (λ x. inside length_prefixed step (start m) n h.payload x after) (sym charged)
+        step = subst (λ x. inside encoding step x n h.payload c after) (sym from_is)
+            (subst (λ x. inside encoding step (start m) n h.payload x after) (sym charged)
             inner);
       })

@@ -1,13 +1,15 @@
 -- Messages that hold themselves: their rows, written one behind another.
 use Rattle.std.proofs.Common.{◌≡◌, List, ℕ, zero, suc, ◌+◌, ◌<◌, ◌≤◌, add-one, refl, sym, ap, ◌∙◌, arith}
+use Rattle.std.specs.Prelude.{Bool}
 use Rattle.wire_codec.specs.Records.{Records, none, joined_records, text_size}
 use Rattle.wire_codec.specs.Sizes.{cut_sizes}
 use Rattle.wire_codec.specs.Tape.{Tape, recorded}
 use Rattle.wire_fields.specs.Measuring.{Measures}
-use Rattle.wire_fields.specs.Messages.{length_prefixed, message_record, message_each}
+use Rattle.wire_fields.specs.Messages.{message_record, message_each}
 use Rattle.wire_fields.specs.Nest.{Nest, nest, Rows, done, row, Row, end, ahead, listed, row_of}
 use Rattle.wire_fields.specs.Nest.{row_listed, leaf_of, rows_of, rows_row, row_at, count_rows, row_count, listed_row}
 use Rattle.wire_fields.specs.NestTable.{Table, nest_records, rows_records, row_records}
+use Rattle.wire_fields.specs.NestTable.{is_grouped, encoding_of, encoding_at}
 use Rattle.wire_fields.proofs.Measuring.{Splits, IsMeasuredTo, nothing_recorded}
 
 abbrev rows_from : {L : Type 0} → ℕ → Rows L → Rows L
@@ -33,29 +35,31 @@ no_more_rows (suc i) (row r rs) h = no_more_rows i rs (omega (arith, h))
 
 -- a row of records is that of its messages, one by one
 each_of_row : {L : Type 0} (t : Table L) (n : ℕ) (r : Row L)
-    → row_records t n r ≡ message_each length_prefixed (nest_records t) n (listed r)
+    → row_records t n r ≡ message_each (encoding_at t n) (nest_records t) n (listed r)
 each_of_row t n end = refl
 each_of_row t n (ahead m ms) =
-    ap (joined_records (message_record length_prefixed n (nest_records t m))) (each_of_row t n ms)
+    ap (joined_records (message_record (encoding_at t n) n (nest_records t m)))
+    (each_of_row t n ms)
 
 module _ {L : Type 0} (t : Table L) where
   -- the first run, and the rows
   pub first_run : (m : Nest L) → Splits (nest_records t m) (t.run 0 (leaf_of m)) (left_at t m 0)
   first_run (nest l rows) = record { is = refl }
 
-  -- behind the row at i, with its number
+  -- behind the row at i, with its number and its encoding
   abbrev pub behind_row : Nest L → ℕ → Records
   behind_row m i = joined_records (t.run (i + 1) (leaf_of m)) (left_at t m (i + 1))
 
-  pub next_row : (m : Nest L) (i n : ℕ) (ms : List (Nest L)) → i < row_count m → n ≡ t.number i
-      → ms ≡ row_at i m → Splits (left_at t m i)
-      (message_each length_prefixed (nest_records t) n ms) (behind_row m i)
-  next_row m i n ms h n_is ms_is = rw (n_is, ms_is, add-one) (record {
+  pub next_row : (m : Nest L) (i n : ℕ) (grouped : Bool) (ms : List (Nest L)) → i < row_count m
+      → n ≡ t.number i → grouped ≡ is_grouped (t.place n) → ms ≡ row_at i m
+      → Splits (left_at t m i) (message_each (encoding_of grouped) (nest_records t) n ms)
+      (behind_row m i)
+  next_row m i n grouped ms h n_is grouped_is ms_is = rw (grouped_is, n_is, ms_is, add-one) (record {
     is = ap (rows_records t (leaf_of m) i) (first_row i (rows_of m) h)
         ∙ ap (λ (x : Records). joined_records x (joined_records (t.run (suc i) (leaf_of m))
         (left_at t m (suc i))))
         (each_of_row t (t.number i) (row_of (row_at i m))
-        ∙ ap (message_each length_prefixed (nest_records t) (t.number i))
+        ∙ ap (message_each (encoding_at t (t.number i)) (nest_records t) (t.number i))
         (listed_row (row_at i m)));
   })
 

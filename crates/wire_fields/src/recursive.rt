@@ -15,7 +15,7 @@ ghost use Rattle.wire_codec.specs.Tape.{NextAre, advanced};
 ghost use Rattle.wire_codec.specs.Writes.{Writes};
 ghost use Rattle.wire_fields.specs.Measuring.{Measures};
 ghost use Rattle.wire_fields.specs.Nest.{Nest, leaf_of, rows_of, row_at, with_row, row_count};
-ghost use Rattle.wire_fields.specs.NestTable.{Table, IsThere, empty_of, one_of, with_one};
+ghost use Rattle.wire_fields.specs.NestTable.{Table, IsThere, is_grouped, empty_of, one_of, with_one};
 
 mod merge;
 mod size;
@@ -37,6 +37,22 @@ pub enum Place {
     Once(usize),
     /// Behind the messages of this row, each charged for so many bytes.
     Each(usize, usize),
+    /// Into this row, which has one message at most and whose records are groups.
+    Grouped(usize),
+}
+
+impl Place {
+    // Whether the messages stand in groups.
+    fn is_grouped(self) -> bool
+        ensures { result ≡ is_grouped self }
+    {
+        match self {
+            Place::Leaf => false,
+            Place::Once(_) => false,
+            Place::Each(_, _) => false,
+            Place::Grouped(_) => true,
+        }
+    }
 }
 
 /// Puts a message behind others. Refused where memory runs out.
@@ -48,8 +64,9 @@ pub fn push_message<T: Drop>(messages: &mut Vec<T>, message: T) -> Result<(), De
 }
 
 /// A message type that holds itself. Each field of its own type, optional or repeated, is a row of
-/// messages. All other fields, and the unknown ones, are its leaf. The leaf's fields are written in
-/// runs: before the first row, behind the first, and so on, by the order of the numbers.
+/// messages, which stand behind their lengths, or in groups where the place of the row's number says
+/// so. All other fields, and the unknown ones, are its leaf. The leaf's fields are written in runs:
+/// before the first row, behind the first, and so on, by the order of the numbers.
 pub trait Recursive: Drop {
     /// What contracts see of the leaf.
     ghost Leaf: { Type 0 };

@@ -2,10 +2,10 @@
 ghost use Rattle.std.specs.Prelude.{◌≡◌, ◌≢◌, ◌-◌, ◌^◌, ◌<◌, OnOk, OnErr, IfOk, IfErr};
 ghost use Rattle.wire_codec.specs.DecodeError.TheVariants.{OutOfMemory};
 ghost use Rattle.wire_codec.specs.Limits.{Charge, NoCountGrew, left_after, outer};
-ghost use Rattle.wire_codec.specs.Nested.{TakesEmbedded};
+ghost use Rattle.wire_codec.specs.Nested.{TakesEmbedded, TakesGroup};
 ghost use Rattle.wire_codec.specs.TagView.{tag_number, tag_type};
 ghost use Rattle.wire_codec.specs.Taking.{TakesRecord, IsCharged, NotTaken};
-ghost use Rattle.wire_fields.specs.Messages.{length_prefixed, inside};
+ghost use Rattle.wire_fields.specs.Messages.{length_prefixed, delimited, inside};
 ghost use Rattle.wire_fields.specs.Nest.{Nest};
 ghost use Rattle.wire_fields.specs.NestPayload.{Enters, TakesWithin};
 ghost use Rattle.wire_fields.specs.NestTable.{nest_takes};
@@ -50,6 +50,11 @@ pub fn merge_nest<T: Recursive, B: Buf>(
             let mut own = T::empty(alloc);
             merge_embedded(&mut own, alloc, tag, buf, context)?;
             message.push(row, own)
+        }
+        Place::Grouped(row) => {
+            let mut own = message.take(alloc, row);
+            merge_grouped(&mut own, alloc, tag, buf, context)?;
+            message.put(alloc, row, own)
         }
     }
 }
@@ -129,6 +134,58 @@ fn merge_payload<T: Recursive, B: Buf>(
     }
     if buf.remaining() < rest {
         return Err(DecodeError::UnexpectedEof);
+    }
+    context.ascend();
+    Ok(())
+}
+
+// Takes the body of the group behind this tag into the message, one level down.
+#[cycle(merge)]
+fn merge_grouped<T: Recursive, B: Buf>(
+    message: &mut T,
+    alloc: Global,
+    tag: Tag,
+    buf: &mut B,
+    context: &mut DecodeContext,
+) -> Result<(), DecodeError>
+    ensures ok { OnOk result (IsCharged context.old context.new (λ c.
+        TakesRecord (inside delimited (nest_takes T.table)) context.old (tag_number tag)
+        (tag_type tag) (T.view message.old) (B.unread buf.old) c (T.view message.new)
+        (B.unread buf.new))) }
+    ensures err { IfErr result (λ e. e ≢ OutOfMemory → NotTaken
+        (TakesRecord (inside delimited (nest_takes T.table)) context.old (tag_number tag)
+        (tag_type tag) (T.view message.old) (B.unread buf.old))) }
+    ensures counts { OnErr result (NoCountGrew context.old context.new) }
+    ensures kept { B.kept buf.new ≡ B.kept buf.old }
+{
+    laws::grammar::group_is_list();
+    laws::levels_and_counts();
+    check_wire_type(tag, WireType::StartGroup)?;
+    merge_group(message, alloc, buf, context, tag.field_number())
+}
+
+// Takes the records of a group of this number up to its end tag, one level down.
+#[cycle(merge)]
+fn merge_group<T: Recursive, B: Buf>(
+    message: &mut T,
+    alloc: Global,
+    buf: &mut B,
+    context: &mut DecodeContext,
+    number: u32,
+) -> Result<(), DecodeError>
+    ensures ok { OnOk result (IsCharged context.old context.new (λ c.
+        TakesGroup (nest_takes T.table) context.old number (T.view message.old)
+        (B.unread buf.old) c (T.view message.new) (B.unread buf.new))) }
+    ensures err { IfErr result (λ e. e ≢ OutOfMemory → NotTaken (TakesGroup (nest_takes T.table)
+        context.old number (T.view message.old) (B.unread buf.old))) }
+    ensures counts { OnErr result (NoCountGrew context.old context.new) }
+    ensures kept { B.kept buf.new ≡ B.kept buf.old }
+{
+    laws::records_in_order();
+    laws::levels_and_counts();
+    context.descend()?;
+    while let Some(tag) = Tag::decode_in_group(buf, number)? {
+        merge_nest(message, alloc, tag, buf, context)?;
     }
     context.ascend();
     Ok(())

@@ -6,12 +6,13 @@ ghost use Rattle.wire_codec.specs.Records.{text_size};
 ghost use Rattle.wire_codec.specs.Sizes.{cut, cut_sizes};
 ghost use Rattle.wire_codec.specs.Tape.{recorded};
 ghost use Rattle.wire_fields.specs.Measuring.{Measures};
-ghost use Rattle.wire_fields.specs.Messages.{length_prefixed, message_record, message_each};
-ghost use Rattle.wire_fields.specs.NestTable.{nest_records};
+ghost use Rattle.wire_fields.specs.Messages.{length_prefixed, delimited};
+ghost use Rattle.wire_fields.specs.Messages.{message_record, message_each};
+ghost use Rattle.wire_fields.specs.NestTable.{nest_records, encoding_of};
 
 use super::Recursive;
 use crate::text::delimited_len;
-use wire_codec::{EncodeError, SizeCache, laws, saturate_size};
+use wire_codec::{EncodeError, SizeCache, laws, saturate_size, varint_len};
 
 /// What `compute_size` of a message that holds itself answers.
 #[cycle(size)]
@@ -25,7 +26,9 @@ pub fn nest_size<T: Recursive>(message: &T, cache: &mut SizeCache) -> Result<u32
     laws::joined_records_add_up();
     let mut size = message.run_len(0, cache)?;
     for row in 0..T::rows() {
-        let own = row_len(T::number(row), message.row(row), cache)?;
+        let number = T::number(row);
+        let grouped = T::place(number).is_grouped();
+        let own = row_len(number, grouped, message.row(row), cache)?;
         let behind = message.run_len(row + 1, cache)?;
         size = size.saturating_add(own).saturating_add(behind);
     }
@@ -36,21 +39,42 @@ pub fn nest_size<T: Recursive>(message: &T, cache: &mut SizeCache) -> Result<u32
 #[cycle(size)]
 fn row_len<T: Recursive>(
     number: u32,
+    grouped: bool,
     messages: &[T],
     cache: &mut SizeCache,
 ) -> Result<u64, EncodeError>
     requires { IsFieldNumber number }
-    ensures ok { IfOk result (λ len. Measures
-        (message_each length_prefixed (nest_records T.table) number (map T.view messages.now))
-        cache.old cache.new len) }
+    ensures ok { IfOk result (λ len. Measures (message_each (encoding_of grouped)
+        (nest_records T.table) number (map T.view messages.now)) cache.old cache.new len) }
     ensures err { IfErr result (λ e. e ≡ OutOfMemory) }
 {
     laws::joined_records_add_up();
     let mut size = 0u64;
     for message in messages {
-        size = size.saturating_add(embedded_len(number, message, cache)?);
+        size = size.saturating_add(message_len(number, grouped, message, cache)?);
     }
     Ok(size)
+}
+
+// How many bytes the record of a message takes.
+#[cycle(size)]
+#[inline(always)]
+fn message_len<T: Recursive>(
+    number: u32,
+    grouped: bool,
+    message: &T,
+    cache: &mut SizeCache,
+) -> Result<u64, EncodeError>
+    requires { IsFieldNumber number }
+    ensures ok { IfOk result (λ len. Measures (message_record (encoding_of grouped) number
+        (nest_records T.table (T.view message.now))) cache.old cache.new len) }
+    ensures err { IfErr result (λ e. e ≡ OutOfMemory) }
+{
+    if grouped {
+        grouped_len(number, message, cache)
+    } else {
+        embedded_len(number, message, cache)
+    }
 }
 
 // How many bytes an embedded message takes. Its slot stands before those of the messages in it.
@@ -70,4 +94,23 @@ fn embedded_len<T: Recursive>(
     let len = nest_size(message, cache)?;
     cache.set(slot, len);
     Ok(delimited_len(number, u64::from(len)))
+}
+
+// How many bytes a group takes, with its two tags.
+#[cycle(size)]
+fn grouped_len<T: Recursive>(
+    number: u32,
+    message: &T,
+    cache: &mut SizeCache,
+) -> Result<u64, EncodeError>
+    requires { IsFieldNumber number }
+    ensures ok { IfOk result (λ len. Measures
+        (message_record delimited number (nest_records T.table (T.view message.now)))
+        cache.old cache.new len) }
+    ensures err { IfErr result (λ e. e ≡ OutOfMemory) }
+{
+    let len = nest_size(message, cache)?;
+    let start = varint_len(u64::from(number) * 8 + 3) as u64;
+    let end = varint_len(u64::from(number) * 8 + 4) as u64;
+    Ok(u64::from(len).saturating_add(start).saturating_add(end))
 }

@@ -1,11 +1,13 @@
 use Rattle.std.proofs.Common.{[], ◌∷◌, refl, sym, ap, ◌∙◌, arith}
 use Rattle.std.proofs.lemmas.Result.{err_from_is_err_and, IfErr-weaker, on_ok_weaker}
-use Rattle.wire_codec.specs.Ending.{by_limit}
+use Rattle.wire_codec.specs.Ending.{by_limit, by_tag}
 use Rattle.wire_codec.specs.Limits.{outer}
-use Rattle.wire_codec.proofs.Lists.{at_start, at_end, no_tag, no_record, one_more, not_ended}
-use Rattle.wire_fields.specs.Messages.{length_prefixed}
+use Rattle.wire_codec.proofs.Lists.{at_start, at_end, at_none, no_tag, no_record, one_more, not_ended}
+use Rattle.wire_codec.proofs.Lists.{no_next_tag, group_end}
+use Rattle.wire_fields.specs.Messages.{length_prefixed, delimited}
 use Rattle.wire_fields.specs.NestTable.{nest_takes, nest_single, empty_of, one_of, with_one, with_more}
-use Rattle.wire_fields.proofs.Messages.{embedded_taken, no_embedded, each_taken, no_room, no_more}
+use Rattle.wire_fields.proofs.Messages.{embedded_taken, no_embedded, group_taken, no_group}
+use Rattle.wire_fields.proofs.Messages.{each_taken, no_room, no_more}
 use Rattle.wire_fields.proofs.NestPayloads.{charged_within, not_within, ran_past}
 use Rattle.wire_fields.proofs.NestTaken.{placed_taken, not_placed, leaf_taken, no_leaf}
 use Rattle.wire_fields.proofs.NestTaken.{owned_taken, not_owned, same_beside, both_ok}
@@ -101,6 +103,71 @@ merge_embedded-returns-clause-err g t c =
     _ _ _ _ _ (not_within (nest_takes g.T.Recursive.table) c.delimited_is_read.ensures
     _ _ _ _ _ _ c.in_ok-rest.ensures.ok (none other))) c.merge_payload.ensures.err
 
+-- ---- a group, one level down
+
+pub merge_group-loop-tag-init : goal.merge_group-loop-tag-init
+merge_group-loop-tag-init g t c = record {
+  follows = rw (c.in_ok-descend.ensures.ok) (at_start c.records_in_order.ensures
+      (nest_takes g.T.Recursive.table) (by_tag c.args.number) _ _ _);
+  kept = refl;
+}
+
+pub merge_group-returns-in_err-tag-clause-err : goal.merge_group-returns-in_err-tag-clause-err
+merge_group-returns-in_err-tag-clause-err g t c =
+    let p = err_from_is_err_and c.from_residual-in_err-tag.result
+    c.from_residual-in_err-tag.ensures.1 in
+    rw (p.1, p.2) (λ other. λ charge z new h. no_next_tag c.records_in_order.ensures
+    (nest_takes g.T.Recursive.table) c.args.number _ _ _ _ _ _ _ c.loop-tag.invariant.follows
+    c.in_err-tag.ensures.fault charge z new h.taken)
+
+pub merge_group-loop-tag-preserved : goal.merge_group-loop-tag-preserved
+merge_group-loop-tag-preserved g t c =
+    let taken = c.in_ok-merge_nest.ensures.ok in
+    let reading = c.records_in_order.ensures.reading in
+    record {
+      follows = one_more c.records_in_order.ensures (nest_takes g.T.Recursive.table)
+          (nest_single g.T.Recursive.table reading (g.met.T.Recursive.single reading))
+          (by_tag c.args.number) _ _ _ _ _ _ _ _ _ _ _ _ _ c.loop-tag.invariant.follows tt
+          (rw c.in-Some.is at c.in_ok-tag.ensures.record)
+          (rw c.in-Some.is at c.in_ok-tag.ensures.inside) taken.taken taken.left;
+      kept = c.in_ok-merge_nest.ensures.kept ∙ c.in_ok-tag.ensures.kept
+          ∙ c.loop-tag.invariant.kept;
+    }
+
+pub merge_group-returns-in_err-merge_nest-clause-err
+    : goal.merge_group-returns-in_err-merge_nest-clause-err
+merge_group-returns-in_err-merge_nest-clause-err g t c =
+    let p = err_from_is_err_and c.from_residual-in_err-merge_nest.result
+    c.from_residual-in_err-merge_nest.ensures.1 in
+    let tag = rw c.in-Some.is at c.in_ok-tag.ensures.record in
+    rw (p.1, p.2) (λ other. λ charge z new h. no_record c.records_in_order.ensures
+    (nest_takes g.T.Recursive.table) (by_tag c.args.number) _ _ _ _ _ _ _ _ _
+    c.loop-tag.invariant.follows tag
+    (not_ended c.records_in_order.ensures (by_tag c.args.number) _ _ _ _ tt tag
+    (rw c.in-Some.is at c.in_ok-tag.ensures.inside))
+    (c.in_err-merge_nest.ensures.err other) charge z new h.taken)
+
+pub merge_group-returns-clause-ok : goal.merge_group-returns-clause-ok
+merge_group-returns-clause-ok g t c =
+    rw (c.ascend.ensures) (group_end c.records_in_order.ensures (nest_takes g.T.Recursive.table)
+    c.levels_and_counts.ensures.levels c.args.number _ _ _ _ _ _ _ c.in_ok-descend.ensures.taken
+    c.loop-tag.invariant.follows
+    (at_none _ _ c.in_default.not-Some c.in_ok-tag.ensures.end))
+
+pub merge_grouped-returns-clause-ok : goal.merge_grouped-returns-clause-ok
+merge_grouped-returns-clause-ok g t c =
+    on_ok_weaker c.merge_group.result (λ h. rw (sym c.field_number.ensures.number)
+    (group_taken (nest_takes g.T.Recursive.table) c.group_is_list.ensures
+    c.levels_and_counts.ensures.levels _ _ _ _ _ c.in_ok-check_wire_type.ensures.ok _ _ _ h))
+    c.merge_group.ensures.ok
+
+pub merge_grouped-returns-clause-err : goal.merge_grouped-returns-clause-err
+merge_grouped-returns-clause-err g t c =
+    IfErr-weaker c.merge_group.result _ _ (λ e none other. rw (sym c.field_number.ensures.number)
+    (no_group (nest_takes g.T.Recursive.table) c.group_is_list.ensures
+    c.levels_and_counts.ensures.levels _ _ _ _ _ c.in_ok-check_wire_type.ensures.ok
+    (none other))) c.merge_group.ensures.err
+
 -- ---- records, by their place
 
 pub merge_nest-returns-in-Leaf-clause-ok : goal.merge_nest-returns-in-Leaf-clause-ok
@@ -131,7 +198,7 @@ merge_nest-returns-in_err-merge_embedded-in-Once-clause-err g t c =
     let reading = c.records_in_order.ensures.reading in
     let place = ap table.place (sym c.field_number.ensures.number) ∙ sym c.in-Once.ensures.is in
     rw (p.1, p.2) (λ other. not_placed table reading (g.met.T.Recursive.single reading) _ _ _ _ _ _
-    place (not_owned (one_of table c.in-Once.row) (with_one table c.in-Once.row) (nest_takes table)
+    place (not_owned length_prefixed (one_of table c.in-Once.row) (with_one table c.in-Once.row) (nest_takes table)
     _ _ _ _ _ _
     (c.take-own.ensures.result there.0 there.1) (c.in_err-merge_embedded-in-Once.ensures.err other)))
 
@@ -143,7 +210,7 @@ merge_nest-returns-in_ok-merge_embedded-in-Once-clause-ok g t c =
     let reading = c.records_in_order.ensures.reading in
     let place = ap table.place (sym c.field_number.ensures.number) ∙ sym c.in-Once.ensures.is in
     on_ok_weaker c.put.result (λ is. placed_taken table reading (g.met.T.Recursive.single reading)
-    _ _ _ _ _ _ place _ _ _ (owned_taken (one_of table c.in-Once.row) (with_one table c.in-Once.row)
+    _ _ _ _ _ _ place _ _ _ (owned_taken length_prefixed (one_of table c.in-Once.row) (with_one table c.in-Once.row)
     (nest_takes table) _ _ _ _ _ _ (c.take-own.ensures.result there.0 there.1) _ _ _ _
     (is ∙ same_beside c.in-Once.row (g.T.Recursive.view c.merge_embedded.new.message ∷ [])
     (table.beside c.in-Once.row (g.T.Recursive.view c.take-own.new.self))
@@ -191,3 +258,33 @@ merge_nest-returns-in_ok-merge_embedded-in-Each-clause-ok g t c =
     c.empty-own.ensures _ _ _ _ _ c.in_ok-register_element_memory-in-Each.ensures.ok
     c.in_ok-register_element_memory-in-Each.ensures.taken is
     c.in_ok-merge_embedded-in-Each.ensures.ok)) (c.push.ensures.ok there.0 there.1)
+
+pub merge_nest-returns-in_err-merge_grouped-in-Grouped-clause-err
+    : goal.merge_nest-returns-in_err-merge_grouped-in-Grouped-clause-err
+merge_nest-returns-in_err-merge_grouped-in-Grouped-clause-err g t c =
+    let there = c.in-Grouped.ensures.there in
+    let p = err_from_is_err_and c.from_residual-in_err-merge_grouped-in-Grouped.result
+    c.from_residual-in_err-merge_grouped-in-Grouped.ensures.1 in
+    let table = g.T.Recursive.table in
+    let reading = c.records_in_order.ensures.reading in
+    let place = ap table.place (sym c.field_number.ensures.number) ∙ sym c.in-Grouped.ensures.is in
+    rw (p.1, p.2) (λ other. not_placed table reading (g.met.T.Recursive.single reading) _ _ _ _ _ _
+    place (not_owned delimited (one_of table c.in-Grouped.row) (with_one table c.in-Grouped.row) (nest_takes table)
+    _ _ _ _ _ _
+    (c.take-own-in-Grouped.ensures.result there.0 there.1) (c.in_err-merge_grouped-in-Grouped.ensures.err other)))
+
+pub merge_nest-returns-in_ok-merge_grouped-in-Grouped-clause-ok
+    : goal.merge_nest-returns-in_ok-merge_grouped-in-Grouped-clause-ok
+merge_nest-returns-in_ok-merge_grouped-in-Grouped-clause-ok g t c =
+    let there = c.in-Grouped.ensures.there in
+    let table = g.T.Recursive.table in
+    let reading = c.records_in_order.ensures.reading in
+    let place = ap table.place (sym c.field_number.ensures.number) ∙ sym c.in-Grouped.ensures.is in
+    on_ok_weaker c.put-in-Grouped.result (λ is. placed_taken table reading (g.met.T.Recursive.single reading)
+    _ _ _ _ _ _ place _ _ _ (owned_taken delimited (one_of table c.in-Grouped.row) (with_one table c.in-Grouped.row)
+    (nest_takes table) _ _ _ _ _ _ (c.take-own-in-Grouped.ensures.result there.0 there.1) _ _ _ _
+    (is ∙ same_beside c.in-Grouped.row (g.T.Recursive.view c.merge_grouped.new.message ∷ [])
+    (table.beside c.in-Grouped.row (g.T.Recursive.view c.take-own-in-Grouped.new.self))
+    (table.beside c.in-Grouped.row (g.T.Recursive.view c.args.message.now))
+    (c.take-own-in-Grouped.ensures.others there.0 there.1))
+    c.in_ok-merge_grouped-in-Grouped.ensures.ok)) (c.put-in-Grouped.ensures.ok there.0 there.1)

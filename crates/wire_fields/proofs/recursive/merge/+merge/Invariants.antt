@@ -1,10 +1,17 @@
 use Rattle.std.proofs.Common.{◌≡◌, ◌+◌, ◌*◌, length}
-use Rattle.wire_codec.specs.Ending.{by_limit}
+use Rattle.wire_codec.specs.Ending.{by_limit, by_tag}
+use Rattle.wire_codec.specs.Limits.{inner}
 use Rattle.wire_codec.proofs.Lists.{Follows}
 use Rattle.wire_fields.specs.NestTable.{nest_takes}
 use Rattle.wire_fields.proofs.recursive.merge.+merge.Given as goal
 
 -- ---- levels: a level down is less, whatever is called there
+
+abbrev pub decreases-merge_group : goal.decreases-merge_group
+decreases-merge_group g l = 3 * l.context.now.depth
+
+abbrev pub decreases-merge_grouped : goal.decreases-merge_grouped
+decreases-merge_grouped g l = 3 * l.context.now.depth + 1
 
 abbrev pub decreases-merge_embedded : goal.decreases-merge_embedded
 decreases-merge_embedded g l = 3 * l.context.now.depth + 1
@@ -27,3 +34,14 @@ invariant-merge_payload-loop-alloc g l = record {
 
 abbrev pub decreases-merge_payload-loop-alloc : goal.decreases-merge_payload-loop-alloc
 decreases-merge_payload-loop-alloc g l = length (g.B.Buf.unread l.buf)
+
+abbrev pub invariant-merge_group-loop-tag : goal.invariant-merge_group-loop-tag
+invariant-merge_group-loop-tag g l = record {
+  follows : Follows (nest_takes g.T.Recursive.table) (by_tag l.fn.number) (inner l.fn.context)
+      (g.T.Recursive.view l.fn.message) (g.B.Buf.unread l.fn.buf) l.context
+      (g.T.Recursive.view l.message) (g.B.Buf.unread l.buf);
+  kept : g.B.Buf.kept l.buf ≡ g.B.Buf.kept l.fn.buf;
+}
+
+abbrev pub decreases-merge_group-loop-tag : goal.decreases-merge_group-loop-tag
+decreases-merge_group-loop-tag g l = length (g.B.Buf.unread l.buf)

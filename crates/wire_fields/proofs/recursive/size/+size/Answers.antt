@@ -1,5 +1,6 @@
-use Rattle.std.proofs.Common.{◌<◌, ◌∙◌, map, rules, arith}
+use Rattle.std.proofs.Common.{◌<◌, ◌∙◌, ap, map, rules, arith}
 use Rattle.wire_fields.specs.Nest.{nodes, all_nodes, row_count, row_less, item_less}
+use Rattle.wire_fields.specs.NestTable.{is_grouped}
 use Rattle.wire_fields.proofs.Measuring.{embedded_measured, more}
 use Rattle.wire_fields.proofs.Nests.{next_row, next_run, no_rows, measured_all}
 use Rattle.wire_fields.proofs.recursive.size.+size.Goals as goal
@@ -10,8 +11,8 @@ embedded_len-returns-clause-ok g t c =
     c.in_ok-slot.ensures.slot c.in_ok-len.ensures.sizes c.in_ok-len.ensures.size c.set.ensures
     c.from.ensures c.delimited_len.ensures
 
-pub row_len-embedded_len-requires : goal.row_len-embedded_len-requires
-row_len-embedded_len-requires g t c κs within =
+pub row_len-message_len-requires : goal.row_len-message_len-requires
+row_len-message_len-requires g t c κs within =
     let less = item_less g.T.Recursive.view c.args.messages.now _ _ c.loop-message-test.true
     c.message-item.is in
     (omega (arith, less), (search rules, c.requires))
@@ -20,7 +21,7 @@ pub nest_size-row_len-requires : goal.nest_size-row_len-requires
 nest_size-row_len-requires g t c κs within =
     let less : all_nodes (map g.T.Recursive.view c.row.result.now)
     < nodes (g.T.Recursive.view c.args.message.now) = row_less _ _ _ c.row.ensures in
-    (omega (arith, less), (search rules, c.number.ensures.in_range))
+    (omega (arith, less), (search rules, c.number-number.ensures.in_range))
 
 pub nest_size-loop-row-preserved : goal.nest_size-loop-row-preserved
 nest_size-loop-row-preserved g t c =
@@ -34,7 +35,8 @@ nest_size-loop-row-preserved g t c =
       g.met.T.Recursive.counted c.args.message.now,
     ) in
     more joins _ _ _ _ _ _ _ _ _ _ (more joins _ _ _ _ _ _ _ _ _ _ c.loop-row.invariant
-    (next_row table m c.loop-row.row _ _ here c.number.ensures.is c.row.ensures)
+    (next_row table m c.loop-row.row _ _ _ here c.number-number.ensures.is
+    (c.is_grouped-grouped.ensures ∙ ap is_grouped c.place.ensures.is) c.row.ensures)
     c.in_ok-own.ensures.ok c.saturating_add.ensures) (next_run table m c.loop-row.row)
     c.in_ok-behind.ensures.ok c.saturating_add-size.ensures
 

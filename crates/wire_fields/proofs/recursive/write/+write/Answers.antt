@@ -1,15 +1,14 @@
-use Rattle.std.proofs.Common.{◌<◌, ◌∙◌, map, rules, arith, subst, ap, List, ℕ}
+use Rattle.std.proofs.Common.{◌<◌, ◌∙◌, map, rules, arith, subst, refl, ap, List, ℕ}
 use Rattle.std.proofs.lemmas.Result.{err_from_is_err_and}
 use Rattle.wire_codec.specs.Records.{text}
 use Rattle.wire_codec.specs.Sizes.{sizes}
 use Rattle.wire_codec.specs.Writes.{IsWrittenTo}
-use Rattle.wire_fields.specs.Messages.{length_prefixed}
 use Rattle.wire_fields.specs.Nest.{nodes, all_nodes, row_count, row_less, item_less}
-use Rattle.wire_fields.specs.NestTable.{nest_records}
+use Rattle.wire_fields.specs.NestTable.{nest_records, encoding_of, is_grouped}
 use Rattle.wire_fields.proofs.Messages.{next_message}
 use Rattle.wire_fields.proofs.Nests.{first_run, next_row, next_run, no_rows}
 use Rattle.wire_fields.proofs.Putting as put
-use Rattle.wire_fields.proofs.Putting.{embedded_parts, read_size}
+use Rattle.wire_fields.proofs.Putting.{embedded_parts, read_size, group_parts}
 use Rattle.wire_fields.proofs.recursive.write.+write.Goals as goal
 
 -- ---- an embedded message
@@ -35,14 +34,46 @@ put_embedded-returns-clause-written g t c =
     (embedded_parts c.args.number _ rs len) c.in_ok-put_len_delimited_header.ensures in
     pieces.last _ _ _ _ _ _ c.write_nest.result header c.write_nest.ensures.written
 
+-- ---- a group
+
+pub put_grouped-returns-in_err-put_group_start-clause-written :
+    goal.put_grouped-returns-in_err-put_group_start-clause-written
+put_grouped-returns-in_err-put_group_start-clause-written g t c =
+    let p = err_from_is_err_and c.from_residual.result c.from_residual.ensures.1 in
+    let rs = nest_records g.T.Recursive.table (g.T.Recursive.view c.args.message.now) in
+    let pieces = c.piece_by_piece.ensures in
+    rw (p.1, p.2) (pieces.refused _ _ _ _ _ _ _ _ _ (pieces.start _ _ _)
+    (group_parts c.args.number rs) c.in_err-put_group_start.ensures)
+
+pub put_grouped-returns-in_err-write_nest-clause-written :
+    goal.put_grouped-returns-in_err-write_nest-clause-written
+put_grouped-returns-in_err-write_nest-clause-written g t c =
+    let r = c.from_residual-in_err-write_nest in
+    let p = err_from_is_err_and r.result r.ensures.1 in
+    let rs = nest_records g.T.Recursive.table (g.T.Recursive.view c.args.message.now) in
+    let pieces = c.piece_by_piece.ensures in
+    let begun = pieces.more _ _ _ _ _ _ _ _ tt (pieces.start _ _ _)
+    (group_parts c.args.number rs) c.in_ok-put_group_start.ensures in
+    rw (p.1, p.2) (pieces.refused _ _ _ _ _ _ _ _ _ begun refl
+    c.in_err-write_nest.ensures.written)
+
+pub put_grouped-returns-clause-written : goal.put_grouped-returns-clause-written
+put_grouped-returns-clause-written g t c =
+    let rs = nest_records g.T.Recursive.table (g.T.Recursive.view c.args.message.now) in
+    let pieces = c.piece_by_piece.ensures in
+    let begun = pieces.more _ _ _ _ _ _ _ _ tt (pieces.start _ _ _)
+    (group_parts c.args.number rs) c.in_ok-put_group_start.ensures in
+    let inside = pieces.more _ _ _ _ _ _ _ _ tt begun refl c.in_ok-write_nest.ensures.written in
+    pieces.last _ _ _ _ _ _ c.put_group_end.result inside c.put_group_end.ensures
+
 -- ---- a row
 
-pub put_row-put_embedded-requires : goal.put_row-put_embedded-requires
-put_row-put_embedded-requires g t c κs within =
+pub put_row-put_message-requires : goal.put_row-put_message-requires
+put_row-put_message-requires g t c κs within =
     let less = item_less g.T.Recursive.view c.args.messages.now _ _ c.loop-message-test.true
     c.message-item.is in
     let joins = c.joined_records_add_up.ensures in
-    let parts = next_message length_prefixed (nest_records g.T.Recursive.table) g.T.Recursive.view
+    let parts = next_message (encoding_of c.args.grouped) (nest_records g.T.Recursive.table) g.T.Recursive.view
     c.args.number c.args.messages.now c.loop-message.message-index _ c.loop-message-test.true
     c.message-item.is in (
       omega (arith, less),
@@ -61,23 +92,23 @@ put_row-put_embedded-requires g t c κs within =
       ),
     )
 
-pub put_row-returns-in_err-put_embedded-clause-written :
-    goal.put_row-returns-in_err-put_embedded-clause-written
-put_row-returns-in_err-put_embedded-clause-written g t c =
+pub put_row-returns-in_err-put_message-clause-written :
+    goal.put_row-returns-in_err-put_message-clause-written
+put_row-returns-in_err-put_message-clause-written g t c =
     let p = err_from_is_err_and c.from_residual.result c.from_residual.ensures.1 in
     rw (p.1, p.2) (put.refused c.joined_records_add_up.ensures _ _ _ _ _ _ _ _ _
-    c.loop-message.invariant (next_message length_prefixed (nest_records g.T.Recursive.table)
+    c.loop-message.invariant (next_message (encoding_of c.args.grouped) (nest_records g.T.Recursive.table)
     g.T.Recursive.view c.args.number c.args.messages.now c.loop-message.message-index _
     c.loop-message-test.true c.message-item.is) c.piece_by_piece.ensures _ _
-    c.in_err-put_embedded.ensures.written)
+    c.in_err-put_message.ensures.written)
 
 pub put_row-loop-message-preserved : goal.put_row-loop-message-preserved
 put_row-loop-message-preserved g t c =
     put.more c.joined_records_add_up.ensures _ _ _ _ _ _ _ _ _ c.loop-message.invariant
-    (next_message length_prefixed (nest_records g.T.Recursive.table) g.T.Recursive.view
+    (next_message (encoding_of c.args.grouped) (nest_records g.T.Recursive.table) g.T.Recursive.view
     c.args.number c.args.messages.now c.loop-message.message-index _ c.loop-message-test.true
-    c.message-item.is) c.piece_by_piece.ensures _ _ tt c.in_ok-put_embedded.ensures.written
-    c.in_ok-put_embedded.ensures.read
+    c.message-item.is) c.piece_by_piece.ensures _ _ tt c.in_ok-put_message.ensures.written
+    c.in_ok-put_message.ensures.read
 
 -- ---- a message
 
@@ -101,15 +132,15 @@ write_nest-put_row-requires g t c κs within =
       c.rows-row-end.ensures,
       g.met.T.Recursive.counted c.args.message.now,
     ) in
-    let parts = next_row g.T.Recursive.table m c.loop-row.row _ _ here c.number.ensures.is
-    c.row.ensures in (
+    let parts = next_row g.T.Recursive.table m c.loop-row.row _ _ _ here c.number-number.ensures.is
+    (c.is_grouped-grouped.ensures ∙ ap is_grouped c.place.ensures.is) c.row.ensures in (
       omega (arith, less),
       (
         search rules,
         (
           search rules,
           (
-            c.number.ensures.in_range,
+            c.number-number.ensures.in_range,
             (
               put.part_next joins _ _ _ _ _ _ _ _ _ c.loop-row.invariant parts,
               put.part_small joins _ _ _ _ _ _ _ _ _ c.loop-row.invariant parts,
@@ -132,8 +163,9 @@ write_nest-returns-in_err-put_row-clause-written g t c =
       g.met.T.Recursive.counted c.args.message.now,
     ) in
     rw (p.1, p.2) (put.refused c.joined_records_add_up.ensures _ _ _ _ _ _ _ _ _
-    c.loop-row.invariant (next_row g.T.Recursive.table m c.loop-row.row _ _ here
-    c.number.ensures.is c.row.ensures) c.piece_by_piece.ensures _ _
+    c.loop-row.invariant (next_row g.T.Recursive.table m c.loop-row.row _ _ _ here
+    c.number-number.ensures.is (c.is_grouped-grouped.ensures ∙ ap is_grouped c.place.ensures.is)
+    c.row.ensures) c.piece_by_piece.ensures _ _
     c.in_err-put_row.ensures.written)
 
 pub write_nest-put_run-requires-in-loop-row-clause-sizes :
@@ -148,7 +180,8 @@ write_nest-put_run-requires-in-loop-row-clause-sizes g t c =
       g.met.T.Recursive.counted c.args.message.now,
     ) in
     let put_it = put.more joins _ _ _ _ _ _ _ _ _ c.loop-row.invariant
-    (next_row g.T.Recursive.table m c.loop-row.row _ _ here c.number.ensures.is c.row.ensures)
+    (next_row g.T.Recursive.table m c.loop-row.row _ _ _ here c.number-number.ensures.is
+    (c.is_grouped-grouped.ensures ∙ ap is_grouped c.place.ensures.is) c.row.ensures)
     c.piece_by_piece.ensures _ _ tt c.in_ok-put_row.ensures.written c.in_ok-put_row.ensures.read in
     put.part_next joins _ _ _ _ _ _ _ _ _ put_it (next_run g.T.Recursive.table m c.loop-row.row)
 
@@ -164,7 +197,8 @@ write_nest-put_run-requires-in-loop-row-clause-size g t c =
       g.met.T.Recursive.counted c.args.message.now,
     ) in
     let put_it = put.more joins _ _ _ _ _ _ _ _ _ c.loop-row.invariant
-    (next_row g.T.Recursive.table m c.loop-row.row _ _ here c.number.ensures.is c.row.ensures)
+    (next_row g.T.Recursive.table m c.loop-row.row _ _ _ here c.number-number.ensures.is
+    (c.is_grouped-grouped.ensures ∙ ap is_grouped c.place.ensures.is) c.row.ensures)
     c.piece_by_piece.ensures _ _ tt c.in_ok-put_row.ensures.written c.in_ok-put_row.ensures.read in
     put.part_small joins _ _ _ _ _ _ _ _ _ put_it (next_run g.T.Recursive.table m c.loop-row.row)
 
@@ -182,7 +216,8 @@ write_nest-returns-in_err-put_run-2-clause-written g t c =
       g.met.T.Recursive.counted c.args.message.now,
     ) in
     let put_it = put.more joins _ _ _ _ _ _ _ _ _ c.loop-row.invariant
-    (next_row g.T.Recursive.table m c.loop-row.row _ _ here c.number.ensures.is c.row.ensures)
+    (next_row g.T.Recursive.table m c.loop-row.row _ _ _ here c.number-number.ensures.is
+    (c.is_grouped-grouped.ensures ∙ ap is_grouped c.place.ensures.is) c.row.ensures)
     c.piece_by_piece.ensures _ _ tt c.in_ok-put_row.ensures.written c.in_ok-put_row.ensures.read in
     rw (p.1, p.2) (put.refused joins _ _ _ _ _ _ _ _ _ put_it
     (next_run g.T.Recursive.table m c.loop-row.row) c.piece_by_piece.ensures _ _
@@ -199,7 +234,8 @@ write_nest-loop-row-preserved g t c =
       g.met.T.Recursive.counted c.args.message.now,
     ) in
     let put_it = put.more joins _ _ _ _ _ _ _ _ _ c.loop-row.invariant
-    (next_row g.T.Recursive.table m c.loop-row.row _ _ here c.number.ensures.is c.row.ensures)
+    (next_row g.T.Recursive.table m c.loop-row.row _ _ _ here c.number-number.ensures.is
+    (c.is_grouped-grouped.ensures ∙ ap is_grouped c.place.ensures.is) c.row.ensures)
     c.piece_by_piece.ensures _ _ tt c.in_ok-put_row.ensures.written c.in_ok-put_row.ensures.read in
     put.more joins _ _ _ _ _ _ _ _ _ put_it (next_run g.T.Recursive.table m c.loop-row.row)
     c.piece_by_piece.ensures _ _ tt c.in_ok-put_run-2.ensures.written

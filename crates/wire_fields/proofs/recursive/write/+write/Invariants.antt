@@ -1,7 +1,7 @@
 use Rattle.std.proofs.Common.{◌+◌, ◌*◌, map, drop}
-use Rattle.wire_fields.specs.Messages.{length_prefixed, message_each}
+use Rattle.wire_fields.specs.Messages.{message_each}
 use Rattle.wire_fields.specs.Nest.{nodes, all_nodes}
-use Rattle.wire_fields.specs.NestTable.{nest_records}
+use Rattle.wire_fields.specs.NestTable.{nest_records, encoding_of}
 use Rattle.wire_fields.proofs.Nests.{left_at}
 use Rattle.wire_fields.proofs.Putting.{IsPutTo}
 use Rattle.wire_fields.proofs.recursive.write.+write.Given as goal
@@ -9,13 +9,19 @@ use Rattle.wire_fields.proofs.recursive.write.+write.Given as goal
 -- ---- a message inside has fewer messages in it
 
 abbrev pub decreases-write_nest : goal.decreases-write_nest
-decreases-write_nest g l = 3 * nodes (g.T.Recursive.view l.message.now)
+decreases-write_nest g l = 4 * nodes (g.T.Recursive.view l.message.now)
 
 abbrev pub decreases-put_embedded : goal.decreases-put_embedded
-decreases-put_embedded g l = 3 * nodes (g.T.Recursive.view l.message.now) + 1
+decreases-put_embedded g l = 4 * nodes (g.T.Recursive.view l.message.now) + 1
+
+abbrev pub decreases-put_grouped : goal.decreases-put_grouped
+decreases-put_grouped g l = 4 * nodes (g.T.Recursive.view l.message.now) + 1
+
+abbrev pub decreases-put_message : goal.decreases-put_message
+decreases-put_message g l = 4 * nodes (g.T.Recursive.view l.message.now) + 2
 
 abbrev pub decreases-put_row : goal.decreases-put_row
-decreases-put_row g l = 3 * all_nodes (map g.T.Recursive.view l.messages.now) + 2
+decreases-put_row g l = 4 * all_nodes (map g.T.Recursive.view l.messages.now) + 3
 
 -- ---- the rows so far, and the messages of a row so far, are written
 
@@ -28,7 +34,8 @@ invariant-write_nest-loop-row g l =
 
 abbrev pub invariant-put_row-loop-message : goal.invariant-put_row-loop-message
 invariant-put_row-loop-message g l =
-    let each = message_each length_prefixed (nest_records g.T.Recursive.table) l.fn.number in
+    let each = message_each (encoding_of l.fn.grouped) (nest_records g.T.Recursive.table)
+    l.fn.number in
     IsPutTo g.S.EncodeSink.most (each (map g.T.Recursive.view l.fn.messages))
     (each (map g.T.Recursive.view (drop l.message-index l.messages))) l.fn.cache l.cache
     (g.S.EncodeSink.bytes_of l.fn.sink) (g.S.EncodeSink.bytes_of l.sink)
