@@ -3,7 +3,7 @@
 use crate::code::{put_field, put_field_comment, put_head, set_rest};
 use crate::error::GenerateError;
 use crate::field::Field;
-use crate::rows::is_row;
+use crate::rows::{is_row, once_place};
 use crate::schema::{MessageType, Schema};
 use crate::words::{Template, Words};
 
@@ -144,7 +144,7 @@ const OF_ONCE: [Template; 7] = [
     ("declared", "    pub $field$: Option<Box<$name$>>,\n"),
     ("emptied", "            $field$: None,\n"),
     ("cleared", "        self.$field$ = None;\n"),
-    ("places", "            $number$ => Place::Once($row$),\n"),
+    ("places", "            $number$ => Place::$once$($row$),\n"),
     (
         "rows",
         "            $row$ => {
@@ -285,6 +285,7 @@ fn put_row(page: &mut Words, schema: &Schema, field: &Field) {
         page.append_all(&OF_EACH);
         page.append("uses", "wire_fields push_message\n");
     } else {
+        page.set("once", once_place(field));
         page.append_all(&OF_ONCE);
         page.append("uses", "std::slice from_ref\n");
     }

@@ -2,7 +2,7 @@
 use crate::error::GenerateError;
 use crate::field::Field;
 use crate::imports::definition_imports;
-use crate::rows::is_row;
+use crate::rows::{is_row, once_place};
 use crate::tree::Tree;
 use crate::words::{Template, Words};
 
@@ -42,9 +42,7 @@ Rattle.wire_fields.specs.Shape known
 Rattle.wire_fields.specs.Shape two
 Rattle.wire_fields.specs.Shape unknown
 Rattle.wire_fields.specs.declared.recursive.Place Place
-Rattle.wire_fields.specs.declared.recursive.Place.TheVariants Each
 Rattle.wire_fields.specs.declared.recursive.Place.TheVariants Leaf
-Rattle.wire_fields.specs.declared.recursive.Place.TheVariants Once
 Rattle.$crate$.specs.declared.$module$.$name$ $name$
 Rattle.$crate$.specs.declared.$module$.$name$ $name$-F
 Rattle.$crate$.specs.declared.$module$.$name$ fold-$name$
@@ -210,13 +208,14 @@ fn put_number(page: &mut Words, at: &str) {
     ]);
 }
 
-const OF_EACH: [Template; 2] = [
+const OF_EACH: [Template; 3] = [
     ("here", "Each $row$ $size$"),
+    ("once", "Each"),
     ("row_view", "m.$field$.items"),
 ];
 
 const OF_ONCE: [Template; 2] = [
-    ("here", "Once $row$"),
+    ("here", "$once$ $row$"),
     ("row_view", "(boxed_row m.$field$)"),
 ];
 
@@ -230,7 +229,12 @@ fn put_rows(page: &mut Words, fields: &[Field], count: usize) {
             page.index("row", row);
             page.copy(&field.words, &["field", "number", "size"]);
             let is_each = field.words.get("kind").starts_with("Each");
+            page.set("once", once_place(field));
             page.fill_all(if is_each { &OF_EACH } else { &OF_ONCE });
+            page.append(
+                "uses",
+                "Rattle.wire_fields.specs.declared.recursive.Place.TheVariants $once$\n",
+            );
             page.fill_all(&[
                 ("places", "if_number (n == $number$) ($here$) ($places$)"),
                 ("row_views", "(row (row_of $row_view$) $row_views$)"),

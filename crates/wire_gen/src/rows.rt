@@ -48,7 +48,7 @@ pub(crate) fn leaf_tree(
 }
 
 const BY_OTHER: &str =
-    "$full$: a message that holds itself by a map, a oneof or a group wants encoded=FIELD";
+    "$full$: a message that holds itself by a map, a oneof or groups wants encoded=FIELD";
 
 const NO_LEAF: &str = "$full$: a message that holds itself has one to eight other fields, and \
                        neither closed enums, unknown=drop nor mismatch=keep";
@@ -56,11 +56,21 @@ const NO_LEAF: &str = "$full$: a message that holds itself has one to eight othe
 // The most other fields: the runs of these are tuples.
 const MOST_LEAVES: usize = 8;
 
-// Whether a field is an embedded message of the type itself, or a list of these.
+/// Where records of a row of one message go, which are groups or not.
+pub(crate) fn once_place(field: &Field) -> &'static str {
+    if field.words.get("kind").starts_with("Group<") {
+        "Grouped"
+    } else {
+        "Once"
+    }
+}
+
+// Whether a field is an embedded message or a group of the type itself, or a list of such messages.
 fn is_own(base: &Words, field: &Words) -> bool {
     let kind = field.get("kind");
-    let is_embedded = kind.starts_with("Embedded<") || kind.starts_with("EachEmbedded<");
-    is_embedded && field.get("of_name") == base.get("name")
+    let is_single = kind.starts_with("Embedded<") || kind.starts_with("Group<");
+    let is_row = is_single || kind.starts_with("EachEmbedded<");
+    is_row && field.get("of_name") == base.get("name")
 }
 
 // Whether another kind of field has the type itself.
