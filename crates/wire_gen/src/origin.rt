@@ -53,13 +53,15 @@ pub(crate) fn own_origin(message: &MessageType) -> Result<Origin, GenerateError>
     })
 }
 
-/// What a file has and a crate can't have.
-pub(crate) fn stop_on_rest(
+/// Services are passed over where the parameter says so.
+pub(crate) fn stop_on_services(
+    base: &Words,
     file: &FileDescriptorProto,
-    words: &mut Words,
 ) -> Result<(), GenerateError> {
-    if file.service.is_empty() {
+    if file.service.is_empty() || base.get("services") == "skip" {
         return Ok(());
     }
-    Err(words.refused("$file$: services are not generated"))
+    let mut words = Words::like(base);
+    words.set("file", &file.name);
+    Err(words.refused("$file$: services want services=skip"))
 }

@@ -10,8 +10,8 @@ use wire_descriptor::CodeGeneratorRequest;
 /// `import=PACKAGE=CRATE` names the crate that has another package; `element=BYTES` is what an
 /// element of a list or a map is charged; `unknown=` whether fields that a schema lacks are kept;
 /// `mismatch=` whether records of other wire types are refused, or kept with these; `enums=open`
-/// takes closed enums as open ones; and each `encoded=FIELD` names a field of messages that is held
-/// as the bytes of their encodings.
+/// takes closed enums as open ones; `services=skip` passes over services; and each `encoded=FIELD`
+/// names a field of messages that is held as the bytes of their encodings.
 pub(crate) fn set_crate(
     base: &mut Words,
     request: &CodeGeneratorRequest,
@@ -44,7 +44,7 @@ const DEFAULTS: [Template; 4] = [
 
 const PARAMETERS: &str = "\
     parameters are crate=NAME, import=PACKAGE=CRATE, element=BYTES, unknown=keep or drop, \
-    mismatch=refuse or keep, enums=open, and encoded=FIELD: $option$";
+    mismatch=refuse or keep, enums=open, services=skip, and encoded=FIELD: $option$";
 
 fn set_parameter(base: &mut Words, name: &str, choice: &str) -> Result<(), GenerateError> {
     match (name, choice) {
@@ -53,6 +53,7 @@ fn set_parameter(base: &mut Words, name: &str, choice: &str) -> Result<(), Gener
         ("unknown", "keep" | "drop") => base.set("unknown", choice),
         ("mismatch", "keep" | "refuse") => base.set("mismatch", choice),
         ("enums", "open") => base.set("enums", choice),
+        ("services", "skip") => base.set("services", choice),
         ("element", _) if is_size(choice) => {
             base.set("element", choice);
             base.fill_all(&[("of_text", "$element$"), ("of_entry", "$element$")]);

@@ -1,7 +1,7 @@
 //! The message types and enums of the files that are to be generated.
 use crate::error::GenerateError;
 use crate::features::Features;
-use crate::origin::{home_of, inner, own_origin, stop_on_rest};
+use crate::origin::{home_of, inner, own_origin, stop_on_services};
 use crate::parameters::adapt;
 use crate::words::Words;
 use std::alloc::Global;
@@ -89,6 +89,7 @@ impl Schema {
         for file in &request.proto_file {
             let is_own = request.file_to_generate.contains(&file.name);
             let home = if is_own {
+                stop_on_services(base, file)?;
                 base.get("crate")
             } else {
                 home_of(&file.package, base.get("imported"))
@@ -118,7 +119,6 @@ impl Schema {
             words.fill("full", ".$package$");
         }
         if is_own {
-            stop_on_rest(file, &mut words)?;
             self.add_comments(file)?;
         }
         let origin = Origin {
