@@ -15,6 +15,7 @@ pub mod Others
 pub mod PackedReads
 pub mod PersonFolds
 pub mod PersonSteps
+pub mod PersonTable
 pub mod Persons
 pub mod Putting
 pub mod RepeatFolds

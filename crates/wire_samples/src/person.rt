@@ -1,22 +1,15 @@
-//! A message with a field of each common kind.
-ghost use Rattle.std.specs.Prelude.{◌≡◌, ◌≢◌, ◌≤◌, OnOk, OnErr, IfErr};
-ghost use Rattle.wire_codec.specs.DecodeError.TheVariants.{OutOfMemory};
-ghost use Rattle.wire_codec.specs.Limits.{NoCountGrew};
-ghost use Rattle.wire_codec.specs.Records.{text, text_size};
-ghost use Rattle.wire_codec.specs.TagView.{tag_number, tag_type};
-ghost use Rattle.wire_codec.specs.Taking.{TakesRecord, IsCharged, NotTaken};
-ghost use Rattle.wire_codec.specs.Writes.{Writes};
-ghost use Rattle.wire_samples.specs.Person.{PersonTakes, person_records, person_value};
+//! A message with a field of each common kind, as a table of its fields.
+ghost use Rattle.std.specs.Prelude.{◌≡◌};
+ghost use Rattle.wire_samples.specs.Person.{person_value};
 
-use crate::fields::{
-    bytes_len, int32_len, packed_int32_len, put_bytes, put_int32, put_packed_int32, unknown_len,
-};
-use crate::merge::{keep_unknown, merge_int32, merge_repeated_int32, merge_text};
 use bytes::Buf;
 use std::alloc::Global;
 use wire_codec::{
     DecodeContext, DecodeError, EncodeError, EncodeSink, Message, MessageName, SizeCache, Tag,
-    UnknownFields, laws, saturate_size,
+    UnknownFields,
+};
+use wire_fields::{
+    Implicit, Int32, Kind, Known, Packed, Rest, Text, keep, measure, write,
 };
 
 /// A person, by number and name, with scores. Fields that a schema of later date has are kept.
@@ -66,34 +59,56 @@ impl Message for Person {
 
     fn default_value(alloc: Global) -> Person {
         Person {
-            id: 0,
-            name: String::new(alloc),
-            scores: Vec::new(alloc),
+            id: <Implicit<Int32> as Kind>::empty(alloc),
+            name: <Implicit<Text> as Kind>::empty(alloc),
+            scores: <Packed<Int32> as Kind>::empty(alloc),
             unknown: UnknownFields::new(alloc),
         }
     }
 
     #[inline(always)]
-    fn compute_size(&self, _cache: &mut SizeCache) -> Result<u32, EncodeError> {
-        laws::flat_messages_have_no_sizes();
-        laws::joined_records_add_up();
-        laws::fields_are_plain();
-        let mut size = int32_len(1, self.id);
-        size = size.saturating_add(bytes_len(2, self.name.as_bytes()));
-        size = size.saturating_add(packed_int32_len(3, &self.scores));
-        size = size.saturating_add(unknown_len(&self.unknown));
-        Ok(saturate_size(size))
+    fn compute_size(&self, cache: &mut SizeCache) -> Result<u32, EncodeError> {
+        let _id = self.id;
+        let id: Known<Implicit<Int32>> = Known {
+            number: 1,
+            held: &self.id,
+        };
+        let name: Known<Implicit<Text>> = Known {
+            number: 2,
+            held: &self.name,
+        };
+        let scores: Known<Packed<Int32>> = Known {
+            number: 3,
+            held: &self.scores,
+        };
+        let rest = Rest {
+            fields: &self.unknown,
+        };
+        measure((id, (name, (scores, rest))), cache)
     }
 
     fn write_to<S: EncodeSink>(
         &self,
-        _cache: &mut SizeCache,
+        cache: &mut SizeCache,
         sink: &mut S,
     ) -> Result<(), EncodeError> {
-        laws::flat_messages_have_no_sizes();
-        laws::joined_records_add_up();
-        laws::fields_are_plain();
-        write_records(self, sink)
+        let _id = self.id;
+        let id: Known<Implicit<Int32>> = Known {
+            number: 1,
+            held: &self.id,
+        };
+        let name: Known<Implicit<Text>> = Known {
+            number: 2,
+            held: &self.name,
+        };
+        let scores: Known<Packed<Int32>> = Known {
+            number: 3,
+            held: &self.scores,
+        };
+        let rest = Rest {
+            fields: &self.unknown,
+        };
+        write((id, (name, (scores, rest))), cache, sink)
     }
 
     fn merge_field<B: Buf>(
@@ -103,55 +118,18 @@ impl Message for Person {
         buf: &mut B,
         context: &mut DecodeContext,
     ) -> Result<(), DecodeError> {
-        merge_record(self, alloc, tag, buf, context)
+        match tag.field_number() {
+            1 => <Implicit<Int32> as Kind>::merge(alloc, tag, &mut self.id, buf, context),
+            2 => <Implicit<Text> as Kind>::merge(alloc, tag, &mut self.name, buf, context),
+            3 => <Packed<Int32> as Kind>::merge(alloc, tag, &mut self.scores, buf, context),
+            _ => keep(alloc, tag, &mut self.unknown, buf, context),
+        }
     }
 
     fn clear(&mut self) {
-        self.id = 0;
-        self.name.clear();
-        self.scores.clear();
+        <Implicit<Int32> as Kind>::clear(&mut self.id);
+        <Implicit<Text> as Kind>::clear(&mut self.name);
+        <Packed<Int32> as Kind>::clear(&mut self.scores);
         self.unknown.clear();
-    }
-}
-
-// Writes the records, in the order of their numbers and the unknown fields behind.
-fn write_records<S: EncodeSink>(person: &Person, sink: &mut S) -> Result<(), EncodeError>
-    requires { text_size (person_records (person_value person.now)) ≤ 2147483647 }
-    ensures { Writes S.most (text (person_records (person_value person.now)))
-        (S.bytes_of sink.old) (S.bytes_of sink.new) result }
-{
-    laws::joined_records_add_up();
-    laws::fields_are_plain();
-    laws::piece_by_piece();
-    put_int32(1, person.id, sink)?;
-    put_bytes(2, person.name.as_bytes(), sink)?;
-    put_packed_int32(3, &person.scores, sink)?;
-    person.unknown.write_to(sink)
-}
-
-// Takes the record of a tag that was read.
-fn merge_record<B: Buf>(
-    person: &mut Person,
-    alloc: Global,
-    tag: Tag,
-    buf: &mut B,
-    context: &mut DecodeContext,
-) -> Result<(), DecodeError>
-    ensures ok { OnOk result (IsCharged context.old context.new (λ c.
-        TakesRecord PersonTakes context.old (tag_number tag) (tag_type tag)
-        (person_value person.old) (B.unread buf.old) c (person_value person.new)
-        (B.unread buf.new))) }
-    ensures err { IfErr result (λ e. e ≢ OutOfMemory → NotTaken (TakesRecord PersonTakes
-        context.old (tag_number tag) (tag_type tag) (person_value person.old)
-        (B.unread buf.old))) }
-    ensures counts { OnErr result (NoCountGrew context.old context.new) }
-    ensures kept { B.kept buf.new ≡ B.kept buf.old }
-{
-    laws::records_in_order();
-    match tag.field_number() {
-        1 => merge_int32(tag, &mut person.id, buf),
-        2 => merge_text(alloc, tag, &mut person.name, buf),
-        3 => merge_repeated_int32(alloc, tag, &mut person.scores, buf),
-        _ => keep_unknown(alloc, tag, &mut person.unknown, buf, context),
     }
 }
