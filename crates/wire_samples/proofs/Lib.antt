@@ -8,6 +8,7 @@ pub mod Kept
 pub mod Measuring
 pub mod NodeFolds
 pub mod NodeLists
+pub mod NodeNests
 pub mod NodeTaken
 pub mod NodeValues
 pub mod Nodes

@@ -1,18 +1,21 @@
-//! A message that holds itself.
+//! A message that holds itself, as a table of its fields.
 ghost use Rattle.std.specs.Prelude.{◌≡◌};
-ghost use Rattle.wire_samples.specs.Node.{node_value, unknown_of, default_node};
+ghost use Rattle.wire_samples.specs.Node.{node_value, unknown_of};
 
-mod merge;
-mod write;
-
-use self::merge::merge_record;
-use self::write::{node_size, write_node};
 use bytes::Buf;
 use std::alloc::Global;
+use std::slice;
 use wire_codec::{
     DecodeContext, DecodeError, EncodeError, EncodeSink, Message, MessageName, SizeCache, Tag,
-    UnknownFields,
+    UnknownFields, laws,
 };
+use wire_fields::{
+    Implicit, Kind, Known, Parts, Place, Recursive, Rest, Sint64, keep, merge_nest, nest_size,
+    push_message, write_nest,
+};
+
+// How many bytes of element memory each of the children takes.
+const CHILD_BYTES: usize = 64;
 
 /// A node of a tree, with embedded messages and a group. Fields that a schema of later date has are
 /// kept. Each of `children` is charged 64 bytes of element memory.
@@ -32,18 +35,6 @@ impl Node {
     {
         &self.unknown
     }
-
-    fn empty(alloc: Global) -> Node
-        ensures { node_value result ≡ default_node }
-    {
-        Node {
-            value: 0,
-            child: None,
-            children: Vec::new(alloc),
-            group: None,
-            unknown: UnknownFields::new(alloc),
-        }
-    }
 }
 
 impl MessageName for Node {
@@ -54,6 +45,168 @@ impl MessageName for Node {
     const FULL_NAME: &'static str = "wire.samples.Node";
 
     const TYPE_URL: &'static str = "type.googleapis.com/wire.samples.Node";
+}
+
+impl Recursive for Node {
+    ghost use Rattle.wire_samples.specs.NodeTable.{NodeLeaf, node_nest, node_table, node_leaf};
+    ghost use Rattle.wire_samples.specs.NodeTable.{node_counted};
+
+    ghost Leaf = { NodeLeaf };
+
+    ghost view = { node_nest };
+
+    ghost table = { node_table };
+
+    ghost counted = { node_counted };
+
+    ghost single = { node_leaf.single };
+
+    fn empty(alloc: Global) -> Node {
+        Node {
+            value: <Implicit<Sint64> as Kind>::empty(alloc),
+            child: None,
+            children: Vec::new(alloc),
+            group: None,
+            unknown: UnknownFields::new(alloc),
+        }
+    }
+
+    fn rows() -> usize {
+        3
+    }
+
+    fn number(row: usize) -> u32 {
+        match row {
+            0 => 2,
+            1 => 3,
+            _ => 4,
+        }
+    }
+
+    fn place(number: u32) -> Place {
+        match number {
+            2 => Place::Once(0),
+            3 => Place::Each(1, CHILD_BYTES),
+            4 => Place::Grouped(2),
+            _ => Place::Leaf,
+        }
+    }
+
+    fn row(&self, row: usize) -> &[Node] {
+        match row {
+            0 => {
+                match &self.child {
+                    Some(message) => slice::from_ref(message),
+                    None => &[],
+                }
+            }
+            1 => &self.children,
+            2 => {
+                match &self.group {
+                    Some(message) => slice::from_ref(message),
+                    None => &[],
+                }
+            }
+            _ => &[],
+        }
+    }
+
+    fn take(&mut self, alloc: Global, row: usize) -> Node {
+        match row {
+            0 => {
+                match self.child.take() {
+                    Some(message) => Box::into_inner(message),
+                    None => Node::empty(alloc),
+                }
+            }
+            2 => {
+                match self.group.take() {
+                    Some(message) => Box::into_inner(message),
+                    None => Node::empty(alloc),
+                }
+            }
+            _ => Node::empty(alloc),
+        }
+    }
+
+    fn put(&mut self, alloc: Global, row: usize, message: Node) -> Result<(), DecodeError> {
+        match row {
+            0 => {
+                self.child = Some(Box::new(alloc, message)?);
+                Ok(())
+            }
+            2 => {
+                self.group = Some(Box::new(alloc, message)?);
+                Ok(())
+            }
+            _ => Ok(()),
+        }
+    }
+
+    fn push(&mut self, row: usize, message: Node) -> Result<(), DecodeError> {
+        match row {
+            1 => push_message(&mut self.children, message),
+            _ => Ok(()),
+        }
+    }
+
+    fn run_len(&self, run: usize, cache: &mut SizeCache) -> Result<u64, EncodeError> {
+        match run {
+            0 => {
+                let value: Known<Implicit<Sint64>> = Known {
+                    number: 1,
+                    held: &self.value,
+                };
+                value.len(cache)
+            }
+            1 => Ok(0),
+            2 => Ok(0),
+            _ => {
+                let rest = Rest {
+                    fields: &self.unknown,
+                };
+                rest.len(cache)
+            }
+        }
+    }
+
+    fn put_run<S: EncodeSink>(
+        &self,
+        run: usize,
+        cache: &mut SizeCache,
+        sink: &mut S,
+    ) -> Result<(), EncodeError> {
+        match run {
+            0 => {
+                let value: Known<Implicit<Sint64>> = Known {
+                    number: 1,
+                    held: &self.value,
+                };
+                value.put(cache, sink)
+            }
+            1 => Ok(()),
+            2 => Ok(()),
+            _ => {
+                let rest = Rest {
+                    fields: &self.unknown,
+                };
+                rest.put(cache, sink)
+            }
+        }
+    }
+
+    fn merge_leaf<B: Buf>(
+        &mut self,
+        alloc: Global,
+        tag: Tag,
+        buf: &mut B,
+        context: &mut DecodeContext,
+    ) -> Result<(), DecodeError> {
+        match tag.field_number() {
+            1 => <Implicit<Sint64> as Kind>::merge(alloc, tag, &mut self.value, buf, context),
+            _ => keep(alloc, tag, &mut self.unknown, buf, context),
+        }
+    }
 }
 
 impl Message for Node {
@@ -74,11 +227,11 @@ impl Message for Node {
     ghost single = { node_single };
 
     fn default_value(alloc: Global) -> Node {
-        Node::empty(alloc)
+        <Node as Recursive>::empty(alloc)
     }
 
     fn compute_size(&self, cache: &mut SizeCache) -> Result<u32, EncodeError> {
-        Ok(node_size(self, cache)?)
+        nest_size(self, cache)
     }
 
     fn write_to<S: EncodeSink>(
@@ -86,7 +239,7 @@ impl Message for Node {
         cache: &mut SizeCache,
         sink: &mut S,
     ) -> Result<(), EncodeError> {
-        write_node(self, cache, sink)
+        write_nest(self, cache, sink)
     }
 
     fn merge_field<B: Buf>(
@@ -96,11 +249,12 @@ impl Message for Node {
         buf: &mut B,
         context: &mut DecodeContext,
     ) -> Result<(), DecodeError> {
-        merge_record(self, alloc, tag, buf, context)
+        laws::records_in_order();
+        merge_nest(self, alloc, tag, buf, context)
     }
 
     fn clear(&mut self) {
-        self.value = 0;
+        <Implicit<Sint64> as Kind>::clear(&mut self.value);
         self.child = None;
         self.children.clear();
         self.group = None;

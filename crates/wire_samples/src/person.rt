@@ -68,7 +68,6 @@ impl Message for Person {
 
     #[inline(always)]
     fn compute_size(&self, cache: &mut SizeCache) -> Result<u32, EncodeError> {
-        let _id = self.id;
         let id: Known<Implicit<Int32>> = Known {
             number: 1,
             held: &self.id,
@@ -92,7 +91,6 @@ impl Message for Person {
         cache: &mut SizeCache,
         sink: &mut S,
     ) -> Result<(), EncodeError> {
-        let _id = self.id;
         let id: Known<Implicit<Int32>> = Known {
             number: 1,
             held: &self.id,
