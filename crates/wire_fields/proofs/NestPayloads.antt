@@ -16,7 +16,7 @@ use Rattle.wire_fields.specs.NestPayload.{Enters, TakesWithin}
 module _ {V : Type 0} (takes : Step V) (d : DelimitedIsRead) (l k : Limits) (from : V)
     (old now : List ℕ) (rest : ℕ) (h : Enters l k old now rest) where
   -- what is taken up to the end of the payload is the embedded message
-  embedded_of : (new : List ℕ) (c : Charge) (z : V) → TakesWithin takes k rest from now c z new
+  pub embedded_of : (new : List ℕ) (c : Charge) (z : V) → TakesWithin takes k rest from now c z new
       → TakesEmbedded takes l from old c z new
   embedded_of new c z taken =
       let long : length h.behind ≤ length new = omega (arith, h.rest_is, taken.within) in
@@ -33,7 +33,7 @@ module _ {V : Type 0} (takes : Step V) (d : DelimitedIsRead) (l k : Limits) (fro
       }
 
   -- and the other way round
-  within_of : (new : List ℕ) (c : Charge) (z : V) → TakesEmbedded takes l from old c z new
+  pub within_of : (new : List ℕ) (c : Charge) (z : V) → TakesEmbedded takes l from old c z new
       → TakesWithin takes k rest from now c z new
   within_of new c z taken =
       let t = taken.taken in

@@ -1,9 +1,9 @@
 -- A `Node` as a table: it has the records of its table, and makes of a record what the table does.
-use Rattle.std.proofs.Common.{◌≡◌, ◌⊎◌, inl, inr, ℕ, zero, suc, List, [], ◌∷◌, ◌++◌, map, ◌-◌, ◌*◌, refl, sym, ap, ◌∙◌, subst, arith}
+use Rattle.std.proofs.Common.{◌≡◌, inl, inr, ℕ, zero, suc, List, [], ◌∷◌, ◌++◌, map, ◌-◌, ◌*◌, refl, sym, ap, ◌∙◌, subst, arith}
 use Rattle.std.proofs.lemmas.Bool.Decides.{eqb_tells}
-use Rattle.std.specs.Prelude.{ℤ, pos, negsuc, Bool, true, false, ◌==◌}
+use Rattle.std.specs.Prelude.{ℤ, pos, negsuc, Bool, false, ◌==◌}
 use Rattle.wire_codec.specs.Charge.{payload_charge}
-use Rattle.wire_codec.specs.Field.{Payload, bytes, group, Fields, field, push}
+use Rattle.wire_codec.specs.Field.{Payload, bytes, Fields, field, push}
 use Rattle.wire_codec.specs.Field as grammar
 use Rattle.wire_codec.specs.Folds.{Step, Folds}
 use Rattle.wire_codec.specs.Limits.{Charge, no_charge, nested, both, element_of}
@@ -13,7 +13,6 @@ use Rattle.wire_codec.specs.TakingLaws.{OneReading}
 use Rattle.wire_codec.specs.ValueMap.{sint64}
 use Rattle.wire_fields.specs.Arms.{unlike}
 use Rattle.wire_fields.specs.declared.form.Form.TheVariants.{Varint}
-use Rattle.wire_fields.specs.declared.recursive.Place.{Place}
 use Rattle.wire_fields.specs.declared.recursive.Place.TheVariants.{Leaf, Once, Each, Grouped}
 use Rattle.wire_fields.specs.Least.{rolled, up_to}
 use Rattle.wire_fields.specs.Messages.{inside, length_prefixed}
@@ -36,7 +35,6 @@ use Rattle.wire_samples.specs.Node.{with_unknown, node_records, child_record, ch
 use Rattle.wire_samples.specs.Node.{group_record, IsNodeOther}
 use Rattle.wire_samples.specs.NodeSteps.{NodeTakes, value, child, another, grouped, unknown}
 use Rattle.wire_samples.specs.NodeSteps.{NodeMerges, merged, NodeFolds, no_more, one_more}
-use Rattle.wire_samples.specs.NodeSteps.{another_charge}
 use Rattle.wire_samples.specs.NodeTable.{NodeNest, NodeLeaf, as_nest, maybe_row, list_row, node_leaf}
 use Rattle.wire_samples.specs.NodeTable.{node_place, node_table, node_nest}
 
@@ -341,11 +339,11 @@ module _ (step : Step NodeNest) (back : StepBack step) where
         | inr three ↦ elim (eqb_tells n 4) [
           | inl e ↦ moved 4 e.1 (at_group m p c y)
           | inr four ↦ at_other m n p c y (record {
-              value = one.1;
-              child = two.1;
-              children = three.1;
-              group = four.1;
-            }) h
+            value = one.1;
+            child = two.1;
+            children = three.1;
+            group = four.1;
+          }) h
         ]
       ]
     ]

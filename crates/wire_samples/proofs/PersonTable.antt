@@ -19,7 +19,7 @@ use Rattle.wire_fields.specs.Shape.{keeps}
 use Rattle.wire_fields.specs.Texts.{SetsBytes, string}
 use Rattle.wire_samples.specs.FieldRecords.{int32_field, bytes_field, packed_int32}
 use Rattle.wire_samples.specs.FieldRecords.{packed_int32_field}
-use Rattle.wire_samples.specs.FieldSteps.{SetsNumber, SetsInt32, SetsText, AppendsInt32}
+use Rattle.wire_samples.specs.FieldSteps.{SetsNumber, SetsText, AppendsInt32}
 use Rattle.wire_samples.specs.Person.{PersonValue, PersonTakes, id, name, scores, unknown}
 use Rattle.wire_samples.specs.Person.{person_records, with_id, with_name, with_scores, with_unknown}
 

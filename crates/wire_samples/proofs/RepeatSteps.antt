@@ -1,9 +1,9 @@
 -- What a `Repeat` takes.
-use Rattle.std.proofs.Common.{◌≡◌, ◌⊎◌, inl, inr, ⊎_elim, ℕ, ◌+◌, ◌<◌, List, refl, ap, ◌∙◌, subst}
+use Rattle.std.proofs.Common.{◌≡◌, ◌⊎◌, inl, inr, ⊎_elim, ℕ, ◌+◌, ◌<◌, List, refl, sym, ap, ◌∙◌, subst}
 use Rattle.std.specs.Prelude.{true}
 use Rattle.wire_codec.specs.DecodeError.{DecodeError}
-use Rattle.wire_codec.specs.Field.{varint}
-use Rattle.wire_codec.specs.Limits.{Limits, Charge}
+use Rattle.wire_codec.specs.Field.{Payload, varint}
+use Rattle.wire_codec.specs.Limits.{Limits, Charge, no_charge}
 use Rattle.wire_codec.specs.LimitsLaws.{LimitsAddUp}
 use Rattle.wire_codec.specs.Read.{Reads}
 use Rattle.wire_codec.specs.Spells.{IsPayload}
@@ -12,10 +12,36 @@ use Rattle.wire_codec.specs.Varint.{IsSpelling, VarintFault}
 use Rattle.wire_codec.specs.VarintLaws.{OneVarint, NoVarintBesideFault}
 use Rattle.wire_codec.specs.WireType.{WireType}
 use Rattle.wire_codec.specs.WireType.TheVariants as types
-use Rattle.wire_samples.proofs.FieldReads.{varint_read, varint_back}
-use Rattle.wire_samples.proofs.PersonSteps.{uncharged}
 use Rattle.wire_samples.specs.declared.repeat.Repeat.{Repeat}
 use Rattle.wire_samples.specs.Repeat.{RepeatTakes, counted, marked}
+
+-- a varint as a payload, as it is read and read again
+varint_read : (n : ℕ) (w : WireType) (v : ℕ) (old new : List ℕ) → w ≡ types.Varint
+    → Reads old (IsSpelling v) new → Reads old (IsPayload n w (varint v)) new
+varint_read n w v old new is h = record {
+  text = h.text;
+  parts = h.parts;
+  spelled = record { kind = sym is; spelled = h.spelled };
+}
+
+varint_back : (n : ℕ) (w : WireType) (v : ℕ) (old new : List ℕ)
+    → Reads old (IsPayload n w (varint v)) new → Reads old (IsSpelling v) new
+varint_back n w v old new h =
+    record { text = h.text; parts = h.parts; spelled = h.spelled.spelled }
+
+-- a record that is not charged is taken within all limits
+uncharged : LimitsAddUp → (l : Limits) (n : ℕ) (w : WireType) (m z : Repeat) (p : Payload)
+    (old new : List ℕ) → Reads old (IsPayload n w p) new → RepeatTakes m n p no_charge z
+    → IsCharged l l (λ c. TakesRecord RepeatTakes l n w m old c z new)
+uncharged limits l n w m z p old new h step = record {
+  charge = no_charge;
+  taken = record {
+    payload = p;
+    read = record { read = h; fits = limits.nothing_fits l };
+    step = step;
+  };
+  left = sym (limits.left_after_nothing l);
+}
 
 -- the number of a record that is taken
 record Number (m : Repeat) (n : ℕ) (old : List ℕ) : Type 0 where
@@ -68,7 +94,7 @@ module _ (l : Limits) (n : ℕ) (w : WireType) (m : Repeat) (old : List ℕ) whe
         → IsCharged l l (λ c. TakesRecord RepeatTakes l n w m old c
         (record { times = m.times + 1; extra = m.extra }) new)
     count_taken v new read n_is v_is room =
-        uncharged RepeatTakes limits l n w m (record { times = m.times + 1; extra = m.extra })
+        uncharged limits l n w m (record { times = m.times + 1; extra = m.extra })
         (varint v) old new (varint_read n w v old new is read)
         (counted n_is (ap varint v_is) refl room refl)
 
@@ -76,6 +102,6 @@ module _ (l : Limits) (n : ℕ) (w : WireType) (m : Repeat) (old : List ℕ) whe
         → IsCharged l l (λ c. TakesRecord RepeatTakes l n w m old c
         (record { times = m.times; extra = true }) new)
     mark_taken v new read n_is v_is =
-        uncharged RepeatTakes limits l n w m (record { times = m.times; extra = true })
+        uncharged limits l n w m (record { times = m.times; extra = true })
         (varint v) old new (varint_read n w v old new is read)
         (marked n_is (ap varint v_is) refl refl)

@@ -1,17 +1,15 @@
 -- Going over the records of a person's text, one by one.
-use Rattle.std.proofs.Common.{◌≡◌, ◌≢◌, ℕ, ◌+◌, ◌-◌, ◌^◌, ◌<◌, ◌≤◌, max, Bool, true, false, if◌then◌else◌, List, [], ◌∷◌, ◌++◌, length, take, Option, Some, refl, sym, ap, ◌∙◌, subst, arith, append_assoc}
+use Rattle.std.proofs.Common.{◌≡◌, ◌≢◌, ℕ, ◌-◌, ◌^◌, ◌<◌, ◌≤◌, max, Bool, true, false, if◌then◌else◌, List, [], ◌∷◌, ◌++◌, length, take, refl, sym, ap, ◌∙◌, subst, arith, append_assoc}
 use Rattle.std.proofs.lemmas.List.{append-nil, length-append, take_at}
 use Rattle.wire_codec.specs.DecodeError.{DecodeError}
-use Rattle.wire_codec.specs.Charge.{payload_charge, charge, count}
+use Rattle.wire_codec.specs.Charge.{payload_charge, charge}
 use Rattle.wire_codec.specs.Fault.{PayloadFault}
 use Rattle.wire_codec.specs.FaultLaws.{NoPayloadBesideFault}
 use Rattle.wire_codec.specs.Field.{Payload, Fields, none, field, type_of, joined, push}
-use Rattle.wire_codec.specs.Items.{slots}
-use Rattle.wire_codec.specs.Limits.{Limits, Charge, Fits, HaveRoom, HasRoom, both, left_after, less, uncounted}
+use Rattle.wire_codec.specs.Limits.{Limits, Charge, Fits, HaveRoom, both, left_after, uncounted}
 use Rattle.wire_codec.specs.Read.{Reads}
 use Rattle.wire_codec.specs.RecordLaws.{JoinedAddsUp, JoinedTextsSpell}
-use Rattle.wire_codec.specs.SpanLaws.{OneSpansCharge, SpansChargeRecords}
-use Rattle.wire_codec.specs.Spans.{SpellEach, TooMany}
+use Rattle.wire_codec.specs.Spans.{SpellEach}
 use Rattle.wire_codec.specs.Spells.{SpellsPayload, Spells, IsPayload}
 use Rattle.wire_codec.specs.Tag.{IsTagSpelling, TagFault}
 use Rattle.wire_codec.specs.Taken.{TakesPayload}

@@ -1,10 +1,7 @@
 -- The records of fields that are left out where they have their default value.
-use Rattle.std.specs.Prelude.{ℕ, ◌+◌, ◌-◌, ◌^◌, min, ℤ, pos, negsuc, zero, suc, List, [], ◌∷◌, ◌++◌}
-use Rattle.std.specs.Prelude.{length}
-use Rattle.wire_codec.specs.Tag.{tag_text}
+use Rattle.std.specs.Prelude.{ℕ, ℤ, pos, negsuc, zero, suc, List, [], ◌∷◌, ◌++◌}
 use Rattle.wire_codec.specs.ValueMap.{ValueMap, int32, sint64}
 use Rattle.wire_codec.specs.Varint.{shortest_varint}
-use Rattle.wire_codec.specs.WireType.TheVariants.{LengthDelimited}
 use Rattle.wire_codec.specs.Records.{Records, none, field, varint, bytes}
 
 -- a number, where it is not 0
@@ -33,11 +30,3 @@ packed_int32 (v ∷ vs) = shortest_varint (int32.enc v) ++ packed_int32 vs
 abbrev pub packed_int32_field : ℕ → List ℤ → Records
 packed_int32_field n [] = none
 packed_int32_field n (v ∷ vs) = field n (bytes (packed_int32 (v ∷ vs))) none
-
--- a length, or the greatest number of 64 bits where it is more
-abbrev pub in_64_bits : ℕ → ℕ
-in_64_bits n = min n (2 ^ 64 - 1)
-
--- how many bytes a field takes whose payload has so many
-abbrev pub delimited_size : ℕ → ℕ → ℕ
-delimited_size n len = length (tag_text n LengthDelimited) + (length (shortest_varint len) + len)

@@ -1,5 +1,5 @@
 -- A `Node` as contracts see it, and its records.
-use Rattle.std.specs.Prelude.{◌≡◌, ◌≢◌, ℤ, pos, ℕ, List, [], ◌∷◌, Option, Some, None, Box, box_value}
+use Rattle.std.specs.Prelude.{◌≢◌, ℤ, pos, ℕ, List, [], ◌∷◌, Option, Some, None, Box, box_value}
 use Rattle.std.specs.Prelude.{FitsSigned}
 use Rattle.std.specs.Int.{w64}
 use Rattle.std.specs.declared.alloc.Global.{Global}
@@ -39,11 +39,6 @@ one_node n = node n.value (held n.child) (listed n.children.items) (held n.group
 
 abbrev pub node_value : Node → NodeValue
 node_value = fold-Node NodeValue one_node
-
--- the field holds this node
-abbrev pub Holds : Option (Box Node Global) → Node → Type 0
-Holds None n = ⊥
-Holds (Some boxed) n = box_value boxed ≡ n
 
 abbrev pub default_node : NodeValue
 default_node = node (pos 0) absent empty absent Fields.none

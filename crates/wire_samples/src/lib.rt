@@ -2,9 +2,7 @@
 //! they say.
 #![tactic(auto)]
 
-mod fields;
 pub mod laws;
-mod merge;
 mod node;
 mod person;
 mod repeat;

@@ -8,9 +8,7 @@ use wire_codec::{
     DecodeContext, DecodeError, EncodeError, EncodeSink, Message, MessageName, SizeCache, Tag,
     UnknownFields,
 };
-use wire_fields::{
-    Implicit, Int32, Kind, Known, Packed, Rest, Text, keep, measure, write,
-};
+use wire_fields::{Implicit, Int32, Kind, Known, Packed, Rest, Text, keep, measure, write};
 
 /// A person, by number and name, with scores. Fields that a schema of later date has are kept.
 #[derive(Clone, Debug, Drop, PartialEq)]
@@ -68,6 +66,8 @@ impl Message for Person {
 
     #[inline(always)]
     fn compute_size(&self, cache: &mut SizeCache) -> Result<u32, EncodeError> {
+        // What is read is a number of 32 bits.
+        let _id = self.id;
         let id: Known<Implicit<Int32>> = Known {
             number: 1,
             held: &self.id,
@@ -91,6 +91,8 @@ impl Message for Person {
         cache: &mut SizeCache,
         sink: &mut S,
     ) -> Result<(), EncodeError> {
+        // What is read is a number of 32 bits.
+        let _id = self.id;
         let id: Known<Implicit<Int32>> = Known {
             number: 1,
             held: &self.id,
