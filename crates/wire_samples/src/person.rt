@@ -1,6 +1,15 @@
 //! A message with a field of each common kind, as a table of its fields.
-ghost use Rattle.std.specs.Prelude.{◌≡◌};
-ghost use Rattle.wire_samples.specs.Person.{person_value};
+ghost use Rattle.std.specs.Prelude.{◌≡◌, ◌≢◌, ◌≤◌, length, OnOk, OnErr, IfOk, IfErr};
+ghost use Rattle.wire_codec.specs.DecodeError.TheVariants as errors;
+ghost use Rattle.wire_codec.specs.EncodeError.TheVariants.{OutOfMemory};
+ghost use Rattle.wire_codec.specs.Limits.{NoCountGrew};
+ghost use Rattle.wire_codec.specs.Records.{text, text_size};
+ghost use Rattle.wire_codec.specs.Sizes.{sizes, cut, cut_sizes};
+ghost use Rattle.wire_codec.specs.TagView.{tag_number, tag_type};
+ghost use Rattle.wire_codec.specs.Taking.{TakesRecord, IsCharged, NotTaken};
+ghost use Rattle.wire_codec.specs.Tape.{NextAre, advanced, recorded};
+ghost use Rattle.wire_codec.specs.Writes.{Writes};
+ghost use Rattle.wire_samples.specs.Person.{PersonTakes, person_records, person_value};
 
 use bytes::Buf;
 use std::alloc::Global;
@@ -66,24 +75,7 @@ impl Message for Person {
 
     #[inline(always)]
     fn compute_size(&self, cache: &mut SizeCache) -> Result<u32, EncodeError> {
-        // What is read is a number of 32 bits.
-        let _id = self.id;
-        let id: Known<Implicit<Int32>> = Known {
-            number: 1,
-            held: &self.id,
-        };
-        let name: Known<Implicit<Text>> = Known {
-            number: 2,
-            held: &self.name,
-        };
-        let scores: Known<Packed<Int32>> = Known {
-            number: 3,
-            held: &self.scores,
-        };
-        let rest = Rest {
-            fields: &self.unknown,
-        };
-        measure((id, (name, (scores, rest))), cache)
+        measure_records(self, cache)
     }
 
     fn write_to<S: EncodeSink>(
@@ -91,24 +83,7 @@ impl Message for Person {
         cache: &mut SizeCache,
         sink: &mut S,
     ) -> Result<(), EncodeError> {
-        // What is read is a number of 32 bits.
-        let _id = self.id;
-        let id: Known<Implicit<Int32>> = Known {
-            number: 1,
-            held: &self.id,
-        };
-        let name: Known<Implicit<Text>> = Known {
-            number: 2,
-            held: &self.name,
-        };
-        let scores: Known<Packed<Int32>> = Known {
-            number: 3,
-            held: &self.scores,
-        };
-        let rest = Rest {
-            fields: &self.unknown,
-        };
-        write((id, (name, (scores, rest))), cache, sink)
+        write_records(self, cache, sink)
     }
 
     fn merge_field<B: Buf>(
@@ -118,12 +93,7 @@ impl Message for Person {
         buf: &mut B,
         context: &mut DecodeContext,
     ) -> Result<(), DecodeError> {
-        match tag.field_number() {
-            1 => <Implicit<Int32> as Kind>::merge(alloc, tag, &mut self.id, buf, context),
-            2 => <Implicit<Text> as Kind>::merge(alloc, tag, &mut self.name, buf, context),
-            3 => <Packed<Int32> as Kind>::merge(alloc, tag, &mut self.scores, buf, context),
-            _ => keep(alloc, tag, &mut self.unknown, buf, context),
-        }
+        merge_record(self, alloc, tag, buf, context)
     }
 
     fn clear(&mut self) {
@@ -131,5 +101,93 @@ impl Message for Person {
         <Implicit<Text> as Kind>::clear(&mut self.name);
         <Packed<Int32> as Kind>::clear(&mut self.scores);
         self.unknown.clear();
+    }
+}
+
+// Measures the records, in the order of their numbers and the unknown fields behind.
+#[inline(always)]
+fn measure_records(person: &Person, cache: &mut SizeCache) -> Result<u32, EncodeError>
+    ensures size { IfOk result (λ answer. answer
+        ≡ cut (text_size (person_records (person_value person.now)))) }
+    ensures sizes { OnOk result (cache.new
+        ≡ recorded cache.old (cut_sizes (person_records (person_value person.now)))) }
+    ensures err { IfErr result (λ e. e ≡ OutOfMemory) }
+{
+    // What is read is a number of 32 bits.
+    let _id = person.id;
+    let id: Known<Implicit<Int32>> = Known {
+        number: 1,
+        held: &person.id,
+    };
+    let name: Known<Implicit<Text>> = Known {
+        number: 2,
+        held: &person.name,
+    };
+    let scores: Known<Packed<Int32>> = Known {
+        number: 3,
+        held: &person.scores,
+    };
+    let rest = Rest {
+        fields: &person.unknown,
+    };
+    measure((id, (name, (scores, rest))), cache)
+}
+
+// Writes them in the same order.
+fn write_records<S: EncodeSink>(
+    person: &Person,
+    cache: &mut SizeCache,
+    sink: &mut S,
+) -> Result<(), EncodeError>
+    requires sizes { NextAre (sizes (person_records (person_value person.now))) cache.old }
+    requires size { text_size (person_records (person_value person.now)) ≤ 2147483647 }
+    ensures written { Writes S.most (text (person_records (person_value person.now)))
+        (S.bytes_of sink.old) (S.bytes_of sink.new) result }
+    ensures read { OnOk result (cache.new ≡ advanced cache.old
+        (length (sizes (person_records (person_value person.now))))) }
+{
+    // What is read is a number of 32 bits.
+    let _id = person.id;
+    let id: Known<Implicit<Int32>> = Known {
+        number: 1,
+        held: &person.id,
+    };
+    let name: Known<Implicit<Text>> = Known {
+        number: 2,
+        held: &person.name,
+    };
+    let scores: Known<Packed<Int32>> = Known {
+        number: 3,
+        held: &person.scores,
+    };
+    let rest = Rest {
+        fields: &person.unknown,
+    };
+    write((id, (name, (scores, rest))), cache, sink)
+}
+
+// Takes the record of a tag that was read.
+fn merge_record<B: Buf>(
+    person: &mut Person,
+    alloc: Global,
+    tag: Tag,
+    buf: &mut B,
+    context: &mut DecodeContext,
+) -> Result<(), DecodeError>
+    ensures ok { OnOk result (IsCharged context.old context.new (λ c.
+        TakesRecord PersonTakes context.old (tag_number tag) (tag_type tag)
+        (person_value person.old) (B.unread buf.old) c (person_value person.new)
+        (B.unread buf.new))) }
+    ensures err { IfErr result (λ e. e ≢ errors.OutOfMemory → NotTaken (TakesRecord PersonTakes
+        context.old (tag_number tag) (tag_type tag) (person_value person.old)
+        (B.unread buf.old))) }
+    ensures counts { OnErr result (NoCountGrew context.old context.new) }
+    ensures kept { B.kept buf.new ≡ B.kept buf.old }
+{
+    match tag.field_number() {
+        1 => <Implicit<Int32> as Kind>::merge(alloc, tag, &mut person.id, buf, context),
+        2 => <Implicit<Text> as Kind>::merge(alloc, tag, &mut person.name, buf, context),
+        3 => <Packed<Int32> as Kind>::merge(alloc, tag, &mut person.scores, buf, context),
+        _ => keep(alloc, tag, &mut person.unknown, buf, context),
     }
 }
