@@ -47,10 +47,12 @@ impl<N: Number> Kind for Packed<Numeric<N>> {
         Vec::new(alloc)
     }
 
+    #[inline(always)]
     fn len(number: u32, held: &Vec<N::Value>, _cache: &mut SizeCache) -> Result<u64, EncodeError> {
         Ok(packed_len::<N>(number, held))
     }
 
+    #[inline(always)]
     fn put<E: EncodeSink>(
         number: u32,
         held: &Vec<N::Value>,
@@ -131,6 +133,7 @@ impl<N: Number> Kind for Unpacked<Numeric<N>> {
 }
 
 // How many bytes a packed field takes.
+#[inline(always)]
 fn packed_len<N: Number>(number: u32, values: &[N::Value]) -> u64
     requires { IsFieldNumber number }
     ensures { result ≡ in_64_bits (text_size (packed_records N.form N.map number values.now)) }
@@ -142,6 +145,7 @@ fn packed_len<N: Number>(number: u32, values: &[N::Value]) -> u64
 }
 
 // How many bytes the texts of the values take.
+#[inline(always)]
 fn payload_len<N: Number>(values: &[N::Value]) -> u64
     ensures { result ≡ in_64_bits (length (packed_text N.form N.map values.now)) }
 {

@@ -45,10 +45,12 @@ pub struct Known<'a, K: Kind> {
 impl<'a, K: Kind> Parts for Known<'a, K> {
     ghost records = { λ f. K.kind.records f.number (K.view f.held.now) };
 
+    #[inline(always)]
     fn len(&self, cache: &mut SizeCache) -> Result<u64, EncodeError> {
         K::len(self.number, self.held, cache)
     }
 
+    #[inline(always)]
     fn put<S: EncodeSink>(&self, cache: &mut SizeCache, sink: &mut S) -> Result<(), EncodeError> {
         K::put(self.number, self.held, cache, sink)
     }
@@ -57,6 +59,7 @@ impl<'a, K: Kind> Parts for Known<'a, K> {
 impl<A: Parts, B: Parts> Parts for (A, B) {
     ghost records = { λ p. joined_records (A.records p.0) (B.records p.1) };
 
+    #[inline(always)]
     fn len(&self, cache: &mut SizeCache) -> Result<u64, EncodeError> {
         laws::joined_records_add_up();
         let first = self.0.len(cache)?;
@@ -64,6 +67,7 @@ impl<A: Parts, B: Parts> Parts for (A, B) {
         Ok(first.saturating_add(second))
     }
 
+    #[inline(always)]
     fn put<S: EncodeSink>(&self, cache: &mut SizeCache, sink: &mut S) -> Result<(), EncodeError> {
         laws::joined_records_add_up();
         laws::piece_by_piece();
@@ -81,6 +85,7 @@ pub struct Rest<'a> {
 impl<'a> Parts for Rest<'a> {
     ghost records = { λ r. of_fields r.fields.now };
 
+    #[inline(always)]
     fn len(&self, _cache: &mut SizeCache) -> Result<u64, EncodeError> {
         laws::fields_are_plain();
         match self.fields.encoded_len() {
@@ -89,6 +94,7 @@ impl<'a> Parts for Rest<'a> {
         }
     }
 
+    #[inline(always)]
     fn put<S: EncodeSink>(&self, _cache: &mut SizeCache, sink: &mut S) -> Result<(), EncodeError> {
         laws::fields_are_plain();
         laws::flat_messages_have_no_sizes();
@@ -98,6 +104,7 @@ impl<'a> Parts for Rest<'a> {
 
 /// What `compute_size` of a message answers, by its parts: the size of the text in bytes, cut at
 /// `u32::MAX`. The sizes of embedded messages are recorded. Refused where memory runs out.
+#[inline(always)]
 pub fn measure<P: Parts + Drop>(parts: P, cache: &mut SizeCache) -> Result<u32, EncodeError>
     ensures size { IfOk result (λ answer. answer ≡ cut (text_size (P.records parts))) }
     ensures sizes { OnOk result (cache.new ≡ recorded cache.old (cut_sizes (P.records parts))) }
@@ -108,6 +115,7 @@ pub fn measure<P: Parts + Drop>(parts: P, cache: &mut SizeCache) -> Result<u32, 
 
 /// What `write_to` of a message does, by its parts: writes the text, with the sizes that the cache
 /// has next. Refused where the sink refuses a put.
+#[inline(always)]
 pub fn write<P: Parts + Drop, S: EncodeSink>(
     parts: P,
     cache: &mut SizeCache,

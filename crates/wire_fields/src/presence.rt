@@ -27,6 +27,7 @@ impl<S: Scalar> Kind for Implicit<S> {
         S::empty(alloc)
     }
 
+    #[inline(always)]
     fn len(number: u32, held: &S::Held, _cache: &mut SizeCache) -> Result<u64, EncodeError> {
         laws::fields_are_plain();
         if S::is_default(held) {
@@ -35,6 +36,7 @@ impl<S: Scalar> Kind for Implicit<S> {
         Ok(S::len(number, held))
     }
 
+    #[inline(always)]
     fn put<E: EncodeSink>(
         number: u32,
         held: &S::Held,

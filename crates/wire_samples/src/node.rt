@@ -61,6 +61,7 @@ impl Recursive for Node {
 
     ghost single = { node_leaf.single };
 
+    #[inline(always)]
     fn empty(alloc: Global) -> Node {
         Node {
             value: <Implicit<Sint64> as Kind>::empty(alloc),
@@ -71,10 +72,12 @@ impl Recursive for Node {
         }
     }
 
+    #[inline(always)]
     fn rows() -> usize {
         3
     }
 
+    #[inline(always)]
     fn number(row: usize) -> u32 {
         match row {
             0 => 2,
@@ -83,6 +86,7 @@ impl Recursive for Node {
         }
     }
 
+    #[inline(always)]
     fn place(number: u32) -> Place {
         match number {
             2 => Place::Once(0),
@@ -92,6 +96,7 @@ impl Recursive for Node {
         }
     }
 
+    #[inline(always)]
     fn row(&self, row: usize) -> &[Node] {
         match row {
             0 => {
@@ -111,6 +116,7 @@ impl Recursive for Node {
         }
     }
 
+    #[inline(always)]
     fn take(&mut self, alloc: Global, row: usize) -> Node {
         match row {
             0 => {
@@ -129,6 +135,7 @@ impl Recursive for Node {
         }
     }
 
+    #[inline(always)]
     fn put(&mut self, alloc: Global, row: usize, message: Node) -> Result<(), DecodeError> {
         match row {
             0 => {
@@ -143,6 +150,7 @@ impl Recursive for Node {
         }
     }
 
+    #[inline(always)]
     fn push(&mut self, row: usize, message: Node) -> Result<(), DecodeError> {
         match row {
             1 => push_message(&mut self.children, message),
@@ -150,6 +158,7 @@ impl Recursive for Node {
         }
     }
 
+    #[inline(always)]
     fn run_len(&self, run: usize, cache: &mut SizeCache) -> Result<u64, EncodeError> {
         match run {
             0 => {
@@ -170,6 +179,7 @@ impl Recursive for Node {
         }
     }
 
+    #[inline(always)]
     fn put_run<S: EncodeSink>(
         &self,
         run: usize,
@@ -195,6 +205,7 @@ impl Recursive for Node {
         }
     }
 
+    #[inline(always)]
     fn merge_leaf<B: Buf>(
         &mut self,
         alloc: Global,

@@ -20,6 +20,7 @@ use wire_codec::{
 
 /// What `merge_field` of a message that holds itself does.
 #[cycle(merge)]
+#[inline(always)]
 pub fn merge_nest<T: Recursive, B: Buf>(
     message: &mut T,
     alloc: Global,
@@ -88,6 +89,7 @@ fn merge_embedded<T: Recursive, B: Buf>(
 
 // Takes a level, and reads the length of an embedded message: answers how many bytes stand behind
 // its payload.
+#[inline(always)]
 fn enter_payload<T: Recursive, B: Buf>(
     buf: &mut B,
     context: &mut DecodeContext,
