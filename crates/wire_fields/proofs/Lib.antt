@@ -14,3 +14,4 @@ pub mod Putting
 pub mod Reading
 pub mod Repeating
 pub mod Scalars
+pub mod TextSizes

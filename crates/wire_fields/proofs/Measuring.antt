@@ -1,9 +1,10 @@
 -- Records measured part by part.
-use Rattle.std.proofs.Common.{◌≡◌, ℕ, ◌+◌, ◌-◌, ◌^◌, min, List, [], ◌∷◌, ◌++◌, length, map}
+use Rattle.std.proofs.Common.{◌≡◌, inl, inr, ℕ, ◌+◌, ◌-◌, ◌^◌, min, List, [], ◌∷◌, ◌++◌, length, map}
 use Rattle.std.proofs.Common.{refl, sym, ap, ◌∙◌, append_assoc, arith, length-append}
 use Rattle.std.proofs.lemmas.List.{append-nil, map-append}
 use Rattle.std.proofs.Math.Seq.{set-append_seam}
-use Rattle.std.specs.Prelude.{slice_set}
+use Rattle.std.specs.Prelude.{slice_set, true, false, ◌==◌}
+use Rattle.std.proofs.lemmas.Bool.Decides.{eqb_tells}
 use Rattle.wire_codec.specs.Laws.{JoinedAddsUp}
 use Rattle.wire_codec.specs.Records.{Records, none, field, embedded, group, joined_records}
 use Rattle.wire_codec.specs.Records.{text_size, text}
@@ -12,6 +13,7 @@ use Rattle.wire_codec.specs.Tag.{tag_text}
 use Rattle.wire_codec.specs.Tape.{Tape, recorded}
 use Rattle.wire_codec.specs.Varint.{shortest_varint}
 use Rattle.wire_codec.specs.WireType.TheVariants.{LengthDelimited, StartGroup, EndGroup}
+use Rattle.wire_fields.specs.Messages.{Encoding, message_each}
 use Rattle.wire_fields.specs.Numbers.{in_64_bits, delimited_size}
 use Rattle.wire_fields.specs.Measuring.{Measures}
 
@@ -76,6 +78,28 @@ unsized rs t len flat is = record {
 }
 
 -- ---- embedded messages and groups
+
+-- no messages have no records
+pub no_messages : {T V : Type 0} (encoding : Encoding) (records : V → Records) (view : T → V)
+    (n : ℕ) (ms : List T) → (length ms == 0) ≡ true
+    → message_each encoding records n (map view ms) ≡ none
+no_messages encoding records view n [] empty = refl
+no_messages encoding records view n (m ∷ ms) empty = elim (eqb_tells (length (m ∷ ms)) 0) [
+  | inl e ↦ absurd (omega (arith, e.1))
+  | inr e ↦ absurd (true_false (sym empty ∙ e.0))
+]
+  where
+    true_false : true ≡ false → ⊥
+    true_false e = cc
+
+pub no_messages_measured : {T V : Type 0} (encoding : Encoding) (records : V → Records)
+    (view : T → V) (n : ℕ) (ms : List T) (t : Tape) → (length ms == 0) ≡ true
+    → Measures (message_each encoding records n (map view ms)) t t 0
+no_messages_measured encoding records view n ms t empty =
+    rw (no_messages encoding records view n ms empty) (record {
+      size = refl;
+      sizes = nothing_recorded t;
+    })
 
 -- the slot is set after the sizes inside are recorded
 slot_set : (t : Tape) (slot len : ℕ) (inner : List ℕ) → slot ≡ length t.sizes

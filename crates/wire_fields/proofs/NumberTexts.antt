@@ -16,6 +16,7 @@ use Rattle.wire_fields.specs.declared.form.Form.{Form}
 use Rattle.wire_fields.specs.Numbers.{in_64_bits}
 use Rattle.wire_fields.specs.Packed.{IsNumberText, number_text, packed_text, packed_records}
 use Rattle.wire_fields.specs.Packed.{OneText, some_bytes}
+use Rattle.wire_fields.proofs.TextSizes.{some_text}
 
 -- ---- written
 
@@ -29,30 +30,49 @@ module _ {T : Type 0} (form : Form) (values : ValueMap T) where
       (ap (λ (x : T). x ∷ drop (suc i) vs) (sym is)) in
       ap (packed_text form values) front
 
-  -- one number more is counted
-  pub counted_more : (vs : List T) (i len one next : ℕ) (v : T) → i < length vs
-      → v ≡ get_or vs i v → one ≡ length (number_text form (values.enc v))
-      → next ≡ min (len + one) (2 ^ 64 - 1)
-      → in_64_bits (next + length (packed_text form values (drop (i + 1) vs)))
-      ≡ in_64_bits (len + length (packed_text form values (drop i vs)))
-  counted_more vs i len one next v more is size sum =
+  -- the bytes beyond the first of each
+  abbrev pub beyond_first : List T → ℕ
+  beyond_first [] = 0
+  beyond_first (v ∷ vs) = (length (number_text form (values.enc v)) - 1) + beyond_first vs
+
+  pub all_bytes : (vs : List T)
+      → length (packed_text form values vs) ≡ length vs + beyond_first vs
+  all_bytes [] = refl
+  all_bytes (v ∷ vs) =
       omega (
         arith,
-        ap length (next_number vs i v more is),
-        length-append (number_text form (values.enc v)) (packed_text form values (drop (i + 1) vs)),
-        size,
-        sum,
+        length-append (number_text form (values.enc v)) (packed_text form values vs),
+        all_bytes vs,
+        some_text form (values.enc v),
       )
+
+  next_beyond : (vs : List T) (i : ℕ) (v : T) → i < length vs → v ≡ get_or vs i v
+      → beyond_first (drop i vs)
+      ≡ (length (number_text form (values.enc v)) - 1) + beyond_first (drop (i + 1) vs)
+  next_beyond vs i v more is =
+      let front : drop i vs ≡ v ∷ drop (i + 1) vs = rw (add-one, drop-cons vs i v)
+      (ap (λ (x : T). x ∷ drop (suc i) vs) (sym is)) in
+      ap beyond_first front
+
+  -- one number more is counted
+  pub counted_more : (vs : List T) (i len beyond next : ℕ) (v : T) → i < length vs
+      → v ≡ get_or vs i v → beyond + 1 ≡ length (number_text form (values.enc v))
+      → next ≡ min (len + beyond) (2 ^ 64 - 1)
+      → in_64_bits (next + beyond_first (drop (i + 1) vs))
+      ≡ in_64_bits (len + beyond_first (drop i vs))
+  counted_more vs i len beyond next v more is size sum =
+      omega (arith, next_beyond vs i v more is, size, sum)
 
   -- no number is left
   pub no_number : (vs : List T) (i : ℕ) → length vs ≤ i → packed_text form values (drop i vs) ≡ []
   no_number vs i all = ap (packed_text form values) (drop_all i vs all)
 
   pub counted_all : (vs : List T) (i len : ℕ) → length vs ≤ i → len < 2 ^ 64
-      → in_64_bits (len + length (packed_text form values (drop i vs)))
+      → in_64_bits (len + beyond_first (drop i vs))
       ≡ in_64_bits (length (packed_text form values vs))
       → len ≡ in_64_bits (length (packed_text form values vs))
-  counted_all vs i len all fits is = omega (arith, ap length (no_number vs i all))
+  counted_all vs i len all fits is =
+      omega (arith, is, ap beyond_first (drop_all i vs all))
 
   -- the header, and then the numbers
   some_parts : (n len : ℕ) (v : T) (vs : List T) → len ≡ length (packed_text form values (v ∷ vs))

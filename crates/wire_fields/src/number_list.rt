@@ -1,5 +1,5 @@
 //! Texts of numbers, one after another.
-ghost use Rattle.std.specs.Prelude.{◌≡◌, ◌≢◌, ◌≤◌, ◌<◌, ◌^◌, ℕ, List, length, take, drop, OnOk, OnErr, IfOk, IfErr};
+ghost use Rattle.std.specs.Prelude.{◌≡◌, ◌+◌, ◌≢◌, ◌≤◌, ◌<◌, ◌^◌, ℕ, List, length, take, drop, OnOk, OnErr, IfOk, IfErr};
 ghost use Rattle.wire_codec.specs.DecodeError.TheVariants.{OutOfMemory};
 ghost use Rattle.wire_codec.specs.Packed.{Appends};
 ghost use Rattle.wire_codec.specs.Read.{Reads};
@@ -16,14 +16,20 @@ use wire_codec::{
     decode_varint, encode_fixed32, encode_fixed64, encode_varint, laws, take_bytes, varint_len,
 };
 
-/// How many bytes the text of this number has.
-pub(crate) fn number_text_len(form: Form, x: u64) -> u64
-    ensures { result ≡ length (number_text form x) }
+/// How many bytes the text of this number has beyond its first.
+#[inline(always)]
+pub(crate) fn len_beyond_first(form: Form, x: u64) -> u64
+    ensures { result + 1 ≡ length (number_text form x) }
 {
     match form {
-        Form::Varint => varint_len(x) as u64,
-        Form::Fixed64 => 8,
-        Form::Fixed32 => 4,
+        Form::Varint => {
+            if x < 0x80 {
+                return 0;
+            }
+            varint_len(x) as u64 - 1
+        }
+        Form::Fixed64 => 7,
+        Form::Fixed32 => 3,
     }
 }
 

@@ -13,7 +13,7 @@ ghost use Rattle.wire_fields.specs.Presence.{each_record};
 
 use crate::kind::Kind;
 use crate::number::{Number, get_number};
-use crate::number_list::{extend_from, number_text_len, put_number_text};
+use crate::number_list::{extend_from, len_beyond_first, put_number_text};
 use crate::repeated::{each_len, put_each};
 use crate::scalar::{Numeric, Scalar};
 use crate::text::delimited_len;
@@ -144,15 +144,15 @@ fn packed_len<N: Number>(number: u32, values: &[N::Value]) -> u64
     delimited_len(number, payload_len::<N>(values))
 }
 
-// How many bytes the texts of the values take.
+// How many bytes the texts of the values take: one each, and those beyond it.
 #[inline(always)]
 fn payload_len<N: Number>(values: &[N::Value]) -> u64
     ensures { result ≡ in_64_bits (length (packed_text N.form N.map values.now)) }
 {
     let form = N::form();
-    let mut len = 0u64;
+    let mut len = values.len() as u64;
     for value in values {
-        len = len.saturating_add(number_text_len(form, N::number_of(*value)));
+        len = len.saturating_add(len_beyond_first(form, N::number_of(*value)));
     }
     len
 }

@@ -35,9 +35,30 @@ pub fn nest_size<T: Recursive>(message: &T, cache: &mut SizeCache) -> Result<u32
     Ok(saturate_size(size))
 }
 
-// How many bytes the records of a row take.
+// How many bytes the records of a row take. A row of no messages is passed over in place.
 #[cycle(size)]
+#[inline(always)]
 fn row_len<T: Recursive>(
+    number: u32,
+    grouped: bool,
+    messages: &[T],
+    cache: &mut SizeCache,
+) -> Result<u64, EncodeError>
+    requires { IsFieldNumber number }
+    ensures ok { IfOk result (λ len. Measures (message_each (encoding_of grouped)
+        (nest_records T.table) number (map T.view messages.now)) cache.old cache.new len) }
+    ensures err { IfErr result (λ e. e ≡ OutOfMemory) }
+{
+    if messages.is_empty() {
+        return Ok(0);
+    }
+    each_len(number, grouped, messages, cache)
+}
+
+// How many bytes the records of the messages take.
+#[cycle(size)]
+#[inline(never)]
+fn each_len<T: Recursive>(
     number: u32,
     grouped: bool,
     messages: &[T],

@@ -41,9 +41,37 @@ pub fn write_nest<T: Recursive, S: EncodeSink>(
     Ok(())
 }
 
-// Writes the records of a row.
+// Writes the records of a row. A row of no messages is passed over in place.
 #[cycle(write)]
+#[inline(always)]
 fn put_row<T: Recursive, S: EncodeSink>(
+    number: u32,
+    grouped: bool,
+    messages: &[T],
+    cache: &mut SizeCache,
+    sink: &mut S,
+) -> Result<(), EncodeError>
+    requires number { IsFieldNumber number }
+    requires sizes { NextAre (sizes (message_each (encoding_of grouped) (nest_records T.table)
+        number (map T.view messages.now))) cache.old }
+    requires size { text_size (message_each (encoding_of grouped) (nest_records T.table) number
+        (map T.view messages.now)) ≤ 2147483647 }
+    ensures written { Writes S.most (text (message_each (encoding_of grouped)
+        (nest_records T.table) number (map T.view messages.now))) (S.bytes_of sink.old)
+        (S.bytes_of sink.new) result }
+    ensures read { OnOk result (cache.new ≡ advanced cache.old (length (sizes (message_each
+        (encoding_of grouped) (nest_records T.table) number (map T.view messages.now))))) }
+{
+    if messages.is_empty() {
+        return Ok(());
+    }
+    put_each(number, grouped, messages, cache, sink)
+}
+
+// Writes the records of the messages.
+#[cycle(write)]
+#[inline(never)]
+fn put_each<T: Recursive, S: EncodeSink>(
     number: u32,
     grouped: bool,
     messages: &[T],

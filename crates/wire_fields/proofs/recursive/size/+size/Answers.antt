@@ -1,7 +1,7 @@
-use Rattle.std.proofs.Common.{◌<◌, ◌∙◌, ap, map, rules, arith}
+use Rattle.std.proofs.Common.{◌<◌, ◌∙◌, ap, sym, map, rules, arith}
 use Rattle.wire_fields.specs.Nest.{nodes, all_nodes, row_count, row_less, item_less}
-use Rattle.wire_fields.specs.NestTable.{is_grouped}
-use Rattle.wire_fields.proofs.Measuring.{embedded_measured, more}
+use Rattle.wire_fields.specs.NestTable.{is_grouped, encoding_of, nest_records}
+use Rattle.wire_fields.proofs.Measuring.{embedded_measured, more, no_messages_measured}
 use Rattle.wire_fields.proofs.Nests.{next_row, next_run, no_rows, measured_all}
 use Rattle.wire_fields.proofs.recursive.size.+size.Goals as goal
 
@@ -11,8 +11,14 @@ embedded_len-returns-clause-ok g t c =
     c.in_ok-slot.ensures.slot c.in_ok-len.ensures.sizes c.in_ok-len.ensures.size c.set.ensures
     c.from.ensures c.delimited_len.ensures
 
-pub row_len-message_len-requires : goal.row_len-message_len-requires
-row_len-message_len-requires g t c κs within =
+pub row_len-returns-then-is_empty-clause-ok : goal.row_len-returns-then-is_empty-clause-ok
+row_len-returns-then-is_empty-clause-ok g t c =
+    no_messages_measured (encoding_of c.args.grouped) (nest_records g.T.Recursive.table)
+    g.T.Recursive.view c.args.number c.args.messages.now c.args.cache.now
+    (sym c.is_empty.ensures ∙ c.if-is_empty.true)
+
+pub each_len-message_len-requires : goal.each_len-message_len-requires
+each_len-message_len-requires g t c κs within =
     let less = item_less g.T.Recursive.view c.args.messages.now _ _ c.loop-message-test.true
     c.message-item.is in
     (omega (arith, less), (search rules, c.requires))

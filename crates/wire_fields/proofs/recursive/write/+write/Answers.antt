@@ -68,8 +68,8 @@ put_grouped-returns-clause-written g t c =
 
 -- ---- a row
 
-pub put_row-put_message-requires : goal.put_row-put_message-requires
-put_row-put_message-requires g t c κs within =
+pub put_each-put_message-requires : goal.put_each-put_message-requires
+put_each-put_message-requires g t c κs within =
     let less = item_less g.T.Recursive.view c.args.messages.now _ _ c.loop-message-test.true
     c.message-item.is in
     let joins = c.joined_records_add_up.ensures in
@@ -92,9 +92,9 @@ put_row-put_message-requires g t c κs within =
       ),
     )
 
-pub put_row-returns-in_err-put_message-clause-written :
-    goal.put_row-returns-in_err-put_message-clause-written
-put_row-returns-in_err-put_message-clause-written g t c =
+pub put_each-returns-in_err-put_message-clause-written :
+    goal.put_each-returns-in_err-put_message-clause-written
+put_each-returns-in_err-put_message-clause-written g t c =
     let p = err_from_is_err_and c.from_residual.result c.from_residual.ensures.1 in
     rw (p.1, p.2) (put.refused c.joined_records_add_up.ensures _ _ _ _ _ _ _ _ _
     c.loop-message.invariant (next_message (encoding_of c.args.grouped) (nest_records g.T.Recursive.table)
@@ -102,8 +102,8 @@ put_row-returns-in_err-put_message-clause-written g t c =
     c.loop-message-test.true c.message-item.is) c.piece_by_piece.ensures _ _
     c.in_err-put_message.ensures.written)
 
-pub put_row-loop-message-preserved : goal.put_row-loop-message-preserved
-put_row-loop-message-preserved g t c =
+pub put_each-loop-message-preserved : goal.put_each-loop-message-preserved
+put_each-loop-message-preserved g t c =
     put.more c.joined_records_add_up.ensures _ _ _ _ _ _ _ _ _ c.loop-message.invariant
     (next_message (encoding_of c.args.grouped) (nest_records g.T.Recursive.table) g.T.Recursive.view
     c.args.number c.args.messages.now c.loop-message.message-index _ c.loop-message-test.true

@@ -9,19 +9,22 @@ use Rattle.wire_fields.proofs.recursive.write.+write.Given as goal
 -- ---- a message inside has fewer messages in it
 
 abbrev pub decreases-write_nest : goal.decreases-write_nest
-decreases-write_nest g l = 4 * nodes (g.T.Recursive.view l.message.now)
+decreases-write_nest g l = 5 * nodes (g.T.Recursive.view l.message.now)
 
 abbrev pub decreases-put_embedded : goal.decreases-put_embedded
-decreases-put_embedded g l = 4 * nodes (g.T.Recursive.view l.message.now) + 1
+decreases-put_embedded g l = 5 * nodes (g.T.Recursive.view l.message.now) + 1
 
 abbrev pub decreases-put_grouped : goal.decreases-put_grouped
-decreases-put_grouped g l = 4 * nodes (g.T.Recursive.view l.message.now) + 1
+decreases-put_grouped g l = 5 * nodes (g.T.Recursive.view l.message.now) + 1
 
 abbrev pub decreases-put_message : goal.decreases-put_message
-decreases-put_message g l = 4 * nodes (g.T.Recursive.view l.message.now) + 2
+decreases-put_message g l = 5 * nodes (g.T.Recursive.view l.message.now) + 2
 
 abbrev pub decreases-put_row : goal.decreases-put_row
-decreases-put_row g l = 4 * all_nodes (map g.T.Recursive.view l.messages.now) + 3
+decreases-put_row g l = 5 * all_nodes (map g.T.Recursive.view l.messages.now) + 4
+
+abbrev pub decreases-put_each : goal.decreases-put_each
+decreases-put_each g l = 5 * all_nodes (map g.T.Recursive.view l.messages.now) + 3
 
 -- ---- the rows so far, and the messages of a row so far, are written
 
@@ -32,8 +35,8 @@ invariant-write_nest-loop-row g l =
     (left_at g.T.Recursive.table (g.T.Recursive.view l.fn.message) l.row) l.fn.cache l.cache
     (g.S.EncodeSink.bytes_of l.fn.sink) (g.S.EncodeSink.bytes_of l.sink)
 
-abbrev pub invariant-put_row-loop-message : goal.invariant-put_row-loop-message
-invariant-put_row-loop-message g l =
+abbrev pub invariant-put_each-loop-message : goal.invariant-put_each-loop-message
+invariant-put_each-loop-message g l =
     let each = message_each (encoding_of l.fn.grouped) (nest_records g.T.Recursive.table)
     l.fn.number in
     IsPutTo g.S.EncodeSink.most (each (map g.T.Recursive.view l.fn.messages))
