@@ -226,6 +226,10 @@ fn variant_of(
     set_always(sort, &mut words);
     set_types(false, &mut words);
     words.set("variant", &type_name(words.alloc(), &field.name)?);
+    // (a clause has one name for one thing)
+    if words.get("kind").starts_with("Enum<") && words.get("variant") == words.get("of_name") {
+        words.append("variant", "_");
+    }
     words.fill_all(&[("word", "$field$"), ("digits", "$number$")]);
     Ok(words)
 }
