@@ -26,7 +26,7 @@ use Rattle.wire_well_known.specs.NullValue.{null_value-number, null_value-of}
 use Rattle.wire_well_known.specs.declared.null_value.NullValue.{NullValue}
 use Rattle.wire_well_known.specs.declared.value_kind.ValueKind.{ValueKind}
 use Rattle.wire_well_known.specs.declared.value_kind.ValueKind.TheVariants.{BoolValue, ListValue}
-use Rattle.wire_well_known.specs.declared.value_kind.ValueKind.TheVariants.{NullValue, NumberValue}
+use Rattle.wire_well_known.specs.declared.value_kind.ValueKind.TheVariants.{NullValue_, NumberValue}
 use Rattle.wire_well_known.specs.declared.value_kind.ValueKind.TheVariants.{StringValue}
 use Rattle.wire_well_known.specs.declared.value_kind.ValueKind.TheVariants.{StructValue}
 
@@ -35,7 +35,7 @@ ValueKind-Value = Option ((EnumValue NullValue) ⊎ (DoubleBits ⊎ ((List ℕ) 
 
 abbrev pub value_kind-of : Option ValueKind → ValueKind-Value
 value_kind-of None = None
-value_kind-of (Some (NullValue x)) = Some (inl x)
+value_kind-of (Some (NullValue_ x)) = Some (inl x)
 value_kind-of (Some (NumberValue x)) = Some (inr (inl x))
 value_kind-of (Some (StringValue x)) = Some (inr (inr (inl (string_bytes x))))
 value_kind-of (Some (BoolValue x)) = Some (inr (inr (inr (inl x))))

@@ -44,7 +44,7 @@ use wire_fields::{Always, Blob, Bool, Double, DoubleBits, Enum, Kind, Text};
 /// One of these, where one is there.
 #[derive(Clone, Debug, Drop, PartialEq)]
 pub enum ValueKind {
-    NullValue(EnumValue<NullValue>),
+    NullValue_(EnumValue<NullValue>),
     NumberValue(DoubleBits),
     StringValue(String),
     BoolValue(bool),
@@ -79,7 +79,7 @@ impl Kind for ValueKindKind {
     ) -> Result<u64, EncodeError> {
         laws::flat_messages_have_no_sizes();
         match held {
-            Some(ValueKind::NullValue(value)) => {
+            Some(ValueKind::NullValue_(value)) => {
                 <Always<Enum<NullValue>> as Kind>::len(1, value, cache)
             }
             Some(ValueKind::NumberValue(value)) => <Always<Double> as Kind>::len(2, value, cache),
@@ -99,7 +99,7 @@ impl Kind for ValueKindKind {
     ) -> Result<(), EncodeError> {
         laws::flat_messages_have_no_sizes();
         match held {
-            Some(ValueKind::NullValue(value)) => {
+            Some(ValueKind::NullValue_(value)) => {
                 <Always<Enum<NullValue>> as Kind>::put(1, value, cache, sink)
             }
             Some(ValueKind::NumberValue(value)) => {
@@ -160,7 +160,7 @@ fn merge_null_value<B: Buf>(
 {
     let mut value = take_null_value(alloc, held);
     <Always<Enum<NullValue>> as Kind>::merge(alloc, tag, &mut value, buf, context)?;
-    *held = Some(ValueKind::NullValue(value));
+    *held = Some(ValueKind::NullValue_(value));
     Ok(())
 }
 
@@ -171,7 +171,7 @@ fn take_null_value(alloc: Global, held: &mut Option<ValueKind>) -> EnumValue<Nul
         (null_value-of-value_kind-as (value_kind-of held.old)) }
 {
     match held.take() {
-        Some(ValueKind::NullValue(value)) => value,
+        Some(ValueKind::NullValue_(value)) => value,
         _ => <Always<Enum<NullValue>> as Kind>::empty(alloc),
     }
 }
