@@ -120,10 +120,12 @@ group_start : (m : NodeValue) → one_of node_table 2 (as_nest m) ≡ as_nest (o
 group_start (node v kid kids absent fs) = refl
 group_start (node v kid kids (present m) fs) = refl
 
-child_put : (m z : NodeValue) → with_one node_table 0 (as_nest m) (as_nest z) ≡ as_nest (with_child m z)
+child_put : (m z : NodeValue)
+    → with_one node_table 0 (as_nest m) (as_nest z) ≡ as_nest (with_child m z)
 child_put (node v kid kids own fs) z = refl
 
-group_put : (m z : NodeValue) → with_one node_table 2 (as_nest m) (as_nest z) ≡ as_nest (with_group m z)
+group_put : (m z : NodeValue)
+    → with_one node_table 2 (as_nest m) (as_nest z) ≡ as_nest (with_group m z)
 group_put (node v kid kids own fs) z = refl
 
 row_more : (ms : NodeList) (z : NodeValue)
@@ -138,7 +140,8 @@ another_put (node v kid kids own fs) z =
 
 -- ---- the children, as they are held
 
-pub list_listed : (ns : List Node) → nests.listed (list_row (listed (map node_value ns))) ≡ map node_nest ns
+pub list_listed : (ns : List Node)
+    → nests.listed (list_row (listed (map node_value ns))) ≡ map node_nest ns
 list_listed [] = refl
 list_listed (n ∷ ns) = ap (λ (ms : List NodeNest). node_nest n ∷ ms) (list_listed ns)
 
@@ -272,7 +275,7 @@ module _ (step : Step NodeNest) (back : StepBack step) where
 
   at_value : (m : NodeValue) (p : Payload) (c : Charge) (y : NodeNest)
       → level node_table step (as_nest m) 1 p c y → Made y (NodeTakes m 1 p c)
-  at_value (node w kid kids own fs) p c (nest l rows) ((((charged, made), same)), rows_is) = record {
+  at_value (node w kid kids own fs) p c (nest l rows) (((charged, made), same), rows_is) = record {
     value = node l.0 kid kids own fs;
     is = same_nest (nest l rows) (as_nest (node l.0 kid kids own fs))
         (same_pair l (l.0, fs) refl same) rows_is;

@@ -9,13 +9,16 @@ ghost use Rattle.wire_codec.specs.TagView.{tag_number, tag_type};
 ghost use Rattle.wire_codec.specs.Taking.{TakesRecord, IsCharged, NotTaken};
 ghost use Rattle.wire_codec.specs.Tape.{NextAre, advanced, recorded};
 ghost use Rattle.wire_codec.specs.Writes.{Writes};
+ghost use Rattle.wire_codec.specs.ValueMap.{int32};
+ghost use Rattle.wire_fields.specs.Packed.{adds_numbers};
+ghost use Rattle.wire_fields.specs.declared.form.Form.TheVariants.{Varint};
 ghost use Rattle.wire_samples.specs.Person.{PersonTakes, person_records, person_value};
 
 use bytes::Buf;
 use std::alloc::Global;
 use wire_codec::{
     DecodeContext, DecodeError, EncodeError, EncodeSink, Message, MessageName, SizeCache, Tag,
-    UnknownFields,
+    UnknownFields, WireType, wire_type_mismatch,
 };
 use wire_fields::{Implicit, Int32, Kind, Known, Packed, Rest, Text, keep, measure, write};
 
@@ -187,7 +190,42 @@ fn merge_record<B: Buf>(
     match tag.field_number() {
         1 => <Implicit<Int32> as Kind>::merge(alloc, tag, &mut person.id, buf, context),
         2 => <Implicit<Text> as Kind>::merge(alloc, tag, &mut person.name, buf, context),
-        3 => <Packed<Int32> as Kind>::merge(alloc, tag, &mut person.scores, buf, context),
+        3 => merge_scores(alloc, tag, &mut person.scores, buf, context),
         _ => keep(alloc, tag, &mut person.unknown, buf, context),
+    }
+}
+
+// Takes a record of the scores, which are said to want a length where they have another type.
+fn merge_scores<B: Buf>(
+    alloc: Global,
+    tag: Tag,
+    scores: &mut Vec<i32>,
+    buf: &mut B,
+    context: &mut DecodeContext,
+) -> Result<(), DecodeError>
+    ensures ok { OnOk result (IsCharged context.old context.new (λ c.
+        TakesRecord (adds_numbers Varint int32) context.old (tag_number tag) (tag_type tag)
+        scores.old.items (B.unread buf.old) c scores.new.items (B.unread buf.new))) }
+    ensures err { IfErr result (λ e. e ≢ errors.OutOfMemory → NotTaken
+        (TakesRecord (adds_numbers Varint int32) context.old (tag_number tag) (tag_type tag)
+        scores.old.items (B.unread buf.old))) }
+    ensures counts { OnErr result (NoCountGrew context.old context.new) }
+    ensures kept { B.kept buf.new ≡ B.kept buf.old }
+{
+    match <Packed<Int32> as Kind>::merge(alloc, tag, scores, buf, context) {
+        Ok(()) => Ok(()),
+        Err(error) => Err(wanting_length(tag, error)),
+    }
+}
+
+// What is said of another wire type.
+fn wanting_length(tag: Tag, error: DecodeError) -> DecodeError
+    ensures { error ≡ errors.OutOfMemory → result ≡ errors.OutOfMemory }
+{
+    match error {
+        DecodeError::WireTypeMismatch { .. } => {
+            wire_type_mismatch(tag, WireType::LengthDelimited)
+        }
+        error => error,
     }
 }

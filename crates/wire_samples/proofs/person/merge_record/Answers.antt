@@ -42,15 +42,15 @@ pub returns-in-3-clause-ok : goal.returns-in-3-clause-ok
 returns-in-3-clause-ok g c =
     arm_ok PersonTakes (adds_numbers Varint int32) 3 _
     (sym c.field_number.ensures.number ∙ c.in-3.is) (person_value c.args.person.now) _ _ _
-    (scores_taken (person_value c.args.person.now) _) _ _ _ _ _ c.merge-in-3.result
-    c.merge-in-3.ensures.ok
+    (scores_taken (person_value c.args.person.now) _) _ _ _ _ _ c.merge_scores.result
+    c.merge_scores.ensures.ok
 
 pub returns-in-3-clause-err : goal.returns-in-3-clause-err
 returns-in-3-clause-err g c =
     arm_err PersonTakes (adds_numbers Varint int32) 3 _
     (sym c.field_number.ensures.number ∙ c.in-3.is) (person_value c.args.person.now) _
-    (scores_back (person_value c.args.person.now)) _ _ _ c.merge-in-3.result
-    c.merge-in-3.ensures.err
+    (scores_back (person_value c.args.person.now)) _ _ _ c.merge_scores.result
+    c.merge_scores.ensures.err
 
 pub returns-in_default-clause-ok : goal.returns-in_default-clause-ok
 returns-in_default-clause-ok g c =
