@@ -1,29 +1,16 @@
 -- A `CodeGeneratorResponseFile` as contracts see it, and the table of its fields. Generated.
-use Rattle.std.proofs.Common.{arith, refl}
 use Rattle.std.specs.Prelude.{List, string_bytes, ℕ}
 use Rattle.wire_codec.specs.Field.{Fields}
 use Rattle.wire_descriptor.specs.declared.code_generator_response_file.CodeGeneratorResponseFile.{CodeGeneratorResponseFile}
-use Rattle.wire_fields.specs.Grounds.{Grounds, string_back}
 use Rattle.wire_fields.specs.Presence.{implicit}
-use Rattle.wire_fields.specs.Ranges.{Range, others_range, pair_range, string_range}
-use Rattle.wire_fields.specs.Returned.{Returned, implicit_returned, known_returned, two_returned}
-use Rattle.wire_fields.specs.Returned.{whole_returned}
 use Rattle.wire_fields.specs.Shape.{Lawful, Shape, known, two, unknown}
 use Rattle.wire_fields.specs.Texts.{string}
 
 abbrev pub code_generator_response_file-name-kind : Lawful (List ℕ)
 code_generator_response_file-name-kind = implicit string
 
-abbrev pub code_generator_response_file-name-range : Range (List ℕ)
-code_generator_response_file-name-range =
-    string_range
-
 abbrev pub code_generator_response_file-content-kind : Lawful (List ℕ)
 code_generator_response_file-content-kind = implicit string
-
-abbrev pub code_generator_response_file-content-range : Range (List ℕ)
-code_generator_response_file-content-range =
-    string_range
 
 abbrev pub CodeGeneratorResponseFile-Known : Type 0
 CodeGeneratorResponseFile-Known =
@@ -55,22 +42,3 @@ code_generator_response_file-known =
 
 abbrev pub code_generator_response_file-shape : Shape CodeGeneratorResponseFile-Value
 code_generator_response_file-shape = two code_generator_response_file-known unknown
-
--- what is read back once it is written
-abbrev pub code_generator_response_file-range : Range CodeGeneratorResponseFile-Value
-code_generator_response_file-range =
-    pair_range (pair_range (code_generator_response_file-name-range)
-    (code_generator_response_file-content-range))
-    (others_range code_generator_response_file-known.owns)
-
-pub code_generator_response_file-returned : Grounds → Returned code_generator_response_file-shape code_generator_response_file-range
-code_generator_response_file-returned g =
-    whole_returned g
-    (two_returned g
-    (known_returned g 1 code_generator_response_file-name-kind code_generator_response_file-name-range
-    (omega arith) (omega arith)
-    (implicit_returned g _ _ string_back))
-    (known_returned g 15 code_generator_response_file-content-kind code_generator_response_file-content-range
-    (omega arith) (omega arith)
-    (implicit_returned g _ _ string_back))
-    (λ n p h. rw h refl))

@@ -1,47 +1,25 @@
 -- A `EnumDescriptorProto` as contracts see it, and the table of its fields. Generated.
-use Rattle.std.proofs.Common.{arith, refl}
 use Rattle.std.specs.Prelude.{List, Option, map, string_bytes, ℕ}
 use Rattle.wire_codec.specs.Field.{Fields}
-use Rattle.wire_descriptor.specs.EnumOptions.{EnumOptions-Value, enum_options-range}
-use Rattle.wire_descriptor.specs.EnumOptions.{enum_options-returned, enum_options-shape}
+use Rattle.wire_descriptor.specs.EnumOptions.{EnumOptions-Value, enum_options-shape}
 use Rattle.wire_descriptor.specs.EnumOptions.{enum_options-value}
 use Rattle.wire_descriptor.specs.EnumValueDescriptorProto.{EnumValueDescriptorProto-Value}
-use Rattle.wire_descriptor.specs.EnumValueDescriptorProto.{enum_value_descriptor_proto-range}
-use Rattle.wire_descriptor.specs.EnumValueDescriptorProto.{enum_value_descriptor_proto-returned}
 use Rattle.wire_descriptor.specs.EnumValueDescriptorProto.{enum_value_descriptor_proto-shape}
 use Rattle.wire_descriptor.specs.EnumValueDescriptorProto.{enum_value_descriptor_proto-value}
 use Rattle.wire_descriptor.specs.declared.enum_descriptor_proto.EnumDescriptorProto.{EnumDescriptorProto}
-use Rattle.wire_fields.specs.Grounds.{Grounds, string_back}
 use Rattle.wire_fields.specs.Messages.{boxed_value, embedded_each, embedded_once}
 use Rattle.wire_fields.specs.Presence.{implicit}
-use Rattle.wire_fields.specs.Ranges.{Range, each_range, once_range, others_range, pair_range}
-use Rattle.wire_fields.specs.Ranges.{string_range}
-use Rattle.wire_fields.specs.Returned.{Returned, embedded_each_returned, embedded_once_returned}
-use Rattle.wire_fields.specs.Returned.{implicit_returned, known_returned, two_returned}
-use Rattle.wire_fields.specs.Returned.{whole_returned}
 use Rattle.wire_fields.specs.Shape.{Lawful, Shape, known, two, unknown}
 use Rattle.wire_fields.specs.Texts.{string}
 
 abbrev pub enum_descriptor_proto-name-kind : Lawful (List ℕ)
 enum_descriptor_proto-name-kind = implicit string
 
-abbrev pub enum_descriptor_proto-name-range : Range (List ℕ)
-enum_descriptor_proto-name-range =
-    string_range
-
 abbrev pub enum_descriptor_proto-value-kind : Lawful (List EnumValueDescriptorProto-Value)
 enum_descriptor_proto-value-kind = embedded_each 64 enum_value_descriptor_proto-shape
 
-abbrev pub enum_descriptor_proto-value-range : Range (List EnumValueDescriptorProto-Value)
-enum_descriptor_proto-value-range =
-    each_range 64 enum_value_descriptor_proto-shape enum_value_descriptor_proto-range
-
 abbrev pub enum_descriptor_proto-options-kind : Lawful (Option EnumOptions-Value)
 enum_descriptor_proto-options-kind = embedded_once enum_options-shape
-
-abbrev pub enum_descriptor_proto-options-range : Range (Option EnumOptions-Value)
-enum_descriptor_proto-options-range =
-    once_range enum_options-shape enum_options-range
 
 abbrev pub EnumDescriptorProto-Known : Type 0
 EnumDescriptorProto-Known =
@@ -81,28 +59,3 @@ enum_descriptor_proto-known =
 
 abbrev pub enum_descriptor_proto-shape : Shape EnumDescriptorProto-Value
 enum_descriptor_proto-shape = two enum_descriptor_proto-known unknown
-
--- what is read back once it is written
-abbrev pub enum_descriptor_proto-range : Range EnumDescriptorProto-Value
-enum_descriptor_proto-range =
-    pair_range (pair_range (pair_range (enum_descriptor_proto-name-range)
-    (enum_descriptor_proto-value-range))
-    (enum_descriptor_proto-options-range))
-    (others_range enum_descriptor_proto-known.owns)
-
-pub enum_descriptor_proto-returned : Grounds → Returned enum_descriptor_proto-shape enum_descriptor_proto-range
-enum_descriptor_proto-returned g =
-    whole_returned g
-    (two_returned g
-    (two_returned g
-    (known_returned g 1 enum_descriptor_proto-name-kind enum_descriptor_proto-name-range
-    (omega arith) (omega arith)
-    (implicit_returned g _ _ string_back))
-    (known_returned g 2 enum_descriptor_proto-value-kind enum_descriptor_proto-value-range
-    (omega arith) (omega arith)
-    (embedded_each_returned g _ _ (enum_value_descriptor_proto-returned g) 64))
-    (λ n p h. rw h refl))
-    (known_returned g 3 enum_descriptor_proto-options-kind enum_descriptor_proto-options-range
-    (omega arith) (omega arith)
-    (embedded_once_returned g _ _ (enum_options-returned g)))
-    (λ n p h. rw h refl))

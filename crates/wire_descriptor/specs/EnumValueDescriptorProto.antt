@@ -1,15 +1,10 @@
 -- A `EnumValueDescriptorProto` as contracts see it, and the table of its fields. Generated.
-use Rattle.std.proofs.Common.{arith, refl}
 use Rattle.std.specs.Prelude.{List, string_bytes, ℕ, ℤ}
 use Rattle.wire_codec.specs.Field.{Fields}
 use Rattle.wire_codec.specs.ValueMap.{int32}
 use Rattle.wire_descriptor.specs.declared.enum_value_descriptor_proto.EnumValueDescriptorProto.{EnumValueDescriptorProto}
-use Rattle.wire_fields.specs.Grounds.{Grounds, int32_back, numeric_back, string_back}
 use Rattle.wire_fields.specs.Numbers.{numeric}
 use Rattle.wire_fields.specs.Presence.{implicit}
-use Rattle.wire_fields.specs.Ranges.{Range, int32_range, others_range, pair_range, string_range}
-use Rattle.wire_fields.specs.Returned.{Returned, implicit_returned, known_returned, two_returned}
-use Rattle.wire_fields.specs.Returned.{whole_returned}
 use Rattle.wire_fields.specs.Shape.{Lawful, Shape, known, two, unknown}
 use Rattle.wire_fields.specs.Texts.{string}
 use Rattle.wire_fields.specs.declared.form.Form.TheVariants.{Varint}
@@ -17,16 +12,8 @@ use Rattle.wire_fields.specs.declared.form.Form.TheVariants.{Varint}
 abbrev pub enum_value_descriptor_proto-name-kind : Lawful (List ℕ)
 enum_value_descriptor_proto-name-kind = implicit string
 
-abbrev pub enum_value_descriptor_proto-name-range : Range (List ℕ)
-enum_value_descriptor_proto-name-range =
-    string_range
-
 abbrev pub enum_value_descriptor_proto-number-kind : Lawful ℤ
 enum_value_descriptor_proto-number-kind = implicit (numeric Varint int32)
-
-abbrev pub enum_value_descriptor_proto-number-range : Range ℤ
-enum_value_descriptor_proto-number-range =
-    int32_range
 
 abbrev pub EnumValueDescriptorProto-Known : Type 0
 EnumValueDescriptorProto-Known =
@@ -58,22 +45,3 @@ enum_value_descriptor_proto-known =
 
 abbrev pub enum_value_descriptor_proto-shape : Shape EnumValueDescriptorProto-Value
 enum_value_descriptor_proto-shape = two enum_value_descriptor_proto-known unknown
-
--- what is read back once it is written
-abbrev pub enum_value_descriptor_proto-range : Range EnumValueDescriptorProto-Value
-enum_value_descriptor_proto-range =
-    pair_range (pair_range (enum_value_descriptor_proto-name-range)
-    (enum_value_descriptor_proto-number-range))
-    (others_range enum_value_descriptor_proto-known.owns)
-
-pub enum_value_descriptor_proto-returned : Grounds → Returned enum_value_descriptor_proto-shape enum_value_descriptor_proto-range
-enum_value_descriptor_proto-returned g =
-    whole_returned g
-    (two_returned g
-    (known_returned g 1 enum_value_descriptor_proto-name-kind enum_value_descriptor_proto-name-range
-    (omega arith) (omega arith)
-    (implicit_returned g _ _ string_back))
-    (known_returned g 2 enum_value_descriptor_proto-number-kind enum_value_descriptor_proto-number-range
-    (omega arith) (omega arith)
-    (implicit_returned g _ _ (numeric_back (int32_back g))))
-    (λ n p h. rw h refl))

@@ -1,59 +1,30 @@
 -- A `FeatureSet` as contracts see it, and the table of its fields. Generated.
-use Rattle.std.proofs.Common.{arith, inl, inr, refl}
 use Rattle.std.specs.Prelude.{ℤ}
 use Rattle.wire_codec.specs.Field.{Fields}
 use Rattle.wire_codec.specs.ValueMap.{int32}
 use Rattle.wire_descriptor.specs.declared.feature_set.FeatureSet.{FeatureSet}
-use Rattle.wire_fields.specs.Grounds.{Grounds, int32_back, numeric_back}
 use Rattle.wire_fields.specs.Numbers.{numeric}
 use Rattle.wire_fields.specs.Presence.{implicit}
-use Rattle.wire_fields.specs.Ranges.{Range, int32_range, others_range, pair_range}
-use Rattle.wire_fields.specs.Returned.{Returned, implicit_returned, known_returned, two_returned}
-use Rattle.wire_fields.specs.Returned.{whole_returned}
 use Rattle.wire_fields.specs.Shape.{Lawful, Shape, known, two, unknown}
 use Rattle.wire_fields.specs.declared.form.Form.TheVariants.{Varint}
 
 abbrev pub feature_set-field_presence-kind : Lawful ℤ
 feature_set-field_presence-kind = implicit (numeric Varint int32)
 
-abbrev pub feature_set-field_presence-range : Range ℤ
-feature_set-field_presence-range =
-    int32_range
-
 abbrev pub feature_set-enum_type-kind : Lawful ℤ
 feature_set-enum_type-kind = implicit (numeric Varint int32)
-
-abbrev pub feature_set-enum_type-range : Range ℤ
-feature_set-enum_type-range =
-    int32_range
 
 abbrev pub feature_set-repeated_field_encoding-kind : Lawful ℤ
 feature_set-repeated_field_encoding-kind = implicit (numeric Varint int32)
 
-abbrev pub feature_set-repeated_field_encoding-range : Range ℤ
-feature_set-repeated_field_encoding-range =
-    int32_range
-
 abbrev pub feature_set-utf8_validation-kind : Lawful ℤ
 feature_set-utf8_validation-kind = implicit (numeric Varint int32)
-
-abbrev pub feature_set-utf8_validation-range : Range ℤ
-feature_set-utf8_validation-range =
-    int32_range
 
 abbrev pub feature_set-message_encoding-kind : Lawful ℤ
 feature_set-message_encoding-kind = implicit (numeric Varint int32)
 
-abbrev pub feature_set-message_encoding-range : Range ℤ
-feature_set-message_encoding-range =
-    int32_range
-
 abbrev pub feature_set-json_format-kind : Lawful ℤ
 feature_set-json_format-kind = implicit (numeric Varint int32)
-
-abbrev pub feature_set-json_format-range : Range ℤ
-feature_set-json_format-range =
-    int32_range
 
 abbrev pub FeatureSet-Known : Type 0
 FeatureSet-Known =
@@ -117,52 +88,3 @@ feature_set-known =
 
 abbrev pub feature_set-shape : Shape FeatureSet-Value
 feature_set-shape = two feature_set-known unknown
-
--- what is read back once it is written
-abbrev pub feature_set-range : Range FeatureSet-Value
-feature_set-range =
-    pair_range (pair_range (pair_range (pair_range (feature_set-field_presence-range)
-    (feature_set-enum_type-range))
-    (pair_range (feature_set-repeated_field_encoding-range)
-    (feature_set-utf8_validation-range)))
-    (pair_range (feature_set-message_encoding-range)
-    (feature_set-json_format-range)))
-    (others_range feature_set-known.owns)
-
-pub feature_set-returned : Grounds → Returned feature_set-shape feature_set-range
-feature_set-returned g =
-    whole_returned g
-    (two_returned g
-    (two_returned g
-    (two_returned g
-    (known_returned g 1 feature_set-field_presence-kind feature_set-field_presence-range
-    (omega arith) (omega arith)
-    (implicit_returned g _ _ (numeric_back (int32_back g))))
-    (known_returned g 2 feature_set-enum_type-kind feature_set-enum_type-range
-    (omega arith) (omega arith)
-    (implicit_returned g _ _ (numeric_back (int32_back g))))
-    (λ n p h. rw h refl))
-    (two_returned g
-    (known_returned g 3 feature_set-repeated_field_encoding-kind feature_set-repeated_field_encoding-range
-    (omega arith) (omega arith)
-    (implicit_returned g _ _ (numeric_back (int32_back g))))
-    (known_returned g 4 feature_set-utf8_validation-kind feature_set-utf8_validation-range
-    (omega arith) (omega arith)
-    (implicit_returned g _ _ (numeric_back (int32_back g))))
-    (λ n p h. rw h refl))
-    (λ n p h. elim h [
-      | inl h ↦ rw h refl
-      | inr h ↦ rw h refl
-    ]))
-    (two_returned g
-    (known_returned g 5 feature_set-message_encoding-kind feature_set-message_encoding-range
-    (omega arith) (omega arith)
-    (implicit_returned g _ _ (numeric_back (int32_back g))))
-    (known_returned g 6 feature_set-json_format-kind feature_set-json_format-range
-    (omega arith) (omega arith)
-    (implicit_returned g _ _ (numeric_back (int32_back g))))
-    (λ n p h. rw h refl))
-    (λ n p h. elim h [
-      | inl h ↦ rw h refl
-      | inr h ↦ rw h refl
-    ]))

@@ -1,21 +1,13 @@
 -- A `FieldDescriptorProto` as contracts see it, and the table of its fields. Generated.
-use Rattle.std.proofs.Common.{arith, inl, inr, refl}
 use Rattle.std.specs.Prelude.{Bool, List, Option, option_map, string_bytes, ℕ, ℤ}
 use Rattle.wire_codec.specs.Field.{Fields}
 use Rattle.wire_codec.specs.ValueMap.{bool, int32}
-use Rattle.wire_descriptor.specs.FieldOptions.{FieldOptions-Value, field_options-range}
-use Rattle.wire_descriptor.specs.FieldOptions.{field_options-returned, field_options-shape}
+use Rattle.wire_descriptor.specs.FieldOptions.{FieldOptions-Value, field_options-shape}
 use Rattle.wire_descriptor.specs.FieldOptions.{field_options-value}
 use Rattle.wire_descriptor.specs.declared.field_descriptor_proto.FieldDescriptorProto.{FieldDescriptorProto}
-use Rattle.wire_fields.specs.Grounds.{Grounds, bool_back, int32_back, numeric_back, string_back}
 use Rattle.wire_fields.specs.Messages.{boxed_value, embedded_once}
 use Rattle.wire_fields.specs.Numbers.{numeric}
 use Rattle.wire_fields.specs.Presence.{implicit, optional}
-use Rattle.wire_fields.specs.Ranges.{Range, bool_range, int32_range, once_range, optional_range}
-use Rattle.wire_fields.specs.Ranges.{others_range, pair_range, string_range}
-use Rattle.wire_fields.specs.Returned.{Returned, embedded_once_returned, implicit_returned}
-use Rattle.wire_fields.specs.Returned.{known_returned, optional_returned, two_returned}
-use Rattle.wire_fields.specs.Returned.{whole_returned}
 use Rattle.wire_fields.specs.Shape.{Lawful, Shape, known, two, unknown}
 use Rattle.wire_fields.specs.Texts.{string}
 use Rattle.wire_fields.specs.declared.form.Form.TheVariants.{Varint}
@@ -23,72 +15,32 @@ use Rattle.wire_fields.specs.declared.form.Form.TheVariants.{Varint}
 abbrev pub field_descriptor_proto-name-kind : Lawful (List ℕ)
 field_descriptor_proto-name-kind = implicit string
 
-abbrev pub field_descriptor_proto-name-range : Range (List ℕ)
-field_descriptor_proto-name-range =
-    string_range
-
 abbrev pub field_descriptor_proto-extendee-kind : Lawful (List ℕ)
 field_descriptor_proto-extendee-kind = implicit string
-
-abbrev pub field_descriptor_proto-extendee-range : Range (List ℕ)
-field_descriptor_proto-extendee-range =
-    string_range
 
 abbrev pub field_descriptor_proto-number-kind : Lawful ℤ
 field_descriptor_proto-number-kind = implicit (numeric Varint int32)
 
-abbrev pub field_descriptor_proto-number-range : Range ℤ
-field_descriptor_proto-number-range =
-    int32_range
-
 abbrev pub field_descriptor_proto-label-kind : Lawful ℤ
 field_descriptor_proto-label-kind = implicit (numeric Varint int32)
-
-abbrev pub field_descriptor_proto-label-range : Range ℤ
-field_descriptor_proto-label-range =
-    int32_range
 
 abbrev pub field_descriptor_proto-type_-kind : Lawful ℤ
 field_descriptor_proto-type_-kind = implicit (numeric Varint int32)
 
-abbrev pub field_descriptor_proto-type_-range : Range ℤ
-field_descriptor_proto-type_-range =
-    int32_range
-
 abbrev pub field_descriptor_proto-type_name-kind : Lawful (List ℕ)
 field_descriptor_proto-type_name-kind = implicit string
-
-abbrev pub field_descriptor_proto-type_name-range : Range (List ℕ)
-field_descriptor_proto-type_name-range =
-    string_range
 
 abbrev pub field_descriptor_proto-default_value-kind : Lawful (List ℕ)
 field_descriptor_proto-default_value-kind = implicit string
 
-abbrev pub field_descriptor_proto-default_value-range : Range (List ℕ)
-field_descriptor_proto-default_value-range =
-    string_range
-
 abbrev pub field_descriptor_proto-options-kind : Lawful (Option FieldOptions-Value)
 field_descriptor_proto-options-kind = embedded_once field_options-shape
-
-abbrev pub field_descriptor_proto-options-range : Range (Option FieldOptions-Value)
-field_descriptor_proto-options-range =
-    once_range field_options-shape field_options-range
 
 abbrev pub field_descriptor_proto-oneof_index-kind : Lawful (Option ℤ)
 field_descriptor_proto-oneof_index-kind = optional (numeric Varint int32)
 
-abbrev pub field_descriptor_proto-oneof_index-range : Range (Option ℤ)
-field_descriptor_proto-oneof_index-range =
-    optional_range int32_range
-
 abbrev pub field_descriptor_proto-proto3_optional-kind : Lawful Bool
 field_descriptor_proto-proto3_optional-kind = implicit (numeric Varint bool)
-
-abbrev pub field_descriptor_proto-proto3_optional-range : Range Bool
-field_descriptor_proto-proto3_optional-range =
-    bool_range
 
 abbrev pub FieldDescriptorProto-Fields-1-To-8 : Type 0
 FieldDescriptorProto-Fields-1-To-8 =
@@ -195,88 +147,3 @@ field_descriptor_proto-known =
 
 abbrev pub field_descriptor_proto-shape : Shape FieldDescriptorProto-Value
 field_descriptor_proto-shape = two field_descriptor_proto-known unknown
-
--- what is read back once it is written
-abbrev pub field_descriptor_proto-range : Range FieldDescriptorProto-Value
-field_descriptor_proto-range =
-    pair_range (pair_range (pair_range (pair_range (pair_range (field_descriptor_proto-name-range)
-    (field_descriptor_proto-extendee-range))
-    (pair_range (field_descriptor_proto-number-range)
-    (field_descriptor_proto-label-range)))
-    (pair_range (pair_range (field_descriptor_proto-type_-range)
-    (field_descriptor_proto-type_name-range))
-    (pair_range (field_descriptor_proto-default_value-range)
-    (field_descriptor_proto-options-range))))
-    (pair_range (field_descriptor_proto-oneof_index-range)
-    (field_descriptor_proto-proto3_optional-range)))
-    (others_range field_descriptor_proto-known.owns)
-
-pub field_descriptor_proto-returned : Grounds → Returned field_descriptor_proto-shape field_descriptor_proto-range
-field_descriptor_proto-returned g =
-    whole_returned g
-    (two_returned g
-    (two_returned g
-    (two_returned g
-    (two_returned g
-    (known_returned g 1 field_descriptor_proto-name-kind field_descriptor_proto-name-range
-    (omega arith) (omega arith)
-    (implicit_returned g _ _ string_back))
-    (known_returned g 2 field_descriptor_proto-extendee-kind field_descriptor_proto-extendee-range
-    (omega arith) (omega arith)
-    (implicit_returned g _ _ string_back))
-    (λ n p h. rw h refl))
-    (two_returned g
-    (known_returned g 3 field_descriptor_proto-number-kind field_descriptor_proto-number-range
-    (omega arith) (omega arith)
-    (implicit_returned g _ _ (numeric_back (int32_back g))))
-    (known_returned g 4 field_descriptor_proto-label-kind field_descriptor_proto-label-range
-    (omega arith) (omega arith)
-    (implicit_returned g _ _ (numeric_back (int32_back g))))
-    (λ n p h. rw h refl))
-    (λ n p h. elim h [
-      | inl h ↦ rw h refl
-      | inr h ↦ rw h refl
-    ]))
-    (two_returned g
-    (two_returned g
-    (known_returned g 5 field_descriptor_proto-type_-kind field_descriptor_proto-type_-range
-    (omega arith) (omega arith)
-    (implicit_returned g _ _ (numeric_back (int32_back g))))
-    (known_returned g 6 field_descriptor_proto-type_name-kind field_descriptor_proto-type_name-range
-    (omega arith) (omega arith)
-    (implicit_returned g _ _ string_back))
-    (λ n p h. rw h refl))
-    (two_returned g
-    (known_returned g 7 field_descriptor_proto-default_value-kind field_descriptor_proto-default_value-range
-    (omega arith) (omega arith)
-    (implicit_returned g _ _ string_back))
-    (known_returned g 8 field_descriptor_proto-options-kind field_descriptor_proto-options-range
-    (omega arith) (omega arith)
-    (embedded_once_returned g _ _ (field_options-returned g)))
-    (λ n p h. rw h refl))
-    (λ n p h. elim h [
-      | inl h ↦ rw h refl
-      | inr h ↦ rw h refl
-    ]))
-    (λ n p h. elim h [
-      | inl h ↦ elim h [
-        | inl h ↦ rw h refl
-        | inr h ↦ rw h refl
-      ]
-      | inr h ↦ elim h [
-        | inl h ↦ rw h refl
-        | inr h ↦ rw h refl
-      ]
-    ]))
-    (two_returned g
-    (known_returned g 9 field_descriptor_proto-oneof_index-kind field_descriptor_proto-oneof_index-range
-    (omega arith) (omega arith)
-    (optional_returned g _ _ (numeric_back (int32_back g))))
-    (known_returned g 17 field_descriptor_proto-proto3_optional-kind field_descriptor_proto-proto3_optional-range
-    (omega arith) (omega arith)
-    (implicit_returned g _ _ (numeric_back (bool_back g))))
-    (λ n p h. rw h refl))
-    (λ n p h. elim h [
-      | inl h ↦ rw h refl
-      | inr h ↦ rw h refl
-    ]))

@@ -1,38 +1,23 @@
 -- A `FileDescriptorProto` as contracts see it, and the table of its fields. Generated.
-use Rattle.std.proofs.Common.{arith, inl, inr, refl}
 use Rattle.std.specs.Prelude.{List, Option, map, string_bytes, ℕ, ℤ}
 use Rattle.wire_codec.specs.Field.{Fields}
 use Rattle.wire_codec.specs.ValueMap.{int32}
-use Rattle.wire_descriptor.specs.DescriptorProto.{DescriptorProto-Value, descriptor_proto-range}
-use Rattle.wire_descriptor.specs.DescriptorProto.{descriptor_proto-returned, descriptor_proto-shape}
+use Rattle.wire_descriptor.specs.DescriptorProto.{DescriptorProto-Value, descriptor_proto-shape}
 use Rattle.wire_descriptor.specs.DescriptorProto.{descriptor_proto-value}
 use Rattle.wire_descriptor.specs.EnumDescriptorProto.{EnumDescriptorProto-Value}
-use Rattle.wire_descriptor.specs.EnumDescriptorProto.{enum_descriptor_proto-range}
-use Rattle.wire_descriptor.specs.EnumDescriptorProto.{enum_descriptor_proto-returned}
 use Rattle.wire_descriptor.specs.EnumDescriptorProto.{enum_descriptor_proto-shape}
 use Rattle.wire_descriptor.specs.EnumDescriptorProto.{enum_descriptor_proto-value}
 use Rattle.wire_descriptor.specs.FieldDescriptorProto.{FieldDescriptorProto-Value}
-use Rattle.wire_descriptor.specs.FieldDescriptorProto.{field_descriptor_proto-range}
-use Rattle.wire_descriptor.specs.FieldDescriptorProto.{field_descriptor_proto-returned}
 use Rattle.wire_descriptor.specs.FieldDescriptorProto.{field_descriptor_proto-shape}
 use Rattle.wire_descriptor.specs.FieldDescriptorProto.{field_descriptor_proto-value}
-use Rattle.wire_descriptor.specs.FileOptions.{FileOptions-Value, file_options-range}
-use Rattle.wire_descriptor.specs.FileOptions.{file_options-returned, file_options-shape}
+use Rattle.wire_descriptor.specs.FileOptions.{FileOptions-Value, file_options-shape}
 use Rattle.wire_descriptor.specs.FileOptions.{file_options-value}
-use Rattle.wire_descriptor.specs.SourceCodeInfo.{SourceCodeInfo-Value, source_code_info-range}
-use Rattle.wire_descriptor.specs.SourceCodeInfo.{source_code_info-returned, source_code_info-shape}
+use Rattle.wire_descriptor.specs.SourceCodeInfo.{SourceCodeInfo-Value, source_code_info-shape}
 use Rattle.wire_descriptor.specs.SourceCodeInfo.{source_code_info-value}
 use Rattle.wire_descriptor.specs.declared.file_descriptor_proto.FileDescriptorProto.{FileDescriptorProto}
-use Rattle.wire_fields.specs.Grounds.{Grounds, any_bytes_back, int32_back, numeric_back}
-use Rattle.wire_fields.specs.Grounds.{string_back}
 use Rattle.wire_fields.specs.Messages.{boxed_value, embedded_each, embedded_once}
 use Rattle.wire_fields.specs.Numbers.{numeric}
 use Rattle.wire_fields.specs.Presence.{implicit, repeated}
-use Rattle.wire_fields.specs.Ranges.{Range, any_bytes_range, each_range, int32_range, once_range}
-use Rattle.wire_fields.specs.Ranges.{others_range, pair_range, repeated_range, string_range}
-use Rattle.wire_fields.specs.Returned.{Returned, embedded_each_returned, embedded_once_returned}
-use Rattle.wire_fields.specs.Returned.{implicit_returned, known_returned, repeated_returned}
-use Rattle.wire_fields.specs.Returned.{two_returned, whole_returned}
 use Rattle.wire_fields.specs.Shape.{Lawful, Shape, known, two, unknown}
 use Rattle.wire_fields.specs.Texts.{any_bytes, string}
 use Rattle.wire_fields.specs.declared.form.Form.TheVariants.{Varint}
@@ -40,79 +25,35 @@ use Rattle.wire_fields.specs.declared.form.Form.TheVariants.{Varint}
 abbrev pub file_descriptor_proto-name-kind : Lawful (List ℕ)
 file_descriptor_proto-name-kind = implicit string
 
-abbrev pub file_descriptor_proto-name-range : Range (List ℕ)
-file_descriptor_proto-name-range =
-    string_range
-
 abbrev pub file_descriptor_proto-package-kind : Lawful (List ℕ)
 file_descriptor_proto-package-kind = implicit string
-
-abbrev pub file_descriptor_proto-package-range : Range (List ℕ)
-file_descriptor_proto-package-range =
-    string_range
 
 abbrev pub file_descriptor_proto-dependency-kind : Lawful (List (List ℕ))
 file_descriptor_proto-dependency-kind = repeated 24 string
 
-abbrev pub file_descriptor_proto-dependency-range : Range (List (List ℕ))
-file_descriptor_proto-dependency-range =
-    repeated_range 24 string_range
-
 abbrev pub file_descriptor_proto-message_type-kind : Lawful (List DescriptorProto-Value)
 file_descriptor_proto-message_type-kind = embedded_each 200 descriptor_proto-shape
-
-abbrev pub file_descriptor_proto-message_type-range : Range (List DescriptorProto-Value)
-file_descriptor_proto-message_type-range =
-    each_range 200 descriptor_proto-shape descriptor_proto-range
 
 abbrev pub file_descriptor_proto-enum_type-kind : Lawful (List EnumDescriptorProto-Value)
 file_descriptor_proto-enum_type-kind = embedded_each 80 enum_descriptor_proto-shape
 
-abbrev pub file_descriptor_proto-enum_type-range : Range (List EnumDescriptorProto-Value)
-file_descriptor_proto-enum_type-range =
-    each_range 80 enum_descriptor_proto-shape enum_descriptor_proto-range
-
 abbrev pub file_descriptor_proto-service-kind : Lawful (List (List ℕ))
 file_descriptor_proto-service-kind = repeated 24 any_bytes
-
-abbrev pub file_descriptor_proto-service-range : Range (List (List ℕ))
-file_descriptor_proto-service-range =
-    repeated_range 24 any_bytes_range
 
 abbrev pub file_descriptor_proto-extension-kind : Lawful (List FieldDescriptorProto-Value)
 file_descriptor_proto-extension-kind = embedded_each 208 field_descriptor_proto-shape
 
-abbrev pub file_descriptor_proto-extension-range : Range (List FieldDescriptorProto-Value)
-file_descriptor_proto-extension-range =
-    each_range 208 field_descriptor_proto-shape field_descriptor_proto-range
-
 abbrev pub file_descriptor_proto-options-kind : Lawful (Option FileOptions-Value)
 file_descriptor_proto-options-kind = embedded_once file_options-shape
-
-abbrev pub file_descriptor_proto-options-range : Range (Option FileOptions-Value)
-file_descriptor_proto-options-range =
-    once_range file_options-shape file_options-range
 
 abbrev pub file_descriptor_proto-source_code_info-kind : Lawful (Option SourceCodeInfo-Value)
 file_descriptor_proto-source_code_info-kind = embedded_once source_code_info-shape
 
-abbrev pub file_descriptor_proto-source_code_info-range : Range (Option SourceCodeInfo-Value)
-file_descriptor_proto-source_code_info-range =
-    once_range source_code_info-shape source_code_info-range
-
 abbrev pub file_descriptor_proto-syntax_-kind : Lawful (List ℕ)
 file_descriptor_proto-syntax_-kind = implicit string
 
-abbrev pub file_descriptor_proto-syntax_-range : Range (List ℕ)
-file_descriptor_proto-syntax_-range =
-    string_range
-
 abbrev pub file_descriptor_proto-edition-kind : Lawful ℤ
 file_descriptor_proto-edition-kind = implicit (numeric Varint int32)
-
-abbrev pub file_descriptor_proto-edition-range : Range ℤ
-file_descriptor_proto-edition-range =
-    int32_range
 
 abbrev pub FileDescriptorProto-Fields-1-To-8 : Type 0
 FileDescriptorProto-Fields-1-To-8 =
@@ -227,97 +168,3 @@ file_descriptor_proto-known =
 
 abbrev pub file_descriptor_proto-shape : Shape FileDescriptorProto-Value
 file_descriptor_proto-shape = two file_descriptor_proto-known unknown
-
--- what is read back once it is written
-abbrev pub file_descriptor_proto-range : Range FileDescriptorProto-Value
-file_descriptor_proto-range =
-    pair_range (pair_range (pair_range (pair_range (pair_range (file_descriptor_proto-name-range)
-    (file_descriptor_proto-package-range))
-    (pair_range (file_descriptor_proto-dependency-range)
-    (file_descriptor_proto-message_type-range)))
-    (pair_range (pair_range (file_descriptor_proto-enum_type-range)
-    (file_descriptor_proto-service-range))
-    (pair_range (file_descriptor_proto-extension-range)
-    (file_descriptor_proto-options-range))))
-    (pair_range (pair_range (file_descriptor_proto-source_code_info-range)
-    (file_descriptor_proto-syntax_-range))
-    (file_descriptor_proto-edition-range)))
-    (others_range file_descriptor_proto-known.owns)
-
-pub file_descriptor_proto-returned : Grounds → Returned file_descriptor_proto-shape file_descriptor_proto-range
-file_descriptor_proto-returned g =
-    whole_returned g
-    (two_returned g
-    (two_returned g
-    (two_returned g
-    (two_returned g
-    (known_returned g 1 file_descriptor_proto-name-kind file_descriptor_proto-name-range
-    (omega arith) (omega arith)
-    (implicit_returned g _ _ string_back))
-    (known_returned g 2 file_descriptor_proto-package-kind file_descriptor_proto-package-range
-    (omega arith) (omega arith)
-    (implicit_returned g _ _ string_back))
-    (λ n p h. rw h refl))
-    (two_returned g
-    (known_returned g 3 file_descriptor_proto-dependency-kind file_descriptor_proto-dependency-range
-    (omega arith) (omega arith)
-    (repeated_returned g _ _ string_back 24))
-    (known_returned g 4 file_descriptor_proto-message_type-kind file_descriptor_proto-message_type-range
-    (omega arith) (omega arith)
-    (embedded_each_returned g _ _ (descriptor_proto-returned g) 200))
-    (λ n p h. rw h refl))
-    (λ n p h. elim h [
-      | inl h ↦ rw h refl
-      | inr h ↦ rw h refl
-    ]))
-    (two_returned g
-    (two_returned g
-    (known_returned g 5 file_descriptor_proto-enum_type-kind file_descriptor_proto-enum_type-range
-    (omega arith) (omega arith)
-    (embedded_each_returned g _ _ (enum_descriptor_proto-returned g) 80))
-    (known_returned g 6 file_descriptor_proto-service-kind file_descriptor_proto-service-range
-    (omega arith) (omega arith)
-    (repeated_returned g _ _ any_bytes_back 24))
-    (λ n p h. rw h refl))
-    (two_returned g
-    (known_returned g 7 file_descriptor_proto-extension-kind file_descriptor_proto-extension-range
-    (omega arith) (omega arith)
-    (embedded_each_returned g _ _ (field_descriptor_proto-returned g) 208))
-    (known_returned g 8 file_descriptor_proto-options-kind file_descriptor_proto-options-range
-    (omega arith) (omega arith)
-    (embedded_once_returned g _ _ (file_options-returned g)))
-    (λ n p h. rw h refl))
-    (λ n p h. elim h [
-      | inl h ↦ rw h refl
-      | inr h ↦ rw h refl
-    ]))
-    (λ n p h. elim h [
-      | inl h ↦ elim h [
-        | inl h ↦ rw h refl
-        | inr h ↦ rw h refl
-      ]
-      | inr h ↦ elim h [
-        | inl h ↦ rw h refl
-        | inr h ↦ rw h refl
-      ]
-    ]))
-    (two_returned g
-    (two_returned g
-    (known_returned g 9 file_descriptor_proto-source_code_info-kind file_descriptor_proto-source_code_info-range
-    (omega arith) (omega arith)
-    (embedded_once_returned g _ _ (source_code_info-returned g)))
-    (known_returned g 12 file_descriptor_proto-syntax_-kind file_descriptor_proto-syntax_-range
-    (omega arith) (omega arith)
-    (implicit_returned g _ _ string_back))
-    (λ n p h. rw h refl))
-    (known_returned g 14 file_descriptor_proto-edition-kind file_descriptor_proto-edition-range
-    (omega arith) (omega arith)
-    (implicit_returned g _ _ (numeric_back (int32_back g))))
-    (λ n p h. rw h refl))
-    (λ n p h. elim h [
-      | inl h ↦ elim h [
-        | inl h ↦ rw h refl
-        | inr h ↦ rw h refl
-      ]
-      | inr h ↦ rw h refl
-    ]))

@@ -1,24 +1,13 @@
 -- A `FileOptions` as contracts see it, and the table of its fields. Generated.
-use Rattle.std.proofs.Common.{arith, refl}
 use Rattle.std.specs.Prelude.{Option}
 use Rattle.wire_codec.specs.Field.{Fields}
-use Rattle.wire_descriptor.specs.FeatureSet.{FeatureSet-Value, feature_set-range}
-use Rattle.wire_descriptor.specs.FeatureSet.{feature_set-returned, feature_set-shape}
-use Rattle.wire_descriptor.specs.FeatureSet.{feature_set-value}
+use Rattle.wire_descriptor.specs.FeatureSet.{FeatureSet-Value, feature_set-shape, feature_set-value}
 use Rattle.wire_descriptor.specs.declared.file_options.FileOptions.{FileOptions}
-use Rattle.wire_fields.specs.Grounds.{Grounds}
 use Rattle.wire_fields.specs.Messages.{boxed_value, embedded_once}
-use Rattle.wire_fields.specs.Ranges.{Range, once_range, others_range, pair_range}
-use Rattle.wire_fields.specs.Returned.{Returned, embedded_once_returned, known_returned}
-use Rattle.wire_fields.specs.Returned.{whole_returned}
 use Rattle.wire_fields.specs.Shape.{Lawful, Shape, known, two, unknown}
 
 abbrev pub file_options-features-kind : Lawful (Option FeatureSet-Value)
 file_options-features-kind = embedded_once feature_set-shape
-
-abbrev pub file_options-features-range : Range (Option FeatureSet-Value)
-file_options-features-range =
-    once_range feature_set-shape feature_set-range
 
 abbrev pub FileOptions-Known : Type 0
 FileOptions-Known =
@@ -42,16 +31,3 @@ file_options-known =
 
 abbrev pub file_options-shape : Shape FileOptions-Value
 file_options-shape = two file_options-known unknown
-
--- what is read back once it is written
-abbrev pub file_options-range : Range FileOptions-Value
-file_options-range =
-    pair_range (file_options-features-range)
-    (others_range file_options-known.owns)
-
-pub file_options-returned : Grounds → Returned file_options-shape file_options-range
-file_options-returned g =
-    whole_returned g
-    (known_returned g 50 file_options-features-kind file_options-features-range
-    (omega arith) (omega arith)
-    (embedded_once_returned g _ _ (feature_set-returned g)))

@@ -1,35 +1,20 @@
 -- A `MessageOptions` as contracts see it, and the table of its fields. Generated.
-use Rattle.std.proofs.Common.{arith, refl}
 use Rattle.std.specs.Prelude.{Bool, Option}
 use Rattle.wire_codec.specs.Field.{Fields}
 use Rattle.wire_codec.specs.ValueMap.{bool}
-use Rattle.wire_descriptor.specs.FeatureSet.{FeatureSet-Value, feature_set-range}
-use Rattle.wire_descriptor.specs.FeatureSet.{feature_set-returned, feature_set-shape}
-use Rattle.wire_descriptor.specs.FeatureSet.{feature_set-value}
+use Rattle.wire_descriptor.specs.FeatureSet.{FeatureSet-Value, feature_set-shape, feature_set-value}
 use Rattle.wire_descriptor.specs.declared.message_options.MessageOptions.{MessageOptions}
-use Rattle.wire_fields.specs.Grounds.{Grounds, bool_back, numeric_back}
 use Rattle.wire_fields.specs.Messages.{boxed_value, embedded_once}
 use Rattle.wire_fields.specs.Numbers.{numeric}
 use Rattle.wire_fields.specs.Presence.{implicit}
-use Rattle.wire_fields.specs.Ranges.{Range, bool_range, once_range, others_range, pair_range}
-use Rattle.wire_fields.specs.Returned.{Returned, embedded_once_returned, implicit_returned}
-use Rattle.wire_fields.specs.Returned.{known_returned, two_returned, whole_returned}
 use Rattle.wire_fields.specs.Shape.{Lawful, Shape, known, two, unknown}
 use Rattle.wire_fields.specs.declared.form.Form.TheVariants.{Varint}
 
 abbrev pub message_options-map_entry-kind : Lawful Bool
 message_options-map_entry-kind = implicit (numeric Varint bool)
 
-abbrev pub message_options-map_entry-range : Range Bool
-message_options-map_entry-range =
-    bool_range
-
 abbrev pub message_options-features-kind : Lawful (Option FeatureSet-Value)
 message_options-features-kind = embedded_once feature_set-shape
-
-abbrev pub message_options-features-range : Range (Option FeatureSet-Value)
-message_options-features-range =
-    once_range feature_set-shape feature_set-range
 
 abbrev pub MessageOptions-Known : Type 0
 MessageOptions-Known =
@@ -61,22 +46,3 @@ message_options-known =
 
 abbrev pub message_options-shape : Shape MessageOptions-Value
 message_options-shape = two message_options-known unknown
-
--- what is read back once it is written
-abbrev pub message_options-range : Range MessageOptions-Value
-message_options-range =
-    pair_range (pair_range (message_options-map_entry-range)
-    (message_options-features-range))
-    (others_range message_options-known.owns)
-
-pub message_options-returned : Grounds → Returned message_options-shape message_options-range
-message_options-returned g =
-    whole_returned g
-    (two_returned g
-    (known_returned g 7 message_options-map_entry-kind message_options-map_entry-range
-    (omega arith) (omega arith)
-    (implicit_returned g _ _ (numeric_back (bool_back g))))
-    (known_returned g 12 message_options-features-kind message_options-features-range
-    (omega arith) (omega arith)
-    (embedded_once_returned g _ _ (feature_set-returned g)))
-    (λ n p h. rw h refl))

@@ -13,7 +13,6 @@ mod field_descriptor_proto;
 mod field_options;
 mod file_descriptor_proto;
 mod file_options;
-pub mod laws;
 mod message_options;
 mod oneof_descriptor_proto;
 mod source_code_info;

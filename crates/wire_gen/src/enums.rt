@@ -1,7 +1,7 @@
 //! The code and the definitions of an enum.
 use crate::comments::put_comment;
 use crate::error::GenerateError;
-use crate::names::value_name;
+use crate::names::{constant_name, value_name};
 use crate::schema::{EnumType, Schema};
 use crate::words::{Template, Words};
 use std::alloc::Global;
@@ -73,11 +73,18 @@ const OF_VALUE: [Template; 8] = [
     ("list", "$value$ ∷ "),
 ];
 
-// A value of an enum.
+// Further names of values.
+const ALIASES: &str = "
+impl $name$ {
+$aliases$}
+";
+
+// A value of an enum, or a further name of one.
 #[derive(Drop)]
 struct Named {
     name: String,
     number: i32,
+    is_alias: bool,
 }
 
 /// The module of an enum, whose words the base has, and its definitions.
@@ -98,7 +105,15 @@ pub(crate) fn enum_files(
         page.number("digits", value.number);
         page.number("below", value.number.saturating_add(1).saturating_neg());
         page.index("index", index);
-        put_value(&mut page, schema);
+        page.fill("at", "$place$.2.$index$");
+        let comment = schema.comment(page.get("at"));
+        if value.is_alias {
+            page.set("first", first_of(&values, value.number));
+            put_alias(&mut page, comment);
+        } else {
+            put_comment(&mut page, "values", "    ", comment);
+            put_value(&mut page);
+        }
     }
     page.set("full", of_enum.words.get("full").trim_start_matches('.'));
     page.fill(
@@ -110,11 +125,15 @@ pub(crate) fn enum_files(
         comment => put_comment(&mut page, "code", "", comment),
     }
     page.append("code", ENUM);
+    if !page.get("aliases").is_empty() {
+        page.append("code", ALIASES);
+    }
     page.fill("text", DEFINITIONS);
     Ok((page.finish("code")?, page.finish("text")?))
 }
 
-// The values, of which no two have one number or one name.
+// The values, of which no two have one name. Where one has the number of another before it, it is
+// a constant.
 fn values_of(
     alloc: Global,
     page: &mut Words,
@@ -122,31 +141,51 @@ fn values_of(
 ) -> Result<Vec<Named>, GenerateError> {
     let mut values: Vec<Named> = Vec::new(alloc);
     for value in &of_enum.descriptor.value {
-        let mut name = value_name(alloc, &value.name)?;
+        let is_alias = values.iter().any(|it| it.number == value.number);
+        let mut name = if is_alias {
+            constant_name(alloc, &value.name)?
+        } else {
+            value_name(alloc, &value.name)?
+        };
         // (a clause has one name for one thing)
         if name.as_str() == page.get("name") {
             name.push('_')?;
         }
-        for other in &values {
-            if other.number == value.number || other.name == name {
-                page.set("proto", &value.name);
-                let why = "$full$: two values have the number or the name of $proto$";
-                return Err(page.refused(why));
-            }
+        if values.iter().any(|it| it.name == name) {
+            page.set("proto", &value.name);
+            return Err(page.refused("$full$: two values have the name of $proto$"));
         }
         values.push(Named {
             name,
             number: value.number,
+            is_alias,
         })?;
     }
     Ok(values)
 }
 
+// The name of the first value of this number.
+fn first_of(values: &[Named], number: i32) -> &str {
+    match values.iter().find(|it| it.number == number) {
+        Some(value) => &value.name,
+        None => "",
+    }
+}
+
+// A further name of a value.
+fn put_alias(page: &mut Words, comment: &str) {
+    match comment {
+        "" => page.append("aliases", "    /// `$first$` under another name.\n"),
+        _ => put_comment(page, "aliases", "    ", comment),
+    }
+    page.append(
+        "aliases",
+        "    pub const $value$: $name$ = $name$::$first$;\n",
+    );
+}
+
 // What there is for each value.
-fn put_value(page: &mut Words, schema: &Schema) {
-    page.fill("at", "$place$.2.$index$");
-    let comment = schema.comment(page.get("at"));
-    put_comment(page, "values", "    ", comment);
+fn put_value(page: &mut Words) {
     if page.get("digits").starts_with('-') {
         page.fill_all(&[("number", "negsuc $below$"), ("negsuc", ", negsuc")]);
     } else {

@@ -119,8 +119,9 @@ pub(crate) fn features_of(
         Some(options) => outer.with(options.features.as_deref(), words)?,
         None => outer,
     };
-    if features.is_required() || field.label == LABEL_REQUIRED {
-        return Err(words.refused("$full$.$proto$: required fields are not generated"));
+    let is_required = features.is_required() || field.label == LABEL_REQUIRED;
+    if is_required && words.get("required") != "optional" {
+        return Err(words.refused("$full$.$proto$: required fields want required=optional"));
     }
     Ok(features)
 }
@@ -137,8 +138,8 @@ pub(crate) fn started(
     words.set("field", &word_name(base.alloc(), &field.name)?);
     words.number("number", field.number);
     words.fill("numbers", "$number$");
-    if !field.default_value.is_empty() {
-        return Err(words.refused("$full$.$proto$: default values are not generated"));
+    if !field.default_value.is_empty() && words.get("defaults") != "skip" {
+        return Err(words.refused("$full$.$proto$: default values want defaults=skip"));
     }
     Ok(words)
 }

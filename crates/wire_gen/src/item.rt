@@ -18,8 +18,9 @@ pub(crate) enum Sort {
 // The words of a value: its type in code, `held`, and its name among the `kind`s of fields; as
 // contracts see it, its type `value`, what stands `before` and `behind` one in code, and the same
 // as a function, `view`; its `definition`; the `form` and the `map` of a number, and `numeric`
-// where it is one; the `wire_type` of its records; `closed`, where it is of an enum that is; `order` and `order_numbers` as the key of a map; and lines of names that are
-// brought in, of `code`, of `definitions`, and `ghosts` of clauses.
+// where it is one; the `wire_type` of its records; `closed`, where it is of an enum that is;
+// `order` and `order_numbers` as the key of a map; and lines of names that are brought in, of
+// `code`, of `definitions`, and `ghosts` of clauses.
 const STRING: [Template; 8] = [
     ("held", "String"),
     ("kind", "Text"),

@@ -25,8 +25,8 @@ const OF_KEEPING: [Template; 3] = [
     ),
 ];
 
-/// Sets the wire types of a field, `types` in definitions and `own_types` in code. A list of numbers
-/// has that of bytes, too.
+/// Sets the wire types of a field, `types` in definitions and `own_types` in code. A list of
+/// numbers has that of bytes, too.
 pub(crate) fn set_types(is_list: bool, words: &mut Words) {
     let types = match words.get("wire_type") {
         "Fixed64" => "of_fixed64",

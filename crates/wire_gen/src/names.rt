@@ -5,20 +5,21 @@ use std::alloc::Global;
 // Words of the language, of clauses, and of what stands in each generated module. A field or a
 // module of such a name has an underscore behind it.
 const WORDS: &str = "abbrev abstract as assumption async await become box break bytes const \
-    continue core crate data do dyn elim else ensures enum extensions extern false final fn for ghost ground \
-    if impl in instance laws let lib loop macro main match mod module move mut opaque open override \
-    priv pub record ref requires return rw self specs static std struct super syntax then trait \
-    true try type typeof unknown unsafe unsized use virtual where while wire_codec wire_fields \
-    yield";
+    continue core crate data do dyn elim else ensures enum extensions extern false final fn for \
+    ghost ground if impl in instance laws let lib loop macro main match mod module move mut \
+    opaque open override priv pub record ref requires return rw self specs static std struct \
+    super syntax then trait true try type typeof unknown unsafe unsized use virtual where while \
+    wire_codec wire_fields yield";
 
 // Names of types that each generated module has, or that the language does. A message, an enum or
 // its value of such a name has an underscore behind it.
 const TYPES: &str = "Always AlwaysEmbedded BTreeMap Blob Bool Box Buf Clone Copy Debug \
     DecodeContext DecodeError Double DoubleBits Drop EachEmbedded EachGroup Embedded EncodeError \
     EncodeSink Enum EnumValue Enumeration Eq Err FieldKind Fields Fixed32 Fixed64 Float \
-    FloatBits Global Group Hash Implicit Int32 Int64 Kind Known Lawful Lib List Map Message None Ok Option Optional \
-    Packed PartialEq Records Repeated Rest Result Self Sfixed32 Sfixed64 Shape Sint32 Sint64 Size \
-    SizeCache Some Step String Tag Text Type Uint32 Uint64 UnknownFields Unpacked Variants Vec";
+    FloatBits Global Group Hash Implicit Int32 Int64 Kind Known Lawful Lib List Map Message None \
+    Ok Option Optional Packed PartialEq Records Repeated Rest Result Self Sfixed32 Sfixed64 \
+    Shape Sint32 Sint64 Size SizeCache Some Step String Tag Text Type Uint32 Uint64 \
+    UnknownFields Unpacked Variants Vec";
 
 /// A name of capitals, `OuterInner` of `Outer.Inner` and of `outer_inner`.
 pub(crate) fn type_name(alloc: Global, name: &str) -> Result<String, GenerateError> {
@@ -52,6 +53,15 @@ pub(crate) fn value_name(alloc: Global, name: &str) -> Result<String, GenerateEr
         }
     }
     escaped(text, TYPES)
+}
+
+/// The name of a constant, `VERY_HIGH` of `very_high`.
+pub(crate) fn constant_name(alloc: Global, name: &str) -> Result<String, GenerateError> {
+    let mut text = String::new(alloc);
+    for letter in name.chars() {
+        text.push(letter.to_ascii_uppercase())?;
+    }
+    Ok(text)
 }
 
 /// A name of small letters, `outer_inner` of `OuterInner`.

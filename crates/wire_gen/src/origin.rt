@@ -5,11 +5,11 @@ use crate::schema::{MessageType, Origin};
 use crate::words::Words;
 use wire_descriptor::FileDescriptorProto;
 
-/// The crate that has a package, of lines of a package and a crate each.
-pub(crate) fn home_of<'a>(package: &str, imported: &'a str) -> &'a str {
+/// The crate that has the types of a file, of lines of a package or a file and a crate each.
+pub(crate) fn home_of<'a>(file: &FileDescriptorProto, imported: &'a str) -> &'a str {
     for line in imported.split('\n') {
         if let Some((of, home)) = line.split_once(' ') {
-            if of == package {
+            if of == file.name.as_str() || of == file.package.as_str() {
                 return home;
             }
         }

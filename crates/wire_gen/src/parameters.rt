@@ -7,11 +7,13 @@ use std::alloc::Global;
 use wire_descriptor::CodeGeneratorRequest;
 
 /// Sets the words of a crate. `crate=NAME` is its own name, or else that of the first file; each
-/// `import=PACKAGE=CRATE` names the crate that has another package; `element=BYTES` is what an
-/// element of a list or a map is charged; `unknown=` whether fields that a schema lacks are kept;
-/// `mismatch=` whether records of other wire types are refused, or kept with these; `enums=open`
-/// takes closed enums as open ones; `services=skip` passes over services; and each `encoded=FIELD`
-/// names a field of messages that is held as the bytes of their encodings.
+/// `import=PACKAGE=CRATE` names the crate that has another package, or file; `element=BYTES` is
+/// what an element of a list or a map is charged; `unknown=` whether fields that a schema lacks are
+/// kept; `mismatch=` whether records of other wire types are refused, or kept with these;
+/// `enums=open` takes closed enums as open ones, and `required=optional` required fields as
+/// optional ones; `services=skip` passes over services, `defaults=skip` over default values, and
+/// `laws=skip` writes no laws; and each `encoded=FIELD` names a field of messages that is held as
+/// the bytes of their encodings.
 pub(crate) fn set_crate(
     base: &mut Words,
     request: &CodeGeneratorRequest,
@@ -44,7 +46,8 @@ const DEFAULTS: [Template; 4] = [
 
 const PARAMETERS: &str = "\
     parameters are crate=NAME, import=PACKAGE=CRATE, element=BYTES, unknown=keep or drop, \
-    mismatch=refuse or keep, enums=open, services=skip, and encoded=FIELD: $option$";
+    mismatch=refuse or keep, enums=open, required=optional, services=skip, defaults=skip, \
+    laws=skip, and encoded=FIELD: $option$";
 
 fn set_parameter(base: &mut Words, name: &str, choice: &str) -> Result<(), GenerateError> {
     match (name, choice) {
@@ -53,7 +56,10 @@ fn set_parameter(base: &mut Words, name: &str, choice: &str) -> Result<(), Gener
         ("unknown", "keep" | "drop") => base.set("unknown", choice),
         ("mismatch", "keep" | "refuse") => base.set("mismatch", choice),
         ("enums", "open") => base.set("enums", choice),
+        ("required", "optional") => base.set("required", choice),
         ("services", "skip") => base.set("services", choice),
+        ("defaults", "skip") => base.set("defaults", choice),
+        ("laws", "skip") => base.set("without_laws", choice),
         ("element", _) if is_size(choice) => {
             base.set("element", choice);
             base.fill_all(&[("of_text", "$element$"), ("of_entry", "$element$")]);

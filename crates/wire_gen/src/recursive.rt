@@ -1,5 +1,5 @@
-//! The code of a message type that holds itself: its fields of its own type are rows, and all others
-//! its leaf, which is written in runs between the rows.
+//! The code of a message type that holds itself: its fields of its own type are rows, and all
+//! others its leaf, which is written in runs between the rows.
 use crate::code::{put_field, put_field_comment, put_head, set_rest};
 use crate::error::GenerateError;
 use crate::field::Field;

@@ -92,7 +92,7 @@ impl Schema {
                 stop_on_services(base, file)?;
                 base.get("crate")
             } else {
-                home_of(&file.package, base.get("imported"))
+                home_of(file, base.get("imported"))
             };
             if !home.is_empty() {
                 schema.add_file(file, is_own, home)?;
@@ -100,7 +100,8 @@ impl Schema {
         }
         adapt(base, &mut schema)?;
         schema.stop_on_cycles()?;
-        schema.find_read_back(base.get("mismatch") == "refuse")?;
+        let has_laws = base.get("mismatch") == "refuse" && base.get("without_laws").is_empty();
+        schema.find_read_back(has_laws)?;
         Ok(schema)
     }
 
@@ -303,9 +304,9 @@ impl Schema {
 
     // Closed enums and records of other wire types are left to the unknown fields, and of these no
     // law is there, nor of messages that hold themselves, nor of what holds such a message.
-    fn find_read_back(&mut self, is_refusing: bool) -> Result<(), GenerateError> {
+    fn find_read_back(&mut self, has_laws: bool) -> Result<(), GenerateError> {
         let held = self.held_by_each()?;
-        let mut flags = self.flags(is_refusing)?;
+        let mut flags = self.flags(has_laws)?;
         for (message, flag) in self.messages.iter().zip(flags.iter_mut()) {
             let has_closed = message.descriptor.field.iter().any(|it| self.is_closed(it));
             *flag &= !has_closed && !message.is_recursive;

@@ -1,6 +1,0 @@
-use Rattle.wire_descriptor.specs.FieldOptions.{field_options-returned}
-use Rattle.wire_fields.specs.Returned.{reads_back}
-use Rattle.wire_descriptor.proofs.laws.field_options_reads_back.Goals as goal
-
-pub returns : goal.returns
-returns c = reads_back (field_options-returned c.grounds.ensures) c.text_decodes.ensures
