@@ -27,3 +27,4 @@ pub mod Scalar
 pub mod ScalarBack
 pub mod Shape
 pub mod Texts
+pub mod Twins

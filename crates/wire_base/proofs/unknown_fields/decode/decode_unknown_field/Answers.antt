@@ -34,3 +34,24 @@ returns-clause-stays g c =
     keep_stays (λ field. payload_of field.value) _ _ _ _ (g.B.Buf.unread c.decode_field.new.buf)
     c.decode_field.result
     c.decode_field.ensures.fault
+
+pub returns-clause-number : goal.returns-clause-number
+returns-clause-number g c = c.decode_field.ensures.number
+
+pub returns-clause-in_range : goal.returns-clause-in_range
+returns-clause-in_range g c = c.decode_field.ensures.in_range
+
+pub returns-clause-ok : goal.returns-clause-ok
+returns-clause-ok g c = c.decode_field.ensures.ok
+
+pub returns-clause-charged : goal.returns-clause-charged
+returns-clause-charged g c = c.decode_field.ensures.charged
+
+pub returns-clause-fault : goal.returns-clause-fault
+returns-clause-fault g c = c.decode_field.ensures.fault
+
+pub returns-clause-counts : goal.returns-clause-counts
+returns-clause-counts g c = c.decode_field.ensures.counts
+
+pub returns-clause-kept : goal.returns-clause-kept
+returns-clause-kept g c = c.decode_field.ensures.kept
