@@ -53,9 +53,7 @@ pub use recursive::{Place, Recursive, merge_nest, nest_size, push_message, write
 pub use repeated::Repeated;
 pub use scalar::{Numeric, Scalar};
 pub use text::{Blob, Text};
-pub use twin::{
-    Plain, Twin, copied_box, copied_list, copied_map, copied_numbers, copied_option,
-};
+pub use twin::{Plain, Twin, copied_box, copied_list, copied_map, copied_numbers, copied_option};
 pub use types::{
     Bool, Double, Enum, Fixed32, Fixed64, Float, Int32, Int64, Sfixed32, Sfixed64, Sint32, Sint64,
     Uint32, Uint64,

@@ -1,4 +1,4 @@
-//! Copies of what a message holds: each is seen by contracts as its source is.
+//! Copies of what a message holds, as contracts see it: the same.
 ghost use Rattle.std.specs.Prelude.{◌≡◌, IfOk, map, option_map};
 ghost use Rattle.wire_fields.specs.Maps.{viewed};
 ghost use Rattle.wire_fields.specs.Messages.{boxed_value};
@@ -18,7 +18,7 @@ pub trait Twin: Clone {
     ghost same: { (value copy : Self) → Self.is_clone value copy → seen copy ≡ seen value };
 }
 
-/// A type whose clones are equal, as an enum.
+/// A type whose clones are equal to their sources, as an enum.
 pub trait Plain: Clone {
     ghost equal: { (value copy : Self) → Self.is_clone value copy → copy ≡ value };
 }
