@@ -1,17 +1,18 @@
 //! The message `schema.CodeGeneratorRequest`. Generated.
 use crate::file_descriptor_proto::FileDescriptorProto;
 use bytes::Buf;
-use std::alloc::Global;
+use std::alloc::{AllocError, Global};
 use wire_codec::{
     DecodeContext, DecodeError, EncodeError, EncodeSink, Message, MessageName, SizeCache, Tag,
     UnknownFields,
 };
 use wire_fields::{
-    EachEmbedded, Implicit, Kind, Known, Repeated, Rest, Text, keep, measure, write,
+    EachEmbedded, Implicit, Kind, Known, Repeated, Rest, Text, Twin, copied_list, keep, measure,
+    write,
 };
 
 /// The message `CodeGeneratorRequest`.
-#[derive(Clone, Debug, Drop, PartialEq)]
+#[derive(Debug, Drop, PartialEq)]
 pub struct CodeGeneratorRequest {
     pub file_to_generate: Vec<String>,
     pub parameter: String,
@@ -28,6 +29,33 @@ impl MessageName for CodeGeneratorRequest {
     const FULL_NAME: &'static str = "schema.CodeGeneratorRequest";
 
     const TYPE_URL: &'static str = "type.googleapis.com/schema.CodeGeneratorRequest";
+}
+
+impl Clone for CodeGeneratorRequest {
+    ghost use Rattle.std.specs.Prelude.{◌≡◌};
+    ghost use Rattle.wire_descriptor.specs.CodeGeneratorRequest.{code_generator_request-value};
+
+    ghost is_clone = { λ m copy. code_generator_request-value copy ≡ code_generator_request-value m };
+
+    fn clone(&self) -> Result<CodeGeneratorRequest, AllocError> {
+        Ok(CodeGeneratorRequest {
+            file_to_generate: copied_list(&self.file_to_generate)?,
+            parameter: self.parameter.clone()?,
+            proto_file: copied_list(&self.proto_file)?,
+            unknown: self.unknown.clone()?,
+        })
+    }
+}
+
+impl Twin for CodeGeneratorRequest {
+    ghost use Rattle.wire_descriptor.specs.CodeGeneratorRequest.{CodeGeneratorRequest-Value};
+    ghost use Rattle.wire_descriptor.specs.CodeGeneratorRequest.{code_generator_request-value};
+
+    ghost Seen = { CodeGeneratorRequest-Value };
+
+    ghost seen = { code_generator_request-value };
+
+    ghost same = { λ m copy e. e };
 }
 
 impl Message for CodeGeneratorRequest {

@@ -1,17 +1,18 @@
 //! The message `schema.CodeGeneratorResponse`. Generated.
 use crate::code_generator_response_file::CodeGeneratorResponseFile;
 use bytes::Buf;
-use std::alloc::Global;
+use std::alloc::{AllocError, Global};
 use wire_codec::{
     DecodeContext, DecodeError, EncodeError, EncodeSink, Message, MessageName, SizeCache, Tag,
     UnknownFields,
 };
 use wire_fields::{
-    EachEmbedded, Implicit, Int32, Kind, Known, Rest, Text, Uint64, keep, measure, write,
+    EachEmbedded, Implicit, Int32, Kind, Known, Rest, Text, Twin, Uint64, copied_list, keep,
+    measure, write,
 };
 
 /// The message `CodeGeneratorResponse`.
-#[derive(Clone, Debug, Drop, PartialEq)]
+#[derive(Debug, Drop, PartialEq)]
 pub struct CodeGeneratorResponse {
     pub error: String,
     pub supported_features: u64,
@@ -30,6 +31,35 @@ impl MessageName for CodeGeneratorResponse {
     const FULL_NAME: &'static str = "schema.CodeGeneratorResponse";
 
     const TYPE_URL: &'static str = "type.googleapis.com/schema.CodeGeneratorResponse";
+}
+
+impl Clone for CodeGeneratorResponse {
+    ghost use Rattle.std.specs.Prelude.{◌≡◌};
+    ghost use Rattle.wire_descriptor.specs.CodeGeneratorResponse.{code_generator_response-value};
+
+    ghost is_clone = { λ m copy. code_generator_response-value copy ≡ code_generator_response-value m };
+
+    fn clone(&self) -> Result<CodeGeneratorResponse, AllocError> {
+        Ok(CodeGeneratorResponse {
+            error: self.error.clone()?,
+            supported_features: self.supported_features,
+            minimum_edition: self.minimum_edition,
+            maximum_edition: self.maximum_edition,
+            file: copied_list(&self.file)?,
+            unknown: self.unknown.clone()?,
+        })
+    }
+}
+
+impl Twin for CodeGeneratorResponse {
+    ghost use Rattle.wire_descriptor.specs.CodeGeneratorResponse.{CodeGeneratorResponse-Value};
+    ghost use Rattle.wire_descriptor.specs.CodeGeneratorResponse.{code_generator_response-value};
+
+    ghost Seen = { CodeGeneratorResponse-Value };
+
+    ghost seen = { code_generator_response-value };
+
+    ghost same = { λ m copy e. e };
 }
 
 impl Message for CodeGeneratorResponse {

@@ -1,14 +1,14 @@
 //! The message `schema.CodeGeneratorResponse.File`. Generated.
 use bytes::Buf;
-use std::alloc::Global;
+use std::alloc::{AllocError, Global};
 use wire_codec::{
     DecodeContext, DecodeError, EncodeError, EncodeSink, Message, MessageName, SizeCache, Tag,
     UnknownFields,
 };
-use wire_fields::{Implicit, Kind, Known, Rest, Text, keep, measure, write};
+use wire_fields::{Implicit, Kind, Known, Rest, Text, Twin, keep, measure, write};
 
 /// The message `CodeGeneratorResponseFile`.
-#[derive(Clone, Debug, Drop, PartialEq)]
+#[derive(Debug, Drop, PartialEq)]
 pub struct CodeGeneratorResponseFile {
     pub name: String,
     pub content: String,
@@ -24,6 +24,32 @@ impl MessageName for CodeGeneratorResponseFile {
     const FULL_NAME: &'static str = "schema.CodeGeneratorResponse.File";
 
     const TYPE_URL: &'static str = "type.googleapis.com/schema.CodeGeneratorResponse.File";
+}
+
+impl Clone for CodeGeneratorResponseFile {
+    ghost use Rattle.std.specs.Prelude.{◌≡◌};
+    ghost use Rattle.wire_descriptor.specs.CodeGeneratorResponseFile.{code_generator_response_file-value};
+
+    ghost is_clone = { λ m copy. code_generator_response_file-value copy ≡ code_generator_response_file-value m };
+
+    fn clone(&self) -> Result<CodeGeneratorResponseFile, AllocError> {
+        Ok(CodeGeneratorResponseFile {
+            name: self.name.clone()?,
+            content: self.content.clone()?,
+            unknown: self.unknown.clone()?,
+        })
+    }
+}
+
+impl Twin for CodeGeneratorResponseFile {
+    ghost use Rattle.wire_descriptor.specs.CodeGeneratorResponseFile.{CodeGeneratorResponseFile-Value};
+    ghost use Rattle.wire_descriptor.specs.CodeGeneratorResponseFile.{code_generator_response_file-value};
+
+    ghost Seen = { CodeGeneratorResponseFile-Value };
+
+    ghost seen = { code_generator_response_file-value };
+
+    ghost same = { λ m copy e. e };
 }
 
 impl Message for CodeGeneratorResponseFile {

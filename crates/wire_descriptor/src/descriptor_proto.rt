@@ -4,17 +4,18 @@ use crate::field_descriptor_proto::FieldDescriptorProto;
 use crate::message_options::MessageOptions;
 use crate::oneof_descriptor_proto::OneofDescriptorProto;
 use bytes::Buf;
-use std::alloc::Global;
+use std::alloc::{AllocError, Global};
 use wire_codec::{
     DecodeContext, DecodeError, EncodeError, EncodeSink, Message, MessageName, SizeCache, Tag,
     UnknownFields,
 };
 use wire_fields::{
-    Blob, EachEmbedded, Embedded, Implicit, Kind, Known, Repeated, Rest, Text, keep, measure, write,
+    Blob, EachEmbedded, Embedded, Implicit, Kind, Known, Repeated, Rest, Text, Twin, copied_box,
+    copied_list, keep, measure, write,
 };
 
 /// The message `DescriptorProto`.
-#[derive(Clone, Debug, Drop, PartialEq)]
+#[derive(Debug, Drop, PartialEq)]
 pub struct DescriptorProto {
     pub name: String,
     pub field: Vec<FieldDescriptorProto>,
@@ -37,6 +38,38 @@ impl MessageName for DescriptorProto {
     const FULL_NAME: &'static str = "schema.DescriptorProto";
 
     const TYPE_URL: &'static str = "type.googleapis.com/schema.DescriptorProto";
+}
+
+impl Clone for DescriptorProto {
+    ghost use Rattle.std.specs.Prelude.{◌≡◌};
+    ghost use Rattle.wire_descriptor.specs.DescriptorProto.{descriptor_proto-value};
+
+    ghost is_clone = { λ m copy. descriptor_proto-value copy ≡ descriptor_proto-value m };
+
+    fn clone(&self) -> Result<DescriptorProto, AllocError> {
+        Ok(DescriptorProto {
+            name: self.name.clone()?,
+            field: copied_list(&self.field)?,
+            nested_type: copied_list(&self.nested_type)?,
+            enum_type: copied_list(&self.enum_type)?,
+            extension_range: copied_list(&self.extension_range)?,
+            extension: copied_list(&self.extension)?,
+            options: copied_box(&self.options)?,
+            oneof_decl: copied_list(&self.oneof_decl)?,
+            unknown: self.unknown.clone()?,
+        })
+    }
+}
+
+impl Twin for DescriptorProto {
+    ghost use Rattle.wire_descriptor.specs.DescriptorProto.{DescriptorProto-Value};
+    ghost use Rattle.wire_descriptor.specs.DescriptorProto.{descriptor_proto-value};
+
+    ghost Seen = { DescriptorProto-Value };
+
+    ghost seen = { descriptor_proto-value };
+
+    ghost same = { λ m copy e. e };
 }
 
 impl Message for DescriptorProto {

@@ -2,17 +2,18 @@
 use crate::enum_options::EnumOptions;
 use crate::enum_value_descriptor_proto::EnumValueDescriptorProto;
 use bytes::Buf;
-use std::alloc::Global;
+use std::alloc::{AllocError, Global};
 use wire_codec::{
     DecodeContext, DecodeError, EncodeError, EncodeSink, Message, MessageName, SizeCache, Tag,
     UnknownFields,
 };
 use wire_fields::{
-    EachEmbedded, Embedded, Implicit, Kind, Known, Rest, Text, keep, measure, write,
+    EachEmbedded, Embedded, Implicit, Kind, Known, Rest, Text, Twin, copied_box, copied_list, keep,
+    measure, write,
 };
 
 /// The message `EnumDescriptorProto`.
-#[derive(Clone, Debug, Drop, PartialEq)]
+#[derive(Debug, Drop, PartialEq)]
 pub struct EnumDescriptorProto {
     pub name: String,
     pub value: Vec<EnumValueDescriptorProto>,
@@ -29,6 +30,33 @@ impl MessageName for EnumDescriptorProto {
     const FULL_NAME: &'static str = "schema.EnumDescriptorProto";
 
     const TYPE_URL: &'static str = "type.googleapis.com/schema.EnumDescriptorProto";
+}
+
+impl Clone for EnumDescriptorProto {
+    ghost use Rattle.std.specs.Prelude.{◌≡◌};
+    ghost use Rattle.wire_descriptor.specs.EnumDescriptorProto.{enum_descriptor_proto-value};
+
+    ghost is_clone = { λ m copy. enum_descriptor_proto-value copy ≡ enum_descriptor_proto-value m };
+
+    fn clone(&self) -> Result<EnumDescriptorProto, AllocError> {
+        Ok(EnumDescriptorProto {
+            name: self.name.clone()?,
+            value: copied_list(&self.value)?,
+            options: copied_box(&self.options)?,
+            unknown: self.unknown.clone()?,
+        })
+    }
+}
+
+impl Twin for EnumDescriptorProto {
+    ghost use Rattle.wire_descriptor.specs.EnumDescriptorProto.{EnumDescriptorProto-Value};
+    ghost use Rattle.wire_descriptor.specs.EnumDescriptorProto.{enum_descriptor_proto-value};
+
+    ghost Seen = { EnumDescriptorProto-Value };
+
+    ghost seen = { enum_descriptor_proto-value };
+
+    ghost same = { λ m copy e. e };
 }
 
 impl Message for EnumDescriptorProto {

@@ -1,15 +1,15 @@
 //! The message `schema.EnumOptions`. Generated.
 use crate::feature_set::FeatureSet;
 use bytes::Buf;
-use std::alloc::Global;
+use std::alloc::{AllocError, Global};
 use wire_codec::{
     DecodeContext, DecodeError, EncodeError, EncodeSink, Message, MessageName, SizeCache, Tag,
     UnknownFields,
 };
-use wire_fields::{Embedded, Kind, Known, Rest, keep, measure, write};
+use wire_fields::{Embedded, Kind, Known, Rest, Twin, copied_box, keep, measure, write};
 
 /// The message `EnumOptions`.
-#[derive(Clone, Debug, Drop, PartialEq)]
+#[derive(Debug, Drop, PartialEq)]
 pub struct EnumOptions {
     pub features: Option<Box<FeatureSet>>,
     /// The fields that the schema lacks, as they came.
@@ -24,6 +24,31 @@ impl MessageName for EnumOptions {
     const FULL_NAME: &'static str = "schema.EnumOptions";
 
     const TYPE_URL: &'static str = "type.googleapis.com/schema.EnumOptions";
+}
+
+impl Clone for EnumOptions {
+    ghost use Rattle.std.specs.Prelude.{◌≡◌};
+    ghost use Rattle.wire_descriptor.specs.EnumOptions.{enum_options-value};
+
+    ghost is_clone = { λ m copy. enum_options-value copy ≡ enum_options-value m };
+
+    fn clone(&self) -> Result<EnumOptions, AllocError> {
+        Ok(EnumOptions {
+            features: copied_box(&self.features)?,
+            unknown: self.unknown.clone()?,
+        })
+    }
+}
+
+impl Twin for EnumOptions {
+    ghost use Rattle.wire_descriptor.specs.EnumOptions.{EnumOptions-Value};
+    ghost use Rattle.wire_descriptor.specs.EnumOptions.{enum_options-value};
+
+    ghost Seen = { EnumOptions-Value };
+
+    ghost seen = { enum_options-value };
+
+    ghost same = { λ m copy e. e };
 }
 
 impl Message for EnumOptions {

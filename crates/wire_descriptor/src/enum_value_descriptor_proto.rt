@@ -1,14 +1,14 @@
 //! The message `schema.EnumValueDescriptorProto`. Generated.
 use bytes::Buf;
-use std::alloc::Global;
+use std::alloc::{AllocError, Global};
 use wire_codec::{
     DecodeContext, DecodeError, EncodeError, EncodeSink, Message, MessageName, SizeCache, Tag,
     UnknownFields,
 };
-use wire_fields::{Implicit, Int32, Kind, Known, Rest, Text, keep, measure, write};
+use wire_fields::{Implicit, Int32, Kind, Known, Rest, Text, Twin, keep, measure, write};
 
 /// The message `EnumValueDescriptorProto`.
-#[derive(Clone, Debug, Drop, PartialEq)]
+#[derive(Debug, Drop, PartialEq)]
 pub struct EnumValueDescriptorProto {
     pub name: String,
     pub number: i32,
@@ -24,6 +24,32 @@ impl MessageName for EnumValueDescriptorProto {
     const FULL_NAME: &'static str = "schema.EnumValueDescriptorProto";
 
     const TYPE_URL: &'static str = "type.googleapis.com/schema.EnumValueDescriptorProto";
+}
+
+impl Clone for EnumValueDescriptorProto {
+    ghost use Rattle.std.specs.Prelude.{◌≡◌};
+    ghost use Rattle.wire_descriptor.specs.EnumValueDescriptorProto.{enum_value_descriptor_proto-value};
+
+    ghost is_clone = { λ m copy. enum_value_descriptor_proto-value copy ≡ enum_value_descriptor_proto-value m };
+
+    fn clone(&self) -> Result<EnumValueDescriptorProto, AllocError> {
+        Ok(EnumValueDescriptorProto {
+            name: self.name.clone()?,
+            number: self.number,
+            unknown: self.unknown.clone()?,
+        })
+    }
+}
+
+impl Twin for EnumValueDescriptorProto {
+    ghost use Rattle.wire_descriptor.specs.EnumValueDescriptorProto.{EnumValueDescriptorProto-Value};
+    ghost use Rattle.wire_descriptor.specs.EnumValueDescriptorProto.{enum_value_descriptor_proto-value};
+
+    ghost Seen = { EnumValueDescriptorProto-Value };
+
+    ghost seen = { enum_value_descriptor_proto-value };
+
+    ghost same = { λ m copy e. e };
 }
 
 impl Message for EnumValueDescriptorProto {

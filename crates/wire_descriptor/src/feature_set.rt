@@ -1,14 +1,14 @@
 //! The message `schema.FeatureSet`. Generated.
 use bytes::Buf;
-use std::alloc::Global;
+use std::alloc::{AllocError, Global};
 use wire_codec::{
     DecodeContext, DecodeError, EncodeError, EncodeSink, Message, MessageName, SizeCache, Tag,
     UnknownFields,
 };
-use wire_fields::{Implicit, Int32, Kind, Known, Rest, keep, measure, write};
+use wire_fields::{Implicit, Int32, Kind, Known, Rest, Twin, keep, measure, write};
 
 /// What an edition leaves to a file, a message, a field or an enum; 0 where that says nothing.
-#[derive(Clone, Debug, Drop, PartialEq)]
+#[derive(Debug, Drop, PartialEq)]
 pub struct FeatureSet {
     pub field_presence: i32,
     pub enum_type: i32,
@@ -28,6 +28,36 @@ impl MessageName for FeatureSet {
     const FULL_NAME: &'static str = "schema.FeatureSet";
 
     const TYPE_URL: &'static str = "type.googleapis.com/schema.FeatureSet";
+}
+
+impl Clone for FeatureSet {
+    ghost use Rattle.std.specs.Prelude.{◌≡◌};
+    ghost use Rattle.wire_descriptor.specs.FeatureSet.{feature_set-value};
+
+    ghost is_clone = { λ m copy. feature_set-value copy ≡ feature_set-value m };
+
+    fn clone(&self) -> Result<FeatureSet, AllocError> {
+        Ok(FeatureSet {
+            field_presence: self.field_presence,
+            enum_type: self.enum_type,
+            repeated_field_encoding: self.repeated_field_encoding,
+            utf8_validation: self.utf8_validation,
+            message_encoding: self.message_encoding,
+            json_format: self.json_format,
+            unknown: self.unknown.clone()?,
+        })
+    }
+}
+
+impl Twin for FeatureSet {
+    ghost use Rattle.wire_descriptor.specs.FeatureSet.{FeatureSet-Value};
+    ghost use Rattle.wire_descriptor.specs.FeatureSet.{feature_set-value};
+
+    ghost Seen = { FeatureSet-Value };
+
+    ghost seen = { feature_set-value };
+
+    ghost same = { λ m copy e. e };
 }
 
 impl Message for FeatureSet {

@@ -1,17 +1,18 @@
 //! The message `schema.FieldDescriptorProto`. Generated.
 use crate::field_options::FieldOptions;
 use bytes::Buf;
-use std::alloc::Global;
+use std::alloc::{AllocError, Global};
 use wire_codec::{
     DecodeContext, DecodeError, EncodeError, EncodeSink, Message, MessageName, SizeCache, Tag,
     UnknownFields,
 };
 use wire_fields::{
-    Bool, Embedded, Implicit, Int32, Kind, Known, Optional, Parts, Rest, Text, keep, measure, write,
+    Bool, Embedded, Implicit, Int32, Kind, Known, Optional, Parts, Rest, Text, Twin, copied_box,
+    keep, measure, write,
 };
 
 /// The message `FieldDescriptorProto`.
-#[derive(Clone, Debug, Drop, PartialEq)]
+#[derive(Debug, Drop, PartialEq)]
 pub struct FieldDescriptorProto {
     pub name: String,
     /// Of an extension, the message that it extends.
@@ -36,6 +37,40 @@ impl MessageName for FieldDescriptorProto {
     const FULL_NAME: &'static str = "schema.FieldDescriptorProto";
 
     const TYPE_URL: &'static str = "type.googleapis.com/schema.FieldDescriptorProto";
+}
+
+impl Clone for FieldDescriptorProto {
+    ghost use Rattle.std.specs.Prelude.{◌≡◌};
+    ghost use Rattle.wire_descriptor.specs.FieldDescriptorProto.{field_descriptor_proto-value};
+
+    ghost is_clone = { λ m copy. field_descriptor_proto-value copy ≡ field_descriptor_proto-value m };
+
+    fn clone(&self) -> Result<FieldDescriptorProto, AllocError> {
+        Ok(FieldDescriptorProto {
+            name: self.name.clone()?,
+            extendee: self.extendee.clone()?,
+            number: self.number,
+            label: self.label,
+            type_: self.type_,
+            type_name: self.type_name.clone()?,
+            default_value: self.default_value.clone()?,
+            options: copied_box(&self.options)?,
+            oneof_index: self.oneof_index,
+            proto3_optional: self.proto3_optional,
+            unknown: self.unknown.clone()?,
+        })
+    }
+}
+
+impl Twin for FieldDescriptorProto {
+    ghost use Rattle.wire_descriptor.specs.FieldDescriptorProto.{FieldDescriptorProto-Value};
+    ghost use Rattle.wire_descriptor.specs.FieldDescriptorProto.{field_descriptor_proto-value};
+
+    ghost Seen = { FieldDescriptorProto-Value };
+
+    ghost seen = { field_descriptor_proto-value };
+
+    ghost same = { λ m copy e. e };
 }
 
 impl Message for FieldDescriptorProto {

@@ -1,15 +1,17 @@
 //! The message `schema.FieldOptions`. Generated.
 use crate::feature_set::FeatureSet;
 use bytes::Buf;
-use std::alloc::Global;
+use std::alloc::{AllocError, Global};
 use wire_codec::{
     DecodeContext, DecodeError, EncodeError, EncodeSink, Message, MessageName, SizeCache, Tag,
     UnknownFields,
 };
-use wire_fields::{Bool, Embedded, Kind, Known, Optional, Rest, keep, measure, write};
+use wire_fields::{
+    Bool, Embedded, Kind, Known, Optional, Rest, Twin, copied_box, keep, measure, write,
+};
 
 /// The message `FieldOptions`.
-#[derive(Clone, Debug, Drop, PartialEq)]
+#[derive(Debug, Drop, PartialEq)]
 pub struct FieldOptions {
     pub packed: Option<bool>,
     pub features: Option<Box<FeatureSet>>,
@@ -25,6 +27,32 @@ impl MessageName for FieldOptions {
     const FULL_NAME: &'static str = "schema.FieldOptions";
 
     const TYPE_URL: &'static str = "type.googleapis.com/schema.FieldOptions";
+}
+
+impl Clone for FieldOptions {
+    ghost use Rattle.std.specs.Prelude.{◌≡◌};
+    ghost use Rattle.wire_descriptor.specs.FieldOptions.{field_options-value};
+
+    ghost is_clone = { λ m copy. field_options-value copy ≡ field_options-value m };
+
+    fn clone(&self) -> Result<FieldOptions, AllocError> {
+        Ok(FieldOptions {
+            packed: self.packed,
+            features: copied_box(&self.features)?,
+            unknown: self.unknown.clone()?,
+        })
+    }
+}
+
+impl Twin for FieldOptions {
+    ghost use Rattle.wire_descriptor.specs.FieldOptions.{FieldOptions-Value};
+    ghost use Rattle.wire_descriptor.specs.FieldOptions.{field_options-value};
+
+    ghost Seen = { FieldOptions-Value };
+
+    ghost seen = { field_options-value };
+
+    ghost same = { λ m copy e. e };
 }
 
 impl Message for FieldOptions {

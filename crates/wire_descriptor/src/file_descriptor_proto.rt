@@ -5,18 +5,18 @@ use crate::field_descriptor_proto::FieldDescriptorProto;
 use crate::file_options::FileOptions;
 use crate::source_code_info::SourceCodeInfo;
 use bytes::Buf;
-use std::alloc::Global;
+use std::alloc::{AllocError, Global};
 use wire_codec::{
     DecodeContext, DecodeError, EncodeError, EncodeSink, Message, MessageName, SizeCache, Tag,
     UnknownFields,
 };
 use wire_fields::{
-    Blob, EachEmbedded, Embedded, Implicit, Int32, Kind, Known, Parts, Repeated, Rest, Text, keep,
-    measure, write,
+    Blob, EachEmbedded, Embedded, Implicit, Int32, Kind, Known, Parts, Repeated, Rest, Text, Twin,
+    copied_box, copied_list, keep, measure, write,
 };
 
 /// The message `FileDescriptorProto`.
-#[derive(Clone, Debug, Drop, PartialEq)]
+#[derive(Debug, Drop, PartialEq)]
 pub struct FileDescriptorProto {
     pub name: String,
     pub package: String,
@@ -42,6 +42,41 @@ impl MessageName for FileDescriptorProto {
     const FULL_NAME: &'static str = "schema.FileDescriptorProto";
 
     const TYPE_URL: &'static str = "type.googleapis.com/schema.FileDescriptorProto";
+}
+
+impl Clone for FileDescriptorProto {
+    ghost use Rattle.std.specs.Prelude.{◌≡◌};
+    ghost use Rattle.wire_descriptor.specs.FileDescriptorProto.{file_descriptor_proto-value};
+
+    ghost is_clone = { λ m copy. file_descriptor_proto-value copy ≡ file_descriptor_proto-value m };
+
+    fn clone(&self) -> Result<FileDescriptorProto, AllocError> {
+        Ok(FileDescriptorProto {
+            name: self.name.clone()?,
+            package: self.package.clone()?,
+            dependency: copied_list(&self.dependency)?,
+            message_type: copied_list(&self.message_type)?,
+            enum_type: copied_list(&self.enum_type)?,
+            service: copied_list(&self.service)?,
+            extension: copied_list(&self.extension)?,
+            options: copied_box(&self.options)?,
+            source_code_info: copied_box(&self.source_code_info)?,
+            syntax_: self.syntax_.clone()?,
+            edition: self.edition,
+            unknown: self.unknown.clone()?,
+        })
+    }
+}
+
+impl Twin for FileDescriptorProto {
+    ghost use Rattle.wire_descriptor.specs.FileDescriptorProto.{FileDescriptorProto-Value};
+    ghost use Rattle.wire_descriptor.specs.FileDescriptorProto.{file_descriptor_proto-value};
+
+    ghost Seen = { FileDescriptorProto-Value };
+
+    ghost seen = { file_descriptor_proto-value };
+
+    ghost same = { λ m copy e. e };
 }
 
 impl Message for FileDescriptorProto {

@@ -1,15 +1,15 @@
 //! The message `schema.FileOptions`. Generated.
 use crate::feature_set::FeatureSet;
 use bytes::Buf;
-use std::alloc::Global;
+use std::alloc::{AllocError, Global};
 use wire_codec::{
     DecodeContext, DecodeError, EncodeError, EncodeSink, Message, MessageName, SizeCache, Tag,
     UnknownFields,
 };
-use wire_fields::{Embedded, Kind, Known, Rest, keep, measure, write};
+use wire_fields::{Embedded, Kind, Known, Rest, Twin, copied_box, keep, measure, write};
 
 /// The message `FileOptions`.
-#[derive(Clone, Debug, Drop, PartialEq)]
+#[derive(Debug, Drop, PartialEq)]
 pub struct FileOptions {
     pub features: Option<Box<FeatureSet>>,
     /// The fields that the schema lacks, as they came.
@@ -24,6 +24,31 @@ impl MessageName for FileOptions {
     const FULL_NAME: &'static str = "schema.FileOptions";
 
     const TYPE_URL: &'static str = "type.googleapis.com/schema.FileOptions";
+}
+
+impl Clone for FileOptions {
+    ghost use Rattle.std.specs.Prelude.{◌≡◌};
+    ghost use Rattle.wire_descriptor.specs.FileOptions.{file_options-value};
+
+    ghost is_clone = { λ m copy. file_options-value copy ≡ file_options-value m };
+
+    fn clone(&self) -> Result<FileOptions, AllocError> {
+        Ok(FileOptions {
+            features: copied_box(&self.features)?,
+            unknown: self.unknown.clone()?,
+        })
+    }
+}
+
+impl Twin for FileOptions {
+    ghost use Rattle.wire_descriptor.specs.FileOptions.{FileOptions-Value};
+    ghost use Rattle.wire_descriptor.specs.FileOptions.{file_options-value};
+
+    ghost Seen = { FileOptions-Value };
+
+    ghost seen = { file_options-value };
+
+    ghost same = { λ m copy e. e };
 }
 
 impl Message for FileOptions {

@@ -1,15 +1,17 @@
 //! The message `schema.MessageOptions`. Generated.
 use crate::feature_set::FeatureSet;
 use bytes::Buf;
-use std::alloc::Global;
+use std::alloc::{AllocError, Global};
 use wire_codec::{
     DecodeContext, DecodeError, EncodeError, EncodeSink, Message, MessageName, SizeCache, Tag,
     UnknownFields,
 };
-use wire_fields::{Bool, Embedded, Implicit, Kind, Known, Rest, keep, measure, write};
+use wire_fields::{
+    Bool, Embedded, Implicit, Kind, Known, Rest, Twin, copied_box, keep, measure, write,
+};
 
 /// The message `MessageOptions`.
-#[derive(Clone, Debug, Drop, PartialEq)]
+#[derive(Debug, Drop, PartialEq)]
 pub struct MessageOptions {
     pub map_entry: bool,
     pub features: Option<Box<FeatureSet>>,
@@ -25,6 +27,32 @@ impl MessageName for MessageOptions {
     const FULL_NAME: &'static str = "schema.MessageOptions";
 
     const TYPE_URL: &'static str = "type.googleapis.com/schema.MessageOptions";
+}
+
+impl Clone for MessageOptions {
+    ghost use Rattle.std.specs.Prelude.{◌≡◌};
+    ghost use Rattle.wire_descriptor.specs.MessageOptions.{message_options-value};
+
+    ghost is_clone = { λ m copy. message_options-value copy ≡ message_options-value m };
+
+    fn clone(&self) -> Result<MessageOptions, AllocError> {
+        Ok(MessageOptions {
+            map_entry: self.map_entry,
+            features: copied_box(&self.features)?,
+            unknown: self.unknown.clone()?,
+        })
+    }
+}
+
+impl Twin for MessageOptions {
+    ghost use Rattle.wire_descriptor.specs.MessageOptions.{MessageOptions-Value};
+    ghost use Rattle.wire_descriptor.specs.MessageOptions.{message_options-value};
+
+    ghost Seen = { MessageOptions-Value };
+
+    ghost seen = { message_options-value };
+
+    ghost same = { λ m copy e. e };
 }
 
 impl Message for MessageOptions {

@@ -1,14 +1,14 @@
 //! The message `schema.OneofDescriptorProto`. Generated.
 use bytes::Buf;
-use std::alloc::Global;
+use std::alloc::{AllocError, Global};
 use wire_codec::{
     DecodeContext, DecodeError, EncodeError, EncodeSink, Message, MessageName, SizeCache, Tag,
     UnknownFields,
 };
-use wire_fields::{Implicit, Kind, Known, Rest, Text, keep, measure, write};
+use wire_fields::{Implicit, Kind, Known, Rest, Text, Twin, keep, measure, write};
 
 /// The message `OneofDescriptorProto`.
-#[derive(Clone, Debug, Drop, PartialEq)]
+#[derive(Debug, Drop, PartialEq)]
 pub struct OneofDescriptorProto {
     pub name: String,
     /// The fields that the schema lacks, as they came.
@@ -23,6 +23,31 @@ impl MessageName for OneofDescriptorProto {
     const FULL_NAME: &'static str = "schema.OneofDescriptorProto";
 
     const TYPE_URL: &'static str = "type.googleapis.com/schema.OneofDescriptorProto";
+}
+
+impl Clone for OneofDescriptorProto {
+    ghost use Rattle.std.specs.Prelude.{◌≡◌};
+    ghost use Rattle.wire_descriptor.specs.OneofDescriptorProto.{oneof_descriptor_proto-value};
+
+    ghost is_clone = { λ m copy. oneof_descriptor_proto-value copy ≡ oneof_descriptor_proto-value m };
+
+    fn clone(&self) -> Result<OneofDescriptorProto, AllocError> {
+        Ok(OneofDescriptorProto {
+            name: self.name.clone()?,
+            unknown: self.unknown.clone()?,
+        })
+    }
+}
+
+impl Twin for OneofDescriptorProto {
+    ghost use Rattle.wire_descriptor.specs.OneofDescriptorProto.{OneofDescriptorProto-Value};
+    ghost use Rattle.wire_descriptor.specs.OneofDescriptorProto.{oneof_descriptor_proto-value};
+
+    ghost Seen = { OneofDescriptorProto-Value };
+
+    ghost seen = { oneof_descriptor_proto-value };
+
+    ghost same = { λ m copy e. e };
 }
 
 impl Message for OneofDescriptorProto {

@@ -1,15 +1,15 @@
 //! The message `schema.SourceCodeInfo`. Generated.
 use crate::source_code_info_location::SourceCodeInfoLocation;
 use bytes::Buf;
-use std::alloc::Global;
+use std::alloc::{AllocError, Global};
 use wire_codec::{
     DecodeContext, DecodeError, EncodeError, EncodeSink, Message, MessageName, SizeCache, Tag,
     UnknownFields,
 };
-use wire_fields::{EachEmbedded, Kind, Known, Rest, keep, measure, write};
+use wire_fields::{EachEmbedded, Kind, Known, Rest, Twin, copied_list, keep, measure, write};
 
 /// Where the parts of a file stand, of which the comments are read.
-#[derive(Clone, Debug, Drop, PartialEq)]
+#[derive(Debug, Drop, PartialEq)]
 pub struct SourceCodeInfo {
     pub location: Vec<SourceCodeInfoLocation>,
     /// The fields that the schema lacks, as they came.
@@ -24,6 +24,31 @@ impl MessageName for SourceCodeInfo {
     const FULL_NAME: &'static str = "schema.SourceCodeInfo";
 
     const TYPE_URL: &'static str = "type.googleapis.com/schema.SourceCodeInfo";
+}
+
+impl Clone for SourceCodeInfo {
+    ghost use Rattle.std.specs.Prelude.{◌≡◌};
+    ghost use Rattle.wire_descriptor.specs.SourceCodeInfo.{source_code_info-value};
+
+    ghost is_clone = { λ m copy. source_code_info-value copy ≡ source_code_info-value m };
+
+    fn clone(&self) -> Result<SourceCodeInfo, AllocError> {
+        Ok(SourceCodeInfo {
+            location: copied_list(&self.location)?,
+            unknown: self.unknown.clone()?,
+        })
+    }
+}
+
+impl Twin for SourceCodeInfo {
+    ghost use Rattle.wire_descriptor.specs.SourceCodeInfo.{SourceCodeInfo-Value};
+    ghost use Rattle.wire_descriptor.specs.SourceCodeInfo.{source_code_info-value};
+
+    ghost Seen = { SourceCodeInfo-Value };
+
+    ghost seen = { source_code_info-value };
+
+    ghost same = { λ m copy e. e };
 }
 
 impl Message for SourceCodeInfo {

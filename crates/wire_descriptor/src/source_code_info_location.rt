@@ -1,14 +1,16 @@
 //! The message `schema.SourceCodeInfo.Location`. Generated.
 use bytes::Buf;
-use std::alloc::Global;
+use std::alloc::{AllocError, Global};
 use wire_codec::{
     DecodeContext, DecodeError, EncodeError, EncodeSink, Message, MessageName, SizeCache, Tag,
     UnknownFields,
 };
-use wire_fields::{Implicit, Int32, Kind, Known, Packed, Rest, Text, keep, measure, write};
+use wire_fields::{
+    Implicit, Int32, Kind, Known, Packed, Rest, Text, Twin, copied_numbers, keep, measure, write,
+};
 
 /// The message `SourceCodeInfoLocation`.
-#[derive(Clone, Debug, Drop, PartialEq)]
+#[derive(Debug, Drop, PartialEq)]
 pub struct SourceCodeInfoLocation {
     /// From a file to one of its parts: numbers of fields, each with a place in the list.
     pub path: Vec<i32>,
@@ -25,6 +27,32 @@ impl MessageName for SourceCodeInfoLocation {
     const FULL_NAME: &'static str = "schema.SourceCodeInfo.Location";
 
     const TYPE_URL: &'static str = "type.googleapis.com/schema.SourceCodeInfo.Location";
+}
+
+impl Clone for SourceCodeInfoLocation {
+    ghost use Rattle.std.specs.Prelude.{◌≡◌};
+    ghost use Rattle.wire_descriptor.specs.SourceCodeInfoLocation.{source_code_info_location-value};
+
+    ghost is_clone = { λ m copy. source_code_info_location-value copy ≡ source_code_info_location-value m };
+
+    fn clone(&self) -> Result<SourceCodeInfoLocation, AllocError> {
+        Ok(SourceCodeInfoLocation {
+            path: copied_numbers(&self.path)?,
+            leading_comments: self.leading_comments.clone()?,
+            unknown: self.unknown.clone()?,
+        })
+    }
+}
+
+impl Twin for SourceCodeInfoLocation {
+    ghost use Rattle.wire_descriptor.specs.SourceCodeInfoLocation.{SourceCodeInfoLocation-Value};
+    ghost use Rattle.wire_descriptor.specs.SourceCodeInfoLocation.{source_code_info_location-value};
+
+    ghost Seen = { SourceCodeInfoLocation-Value };
+
+    ghost seen = { source_code_info_location-value };
+
+    ghost same = { λ m copy e. e };
 }
 
 impl Message for SourceCodeInfoLocation {

@@ -1,5 +1,6 @@
 //! The code of a message type.
 use crate::comments::put_comment;
+use crate::copies::set_clone;
 use crate::error::GenerateError;
 use crate::field::Field;
 use crate::imports::code_imports;
@@ -26,7 +27,7 @@ wire_fields write
 ";
 
 const STRUCT: &str = "\
-#[derive(Clone, Debug, Drop, PartialEq)]
+#[derive($derived$Debug, Drop, PartialEq)]
 pub struct $name$ {$declared$}
 ";
 
@@ -239,9 +240,12 @@ pub(crate) fn code_of(
         page.append("uses", "wire_fields Parts\n");
     }
     set_rest(&mut page, fields.is_empty());
+    if message.is_twin {
+        set_clone(&mut page, fields, tree);
+    }
     put_head(&mut page, schema, message);
     put_lets(&mut page, fields, tree, None);
-    page.append("code", MESSAGE);
+    page.append_all(&[("code", "$clone$"), ("code", MESSAGE)]);
     for part in &tree.parts {
         put_lets(&mut page, fields, tree, Some(part));
         page.copy(
@@ -250,6 +254,7 @@ pub(crate) fn code_of(
         );
         page.append("code", PART);
     }
+    page.append("code", "$copied_apart$");
     page.finish("code")
 }
 
@@ -278,11 +283,12 @@ pub(crate) fn put_head(page: &mut Words, schema: &Schema, message: &MessageType)
         "" => page.append("code", "/// The message `$name$`.\n"),
         comment => put_comment(page, "code", "", comment),
     }
+    page.set("derived", if message.is_twin { "" } else { "Clone, " });
     page.append_all(&[("code", STRUCT), ("code", NAME)]);
 }
 
-// Puts lines where they stand between braces: on lines of their own.
-fn put_in_braces(page: &mut Words, name: &'static str) {
+/// Puts lines where they stand between braces: on lines of their own.
+pub(crate) fn put_in_braces(page: &mut Words, name: &'static str) {
     let lines = page.take(name);
     if !lines.is_empty() {
         page.set("lines", &lines);
@@ -290,7 +296,7 @@ fn put_in_braces(page: &mut Words, name: &'static str) {
             name,
             match name {
                 "declared" => "\n$lines$",
-                "emptied" => "\n$lines$        ",
+                "emptied" | "copied" => "\n$lines$        ",
                 _ => "\n$lines$    ",
             },
         );

@@ -1,7 +1,9 @@
 //! The definitions of a message type.
+use crate::copies::put_copies;
 use crate::error::GenerateError;
 use crate::field::Field;
 use crate::imports::definition_imports;
+use crate::schema::MessageType;
 use crate::tree::Tree;
 use crate::words::{Template, Words};
 
@@ -198,8 +200,9 @@ pub(crate) fn definitions_of(
     base: &Words,
     fields: &[Field],
     tree: &Tree,
-    is_read_back: bool,
+    message: &MessageType,
 ) -> Result<String, GenerateError> {
+    let is_read_back = message.is_read_back;
     let mut page = Words::like(base);
     page.fill("uses", USES);
     let is_kept = page.get("unknown") == "keep";
@@ -235,6 +238,9 @@ pub(crate) fn definitions_of(
     for part in &tree.parts {
         put_tree(&mut page, &part.words);
         page.append_all(&[("values", PART_VALUE), ("shapes", PART_SHAPE)]);
+    }
+    if message.is_twin {
+        put_copies(&mut page, fields, tree);
     }
     put_tree(&mut page, &tree.words);
     page.indent("tree_view");

@@ -11,6 +11,10 @@ const ENUM: &str = "\
 pub enum $name$ {
 $values$}
 
+impl Plain for $name$ {
+    ghost equal = { λ value copy e. e };
+}
+
 impl Enumeration for $name$ {
     ghost use Rattle.std.specs.Prelude.{codes};
     ghost use Rattle.wire_codec.specs.EnumNumbers.{first_numbered_keeps};
@@ -118,7 +122,7 @@ pub(crate) fn enum_files(
     page.set("full", of_enum.words.get("full").trim_start_matches('.'));
     page.fill(
         "code",
-        "//! The enum `$full$`. Generated.\nuse wire_codec::Enumeration;\n\n",
+        "//! The enum `$full$`. Generated.\nuse wire_codec::Enumeration;\nuse wire_fields::Plain;\n\n",
     );
     match schema.comment(of_enum.words.get("place")) {
         "" => page.append("code", "/// The enum `$name$`.\n"),

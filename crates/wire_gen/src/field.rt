@@ -308,7 +308,7 @@ const PLAIN: [Template; 8] = [
     ("call", "merge"),
 ];
 
-const ONEOF: [Template; 14] = [
+const ONEOF: [Template; 15] = [
     ("range", "$module$-range"),
     ("returned", "$module$-returned g"),
     (
@@ -324,6 +324,7 @@ const ONEOF: [Template; 14] = [
     ("table", "$module$-shape"),
     ("step", "$module$-shape.takes"),
     ("call", "merge"),
+    ("copy", "copied_$module$(&self.$field$)?"),
     (
         "code",
         "crate::$module$ $name$\ncrate::$module$ $name$Kind\n",
@@ -366,13 +367,16 @@ fn element_size(schema: &Schema, field: &FieldDescriptorProto) -> i32 {
     let mut size: i32 = 24;
     if let Some(message) = schema.message(&field.type_name) {
         for field in &message.descriptor.field {
-            let of_field = match (field.label, field.type_) {
-                (LABEL_REPEATED, _) | (_, 9 | 12) => 24,
-                (_, 10 | 11) => 8,
-                _ => 16,
-            };
-            size = size.saturating_add(of_field);
+            size = size.saturating_add(size_of(field));
         }
     }
     size
+}
+
+fn size_of(field: &FieldDescriptorProto) -> i32 {
+    match (field.label, field.type_) {
+        (LABEL_REPEATED, _) | (_, 9 | 12) => 24,
+        (_, 10 | 11) => 8,
+        _ => 16,
+    }
 }

@@ -18,10 +18,11 @@ pub(crate) enum Sort {
 // The words of a value: its type in code, `held`, and its name among the `kind`s of fields; as
 // contracts see it, its type `value`, what stands `before` and `behind` one in code, and the same
 // as a function, `view`; its `definition`; the `form` and the `map` of a number, and `numeric`
-// where it is one; the `wire_type` of its records; `closed`, where it is of an enum that is;
+// where it is one; the `wire_type` of its records; copies of a field, `copy_once` and
+// `copy_option`, and of a `value`, `copy_value`; `closed`, where it is of an enum that is;
 // `order` and `order_numbers` as the key of a map; and lines of names that are brought in, of
 // `code`, of `definitions`, and `ghosts` of clauses.
-const STRING: [Template; 8] = [
+const STRING: [Template; 10] = [
     ("held", "String"),
     ("kind", "Text"),
     ("before", "string_bytes "),
@@ -29,24 +30,29 @@ const STRING: [Template; 8] = [
     ("view", "(λ s. string_bytes s)"),
     ("definition", "string"),
     ("order", "text_map"),
+    ("copy_once", "self.$field$.clone()?"),
+    ("copy_value", "value.clone()?"),
     ("ghosts", "Rattle.std.specs.Prelude string_bytes\n"),
 ];
 
-const BYTES: [Template; 7] = [
+const BYTES: [Template; 9] = [
     ("held", "Vec<u8>"),
     ("kind", "Blob"),
     ("before", ""),
     ("behind", ".items"),
     ("view", "(λ b. b.items)"),
     ("definition", "any_bytes"),
+    ("copy_once", "copied_numbers(&self.$field$)?"),
+    ("copy_value", "copied_numbers(value)?"),
     ("ghosts", ""),
 ];
 
-const TEXT: [Template; 9] = [
+const TEXT: [Template; 10] = [
     ("value", "List ℕ"),
     ("numeric", ""),
     ("order_numbers", ""),
     ("wire_type", "LengthDelimited"),
+    ("copy_option", "copied_option(&self.$field$)?"),
     ("item_range", "$definition$_range"),
     ("item_back", "$definition$_back"),
     (
@@ -72,13 +78,16 @@ const OF_TEXT: [Template; 3] = [
     ),
 ];
 
-const NUMBER: [Template; 7] = [
+const NUMBER: [Template; 10] = [
     ("wire_type", "$form$"),
     ("before", ""),
     ("behind", ""),
     ("view", "(λ v. v)"),
     ("definition", "(numeric $form$ $map$)"),
     ("numeric", "Rattle.wire_fields.specs.Numbers numeric\n"),
+    ("copy_once", "self.$field$"),
+    ("copy_option", "self.$field$"),
+    ("copy_value", "*value"),
     ("ghosts", ""),
 ];
 
@@ -160,7 +169,7 @@ const OF_ENUM: [Template; 5] = [
     ),
 ];
 
-const MESSAGE: [Template; 13] = [
+const MESSAGE: [Template; 14] = [
     ("scalar_uses", ""),
     ("item_range", "$of_module$-range"),
     ("item_back", "($of_module$-returned g)"),
@@ -175,6 +184,7 @@ const MESSAGE: [Template; 13] = [
     ("behind", ""),
     ("view", "$of_module$-value"),
     ("definition", "$of_module$-shape"),
+    ("copy_value", "value.clone()?"),
     ("numeric", ""),
     ("ghosts", "$specs$ $of_module$-value\n"),
 ];

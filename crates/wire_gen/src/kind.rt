@@ -8,7 +8,7 @@ const LABEL_REPEATED: i32 = 3;
 
 /// Templates of a kind of field over the words of its values: names that are brought in, and then
 /// the type that a message holds, the kind, the type as contracts see it, how what a message `m`
-/// holds is seen so, and the definition.
+/// holds is seen so, the definition, and a copy.
 struct Kind {
     code: &'static str,
     definitions: &'static str,
@@ -17,6 +17,7 @@ struct Kind {
     value: &'static str,
     view: &'static str,
     definition: &'static str,
+    copy: &'static str,
     back: Back,
 }
 
@@ -36,6 +37,7 @@ const IMPLICIT: Kind = Kind {
     value: "$value$",
     view: "$before$m.$field$$behind$",
     definition: "implicit $definition$",
+    copy: "$copy_once$",
     back: Back {
         range: "$item_range$",
         returned: "implicit_returned g _ _ $item_back$",
@@ -52,6 +54,7 @@ const OPTIONAL: Kind = Kind {
     value: "Option $bracketed$",
     view: "option_map $view$ m.$field$",
     definition: "optional $definition$",
+    copy: "$copy_option$",
     back: Back {
         range: "optional_range $item_range$",
         returned: "optional_returned g _ _ $item_back$",
@@ -69,6 +72,7 @@ const EMBEDDED: Kind = Kind {
     value: "Option $value$",
     view: "boxed_value $view$ m.$field$",
     definition: "embedded_once $definition$",
+    copy: "copied_box(&self.$field$)?",
     back: Back {
         range: "once_range $of_module$-shape $item_range$",
         returned: "embedded_once_returned g _ _ $item_back$",
@@ -86,6 +90,7 @@ const GROUP: Kind = Kind {
     value: "Option $value$",
     view: "boxed_value $view$ m.$field$",
     definition: "group_once $definition$",
+    copy: "copied_box(&self.$field$)?",
     back: Back {
         range: "once_range $of_module$-shape $item_range$",
         returned: "group_once_returned g _ _ $item_back$",
@@ -103,6 +108,7 @@ const EACH_EMBEDDED: Kind = Kind {
     value: "List $value$",
     view: "map $view$ m.$field$.items",
     definition: "embedded_each $size$ $definition$",
+    copy: "copied_list(&self.$field$)?",
     back: Back {
         range: "each_range $size$ $of_module$-shape $item_range$",
         returned: "embedded_each_returned g _ _ $item_back$ $size$",
@@ -120,6 +126,7 @@ const EACH_GROUP: Kind = Kind {
     value: "List $value$",
     view: "map $view$ m.$field$.items",
     definition: "group_each $size$ $definition$",
+    copy: "copied_list(&self.$field$)?",
     back: Back {
         range: "each_range $size$ $of_module$-shape $item_range$",
         returned: "group_each_returned g _ _ $item_back$ $size$",
@@ -136,6 +143,7 @@ const PACKED: Kind = Kind {
     value: "List $bracketed$",
     view: "m.$field$.items",
     definition: "packed $form$ $map$",
+    copy: "copied_numbers(&self.$field$)?",
     back: Back {
         range: "packed_range $form$ $map$ $item_range$",
         returned: "packed_returned g _ _ $item_range$ $number_back$",
@@ -152,6 +160,7 @@ const UNPACKED: Kind = Kind {
     value: "List $bracketed$",
     view: "m.$field$.items",
     definition: "unpacked $form$ $map$",
+    copy: "copied_numbers(&self.$field$)?",
     back: Back {
         range: "unpacked_range $item_range$",
         returned: "unpacked_returned g _ _ $item_range$ $number_back$",
@@ -168,6 +177,7 @@ const REPEATED: Kind = Kind {
     value: "List (List ℕ)",
     view: "map $view$ m.$field$.items",
     definition: "repeated $of_text$ $definition$",
+    copy: "copied_list(&self.$field$)?",
     back: Back {
         range: "repeated_range $of_text$ $item_range$",
         returned: "repeated_returned g _ _ $item_back$ $of_text$",
@@ -185,6 +195,7 @@ const MAP: Kind = Kind {
     value: "List ($key_bracketed$ × $bracketed$)",
     view: "viewed $key_view$ $view$ m.$field$.entries",
     definition: "$key_order$ $of_entry$$key_numbers$ ($always$ $definition$)",
+    copy: "copied_map(&self.$field$)?",
     back: Back {
         range: "$key_order$_range $of_entry$$key_numbers$ ($always$ $plain$)\n    $key_range_there$$always_range$",
         returned: "map_returned g _ _ _ _ $key_range$\n    $always_range$ $key_back$\n    ($always_returned$)",
@@ -365,5 +376,6 @@ fn put_kind(kind: &Kind, words: &mut Words) {
     words.fill("held", kind.held);
     words.fill("kind", kind.kind);
     words.fill("definition", kind.definition);
+    words.fill("copy", kind.copy);
     bracket(words);
 }

@@ -5,12 +5,14 @@
 mod answers;
 mod code;
 mod comments;
+mod copies;
 mod definitions;
 mod enums;
 mod error;
 mod extensions;
 mod features;
 mod field;
+mod holding;
 mod imports;
 mod item;
 mod keeping;

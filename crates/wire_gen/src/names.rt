@@ -13,12 +13,12 @@ const WORDS: &str = "abbrev abstract as assumption async await become box break 
 
 // Names of types that each generated module has, or that the language does. A message, an enum or
 // its value of such a name has an underscore behind it.
-const TYPES: &str = "Always AlwaysEmbedded BTreeMap Blob Bool Box Buf Clone Copy Debug \
+const TYPES: &str = "AllocError Always AlwaysEmbedded BTreeMap Blob Bool Box Buf Clone Copy Debug \
     DecodeContext DecodeError Double DoubleBits Drop EachEmbedded EachGroup Embedded EncodeError \
     EncodeSink Enum EnumValue Enumeration Eq Err FieldKind Fields Fixed32 Fixed64 Float \
     FloatBits Global Group Hash Implicit Int32 Int64 Kind Known Lawful Lib List Map Message None \
-    Ok Option Optional Packed PartialEq Records Repeated Rest Result Self Sfixed32 Sfixed64 \
-    Shape Sint32 Sint64 Size SizeCache Some Step String Tag Text Type Uint32 Uint64 \
+    Ok Option Optional Packed PartialEq Plain Records Repeated Rest Result Self Sfixed32 Sfixed64 \
+    Shape Sint32 Sint64 Size SizeCache Some Step String Tag Text Twin Type Uint32 Uint64 \
     UnknownFields Unpacked Variants Vec";
 
 /// A name of capitals, `OuterInner` of `Outer.Inner` and of `outer_inner`.
@@ -83,4 +83,35 @@ fn escaped(mut name: String, taken: &str) -> Result<String, GenerateError> {
         name.push('_')?;
     }
     Ok(name)
+}
+
+/// A text for a name, so that the order of the texts is that of the names in the formatter's lists:
+/// by their letters, with `_` before all others, and numbers by their values.
+pub(crate) fn order_key(alloc: Global, name: &str) -> Result<String, GenerateError> {
+    let mut key = String::new(alloc);
+    let mut number = String::new(alloc);
+    for letter in name.chars() {
+        if letter.is_ascii_digit() {
+            if number.as_str() == "0" {
+                number.clear();
+            }
+            number.push(letter)?;
+        } else {
+            put_number(alloc, &mut number, &mut key)?;
+            key.push(if letter == '_' { '!' } else { letter })?;
+        }
+    }
+    put_number(alloc, &mut number, &mut key)?;
+    Ok(key)
+}
+
+// Moves the digits of a number behind the key, and behind their count.
+fn put_number(alloc: Global, number: &mut String, key: &mut String) -> Result<(), GenerateError> {
+    if number.is_empty() {
+        return Ok(());
+    }
+    key.push_str(&number.len().to_string(alloc)?)?;
+    key.push_str(number)?;
+    number.clear();
+    Ok(())
 }

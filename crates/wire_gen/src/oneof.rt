@@ -42,7 +42,7 @@ const ENUM: &str = "
 #[derive(Clone, Debug, Drop, PartialEq)]
 pub enum $name$ {
 $declared$}
-
+$copy$
 /// The fields of the oneof, of which one stands at most.
 pub struct $name$Kind;
 
@@ -135,6 +135,18 @@ fn take_$word$(alloc: Global, held: &mut Option<$name$>) -> $held$
 }
 ";
 
+// (a copy is seen as its source is)
+const COPY: &str = "
+// A copy of what stands.
+pub(crate) fn copied_$module$($copy_held$) -> Result<Option<$name$>, AllocError>
+    ensures { IfOk result (λ copy. $module$-of copy ≡ $module$-of held.now) }
+{
+    match held {
+$copies$        None => Ok(None),
+    }
+}
+";
+
 const LEN: &str = "    \
     fn len(_number: u32, held: &Option<$name$>, cache: &mut SizeCache) -> Result<u64, EncodeError> {
 ";
@@ -164,7 +176,11 @@ const OF_VARIANT: [Template; 7] = [
 ];
 
 /// The module of a oneof, whose words the base has.
-pub(crate) fn oneof_code(base: &Words, oneof: &Oneof) -> Result<String, GenerateError> {
+pub(crate) fn oneof_code(
+    base: &Words,
+    oneof: &Oneof,
+    is_twin: bool,
+) -> Result<String, GenerateError> {
     let mut page = Words::like(base);
     page.fill_all(&[("ghosts", GHOSTS), ("uses", USES)]);
     let last = oneof.variants.len().saturating_sub(1);
@@ -172,13 +188,28 @@ pub(crate) fn oneof_code(base: &Words, oneof: &Oneof) -> Result<String, Generate
         page.copy(
             variant,
             &[
-                "variant", "word", "digits", "held", "kind", "before", "behind", "presence", "code",
+                "variant",
+                "word",
+                "digits",
+                "held",
+                "kind",
+                "before",
+                "behind",
+                "presence",
+                "code",
+                "copy_value",
             ],
         );
         page.set("of_ghosts", variant.get("ghosts"));
         page.append_all(&OF_VARIANT);
         put_calls(&mut page);
         put_arm(&mut page, place, last);
+        if is_twin {
+            put_copy(&mut page);
+        }
+    }
+    if is_twin {
+        set_copy(&mut page);
     }
     page.fill("len_head", LEN);
     // (its line's end counted)
@@ -229,6 +260,44 @@ fn put_calls(page: &mut Words) {
         "<$presence$<$kind$> as Kind>::put($digits$, value, cache, sink)",
     );
     put_call(page, "puts");
+}
+
+// The arm of a copy.
+fn put_copy(page: &mut Words) {
+    page.fill("head", "        Some($name$::$variant$(value)) => ");
+    page.fill("call", "Ok(Some($name$::$variant$($copy_value$)))");
+    let width = page
+        .get("head")
+        .len()
+        .saturating_add(page.get("call").len());
+    page.append(
+        "copies",
+        if width < WIDTH {
+            "$head$$call$,\n"
+        } else {
+            "$head${\n            $call$\n        }\n"
+        },
+    );
+    if page.get("copy_value").starts_with("copied_numbers") {
+        page.append("uses", "wire_fields copied_numbers\n");
+    }
+}
+
+// The function that copies what stands.
+fn set_copy(page: &mut Words) {
+    page.append_all(&[
+        ("uses", "std::alloc AllocError\n"),
+        ("ghosts", "Rattle.std.specs.Prelude IfOk\n"),
+    ]);
+    page.fill("copy_held", "held: &Option<$name$>");
+    page.fill(
+        "head",
+        "pub(crate) fn copied_$module$($copy_held$) -> Result<Option<$name$>, AllocError>",
+    );
+    if page.get("head").len() > WIDTH {
+        page.fill("copy_held", "\n    $copy_held$,\n");
+    }
+    page.fill("copy", COPY);
 }
 
 fn put_call(page: &mut Words, name: &'static str) {

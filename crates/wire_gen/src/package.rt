@@ -8,6 +8,7 @@ use crate::extensions::extensions_of;
 use crate::features::{FIRST_EDITION, LAST_EDITION};
 use crate::field::{Field, Oneof, fields_of};
 use crate::laws_pages::{LAW, LAW_ANSWERS, LAW_USES, LAWS};
+use crate::names::order_key;
 use crate::oneof::oneof_code;
 use crate::oneof_definitions::oneof_definitions;
 use crate::oneof_proofs::{merge_answers, variant_answers};
@@ -136,7 +137,7 @@ impl Package {
         }
         let tree = tree_of(&page, &mut fields)?;
         let code = code_of(&page, schema, message, &fields, &tree)?;
-        let definitions = definitions_of(&page, &fields, &tree, message.is_read_back)?;
+        let definitions = definitions_of(&page, &fields, &tree, message)?;
         let answers = answers_of(&page, &fields, &tree, false)?;
         self.add_type(&mut page, code, definitions)?;
         if message.is_read_back {
@@ -144,7 +145,7 @@ impl Package {
         }
         for field in &fields {
             if let Some(oneof) = &field.oneof {
-                self.add_oneof(oneof, message.is_read_back)?;
+                self.add_oneof(oneof, message)?;
             }
         }
         if fields.is_empty() {
@@ -176,7 +177,7 @@ impl Package {
         self.add_type(&mut page, code, definitions)?;
         for field in &leaf {
             if let Some(oneof) = &field.oneof {
-                self.add_oneof(oneof, false)?;
+                self.add_oneof(oneof, message)?;
             }
         }
         let folder = "proofs/$module$/$name$Recursive";
@@ -189,10 +190,11 @@ impl Package {
         Ok(())
     }
 
-    fn add_oneof(&mut self, oneof: &Oneof, is_read_back: bool) -> Result<(), GenerateError> {
+    // A oneof of a message.
+    fn add_oneof(&mut self, oneof: &Oneof, message: &MessageType) -> Result<(), GenerateError> {
         let mut page = self.page(&oneof.words);
-        let code = oneof_code(&page, oneof)?;
-        let definitions = oneof_definitions(&page, oneof, is_read_back)?;
+        let code = oneof_code(&page, oneof, message.is_twin)?;
+        let definitions = oneof_definitions(&page, oneof, message.is_read_back)?;
         self.add_type(&mut page, code, definitions)?;
         if oneof.variants.len() > 1 {
             let answers = merge_answers(&page, oneof)?;
@@ -224,14 +226,16 @@ impl Package {
         code: String,
         definitions: String,
     ) -> Result<(), GenerateError> {
-        page.fill("line", "mod $module$;\n");
+        page.fill("line", "mod $module$\n");
         if self.roots.get("modules").contains(page.get("line")) {
             return Err(page.refused("$full$: another type is called $name$ too"));
         }
         self.roots.copy(page, &["name", "module"]);
+        let key = order_key(page.alloc(), page.get("module"))?;
+        self.roots.set("key", &key);
         self.roots.append_all(&[
-            ("modules", "mod $module$;\n"),
-            ("exports", "pub use $module$::$name$;\n"),
+            ("modules", "mod $module$\n"),
+            ("exports", "$key$\tpub use $module$::$name$;\n"),
             ("definitions", "pub mod $name$\n"),
         ]);
         self.add(page, "src/$module$.rt", code)?;
@@ -245,7 +249,7 @@ impl Package {
         }
         self.roots.append_all(&[
             ("needs", " wire_extensions"),
-            ("modules", "pub mod extensions;\n"),
+            ("modules", "mod extensions\n"),
         ]);
         let mut page = Words::like(&self.base);
         self.add(&mut page, "src/extensions.rt", code)
@@ -268,7 +272,7 @@ impl Package {
     // The files that name the others.
     fn add_roots(&mut self) -> Result<(), GenerateError> {
         if !self.roots.get("laws").is_empty() {
-            self.roots.append("modules", "mod laws;\n");
+            self.roots.append("modules", "mod laws\n");
         }
         let mut roots = Words::like(&self.roots);
         for name in ["modules", "exports", "definitions"] {
@@ -290,18 +294,18 @@ impl Package {
     }
 }
 
-// Puts the lines of a word in order.
+// Puts the lines of a word in order: the modules by their names, and what they pass on by its key.
 fn sort_lines(roots: &mut Words, name: &'static str) {
     let lines = roots.take(name);
     for line in roots.sorted(&lines) {
+        let (_, line) = line.split_once('\t').unwrap_or(("", line));
         roots.set("line", line);
-        let is_public = matches!(line, "mod extensions;" | "mod laws;");
         roots.append(
             name,
-            if is_public {
-                "pub $line$\n"
-            } else {
-                "$line$\n"
+            match (name, line) {
+                ("modules", "mod extensions" | "mod laws") => "pub $line$;\n",
+                ("modules", _) => "$line$;\n",
+                _ => "$line$\n",
             },
         );
     }

@@ -34,6 +34,8 @@ pub(crate) struct MessageType {
     pub is_read_back: bool,
     /// Whether it holds messages of its own type.
     pub is_recursive: bool,
+    /// Whether a clone is seen by contracts as its source is.
+    pub is_twin: bool,
 }
 
 /// An enum, with the words of a message type.
@@ -61,7 +63,7 @@ struct Comment {
 
 #[derive(Drop)]
 pub(crate) struct Schema {
-    alloc: Global,
+    pub alloc: Global,
     pub messages: Vec<MessageType>,
     /// The types of the entries of maps.
     pub entries: Vec<MessageType>,
@@ -102,6 +104,7 @@ impl Schema {
         schema.stop_on_cycles()?;
         let has_laws = base.get("mismatch") == "refuse" && base.get("without_laws").is_empty();
         schema.find_read_back(has_laws)?;
+        schema.find_twins()?;
         Ok(schema)
     }
 
@@ -136,6 +139,7 @@ impl Schema {
                 descriptor: descriptor.clone()?,
                 is_read_back: true,
                 is_recursive: false,
+                is_twin: true,
             })?;
         }
         for _ in 0..MOST_MESSAGES {
@@ -168,6 +172,7 @@ impl Schema {
                 descriptor,
                 is_read_back: true,
                 is_recursive: false,
+                is_twin: true,
             })?;
         }
         let enums = &descriptor.enum_type;
@@ -182,6 +187,7 @@ impl Schema {
             descriptor: message.descriptor,
             is_read_back: true,
             is_recursive: false,
+            is_twin: true,
         };
         if is_entry {
             self.entries.push(message)?;
@@ -264,107 +270,6 @@ impl Schema {
         match self.comments.iter().find(|it| it.place.as_str() == place) {
             Some(comment) => &comment.text,
             None => "",
-        }
-    }
-
-    // No message types hold one another: each turn leaves those open that hold an open one beside
-    // themselves.
-    fn stop_on_cycles(&mut self) -> Result<(), GenerateError> {
-        let held = self.held_by_each()?;
-        let mut open = self.flags(true)?;
-        for _ in 0..self.messages.len() {
-            let mut next = self.flags(false)?;
-            for (holder, held) in &held {
-                if holder != held && open.get(*held) == Some(&true) {
-                    if let Some(flag) = next.get_mut(*holder) {
-                        *flag = true;
-                    }
-                }
-            }
-            if next == open {
-                break;
-            }
-            open = next;
-        }
-        for (message, is_open) in self.messages.iter_mut().zip(open) {
-            if is_open && message.origin.is_own {
-                let why =
-                    "$full$: messages that hold one another want encoded=FIELD, of one between \
-                           them";
-                return Err(message.words.refused(why));
-            }
-        }
-        for (holder, held) in held {
-            if let Some(message) = self.messages.get_mut(holder) {
-                message.is_recursive |= holder == held;
-            }
-        }
-        Ok(())
-    }
-
-    // Closed enums and records of other wire types are left to the unknown fields, and of these no
-    // law is there, nor of messages that hold themselves, nor of what holds such a message.
-    fn find_read_back(&mut self, has_laws: bool) -> Result<(), GenerateError> {
-        let held = self.held_by_each()?;
-        let mut flags = self.flags(has_laws)?;
-        for (message, flag) in self.messages.iter().zip(flags.iter_mut()) {
-            let has_closed = message.descriptor.field.iter().any(|it| self.is_closed(it));
-            *flag &= !has_closed && !message.is_recursive;
-        }
-        for _ in 0..self.messages.len() {
-            for (holder, held) in &held {
-                if flags.get(*held) == Some(&false) {
-                    if let Some(flag) = flags.get_mut(*holder) {
-                        *flag = false;
-                    }
-                }
-            }
-        }
-        for (message, flag) in self.messages.iter_mut().zip(flags) {
-            message.is_read_back = flag;
-        }
-        Ok(())
-    }
-
-    fn is_closed(&self, field: &FieldDescriptorProto) -> bool {
-        match self.enum_of(&field.type_name) {
-            Some(of_enum) => field.type_ == 14 && of_enum.origin.features.is_closed(),
-            None => false,
-        }
-    }
-
-    // A flag for each message type.
-    fn flags(&self, flag: bool) -> Result<Vec<bool>, GenerateError> {
-        let mut flags = Vec::new(self.alloc);
-        for _ in &self.messages {
-            flags.push(flag)?;
-        }
-        Ok(flags)
-    }
-
-    // The places of message types, each with that of one that it holds.
-    fn held_by_each(&self) -> Result<Vec<(usize, usize)>, GenerateError> {
-        let mut pairs = Vec::new(self.alloc);
-        for (holder, message) in self.messages.iter().enumerate() {
-            for field in &message.descriptor.field {
-                let held = self.held(field);
-                let mut places = self.messages.iter();
-                if let Some(held) = places.position(|it| it.words.get("full") == held) {
-                    pairs.push((holder, held))?;
-                }
-            }
-        }
-        Ok(pairs)
-    }
-
-    // The message that a field holds, as values of a map too; nothing where it holds none.
-    fn held<'a>(&'a self, field: &'a FieldDescriptorProto) -> &'a str {
-        match self.entry(&field.type_name) {
-            Some(entry) => match entry.descriptor.field.iter().find(|it| it.number == 2) {
-                Some(value) => value.type_name.as_str(),
-                None => "",
-            },
-            None => field.type_name.as_str(),
         }
     }
 

@@ -23,9 +23,9 @@ pub(crate) struct Tree {
 
 /// Fields in a row, as one part of the tree. Its words are the first and the last number, `low` and
 /// `high`; the `local` of code that has the pair; its type `value` as contracts see it, and how a
-/// message `m` is seen so, its `view`; the `table`, and why a number is none of it, `unlike`; the
-/// `range` of values that are read back, why they are, `returned`, and why a number `h` that is one
-/// of it is none of others, `apart`.
+/// message `m` is seen so, its `view`, and the same field by field, `seen`; the `table`, and why a
+/// number is none of it, `unlike`; the `range` of values that are read back, why they are,
+/// `returned`, and why a number `h` that is one of it is none of others, `apart`.
 #[derive(Drop)]
 pub(crate) struct Node {
     pub first: usize,
@@ -70,14 +70,21 @@ impl Tree {
             None => between.next().is_none(),
         }
     }
+
+    /// The part of the field at this place that is in no other.
+    pub(crate) fn outermost(&self, place: usize) -> Option<&Node> {
+        let behind = place.saturating_add(1);
+        self.parts.iter().filter(|it| it.has(place, behind)).last()
+    }
 }
 
-const LEAF: [Template; 10] = [
+const LEAF: [Template; 11] = [
     ("low", "$number$"),
     ("high", "$number$"),
     ("local", "field_$number$"),
     ("value", "$bracketed$"),
     ("view", "$view$"),
+    ("seen", "$view$"),
     ("table", "$table$"),
     ("range", "$range$"),
     ("returned", "$returned$"),
@@ -86,10 +93,11 @@ const LEAF: [Template; 10] = [
 ];
 
 // What is taken over from the right part of a pair.
-const RIGHT: [Template; 10] = [
+const RIGHT: [Template; 11] = [
     ("right_local", "local"),
     ("right_value", "value"),
     ("right_view", "view"),
+    ("right_seen", "seen"),
     ("right_table", "table"),
     ("right_unlike", "unlike"),
     ("right_range", "range"),
@@ -99,9 +107,10 @@ const RIGHT: [Template; 10] = [
     ("high", "high"),
 ];
 
-const PAIR: [Template; 9] = [
+const PAIR: [Template; 10] = [
     ("value", "($value$\n    × $right_value$)"),
     ("view", "(\n$view$,\n$right_view$,\n)"),
+    ("seen", "(\n$seen$,\n$right_seen$,\n)"),
     ("table", "$both$ ($table$)\n    ($right_table$)"),
     ("unlike", "neither _ _ ($unlike$)\n$margin$($right_unlike$)"),
     ("maps", "$maps$$right_maps$"),
@@ -121,10 +130,12 @@ const PAIR: [Template; 9] = [
 ];
 
 // What a part by itself is called, in code and in definitions, and its value.
-const NAMES: [Template; 3] = [
+const NAMES: [Template; 5] = [
     ("part_type", "$name$Fields$low$To$high$"),
     ("part_words", "$module$-fields-$low$-to-$high$"),
     ("part_value", "$name$-Fields-$low$-To-$high$"),
+    ("copies_type", "$name$Copies$low$To$high$"),
+    ("copies_words", "$module$-copies-$low$-to-$high$"),
 ];
 
 // The name in the place of what it is.
@@ -249,8 +260,9 @@ impl Tree {
         for (name, of) in &RIGHT {
             words.set(name, right.words.get(of));
         }
-        words.indent("view");
-        words.indent("right_view");
+        for name in ["view", "right_view", "seen", "right_seen"] {
+            words.indent(name);
+        }
         words.indent_rest("apart");
         words.set("right_in", right.words.get("apart"));
         words.indent_rest("right_in");

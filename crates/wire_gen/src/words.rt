@@ -42,12 +42,10 @@ impl Words {
     }
 
     pub(crate) fn get(&self, name: &str) -> &str {
-        for word in &self.words {
-            if word.name == name {
-                return &word.text;
-            }
+        match self.words.get(self.place(name)) {
+            Some(word) => &word.text,
+            None => "",
         }
-        ""
     }
 
     /// Makes a text the word of this name.
@@ -142,12 +140,12 @@ impl Words {
 
     /// Takes the word out.
     pub(crate) fn take(&mut self, name: &str) -> String {
-        for word in &mut self.words {
-            if word.name == name {
-                return std::mem::replace(&mut word.text, String::new(self.alloc));
-            }
+        let place = self.place(name);
+        let empty = String::new(self.alloc);
+        match self.words.get_mut(place) {
+            Some(word) => std::mem::replace(&mut word.text, empty),
+            None => empty,
         }
-        String::new(self.alloc)
     }
 
     /// The lines of a text in order, each once, and no empty ones.
@@ -189,15 +187,25 @@ impl Words {
     }
 
     fn put(&mut self, name: &'static str, text: String) {
-        for word in &mut self.words {
+        let place = self.place(name);
+        match self.words.get_mut(place) {
+            Some(word) => word.text = text,
+            None => self.add(Word { name, text }),
+        }
+    }
+
+    fn add(&mut self, word: Word) {
+        self.is_short |= self.words.push(word).is_err();
+    }
+
+    // Where the word of this name is: behind all, where there is none.
+    fn place(&self, name: &str) -> usize {
+        for (place, word) in self.words.iter().enumerate() {
             if word.name == name {
-                word.text = text;
-                return;
+                return place;
             }
         }
-        if self.words.push(Word { name, text }).is_err() {
-            self.is_short = true;
-        }
+        self.words.len()
     }
 
     fn put_filled(&mut self, template: &str, text: &mut String) {

@@ -1,9 +1,9 @@
 //! The message `report.Report`. Generated.
 use crate::report_level::ReportLevel;
-use crate::report_origin::{ReportOrigin, ReportOriginKind};
+use crate::report_origin::{ReportOrigin, ReportOriginKind, copied_report_origin};
 use crate::report_sample::ReportSample;
 use bytes::Buf;
-use std::alloc::Global;
+use std::alloc::{AllocError, Global};
 use std::collections::BTreeMap;
 use wire_codec::{
     DecodeContext, DecodeError, EncodeError, EncodeSink, EnumValue, Message, MessageName,
@@ -11,12 +11,12 @@ use wire_codec::{
 };
 use wire_fields::{
     Always, AlwaysEmbedded, Blob, Bool, Double, DoubleBits, EachEmbedded, Embedded, Enum, Fixed64,
-    Implicit, Kind, Known, Map, Optional, Packed, Parts, Repeated, Rest, Sint32, Text, Uint32,
-    Unpacked, keep, measure, write,
+    Implicit, Kind, Known, Map, Optional, Packed, Parts, Repeated, Rest, Sint32, Text, Twin,
+    Uint32, Unpacked, copied_box, copied_list, copied_map, copied_numbers, keep, measure, write,
 };
 
 /// A report, with fields of each common kind.
-#[derive(Clone, Debug, Drop, PartialEq)]
+#[derive(Debug, Drop, PartialEq)]
 pub struct Report {
     pub host: String,
     /// In nanoseconds since 1970.
@@ -46,6 +46,44 @@ impl MessageName for Report {
     const FULL_NAME: &'static str = "report.Report";
 
     const TYPE_URL: &'static str = "type.googleapis.com/report.Report";
+}
+
+impl Clone for Report {
+    ghost use Rattle.std.specs.Prelude.{◌≡◌};
+    ghost use Rattle.wire_report.specs.Report.{report-value};
+
+    ghost is_clone = { λ m copy. report-value copy ≡ report-value m };
+
+    fn clone(&self) -> Result<Report, AllocError> {
+        Ok(Report {
+            host: self.host.clone()?,
+            sent_at: self.sent_at,
+            level: self.level,
+            samples: copied_list(&self.samples)?,
+            labels: copied_map(&self.labels)?,
+            last: copied_map(&self.last)?,
+            load: self.load,
+            offsets: copied_numbers(&self.offsets)?,
+            ports: copied_numbers(&self.ports)?,
+            notes: copied_list(&self.notes)?,
+            signature: copied_numbers(&self.signature)?,
+            worst: copied_box(&self.worst)?,
+            origin: copied_report_origin(&self.origin)?,
+            type_: self.type_,
+            unknown: self.unknown.clone()?,
+        })
+    }
+}
+
+impl Twin for Report {
+    ghost use Rattle.wire_report.specs.Report.{Report-Value};
+    ghost use Rattle.wire_report.specs.Report.{report-value};
+
+    ghost Seen = { Report-Value };
+
+    ghost seen = { report-value };
+
+    ghost same = { λ m copy e. e };
 }
 
 impl Message for Report {

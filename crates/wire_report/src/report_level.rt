@@ -1,5 +1,6 @@
 //! The enum `report.Report.Level`. Generated.
 use wire_codec::Enumeration;
+use wire_fields::Plain;
 
 /// The enum `ReportLevel`.
 #[derive(Clone, Copy, Debug, PartialEq, Eq, Hash)]
@@ -8,6 +9,10 @@ pub enum ReportLevel {
     High = 1,
     /// Something is wrong.
     VeryHigh = 2,
+}
+
+impl Plain for ReportLevel {
+    ghost equal = { λ value copy e. e };
 }
 
 impl Enumeration for ReportLevel {

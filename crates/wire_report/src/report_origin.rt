@@ -1,5 +1,6 @@
 //! The oneof `ReportOrigin`. Generated.
 ghost use Rattle.std.specs.Prelude.{IfErr};
+ghost use Rattle.std.specs.Prelude.{IfOk};
 ghost use Rattle.std.specs.Prelude.{OnErr};
 ghost use Rattle.std.specs.Prelude.{OnOk};
 ghost use Rattle.std.specs.Prelude.{string_bytes};
@@ -27,7 +28,7 @@ ghost use Rattle.wire_report.specs.ReportSample.{report_sample-value};
 
 use crate::report_sample::ReportSample;
 use bytes::Buf;
-use std::alloc::Global;
+use std::alloc::{AllocError, Global};
 use wire_codec::{DecodeContext, DecodeError, EncodeError, EncodeSink, SizeCache, Tag, laws};
 use wire_fields::{Always, AlwaysEmbedded, Kind, Text, Uint64};
 
@@ -37,6 +38,20 @@ pub enum ReportOrigin {
     File(String),
     Device(u64),
     Sample(ReportSample),
+}
+
+// A copy of what stands.
+pub(crate) fn copied_report_origin(
+    held: &Option<ReportOrigin>,
+) -> Result<Option<ReportOrigin>, AllocError>
+    ensures { IfOk result (λ copy. report_origin-of copy ≡ report_origin-of held.now) }
+{
+    match held {
+        Some(ReportOrigin::File(value)) => Ok(Some(ReportOrigin::File(value.clone()?))),
+        Some(ReportOrigin::Device(value)) => Ok(Some(ReportOrigin::Device(*value))),
+        Some(ReportOrigin::Sample(value)) => Ok(Some(ReportOrigin::Sample(value.clone()?))),
+        None => Ok(None),
+    }
 }
 
 /// The fields of the oneof, of which one stands at most.

@@ -1,16 +1,17 @@
 //! The message `report.Report.Sample`. Generated.
 use bytes::Buf;
-use std::alloc::Global;
+use std::alloc::{AllocError, Global};
 use wire_codec::{
     DecodeContext, DecodeError, EncodeError, EncodeSink, Message, MessageName, SizeCache, Tag,
     UnknownFields,
 };
 use wire_fields::{
-    Double, DoubleBits, Implicit, Int64, Kind, Known, Optional, Rest, Text, keep, measure, write,
+    Double, DoubleBits, Implicit, Int64, Kind, Known, Optional, Rest, Text, Twin, keep, measure,
+    write,
 };
 
 /// What was measured once.
-#[derive(Clone, Debug, Drop, PartialEq)]
+#[derive(Debug, Drop, PartialEq)]
 pub struct ReportSample {
     pub name: String,
     pub value: DoubleBits,
@@ -27,6 +28,33 @@ impl MessageName for ReportSample {
     const FULL_NAME: &'static str = "report.Report.Sample";
 
     const TYPE_URL: &'static str = "type.googleapis.com/report.Report.Sample";
+}
+
+impl Clone for ReportSample {
+    ghost use Rattle.std.specs.Prelude.{◌≡◌};
+    ghost use Rattle.wire_report.specs.ReportSample.{report_sample-value};
+
+    ghost is_clone = { λ m copy. report_sample-value copy ≡ report_sample-value m };
+
+    fn clone(&self) -> Result<ReportSample, AllocError> {
+        Ok(ReportSample {
+            name: self.name.clone()?,
+            value: self.value,
+            count: self.count,
+            unknown: self.unknown.clone()?,
+        })
+    }
+}
+
+impl Twin for ReportSample {
+    ghost use Rattle.wire_report.specs.ReportSample.{ReportSample-Value};
+    ghost use Rattle.wire_report.specs.ReportSample.{report_sample-value};
+
+    ghost Seen = { ReportSample-Value };
+
+    ghost seen = { report_sample-value };
+
+    ghost same = { λ m copy e. e };
 }
 
 impl Message for ReportSample {

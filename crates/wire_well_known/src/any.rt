@@ -1,14 +1,16 @@
 //! The message `google.protobuf.Any`. Generated.
 use bytes::Buf;
-use std::alloc::Global;
+use std::alloc::{AllocError, Global};
 use wire_codec::{
     DecodeContext, DecodeError, EncodeError, EncodeSink, Message, MessageName, SizeCache, Tag,
     UnknownFields,
 };
-use wire_fields::{Blob, Implicit, Kind, Known, Rest, Text, keep, measure, write};
+use wire_fields::{
+    Blob, Implicit, Kind, Known, Rest, Text, Twin, copied_numbers, keep, measure, write,
+};
 
 /// A message of a type that is named beside it.
-#[derive(Clone, Debug, Drop, PartialEq)]
+#[derive(Debug, Drop, PartialEq)]
 pub struct Any {
     /// A name such as `type.googleapis.com/package.Message`.
     pub type_url: String,
@@ -26,6 +28,32 @@ impl MessageName for Any {
     const FULL_NAME: &'static str = "google.protobuf.Any";
 
     const TYPE_URL: &'static str = "type.googleapis.com/google.protobuf.Any";
+}
+
+impl Clone for Any {
+    ghost use Rattle.std.specs.Prelude.{◌≡◌};
+    ghost use Rattle.wire_well_known.specs.Any.{any-value};
+
+    ghost is_clone = { λ m copy. any-value copy ≡ any-value m };
+
+    fn clone(&self) -> Result<Any, AllocError> {
+        Ok(Any {
+            type_url: self.type_url.clone()?,
+            value: copied_numbers(&self.value)?,
+            unknown: self.unknown.clone()?,
+        })
+    }
+}
+
+impl Twin for Any {
+    ghost use Rattle.wire_well_known.specs.Any.{Any-Value};
+    ghost use Rattle.wire_well_known.specs.Any.{any-value};
+
+    ghost Seen = { Any-Value };
+
+    ghost seen = { any-value };
+
+    ghost same = { λ m copy e. e };
 }
 
 impl Message for Any {

@@ -1,14 +1,14 @@
 //! The message `google.protobuf.BoolValue`. Generated.
 use bytes::Buf;
-use std::alloc::Global;
+use std::alloc::{AllocError, Global};
 use wire_codec::{
     DecodeContext, DecodeError, EncodeError, EncodeSink, Message, MessageName, SizeCache, Tag,
     UnknownFields,
 };
-use wire_fields::{Bool, Implicit, Kind, Known, Rest, keep, measure, write};
+use wire_fields::{Bool, Implicit, Kind, Known, Rest, Twin, keep, measure, write};
 
 /// A `bool` that may be missing.
-#[derive(Clone, Debug, Drop, PartialEq)]
+#[derive(Debug, Drop, PartialEq)]
 pub struct BoolValue {
     pub value: bool,
     /// The fields that the schema lacks, as they came.
@@ -23,6 +23,31 @@ impl MessageName for BoolValue {
     const FULL_NAME: &'static str = "google.protobuf.BoolValue";
 
     const TYPE_URL: &'static str = "type.googleapis.com/google.protobuf.BoolValue";
+}
+
+impl Clone for BoolValue {
+    ghost use Rattle.std.specs.Prelude.{◌≡◌};
+    ghost use Rattle.wire_well_known.specs.BoolValue.{bool_value-value};
+
+    ghost is_clone = { λ m copy. bool_value-value copy ≡ bool_value-value m };
+
+    fn clone(&self) -> Result<BoolValue, AllocError> {
+        Ok(BoolValue {
+            value: self.value,
+            unknown: self.unknown.clone()?,
+        })
+    }
+}
+
+impl Twin for BoolValue {
+    ghost use Rattle.wire_well_known.specs.BoolValue.{BoolValue-Value};
+    ghost use Rattle.wire_well_known.specs.BoolValue.{bool_value-value};
+
+    ghost Seen = { BoolValue-Value };
+
+    ghost seen = { bool_value-value };
+
+    ghost same = { λ m copy e. e };
 }
 
 impl Message for BoolValue {

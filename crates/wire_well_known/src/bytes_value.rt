@@ -1,14 +1,14 @@
 //! The message `google.protobuf.BytesValue`. Generated.
 use bytes::Buf;
-use std::alloc::Global;
+use std::alloc::{AllocError, Global};
 use wire_codec::{
     DecodeContext, DecodeError, EncodeError, EncodeSink, Message, MessageName, SizeCache, Tag,
     UnknownFields,
 };
-use wire_fields::{Blob, Implicit, Kind, Known, Rest, keep, measure, write};
+use wire_fields::{Blob, Implicit, Kind, Known, Rest, Twin, copied_numbers, keep, measure, write};
 
 /// `bytes` that may be missing.
-#[derive(Clone, Debug, Drop, PartialEq)]
+#[derive(Debug, Drop, PartialEq)]
 pub struct BytesValue {
     pub value: Vec<u8>,
     /// The fields that the schema lacks, as they came.
@@ -23,6 +23,31 @@ impl MessageName for BytesValue {
     const FULL_NAME: &'static str = "google.protobuf.BytesValue";
 
     const TYPE_URL: &'static str = "type.googleapis.com/google.protobuf.BytesValue";
+}
+
+impl Clone for BytesValue {
+    ghost use Rattle.std.specs.Prelude.{◌≡◌};
+    ghost use Rattle.wire_well_known.specs.BytesValue.{bytes_value-value};
+
+    ghost is_clone = { λ m copy. bytes_value-value copy ≡ bytes_value-value m };
+
+    fn clone(&self) -> Result<BytesValue, AllocError> {
+        Ok(BytesValue {
+            value: copied_numbers(&self.value)?,
+            unknown: self.unknown.clone()?,
+        })
+    }
+}
+
+impl Twin for BytesValue {
+    ghost use Rattle.wire_well_known.specs.BytesValue.{BytesValue-Value};
+    ghost use Rattle.wire_well_known.specs.BytesValue.{bytes_value-value};
+
+    ghost Seen = { BytesValue-Value };
+
+    ghost seen = { bytes_value-value };
+
+    ghost same = { λ m copy e. e };
 }
 
 impl Message for BytesValue {

@@ -1,14 +1,14 @@
 //! The message `google.protobuf.DoubleValue`. Generated.
 use bytes::Buf;
-use std::alloc::Global;
+use std::alloc::{AllocError, Global};
 use wire_codec::{
     DecodeContext, DecodeError, EncodeError, EncodeSink, Message, MessageName, SizeCache, Tag,
     UnknownFields,
 };
-use wire_fields::{Double, DoubleBits, Implicit, Kind, Known, Rest, keep, measure, write};
+use wire_fields::{Double, DoubleBits, Implicit, Kind, Known, Rest, Twin, keep, measure, write};
 
 /// A `double` that may be missing.
-#[derive(Clone, Debug, Drop, PartialEq)]
+#[derive(Debug, Drop, PartialEq)]
 pub struct DoubleValue {
     pub value: DoubleBits,
     /// The fields that the schema lacks, as they came.
@@ -23,6 +23,31 @@ impl MessageName for DoubleValue {
     const FULL_NAME: &'static str = "google.protobuf.DoubleValue";
 
     const TYPE_URL: &'static str = "type.googleapis.com/google.protobuf.DoubleValue";
+}
+
+impl Clone for DoubleValue {
+    ghost use Rattle.std.specs.Prelude.{◌≡◌};
+    ghost use Rattle.wire_well_known.specs.DoubleValue.{double_value-value};
+
+    ghost is_clone = { λ m copy. double_value-value copy ≡ double_value-value m };
+
+    fn clone(&self) -> Result<DoubleValue, AllocError> {
+        Ok(DoubleValue {
+            value: self.value,
+            unknown: self.unknown.clone()?,
+        })
+    }
+}
+
+impl Twin for DoubleValue {
+    ghost use Rattle.wire_well_known.specs.DoubleValue.{DoubleValue-Value};
+    ghost use Rattle.wire_well_known.specs.DoubleValue.{double_value-value};
+
+    ghost Seen = { DoubleValue-Value };
+
+    ghost seen = { double_value-value };
+
+    ghost same = { λ m copy e. e };
 }
 
 impl Message for DoubleValue {

@@ -1,14 +1,14 @@
 //! The message `google.protobuf.Duration`. Generated.
 use bytes::Buf;
-use std::alloc::Global;
+use std::alloc::{AllocError, Global};
 use wire_codec::{
     DecodeContext, DecodeError, EncodeError, EncodeSink, Message, MessageName, SizeCache, Tag,
     UnknownFields,
 };
-use wire_fields::{Implicit, Int32, Int64, Kind, Known, Rest, keep, measure, write};
+use wire_fields::{Implicit, Int32, Int64, Kind, Known, Rest, Twin, keep, measure, write};
 
 /// A span of time.
-#[derive(Clone, Debug, Drop, PartialEq)]
+#[derive(Debug, Drop, PartialEq)]
 pub struct Duration {
     pub seconds: i64,
     /// Fractions of a second, of the sign of `seconds`, below 1,000,000,000.
@@ -25,6 +25,32 @@ impl MessageName for Duration {
     const FULL_NAME: &'static str = "google.protobuf.Duration";
 
     const TYPE_URL: &'static str = "type.googleapis.com/google.protobuf.Duration";
+}
+
+impl Clone for Duration {
+    ghost use Rattle.std.specs.Prelude.{◌≡◌};
+    ghost use Rattle.wire_well_known.specs.Duration.{duration-value};
+
+    ghost is_clone = { λ m copy. duration-value copy ≡ duration-value m };
+
+    fn clone(&self) -> Result<Duration, AllocError> {
+        Ok(Duration {
+            seconds: self.seconds,
+            nanos: self.nanos,
+            unknown: self.unknown.clone()?,
+        })
+    }
+}
+
+impl Twin for Duration {
+    ghost use Rattle.wire_well_known.specs.Duration.{Duration-Value};
+    ghost use Rattle.wire_well_known.specs.Duration.{duration-value};
+
+    ghost Seen = { Duration-Value };
+
+    ghost seen = { duration-value };
+
+    ghost same = { λ m copy e. e };
 }
 
 impl Message for Duration {

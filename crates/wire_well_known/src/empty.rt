@@ -1,14 +1,14 @@
 //! The message `google.protobuf.Empty`. Generated.
 use bytes::Buf;
-use std::alloc::Global;
+use std::alloc::{AllocError, Global};
 use wire_codec::{
     DecodeContext, DecodeError, EncodeError, EncodeSink, Message, MessageName, SizeCache, Tag,
     UnknownFields,
 };
-use wire_fields::{Rest, keep, measure, write};
+use wire_fields::{Rest, Twin, keep, measure, write};
 
 /// A message without fields.
-#[derive(Clone, Debug, Drop, PartialEq)]
+#[derive(Debug, Drop, PartialEq)]
 pub struct Empty {
     /// The fields that the schema lacks, as they came.
     pub unknown: UnknownFields,
@@ -22,6 +22,30 @@ impl MessageName for Empty {
     const FULL_NAME: &'static str = "google.protobuf.Empty";
 
     const TYPE_URL: &'static str = "type.googleapis.com/google.protobuf.Empty";
+}
+
+impl Clone for Empty {
+    ghost use Rattle.std.specs.Prelude.{◌≡◌};
+    ghost use Rattle.wire_well_known.specs.Empty.{empty-value};
+
+    ghost is_clone = { λ m copy. empty-value copy ≡ empty-value m };
+
+    fn clone(&self) -> Result<Empty, AllocError> {
+        Ok(Empty {
+            unknown: self.unknown.clone()?,
+        })
+    }
+}
+
+impl Twin for Empty {
+    ghost use Rattle.wire_well_known.specs.Empty.{Empty-Value};
+    ghost use Rattle.wire_well_known.specs.Empty.{empty-value};
+
+    ghost Seen = { Empty-Value };
+
+    ghost seen = { empty-value };
+
+    ghost same = { λ m copy e. e };
 }
 
 impl Message for Empty {

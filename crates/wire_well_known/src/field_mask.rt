@@ -1,14 +1,14 @@
 //! The message `google.protobuf.FieldMask`. Generated.
 use bytes::Buf;
-use std::alloc::Global;
+use std::alloc::{AllocError, Global};
 use wire_codec::{
     DecodeContext, DecodeError, EncodeError, EncodeSink, Message, MessageName, SizeCache, Tag,
     UnknownFields,
 };
-use wire_fields::{Kind, Known, Repeated, Rest, Text, keep, measure, write};
+use wire_fields::{Kind, Known, Repeated, Rest, Text, Twin, copied_list, keep, measure, write};
 
 /// A choice of fields.
-#[derive(Clone, Debug, Drop, PartialEq)]
+#[derive(Debug, Drop, PartialEq)]
 pub struct FieldMask {
     /// Each the names of fields from a message to one within it, with dots between.
     pub paths: Vec<String>,
@@ -24,6 +24,31 @@ impl MessageName for FieldMask {
     const FULL_NAME: &'static str = "google.protobuf.FieldMask";
 
     const TYPE_URL: &'static str = "type.googleapis.com/google.protobuf.FieldMask";
+}
+
+impl Clone for FieldMask {
+    ghost use Rattle.std.specs.Prelude.{◌≡◌};
+    ghost use Rattle.wire_well_known.specs.FieldMask.{field_mask-value};
+
+    ghost is_clone = { λ m copy. field_mask-value copy ≡ field_mask-value m };
+
+    fn clone(&self) -> Result<FieldMask, AllocError> {
+        Ok(FieldMask {
+            paths: copied_list(&self.paths)?,
+            unknown: self.unknown.clone()?,
+        })
+    }
+}
+
+impl Twin for FieldMask {
+    ghost use Rattle.wire_well_known.specs.FieldMask.{FieldMask-Value};
+    ghost use Rattle.wire_well_known.specs.FieldMask.{field_mask-value};
+
+    ghost Seen = { FieldMask-Value };
+
+    ghost seen = { field_mask-value };
+
+    ghost same = { λ m copy e. e };
 }
 
 impl Message for FieldMask {

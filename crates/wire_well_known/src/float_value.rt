@@ -1,14 +1,14 @@
 //! The message `google.protobuf.FloatValue`. Generated.
 use bytes::Buf;
-use std::alloc::Global;
+use std::alloc::{AllocError, Global};
 use wire_codec::{
     DecodeContext, DecodeError, EncodeError, EncodeSink, Message, MessageName, SizeCache, Tag,
     UnknownFields,
 };
-use wire_fields::{Float, FloatBits, Implicit, Kind, Known, Rest, keep, measure, write};
+use wire_fields::{Float, FloatBits, Implicit, Kind, Known, Rest, Twin, keep, measure, write};
 
 /// A `float` that may be missing.
-#[derive(Clone, Debug, Drop, PartialEq)]
+#[derive(Debug, Drop, PartialEq)]
 pub struct FloatValue {
     pub value: FloatBits,
     /// The fields that the schema lacks, as they came.
@@ -23,6 +23,31 @@ impl MessageName for FloatValue {
     const FULL_NAME: &'static str = "google.protobuf.FloatValue";
 
     const TYPE_URL: &'static str = "type.googleapis.com/google.protobuf.FloatValue";
+}
+
+impl Clone for FloatValue {
+    ghost use Rattle.std.specs.Prelude.{◌≡◌};
+    ghost use Rattle.wire_well_known.specs.FloatValue.{float_value-value};
+
+    ghost is_clone = { λ m copy. float_value-value copy ≡ float_value-value m };
+
+    fn clone(&self) -> Result<FloatValue, AllocError> {
+        Ok(FloatValue {
+            value: self.value,
+            unknown: self.unknown.clone()?,
+        })
+    }
+}
+
+impl Twin for FloatValue {
+    ghost use Rattle.wire_well_known.specs.FloatValue.{FloatValue-Value};
+    ghost use Rattle.wire_well_known.specs.FloatValue.{float_value-value};
+
+    ghost Seen = { FloatValue-Value };
+
+    ghost seen = { float_value-value };
+
+    ghost same = { λ m copy e. e };
 }
 
 impl Message for FloatValue {

@@ -1,14 +1,14 @@
 //! The message `google.protobuf.Int32Value`. Generated.
 use bytes::Buf;
-use std::alloc::Global;
+use std::alloc::{AllocError, Global};
 use wire_codec::{
     DecodeContext, DecodeError, EncodeError, EncodeSink, Message, MessageName, SizeCache, Tag,
     UnknownFields,
 };
-use wire_fields::{Implicit, Int32, Kind, Known, Rest, keep, measure, write};
+use wire_fields::{Implicit, Int32, Kind, Known, Rest, Twin, keep, measure, write};
 
 /// An `int32` that may be missing.
-#[derive(Clone, Debug, Drop, PartialEq)]
+#[derive(Debug, Drop, PartialEq)]
 pub struct Int32Value {
     pub value: i32,
     /// The fields that the schema lacks, as they came.
@@ -23,6 +23,31 @@ impl MessageName for Int32Value {
     const FULL_NAME: &'static str = "google.protobuf.Int32Value";
 
     const TYPE_URL: &'static str = "type.googleapis.com/google.protobuf.Int32Value";
+}
+
+impl Clone for Int32Value {
+    ghost use Rattle.std.specs.Prelude.{◌≡◌};
+    ghost use Rattle.wire_well_known.specs.Int32Value.{int32_value-value};
+
+    ghost is_clone = { λ m copy. int32_value-value copy ≡ int32_value-value m };
+
+    fn clone(&self) -> Result<Int32Value, AllocError> {
+        Ok(Int32Value {
+            value: self.value,
+            unknown: self.unknown.clone()?,
+        })
+    }
+}
+
+impl Twin for Int32Value {
+    ghost use Rattle.wire_well_known.specs.Int32Value.{Int32Value-Value};
+    ghost use Rattle.wire_well_known.specs.Int32Value.{int32_value-value};
+
+    ghost Seen = { Int32Value-Value };
+
+    ghost seen = { int32_value-value };
+
+    ghost same = { λ m copy e. e };
 }
 
 impl Message for Int32Value {

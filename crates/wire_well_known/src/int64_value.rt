@@ -1,14 +1,14 @@
 //! The message `google.protobuf.Int64Value`. Generated.
 use bytes::Buf;
-use std::alloc::Global;
+use std::alloc::{AllocError, Global};
 use wire_codec::{
     DecodeContext, DecodeError, EncodeError, EncodeSink, Message, MessageName, SizeCache, Tag,
     UnknownFields,
 };
-use wire_fields::{Implicit, Int64, Kind, Known, Rest, keep, measure, write};
+use wire_fields::{Implicit, Int64, Kind, Known, Rest, Twin, keep, measure, write};
 
 /// An `int64` that may be missing.
-#[derive(Clone, Debug, Drop, PartialEq)]
+#[derive(Debug, Drop, PartialEq)]
 pub struct Int64Value {
     pub value: i64,
     /// The fields that the schema lacks, as they came.
@@ -23,6 +23,31 @@ impl MessageName for Int64Value {
     const FULL_NAME: &'static str = "google.protobuf.Int64Value";
 
     const TYPE_URL: &'static str = "type.googleapis.com/google.protobuf.Int64Value";
+}
+
+impl Clone for Int64Value {
+    ghost use Rattle.std.specs.Prelude.{◌≡◌};
+    ghost use Rattle.wire_well_known.specs.Int64Value.{int64_value-value};
+
+    ghost is_clone = { λ m copy. int64_value-value copy ≡ int64_value-value m };
+
+    fn clone(&self) -> Result<Int64Value, AllocError> {
+        Ok(Int64Value {
+            value: self.value,
+            unknown: self.unknown.clone()?,
+        })
+    }
+}
+
+impl Twin for Int64Value {
+    ghost use Rattle.wire_well_known.specs.Int64Value.{Int64Value-Value};
+    ghost use Rattle.wire_well_known.specs.Int64Value.{int64_value-value};
+
+    ghost Seen = { Int64Value-Value };
+
+    ghost seen = { int64_value-value };
+
+    ghost same = { λ m copy e. e };
 }
 
 impl Message for Int64Value {

@@ -1,15 +1,15 @@
 //! The message `google.protobuf.ListValue`. Generated.
 use crate::value::Value;
 use bytes::Buf;
-use std::alloc::Global;
+use std::alloc::{AllocError, Global};
 use wire_codec::{
     DecodeContext, DecodeError, EncodeError, EncodeSink, Message, MessageName, SizeCache, Tag,
     UnknownFields,
 };
-use wire_fields::{EachEmbedded, Kind, Known, Rest, keep, measure, write};
+use wire_fields::{EachEmbedded, Kind, Known, Rest, Twin, copied_list, keep, measure, write};
 
 /// Values in order.
-#[derive(Clone, Debug, Drop, PartialEq)]
+#[derive(Debug, Drop, PartialEq)]
 pub struct ListValue {
     pub values: Vec<Value>,
     /// The fields that the schema lacks, as they came.
@@ -24,6 +24,31 @@ impl MessageName for ListValue {
     const FULL_NAME: &'static str = "google.protobuf.ListValue";
 
     const TYPE_URL: &'static str = "type.googleapis.com/google.protobuf.ListValue";
+}
+
+impl Clone for ListValue {
+    ghost use Rattle.std.specs.Prelude.{◌≡◌};
+    ghost use Rattle.wire_well_known.specs.ListValue.{list_value-value};
+
+    ghost is_clone = { λ m copy. list_value-value copy ≡ list_value-value m };
+
+    fn clone(&self) -> Result<ListValue, AllocError> {
+        Ok(ListValue {
+            values: copied_list(&self.values)?,
+            unknown: self.unknown.clone()?,
+        })
+    }
+}
+
+impl Twin for ListValue {
+    ghost use Rattle.wire_well_known.specs.ListValue.{ListValue-Value};
+    ghost use Rattle.wire_well_known.specs.ListValue.{list_value-value};
+
+    ghost Seen = { ListValue-Value };
+
+    ghost seen = { list_value-value };
+
+    ghost same = { λ m copy e. e };
 }
 
 impl Message for ListValue {

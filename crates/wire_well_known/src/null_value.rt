@@ -1,10 +1,15 @@
 //! The enum `google.protobuf.NullValue`. Generated.
 use wire_codec::Enumeration;
+use wire_fields::Plain;
 
 /// The one value of null.
 #[derive(Clone, Copy, Debug, PartialEq, Eq, Hash)]
 pub enum NullValue {
     NullValue_ = 0,
+}
+
+impl Plain for NullValue {
+    ghost equal = { λ value copy e. e };
 }
 
 impl Enumeration for NullValue {

@@ -1,14 +1,14 @@
 //! The message `google.protobuf.StringValue`. Generated.
 use bytes::Buf;
-use std::alloc::Global;
+use std::alloc::{AllocError, Global};
 use wire_codec::{
     DecodeContext, DecodeError, EncodeError, EncodeSink, Message, MessageName, SizeCache, Tag,
     UnknownFields,
 };
-use wire_fields::{Implicit, Kind, Known, Rest, Text, keep, measure, write};
+use wire_fields::{Implicit, Kind, Known, Rest, Text, Twin, keep, measure, write};
 
 /// A `string` that may be missing.
-#[derive(Clone, Debug, Drop, PartialEq)]
+#[derive(Debug, Drop, PartialEq)]
 pub struct StringValue {
     pub value: String,
     /// The fields that the schema lacks, as they came.
@@ -23,6 +23,31 @@ impl MessageName for StringValue {
     const FULL_NAME: &'static str = "google.protobuf.StringValue";
 
     const TYPE_URL: &'static str = "type.googleapis.com/google.protobuf.StringValue";
+}
+
+impl Clone for StringValue {
+    ghost use Rattle.std.specs.Prelude.{◌≡◌};
+    ghost use Rattle.wire_well_known.specs.StringValue.{string_value-value};
+
+    ghost is_clone = { λ m copy. string_value-value copy ≡ string_value-value m };
+
+    fn clone(&self) -> Result<StringValue, AllocError> {
+        Ok(StringValue {
+            value: self.value.clone()?,
+            unknown: self.unknown.clone()?,
+        })
+    }
+}
+
+impl Twin for StringValue {
+    ghost use Rattle.wire_well_known.specs.StringValue.{StringValue-Value};
+    ghost use Rattle.wire_well_known.specs.StringValue.{string_value-value};
+
+    ghost Seen = { StringValue-Value };
+
+    ghost seen = { string_value-value };
+
+    ghost same = { λ m copy e. e };
 }
 
 impl Message for StringValue {

@@ -1,16 +1,18 @@
 //! The message `google.protobuf.Struct`. Generated.
 use crate::value::Value;
 use bytes::Buf;
-use std::alloc::Global;
+use std::alloc::{AllocError, Global};
 use std::collections::BTreeMap;
 use wire_codec::{
     DecodeContext, DecodeError, EncodeError, EncodeSink, Message, MessageName, SizeCache, Tag,
     UnknownFields,
 };
-use wire_fields::{AlwaysEmbedded, Kind, Known, Map, Rest, Text, keep, measure, write};
+use wire_fields::{
+    AlwaysEmbedded, Kind, Known, Map, Rest, Text, Twin, copied_map, keep, measure, write,
+};
 
 /// An object: values by their names.
-#[derive(Clone, Debug, Drop, PartialEq)]
+#[derive(Debug, Drop, PartialEq)]
 pub struct Struct {
     pub fields: BTreeMap<String, Value>,
     /// The fields that the schema lacks, as they came.
@@ -25,6 +27,31 @@ impl MessageName for Struct {
     const FULL_NAME: &'static str = "google.protobuf.Struct";
 
     const TYPE_URL: &'static str = "type.googleapis.com/google.protobuf.Struct";
+}
+
+impl Clone for Struct {
+    ghost use Rattle.std.specs.Prelude.{◌≡◌};
+    ghost use Rattle.wire_well_known.specs.Struct.{struct_-value};
+
+    ghost is_clone = { λ m copy. struct_-value copy ≡ struct_-value m };
+
+    fn clone(&self) -> Result<Struct, AllocError> {
+        Ok(Struct {
+            fields: copied_map(&self.fields)?,
+            unknown: self.unknown.clone()?,
+        })
+    }
+}
+
+impl Twin for Struct {
+    ghost use Rattle.wire_well_known.specs.Struct.{Struct-Value};
+    ghost use Rattle.wire_well_known.specs.Struct.{struct_-value};
+
+    ghost Seen = { Struct-Value };
+
+    ghost seen = { struct_-value };
+
+    ghost same = { λ m copy e. e };
 }
 
 impl Message for Struct {

@@ -1,14 +1,14 @@
 //! The message `google.protobuf.Timestamp`. Generated.
 use bytes::Buf;
-use std::alloc::Global;
+use std::alloc::{AllocError, Global};
 use wire_codec::{
     DecodeContext, DecodeError, EncodeError, EncodeSink, Message, MessageName, SizeCache, Tag,
     UnknownFields,
 };
-use wire_fields::{Implicit, Int32, Int64, Kind, Known, Rest, keep, measure, write};
+use wire_fields::{Implicit, Int32, Int64, Kind, Known, Rest, Twin, keep, measure, write};
 
 /// A point in time.
-#[derive(Clone, Debug, Drop, PartialEq)]
+#[derive(Debug, Drop, PartialEq)]
 pub struct Timestamp {
     /// Since 1970-01-01T00:00:00Z, without leap seconds.
     pub seconds: i64,
@@ -26,6 +26,32 @@ impl MessageName for Timestamp {
     const FULL_NAME: &'static str = "google.protobuf.Timestamp";
 
     const TYPE_URL: &'static str = "type.googleapis.com/google.protobuf.Timestamp";
+}
+
+impl Clone for Timestamp {
+    ghost use Rattle.std.specs.Prelude.{◌≡◌};
+    ghost use Rattle.wire_well_known.specs.Timestamp.{timestamp-value};
+
+    ghost is_clone = { λ m copy. timestamp-value copy ≡ timestamp-value m };
+
+    fn clone(&self) -> Result<Timestamp, AllocError> {
+        Ok(Timestamp {
+            seconds: self.seconds,
+            nanos: self.nanos,
+            unknown: self.unknown.clone()?,
+        })
+    }
+}
+
+impl Twin for Timestamp {
+    ghost use Rattle.wire_well_known.specs.Timestamp.{Timestamp-Value};
+    ghost use Rattle.wire_well_known.specs.Timestamp.{timestamp-value};
+
+    ghost Seen = { Timestamp-Value };
+
+    ghost seen = { timestamp-value };
+
+    ghost same = { λ m copy e. e };
 }
 
 impl Message for Timestamp {

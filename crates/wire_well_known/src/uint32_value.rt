@@ -1,14 +1,14 @@
 //! The message `google.protobuf.UInt32Value`. Generated.
 use bytes::Buf;
-use std::alloc::Global;
+use std::alloc::{AllocError, Global};
 use wire_codec::{
     DecodeContext, DecodeError, EncodeError, EncodeSink, Message, MessageName, SizeCache, Tag,
     UnknownFields,
 };
-use wire_fields::{Implicit, Kind, Known, Rest, Uint32, keep, measure, write};
+use wire_fields::{Implicit, Kind, Known, Rest, Twin, Uint32, keep, measure, write};
 
 /// A `uint32` that may be missing.
-#[derive(Clone, Debug, Drop, PartialEq)]
+#[derive(Debug, Drop, PartialEq)]
 pub struct UInt32Value {
     pub value: u32,
     /// The fields that the schema lacks, as they came.
@@ -23,6 +23,31 @@ impl MessageName for UInt32Value {
     const FULL_NAME: &'static str = "google.protobuf.UInt32Value";
 
     const TYPE_URL: &'static str = "type.googleapis.com/google.protobuf.UInt32Value";
+}
+
+impl Clone for UInt32Value {
+    ghost use Rattle.std.specs.Prelude.{◌≡◌};
+    ghost use Rattle.wire_well_known.specs.UInt32Value.{uint32_value-value};
+
+    ghost is_clone = { λ m copy. uint32_value-value copy ≡ uint32_value-value m };
+
+    fn clone(&self) -> Result<UInt32Value, AllocError> {
+        Ok(UInt32Value {
+            value: self.value,
+            unknown: self.unknown.clone()?,
+        })
+    }
+}
+
+impl Twin for UInt32Value {
+    ghost use Rattle.wire_well_known.specs.UInt32Value.{UInt32Value-Value};
+    ghost use Rattle.wire_well_known.specs.UInt32Value.{uint32_value-value};
+
+    ghost Seen = { UInt32Value-Value };
+
+    ghost seen = { uint32_value-value };
+
+    ghost same = { λ m copy e. e };
 }
 
 impl Message for UInt32Value {

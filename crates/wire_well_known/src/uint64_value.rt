@@ -1,14 +1,14 @@
 //! The message `google.protobuf.UInt64Value`. Generated.
 use bytes::Buf;
-use std::alloc::Global;
+use std::alloc::{AllocError, Global};
 use wire_codec::{
     DecodeContext, DecodeError, EncodeError, EncodeSink, Message, MessageName, SizeCache, Tag,
     UnknownFields,
 };
-use wire_fields::{Implicit, Kind, Known, Rest, Uint64, keep, measure, write};
+use wire_fields::{Implicit, Kind, Known, Rest, Twin, Uint64, keep, measure, write};
 
 /// A `uint64` that may be missing.
-#[derive(Clone, Debug, Drop, PartialEq)]
+#[derive(Debug, Drop, PartialEq)]
 pub struct UInt64Value {
     pub value: u64,
     /// The fields that the schema lacks, as they came.
@@ -23,6 +23,31 @@ impl MessageName for UInt64Value {
     const FULL_NAME: &'static str = "google.protobuf.UInt64Value";
 
     const TYPE_URL: &'static str = "type.googleapis.com/google.protobuf.UInt64Value";
+}
+
+impl Clone for UInt64Value {
+    ghost use Rattle.std.specs.Prelude.{◌≡◌};
+    ghost use Rattle.wire_well_known.specs.UInt64Value.{uint64_value-value};
+
+    ghost is_clone = { λ m copy. uint64_value-value copy ≡ uint64_value-value m };
+
+    fn clone(&self) -> Result<UInt64Value, AllocError> {
+        Ok(UInt64Value {
+            value: self.value,
+            unknown: self.unknown.clone()?,
+        })
+    }
+}
+
+impl Twin for UInt64Value {
+    ghost use Rattle.wire_well_known.specs.UInt64Value.{UInt64Value-Value};
+    ghost use Rattle.wire_well_known.specs.UInt64Value.{uint64_value-value};
+
+    ghost Seen = { UInt64Value-Value };
+
+    ghost seen = { uint64_value-value };
+
+    ghost same = { λ m copy e. e };
 }
 
 impl Message for UInt64Value {

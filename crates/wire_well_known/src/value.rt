@@ -1,15 +1,15 @@
 //! The message `google.protobuf.Value`. Generated.
-use crate::value_kind::{ValueKind, ValueKindKind};
+use crate::value_kind::{ValueKind, ValueKindKind, copied_value_kind};
 use bytes::Buf;
-use std::alloc::Global;
+use std::alloc::{AllocError, Global};
 use wire_codec::{
     DecodeContext, DecodeError, EncodeError, EncodeSink, Message, MessageName, SizeCache, Tag,
     UnknownFields,
 };
-use wire_fields::{Kind, Known, Rest, keep, measure, write};
+use wire_fields::{Kind, Known, Rest, Twin, keep, measure, write};
 
 /// One value. One that has no kind is none of JSON.
-#[derive(Clone, Debug, Drop, PartialEq)]
+#[derive(Debug, Drop, PartialEq)]
 pub struct Value {
     pub kind: Option<ValueKind>,
     /// The fields that the schema lacks, as they came.
@@ -24,6 +24,31 @@ impl MessageName for Value {
     const FULL_NAME: &'static str = "google.protobuf.Value";
 
     const TYPE_URL: &'static str = "type.googleapis.com/google.protobuf.Value";
+}
+
+impl Clone for Value {
+    ghost use Rattle.std.specs.Prelude.{◌≡◌};
+    ghost use Rattle.wire_well_known.specs.Value.{value-value};
+
+    ghost is_clone = { λ m copy. value-value copy ≡ value-value m };
+
+    fn clone(&self) -> Result<Value, AllocError> {
+        Ok(Value {
+            kind: copied_value_kind(&self.kind)?,
+            unknown: self.unknown.clone()?,
+        })
+    }
+}
+
+impl Twin for Value {
+    ghost use Rattle.wire_well_known.specs.Value.{Value-Value};
+    ghost use Rattle.wire_well_known.specs.Value.{value-value};
+
+    ghost Seen = { Value-Value };
+
+    ghost seen = { value-value };
+
+    ghost same = { λ m copy e. e };
 }
 
 impl Message for Value {

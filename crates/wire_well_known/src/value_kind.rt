@@ -1,5 +1,6 @@
 //! The oneof `ValueKind`. Generated.
 ghost use Rattle.std.specs.Prelude.{IfErr};
+ghost use Rattle.std.specs.Prelude.{IfOk};
 ghost use Rattle.std.specs.Prelude.{OnErr};
 ghost use Rattle.std.specs.Prelude.{OnOk};
 ghost use Rattle.std.specs.Prelude.{string_bytes};
@@ -35,11 +36,11 @@ ghost use Rattle.wire_well_known.specs.ValueKind.{value_kind-of};
 
 use crate::null_value::NullValue;
 use bytes::Buf;
-use std::alloc::Global;
+use std::alloc::{AllocError, Global};
 use wire_codec::{
     DecodeContext, DecodeError, EncodeError, EncodeSink, EnumValue, SizeCache, Tag, laws,
 };
-use wire_fields::{Always, Blob, Bool, Double, DoubleBits, Enum, Kind, Text};
+use wire_fields::{Always, Blob, Bool, Double, DoubleBits, Enum, Kind, Text, copied_numbers};
 
 /// One of these, where one is there.
 #[derive(Clone, Debug, Drop, PartialEq)]
@@ -50,6 +51,23 @@ pub enum ValueKind {
     BoolValue(bool),
     StructValue(Vec<u8>),
     ListValue(Vec<u8>),
+}
+
+// A copy of what stands.
+pub(crate) fn copied_value_kind(held: &Option<ValueKind>) -> Result<Option<ValueKind>, AllocError>
+    ensures { IfOk result (λ copy. value_kind-of copy ≡ value_kind-of held.now) }
+{
+    match held {
+        Some(ValueKind::NullValue_(value)) => Ok(Some(ValueKind::NullValue_(*value))),
+        Some(ValueKind::NumberValue(value)) => Ok(Some(ValueKind::NumberValue(*value))),
+        Some(ValueKind::StringValue(value)) => Ok(Some(ValueKind::StringValue(value.clone()?))),
+        Some(ValueKind::BoolValue(value)) => Ok(Some(ValueKind::BoolValue(*value))),
+        Some(ValueKind::StructValue(value)) => {
+            Ok(Some(ValueKind::StructValue(copied_numbers(value)?)))
+        }
+        Some(ValueKind::ListValue(value)) => Ok(Some(ValueKind::ListValue(copied_numbers(value)?))),
+        None => Ok(None),
+    }
 }
 
 /// The fields of the oneof, of which one stands at most.

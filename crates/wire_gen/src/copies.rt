@@ -1,0 +1,168 @@
+//! Copies of a message: a clone, which contracts see as they see its source.
+use crate::code::put_in_braces;
+use crate::field::Field;
+use crate::tree::{Node, Tree};
+use crate::words::{Template, Words};
+
+const CLONE: &str = "
+impl Clone for $name$ {
+    ghost use Rattle.std.specs.Prelude.{◌≡◌};
+    ghost use Rattle.$crate$.specs.$name$.{$module$-value};
+
+    ghost is_clone = { λ m copy. $module$-value copy ≡ $module$-value m };
+
+    fn clone(&self) -> Result<$name$, AllocError> {
+$copies$        Ok($name$ {$copied$})
+    }
+}
+
+impl Twin for $name$ {
+    ghost use Rattle.$crate$.specs.$name$.{$name$-Value};
+    ghost use Rattle.$crate$.specs.$name$.{$module$-value};
+
+    ghost Seen = { $name$-Value };
+
+    ghost seen = { $module$-value };
+
+    ghost same = { λ m copy e. e };
+}
+";
+
+// Copies of some fields of a message of many.
+const COPIES: &str = "
+// Copies of the fields $low$ to $high$ of a `$name$`.
+#[derive(Drop)]
+struct $copies_type$ {
+$held_copies$}
+
+impl $name$ {
+    ghost use Rattle.std.specs.Prelude.{IfOk};
+    ghost use Rattle.std.specs.Prelude.{◌≡◌};
+    ghost use Rattle.$crate$.specs.$name$.{$copies_words$};
+    ghost use Rattle.$crate$.specs.$name$.{$part_words$-value};
+
+    fn copied_$low$_to_$high$(&self) -> Result<$copies_type$, AllocError>
+        ensures { IfOk result (λ copy. $copies_words$ copy ≡ $part_words$-value self.now) }
+    {
+        Ok($copies_type$ {
+$part_copied$        })
+    }
+}
+";
+
+const COPIES_LET: &str = "        let $copies_type$ {
+$part_names$        } = self.copied_$low$_to_$high$()?;
+";
+
+const DEFINITION: &str = "\
+abbrev pub $copies_words$ : $copies_type$ → $part_value$
+$copies_words$ m = $seen$
+
+";
+
+const USES_OF_DEFINITION: &str =
+    "Rattle.$crate$.specs.declared.$module$.$copies_type$ $copies_type$\n";
+
+const NO_PART: [Template; 3] = [("held_copies", ""), ("part_copied", ""), ("part_names", "")];
+
+const OF_PART: [Template; 4] = [
+    ("held_copies", "    $field$: $held$,\n"),
+    ("part_copied", "            $field$: $copy$,\n"),
+    ("part_names", "            $field$,\n"),
+    ("copied", "            $field$,\n"),
+];
+
+// The most copies that may be refused one behind another: each has all before it to drop.
+const MOST_REFUSALS: usize = 12;
+
+// The widest field of a struct in one line.
+const SHORT: usize = 18;
+
+/// The words of the code that copies a message: its `clone`, and what is `copied_apart`.
+pub(crate) fn set_clone(page: &mut Words, fields: &[Field], tree: &Tree) {
+    page.append("uses", "std::alloc AllocError\nwire_fields Twin\n");
+    page.fill_all(&[("copies", ""), ("copied", ""), ("copied_apart", "")]);
+    page.fill_all(&NO_PART);
+    for (place, field) in fields.iter().enumerate() {
+        page.copy(&field.words, &["field", "held", "copy"]);
+        put_use(page, field);
+        match part_at(fields, tree, place) {
+            Some(part) => {
+                page.append_all(&OF_PART);
+                if part.behind == place.saturating_add(1) {
+                    put_part(page, part);
+                }
+            }
+            None => page.append("copied", "            $field$: $copy$,\n"),
+        }
+    }
+    if page.get("unknown") == "keep" {
+        page.append("copied", "            unknown: self.unknown.clone()?,\n");
+    }
+    close(page);
+    page.fill("clone", CLONE);
+}
+
+// The part that the field at this place is copied in, where a message has many that may be refused.
+fn part_at<'a>(fields: &[Field], tree: &'a Tree, place: usize) -> Option<&'a Node> {
+    let refused = fields
+        .iter()
+        .filter(|it| it.words.get("copy").ends_with('?'));
+    if refused.count() > MOST_REFUSALS {
+        return tree.outermost(place);
+    }
+    None
+}
+
+// What a copy calls.
+fn put_use(page: &mut Words, field: &Field) {
+    let (call, _) = field.words.get("copy").split_once('(').unwrap_or(("", ""));
+    if call.starts_with("copied_") {
+        page.set("call", call);
+        page.set("of_oneof", field.words.get("module"));
+        page.append(
+            "uses",
+            if field.oneof.is_some() {
+                "crate::$of_oneof$ $call$\n"
+            } else {
+                "wire_fields $call$\n"
+            },
+        );
+    }
+}
+
+fn put_part(page: &mut Words, part: &Node) {
+    page.copy(
+        &part.words,
+        &["low", "high", "copies_type", "copies_words", "part_words"],
+    );
+    page.append_all(&[("copies", COPIES_LET), ("copied_apart", COPIES)]);
+    page.fill_all(&NO_PART);
+}
+
+// A struct of one short field stands in one line.
+fn close(page: &mut Words) {
+    let copied = page.take("copied");
+    let only = copied.trim().trim_end_matches(',');
+    page.set("copied", &copied);
+    if !only.is_empty() && only.len() <= SHORT {
+        page.set("only", only);
+        return page.fill("copied", " $only$ ");
+    }
+    put_in_braces(page, "copied");
+}
+
+/// Puts what the parts are as contracts see them that are copied by themselves.
+pub(crate) fn put_copies(page: &mut Words, fields: &[Field], tree: &Tree) {
+    for place in 0..fields.len() {
+        if let Some(part) = part_at(fields, tree, place) {
+            if part.first == place {
+                page.copy(
+                    &part.words,
+                    &["copies_type", "copies_words", "part_value", "seen"],
+                );
+                page.append_all(&[("values", DEFINITION), ("uses", USES_OF_DEFINITION)]);
+            }
+        }
+    }
+}
