@@ -1,6 +1,6 @@
 //! Messages that are read and written again. Standard input has a line for each: the name of its
 //! type, and its bytes in hexadecimal digits. Standard output gets a line for each: the shortest
-//! encoding of what was read, or why there is none.
+//! encoding of a copy of what was read, or why there is none.
 #![tactic(auto)]
 
 use std::alloc::Global;
@@ -72,7 +72,10 @@ fn mirrored<M: Message>(alloc: Global, digits: &str) -> Result<String, MirrorErr
         Ok(message) => message,
         Err(error) => return Err(MirrorError::Refused(error)),
     };
-    let bytes = match message.try_encode_to_vec(alloc) {
+    let Ok(copy) = message.clone() else {
+        return Err(MirrorError::OutOfMemory);
+    };
+    let bytes = match copy.try_encode_to_vec(alloc) {
         Ok(bytes) => bytes,
         Err(error) => return Err(MirrorError::TooLarge(error)),
     };
