@@ -128,6 +128,19 @@ refused_write bound now piece old text OutOfMemory le h = tt
 refused_write bound now piece old text LengthOverflow le h =
     IsBeyond-more bound (length now + length piece) (length old + length text) le h
 
+-- a refused longer write within one that was begun
+pub Written-refused : (bound : Option ℕ) (old text now left piece after : List ℕ) (e : EncodeError)
+    → Written bound old text now left → left ≡ piece ++ after
+    → WriteAnswers bound now piece (Err e) → WriteAnswers bound old text (Err e)
+Written-refused bound old text now left piece after e w is h =
+    refused_write bound now piece old text e
+    (omega (
+      arith,
+      Written-total bound old text now left w,
+      ap length is
+          ∙ length-append piece after,
+    )) h
+
 -- the last put of a longer write
 pub last_put : (bound : Option ℕ) (r : Result (Unit {0}) EncodeError) (old text now left : List ℕ)
     → Written bound old text now left → PutAnswers bound (length now + length left) r

@@ -61,11 +61,14 @@ sets_known m e = Some e
 abbrev pub adds_known : {E : Type 0} → List (EnumValue E) → EnumValue E → List (EnumValue E)
 adds_known m e = m ++ e ∷ []
 
--- the payload is a varint, whose value is set, or which is kept
-abbrev pub closes : {E : Type 0} → (ℤ → Option E) → Step (Option (EnumValue E) × Fields)
-closes of_number m n p c z =
+-- the payload is a varint, whose value is added, or which is kept
+abbrev pub closes_by : {E M : Type 0} → (M → EnumValue E → M) → (ℤ → Option E) → Step (M × Fields)
+closes_by add of_number m n p c z =
     (x : ℕ) × (p ≡ varint x) × (c ≡ sort_charge (of_number (int32.dec x)))
-    × (z ≡ sorted sets_known n x m (of_number (int32.dec x)))
+    × (z ≡ sorted add n x m (of_number (int32.dec x)))
+
+abbrev pub closes : {E : Type 0} → (ℤ → Option E) → Step (Option (EnumValue E) × Fields)
+closes = closes_by sets_known
 
 -- the payload is numbers, whose values are added in order, and the others kept in order
 abbrev pub closes_each : {E : Type 0} → (ℤ → Option E) → Step (List (EnumValue E) × Fields)
@@ -86,13 +89,12 @@ same_numbers reading (fixed32 x) xs ys h k = absurd h
 same_numbers reading (group fs) xs ys h k = absurd h
 
 module _ {E : Type 0} (of_number : ℤ → Option E) where
-  pub closes_single : IsSingle (closes of_number)
-  closes_single m u z w n p c d (x, has, charged, is) (y, has_y, charged_y, is_y) =
+  pub closes_single : {M : Type 0} (add : M → EnumValue E → M) → IsSingle (closes_by add of_number)
+  closes_single {M} add m u z w n p c d (x, has, charged, is) (y, has_y, charged_y, is_y) =
       let same = same_varint p x y has has_y in (
         charged ∙ ap (λ k. sort_charge (of_number (int32.dec k))) same ∙ sym charged_y,
-        λ e. is ∙ ap (λ k. sorted sets_known n k m (of_number (int32.dec k))) same
-            ∙ ap (λ (v : Option (EnumValue E) × Fields).
-            sorted sets_known n y v (of_number (int32.dec y))) e ∙ sym is_y,
+        λ e. is ∙ ap (λ k. sorted add n k m (of_number (int32.dec k))) same
+            ∙ ap (λ (v : M × Fields). sorted add n y v (of_number (int32.dec y))) e ∙ sym is_y,
       )
 
   pub closes_each_single : OneReading → IsSingle (closes_each of_number)
@@ -114,7 +116,7 @@ closed_once number of_number n = record {
   default = None;
   records = optional_records (numeric Varint (open_enum number of_number)) n;
   takes = closes of_number;
-  single = λ reading. closes_single of_number;
+  single = λ reading. closes_single of_number sets_known;
 }
 
 -- as many as there are, in one payload

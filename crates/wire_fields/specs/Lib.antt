@@ -1,6 +1,7 @@
 pub mod Arms
 pub mod Back
 pub mod Closed
+pub mod ClosedOneof
 pub mod Dropped
 pub mod Enums
 pub mod Floats

@@ -20,12 +20,6 @@ same_list R seen each (x ∷ xs) (y ∷ ys) h =
     ap (λ v. v ∷ map seen ys) (each x y h.0)
     ∙ ap (λ vs. seen x ∷ vs) (same_list R seen each xs ys h.1)
 
-pub same_items : {T : Type 0} (xs ys : List T) → AllZip (λ x y. y ≡ x) xs ys → ys ≡ xs
-same_items [] [] h = refl
-same_items [] (y ∷ ys) h = elim h [ ]
-same_items (x ∷ xs) [] h = elim h [ ]
-same_items (x ∷ xs) (y ∷ ys) h = ap (λ v. v ∷ ys) h.0 ∙ ap (λ vs. x ∷ vs) (same_items xs ys h.1)
-
 pub same_pair : {S T K V : Type 0} (C : S → S → Type 0) (D : T → T → Type 0) (key : S → K)
     (value : T → V) → ((x y : S) → C x y → key y ≡ key x)
     → ((x y : T) → D x y → value y ≡ value x) → (p q : S × T) → C p.0 q.0 × D p.1 q.1

@@ -117,13 +117,13 @@ impl Twin for String {
 
 impl Twin for Vec<u8> {
     ghost use Rattle.std.specs.Prelude.{ℕ, List};
-    ghost use Rattle.wire_fields.specs.Twins.{same_items};
+    ghost use Rattle.std.specs.List.{each_same};
 
     ghost Seen = { List ℕ };
 
     ghost seen = { λ v. v.items };
 
-    ghost same = { λ v copy h. same_items v.items copy.items h.0 };
+    ghost same = { λ v copy h. each_same v.items copy.items h.0 };
 }
 
 /// A copy of numbers, or of other plain values. Refused where memory runs out.

@@ -178,7 +178,7 @@ pub(crate) fn answers_of(
     for field in fields {
         page.copy(
             &field.words,
-            &["field", "kind", "definition", "specs", "step"],
+            &["field", "kind", "definition", "specs", "step", "shape"],
         );
         page.copy(&field.words, &["path", "firsts", "taken", "sort"]);
         let is_beside = page.get("sort") == "Leaving";
@@ -188,23 +188,22 @@ pub(crate) fn answers_of(
         } else {
             OF_ONEOF
         };
-        page.append(
-            name,
-            if is_beside && field.oneof.is_some() {
-                ""
-            } else {
-                template
-            },
-        );
+        let is_of_many = is_beside && field.oneof.is_some();
+        page.append(name, if is_of_many { "" } else { template });
         let mut types = field.words.get("all_own").split(' ');
+        let mut calls = field.words.get("all_calls").split(' ');
+        let mut steps = field.words.get("all_steps").split(' ');
         for number in field.words.get("numbers").split(' ') {
             page.set("number", number);
             page.set("call", field.words.get("call"));
             page.set("types", types.next().unwrap_or(""));
-            if is_beside && field.oneof.is_some() {
-                page.copy(&field.words, &["shape", "specs"]);
+            if is_of_many && page.get("call") == "merge_or_keep" {
                 page.append_all(&OF_KEEPING);
                 page.fill("step", KEEPING_STEP);
+            } else if is_of_many {
+                page.set("call", calls.next().unwrap_or(""));
+                page.set("step", steps.next().unwrap_or(""));
+                put_closing(&mut page);
             }
             put_arm(&mut page);
         }
@@ -245,6 +244,21 @@ pub(crate) fn answers_of(
         },
     );
     page.finish("text")
+}
+
+// Of one number of a oneof that has closed enums: what such a one makes of a record stands beside
+// the unknown fields, what any other does leaves them.
+fn put_closing(page: &mut Words) {
+    let is_closed = page.get("call") != "merge";
+    page.fill("seen", if is_closed { BESIDE } else { INSIDE });
+    page.append(
+        "uses",
+        if is_closed {
+            "$specs$ $step$\n"
+        } else {
+            "$specs$ $shape$\n"
+        },
+    );
 }
 
 // What is to be shown of the record of one number; the first call of a function has no number in

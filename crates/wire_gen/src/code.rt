@@ -139,10 +139,10 @@ const LONG_ARM: &str = "            $number$ => <$kind$ as Kind>::merge(
             ),
 ";
 
-const CLOSED_ARM: &str = "            $number$ => $call$::<$of_name$, B>(tag, \
+const CLOSED_ARM: &str = "            $number$ => $callee$(tag, \
                           &mut self.$field$, &mut self.unknown, buf, context),\n";
 
-const LONG_CLOSED_ARM: &str = "            $number$ => $call$::<$of_name$, B>(
+const LONG_CLOSED_ARM: &str = "            $number$ => $callee$(
 $first$                tag,
                 &mut self.$field$,
                 &mut self.unknown,
@@ -308,14 +308,6 @@ pub(crate) fn put_in_braces(page: &mut Words, name: &'static str) {
 fn put_lets(page: &mut Words, fields: &[Field], tree: &Tree, part: Option<&Node>) {
     page.set("lets", "");
     page.set("message", if part.is_some() { "message." } else { "" });
-    page.set(
-        "itself",
-        if part.is_some() {
-            "self.message"
-        } else {
-            "self"
-        },
-    );
     for (place, field) in fields.iter().enumerate() {
         if tree.has(part, place, place.saturating_add(1)) {
             page.copy(&field.words, &["field", "number", "kind"]);
@@ -351,6 +343,7 @@ pub(crate) fn put_field(page: &mut Words, schema: &Schema, field: &Words) {
     put_field_comment(page, schema);
     page.append_all(&OF_FIELD);
     let mut types = field.get("all_types").split(' ');
+    let mut calls = field.get("all_calls").split(' ');
     for number in field.get("numbers").split(' ') {
         page.set("number", number);
         let own = types.next().unwrap_or("");
@@ -362,6 +355,10 @@ pub(crate) fn put_field(page: &mut Words, schema: &Schema, field: &Words) {
                 own
             },
         );
+        match calls.next() {
+            None | Some("") => page.set("call", field.get("call")),
+            Some(call) => page.set("call", call),
+        }
         put_arm(page);
     }
 }
@@ -372,6 +369,9 @@ fn put_arm(page: &mut Words) {
         return page.append("arms", KEEPING_ARM);
     }
     let is_plain = page.get("call") == "merge";
+    let is_closed = page.get("call").starts_with("merge_closed");
+    page.fill("callee", "$call$");
+    page.append("callee", if is_closed { "::<$of_name$, B>" } else { "" });
     let is_each = page.get("call") == "merge_closed_each";
     page.fill("arm", if is_plain { ARM } else { CLOSED_ARM });
     // (its line's end counted)

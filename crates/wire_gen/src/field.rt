@@ -88,12 +88,13 @@ fn leave_others(fields: &mut [Field]) {
     }
 }
 
-// An enum is closed only where a field is one by itself.
+// The numbers that a closed enum lacks go to the unknown fields.
 fn stop_on_closed(words: &mut Words) -> Result<(), GenerateError> {
-    if words.get("closed").is_empty() {
+    let is_plain = words.get("unknown") == "keep" && words.get("mismatch") == "refuse";
+    if is_plain || words.get("closed").is_empty() {
         return Ok(());
     }
-    let why = "$full$.$proto$: closed enums in a oneof or a map want enums=open";
+    let why = "$full$.$proto$: closed enums are not generated with unknown=drop or mismatch=keep";
     Err(words.refused(why))
 }
 
@@ -152,12 +153,8 @@ fn field_of(
 ) -> Result<Field, GenerateError> {
     set_field(schema, features, field, &mut words)?;
     words.fill_all(&PLAIN);
+    stop_on_closed(&mut words)?;
     if !words.get("closed").is_empty() {
-        if words.get("unknown") == "drop" || words.get("mismatch") == "keep" {
-            let why = "$full$.$proto$: closed enums are not generated with unknown=drop or \
-                mismatch=keep";
-            return Err(words.refused(why));
-        }
         set_closed(&mut words);
     } else if words.get("mismatch") == "keep" {
         set_keeping(&mut words);
@@ -212,7 +209,9 @@ fn set_part(
     };
     // (entries are length-prefixed, and so are messages in them)
     let sort = set_item(schema, features.prefixed(), field, words)?;
-    stop_on_closed(words)?;
+    if !words.get("closed").is_empty() {
+        return Err(words.refused("$full$.$proto$: closed enums in a map want enums=open"));
+    }
     Ok(sort)
 }
 
@@ -308,7 +307,8 @@ const PLAIN: [Template; 8] = [
     ("call", "merge"),
 ];
 
-const ONEOF: [Template; 15] = [
+const ONEOF: [Template; 16] = [
+    ("shape", "$module$-shape"),
     ("range", "$module$-range"),
     ("returned", "$module$-returned g"),
     (

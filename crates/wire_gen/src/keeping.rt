@@ -1,4 +1,5 @@
 //! Fields that leave records of other wire types to the unknown fields.
+use crate::closing::set_closing;
 use crate::field::put_apart;
 use crate::words::{Template, Words};
 
@@ -49,15 +50,19 @@ pub(crate) fn set_keeping(words: &mut Words) {
     words.append_all(&OF_KEEPING);
 }
 
-/// The numbers of a oneof are a list, and the wire types that go with them.
+/// The numbers of a oneof are a list, and what goes with each: the call and the step of its records,
+/// or its wire types where records of others are left.
 pub(crate) fn put_number(words: &mut Words, variant: &Words) {
     words.set("next", variant.get("number"));
     words.copy(variant, &["types", "own_types"]);
     let is_first = words.get("numbers").is_empty();
     words.append("numbers", if is_first { "$next$" } else { " $next$" });
     put_apart(words, is_first);
+    if !variant.get("closed").is_empty() {
+        return set_closing(words, variant);
+    }
     if words.get("mismatch") != "keep" {
-        return;
+        return words.append_all(&OF_PLAIN);
     }
     words.set("others", "own_none");
     if !is_first {
@@ -69,6 +74,11 @@ pub(crate) fn put_number(words: &mut Words, variant: &Words) {
     words.append_all(&OF_KEEPING_ONEOF);
     words.fill_all(&KEEPING_ONEOF);
 }
+
+const OF_PLAIN: [Template; 2] = [
+    ("all_calls", "merge "),
+    ("all_steps", "$module$-shape.takes "),
+];
 
 const OF_KEEPING_ONEOF: [Template; 3] = [
     ("definitions", "Rattle.wire_fields.specs.Leaving $types$\n"),
@@ -83,8 +93,7 @@ const OF_KEEPING_ONEOF: [Template; 3] = [
     ),
 ];
 
-const KEEPING_ONEOF: [Template; 6] = [
-    ("shape", "$module$-shape"),
+const KEEPING_ONEOF: [Template; 5] = [
     ("definition", "leaving_other ($own$) $module$-shape"),
     ("table", "$holder$-$field$-kind"),
     ("step", "$holder$-$field$-kind.takes"),

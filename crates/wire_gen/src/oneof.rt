@@ -1,4 +1,5 @@
 //! The code of a oneof.
+use crate::closing::OF_CLOSED_VARIANT;
 use crate::error::GenerateError;
 use crate::field::Oneof;
 use crate::imports::{code_imports, ghost_imports};
@@ -198,10 +199,15 @@ pub(crate) fn oneof_code(
                 "presence",
                 "code",
                 "copy_value",
+                "closed",
+                "of_name",
             ],
         );
         page.set("of_ghosts", variant.get("ghosts"));
         page.append_all(&OF_VARIANT);
+        if !page.get("closed").is_empty() {
+            page.append_all(&OF_CLOSED_VARIANT);
+        }
         put_calls(&mut page);
         put_arm(&mut page, place, last);
         if is_twin {

@@ -1,4 +1,5 @@
 //! The definitions of a oneof.
+use crate::closing::CLOSED_DEFINITIONS;
 use crate::error::GenerateError;
 use crate::field::{Oneof, put_apart};
 use crate::imports::definition_imports;
@@ -221,11 +222,16 @@ pub(crate) fn oneof_definitions(
                 "always_uses",
                 "range_uses",
                 "scalar_uses",
+                "closed",
+                "of_module",
             ],
         );
         page.fill("definition", "($always$ $definition$)");
         put_values(&mut page, place, last);
         page.append_all(&OF_VARIANT);
+        if !page.get("closed").is_empty() {
+            page.append_all(&CLOSED_DEFINITIONS);
+        }
         put_tree(&mut page, place);
         put_numbers(&mut page, place, last);
         if is_read_back {

@@ -1,5 +1,6 @@
 //! The files of a crate.
 use crate::answers::answers_of;
+use crate::closing::closed_answers;
 use crate::code::code_of;
 use crate::definitions::definitions_of;
 use crate::enums::enum_files;
@@ -42,8 +43,8 @@ const ROOT: &str = "\
 $modules$
 $exports$";
 
-// The most fields of a message: a copy of many more is not proved.
-const MOST_FIELDS: usize = 40;
+// The most fields of a message, of which it was seen that they are proved.
+const MOST_FIELDS: usize = 80;
 
 // Features of a plug-in, as protoc asks for them.
 const OPTIONAL_OF_PROTO3: u64 = 1;
@@ -130,7 +131,7 @@ impl Package {
         let mut page = self.page(&message.words);
         let mut fields = fields_of(&self.base, schema, message)?;
         if fields.len() > MOST_FIELDS {
-            return Err(page.refused("$full$: more than 40 fields"));
+            return Err(page.refused("$full$: more than 80 fields"));
         }
         if message.is_recursive {
             return self.add_recursive(schema, message, fields);
@@ -209,6 +210,11 @@ impl Package {
                 "proofs/$module$/merge_$word$/Answers.antt",
                 answers,
             )?;
+            if !variant.get("closed").is_empty() {
+                let answers = closed_answers(&page, variant)?;
+                let path = "proofs/$module$/set_or_keep_$word$/Answers.antt";
+                self.add(&mut page, path, answers)?;
+            }
         }
         Ok(())
     }

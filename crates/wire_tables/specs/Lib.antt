@@ -1,4 +1,5 @@
 pub mod Card
+pub mod Cause
 pub mod Contact
 pub mod Counter
 pub mod CounterBack

@@ -3,21 +3,25 @@ use Rattle.std.specs.Prelude.{List, Option}
 use Rattle.wire_codec.specs.EnumValue.{EnumValue}
 use Rattle.wire_codec.specs.Field.{Fields}
 use Rattle.wire_fields.specs.Closed.{closed_once, closed_packed, closed_unpacked}
-use Rattle.wire_fields.specs.Leaving.{Leaving, both_leaving, with_unknown}
+use Rattle.wire_fields.specs.ClosedOneof.{closing}
+use Rattle.wire_fields.specs.Leaving.{Leaving, both_leaving, leaving_none, with_unknown}
 use Rattle.wire_fields.specs.Shape.{Shape}
+use Rattle.wire_tables.specs.Cause.{CauseValue, cause_of, of_trigger, cause}
 use Rattle.wire_tables.specs.declared.level.Level.{Level}
 use Rattle.wire_tables.specs.declared.signal.Signal.{Signal}
 use Rattle.wire_tables.specs.Level.{level_number, level_of}
 
--- its level, history and marks
+-- its level, history, marks and cause
 abbrev pub SignalKnown : Type 0
-SignalKnown = (Option (EnumValue Level) × List (EnumValue Level)) × List (EnumValue Level)
+SignalKnown =
+    (Option (EnumValue Level) × List (EnumValue Level)) × (List (EnumValue Level) × CauseValue)
 
 abbrev pub SignalValue : Type 0
 SignalValue = SignalKnown × Fields
 
 abbrev pub signal_value : Signal → SignalValue
-signal_value m = (((m.level, m.history.items), m.marks.items), m.unknown)
+signal_value m =
+    (((m.level, m.history.items), (m.marks.items, cause_of m.cause)), m.unknown)
 
 abbrev pub signal_level : Leaving (Option (EnumValue Level))
 signal_level = closed_once level_number level_of 1
@@ -28,8 +32,13 @@ signal_history = closed_packed level_number level_of 2
 abbrev pub signal_marks : Leaving (List (EnumValue Level))
 signal_marks = closed_unpacked level_number level_of 3
 
+-- of whose fields, 4 and 5, the second is of the closed enum
+abbrev pub signal_cause : Leaving CauseValue
+signal_cause = closing 5 level_of of_trigger (leaving_none cause)
+
 abbrev pub signal_known : Leaving SignalKnown
-signal_known = both_leaving (both_leaving signal_level signal_history) signal_marks
+signal_known =
+    both_leaving (both_leaving signal_level signal_history) (both_leaving signal_marks signal_cause)
 
 abbrev pub signal : Shape SignalValue
 signal = with_unknown signal_known

@@ -2,6 +2,7 @@
 #![tactic(auto)]
 
 mod card;
+mod cause;
 mod contact;
 mod counter;
 pub mod laws;
@@ -16,6 +17,7 @@ mod signal;
 mod tree;
 
 pub use card::Card;
+pub use cause::{Cause, CauseKind};
 pub use contact::{Contact, ContactKind};
 pub use counter::Counter;
 pub use ledger::Ledger;

@@ -1,4 +1,5 @@
 //! A signal, whose enum is closed.
+use crate::cause::{Cause, CauseKind, set_or_keep_trigger};
 use crate::level::Level;
 use bytes::Buf;
 use std::alloc::Global;
@@ -17,6 +18,7 @@ pub struct Signal {
     pub level: Option<EnumValue<Level>>,
     pub history: Vec<EnumValue<Level>>,
     pub marks: Vec<EnumValue<Level>>,
+    pub cause: Option<Cause>,
     pub unknown: UnknownFields,
 }
 
@@ -40,6 +42,7 @@ impl Message for Signal {
             level: <Optional<Enum<Level>> as Kind>::empty(alloc),
             history: <Packed<Enum<Level>> as Kind>::empty(alloc),
             marks: <Unpacked<Enum<Level>> as Kind>::empty(alloc),
+            cause: <CauseKind as Kind>::empty(alloc),
             unknown: UnknownFields::new(alloc),
         }
     }
@@ -57,7 +60,11 @@ impl Message for Signal {
             number: 3,
             held: &self.marks,
         };
-        let known = ((level, history), marks);
+        let cause: Known<CauseKind> = Known {
+            number: 4,
+            held: &self.cause,
+        };
+        let known = ((level, history), (marks, cause));
         measure(
             (
                 known,
@@ -86,7 +93,11 @@ impl Message for Signal {
             number: 3,
             held: &self.marks,
         };
-        let known = ((level, history), marks);
+        let cause: Known<CauseKind> = Known {
+            number: 4,
+            held: &self.cause,
+        };
+        let known = ((level, history), (marks, cause));
         write(
             (
                 known,
@@ -124,6 +135,8 @@ impl Message for Signal {
                 buf,
                 context,
             ),
+            4 => <CauseKind as Kind>::merge(alloc, tag, &mut self.cause, buf, context),
+            5 => set_or_keep_trigger(tag, &mut self.cause, &mut self.unknown, buf, context),
             _ => keep(alloc, tag, &mut self.unknown, buf, context),
         }
     }
@@ -132,6 +145,7 @@ impl Message for Signal {
         <Optional<Enum<Level>> as Kind>::clear(&mut self.level);
         <Packed<Enum<Level>> as Kind>::clear(&mut self.history);
         <Unpacked<Enum<Level>> as Kind>::clear(&mut self.marks);
+        <CauseKind as Kind>::clear(&mut self.cause);
         self.unknown.clear();
     }
 }

@@ -103,6 +103,7 @@ impl Sample for Signal {
         said.show(&self.level);
         said.also(" ", &self.history);
         said.also(" ", &self.marks);
+        said.also(" ", &self.cause);
         said.also(" ", &self.unknown.len());
     }
 }

@@ -1,4 +1,5 @@
-use Rattle.std.proofs.Common.{◌∙◌}
+use Rattle.std.proofs.Common.{sym, ◌∙◌}
+use Rattle.std.proofs.lemmas.List.{drop_all}
 use Rattle.std.proofs.lemmas.Result.{err_from_is_err_and}
 use Rattle.wire_fields.proofs.Closing.{next_number, one_sorted, one_left, one_fits, rest_fits}
 use Rattle.wire_fields.proofs.Closing.{one_grew, one_fits_first}
@@ -30,3 +31,18 @@ loop-x-preserved g c =
       grew = one_grew of_number c.args.number limits _ _ _ front _ _ left
           c.levels_and_counts.ensures.counts _ c.loop-x.invariant.grew;
     }
+
+pub returns-clause-ok : goal.returns-clause-ok
+returns-clause-ok g c =
+    let done = drop_all c.loop-x.x-index c.args.numbers.now c.loop-x-test.false in
+    rw done at c.loop-x.invariant.sorted
+
+pub returns-clause-left : goal.returns-clause-left
+returns-clause-left g c =
+    let done = drop_all c.loop-x.x-index c.args.numbers.now c.loop-x-test.false in
+    sym (c.limits_add_up.ensures.left_after_nothing _) ∙ rw done at c.loop-x.invariant.left
+
+pub returns-clause-fits : goal.returns-clause-fits
+returns-clause-fits g c =
+    let done = drop_all c.loop-x.x-index c.args.numbers.now c.loop-x-test.false in
+    (rw done at c.loop-x.invariant.fits) (c.limits_add_up.ensures.nothing_fits _)

@@ -21,3 +21,17 @@ loop-key-preserved g c =
     c.args.number c.loop-key.key-iterator c.next.new.self _ _
     (rest_more deref_pair _ _ _ _ c.in-Some.is c.next.ensures.steps))
     c.piece_by_piece.ensures _ _ tt c.in_ok-put_entry.ensures.written c.in_ok-put_entry.ensures.read
+
+pub put_entry-requires-clause-sizes : goal.put_entry-requires-clause-sizes
+put_entry-requires-clause-sizes g c =
+    put.part_next c.joined_records_add_up.ensures _ _ _ _ _ _ _ _ _ c.loop-key.invariant
+    (next_entry g.K.Scalar.view g.V.Kind.view g.K.Scalar.scalar g.V.Kind.kind
+    c.args.number c.loop-key.key-iterator c.next.new.self _ _
+    (rest_more deref_pair _ _ _ _ c.in-Some.is c.next.ensures.steps))
+
+pub put_entry-requires-clause-size : goal.put_entry-requires-clause-size
+put_entry-requires-clause-size g c =
+    put.part_small c.joined_records_add_up.ensures _ _ _ _ _ _ _ _ _ c.loop-key.invariant
+    (next_entry g.K.Scalar.view g.V.Kind.view g.K.Scalar.scalar g.V.Kind.kind
+    c.args.number c.loop-key.key-iterator c.next.new.self _ _
+    (rest_more deref_pair _ _ _ _ c.in-Some.is c.next.ensures.steps))

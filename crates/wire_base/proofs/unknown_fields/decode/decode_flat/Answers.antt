@@ -1,9 +1,11 @@
 use Rattle.std.proofs.Common.{◌≡◌, sym, ◌∙◌, inl, rules}
 use Rattle.std.proofs.lemmas.Result.{err_from_is_err_and}
 use Rattle.wire_base.specs.Fault.{no_slot, no_varint, short_fixed64, short_fixed32, no_bytes, end_outside}
+use Rattle.wire_base.specs.Limits.{bytes_charge, one_field}
 use Rattle.wire_base.specs.TagView.{tag_type}
 use Rattle.wire_base.specs.declared.tag.WireType.TheVariants.{EndGroup}
 use Rattle.wire_base.proofs.Decoded.{no_memory_for_bytes, no_room_for_bytes, left_after-bytes}
+use Rattle.wire_base.proofs.LimitsLaws.{NoCountGrew-again, NoCountGrew-left_after}
 use Rattle.wire_base.proofs.Payloads.{takes_bytes}
 use Rattle.wire_base.proofs.unknown_fields.decode.decode_flat.Goals as goal
 
@@ -121,3 +123,12 @@ pub returns-in-StartGroup-clause-fault : goal.returns-in-StartGroup-clause-fault
 returns-in-StartGroup-clause-fault g c =
     let is : tag_type c.args.tag ≡ EndGroup = search rules in
     rw is (inl (end_outside c.in_ok-register_unknown_field.ensures.taken))
+
+pub returns-in_err-take_bytes-in-LengthDelimited-clause-counts : goal.returns-in_err-take_bytes-in-LengthDelimited-clause-counts
+returns-in_err-take_bytes-in-LengthDelimited-clause-counts g c =
+    let r = c.from_residual-in_err-take_bytes-in-LengthDelimited in
+    let p = err_from_is_err_and r.result r.ensures.1 in
+    let slot = c.in_ok-register_unknown_field.ensures in
+    let room = (c.in_ok-register_unknown_bytes-in-LengthDelimited).ensures in
+    rw (p.1, room.ok, slot.ok) (NoCountGrew-again _ _ _ (NoCountGrew-left_after _ one_field)
+    (NoCountGrew-left_after _ (bytes_charge (c.in_ok-len-in-LengthDelimited).len)))

@@ -1,7 +1,11 @@
-use Rattle.std.proofs.Common.{[], ◌∷◌, refl, sym, ap, ◌∙◌, arith}
+use Rattle.std.proofs.Common.{◌≡◌, ℕ, ◌+◌, ◌<◌, List, [], ◌∷◌, ◌++◌, length, refl, sym, ap, ◌∙◌, arith, length-append}
 use Rattle.std.proofs.lemmas.Result.{err_from_is_err_and, IfErr-weaker, on_ok_weaker}
 use Rattle.wire_codec.specs.Ending.{by_limit, by_tag}
 use Rattle.wire_codec.specs.Limits.{outer}
+use Rattle.wire_codec.specs.Read.{Reads}
+use Rattle.wire_codec.specs.Tag.{IsTagSpelling}
+use Rattle.wire_codec.specs.Varint.{IsEnded}
+use Rattle.wire_codec.specs.WireType.{WireType}
 use Rattle.wire_codec.proofs.Lists.{at_start, at_end, at_none, no_tag, no_record, one_more, not_ended}
 use Rattle.wire_codec.proofs.Lists.{no_next_tag, group_end}
 use Rattle.wire_fields.specs.Messages.{length_prefixed, delimited}
@@ -13,7 +17,27 @@ use Rattle.wire_fields.proofs.NestTaken.{placed_taken, not_placed, leaf_taken, n
 use Rattle.wire_fields.proofs.NestTaken.{owned_taken, not_owned, same_beside, both_ok}
 use Rattle.wire_fields.proofs.recursive.merge.+merge.Goals as goal
 
+-- what follows a tag and a text behind it is shorter than what the tag stands in
+behind_record : (n : ℕ) (w : WireType) (IsText : List ℕ → Type 0) (old mid new : List ℕ)
+    → Reads old (IsTagSpelling n w) mid → Reads mid IsText new → length new < length old
+behind_record n w IsText old mid new tag read =
+    behind tag.text tag.spelled.varint.ended tag.parts
+  where
+    behind : (text : List ℕ) → IsEnded text → old ≡ text ++ mid → length new < length old
+    behind [] ended e = absurd ended
+    behind (b ∷ text) ended e =
+        omega (
+          arith,
+          ap length e ∙ length-append (b ∷ text) mid,
+          ap length read.parts
+              ∙ length-append read.text new,
+        )
+
 -- ---- records up to a limit
+
+pub merge_payload-loop-alloc-smaller : goal.merge_payload-loop-alloc-smaller
+merge_payload-loop-alloc-smaller g t c =
+    behind_record _ _ _ _ _ _ c.in_ok-tag.ensures.ok c.in_ok-merge_nest.ensures.ok.taken.read.read
 
 pub merge_payload-loop-alloc-init : goal.merge_payload-loop-alloc-init
 merge_payload-loop-alloc-init g t c = record {
@@ -133,6 +157,11 @@ merge_group-loop-tag-preserved g t c =
       kept = c.in_ok-merge_nest.ensures.kept ∙ c.in_ok-tag.ensures.kept
           ∙ c.loop-tag.invariant.kept;
     }
+
+pub merge_group-loop-tag-smaller : goal.merge_group-loop-tag-smaller
+merge_group-loop-tag-smaller g t c =
+    behind_record _ _ _ _ _ _ (rw c.in-Some.is at c.in_ok-tag.ensures.record)
+    c.in_ok-merge_nest.ensures.ok.taken.read.read
 
 pub merge_group-returns-in_err-merge_nest-clause-err
     : goal.merge_group-returns-in_err-merge_nest-clause-err

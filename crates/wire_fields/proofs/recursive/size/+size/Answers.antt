@@ -2,6 +2,7 @@ use Rattle.std.proofs.Common.{◌<◌, ◌∙◌, ap, sym, map, rules, arith}
 use Rattle.wire_fields.specs.Nest.{nodes, all_nodes, row_count, row_less, item_less}
 use Rattle.wire_fields.specs.NestTable.{is_grouped, encoding_of, nest_records}
 use Rattle.wire_fields.proofs.Measuring.{embedded_measured, more, no_messages_measured}
+use Rattle.wire_fields.proofs.Messages.{next_message}
 use Rattle.wire_fields.proofs.Nests.{next_row, next_run, no_rows, measured_all}
 use Rattle.wire_fields.proofs.recursive.size.+size.Goals as goal
 
@@ -22,6 +23,14 @@ each_len-message_len-requires g t c κs within =
     let less = item_less g.T.Recursive.view c.args.messages.now _ _ c.loop-message-test.true
     c.message-item.is in
     (omega (arith, less), (search rules, c.requires))
+
+pub each_len-loop-message-preserved : goal.each_len-loop-message-preserved
+each_len-loop-message-preserved g t c =
+    more c.joined_records_add_up.ensures _ _ _ _ _ _ _ _ _ _ c.loop-message.invariant
+    (next_message (encoding_of c.args.grouped) (nest_records g.T.Recursive.table)
+    g.T.Recursive.view c.args.number c.args.messages.now c.loop-message.message-index _
+    c.loop-message-test.true c.message-item.is) c.in_ok-message_len.ensures.ok
+    c.saturating_add-size.ensures
 
 pub nest_size-row_len-requires : goal.nest_size-row_len-requires
 nest_size-row_len-requires g t c κs within =

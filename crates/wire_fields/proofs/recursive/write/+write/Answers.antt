@@ -112,6 +112,23 @@ put_each-loop-message-preserved g t c =
 
 -- ---- a message
 
+pub write_nest-put_run-requires-clause-sizes : goal.write_nest-put_run-requires-clause-sizes
+write_nest-put_run-requires-clause-sizes g t c =
+    put.part_next c.joined_records_add_up.ensures g.S.EncodeSink.most _ _ _ _ _ _
+    (g.S.EncodeSink.bytes_of c.args.sink.now) _
+    (put.start c.piece_by_piece.ensures _ _ _ _ c.requires.sizes c.requires.size)
+    (first_run g.T.Recursive.table (g.T.Recursive.view c.args.message.now))
+
+pub write_nest-returns-in_err-put_run-clause-written :
+    goal.write_nest-returns-in_err-put_run-clause-written
+write_nest-returns-in_err-put_run-clause-written g t c =
+    let p = err_from_is_err_and c.from_residual.result c.from_residual.ensures.1 in
+    let pieces = c.piece_by_piece.ensures in
+    rw (p.1, p.2) (put.refused c.joined_records_add_up.ensures _ _ _ _ _ _ _ _ _
+    (put.start pieces _ _ _ _ c.requires.sizes c.requires.size)
+    (first_run g.T.Recursive.table (g.T.Recursive.view c.args.message.now)) pieces _ _
+    c.in_err-put_run.ensures.written)
+
 pub write_nest-loop-row-init : goal.write_nest-loop-row-init
 write_nest-loop-row-init g t c =
     let pieces = c.piece_by_piece.ensures in

@@ -1,0 +1,129 @@
+//! Closed enums in a oneof: a number that the enum does not have goes to the unknown fields.
+use crate::error::GenerateError;
+use crate::imports::definition_imports;
+use crate::words::{Template, Words};
+
+/// The function of a variant of a closed enum.
+pub(crate) const CLOSED_VARIANT: &str = "
+/// Takes the record behind this tag as this variant where the enum has its number, and else keeps
+/// it as an unknown field. Refused as `merge_closed`.
+pub(crate) fn set_or_keep_$word$<B: Buf>(
+    tag: Tag,
+    held: &mut Option<$name$>,
+    unknown: &mut UnknownFields,
+    buf: &mut B,
+    context: &mut DecodeContext,
+) -> Result<(), DecodeError>
+    ensures ok { OnOk result (IsCharged context.old context.new (λ c.
+        TakesRecord $word$-of-$module$-closed context.old
+        (tag_number tag) (tag_type tag) ($module$-of held.old, unknown.old)
+        (B.unread buf.old) c ($module$-of held.new, unknown.new) (B.unread buf.new))) }
+    ensures err { IfErr result (λ e. e ≢ OutOfMemory → NotTaken
+        (TakesRecord $word$-of-$module$-closed context.old
+        (tag_number tag) (tag_type tag) ($module$-of held.old, unknown.old)
+        (B.unread buf.old))) }
+    ensures counts { OnErr result (NoCountGrew context.old context.new) }
+    ensures kept { B.kept buf.new ≡ B.kept buf.old }
+{
+    let mut value = None;
+    merge_closed::<$of_name$, B>(tag, &mut value, unknown, buf, context)?;
+    match value {
+        Some(value) => {
+            *held = Some($name$::$variant$(value));
+            Ok(())
+        }
+        None => Ok(()),
+    }
+}
+";
+
+/// What that function brings in.
+pub(crate) const OF_CLOSED_VARIANT: [Template; 3] = [
+    ("variants", CLOSED_VARIANT),
+    (
+        "uses",
+        "wire_codec UnknownFields\nwire_fields merge_closed\n",
+    ),
+    (
+        "ghosts",
+        "Rattle.$crate$.specs.$name$ $word$-of-$module$-closed\n",
+    ),
+];
+
+/// What such a variant is, beside what any is.
+pub(crate) const CLOSED_DEFINITIONS: [Template; 2] = [
+    (
+        "variants",
+        "abbrev pub $word$-of-$module$-from : $value$ → $name$-Value
+$word$-of-$module$-from x = Some $one$
+
+-- a number that the enum has becomes the value, and any other is kept
+abbrev pub $word$-of-$module$-closed : Step ($name$-Value × Fields)
+$word$-of-$module$-closed = closes_by (becomes $word$-of-$module$-from) $of_module$-of
+
+",
+    ),
+    (
+        "uses",
+        "Rattle.wire_codec.specs.Field Fields\nRattle.wire_fields.specs.Closed closes_by\n\
+        Rattle.wire_fields.specs.ClosedOneof becomes\n",
+    ),
+];
+
+const ANSWERS: &str = "\
+use Rattle.std.proofs.lemmas.Result.{err_from_is_err_and}
+use $of_specs$.$of_name$.{$of_module$-of}
+use Rattle.$crate$.specs.$name$.{$word$-of-$module$-from}
+use Rattle.wire_fields.specs.ClosedOneof.{closing_untaken}
+use Rattle.$crate$.proofs.$module$.set_or_keep_$word$.Goals as goal
+
+pub returns-in_err-merge_closed-clause-err : goal.returns-in_err-merge_closed-clause-err
+returns-in_err-merge_closed-clause-err g c =
+    let p = err_from_is_err_and c.from_residual.result c.from_residual.ensures.1 in
+    rw (p.1, p.2) (λ other. closing_untaken $of_module$-of $word$-of-$module$-from _ _ _ _ _ _
+    (c.in_err-merge_closed.ensures.err other))
+";
+
+/// The proof of that function.
+pub(crate) fn closed_answers(base: &Words, variant: &Words) -> Result<String, GenerateError> {
+    let mut page = Words::like(base);
+    page.copy(variant, &["word", "of_specs", "of_name", "of_module"]);
+    page.fill("text", ANSWERS);
+    page.finish("text")
+}
+
+const CLOSING: [Template; 4] = [
+    (
+        "definition",
+        "closing $next$ $of_module$-of\n    $word$-of-$module$-from\n    ($definition$)",
+    ),
+    ("table", "$holder$-$field$-kind"),
+    ("step", "$holder$-$field$-kind.takes"),
+    ("sort", "Leaving"),
+];
+
+const OF_CLOSING: [Template; 5] = [
+    (
+        "definitions",
+        "$specs$ $word$-of-$module$-from\nRattle.wire_fields.specs.ClosedOneof closing\n\
+        $of_specs$.$of_name$ $of_module$-of\n",
+    ),
+    (
+        "definitions",
+        "Rattle.wire_fields.specs.Leaving leaving_none\n",
+    ),
+    ("code", "crate::$module$ set_or_keep_$word$\n"),
+    ("all_calls", "set_or_keep_$word$ "),
+    ("all_steps", "$word$-of-$module$-closed "),
+];
+
+/// Makes the words of a oneof, whose next variant is of a closed enum, those of one that keeps the
+/// numbers that the enum lacks.
+pub(crate) fn set_closing(words: &mut Words, variant: &Words) {
+    words.copy(variant, &["word", "of_specs", "of_name", "of_module"]);
+    if words.get("sort") != "Leaving" {
+        words.fill("definition", "leaving_none $definition$");
+    }
+    words.fill_all(&CLOSING);
+    words.append_all(&OF_CLOSING);
+}
