@@ -5,8 +5,8 @@ use crate::words::{Template, Words};
 
 /// The function of a variant of a closed enum.
 pub(crate) const CLOSED_VARIANT: &str = "
-/// Takes the record behind this tag as this variant where the enum has its number, and else keeps
-/// it as an unknown field. Refused as `merge_closed`.
+/// Takes the record behind this tag as this variant where the enum has the number in it,
+/// and else keeps it as an unknown field. Refused as `merge_closed`.
 pub(crate) fn set_or_keep_$word$<B: Buf>(
     tag: Tag,
     held: &mut Option<$name$>,
@@ -26,7 +26,7 @@ pub(crate) fn set_or_keep_$word$<B: Buf>(
     ensures kept { B.kept buf.new ≡ B.kept buf.old }
 {
     let mut value = None;
-    merge_closed::<$of_name$, B>(tag, &mut value, unknown, buf, context)?;
+    wire_fields::merge_closed::<$of_name$, B>(tag, &mut value, unknown, buf, context)?;
     match value {
         Some(value) => {
             *held = Some($name$::$variant$(value));
@@ -40,10 +40,7 @@ pub(crate) fn set_or_keep_$word$<B: Buf>(
 /// What that function brings in.
 pub(crate) const OF_CLOSED_VARIANT: [Template; 3] = [
     ("variants", CLOSED_VARIANT),
-    (
-        "uses",
-        "wire_codec UnknownFields\nwire_fields merge_closed\n",
-    ),
+    ("uses", "wire_codec UnknownFields\n"),
     (
         "ghosts",
         "Rattle.$crate$.specs.$name$ $word$-of-$module$-closed\n",

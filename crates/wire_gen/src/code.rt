@@ -1,4 +1,5 @@
 //! The code of a message type.
+use crate::arms::put_arm;
 use crate::comments::put_comment;
 use crate::copies::set_clone;
 use crate::error::GenerateError;
@@ -7,9 +8,6 @@ use crate::imports::code_imports;
 use crate::schema::{MessageType, Schema};
 use crate::tree::{Node, Tree};
 use crate::words::{Template, Words};
-
-// The widest line of code.
-const WIDTH: usize = 100;
 
 const USES: &str = "\
 bytes Buf
@@ -125,41 +123,6 @@ $lets$        $local$.len(cache)
 $lets$        $local$.put(cache, sink)
     }
 }
-";
-
-const ARM: &str = "            $number$ => <$kind$ as Kind>::merge(alloc, tag, &mut self.$field$, \
-                   buf, context),\n";
-
-const LONG_ARM: &str = "            $number$ => <$kind$ as Kind>::merge(
-                alloc,
-                tag,
-                &mut self.$field$,
-                buf,
-                context,
-            ),
-";
-
-const CLOSED_ARM: &str = "            $number$ => $callee$(tag, \
-                          &mut self.$field$, &mut self.unknown, buf, context),\n";
-
-const LONG_CLOSED_ARM: &str = "            $number$ => $callee$(
-$first$                tag,
-                &mut self.$field$,
-                &mut self.unknown,
-                buf,
-                context,
-            ),
-";
-
-const KEEPING_ARM: &str = "            $number$ => merge_or_keep::<$kind$, B>(
-                alloc,
-                tag,
-                OwnTypes::$own_types$,
-                &mut self.$field$,
-                &mut self.unknown,
-                buf,
-                context,
-            ),
 ";
 
 const OF_SOME: [Template; 3] = [
@@ -361,37 +324,4 @@ pub(crate) fn put_field(page: &mut Words, schema: &Schema, field: &Words) {
         }
         put_arm(page);
     }
-}
-
-// The call of one number, in one line where it has room there.
-fn put_arm(page: &mut Words) {
-    if page.get("call") == "merge_or_keep" {
-        return page.append("arms", KEEPING_ARM);
-    }
-    let is_plain = page.get("call") == "merge";
-    let is_closed = page.get("call").starts_with("merge_closed");
-    page.fill("callee", "$call$");
-    page.append("callee", if is_closed { "::<$of_name$, B>" } else { "" });
-    let is_each = page.get("call") == "merge_closed_each";
-    page.fill("arm", if is_plain { ARM } else { CLOSED_ARM });
-    // (its line's end counted)
-    let is_short = page.get("arm").len() <= WIDTH + 1 && !is_each;
-    page.fill(
-        "first",
-        if is_each {
-            "                alloc,\n"
-        } else {
-            ""
-        },
-    );
-    page.append(
-        "arms",
-        if is_short {
-            "$arm$"
-        } else if is_plain {
-            LONG_ARM
-        } else {
-            LONG_CLOSED_ARM
-        },
-    );
 }

@@ -99,14 +99,30 @@ fn stop_on_closed(words: &mut Words) -> Result<(), GenerateError> {
 }
 
 fn names_differ(alloc: Global, fields: &mut [Field]) -> Result<(), GenerateError> {
-    let mut names: Vec<String> = Vec::new(alloc);
+    let mut names = Vec::new(alloc);
+    let mut variants = Vec::new(alloc);
     for field in fields {
-        let name = field.words.get("field");
-        if names.iter().any(|it| it.as_str() == name) {
-            return Err(field.words.refused("$full$: two fields are called $field$"));
+        add_name(alloc, &mut field.words, &mut names)?;
+        if let Some(oneof) = &mut field.oneof {
+            for variant in &mut oneof.variants {
+                add_name(alloc, variant, &mut variants)?;
+            }
         }
-        names.push(String::from_str(alloc, name)?)?;
     }
+    Ok(())
+}
+
+// Puts the name of a field behind those of others, which it is none of.
+fn add_name(
+    alloc: Global,
+    field: &mut Words,
+    names: &mut Vec<String>,
+) -> Result<(), GenerateError> {
+    let name = field.get("field");
+    if names.iter().any(|it| it.as_str() == name) {
+        return Err(field.refused("$full$: two fields are called $field$"));
+    }
+    names.push(String::from_str(alloc, name)?)?;
     Ok(())
 }
 

@@ -45,7 +45,7 @@ pub(crate) fn ghost_imports(page: &mut Words) {
 /// the formatter: the crate's own modules first.
 pub(crate) fn code_imports(page: &mut Words) {
     let uses = page.take("uses");
-    let lines = page.sorted(&uses);
+    let lines = page.ordered(&uses);
     page.fill("imports", "");
     for is_own in [true, false] {
         page.fill("last", "");

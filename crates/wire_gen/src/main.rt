@@ -3,6 +3,7 @@
 #![tactic(auto)]
 
 mod answers;
+mod arms;
 mod closing;
 mod code;
 mod comments;

@@ -1,5 +1,6 @@
 //! Named words, and templates that are filled with them.
 use crate::error::GenerateError;
+use crate::names::order_key;
 use std::alloc::Global;
 
 /// Texts by their names. A name between two `$` of a template stands for the word of that name, and
@@ -160,6 +161,23 @@ impl Words {
             self.is_short = true;
         }
         lines.dedup();
+        lines
+    }
+
+    /// The same in the order of the formatter.
+    pub(crate) fn ordered<'a>(&mut self, text: &'a str) -> Vec<&'a str> {
+        let mut keyed: Vec<(String, &'a str)> = Vec::new(self.alloc);
+        for line in self.sorted(text) {
+            match order_key(self.alloc, line) {
+                Ok(key) => self.is_short |= keyed.push((key, line)).is_err(),
+                Err(_) => self.is_short = true,
+            }
+        }
+        self.is_short |= keyed.sort().is_err();
+        let mut lines: Vec<&'a str> = Vec::new(self.alloc);
+        for (_, line) in keyed {
+            self.is_short |= lines.push(line).is_err();
+        }
         lines
     }
 
