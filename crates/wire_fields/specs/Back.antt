@@ -55,11 +55,11 @@ all_weaker : (Is Other : ℕ → Type 0) → ((n : ℕ) → Is n → Other n) �
 all_weaker Is Other on none h = tt
 all_weaker Is Other on (field n p rest) h = (on n h.0, all_weaker Is Other on rest h.1)
 
-fitting_joined : (fs gs : Fields) → AreFitting fs → AreFitting gs → AreFitting (joined fs gs)
+pub fitting_joined : (fs gs : Fields) → AreFitting fs → AreFitting gs → AreFitting (joined fs gs)
 fitting_joined none gs h k = k
 fitting_joined (field n p rest) gs h k = (h.0, fitting_joined rest gs h.1 k)
 
-numbered_joined : (fs gs : Fields) → AreNumbered fs → AreNumbered gs → AreNumbered (joined fs gs)
+pub numbered_joined : (fs gs : Fields) → AreNumbered fs → AreNumbered gs → AreNumbered (joined fs gs)
 numbered_joined none gs h k = k
 numbered_joined (field n p rest) gs h k = (h.0, h.1, numbered_joined rest gs h.2 k)
 
@@ -172,7 +172,7 @@ module _ {A B : Type 0} (a : Shape A) (b : Shape B) (HoldsA : A → Type 0) (Hol
 
 -- ---- one field
 
-same_owned : (n j : ℕ) → j ≡ n → (j == n) ≡ true
+pub same_owned : (n j : ℕ) → j ≡ n → (j == n) ≡ true
 same_owned n j e = elim (eqb_tells j n) [ inl h ↦ h.0 | inr h ↦ absurd (h.1 e) ]
 
 pub known_back : {V : Type 0} (n : ℕ) (f : Lawful V) (Holds : V → Type 0) (charge_of : V → Charge)
@@ -195,7 +195,7 @@ push_joined : (fs : Fields) (n : ℕ) (p : Payload) (gs : Fields)
 push_joined none n p gs = refl
 push_joined (field k q rest) n p gs = ap (field k q) (push_joined rest n p gs)
 
-kept_fold : (m fs : Fields) → Folds keeps m fs (charge fs) (joined m fs)
+pub kept_fold : (m fs : Fields) → Folds keeps m fs (charge fs) (joined m fs)
 kept_fold m none = (refl, joined_none m)
 kept_fold m (field n p rest) = (
   push m n p,

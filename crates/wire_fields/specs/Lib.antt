@@ -1,13 +1,16 @@
 pub mod Arms
 pub mod Back
 pub mod Closed
+pub mod ClosedBack
 pub mod ClosedOneof
 pub mod Dropped
 pub mod Enums
 pub mod Floats
 pub mod Grounds
+pub mod KeepingBack
 pub mod Least
 pub mod Leaving
+pub mod LeavingBack
 pub mod Maps
 pub mod MapsBack
 pub mod Measuring

@@ -44,7 +44,7 @@ pub record AreNumbers {T : Type 0} (form : Form) (values : ValueMap T) (InRange 
 module _ {T : Type 0} (shortest : ShortestReadsBack) (charges : ChargesAddUp) (form : Form)
     (values : ValueMap T) (InRange : T → Type 0) (back : ReadsBack values InRange)
     (fits : (v : T) → InRange v → IsPayloadFitting (number_payload form (values.enc v))) where
-  spelled : (vs : List T) → AllHold InRange vs
+  pub spelled : (vs : List T) → AllHold InRange vs
       → SpellsEach (IsNumberText form) (map values.enc vs) (packed_text form values vs)
   spelled [] h = refl
   spelled (v ∷ vs) h = (

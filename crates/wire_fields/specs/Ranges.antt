@@ -3,10 +3,11 @@ use Rattle.std.proofs.Common.{◌≡◌, ℕ, ◌^◌, ◌<◌, List, Bool, fals
 use Rattle.std.specs.Cmp.Lexicographic.{slice_cmp}
 use Rattle.std.specs.Int.{w32, w64}
 use Rattle.std.specs.Ordering.{nat_cmp, int_cmp, bool_cmp}
-use Rattle.std.specs.Prelude.{ℤ, FitsSigned, IsUtf8, Option, ⊤}
+use Rattle.std.specs.Prelude.{ℤ, FitsSigned, IsUtf8, Option, Some, ⊤}
 use Rattle.std.specs.declared.cmp.Ordering.{Ordering}
 use Rattle.wire_codec.specs.Charge.{charge}
 use Rattle.wire_codec.specs.EnumValue.{EnumValue}
+use Rattle.wire_codec.specs.EnumValue.TheVariants.{Known}
 use Rattle.wire_codec.specs.Enumeration.{number_of, known_or}
 use Rattle.wire_codec.specs.Field.{Payload, Fields}
 use Rattle.wire_codec.specs.Limits.{Charge, both, nested, no_charge}
@@ -87,6 +88,17 @@ pub record IsOpen {E : Type 0} (number : E → ℤ) (of_number : ℤ → Option 
 
 abbrev pub enum_range : {E : Type 0} → (E → ℤ) → (ℤ → Option E) → Range (EnumValue E)
 enum_range number of_number = uncharged (IsOpen number of_number)
+
+-- a value that the enum has, whose number has 32 bits
+pub record IsClosed {E : Type 0} (number : E → ℤ) (of_number : ℤ → Option E) (v : EnumValue E)
+    : Type 0 where
+  pub value : E
+  pub is : v ≡ Known value
+  pub fits : FitsSigned w32 (number value)
+  pub found : of_number (number value) ≡ Some value
+
+abbrev pub closed_range : {E : Type 0} → (E → ℤ) → (ℤ → Option E) → Range (EnumValue E)
+closed_range number of_number = uncharged (IsClosed number of_number)
 
 -- ---- presence
 

@@ -87,7 +87,7 @@ IfThere Holds (Some v) = Holds v
 module _ {V : Type 0} (same : FieldsArePlain) (charges : ChargesAddUp) (t : ScalarType V)
     (Holds : V → Type 0) (h : ScalarBack t Holds) where
   -- one record that is not charged
-  one_back : {U : Type 0} (takes : Step U) (start m : U) (n : ℕ) (v : V) → IsFieldNumber n → Holds v
+  pub one_back : {U : Type 0} (takes : Step U) (start m : U) (n : ℕ) (v : V) → IsFieldNumber n → Holds v
       → takes start n (t.payload v) no_charge m
       → FoldsBack takes start (plain (scalar_record t n v)) no_charge m
   one_back takes start m n v is holds step =

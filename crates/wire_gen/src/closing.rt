@@ -1,6 +1,6 @@
 //! Closed enums in a oneof: a number that the enum does not have goes to the unknown fields.
 use crate::error::GenerateError;
-use crate::imports::definition_imports;
+use crate::oneof_definitions::put_values;
 use crate::words::{Template, Words};
 
 /// The function of a variant of a closed enum.
@@ -67,6 +67,77 @@ $word$-of-$module$-closed = closes_by (becomes $word$-of-$module$-from) $of_modu
     ),
 ];
 
+// That a value is of this closed enum, or written under other numbers.
+const APART: &str = "
+pub $word$-of-$module$-apart : Grounds → (m : $name$-Value) → $module$-holds m
+    → ClosingOrApart $of_module$-number $of_module$-of $digits$ $word$-of-$module$-from
+    $module$-records $module$-range m
+$word$-of-$module$-apart g None h = inr tt
+$aparts$";
+
+const OF_APART: [Template; 3] = [
+    ("aparts", "$word$-of-$module$-apart g (Some $one$) h =\n"),
+    (
+        "aparts",
+        "    closing_value g $of_module$-number $of_module$-of $digits$ $word$-of-$module$-from
+    $module$-records $module$-range x refl h refl\n",
+    ),
+    (
+        "uses",
+        "Rattle.std.proofs.Common inr\n$of_specs$.$of_name$ $of_module$-number\n\
+        Rattle.wire_fields.specs.ClosedBack ClosingOrApart\n\
+        Rattle.wire_fields.specs.ClosedBack closing_value\n",
+    ),
+];
+
+const OF_OTHER: [Template; 3] = [
+    ("aparts", "$word$-of-$module$-apart g (Some $one$) h =\n"),
+    (
+        "aparts",
+        "    inr (variant_has g.charges $module$-shape ($other_always$ $other_definition$).kind
+    $other_range$.Holds
+    $other_range$.charge_of
+    ($other_returned$) (λ x. Some $one$) $other_number$ x refl
+    (λ j. (j == $digits$) ≡ false) refl)\n",
+    ),
+    (
+        "uses",
+        "Rattle.std.proofs.Common false\nRattle.std.specs.Prelude ◌==◌\n",
+    ),
+];
+
+// The words of another variant.
+const OTHER: [(&str, &str); 5] = [
+    ("other_always", "always"),
+    ("other_definition", "definition"),
+    ("other_range", "always_range"),
+    ("other_returned", "always_returned"),
+    ("other_number", "digits"),
+];
+
+/// The same of each value of a oneof, for each variant of a closed enum.
+pub(crate) fn put_apart_variants(page: &mut Words, variants: &[Words]) {
+    let last = variants.len().saturating_sub(1);
+    for (own, closed) in variants.iter().enumerate() {
+        if closed.get("closed").is_empty() {
+            continue;
+        }
+        page.copy(
+            closed,
+            &["word", "digits", "of_specs", "of_name", "of_module"],
+        );
+        page.set("aparts", "");
+        for (place, variant) in variants.iter().enumerate() {
+            put_values(page, place, last);
+            for (name, of) in &OTHER {
+                page.set(name, variant.get(of));
+            }
+            page.append_all(if place == own { &OF_APART } else { &OF_OTHER });
+        }
+        page.append("apart_variants", APART);
+    }
+}
+
 const ANSWERS: &str = "\
 use Rattle.std.proofs.lemmas.Result.{err_from_is_err_and}
 use $of_specs$.$of_name$.{$of_module$-of}
@@ -89,17 +160,22 @@ pub(crate) fn closed_answers(base: &Words, variant: &Words) -> Result<String, Ge
     page.finish("text")
 }
 
-const CLOSING: [Template; 4] = [
+const CLOSING: [Template; 5] = [
     (
         "definition",
         "closing $next$ $of_module$-of\n    $word$-of-$module$-from\n    ($definition$)",
+    ),
+    (
+        "returned",
+        "closing_returned g $of_module$-number $of_module$-of $next$\n    \
+        $word$-of-$module$-from _ _\n    ($returned$)\n    ($word$-of-$module$-apart g)",
     ),
     ("table", "$holder$-$field$-kind"),
     ("step", "$holder$-$field$-kind.takes"),
     ("sort", "Leaving"),
 ];
 
-const OF_CLOSING: [Template; 5] = [
+const OF_CLOSING: [Template; 6] = [
     (
         "definitions",
         "$specs$ $word$-of-$module$-from\nRattle.wire_fields.specs.ClosedOneof closing\n\
@@ -108,6 +184,11 @@ const OF_CLOSING: [Template; 5] = [
     (
         "definitions",
         "Rattle.wire_fields.specs.Leaving leaving_none\n",
+    ),
+    (
+        "returned_uses",
+        "$specs$ $word$-of-$module$-apart\n$of_specs$.$of_name$ $of_module$-number\n\
+        Rattle.wire_fields.specs.ClosedBack closing_returned\n",
     ),
     ("code", "crate::$module$ set_or_keep_$word$\n"),
     ("all_calls", "set_or_keep_$word$ "),
@@ -119,7 +200,10 @@ const OF_CLOSING: [Template; 5] = [
 pub(crate) fn set_closing(words: &mut Words, variant: &Words) {
     words.copy(variant, &["word", "of_specs", "of_name", "of_module"]);
     if words.get("sort") != "Leaving" {
-        words.fill("definition", "leaving_none $definition$");
+        words.fill_all(&[
+            ("definition", "leaving_none $definition$"),
+            ("returned", "none_returned ($returned$)"),
+        ]);
     }
     words.fill_all(&CLOSING);
     words.append_all(&OF_CLOSING);

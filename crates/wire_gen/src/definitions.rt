@@ -122,8 +122,15 @@ const USES_OF_KNOWN: &str = "\
 Rattle.std.proofs.Common arith
 Rattle.std.proofs.Common refl
 Rattle.wire_fields.specs.Ranges pair_range
-Rattle.wire_fields.specs.Returned known_returned
 ";
+
+// What puts the proofs of fields together, and where that stands.
+const OF_RETURNED: [(&str, &str); 4] = [
+    ("known_returned", "Returned"),
+    ("two_returned", "Returned"),
+    ("none_returned", "LeavingBack"),
+    ("both_returned", "LeavingBack"),
+];
 
 // Of a message that keeps other fields, and of one that drops them, with fields and without.
 const KEPT_RANGE: [Template; 3] = [
@@ -136,6 +143,22 @@ const KEPT_RANGE: [Template; 3] = [
         "uses",
         "Rattle.wire_fields.specs.Ranges others_range\n\
         Rattle.wire_fields.specs.Returned whole_returned\n",
+    ),
+];
+
+const LEAVING_RANGE: [Template; 3] = [
+    (
+        "whole_range",
+        "pair_range ($range$)\n    (others_range $module$-known.owns)",
+    ),
+    (
+        "whole_returned",
+        "with_unknown_returned g $module$-known _\n    ($returned$)",
+    ),
+    (
+        "uses",
+        "Rattle.wire_fields.specs.Ranges others_range\n\
+        Rattle.wire_fields.specs.LeavingBack with_unknown_returned\n",
     ),
 ];
 
@@ -221,7 +244,8 @@ pub(crate) fn definitions_of(
         if field.oneof.is_none() || page.get("sort") == "Leaving" {
             let is_lawful = page.get("sort") == "Lawful";
             page.append("kinds", KIND);
-            page.append("kinds", if is_read_back { FIELD_RANGE } else { "" });
+            let has_range = is_read_back && field.oneof.is_none();
+            page.append("kinds", if has_range { FIELD_RANGE } else { "" });
             page.append("uses", if is_lawful { USES_OF_LAWFUL } else { "" });
         }
     }
@@ -274,8 +298,12 @@ fn put_range(page: &mut Words, fields: &[Field], tree: &Tree, is_kept: bool) {
         page.copy(&field.words, &["returned_uses"]);
         page.append("uses", "$returned_uses$");
     }
-    if page.get("returned").contains("two_returned") {
-        page.append("uses", "Rattle.wire_fields.specs.Returned two_returned\n");
+    for (name, module) in &OF_RETURNED {
+        if page.get("returned").contains(name) {
+            page.set("of", module);
+            page.set("import", name);
+            page.append("uses", "Rattle.wire_fields.specs.$of$ $import$\n");
+        }
     }
     if page.get("returned").contains("elim h") {
         page.append(
@@ -283,7 +311,9 @@ fn put_range(page: &mut Words, fields: &[Field], tree: &Tree, is_kept: bool) {
             "Rattle.std.proofs.Common inl\nRattle.std.proofs.Common inr\n",
         );
     }
+    let is_leaving = page.get("part") == "Leaving";
     page.append_all(match (fields.is_empty(), is_kept) {
+        _ if is_leaving => &LEAVING_RANGE,
         (false, true) => &KEPT_RANGE,
         (false, false) => &DROPPED_RANGE,
         (true, true) => &EMPTY_RANGE,

@@ -1,9 +1,10 @@
 //! Fields of a message type, each with its kind.
+use crate::closed::set_closed;
 use crate::error::GenerateError;
 use crate::features::Features;
 use crate::item::{Sort, set_item};
-use crate::keeping::{put_number, set_keeping, set_types};
-use crate::kind::{set_always, set_closed, set_key, set_kind, set_map};
+use crate::keeping::{leave_others, put_number, set_keeping, set_types};
+use crate::kind::{set_always, set_key, set_kind, set_map};
 use crate::names::{type_name, word_name};
 use crate::schema::{MessageType, Schema};
 use crate::words::{Template, Words};
@@ -64,28 +65,6 @@ pub(crate) fn fields_of(
     names_differ(alloc, &mut fields)?;
     leave_others(&mut fields);
     Ok(fields)
-}
-
-// Where a field leaves records to the unknown fields, its message is a table of such as may.
-fn leave_others(fields: &mut [Field]) {
-    let leaves = fields.iter().any(|it| it.words.get("sort") == "Leaving");
-    for field in fields {
-        if leaves && field.words.get("sort") != "Leaving" {
-            field.words.fill("table", "leaving_none ($table$)");
-            field.words.append(
-                "definitions",
-                "Rattle.wire_fields.specs.Leaving leaving_none\n",
-            );
-        }
-        // (and how far its proofs stand to the right)
-        if leaves {
-            field
-                .words
-                .fill_all(&[("both", "both_leaving"), ("margin", "          ")]);
-        } else {
-            field.words.fill_all(&[("both", "two"), ("margin", "    ")]);
-        }
-    }
 }
 
 // The numbers that a closed enum lacks go to the unknown fields.

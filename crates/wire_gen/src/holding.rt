@@ -39,13 +39,11 @@ impl Schema {
         Ok(())
     }
 
-    /// Closed enums and records of other wire types are left to the unknown fields, and of these no
-    /// law is there, nor of messages that hold themselves, nor of what holds such a message.
+    /// Of messages that hold themselves no law is there, nor of what holds such a message.
     pub(crate) fn find_read_back(&mut self, has_laws: bool) -> Result<(), GenerateError> {
         let mut flags = self.flags(has_laws)?;
         for (message, flag) in self.messages.iter().zip(flags.iter_mut()) {
-            let has_closed = message.descriptor.field.iter().any(|it| self.is_closed(it));
-            *flag &= !has_closed && !message.is_recursive;
+            *flag &= !message.is_recursive;
         }
         self.spread(&mut flags)?;
         for (message, flag) in self.messages.iter_mut().zip(flags) {
@@ -81,13 +79,6 @@ impl Schema {
             }
         }
         Ok(())
-    }
-
-    fn is_closed(&self, field: &FieldDescriptorProto) -> bool {
-        match self.enum_of(&field.type_name) {
-            Some(of_enum) => field.type_ == 14 && of_enum.origin.features.is_closed(),
-            None => false,
-        }
     }
 
     // A flag for each message type.

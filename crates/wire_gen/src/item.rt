@@ -126,17 +126,35 @@ const OF_INTEGER: [Template; 2] = [
     ("definitions", "Rattle.wire_codec.specs.ValueMap $map$\n"),
 ];
 
-const ENUM: [Template; 11] = [
+// Which values of an enum are read back, and where that is proved.
+const OPEN: [Template; 3] = [
+    ("closed", ""),
+    ("range_of", "enum"),
+    ("back_uses", "Rattle.wire_fields.specs.Grounds enum_back\n"),
+];
+
+const CLOSED: [Template; 3] = [
+    ("closed", "closed"),
+    ("range_of", "closed"),
+    (
+        "back_uses",
+        "Rattle.wire_fields.specs.ClosedBack closed_back\n",
+    ),
+];
+
+const ENUM: [Template; 10] = [
     (
         "item_range",
-        "(enum_range $of_module$-number $of_module$-of)",
+        "($range_of$_range $of_module$-number $of_module$-of)",
     ),
-    ("range_uses", "Rattle.wire_fields.specs.Ranges enum_range\n"),
+    (
+        "range_uses",
+        "Rattle.wire_fields.specs.Ranges $range_of$_range\n",
+    ),
     (
         "number_back",
-        "(enum_back g $of_module$-number $of_module$-of)",
+        "($range_of$_back g $of_module$-number $of_module$-of)",
     ),
-    ("back_uses", "Rattle.wire_fields.specs.Grounds enum_back\n"),
     ("item_back", "(numeric_back $number_back$)"),
     (
         "scalar_uses",
@@ -278,14 +296,8 @@ fn set_enum(
         return Err(foreign(field, words));
     };
     set_names(&of_enum.words, words);
-    words.fill(
-        "closed",
-        if of_enum.origin.features.is_closed() {
-            "closed"
-        } else {
-            ""
-        },
-    );
+    let is_closed = of_enum.origin.features.is_closed();
+    words.fill_all(if is_closed { &CLOSED } else { &OPEN });
     words.fill_all(&ENUM);
     words.fill_all(&NUMBER);
     words.append_all(&OF_NUMBER);

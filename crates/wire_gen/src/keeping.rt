@@ -1,9 +1,18 @@
 //! Fields that leave records of other wire types to the unknown fields.
 use crate::closing::set_closing;
-use crate::field::put_apart;
+use crate::field::{Field, put_apart};
+use crate::oneof_definitions::put_values;
 use crate::words::{Template, Words};
 
-const KEEPING: [Template; 5] = [
+const KEEPING: [Template; 7] = [
+    ("lawful", "($definition$)"),
+    (
+        "returned",
+        "types_returned $types$ $number$ $lawful$ $module$-$field$-range
+    (known_returned g $number$ $lawful$ $module$-$field$-range
+    (omega arith) (omega arith)\n    ($kind_returned$))
+    ($typed$ $types$ $typed_of$)",
+    ),
     (
         "definition",
         "leaving_types $types$ $number$ ($definition$)",
@@ -14,7 +23,12 @@ const KEEPING: [Template; 5] = [
     ("call", "merge_or_keep"),
 ];
 
-const OF_KEEPING: [Template; 3] = [
+const OF_KEEPING: [Template; 4] = [
+    (
+        "returned_uses",
+        "Rattle.wire_fields.specs.KeepingBack types_returned\n\
+        Rattle.wire_fields.specs.KeepingBack $typed$\n$typed_uses$",
+    ),
     ("definitions", "Rattle.wire_fields.specs.Leaving $types$\n"),
     (
         "definitions",
@@ -75,12 +89,71 @@ pub(crate) fn put_number(words: &mut Words, variant: &Words) {
     words.fill_all(&KEEPING_ONEOF);
 }
 
+// That what is written of a oneof has the wire types of its variants.
+const OWNED: &str = "
+pub $module$-owned : Grounds → (m : $name$-Value) → $module$-holds m
+    → AllOwn ($owner$)
+    (plain ($module$-records m))
+$module$-owned g None h = tt
+$owneds$";
+
+const OF_OWNED: [Template; 2] = [
+    ("owneds", "$module$-owned g (Some $one$) h =\n    $owned$\n"),
+    ("uses", "Rattle.wire_fields.specs.Leaving $types$\n"),
+];
+
+const USES_OF_OWNED: &str = "\
+Rattle.wire_fields.specs.KeepingBack AllOwn
+Rattle.wire_fields.specs.Leaving own_at
+Rattle.wire_fields.specs.Leaving own_none
+";
+
+/// The same of each of these variants, where records of other wire types are left.
+pub(crate) fn put_owned(page: &mut Words, variants: &[Words]) {
+    if page.get("mismatch") != "keep" {
+        return;
+    }
+    let last = variants.len().saturating_sub(1);
+    page.set("owner", "own_none");
+    for (place, variant) in variants.iter().enumerate() {
+        page.copy(variant, &["types", "digits"]);
+        let others = if place == 0 { "$owner$" } else { "($owner$)" };
+        page.fill("others", others);
+        page.fill("owner", "own_at $types$ $digits$ $others$");
+    }
+    for (place, variant) in variants.iter().enumerate() {
+        page.copy(variant, &["types", "digits", "always", "definition"]);
+        put_values(page, place, last);
+        let is_scalar = page.get("always") == "always";
+        page.fill(
+            "owned",
+            if is_scalar {
+                SCALAR_OWNED
+            } else {
+                "(refl, tt)"
+            },
+        );
+        page.append_all(&OF_OWNED);
+        page.append("uses", if is_scalar { USES_OF_SCALAR } else { "" });
+    }
+    page.append("uses", USES_OF_OWNED);
+    page.fill("owned_variants", OWNED);
+}
+
+const SCALAR_OWNED: &str = "variant_owned g.plain ($owner$)\n    $definition$ $digits$ x refl";
+
+const USES_OF_SCALAR: &str = "Rattle.wire_fields.specs.KeepingBack variant_owned\n";
+
 const OF_PLAIN: [Template; 2] = [
     ("all_calls", "merge "),
     ("all_steps", "$module$-shape.takes "),
 ];
 
-const OF_KEEPING_ONEOF: [Template; 3] = [
+const OF_KEEPING_ONEOF: [Template; 4] = [
+    (
+        "returned_uses",
+        "Rattle.wire_fields.specs.LeavingBack leaving_back\n$specs$ $module$-owned\n",
+    ),
     ("definitions", "Rattle.wire_fields.specs.Leaving $types$\n"),
     (
         "definitions",
@@ -93,10 +166,52 @@ const OF_KEEPING_ONEOF: [Template; 3] = [
     ),
 ];
 
-const KEEPING_ONEOF: [Template; 5] = [
+const KEEPING_ONEOF: [Template; 6] = [
+    (
+        "returned",
+        "leaving_back ($own$) $module$-shape $module$-range\n    \
+        ($module$-returned g) ($module$-owned g)",
+    ),
     ("definition", "leaving_other ($own$) $module$-shape"),
     ("table", "$holder$-$field$-kind"),
     ("step", "$holder$-$field$-kind.takes"),
     ("sort", "Leaving"),
     ("call", "merge_or_keep"),
 ];
+
+const LEAVING_NONE: [Template; 2] = [
+    ("table", "leaving_none ($table$)"),
+    ("returned", "none_returned\n    ($returned$)"),
+];
+
+const PAIRED: [Template; 3] = [
+    ("both", "two"),
+    ("both_returned", "two_returned"),
+    ("margin", "    "),
+];
+
+const PAIRED_LEAVING: [Template; 3] = [
+    ("both", "both_leaving"),
+    ("both_returned", "both_returned"),
+    ("margin", "          "),
+];
+
+/// Where a field leaves records to the unknown fields, its message is a table of such as may.
+pub(crate) fn leave_others(fields: &mut [Field]) {
+    let leaves = fields.iter().any(|it| it.words.get("sort") == "Leaving");
+    for field in fields {
+        if leaves && field.words.get("sort") != "Leaving" {
+            field.words.fill_all(&LEAVING_NONE);
+            field.words.append(
+                "definitions",
+                "Rattle.wire_fields.specs.Leaving leaving_none\n",
+            );
+        }
+        // (and how far its proofs stand to the right)
+        if leaves {
+            field.words.fill_all(&PAIRED_LEAVING);
+        } else {
+            field.words.fill_all(&PAIRED);
+        }
+    }
+}

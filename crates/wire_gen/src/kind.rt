@@ -21,12 +21,16 @@ struct Kind {
     back: Back,
 }
 
-/// Which values of a kind are read back, and why: templates of a range and of the proof. Both stand
-/// in `module`s of names that are brought in.
+/// Which values of a kind are read back, and why: templates of a range and of the proof, with names
+/// that are brought in. The lemma, and what it is of besides the wire types of the field, by which
+/// what is written has these.
 struct Back {
     range: &'static str,
     returned: &'static str,
     uses: &'static str,
+    typed: &'static str,
+    typed_of: &'static str,
+    typed_uses: &'static str,
 }
 
 const IMPLICIT: Kind = Kind {
@@ -42,6 +46,9 @@ const IMPLICIT: Kind = Kind {
         range: "$item_range$",
         returned: "implicit_returned g _ _ $item_back$",
         uses: "Rattle.wire_fields.specs.Returned implicit_returned\n$range_uses$$scalar_uses$",
+        typed: "implicit_typed",
+        typed_of: "g.plain $definition$ (λ v. refl)",
+        typed_uses: "",
     },
 };
 
@@ -60,6 +67,9 @@ const OPTIONAL: Kind = Kind {
         returned: "optional_returned g _ _ $item_back$",
         uses: "Rattle.wire_fields.specs.Returned optional_returned\n\
             Rattle.wire_fields.specs.Ranges optional_range\n$range_uses$$scalar_uses$",
+        typed: "optional_typed",
+        typed_of: "g.plain $definition$ (λ v. refl)",
+        typed_uses: "",
     },
 };
 
@@ -78,6 +88,9 @@ const EMBEDDED: Kind = Kind {
         returned: "embedded_once_returned g _ _ $item_back$",
         uses: "Rattle.wire_fields.specs.Returned embedded_once_returned\n\
             Rattle.wire_fields.specs.Ranges once_range\n$range_uses$",
+        typed: "once_typed",
+        typed_of: "length_prefixed $definition$ (λ rs. refl)",
+        typed_uses: "Rattle.wire_fields.specs.Messages length_prefixed\n",
     },
 };
 
@@ -96,6 +109,9 @@ const GROUP: Kind = Kind {
         returned: "group_once_returned g _ _ $item_back$",
         uses: "Rattle.wire_fields.specs.Returned group_once_returned\n\
             Rattle.wire_fields.specs.Ranges once_range\n$range_uses$",
+        typed: "once_typed",
+        typed_of: "delimited $definition$ (λ rs. refl)",
+        typed_uses: "Rattle.wire_fields.specs.Messages delimited\n",
     },
 };
 
@@ -114,6 +130,9 @@ const EACH_EMBEDDED: Kind = Kind {
         returned: "embedded_each_returned g _ _ $item_back$ $size$",
         uses: "Rattle.wire_fields.specs.Returned embedded_each_returned\n\
             Rattle.wire_fields.specs.Ranges each_range\n$range_uses$",
+        typed: "each_typed",
+        typed_of: "length_prefixed $definition$ (λ rs. refl) $size$",
+        typed_uses: "Rattle.wire_fields.specs.Messages length_prefixed\n",
     },
 };
 
@@ -132,6 +151,9 @@ const EACH_GROUP: Kind = Kind {
         returned: "group_each_returned g _ _ $item_back$ $size$",
         uses: "Rattle.wire_fields.specs.Returned group_each_returned\n\
             Rattle.wire_fields.specs.Ranges each_range\n$range_uses$",
+        typed: "each_typed",
+        typed_of: "delimited $definition$ (λ rs. refl) $size$",
+        typed_uses: "Rattle.wire_fields.specs.Messages delimited\n",
     },
 };
 
@@ -149,6 +171,9 @@ const PACKED: Kind = Kind {
         returned: "packed_returned g _ _ $item_range$ $number_back$",
         uses: "Rattle.wire_fields.specs.Returned packed_returned\n\
             Rattle.wire_fields.specs.Ranges packed_range\n$range_uses$$back_uses$",
+        typed: "packed_typed",
+        typed_of: "$form$ $map$ refl",
+        typed_uses: "",
     },
 };
 
@@ -166,6 +191,9 @@ const UNPACKED: Kind = Kind {
         returned: "unpacked_returned g _ _ $item_range$ $number_back$",
         uses: "Rattle.wire_fields.specs.Returned unpacked_returned\n\
             Rattle.wire_fields.specs.Ranges unpacked_range\n$range_uses$$back_uses$",
+        typed: "unpacked_typed",
+        typed_of: "g.plain $form$ $map$ (λ v. refl)",
+        typed_uses: "",
     },
 };
 
@@ -183,6 +211,9 @@ const REPEATED: Kind = Kind {
         returned: "repeated_returned g _ _ $item_back$ $of_text$",
         uses: "Rattle.wire_fields.specs.Returned repeated_returned\n\
             Rattle.wire_fields.specs.Ranges repeated_range\n$range_uses$$scalar_uses$",
+        typed: "repeated_typed",
+        typed_of: "g.plain $definition$ (λ v. refl) $of_text$",
+        typed_uses: "",
     },
 };
 
@@ -201,6 +232,10 @@ const MAP: Kind = Kind {
         returned: "map_returned g _ _ _ _ $key_range$\n    $always_range$ $key_back$\n    ($always_returned$)",
         uses: "Rattle.wire_fields.specs.Returned map_returned\n\
             Rattle.wire_fields.specs.Ranges $key_order$_range\n$key_uses$$range_uses$$scalar_uses$$always_uses$",
+        typed: "messages_typed",
+        typed_of: "length_prefixed\n    (entry_records $key_definition$ ($always$ $plain$).kind) (λ rs. refl)",
+        typed_uses: "Rattle.wire_fields.specs.Messages length_prefixed\n\
+            Rattle.wire_fields.specs.Maps entry_records\n",
     },
 };
 
@@ -231,65 +266,6 @@ pub(crate) fn set_kind(
     put_kind(kind, words);
 }
 
-const CLOSED: [Template; 5] = [
-    (
-        "definition",
-        "$closed$ $of_module$-number $of_module$-of $number$",
-    ),
-    (
-        "definitions",
-        "$of_specs$.declared.$of_module$.$of_name$ $of_name$\n",
-    ),
-    ("table", "$module$-$field$-kind"),
-    ("step", "$module$-$field$-kind.takes"),
-    ("sort", "Leaving"),
-];
-
-const OF_CLOSED: [Template; 4] = [
-    (
-        "definitions",
-        "$specs$ $of_module$-number\n$specs$ $of_module$-of\n",
-    ),
-    (
-        "definitions",
-        "Rattle.wire_codec.specs.EnumValue EnumValue\n",
-    ),
-    ("definitions", "Rattle.wire_fields.specs.Closed $closed$\n"),
-    ("code", "wire_fields $call$\n"),
-];
-
-/// Makes the words of a field of a closed enum, of those of an open one.
-pub(crate) fn set_closed(words: &mut Words) {
-    let is_once = words.get("kind").starts_with("Optional");
-    let is_packed = words.get("kind").starts_with("Packed");
-    words.fill(
-        "closed",
-        if is_once {
-            "closed_once"
-        } else if is_packed {
-            "closed_packed"
-        } else {
-            "closed_unpacked"
-        },
-    );
-    words.fill_all(&CLOSED);
-    words.fill(
-        "call",
-        if is_once {
-            "merge_closed"
-        } else {
-            "merge_closed_each"
-        },
-    );
-    words.append_all(&OF_CLOSED);
-    if is_once {
-        words.fill("view", "m.$field$");
-        words.append("definitions", "Rattle.std.specs.Prelude Option\n");
-    } else {
-        words.append("definitions", "Rattle.std.specs.Prelude List\n");
-    }
-}
-
 /// Makes the words of a value those of the key of a map.
 pub(crate) fn set_key(words: &mut Words) {
     words.fill_all(&[
@@ -297,6 +273,7 @@ pub(crate) fn set_key(words: &mut Words) {
         ("key_kind", "$kind$"),
         ("key_bracketed", "$bracketed$"),
         ("key_view", "$view$"),
+        ("key_definition", "$definition$"),
         ("key_order", "$order$"),
         ("key_numbers", "$order_numbers$"),
         ("key_range", "$item_range$"),
@@ -369,6 +346,9 @@ fn put_kind(kind: &Kind, words: &mut Words) {
     words.append("returned_uses", kind.back.uses);
     words.fill("range", kind.back.range);
     words.fill("kind_returned", kind.back.returned);
+    words.set("typed", kind.back.typed);
+    words.fill("typed_of", kind.back.typed_of);
+    words.set("typed_uses", kind.back.typed_uses);
     words.append("code", kind.code);
     words.append("definitions", kind.definitions);
     words.fill("view", kind.view);

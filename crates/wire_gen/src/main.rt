@@ -4,6 +4,7 @@
 
 mod answers;
 mod arms;
+mod closed;
 mod closing;
 mod code;
 mod comments;

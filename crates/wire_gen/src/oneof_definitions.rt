@@ -1,8 +1,9 @@
 //! The definitions of a oneof.
-use crate::closing::CLOSED_DEFINITIONS;
+use crate::closing::{CLOSED_DEFINITIONS, put_apart_variants};
 use crate::error::GenerateError;
 use crate::field::{Oneof, put_apart};
 use crate::imports::definition_imports;
+use crate::keeping::put_owned;
 use crate::words::{Template, Words};
 
 const USES: &str = "\
@@ -245,6 +246,10 @@ pub(crate) fn oneof_definitions(
         page.append("uses", USES_OF_MANY);
         page.fill("all", "(either_of $module$-front $word$-of-$module$)");
     }
+    if is_read_back {
+        put_apart_variants(&mut page, &oneof.variants);
+        put_owned(&mut page, &oneof.variants);
+    }
     definition_imports(&mut page);
     page.append_all(&[("text", HEAD), ("text", VALUE)]);
     if last > 0 {
@@ -252,7 +257,10 @@ pub(crate) fn oneof_definitions(
     }
     page.append("text", SHAPE);
     if is_read_back {
-        page.append("text", RANGE);
+        page.append_all(&[
+            ("text", RANGE),
+            ("text", "$apart_variants$$owned_variants$"),
+        ]);
     }
     page.finish("text")
 }
@@ -272,9 +280,9 @@ fn put_numbers(page: &mut Words, place: usize, last: usize) {
     }
 }
 
-// A value of the variant at this place, of which the sum of types has so many: as it is seen, as
-// `x`, and the lines of the other variants, those before and those behind.
-fn put_values(page: &mut Words, place: usize, last: usize) {
+/// A value of the variant at this place, of which the sum of types has so many: as it is seen, as
+/// `x`, and the lines of the other variants, those before and those behind.
+pub(crate) fn put_values(page: &mut Words, place: usize, last: usize) {
     page.fill("injected", "$before$x$behind$");
     let is_word = page.get("injected") == "x";
     page.fill("injected", if is_word { "x" } else { "($injected$)" });

@@ -102,8 +102,7 @@ impl Schema {
         }
         adapt(base, &mut schema)?;
         schema.stop_on_cycles()?;
-        let has_laws = base.get("mismatch") == "refuse" && base.get("without_laws").is_empty();
-        schema.find_read_back(has_laws)?;
+        schema.find_read_back(base.get("without_laws").is_empty())?;
         schema.find_twins()?;
         Ok(schema)
     }

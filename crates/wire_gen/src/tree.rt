@@ -117,7 +117,7 @@ const PAIR: [Template; 10] = [
     ("range", "pair_range ($range$)\n    ($right_range$)"),
     (
         "returned",
-        "two_returned g\n    ($returned$)\n    ($right_returned$)\n    (λ n p h. $right_apart$)",
+        "$both_returned$ g\n    ($returned$)\n    ($right_returned$)\n    (λ n p h. $right_apart$)",
     ),
     (
         "apart",
@@ -213,7 +213,10 @@ fn leaf(base: &Words, place: usize, field: &Words) -> Node {
         field,
         &["number", "bracketed", "view", "table", "both", "margin"],
     );
-    words.copy(field, &["range", "returned", "apart", "maps"]);
+    words.copy(
+        field,
+        &["range", "returned", "both_returned", "apart", "maps"],
+    );
     words.fill_all(&LEAF);
     let mut is_first = true;
     for number in field.get("numbers").split(' ') {

@@ -1,0 +1,165 @@
+-- Fields that leave records to the unknown fields are read back too: what is written of a value is
+-- taken into it, and the unknown fields stay as they are.
+use Rattle.std.proofs.Common.{◌≡◌, ◌⊎◌, ℕ, true, false, refl, sym, ap, ◌∙◌, subst}
+use Rattle.wire_codec.specs.Charge.{charge}
+use Rattle.wire_codec.specs.Field.{Payload, Fields, none, field, joined}
+use Rattle.wire_codec.specs.Folds.{Step, IsSingle, Folds}
+use Rattle.wire_codec.specs.Limits.{Charge, both}
+use Rattle.wire_codec.specs.Records.{plain, joined_records, of_fields}
+use Rattle.wire_fields.specs.Back.{AllAre, FoldsBack, Back, two_back, fold_on, kept_fold}
+use Rattle.wire_fields.specs.Back.{fitting_joined, numbered_joined, plain_joined}
+use Rattle.wire_fields.specs.Grounds.{Grounds}
+use Rattle.wire_fields.specs.Leaving.{Leaving, leaving_other, leaving_none, both_leaving}
+use Rattle.wire_fields.specs.Leaving.{with_unknown, keeps_beside}
+use Rattle.wire_fields.specs.Ranges.{Range, pair_range, others_range, NotOwned}
+use Rattle.wire_fields.specs.Returned.{Returned}
+use Rattle.wire_fields.specs.Shape.{Owns, on, Shape, keeps}
+
+-- what a step makes of a value where the unknown fields stay as they are
+abbrev pub beside : {V : Type 0} → Fields → Step (V × Fields) → Step V
+beside u step m n p c z = step (m, u) n p c (z, u)
+
+pub beside_single : {V : Type 0} (u : Fields) (step : Step (V × Fields)) → IsSingle step
+    → IsSingle (beside u step)
+beside_single {V} u step single m k z w n p c d h j =
+    let same = single (m, u) (k, u) (z, u) (w, u) n p c d h j in
+    (same.0, λ e. ap (λ (x : V × Fields). x.0) (same.1 (ap (λ (x : V). (x, u)) e)))
+
+-- the fields beside unknown ones that stay
+abbrev pub staying : {V : Type 0} → Fields → Leaving V → Shape V
+staying u s = record {
+  owns = s.owns;
+  default = s.default;
+  records = s.records;
+  takes = beside u s.takes;
+  single = λ reading. beside_single u s.takes (s.single reading);
+}
+
+-- values in range fold back from their records, whatever unknown fields there are
+pub record ReturnedBeside {V : Type 0} (s : Leaving V) (r : Range V) : Type 1 where
+  pub Has : ℕ → Type 0
+  pub back : (u : Fields) → Back (staying u s) r.Holds r.charge_of Has
+
+-- ---- lists of records
+
+-- each record is of this kind
+abbrev pub AllHave : (ℕ → Payload → Type 0) → Fields → Type 0
+AllHave Is none = Unit {0}
+AllHave Is (field n p rest) = Is n p × AllHave Is rest
+
+pub all_numbers : (Has : ℕ → Type 0) (fs : Fields) → AllAre Has fs → AllHave (λ n p. Has n) fs
+all_numbers Has none h = tt
+all_numbers Has (field n p rest) h = (h.0, all_numbers Has rest h.1)
+
+pub all_true : (fs : Fields) → AllHave (λ n p. true ≡ true) fs
+all_true none = tt
+all_true (field n p rest) = (refl, all_true rest)
+
+all_any : (fs : Fields) → AllAre (λ n. Unit {0}) fs
+all_any none = tt
+all_any (field n p rest) = (tt, all_any rest)
+
+-- a step that takes what another takes of a part of its value
+module _ {V W : Type 0} (Is : ℕ → Payload → Type 0) (one : Step V) (other : Step W) (put : V → W)
+    (on : (m z : V) (n : ℕ) (p : Payload) (c : Charge) → Is n p → one m n p c z
+    → other (put m) n p c (put z)) where
+  pub fold_lifted : (fs : Fields) (m z : V) (c : Charge) → AllHave Is fs → Folds one m fs c z
+      → Folds other (put m) fs c (put z)
+  fold_lifted none m z c has h = (h.0, ap put h.1)
+  fold_lifted (field n p others) m z c has (mid, first, rest, step, more, sum) = (
+    put mid,
+    first,
+    rest,
+    on m mid n p first has.0 step,
+    fold_lifted others mid z rest has.1 more,
+    sum,
+  )
+
+-- ---- fields that leave the records that are not their own, which none that is written is
+
+abbrev pub leaving_back : {V : Type 0} (own : Owns) (s : Shape V) (r : Range V) (x : Returned s r)
+    → ((m : V) → r.Holds m → AllHave (λ n p. own n p ≡ true) (plain (s.records m)))
+    → ReturnedBeside (leaving_other own s) r
+leaving_back own s r x owned = record {
+  Has = x.Has;
+  back = λ u. record {
+    back = λ m holds.
+        let h = x.back.back m holds in
+        record {
+          fitting = h.fitting;
+          numbered = h.numbered;
+          folded = fold_lifted (λ n p. own n p ≡ true) s.takes
+              (beside u (leaving_other own s).takes) (λ v. v)
+              (λ v z n p c is step. subst
+              (λ b. on b (s.takes v n p c z × (u ≡ u)) (keeps u n p c u × (z ≡ v))) (sym is)
+              (step, refl))
+              (plain (s.records m)) s.default m (r.charge_of m) (owned m holds) h.folded;
+        };
+    has = x.back.has;
+    own = x.back.own;
+  };
+}
+
+abbrev pub none_returned : {V : Type 0} {s : Shape V} {r : Range V} → Returned s r
+    → ReturnedBeside (leaving_none s) r
+none_returned {V} {s} {r} x =
+    leaving_back (λ n p. true) s r x (λ m holds. all_true (plain (s.records m)))
+
+-- ---- two parts
+
+-- no number of the second is the first's own
+abbrev pub both_returned : {A B : Type 0} {a : Leaving A} {b : Leaving B} {r : Range A} {q : Range B}
+    → Grounds → (x : ReturnedBeside a r) (y : ReturnedBeside b q)
+    → ((n : ℕ) (p : Payload) → y.Has n → a.owns n p ≡ false)
+    → ReturnedBeside (both_leaving a b) (pair_range r q)
+both_returned {A} {B} {a} {b} {r} {q} g x y apart = record {
+  Has = λ n. x.Has n ⊎ y.Has n;
+  back = λ u.
+      let h = two_back (staying u a) (staying u b) r.Holds q.Holds r.charge_of q.charge_of x.Has
+      y.Has g.charges (x.back u) (y.back u) apart in
+      record { back = h.back; has = h.has; own = h.own };
+}
+
+-- ---- a message
+
+module _ {V : Type 0} (g : Grounds) (s : Leaving V) (r : Range V) (x : ReturnedBeside s r) where
+  whole_folded : (m : V × Fields) → (pair_range r (others_range s.owns)).Holds m
+      → Folds (with_unknown s).takes (with_unknown s).default (joined (plain (s.records m.0)) m.1)
+      (both (r.charge_of m.0) (charge m.1)) m
+  whole_folded m h =
+      let t = with_unknown s in
+      let fs = plain (s.records m.0) in
+      let known = fold_lifted (λ n p. x.Has n) (beside none s.takes) t.takes (λ v. (v, none))
+      (λ v z n p c is step. subst
+      (λ b. on b (s.takes (v, none) n p c (z, none)) (keeps_beside (v, none) n p c (z, none)))
+      (sym ((x.back none).own n p is)) step)
+      fs s.default m.0 (r.charge_of m.0) (all_numbers x.Has fs ((x.back none).has m.0 h.0))
+      ((x.back none).back m.0 h.0).folded in
+      let others = fold_lifted (λ n p. NotOwned s.owns n) keeps t.takes (λ u. (m.0, u))
+      (λ u z n p c is step. subst
+      (λ b. on b (s.takes (m.0, u) n p c (m.0, z)) (keeps_beside (m.0, u) n p c (m.0, z)))
+      (sym (is p)) (step, refl))
+      m.1 none m.1 (charge m.1) (all_numbers (NotOwned s.owns) m.1 h.1.others)
+      (kept_fold none m.1) in
+      fold_on t.takes g.charges fs m.1 t.default (m.0, none) m (r.charge_of m.0) (charge m.1) known
+      others
+
+  pub with_unknown_returned : Returned (with_unknown s) (pair_range r (others_range s.owns))
+  with_unknown_returned = record {
+    Has = λ n. Unit {0};
+    back = record {
+      back = λ m h.
+          let t = with_unknown s in
+          let fs = plain (s.records m.0) in
+          let inner = (x.back none).back m.0 h.0 in
+          subst (λ y. FoldsBack t.takes t.default y (both (r.charge_of m.0) (charge m.1)) m)
+          (sym (plain_joined (s.records m.0) (of_fields m.1) ∙ ap (joined fs) (g.plain.plain m.1)))
+          (record {
+            fitting = fitting_joined fs m.1 inner.fitting h.1.fitting;
+            numbered = numbered_joined fs m.1 inner.numbered h.1.numbered;
+            folded = whole_folded m h;
+          });
+      has = λ m h. all_any (plain (joined_records (s.records m.0) (of_fields m.1)));
+      own = λ n p h. refl;
+    };
+  }

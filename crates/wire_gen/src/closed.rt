@@ -1,0 +1,90 @@
+//! Fields of closed enums, of which a number that the enum does not have goes to the unknown fields.
+use crate::words::{Template, Words};
+
+const CLOSED: [Template; 7] = [
+    (
+        "definition",
+        "$closed$ $of_module$-number $of_module$-of $number$",
+    ),
+    (
+        "returned",
+        "$closed$_returned g $of_module$-number $of_module$-of $number$\n    \
+        (omega arith) (omega arith)",
+    ),
+    (
+        "returned_uses",
+        "$closed_uses$Rattle.wire_fields.specs.Ranges closed_range\n\
+        Rattle.wire_fields.specs.ClosedBack $closed$_returned\n",
+    ),
+    (
+        "definitions",
+        "$of_specs$.declared.$of_module$.$of_name$ $of_name$\n",
+    ),
+    ("table", "$module$-$field$-kind"),
+    ("step", "$module$-$field$-kind.takes"),
+    ("sort", "Leaving"),
+];
+
+const OF_CLOSED: [Template; 4] = [
+    (
+        "definitions",
+        "$specs$ $of_module$-number\n$specs$ $of_module$-of\n",
+    ),
+    (
+        "definitions",
+        "Rattle.wire_codec.specs.EnumValue EnumValue\n",
+    ),
+    ("definitions", "Rattle.wire_fields.specs.Closed $closed$\n"),
+    ("code", "wire_fields $call$\n"),
+];
+
+// A closed enum where there is one, and as many as there are in one record, and each in its own.
+const ONCE: [Template; 3] = [
+    ("closed", "closed_once"),
+    ("call", "merge_closed"),
+    (
+        "closed_uses",
+        "Rattle.wire_fields.specs.Ranges optional_range\n",
+    ),
+];
+
+const IN_ONE: [Template; 3] = [
+    ("closed", "closed_packed"),
+    ("call", "merge_closed_each"),
+    (
+        "closed_uses",
+        "Rattle.wire_fields.specs.Ranges packed_range\n\
+        Rattle.wire_fields.specs.Enums open_enum\n\
+        Rattle.wire_fields.specs.declared.form.Form.TheVariants Varint\n",
+    ),
+];
+
+const IN_EACH: [Template; 3] = [
+    ("closed", "closed_unpacked"),
+    ("call", "merge_closed_each"),
+    (
+        "closed_uses",
+        "Rattle.wire_fields.specs.Ranges unpacked_range\n",
+    ),
+];
+
+/// Makes the words of a field of a closed enum, of those of an open one.
+pub(crate) fn set_closed(words: &mut Words) {
+    let is_once = words.get("kind").starts_with("Optional");
+    let is_packed = words.get("kind").starts_with("Packed");
+    words.fill_all(if is_once {
+        &ONCE
+    } else if is_packed {
+        &IN_ONE
+    } else {
+        &IN_EACH
+    });
+    words.fill_all(&CLOSED);
+    words.append_all(&OF_CLOSED);
+    if is_once {
+        words.fill("view", "m.$field$");
+        words.append("definitions", "Rattle.std.specs.Prelude Option\n");
+    } else {
+        words.append("definitions", "Rattle.std.specs.Prelude List\n");
+    }
+}
