@@ -1,5 +1,5 @@
 -- What a message that holds itself takes, by the place of the record.
-use Rattle.std.proofs.Common.{◌≡◌, ℕ, zero, suc, List, [], refl, sym, ap, ◌∙◌, subst}
+use Rattle.std.proofs.Common.{◌≡◌, ℕ, List, [], refl, sym, ap, ◌∙◌, subst}
 use Rattle.std.specs.Prelude.{Result, Ok, Err, OnOk}
 use Rattle.wire_codec.specs.Folds.{Step, IsSingle}
 use Rattle.wire_codec.specs.Limits.{Limits}
@@ -10,25 +10,20 @@ use Rattle.wire_fields.specs.declared.recursive.Place.{Place}
 use Rattle.wire_fields.specs.declared.recursive.Place.TheVariants.{Leaf}
 use Rattle.wire_fields.specs.Least.{rolled, unrolled}
 use Rattle.wire_fields.specs.Messages.{Encoding, inside}
-use Rattle.wire_fields.specs.Nest.{Nest, nest, Rows, done, row, Row, end, row_of, leaf_of, rows_of}
-use Rattle.wire_fields.specs.Nest.{set_rows, with_row}
+use Rattle.wire_fields.specs.Nest.{Nest, nest, end, row_of, leaf_of, rows_of}
+use Rattle.wire_fields.specs.Nest.{with_row}
+use Rattle.wire_fields.specs.NestRows.{set_again}
 use Rattle.wire_fields.specs.NestTable.{Table, level, takes_at, nest_takes, owned, grows}
 
 -- ---- rows
-
-set_twice : {L : Type 0} (i : ℕ) (r q : Row L) (rs : Rows L)
-    → set_rows i r (set_rows i q rs) ≡ set_rows i r rs
-set_twice i r q done = refl
-set_twice zero r q (row p rs) = refl
-set_twice {L} (suc i) r q (row p rs) = ap (λ (x : Rows L). row p x) (set_twice i r q rs)
 
 -- values that agree beside a row agree with the same row
 pub same_beside : {L : Type 0} (i : ℕ) (ms : List (Nest L)) (a b : Nest L)
     → with_row i [] a ≡ with_row i [] b → with_row i ms a ≡ with_row i ms b
 same_beside i ms a b e =
-    ap (nest (leaf_of a)) (sym (set_twice i (row_of ms) end (rows_of a)))
+    ap (nest (leaf_of a)) (sym (set_again i (row_of ms) end (rows_of a)))
     ∙ ap (with_row i ms) e
-    ∙ ap (nest (leaf_of b)) (set_twice i (row_of ms) end (rows_of b))
+    ∙ ap (nest (leaf_of b)) (set_again i (row_of ms) end (rows_of b))
 
 pub both_ok : {T E P Q R : Type 0} (r : Result T E) → (P → Q → R) → OnOk r P → OnOk r Q → OnOk r R
 both_ok (Ok x) f p q = f p q

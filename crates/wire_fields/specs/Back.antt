@@ -50,7 +50,7 @@ all_joined : (Is : ℕ → Type 0) (fs gs : Fields) → AllAre Is fs → AllAre 
 all_joined Is none gs h k = k
 all_joined Is (field n p rest) gs h k = (h.0, all_joined Is rest gs h.1 k)
 
-all_weaker : (Is Other : ℕ → Type 0) → ((n : ℕ) → Is n → Other n) → (fs : Fields) → AllAre Is fs
+pub all_weaker : (Is Other : ℕ → Type 0) → ((n : ℕ) → Is n → Other n) → (fs : Fields) → AllAre Is fs
     → AllAre Other fs
 all_weaker Is Other on none h = tt
 all_weaker Is Other on (field n p rest) h = (on n h.0, all_weaker Is Other on rest h.1)

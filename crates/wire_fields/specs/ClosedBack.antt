@@ -1,6 +1,6 @@
 -- Closed enums are read back: of a value that the enum has, the number is the enum's, so that none
 -- of what is written goes to the unknown fields.
-use Rattle.std.proofs.Common.{◌≡◌, ◌⊎◌, inl, inr, ℕ, ◌^◌, ◌<◌, ◌≤◌, Bool, true, false, refl, sym, ap, ◌∙◌, subst, arith}
+use Rattle.std.proofs.Common.{◌≡◌, ◌⊎◌, inl, inr, ℕ, ◌^◌, ◌<◌, ◌≤◌, false, refl, sym, ap, ◌∙◌, subst}
 use Rattle.std.proofs.Common.{List, [], ◌∷◌, ◌++◌, append_assoc}
 use Rattle.std.proofs.lemmas.List.{append-nil}
 use Rattle.std.specs.Int.{w32}
@@ -10,7 +10,7 @@ use Rattle.wire_codec.specs.Enumeration.{number_of, known_or}
 use Rattle.wire_codec.specs.Field.{Fields, none, field, varint}
 use Rattle.wire_codec.specs.FieldNumber.{IsFieldNumber}
 use Rattle.wire_codec.specs.Folds.{Folds}
-use Rattle.wire_codec.specs.Limits.{Charge, both, no_charge}
+use Rattle.wire_codec.specs.Limits.{both, no_charge}
 use Rattle.wire_codec.specs.Records.{Records, plain}
 use Rattle.wire_codec.specs.ValueMap.{int32}
 use Rattle.wire_fields.specs.declared.form.Form.TheVariants.{Varint}
@@ -22,15 +22,15 @@ use Rattle.wire_fields.specs.ClosedOneof.{becomes, closing}
 use Rattle.wire_fields.specs.Enums.{open_enum}
 use Rattle.wire_fields.specs.Grounds.{Grounds, NumberBack, enum_back, numeric_back}
 use Rattle.wire_fields.specs.Leaving.{Leaving}
-use Rattle.wire_fields.specs.LeavingBack.{beside, ReturnedBeside, AllHave, all_numbers, fold_lifted}
+use Rattle.wire_fields.specs.LeavingBack.{beside, ReturnedBeside, all_numbers, fold_lifted}
 use Rattle.wire_fields.specs.Numbers.{numeric}
-use Rattle.wire_fields.specs.Packed.{packed_text, packed_records}
+use Rattle.wire_fields.specs.Packed.{packed_records}
 use Rattle.wire_fields.specs.PackedBack.{AreNumbers, spelled}
-use Rattle.wire_fields.specs.Presence.{optional, optional_records, each_record}
+use Rattle.wire_fields.specs.Presence.{optional_records}
 use Rattle.wire_fields.specs.Ranges.{Range, IsOpen, IsClosed, closed_range, optional_range}
 use Rattle.wire_fields.specs.Ranges.{packed_range, unpacked_range}
 use Rattle.wire_fields.specs.Scalar.{ScalarType, scalar_record}
-use Rattle.wire_fields.specs.ScalarBack.{ScalarBack, IfThere, AllHold, number_back, one_back}
+use Rattle.wire_fields.specs.ScalarBack.{IfThere, AllHold, one_back}
 use Rattle.wire_fields.specs.ScalarBack.{optional_back, each_folds, each_has}
 use Rattle.wire_fields.specs.Shape.{on}
 

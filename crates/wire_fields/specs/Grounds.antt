@@ -9,6 +9,7 @@ use Rattle.wire_codec.specs.Laws.{FieldsArePlain}
 use Rattle.wire_codec.specs.LimitsLaws.{ChargesAddUp}
 use Rattle.wire_codec.specs.RecordLaws.{ShortestTextSpells}
 use Rattle.wire_codec.specs.ScalarLaws.{ReadsBack}
+use Rattle.wire_codec.specs.TakingLaws.{OneReading}
 use Rattle.wire_codec.specs.ValueMap as maps
 use Rattle.wire_codec.specs.ValueMap.{ValueMap, wrapped, zigzag, truth}
 use Rattle.wire_codec.specs.VarintLaws.{ShortestReadsBack}
@@ -25,6 +26,7 @@ use Rattle.wire_fields.specs.Texts as texts
 pub record Grounds : Type 0 where
   pub plain : FieldsArePlain
   pub charges : ChargesAddUp
+  pub reading : OneReading
   pub spells : ShortestTextSpells
   pub shortest : ShortestReadsBack
   pub int32 : ReadsBack maps.int32 (FitsSigned w32)

@@ -1,9 +1,8 @@
 -- Fields that leave records of other wire types are read back: what is written of a value has the
 -- field's own.
-use Rattle.std.proofs.Common.{◌≡◌, ℕ, Bool, true, false, refl, sym, ap, ◌∙◌, subst, List, [], ◌∷◌}
-use Rattle.std.specs.Prelude.{Option, Some, None}
-use Rattle.std.specs.declared.cmp.Ordering.{Ordering}
-use Rattle.wire_codec.specs.Field.{Payload, Fields, type_of, none, field, joined}
+use Rattle.std.proofs.Common.{◌≡◌, ℕ, Bool, true, false, sym, subst, List, [], ◌∷◌}
+use Rattle.std.specs.Prelude.{Some, None}
+use Rattle.wire_codec.specs.Field.{Fields, type_of, none, field, joined}
 use Rattle.wire_codec.specs.Laws.{FieldsArePlain}
 use Rattle.wire_codec.specs.Records.{Records, plain, plain_payload}
 use Rattle.wire_codec.specs.ValueMap.{ValueMap}
@@ -13,11 +12,10 @@ use Rattle.wire_fields.specs.declared.leaving.OwnTypes.{OwnTypes}
 use Rattle.wire_fields.specs.Back.{plain_joined}
 use Rattle.wire_fields.specs.Leaving.{has_type, leaving_types}
 use Rattle.wire_fields.specs.LeavingBack.{AllHave, ReturnedBeside, leaving_back}
-use Rattle.wire_fields.specs.Maps.{map_kind}
 use Rattle.wire_fields.specs.Messages.{Encoding, once_in, each_in, message_each}
 use Rattle.wire_fields.specs.Numbers.{number_payload, numeric}
-use Rattle.wire_fields.specs.Packed.{packed_records, packed_kind, unpacked_kind}
-use Rattle.wire_fields.specs.Presence.{implicit, optional, repeated, unless, optional_records}
+use Rattle.wire_fields.specs.Packed.{packed_kind, unpacked_kind}
+use Rattle.wire_fields.specs.Presence.{implicit, optional, repeated, unless}
 use Rattle.wire_fields.specs.Presence.{each_record}
 use Rattle.wire_fields.specs.Ranges.{Range}
 use Rattle.wire_fields.specs.Returned.{Returned}
@@ -94,21 +92,21 @@ packed_typed types form values is n (v ∷ vs) = (is, tt)
 
 module _ {V : Type 0} (types : OwnTypes) (encoding : Encoding) (records : V → Records)
     (is : (rs : Records) → has_type types (type_of (plain_payload (encoding.payload rs))) ≡ true)
-    where
-  pub messages_typed : (n : ℕ) (vs : List V)
-      → AllOwn (of_types types) (plain (message_each encoding records n vs))
-  messages_typed n [] = tt
-  messages_typed n (v ∷ vs) = (is (records v), messages_typed n vs)
+  where
+    pub messages_typed : (n : ℕ) (vs : List V)
+        → AllOwn (of_types types) (plain (message_each encoding records n vs))
+    messages_typed n [] = tt
+    messages_typed n (v ∷ vs) = (is (records v), messages_typed n vs)
 
 module _ {V : Type 0} (types : OwnTypes) (encoding : Encoding) (s : Shape V)
     (is : (rs : Records) → has_type types (type_of (plain_payload (encoding.payload rs))) ≡ true)
-    where
-  pub once_typed : KindTyped (once_in encoding s).kind types
-  once_typed n None = tt
-  once_typed n (Some v) = (is (s.records v), tt)
+  where
+    pub once_typed : KindTyped (once_in encoding s).kind types
+    once_typed n None = tt
+    once_typed n (Some v) = (is (s.records v), tt)
 
-  pub each_typed : (place : ℕ) → KindTyped (each_in place encoding s).kind types
-  each_typed place n vs = messages_typed types encoding s.records is n vs
+    pub each_typed : (place : ℕ) → KindTyped (each_in place encoding s).kind types
+    each_typed place n vs = messages_typed types encoding s.records is n vs
 
 -- ---- a oneof
 

@@ -55,7 +55,7 @@ pub all_true : (fs : Fields) → AllHave (λ n p. true ≡ true) fs
 all_true none = tt
 all_true (field n p rest) = (refl, all_true rest)
 
-all_any : (fs : Fields) → AllAre (λ n. Unit {0}) fs
+pub all_any : (fs : Fields) → AllAre (λ n. Unit {0}) fs
 all_any none = tt
 all_any (field n p rest) = (tt, all_any rest)
 

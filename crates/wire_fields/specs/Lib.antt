@@ -17,7 +17,10 @@ pub mod Measuring
 pub mod MessageBack
 pub mod Messages
 pub mod Nest
+pub mod NestBack
 pub mod NestPayload
+pub mod NestRange
+pub mod NestRows
 pub mod NestTable
 pub mod Numbers
 pub mod Oneof

@@ -8,6 +8,7 @@ pub fn grounds()
     ensures { Grounds }
 {
     laws::fields_are_plain();
+    laws::one_reading();
     laws::grammar::charges_add_up();
     laws::grammar::shortest_text_spells();
     laws::grammar::shortest_reads_back();

@@ -3,6 +3,8 @@ use crate::copies::put_copies;
 use crate::error::GenerateError;
 use crate::field::Field;
 use crate::imports::definition_imports;
+use crate::laws_pages::has_laws;
+use crate::rows::is_row;
 use crate::schema::MessageType;
 use crate::tree::Tree;
 use crate::words::{Template, Words};
@@ -205,7 +207,8 @@ $module$-$field$-kind = $definition$
 
 ";
 
-const FIELD_RANGE: &str = "\
+/// Which values of a field are read back.
+pub(crate) const FIELD_RANGE: &str = "\
 abbrev pub $module$-$field$-range : Range $bracketed$
 $module$-$field$-range =
     $own_range$
@@ -225,7 +228,7 @@ pub(crate) fn definitions_of(
     tree: &Tree,
     message: &MessageType,
 ) -> Result<String, GenerateError> {
-    let is_read_back = message.is_read_back;
+    let is_read_back = has_laws(base);
     let mut page = Words::like(base);
     page.fill("uses", USES);
     let is_kept = page.get("unknown") == "keep";
@@ -287,16 +290,18 @@ pub(crate) fn definitions_of(
     page.finish("text")
 }
 
-// What is read back of the message.
-fn put_range(page: &mut Words, fields: &[Field], tree: &Tree, is_kept: bool) {
+/// Which values of the fields are read back, and why: the `range` of their tree, and `returned`.
+pub(crate) fn put_returned(page: &mut Words, fields: &[Field], tree: &Tree) {
     page.copy(&tree.words, &["range", "returned", "apart"]);
     page.append("uses", USES_OF_RANGE);
     if !fields.is_empty() {
         page.append("uses", USES_OF_KNOWN);
     }
     for field in fields {
-        page.copy(&field.words, &["returned_uses"]);
-        page.append("uses", "$returned_uses$");
+        if !is_row(field) {
+            page.copy(&field.words, &["returned_uses"]);
+            page.append("uses", "$returned_uses$");
+        }
     }
     for (name, module) in &OF_RETURNED {
         if page.get("returned").contains(name) {
@@ -311,6 +316,11 @@ fn put_range(page: &mut Words, fields: &[Field], tree: &Tree, is_kept: bool) {
             "Rattle.std.proofs.Common inl\nRattle.std.proofs.Common inr\n",
         );
     }
+}
+
+// What is read back of the message.
+fn put_range(page: &mut Words, fields: &[Field], tree: &Tree, is_kept: bool) {
+    put_returned(page, fields, tree);
     let is_leaving = page.get("part") == "Leaving";
     page.append_all(match (fields.is_empty(), is_kept) {
         _ if is_leaving => &LEAVING_RANGE,

@@ -39,19 +39,6 @@ impl Schema {
         Ok(())
     }
 
-    /// Of messages that hold themselves no law is there, nor of what holds such a message.
-    pub(crate) fn find_read_back(&mut self, has_laws: bool) -> Result<(), GenerateError> {
-        let mut flags = self.flags(has_laws)?;
-        for (message, flag) in self.messages.iter().zip(flags.iter_mut()) {
-            *flag &= !message.is_recursive;
-        }
-        self.spread(&mut flags)?;
-        for (message, flag) in self.messages.iter_mut().zip(flags) {
-            message.is_read_back = flag;
-        }
-        Ok(())
-    }
-
     /// The clone of a message that holds itself is a derived one, which says nothing of it, nor of
     /// what holds such a message.
     pub(crate) fn find_twins(&mut self) -> Result<(), GenerateError> {

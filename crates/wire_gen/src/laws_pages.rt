@@ -1,4 +1,10 @@
 //! The laws of the messages of a crate, and their proofs.
+use crate::words::Words;
+
+/// Whether they are asked for.
+pub(crate) fn has_laws(base: &Words) -> bool {
+    base.get("without_laws").is_empty()
+}
 
 pub(crate) const LAWS: &str = "\
 //! Laws of the message types: each function is a theorem, and does nothing. Generated.

@@ -29,6 +29,7 @@ mod origin;
 mod package;
 mod parameters;
 mod recursive;
+mod recursive_back;
 mod recursive_definitions;
 mod rows;
 mod scalar;

@@ -4,6 +4,7 @@ use crate::error::GenerateError;
 use crate::field::{Oneof, put_apart};
 use crate::imports::definition_imports;
 use crate::keeping::put_owned;
+use crate::laws_pages::has_laws;
 use crate::words::{Template, Words};
 
 const USES: &str = "\
@@ -182,11 +183,8 @@ const OF_VARIANT: [Template; 5] = [
 ];
 
 /// The value of a oneof, its table, and what each variant is.
-pub(crate) fn oneof_definitions(
-    base: &Words,
-    oneof: &Oneof,
-    is_read_back: bool,
-) -> Result<String, GenerateError> {
+pub(crate) fn oneof_definitions(base: &Words, oneof: &Oneof) -> Result<String, GenerateError> {
+    let is_read_back = has_laws(base);
     let mut page = Words::like(base);
     page.fill("uses", USES);
     for variant in oneof.variants.iter().rev() {

@@ -8,7 +8,7 @@ use crate::error::GenerateError;
 use crate::extensions::extensions_of;
 use crate::features::{FIRST_EDITION, LAST_EDITION};
 use crate::field::{Field, Oneof, fields_of};
-use crate::laws_pages::{LAW, LAW_ANSWERS, LAW_USES, LAWS};
+use crate::laws_pages::{LAW, LAW_ANSWERS, LAW_USES, LAWS, has_laws};
 use crate::names::order_key;
 use crate::oneof::oneof_code;
 use crate::oneof_definitions::oneof_definitions;
@@ -141,7 +141,7 @@ impl Package {
         let definitions = definitions_of(&page, &fields, &tree, message)?;
         let answers = answers_of(&page, &fields, &tree, false)?;
         self.add_type(&mut page, code, definitions)?;
-        if message.is_read_back {
+        if has_laws(&self.base) {
             self.add_law(&mut page)?;
         }
         for field in &fields {
@@ -176,6 +176,9 @@ impl Package {
         }
         let answers = answers_of(&page, &leaf, &tree, true)?;
         self.add_type(&mut page, code, definitions)?;
+        if has_laws(&self.base) {
+            self.add_law(&mut page)?;
+        }
         for field in &leaf {
             if let Some(oneof) = &field.oneof {
                 self.add_oneof(oneof, message)?;
@@ -195,7 +198,7 @@ impl Package {
     fn add_oneof(&mut self, oneof: &Oneof, message: &MessageType) -> Result<(), GenerateError> {
         let mut page = self.page(&oneof.words);
         let code = oneof_code(&page, oneof, message.is_twin)?;
-        let definitions = oneof_definitions(&page, oneof, message.is_read_back)?;
+        let definitions = oneof_definitions(&page, oneof)?;
         self.add_type(&mut page, code, definitions)?;
         if oneof.variants.len() > 1 {
             let answers = merge_answers(&page, oneof)?;

@@ -1,7 +1,10 @@
 //! The definitions and the proofs of a message type that holds itself.
+use crate::definitions::FIELD_RANGE;
 use crate::error::GenerateError;
 use crate::field::Field;
 use crate::imports::definition_imports;
+use crate::laws_pages::has_laws;
+use crate::recursive_back::put_back;
 use crate::rows::{is_row, once_place};
 use crate::tree::Tree;
 use crate::words::{Template, Words};
@@ -125,7 +128,7 @@ $module$-shape = record {
   takes = nest_takes $module$-table;
   single = $module$-single;
 }
-";
+$back$";
 
 /// The value of a message type that holds itself, and its table.
 pub(crate) fn recursive_definitions(
@@ -133,6 +136,7 @@ pub(crate) fn recursive_definitions(
     fields: &[Field],
     tree: &Tree,
 ) -> Result<String, GenerateError> {
+    let is_read_back = has_laws(base);
     let mut page = Words::like(base);
     page.fill("uses", USES);
     page.fill_all(&[("at", "zero"), ("at_least", "i")]);
@@ -156,7 +160,11 @@ pub(crate) fn recursive_definitions(
             count = count.saturating_add(1);
         } else {
             page.append("uses", "$definitions$");
-            page.append("kinds", if field.oneof.is_none() { KIND } else { "" });
+            if field.oneof.is_none() {
+                page.copy(&field.words, &["own_range"]);
+                page.append("kinds", KIND);
+                page.append("kinds", if is_read_back { FIELD_RANGE } else { "" });
+            }
             put_in_run(&mut page, "($table$).records l.0$path$");
         }
     }
@@ -165,6 +173,9 @@ pub(crate) fn recursive_definitions(
     put_number(&mut page, "$least_before$");
     page.index("count", count);
     put_rows(&mut page, fields, count);
+    if is_read_back {
+        put_back(&mut page, fields, tree);
+    }
     page.copy(&tree.words, &["value", "view", "table"]);
     for _ in 0..3 {
         page.indent("view");

@@ -30,8 +30,6 @@ pub(crate) struct MessageType {
     pub words: Words,
     pub origin: Origin,
     pub descriptor: DescriptorProto,
-    /// Whether a law says that what is written of it is read back.
-    pub is_read_back: bool,
     /// Whether it holds messages of its own type.
     pub is_recursive: bool,
     /// Whether a clone is seen by contracts as its source is.
@@ -102,7 +100,6 @@ impl Schema {
         }
         adapt(base, &mut schema)?;
         schema.stop_on_cycles()?;
-        schema.find_read_back(base.get("without_laws").is_empty())?;
         schema.find_twins()?;
         Ok(schema)
     }
@@ -136,7 +133,6 @@ impl Schema {
                 words: inner(&words, &descriptor.name, "$place$.4.$index$", index)?,
                 origin,
                 descriptor: descriptor.clone()?,
-                is_read_back: true,
                 is_recursive: false,
                 is_twin: true,
             })?;
@@ -169,7 +165,6 @@ impl Schema {
                 words: inner(&message.words, &descriptor.name, "$place$.3.$index$", index)?,
                 origin,
                 descriptor,
-                is_read_back: true,
                 is_recursive: false,
                 is_twin: true,
             })?;
@@ -184,7 +179,6 @@ impl Schema {
             words: message.words,
             origin,
             descriptor: message.descriptor,
-            is_read_back: true,
             is_recursive: false,
             is_twin: true,
         };

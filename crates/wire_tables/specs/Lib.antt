@@ -6,10 +6,13 @@ pub mod CounterBack
 pub mod Ledger
 pub mod Level
 pub mod Meter
+pub mod MeterBack
 pub mod Profile
 pub mod ProfileBack
 pub mod Pulse
 pub mod Reading
 pub mod Rule
 pub mod Signal
+pub mod SignalBack
 pub mod Tree
+pub mod TreeBack

@@ -1,8 +1,16 @@
 //! Laws of the message types: each function is a theorem, and does nothing.
+ghost use Rattle.wire_fields.specs.Returned.{ReadsBack};
 ghost use Rattle.wire_tables.specs.CounterBack.{CountersFoldBack};
+ghost use Rattle.wire_tables.specs.Meter.{meter};
+ghost use Rattle.wire_tables.specs.MeterBack.{meter_range};
 ghost use Rattle.wire_tables.specs.ProfileBack.{ProfilesFoldBack};
+ghost use Rattle.wire_tables.specs.Signal.{signal};
+ghost use Rattle.wire_tables.specs.SignalBack.{signal_range};
+ghost use Rattle.wire_tables.specs.TreeBack.{tree_shape, tree_range};
 
+use crate::{Meter, Signal, Tree};
 use wire_codec::laws;
+use wire_fields::laws::grounds;
 
 /// The records of a `Counter` are in range, and fold back to it.
 pub fn counters_fold_back()
@@ -21,4 +29,28 @@ pub fn profiles_fold_back()
     laws::grammar::charges_add_up();
     laws::grammar::shortest_text_spells();
     laws::scalar::values_read_back();
+}
+
+/// What is written of a `Signal` whose levels have numbers decodes to it, where the limits suffice.
+pub fn signals_read_back()
+    ensures { ReadsBack signal signal_range }
+{
+    grounds();
+    laws::text_decodes::<Signal>();
+}
+
+/// What is written of a `Meter` decodes to it, where the limits suffice.
+pub fn meters_read_back()
+    ensures { ReadsBack meter meter_range }
+{
+    grounds();
+    laws::text_decodes::<Meter>();
+}
+
+/// What is written of a `Tree` decodes to it, where the limits suffice.
+pub fn trees_read_back()
+    ensures { ReadsBack tree_shape tree_range }
+{
+    grounds();
+    laws::text_decodes::<Tree>();
 }

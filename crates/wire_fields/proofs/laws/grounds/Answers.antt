@@ -6,6 +6,7 @@ returns c =
     record {
       plain = c.fields_are_plain.ensures;
       charges = c.charges_add_up.ensures;
+      reading = c.one_reading.ensures;
       spells = c.shortest_text_spells.ensures;
       shortest = c.shortest_reads_back.ensures;
       int32 = values.int32;

@@ -1,0 +1,178 @@
+-- Which messages that hold themselves are read back, and what a type shows of its table for that.
+use Rattle.std.proofs.Common.{◌≡◌, ◌⊎◌, inl, inr, ℕ, zero, suc, ◌<◌, ◌≤◌, refl, sym, ap, ◌∙◌, subst}
+use Rattle.std.specs.Prelude.{Bool, true, false}
+use Rattle.wire_codec.specs.Charge.{charge}
+use Rattle.wire_codec.specs.Field.{Fields}
+use Rattle.wire_codec.specs.FieldNumber.{IsFieldNumber}
+use Rattle.wire_codec.specs.Limits.{Charge, both, nested, no_charge}
+use Rattle.wire_codec.specs.Records.{Records, none, field, plain, joined_records, text_size}
+use Rattle.wire_fields.specs.declared.recursive.Place.{Place}
+use Rattle.wire_fields.specs.declared.recursive.Place.TheVariants.{Leaf, Once, Each, Grouped}
+use Rattle.wire_fields.specs.Back.{AllAre, FoldsBack, AreOthers, all_weaker, two_back, unknown_back}
+use Rattle.wire_fields.specs.Grounds.{Grounds}
+use Rattle.wire_fields.specs.Nest.{Nest, nest, Rows, done, row, Row, end, ahead, count_rows}
+use Rattle.wire_fields.specs.NestTable.{Table, nest_records, placed}
+use Rattle.wire_fields.specs.Ranges.{Range, pair_range, NotOwned}
+use Rattle.wire_fields.specs.Returned.{Returned}
+use Rattle.wire_fields.specs.Shape.{Shape, two, unknown}
+
+-- ---- which values are read back, and for what charge
+
+-- a row that has one message at most has no more
+abbrev pub IsFit : {L : Type 0} → Bool → Row L → Type 0
+IsFit false r = Unit {0}
+IsFit true end = Unit {0}
+IsFit true (ahead m end) = Unit {0}
+IsFit true (ahead m (ahead k ms)) = ⊥
+
+-- of the leaf this holds, and the messages of the rows are such too, of a size that a message may
+-- have
+abbrev mutual
+  pub NestHolds : {L : Type 0} → Table L → (L → Type 0) → Nest L → Type 0
+  NestHolds t Holds (nest l rows) =
+      Holds l × (count_rows rows ≡ t.rows) × RowsHold t Holds 0 rows
+
+  pub RowsHold : {L : Type 0} → Table L → (L → Type 0) → ℕ → Rows L → Type 0
+  RowsHold t Holds i done = Unit {0}
+  RowsHold t Holds i (row r rs) =
+      IsFit (t.once i) r × RowHolds t Holds r × RowsHold t Holds (suc i) rs
+
+  pub RowHolds : {L : Type 0} → Table L → (L → Type 0) → Row L → Type 0
+  RowHolds t Holds end = Unit {0}
+  RowHolds t Holds (ahead m ms) =
+      NestHolds t Holds m × (text_size (nest_records t m) ≤ 2147483647) × RowHolds t Holds ms
+
+-- with its place in memory, where it is one of many
+abbrev pub price : Place → Charge → Charge
+price Leaf one = one
+price (Once i) one = one
+price (Each i bytes) one = placed bytes one
+price (Grouped i) one = one
+
+-- that of the leaf, and that of the messages, each a level down
+abbrev mutual
+  pub nest_charge : {L : Type 0} → Table L → (L → Charge) → Nest L → Charge
+  nest_charge t charge_of (nest l rows) = both (charge_of l) (rows_charge t charge_of 0 rows)
+
+  pub rows_charge : {L : Type 0} → Table L → (L → Charge) → ℕ → Rows L → Charge
+  rows_charge t charge_of i done = no_charge
+  rows_charge t charge_of i (row r rs) =
+      both (row_charge t charge_of (t.place (t.number i)) r) (rows_charge t charge_of (suc i) rs)
+
+  pub row_charge : {L : Type 0} → Table L → (L → Charge) → Place → Row L → Charge
+  row_charge t charge_of place end = no_charge
+  row_charge t charge_of place (ahead m ms) =
+      both (price place (nested (nest_charge t charge_of m))) (row_charge t charge_of place ms)
+
+abbrev pub nest_range : {L : Type 0} → Table L → Range L → Range (Nest L)
+nest_range t r = record {
+  Holds = NestHolds t r.Holds;
+  charge_of = nest_charge t r.charge_of;
+}
+
+-- the runs of a leaf from the one at i on, so many
+abbrev pub runs_from : {L : Type 0} → Table L → L → ℕ → ℕ → Records
+runs_from t l i zero = none
+runs_from t l i (suc count) = joined_records (t.run i l) (runs_from t l (suc i) count)
+
+-- the place of the records of the row at i
+abbrev pub IsPlaced : ℕ → Bool → Place → Type 0
+IsPlaced i once Leaf = ⊥
+IsPlaced i once (Once k) = (k ≡ i) × (once ≡ true)
+IsPlaced i once (Each k bytes) = (k ≡ i) × (once ≡ false)
+IsPlaced i once (Grouped k) = (k ≡ i) × (once ≡ true)
+
+-- What a type shows of its table: each row has a number whose records go there, beside a message
+-- all stays, and the runs of a leaf fold back to it, under numbers whose records go to the leaf.
+pub record LeafBack {L : Type 0} (t : Table L) (r : Range L) : Type 0 where
+  pub number : (i : ℕ) → i < t.rows → IsFieldNumber (t.number i)
+  pub place : (i : ℕ) → i < t.rows → IsPlaced i (t.once i) (t.place (t.number i))
+  pub beside : (i : ℕ) (m : Nest L) → t.beside i m ≡ m
+  pub rows_beside : (n : ℕ) (rs : Rows L) → t.rows_beside n rs ≡ rs
+  pub back : (l : L) → r.Holds l
+      → FoldsBack t.takes t.default (plain (runs_from t l 0 (suc t.rows))) (r.charge_of l) l
+  pub has : (l : L) → r.Holds l
+      → AllAre (λ n. t.place n ≡ Leaf) (plain (runs_from t l 0 (suc t.rows)))
+
+-- ---- leaves that are fields with the unknown ones
+
+-- a number that the fields do not own, and whose records go to no row
+abbrev pub IsOther : {V : Type 0} → Table (V × Fields) → Shape V → ℕ → Type 0
+IsOther t known n = NotOwned known.owns n × (t.place n ≡ Leaf)
+
+abbrev pub leaf_range : {V : Type 0} → Table (V × Fields) → Shape V → Range V → Range (V × Fields)
+leaf_range t known r = pair_range r (record {
+  Holds = AreOthers (IsOther t known);
+  charge_of = charge;
+})
+
+-- What a type shows of its rows. The runs of the leaf are what it is written as, and its fields have
+-- numbers that go there.
+module _ {V : Type 0} (g : Grounds) (t : Table (V × Fields)) (known : Shape V) (r : Range V)
+    (x : Returned known r) (takes_is : t.takes ≡ (two known unknown).takes)
+    (start_is : t.default ≡ (two known unknown).default)
+    (runs_are : (l : V × Fields)
+    → runs_from t l 0 (suc t.rows) ≡ (two known unknown).records l)
+    (here : (n : ℕ) → x.Has n → t.place n ≡ Leaf)
+    (number : (i : ℕ) → i < t.rows → IsFieldNumber (t.number i))
+    (place : (i : ℕ) → i < t.rows → IsPlaced i (t.once i) (t.place (t.number i)))
+    (beside : (i : ℕ) (m : Nest (V × Fields)) → t.beside i m ≡ m)
+    (rows_beside : (n : ℕ) (rs : Rows (V × Fields)) → t.rows_beside n rs ≡ rs) where
+  pub leaf_back : LeafBack t (leaf_range t known r)
+  leaf_back =
+      let both_back = two_back known unknown r.Holds (AreOthers (IsOther t known)) r.charge_of charge
+      x.Has (IsOther t known) g.charges x.back (unknown_back g.plain (IsOther t known))
+      (λ n p h. h.0 p) in
+      record {
+        number = number;
+        place = place;
+        beside = beside;
+        rows_beside = rows_beside;
+        back = λ l holds. subst (λ fs. FoldsBack t.takes t.default fs
+            ((leaf_range t known r).charge_of l) l) (sym (ap plain (runs_are l)))
+            (subst (λ s. FoldsBack t.takes s (plain ((two known unknown).records l))
+            ((leaf_range t known r).charge_of l) l) (sym start_is)
+            (subst (λ s. FoldsBack s (two known unknown).default
+            (plain ((two known unknown).records l)) ((leaf_range t known r).charge_of l) l)
+            (sym takes_is) (both_back.back l holds)));
+        has = λ l holds. subst (AllAre (λ n. t.place n ≡ Leaf)) (sym (ap plain (runs_are l)))
+            (all_weaker (λ n. x.Has n ⊎ IsOther t known n) (λ n. t.place n ≡ Leaf)
+            (λ n. elim [ inl h ↦ here n h | inr h ↦ h.1 ])
+            (plain ((two known unknown).records l)) (both_back.has l holds));
+      }
+
+-- ---- records put together in one order or another
+
+pub data Pieces : Type 0 where
+  piece : Records → Pieces
+  followed : Pieces → Pieces → Pieces
+
+abbrev pub together : Pieces → Records
+together (piece rs) = rs
+together (followed a b) = joined_records (together a) (together b)
+
+-- one after another, before others
+abbrev pub in_order : Pieces → Records → Records
+in_order (piece rs) others = joined_records rs others
+in_order (followed a b) others = in_order a (in_order b others)
+
+joined_assoc : (a b c : Records)
+    → joined_records (joined_records a b) c ≡ joined_records a (joined_records b c)
+joined_assoc none b c = refl
+joined_assoc (field n p rest) b c = ap (field n p) (joined_assoc rest b c)
+
+joined_last : (a : Records) → joined_records a none ≡ a
+joined_last none = refl
+joined_last (field n p rest) = ap (field n p) (joined_last rest)
+
+ordered : (a : Pieces) (others : Records) → joined_records (together a) others ≡ in_order a others
+ordered (piece rs) others = refl
+ordered (followed a b) others =
+    joined_assoc (together a) (together b) others
+    ∙ ap (joined_records (together a)) (ordered b others)
+    ∙ ordered a (in_order b others)
+
+pub same_order : (a b : Pieces) → in_order a none ≡ in_order b none → together a ≡ together b
+same_order a b is =
+    sym (joined_last (together a)) ∙ ordered a none ∙ is ∙ sym (ordered b none)
+    ∙ joined_last (together b)

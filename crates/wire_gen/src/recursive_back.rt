@@ -1,0 +1,150 @@
+//! What is read back of a message that holds itself.
+use crate::definitions::put_returned;
+use crate::field::Field;
+use crate::rows::is_row;
+use crate::tree::Tree;
+use crate::words::{Template, Words};
+
+const USES: &str = "\
+Rattle.std.specs.Prelude ◌<◌
+Rattle.wire_codec.specs.FieldNumber IsFieldNumber
+Rattle.wire_fields.specs.NestBack nest_returned
+Rattle.wire_fields.specs.NestRange IsPlaced
+Rattle.wire_fields.specs.NestRange followed
+Rattle.wire_fields.specs.NestRange leaf_back
+Rattle.wire_fields.specs.NestRange leaf_range
+Rattle.wire_fields.specs.NestRange nest_range
+Rattle.wire_fields.specs.NestRange piece
+Rattle.wire_fields.specs.NestRange runs_from
+Rattle.wire_fields.specs.NestRange same_order
+";
+
+const RANGE: &str = "
+-- what is read back once it is written
+abbrev pub $module$-known-range : Range $name$-Known
+$module$-known-range =
+    $range$
+
+abbrev pub $module$-known-returned : Grounds → Returned $module$-known $module$-known-range
+$module$-known-returned g =
+    $returned$
+
+pub $module$-numbered : Grounds → (i : ℕ) → i < $count$ → IsFieldNumber ($module$-number i)
+$numbered$
+pub $module$-placed : (i : ℕ) → i < $count$
+    → IsPlaced i ($module$-once i) ($module$-place ($module$-number i))
+$placed$
+-- the runs, one behind another, are the records of the leaf
+pub $module$-ordered : (l : $name$-Leaf)
+    → runs_from $module$-table l 0 (suc $count$) ≡ $module$-leaf.records l
+$module$-ordered l = same_order
+    $run_pieces$
+    (followed $leaf_pieces$(piece (unknown.records l.1))) refl
+
+abbrev pub $module$-range : Range $name$-Value
+$module$-range =
+    nest_range $module$-table (leaf_range $module$-table $module$-known $module$-known-range)
+
+pub $module$-returned : Grounds → Returned $module$-shape $module$-range
+$module$-returned g =
+    nest_returned g $module$-table (leaf_range $module$-table $module$-known $module$-known-range)
+    ($module$-leaf.single g.reading)
+    (leaf_back g $module$-table $module$-known $module$-known-range ($module$-known-returned g)
+    refl refl $module$-ordered (λ n h. $apart$)
+    ($module$-numbered g) $module$-placed (λ i m. refl) (λ n rs. refl))
+    $module$-shape refl refl refl (λ n p. refl)
+";
+
+const OF_ROW: [Template; 2] = [
+    (
+        "numbered",
+        "$module$-numbered g $at$ low = g.number $number$ (omega arith) (omega arith)\n",
+    ),
+    ("placed", "$module$-placed $at$ low = (refl, refl)\n"),
+];
+
+const OF_NO_ROW: [Template; 2] = [
+    (
+        "numbered",
+        "$module$-numbered g $at_least$ low = absurd (omega (arith, low))\n",
+    ),
+    (
+        "placed",
+        "$module$-placed $at_least$ low = absurd (omega (arith, low))\n",
+    ),
+];
+
+/// Puts what is read back behind the definitions of a message that holds itself.
+pub(crate) fn put_back(page: &mut Words, fields: &[Field], tree: &Tree) {
+    page.append("uses", USES);
+    page.fill_all(&[("at", "zero"), ("at_least", "i"), ("run_piece", "")]);
+    page.fill_all(&[("run_ends", "(piece none)"), ("run_pieces", "")]);
+    for field in fields {
+        page.copy(&field.words, &["number", "table", "path"]);
+        if is_row(field) {
+            page.append_all(&OF_ROW);
+            page.fill_all(&[("at", "(suc $at$)"), ("at_least", "(suc $at_least$)")]);
+            end_run(page);
+        } else {
+            put_piece(page, "(piece (($table$).records l.0$path$))");
+            put_leaf_piece(page);
+        }
+    }
+    page.append_all(&OF_NO_ROW);
+    put_piece(page, "(piece (unknown.records l.1))");
+    end_run(page);
+    page.append("run_pieces", "$run_ends$");
+    put_returned(page, fields, tree);
+    page.append("back", RANGE);
+}
+
+// Puts the records of a field behind those of the run so far.
+fn put_piece(page: &mut Words, piece: &str) {
+    page.fill("part", piece);
+    let is_first = page.get("run_piece").is_empty();
+    page.fill(
+        "run_piece",
+        if is_first {
+            "$part$"
+        } else {
+            "(followed $run_piece$ $part$)"
+        },
+    );
+}
+
+fn end_run(page: &mut Words) {
+    if page.get("run_piece").is_empty() {
+        page.fill("run_piece", "(piece none)");
+    }
+    page.append("run_pieces", "(followed $run_piece$\n    ");
+    page.append("run_ends", ")");
+    page.set("run_piece", "");
+}
+
+// The records of a field in the tree of the leaf: a pair begins with a field whose path ends in a
+// first part, and ends with one whose path ends in a second.
+fn put_leaf_piece(page: &mut Words) {
+    let begun = parts_at_end(page.get("path"), "0");
+    let ended = parts_at_end(page.get("path"), "1");
+    for _ in 0..begun {
+        page.append("leaf_pieces", "(followed ");
+    }
+    page.append("leaf_pieces", "(piece (($table$).records l.0$path$))");
+    for _ in 0..ended {
+        page.append("leaf_pieces", ")");
+    }
+    page.append("leaf_pieces", "\n    ");
+}
+
+// How many of these parts are the end of a path.
+fn parts_at_end(path: &str, part: &str) -> usize {
+    let mut count: usize = 0;
+    for step in path.split('.') {
+        count = if step == part {
+            count.saturating_add(1)
+        } else {
+            0
+        };
+    }
+    count
+}

@@ -1,0 +1,106 @@
+-- What is written of a `Signal` whose levels have numbers is read back.
+use Rattle.std.proofs.Common.{◌≡◌, ◌⊎◌, inl, inr, ℕ, false, refl, arith}
+use Rattle.std.specs.Prelude.{Some, None, ◌==◌}
+use Rattle.wire_codec.specs.Limits.{Charge, no_charge}
+use Rattle.wire_codec.specs.Records.{plain}
+use Rattle.wire_fields.specs.declared.form.Form.TheVariants.{Varint}
+use Rattle.wire_fields.specs.Back.{AllAre, FoldsBack}
+use Rattle.wire_fields.specs.ClosedBack.{closed_back, closed_once_returned, closed_packed_returned}
+use Rattle.wire_fields.specs.ClosedBack.{closed_unpacked_returned, closing_returned, closing_value}
+use Rattle.wire_fields.specs.ClosedBack.{ClosingOrApart}
+use Rattle.wire_fields.specs.Enums.{open_enum}
+use Rattle.wire_fields.specs.Grounds.{Grounds, numeric_back, string_back}
+use Rattle.wire_fields.specs.LeavingBack.{both_returned, none_returned, with_unknown_returned}
+use Rattle.wire_fields.specs.Numbers.{numeric}
+use Rattle.wire_fields.specs.OneofBack.{variant_back, variant_has}
+use Rattle.wire_fields.specs.Presence.{always}
+use Rattle.wire_fields.specs.Ranges.{Range, closed_range, string_range, optional_range}
+use Rattle.wire_fields.specs.Ranges.{packed_range, unpacked_range, pair_range, others_range}
+use Rattle.wire_fields.specs.Returned.{Returned, always_returned}
+use Rattle.wire_fields.specs.Texts.{string}
+use Rattle.wire_tables.specs.Cause.{CauseValue, cause, cause_records, of_trigger}
+use Rattle.wire_tables.specs.Level.{level_number, level_of}
+use Rattle.wire_tables.specs.Signal.{SignalValue, signal, signal_known}
+
+-- ---- its cause
+
+abbrev pub cause_holds : CauseValue → Type 0
+cause_holds None = Unit {0}
+cause_holds (Some (inl s)) = string_range.Holds s
+cause_holds (Some (inr e)) = (closed_range level_number level_of).Holds e
+
+abbrev pub cause_range : Range CauseValue
+cause_range = record { Holds = cause_holds; charge_of = λ m. no_charge }
+
+cause_folds : Grounds → (m : CauseValue) → cause_holds m
+    → FoldsBack cause.takes cause.default (plain (cause.records m)) no_charge m
+cause_folds g None h = record { fitting = tt; numbered = tt; folded = (refl, refl) }
+cause_folds g (Some (inl s)) h =
+    variant_back g.charges cause (always string).kind string_range.Holds string_range.charge_of
+    (always_returned g _ _ string_back) (λ x. Some (inl x)) 4 s refl
+    (g.number 4 (omega arith) (omega arith)) h (λ c p k. (s, k, refl))
+cause_folds g (Some (inr e)) h =
+    variant_back g.charges cause (always (numeric Varint (open_enum level_number level_of))).kind
+    (closed_range level_number level_of).Holds (closed_range level_number level_of).charge_of
+    (always_returned g _ _ (numeric_back (closed_back g level_number level_of))) of_trigger 5 e refl
+    (g.number 5 (omega arith) (omega arith)) h (λ c p k. (e, k, refl))
+
+cause_has : Grounds → (m : CauseValue) → AllAre (λ n. (n ≡ 4) ⊎ (n ≡ 5)) (plain (cause.records m))
+cause_has g None = tt
+cause_has g (Some (inl s)) =
+    variant_has g.charges cause (always string).kind string_range.Holds string_range.charge_of
+    (always_returned g _ _ string_back) (λ x. Some (inl x)) 4 s refl (λ n. (n ≡ 4) ⊎ (n ≡ 5))
+    (inl refl)
+cause_has g (Some (inr e)) =
+    variant_has g.charges cause (always (numeric Varint (open_enum level_number level_of))).kind
+    (closed_range level_number level_of).Holds (closed_range level_number level_of).charge_of
+    (always_returned g _ _ (numeric_back (closed_back g level_number level_of))) of_trigger 5 e refl
+    (λ n. (n ≡ 4) ⊎ (n ≡ 5)) (inr refl)
+
+abbrev cause_returned : Grounds → Returned cause cause_range
+cause_returned g = record {
+  Has = λ n. (n ≡ 4) ⊎ (n ≡ 5);
+  back = record {
+    back = cause_folds g;
+    has = λ m h. cause_has g m;
+    own = λ n p h. elim h [ inl h ↦ rw h refl | inr h ↦ rw h refl ];
+  };
+}
+
+-- a trigger is a level, and a note stands under another number
+cause_apart : Grounds → (m : CauseValue) → cause_holds m
+    → ClosingOrApart level_number level_of 5 of_trigger cause_records cause_range m
+cause_apart g None h = inr tt
+cause_apart g (Some (inl s)) h =
+    inr (variant_has g.charges cause (always string).kind string_range.Holds
+    string_range.charge_of (always_returned g _ _ string_back) (λ x. Some (inl x)) 4 s refl
+    (λ j. (j == 5) ≡ false) refl)
+cause_apart g (Some (inr e)) h =
+    closing_value g level_number level_of 5 of_trigger cause_records cause_range e refl h refl
+
+-- ---- the signal
+
+abbrev pub signal_range : Range SignalValue
+signal_range =
+    pair_range (pair_range (pair_range (optional_range (closed_range level_number level_of))
+    (packed_range Varint (open_enum level_number level_of) (closed_range level_number level_of)))
+    (pair_range (unpacked_range (closed_range level_number level_of)) cause_range))
+    (others_range signal_known.owns)
+
+pub signal_returned : Grounds → Returned signal signal_range
+signal_returned g =
+    with_unknown_returned g signal_known _
+    (both_returned g
+    (both_returned g
+    (closed_once_returned g level_number level_of 1 (omega arith) (omega arith))
+    (closed_packed_returned g level_number level_of 2 (omega arith) (omega arith))
+    (λ n p h. rw h refl))
+    (both_returned g
+    (closed_unpacked_returned g level_number level_of 3 (omega arith) (omega arith))
+    (closing_returned g level_number level_of 5 of_trigger _ _ (none_returned (cause_returned g))
+    (cause_apart g))
+    (λ n p h. elim h [ inl h ↦ rw h refl | inr h ↦ rw h refl ]))
+    (λ n p h. elim h [
+      | inl h ↦ rw h refl
+      | inr h ↦ elim h [ inl h ↦ rw h refl | inr h ↦ rw h refl ]
+    ]))
