@@ -15,10 +15,14 @@ use Rattle.wire_codec.specs.Records as values
 use Rattle.wire_codec.specs.Records.{Records, plain, plain_payload, of_fields}
 use Rattle.wire_fields.specs.Shape.{Owns, on, either, Shape, FieldKind, Lawful, two, known, unknown, keeps}
 
--- each record has a number of this kind
+-- each record is of this kind
+abbrev pub AllHave : (ℕ → Payload → Type 0) → Fields → Type 0
+AllHave Is none = Unit {0}
+AllHave Is (field n p rest) = Is n p × AllHave Is rest
+
+-- each has a number of this kind
 abbrev pub AllAre : (ℕ → Type 0) → Fields → Type 0
-AllAre Is none = Unit {0}
-AllAre Is (field n p rest) = Is n × AllAre Is rest
+AllAre Is = AllHave (λ n p. Is n)
 
 -- some records are in range, and the value is what the default becomes by them for this charge
 pub record FoldsBack {V : Type 0} (takes : Step V) (start : V) (fs : Fields) (c : Charge) (m : V)
@@ -45,8 +49,8 @@ pub record KindBack {V : Type 0} (k : FieldKind V) (Holds : V → Type 0) (charg
 
 -- ---- lists of records
 
-all_joined : (Is : ℕ → Type 0) (fs gs : Fields) → AllAre Is fs → AllAre Is gs
-    → AllAre Is (joined fs gs)
+pub all_joined : (Is : ℕ → Payload → Type 0) (fs gs : Fields) → AllHave Is fs → AllHave Is gs
+    → AllHave Is (joined fs gs)
 all_joined Is none gs h k = k
 all_joined Is (field n p rest) gs h k = (h.0, all_joined Is rest gs h.1 k)
 
@@ -84,42 +88,50 @@ fold_on takes charges (field n p others) gs m u z c d (mid, first, rest, step, m
   ap (λ x. both x d) sum ∙ charges.assoc first rest d,
 )
 
+-- a step that takes, of such records, what another takes of a part of its value
+module _ {V W : Type 0} (Is : ℕ → Payload → Type 0) (one : Step V) (other : Step W) (put : V → W)
+    (on : (m z : V) (n : ℕ) (p : Payload) (c : Charge) → Is n p → one m n p c z
+    → other (put m) n p c (put z)) where
+  pub fold_lifted : (fs : Fields) (m z : V) (c : Charge) → AllHave Is fs → Folds one m fs c z
+      → Folds other (put m) fs c (put z)
+  fold_lifted none m z c has h = (h.0, ap put h.1)
+  fold_lifted (field n p others) m z c has (mid, first, rest, step, more, sum) = (
+    put mid,
+    first,
+    rest,
+    on m mid n p first has.0 step,
+    fold_lifted others mid z rest has.1 more,
+    sum,
+  )
+
 -- ---- two parts
 
-module _ {A B : Type 0} (owns : Owns) (one : Step A) (other : Step B) where
-  fold_first : (Has : ℕ → Type 0) → ((n : ℕ) (p : Payload) → Has n → owns n p ≡ true) → (fs : Fields)
-      (b : B) (m z : A) (c : Charge) → AllAre Has fs → Folds one m fs c z
+module _ {A B : Type 0} (owns : Owns) (one : Step A) (other : Step B) (Has : ℕ → Type 0) where
+  fold_first : ((n : ℕ) (p : Payload) → Has n → owns n p ≡ true) → (fs : Fields) (b : B) (m z : A)
+      (c : Charge) → AllAre Has fs → Folds one m fs c z
       → Folds (either owns one other) (m, b) fs c (z, b)
-  fold_first Has own none b m z c owned h = (h.0, ap (λ x. (x, b)) h.1)
-  fold_first Has own (field n p others) b m z c owned (mid, first, rest, step, more, sum) = (
-    (mid, b),
-    first,
-    rest,
-    subst (λ t. on t (one m n p first mid × (b ≡ b)) (other b n p first b × (mid ≡ m)))
-        (sym (own n p owned.0)) (step, refl),
-    fold_first Has own others b mid z rest owned.1 more,
-    sum,
-  )
+  fold_first own fs b m z c has folded =
+      fold_lifted (λ n p. Has n) one (either owns one other) (λ a. (a, b))
+      (λ u v n p d is step. subst
+      (λ t. on t (one u n p d v × (b ≡ b)) (other b n p d b × (v ≡ u))) (sym (own n p is))
+      (step, refl))
+      fs m z c has folded
 
-  fold_second : (Has : ℕ → Type 0) → ((n : ℕ) (p : Payload) → Has n → owns n p ≡ false)
-      → (fs : Fields) (a : A) (m z : B) (c : Charge) → AllAre Has fs → Folds other m fs c z
+  fold_second : ((n : ℕ) (p : Payload) → Has n → owns n p ≡ false) → (fs : Fields) (a : A) (m z : B)
+      (c : Charge) → AllAre Has fs → Folds other m fs c z
       → Folds (either owns one other) (a, m) fs c (a, z)
-  fold_second Has apart none a m z c owned h = (h.0, ap (λ x. (a, x)) h.1)
-  fold_second Has apart (field n p others) a m z c owned (mid, first, rest, step, more, sum) = (
-    (a, mid),
-    first,
-    rest,
-    subst (λ t. on t (one a n p first a × (mid ≡ m)) (other m n p first mid × (a ≡ a)))
-        (sym (apart n p owned.0)) (step, refl),
-    fold_second Has apart others a mid z rest owned.1 more,
-    sum,
-  )
+  fold_second apart fs a m z c has folded =
+      fold_lifted (λ n p. Has n) other (either owns one other) (λ b. (a, b))
+      (λ u v n p d is step. subst
+      (λ t. on t (one a n p d a × (v ≡ u)) (other u n p d v × (a ≡ a))) (sym (apart n p is))
+      (step, refl))
+      fs m z c has folded
 
-or_left : (a b : Bool) → a ≡ true → (a || b) ≡ true
+pub or_left : (a b : Bool) → a ≡ true → (a || b) ≡ true
 or_left true b h = refl
 or_left false b h = absurd cc
 
-or_right : (a b : Bool) → b ≡ true → (a || b) ≡ true
+pub or_right : (a b : Bool) → b ≡ true → (a || b) ≡ true
 or_right true b h = refl
 or_right false b h = h
 
@@ -159,7 +171,7 @@ module _ {A B : Type 0} (a : Shape A) (b : Shape B) (HoldsA : A → Type 0) (Hol
         });
     has = λ m h. subst (AllAre (λ n. HasA n ⊎ HasB n))
         (sym (plain_joined (a.records m.0) (b.records m.1)))
-        (all_joined (λ n. HasA n ⊎ HasB n) (plain (a.records m.0)) (plain (b.records m.1))
+        (all_joined (λ n p. HasA n ⊎ HasB n) (plain (a.records m.0)) (plain (b.records m.1))
         (all_weaker HasA (λ n. HasA n ⊎ HasB n) (λ n x. inl x) (plain (a.records m.0))
         (ha.has m.0 h.0))
         (all_weaker HasB (λ n. HasA n ⊎ HasB n) (λ n x. inr x) (plain (b.records m.1))

@@ -1,20 +1,21 @@
 -- Closed enums are read back: of a value that the enum has, the number is the enum's, so that none
 -- of what is written goes to the unknown fields.
-use Rattle.std.proofs.Common.{◌≡◌, ◌⊎◌, inl, inr, ℕ, ◌^◌, ◌<◌, ◌≤◌, false, refl, sym, ap, ◌∙◌, subst}
+use Rattle.std.proofs.Common.{◌≡◌, ◌⊎◌, inl, inr, ℕ, ◌^◌, ◌<◌, ◌≤◌, true, false, refl, sym, ap, ◌∙◌, subst}
 use Rattle.std.proofs.Common.{List, [], ◌∷◌, ◌++◌, append_assoc}
 use Rattle.std.proofs.lemmas.List.{append-nil}
 use Rattle.std.specs.Int.{w32}
 use Rattle.std.specs.Prelude.{ℤ, FitsSigned, Option, Some, None, map, ◌==◌}
 use Rattle.wire_codec.specs.EnumValue.{EnumValue}
 use Rattle.wire_codec.specs.Enumeration.{number_of, known_or}
-use Rattle.wire_codec.specs.Field.{Fields, none, field, varint}
+use Rattle.wire_codec.specs.Charge.{payload_charge}
+use Rattle.wire_codec.specs.Field.{Fields, none, field, push, varint}
 use Rattle.wire_codec.specs.FieldNumber.{IsFieldNumber}
 use Rattle.wire_codec.specs.Folds.{Folds}
 use Rattle.wire_codec.specs.Limits.{both, no_charge}
 use Rattle.wire_codec.specs.Records.{Records, plain}
 use Rattle.wire_codec.specs.ValueMap.{int32}
 use Rattle.wire_fields.specs.declared.form.Form.TheVariants.{Varint}
-use Rattle.wire_fields.specs.Back.{AllAre, FoldsBack, same_owned}
+use Rattle.wire_fields.specs.Back.{AllAre, FoldsBack, fold_lifted, same_owned}
 use Rattle.wire_fields.specs.Closed.{closes_by, closes, closes_each, sets_known, adds_known}
 use Rattle.wire_fields.specs.Closed.{sorted, sort_charge, all_sorted, all_charge}
 use Rattle.wire_fields.specs.Closed.{closed_once, closed_packed, closed_unpacked}
@@ -22,7 +23,7 @@ use Rattle.wire_fields.specs.ClosedOneof.{becomes, closing}
 use Rattle.wire_fields.specs.Enums.{open_enum}
 use Rattle.wire_fields.specs.Grounds.{Grounds, NumberBack, enum_back, numeric_back}
 use Rattle.wire_fields.specs.Leaving.{Leaving}
-use Rattle.wire_fields.specs.LeavingBack.{beside, ReturnedBeside, all_numbers, fold_lifted}
+use Rattle.wire_fields.specs.LeavingBack.{beside_unknown, ReturnedBeside, Leaves}
 use Rattle.wire_fields.specs.Numbers.{numeric}
 use Rattle.wire_fields.specs.Packed.{packed_records}
 use Rattle.wire_fields.specs.PackedBack.{AreNumbers, spelled}
@@ -34,7 +35,7 @@ use Rattle.wire_fields.specs.ScalarBack.{IfThere, AllHold, one_back}
 use Rattle.wire_fields.specs.ScalarBack.{optional_back, each_folds, each_has}
 use Rattle.wire_fields.specs.Shape.{on}
 
--- the value of a oneof is one of the closed enum, and written as its number
+-- the value of a oneof is one of the closed enum, and written as its number, for no charge
 pub record IsClosing {E V : Type 0} (number : E → ℤ) (of_number : ℤ → Option E) (n : ℕ)
     (set : EnumValue E → V) (records : V → Records) (r : Range V) (m : V) : Type 0 where
   pub value : EnumValue E
@@ -91,12 +92,12 @@ module _ (g : Grounds) {E : Type 0} (number : E → ℤ) (of_number : ℤ → Op
 
   pub once_folded : (n : ℕ) → IsFieldNumber n → (u : Fields) (o : Option (EnumValue E))
       → IfThere (IsClosed number of_number) o
-      → FoldsBack (beside u (closes of_number)) None (plain (optional_records closed_type n o))
+      → FoldsBack (beside_unknown u (closes of_number)) None (plain (optional_records closed_type n o))
       no_charge o
   once_folded n is u None h = record { fitting = tt; numbered = tt; folded = (refl, refl) }
   once_folded n is u (Some v) h =
       one_back g.plain g.charges closed_type (IsClosed number of_number) (numeric_back closed_back)
-      (beside u (closes of_number)) None (Some v) n v is h (closed_step sets_known n None u v h)
+      (beside_unknown u (closes of_number)) None (Some v) n v is h (closed_step sets_known n None u v h)
 
   abbrev pub closed_once_returned : (n : ℕ) → 1 ≤ n → n < 2 ^ 29
       → ReturnedBeside (closed_once number of_number n)
@@ -115,7 +116,7 @@ module _ (g : Grounds) {E : Type 0} (number : E → ℤ) (of_number : ℤ → Op
 
   pub adds_one : (n : ℕ) (u : Fields) (before : List (EnumValue E)) (v : EnumValue E)
       → IsClosed number of_number v
-      → beside u (closes_each of_number) before n (varint (int32.enc (number_of number v)))
+      → beside_unknown u (closes_each of_number) before n (varint (int32.enc (number_of number v)))
       no_charge (before ++ v ∷ [])
   adds_one n u before v h =
       let (x, has, charged, is) = closed_step adds_known n before u v h in (
@@ -137,7 +138,7 @@ module _ (g : Grounds) {E : Type 0} (number : E → ℤ) (of_number : ℤ → Op
         Has = λ j. j ≡ n;
         back = λ u. record {
           back = λ vs holds. each_folds g.plain closed_type (IsClosed number of_number) scalar
-              (beside u (closes_each of_number)) (λ xs. no_charge) no_charge n
+              (beside_unknown u (closes_each of_number)) (λ xs. no_charge) no_charge n
               (g.number n low high) refl
               (λ v xs. sym (g.charges.nothing_first no_charge)) (adds_one n u) [] vs holds;
           has = λ vs holds.
@@ -172,7 +173,7 @@ module _ (g : Grounds) {E : Type 0} (number : E → ℤ) (of_number : ℤ → Op
 
   pub packed_folded : (n : ℕ) → IsFieldNumber n → (u : Fields) (vs : List (EnumValue E))
       → AreNumbers Varint (open_enum number of_number) (IsClosed number of_number) vs
-      → FoldsBack (beside u (closes_each of_number)) []
+      → FoldsBack (beside_unknown u (closes_each of_number)) []
       (plain (packed_records Varint (open_enum number of_number) n vs)) no_charge vs
   packed_folded n is u [] h = record { fitting = tt; numbered = tt; folded = (refl, refl) }
   packed_folded n is u (v ∷ vs) h = record {
@@ -230,10 +231,10 @@ module _ (g : Grounds) {E : Type 0} (number : E → ℤ) (of_number : ℤ → Op
       (x : ReturnedBeside s r)
       (apart : (m : V) → r.Holds m → ClosingOrApart number of_number n set s.records r m) where
     pub closing_folded : (u : Fields) (m : V) → r.Holds m → ClosingOrApart number of_number n set s.records r m
-        → Folds (beside u (closing n of_number set s).takes) s.default (plain (s.records m))
+        → Folds (beside_unknown u (closing n of_number set s).takes) s.default (plain (s.records m))
         (r.charge_of m) m
     closing_folded u m h (inl k) =
-        let t = beside u (closing n of_number set s).takes in
+        let t = beside_unknown u (closing n of_number set s).takes in
         let p = varint (int32.enc (number_of number k.value)) in
         subst (λ fs. Folds t s.default fs (r.charge_of m) m) (sym k.written)
         (subst (λ c. Folds t s.default (field n p none) c m) (sym k.uncharged)
@@ -249,13 +250,13 @@ module _ (g : Grounds) {E : Type 0} (number : E → ℤ) (of_number : ℤ → Op
           sym (g.charges.nothing_first no_charge),
         )))
     closing_folded u m h (inr k) =
-        fold_lifted (λ j p. (j == n) ≡ false) (beside u s.takes)
-        (beside u (closing n of_number set s).takes) (λ v. v)
+        fold_lifted (λ j p. (j == n) ≡ false) (beside_unknown u s.takes)
+        (beside_unknown u (closing n of_number set s).takes) (λ v. v)
         (λ v z j p c is step. subst
         (λ b. on b (closes_by (becomes set) of_number (v, u) j p c (z, u))
         (s.takes (v, u) j p c (z, u))) (sym is) step)
         (plain (s.records m)) s.default m (r.charge_of m)
-        (all_numbers (λ j. (j == n) ≡ false) (plain (s.records m)) k)
+        k
         ((x.back u).back m h).folded
 
     abbrev pub closing_returned : ReturnedBeside (closing n of_number set s) r
@@ -273,3 +274,51 @@ module _ (g : Grounds) {E : Type 0} (number : E → ℤ) (of_number : ℤ → Op
         own = (x.back u).own;
       };
     }
+
+-- ---- records that are left
+
+-- a number that the enum does not have
+module _ {E : Type 0} (number : E → ℤ) (of_number : ℤ → Option E) (n x : ℕ)
+    (lacks : of_number (int32.dec x) ≡ None) where
+  pub once_leaves : Leaves (closed_once number of_number n) n (varint x)
+  once_leaves = record {
+    own = same_owned n n refl;
+    left = λ m u. (
+      x,
+      refl,
+      sym (ap sort_charge lacks),
+      sym (ap (sorted sets_known n x (m, u)) lacks),
+    );
+  }
+
+  each_left : (m : List (EnumValue E)) (u : Fields)
+      → closes_each of_number (m, u) n (varint x) (payload_charge (varint x))
+      (m, push u n (varint x))
+  each_left m u = (
+    x ∷ [],
+    refl,
+    sym (ap (λ k. both (sort_charge k) no_charge) lacks),
+    sym (ap (sorted adds_known n x (m, u)) lacks),
+  )
+
+  pub packed_leaves : Leaves (closed_packed number of_number n) n (varint x)
+  packed_leaves = record { own = same_owned n n refl; left = each_left }
+
+  pub unpacked_leaves : Leaves (closed_unpacked number of_number n) n (varint x)
+  unpacked_leaves = record { own = same_owned n n refl; left = each_left }
+
+  pub closing_leaves : {V : Type 0} (set : EnumValue E → V) (s : Leaving V)
+      → s.owns n (varint x) ≡ true → Leaves (closing n of_number set s) n (varint x)
+  closing_leaves set s own = record {
+    own = own;
+    left = λ m u. subst (λ b. on b
+        (closes_by (becomes set) of_number (m, u) n (varint x) (payload_charge (varint x))
+        (m, push u n (varint x)))
+        (s.takes (m, u) n (varint x) (payload_charge (varint x)) (m, push u n (varint x))))
+        (sym (same_owned n n refl)) (
+          x,
+          refl,
+          sym (ap sort_charge lacks),
+          sym (ap (sorted (becomes set) n x (m, u)) lacks),
+        );
+  }

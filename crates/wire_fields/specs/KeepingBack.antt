@@ -1,17 +1,18 @@
 -- Fields that leave records of other wire types are read back: what is written of a value has the
 -- field's own.
-use Rattle.std.proofs.Common.{◌≡◌, ℕ, Bool, true, false, sym, subst, List, [], ◌∷◌}
+use Rattle.std.proofs.Common.{◌≡◌, ℕ, Bool, true, false, refl, sym, subst, List, [], ◌∷◌}
 use Rattle.std.specs.Prelude.{Some, None}
-use Rattle.wire_codec.specs.Field.{Fields, type_of, none, field, joined}
+use Rattle.wire_codec.specs.Charge.{payload_charge}
+use Rattle.wire_codec.specs.Field.{Payload, Fields, type_of, none, field, push}
 use Rattle.wire_codec.specs.Laws.{FieldsArePlain}
 use Rattle.wire_codec.specs.Records.{Records, plain, plain_payload}
 use Rattle.wire_codec.specs.ValueMap.{ValueMap}
 use Rattle.wire_codec.specs.WireType.TheVariants.{LengthDelimited}
 use Rattle.wire_fields.specs.declared.form.Form.{Form}
 use Rattle.wire_fields.specs.declared.leaving.OwnTypes.{OwnTypes}
-use Rattle.wire_fields.specs.Back.{plain_joined}
-use Rattle.wire_fields.specs.Leaving.{has_type, leaving_types}
-use Rattle.wire_fields.specs.LeavingBack.{AllHave, ReturnedBeside, leaving_back}
+use Rattle.wire_fields.specs.Back.{AllHave, all_joined, plain_joined, same_owned}
+use Rattle.wire_fields.specs.Leaving.{has_type, of_types, leaving_types}
+use Rattle.wire_fields.specs.LeavingBack.{ReturnedBeside, Leaves, leaving_back}
 use Rattle.wire_fields.specs.Messages.{Encoding, once_in, each_in, message_each}
 use Rattle.wire_fields.specs.Numbers.{number_payload, numeric}
 use Rattle.wire_fields.specs.Packed.{packed_kind, unpacked_kind}
@@ -20,15 +21,11 @@ use Rattle.wire_fields.specs.Presence.{each_record}
 use Rattle.wire_fields.specs.Ranges.{Range}
 use Rattle.wire_fields.specs.Returned.{Returned}
 use Rattle.wire_fields.specs.Scalar.{ScalarType, scalar_record}
-use Rattle.wire_fields.specs.Shape.{Owns, FieldKind, Lawful, Shape, known}
+use Rattle.wire_fields.specs.Shape.{Owns, on, FieldKind, Lawful, Shape, known, keeps}
 
 -- each record is the owner's
 abbrev pub AllOwn : Owns → Fields → Type 0
 AllOwn own = AllHave (λ n p. own n p ≡ true)
-
--- has one of these wire types
-abbrev pub of_types : OwnTypes → Owns
-of_types types n p = has_type types (type_of p)
 
 -- the records of a kind have these
 abbrev pub KindTyped : {V : Type 0} → FieldKind V → OwnTypes → Type 0
@@ -39,37 +36,35 @@ abbrev pub types_returned : {V : Type 0} (types : OwnTypes) (n : ℕ) (f : Lawfu
 types_returned types n f r x typed =
     leaving_back (of_types types) (known n f) r x (λ m holds. typed n m)
 
-own_joined : (own : Owns) (fs gs : Fields) → AllOwn own fs → AllOwn own gs
-    → AllOwn own (joined fs gs)
-own_joined own none gs h k = k
-own_joined own (field n p rest) gs h k = (h.0, own_joined own rest gs h.1 k)
+-- one record of a value of a scalar type
+pub scalar_owned : {V : Type 0} → FieldsArePlain → (own : Owns) (t : ScalarType V) (n : ℕ) (v : V)
+    → own n (t.payload v) ≡ true → AllOwn own (plain (scalar_record t n v))
+scalar_owned same own t n v is =
+    subst (AllOwn own) (sym (same.plain (field n (t.payload v) none))) (is, tt)
 
 -- ---- values of scalar types
 
 module _ (types : OwnTypes) (same : FieldsArePlain) {V : Type 0} (t : ScalarType V)
     (is : (v : V) → has_type types (type_of (t.payload v)) ≡ true) where
-  one_typed : (n : ℕ) (v : V) → AllOwn (of_types types) (plain (scalar_record t n v))
-  one_typed n v =
-      subst (AllOwn (of_types types)) (sym (same.plain (field n (t.payload v) none))) (is v, tt)
-
   unless_typed : (b : Bool) (n : ℕ) (v : V)
       → AllOwn (of_types types) (plain (unless b (scalar_record t n v)))
   unless_typed true n v = tt
-  unless_typed false n v = one_typed n v
+  unless_typed false n v = scalar_owned same (of_types types) t n v (is v)
 
   pub implicit_typed : KindTyped (implicit t).kind types
   implicit_typed n v = unless_typed (t.is_default v) n v
 
   pub optional_typed : KindTyped (optional t).kind types
   optional_typed n None = tt
-  optional_typed n (Some v) = one_typed n v
+  optional_typed n (Some v) = scalar_owned same (of_types types) t n v (is v)
 
   records_typed : (n : ℕ) (vs : List V) → AllOwn (of_types types) (plain (each_record t n vs))
   records_typed n [] = tt
   records_typed n (v ∷ vs) =
       subst (AllOwn (of_types types)) (sym (plain_joined (scalar_record t n v) (each_record t n vs)))
-      (own_joined (of_types types) (plain (scalar_record t n v)) (plain (each_record t n vs))
-      (one_typed n v) (records_typed n vs))
+      (all_joined (λ k p. of_types types k p ≡ true) (plain (scalar_record t n v))
+      (plain (each_record t n vs))
+      (scalar_owned same (of_types types) t n v (is v)) (records_typed n vs))
 
   pub repeated_typed : (place : ℕ) → KindTyped (repeated place t).kind types
   repeated_typed place n vs = records_typed n vs
@@ -108,10 +103,14 @@ module _ {V : Type 0} (types : OwnTypes) (encoding : Encoding) (s : Shape V)
     pub each_typed : (place : ℕ) → KindTyped (each_in place encoding s).kind types
     each_typed place n vs = messages_typed types encoding s.records is n vs
 
--- ---- a oneof
+-- ---- records that are left
 
--- the record of a variant of a scalar type
-pub variant_owned : {V : Type 0} → FieldsArePlain → (own : Owns) (t : ScalarType V) (n : ℕ) (v : V)
-    → own n (t.payload v) ≡ true → AllOwn own (plain (scalar_record t n v))
-variant_owned same own t n v is =
-    subst (AllOwn own) (sym (same.plain (field n (t.payload v) none))) (is, tt)
+-- of another wire type
+pub types_leaves : {V : Type 0} (types : OwnTypes) (n : ℕ) (f : Lawful V) (p : Payload)
+    → has_type types (type_of p) ≡ false → Leaves (leaving_types types n f) n p
+types_leaves types n f p other = record {
+  own = same_owned n n refl;
+  left = λ m u. subst (λ b. on b
+      (f.kind.takes m n p (payload_charge p) m × (push u n p ≡ u))
+      (keeps u n p (payload_charge p) (push u n p) × (m ≡ m))) (sym other) ((refl, refl), refl);
+}

@@ -122,9 +122,13 @@ abbrev pub has_type : OwnTypes → WireType → Bool
 has_type (One t) w = is_type t w
 has_type (OrPacked t) w = is_type t w || is_type LengthDelimited w
 
+-- a record has one of these
+abbrev pub of_types : OwnTypes → Owns
+of_types types n p = has_type types (type_of p)
+
 -- one field of this number, which leaves the records of other wire types than these
 abbrev pub leaving_types : {V : Type 0} → OwnTypes → ℕ → Lawful V → Leaving V
-leaving_types types n f = leaving_other (λ k p. has_type types (type_of p)) (known n f)
+leaving_types types n f = leaving_other (of_types types) (known n f)
 
 -- the numbers of a oneof, each with its wire types: that of a variant, and those of the others
 abbrev pub own_where : Bool → Bool → Bool → Bool

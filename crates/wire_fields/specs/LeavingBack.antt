@@ -1,55 +1,45 @@
 -- Fields that leave records to the unknown fields are read back too: what is written of a value is
 -- taken into it, and the unknown fields stay as they are.
 use Rattle.std.proofs.Common.{◌≡◌, ◌⊎◌, ℕ, true, false, refl, sym, ap, ◌∙◌, subst}
-use Rattle.wire_codec.specs.Charge.{charge}
-use Rattle.wire_codec.specs.Field.{Payload, Fields, none, field, joined}
+use Rattle.wire_codec.specs.Charge.{charge, payload_charge}
+use Rattle.wire_codec.specs.Field.{Payload, Fields, none, field, joined, push}
 use Rattle.wire_codec.specs.Folds.{Step, IsSingle, Folds}
-use Rattle.wire_codec.specs.Limits.{Charge, both}
+use Rattle.wire_codec.specs.InRange.{AreFitting, AreNumbered}
+use Rattle.wire_codec.specs.Limits.{both}
 use Rattle.wire_codec.specs.Records.{plain, joined_records, of_fields}
-use Rattle.wire_fields.specs.Back.{AllAre, FoldsBack, Back, two_back, fold_on, kept_fold}
-use Rattle.wire_fields.specs.Back.{fitting_joined, numbered_joined, plain_joined}
+use Rattle.wire_fields.specs.Back.{AllHave, AllAre, FoldsBack, Back, two_back, fold_on, fold_lifted}
+use Rattle.wire_fields.specs.Back.{kept_fold, fitting_joined, numbered_joined, plain_joined, or_left, or_right}
 use Rattle.wire_fields.specs.Grounds.{Grounds}
 use Rattle.wire_fields.specs.Leaving.{Leaving, leaving_other, leaving_none, both_leaving}
-use Rattle.wire_fields.specs.Leaving.{with_unknown, keeps_beside}
-use Rattle.wire_fields.specs.Ranges.{Range, pair_range, others_range, NotOwned}
+use Rattle.wire_fields.specs.Leaving.{first_of, second_of, with_unknown, keeps_beside}
+use Rattle.wire_fields.specs.Ranges.{Range, pair_range}
 use Rattle.wire_fields.specs.Returned.{Returned}
 use Rattle.wire_fields.specs.Shape.{Owns, on, Shape, keeps}
 
 -- what a step makes of a value where the unknown fields stay as they are
-abbrev pub beside : {V : Type 0} → Fields → Step (V × Fields) → Step V
-beside u step m n p c z = step (m, u) n p c (z, u)
+abbrev pub beside_unknown : {V : Type 0} → Fields → Step (V × Fields) → Step V
+beside_unknown u step m n p c z = step (m, u) n p c (z, u)
 
-pub beside_single : {V : Type 0} (u : Fields) (step : Step (V × Fields)) → IsSingle step
-    → IsSingle (beside u step)
-beside_single {V} u step single m k z w n p c d h j =
+pub beside_unknown_single : {V : Type 0} (u : Fields) (step : Step (V × Fields)) → IsSingle step
+    → IsSingle (beside_unknown u step)
+beside_unknown_single {V} u step single m k z w n p c d h j =
     let same = single (m, u) (k, u) (z, u) (w, u) n p c d h j in
     (same.0, λ e. ap (λ (x : V × Fields). x.0) (same.1 (ap (λ (x : V). (x, u)) e)))
 
--- the fields beside unknown ones that stay
-abbrev pub staying : {V : Type 0} → Fields → Leaving V → Shape V
-staying u s = record {
+-- the fields beside these unknown ones
+abbrev pub shape_beside : {V : Type 0} → Fields → Leaving V → Shape V
+shape_beside u s = record {
   owns = s.owns;
   default = s.default;
   records = s.records;
-  takes = beside u s.takes;
-  single = λ reading. beside_single u s.takes (s.single reading);
+  takes = beside_unknown u s.takes;
+  single = λ reading. beside_unknown_single u s.takes (s.single reading);
 }
 
 -- values in range fold back from their records, whatever unknown fields there are
 pub record ReturnedBeside {V : Type 0} (s : Leaving V) (r : Range V) : Type 1 where
   pub Has : ℕ → Type 0
-  pub back : (u : Fields) → Back (staying u s) r.Holds r.charge_of Has
-
--- ---- lists of records
-
--- each record is of this kind
-abbrev pub AllHave : (ℕ → Payload → Type 0) → Fields → Type 0
-AllHave Is none = Unit {0}
-AllHave Is (field n p rest) = Is n p × AllHave Is rest
-
-pub all_numbers : (Has : ℕ → Type 0) (fs : Fields) → AllAre Has fs → AllHave (λ n p. Has n) fs
-all_numbers Has none h = tt
-all_numbers Has (field n p rest) h = (h.0, all_numbers Has rest h.1)
+  pub back : (u : Fields) → Back (shape_beside u s) r.Holds r.charge_of Has
 
 pub all_true : (fs : Fields) → AllHave (λ n p. true ≡ true) fs
 all_true none = tt
@@ -59,23 +49,7 @@ pub all_any : (fs : Fields) → AllAre (λ n. Unit {0}) fs
 all_any none = tt
 all_any (field n p rest) = (tt, all_any rest)
 
--- a step that takes what another takes of a part of its value
-module _ {V W : Type 0} (Is : ℕ → Payload → Type 0) (one : Step V) (other : Step W) (put : V → W)
-    (on : (m z : V) (n : ℕ) (p : Payload) (c : Charge) → Is n p → one m n p c z
-    → other (put m) n p c (put z)) where
-  pub fold_lifted : (fs : Fields) (m z : V) (c : Charge) → AllHave Is fs → Folds one m fs c z
-      → Folds other (put m) fs c (put z)
-  fold_lifted none m z c has h = (h.0, ap put h.1)
-  fold_lifted (field n p others) m z c has (mid, first, rest, step, more, sum) = (
-    put mid,
-    first,
-    rest,
-    on m mid n p first has.0 step,
-    fold_lifted others mid z rest has.1 more,
-    sum,
-  )
-
--- ---- fields that leave the records that are not their own, which none that is written is
+-- ---- fields that leave the records that are not their own; all that they write are
 
 abbrev pub leaving_back : {V : Type 0} (own : Owns) (s : Shape V) (r : Range V) (x : Returned s r)
     → ((m : V) → r.Holds m → AllHave (λ n p. own n p ≡ true) (plain (s.records m)))
@@ -89,7 +63,7 @@ leaving_back own s r x owned = record {
           fitting = h.fitting;
           numbered = h.numbered;
           folded = fold_lifted (λ n p. own n p ≡ true) s.takes
-              (beside u (leaving_other own s).takes) (λ v. v)
+              (beside_unknown u (leaving_other own s).takes) (λ v. v)
               (λ v z n p c is step. subst
               (λ b. on b (s.takes v n p c z × (u ≡ u)) (keeps u n p c u × (z ≡ v))) (sym is)
               (step, refl))
@@ -115,36 +89,88 @@ abbrev pub both_returned : {A B : Type 0} {a : Leaving A} {b : Leaving B} {r : R
 both_returned {A} {B} {a} {b} {r} {q} g x y apart = record {
   Has = λ n. x.Has n ⊎ y.Has n;
   back = λ u.
-      let h = two_back (staying u a) (staying u b) r.Holds q.Holds r.charge_of q.charge_of x.Has
+      let h = two_back (shape_beside u a) (shape_beside u b) r.Holds q.Holds r.charge_of q.charge_of x.Has
       y.Has g.charges (x.back u) (y.back u) apart in
       record { back = h.back; has = h.has; own = h.own };
 }
 
+-- ---- unknown fields
+
+-- a record that stays among the unknown fields, whatever the fields hold
+abbrev pub IsLeft : {V : Type 0} → Leaving V → ℕ → Payload → Type 0
+IsLeft {V} s n p =
+    (m : V) (u : Fields) → (with_unknown s).takes (m, u) n p (payload_charge p) (m, push u n p)
+
+-- records in range, each of which is such
+pub record AreLeft {V : Type 0} (s : Leaving V) (fs : Fields) : Type 0 where
+  pub fitting : AreFitting fs
+  pub numbered : AreNumbered fs
+  pub left : AllHave (IsLeft s) fs
+
+abbrev pub left_range : {V : Type 0} → Leaving V → Range Fields
+left_range s = record { Holds = AreLeft s; charge_of = charge }
+
+-- one of a number that the fields do not have is such
+pub not_owned_left : {V : Type 0} (s : Leaving V) (n : ℕ) (p : Payload) → s.owns n p ≡ false
+    → IsLeft s n p
+not_owned_left s n p is m u =
+    subst (λ b. on b (s.takes (m, u) n p (payload_charge p) (m, push u n p))
+    (keeps_beside (m, u) n p (payload_charge p) (m, push u n p))) (sym is) ((refl, refl), refl)
+
+-- one that is the fields' own by its number, and which they leave
+pub record Leaves {V : Type 0} (s : Leaving V) (n : ℕ) (p : Payload) : Type 0 where
+  pub own : s.owns n p ≡ true
+  pub left : (m : V) (u : Fields) → s.takes (m, u) n p (payload_charge p) (m, push u n p)
+
+pub leaves_left : {V : Type 0} (s : Leaving V) (n : ℕ) (p : Payload) → Leaves s n p → IsLeft s n p
+leaves_left s n p h m u =
+    subst (λ b. on b (s.takes (m, u) n p (payload_charge p) (m, push u n p))
+    (keeps_beside (m, u) n p (payload_charge p) (m, push u n p))) (sym h.own) (h.left m u)
+
+-- in a tree
+module _ {A B : Type 0} (a : Leaving A) (b : Leaving B) (n : ℕ) (p : Payload) where
+  pub leaves_first : Leaves a n p → Leaves (both_leaving a b) n p
+  leaves_first h = record {
+    own = or_left (a.owns n p) (b.owns n p) h.own;
+    left = λ m u. subst
+        (λ t. on t (first_of a.takes (m, u) n p (payload_charge p) (m, push u n p))
+        (second_of b.takes (m, u) n p (payload_charge p) (m, push u n p))) (sym h.own)
+        (h.left m.0 u, refl);
+  }
+
+  pub leaves_second : a.owns n p ≡ false → Leaves b n p → Leaves (both_leaving a b) n p
+  leaves_second apart h = record {
+    own = or_right (a.owns n p) (b.owns n p) h.own;
+    left = λ m u. subst
+        (λ t. on t (first_of a.takes (m, u) n p (payload_charge p) (m, push u n p))
+        (second_of b.takes (m, u) n p (payload_charge p) (m, push u n p))) (sym apart)
+        (h.left m.1 u, refl);
+  }
+
 -- ---- a message
 
 module _ {V : Type 0} (g : Grounds) (s : Leaving V) (r : Range V) (x : ReturnedBeside s r) where
-  whole_folded : (m : V × Fields) → (pair_range r (others_range s.owns)).Holds m
+  whole_folded : (m : V × Fields) → (pair_range r (left_range s)).Holds m
       → Folds (with_unknown s).takes (with_unknown s).default (joined (plain (s.records m.0)) m.1)
       (both (r.charge_of m.0) (charge m.1)) m
   whole_folded m h =
       let t = with_unknown s in
       let fs = plain (s.records m.0) in
-      let known = fold_lifted (λ n p. x.Has n) (beside none s.takes) t.takes (λ v. (v, none))
+      let known = fold_lifted (λ n p. x.Has n) (beside_unknown none s.takes) t.takes
+      (λ v. (v, none))
       (λ v z n p c is step. subst
       (λ b. on b (s.takes (v, none) n p c (z, none)) (keeps_beside (v, none) n p c (z, none)))
       (sym ((x.back none).own n p is)) step)
-      fs s.default m.0 (r.charge_of m.0) (all_numbers x.Has fs ((x.back none).has m.0 h.0))
+      fs s.default m.0 (r.charge_of m.0) ((x.back none).has m.0 h.0)
       ((x.back none).back m.0 h.0).folded in
-      let others = fold_lifted (λ n p. NotOwned s.owns n) keeps t.takes (λ u. (m.0, u))
-      (λ u z n p c is step. subst
-      (λ b. on b (s.takes (m.0, u) n p c (m.0, z)) (keeps_beside (m.0, u) n p c (m.0, z)))
-      (sym (is p)) (step, refl))
-      m.1 none m.1 (charge m.1) (all_numbers (NotOwned s.owns) m.1 h.1.others)
-      (kept_fold none m.1) in
+      let others = fold_lifted (IsLeft s) keeps t.takes (λ u. (m.0, u))
+      (λ u z n p c is step. subst (λ d. t.takes (m.0, u) n p d (m.0, z)) (sym step.0)
+      (subst (λ w. t.takes (m.0, u) n p (payload_charge p) (m.0, w)) (sym step.1) (is m.0 u)))
+      m.1 none m.1 (charge m.1) h.1.left (kept_fold none m.1) in
       fold_on t.takes g.charges fs m.1 t.default (m.0, none) m (r.charge_of m.0) (charge m.1) known
       others
 
-  pub with_unknown_returned : Returned (with_unknown s) (pair_range r (others_range s.owns))
+  pub with_unknown_returned : Returned (with_unknown s) (pair_range r (left_range s))
   with_unknown_returned = record {
     Has = λ n. Unit {0};
     back = record {

@@ -12,17 +12,17 @@ use Rattle.wire_codec.specs.Records.{Records, plain, plain_payload, joined_recor
 use Rattle.wire_fields.specs.declared.recursive.Place.{Place}
 use Rattle.wire_fields.specs.declared.recursive.Place.TheVariants.{Leaf, Once, Each, Grouped}
 use Rattle.wire_fields.specs.Back.{AllAre, FoldsBack, plain_joined, fitting_joined, numbered_joined}
-use Rattle.wire_fields.specs.Back.{fold_on}
+use Rattle.wire_fields.specs.Back.{fold_on, fold_lifted}
 use Rattle.wire_fields.specs.Grounds.{Grounds}
 use Rattle.wire_fields.specs.Least.{rolled}
-use Rattle.wire_fields.specs.LeavingBack.{all_numbers, all_any, fold_lifted}
+use Rattle.wire_fields.specs.LeavingBack.{all_any}
 use Rattle.wire_fields.specs.MessageBack.{EncodingBack, prefixed_back, delimited_back}
 use Rattle.wire_fields.specs.Messages.{or_else}
 use Rattle.wire_fields.specs.Nest.{Nest, nest, Rows, done, row, Row, end, ahead, listed, row_of}
 use Rattle.wire_fields.specs.Nest.{listed_row, row_listed, rows_row, set_rows, count_rows}
 use Rattle.wire_fields.specs.Nest.{empty_rows, with_row, first_of}
 use Rattle.wire_fields.specs.NestRange.{IsFit, NestHolds, RowsHold, RowHolds, price, nest_charge}
-use Rattle.wire_fields.specs.NestRange.{rows_charge, row_charge, nest_range, runs_from, IsPlaced, LeafBack}
+use Rattle.wire_fields.specs.NestRange.{rows_charge, row_charge, nest_range, runs_from, IsPlaceOf, LeafBack}
 use Rattle.wire_fields.specs.NestRows.{set_same, set_again, row_set, row_behind, count_set}
 use Rattle.wire_fields.specs.NestRows.{no_messages, count_empty, filled, all_filled}
 use Rattle.wire_fields.specs.NestTable.{Table, is_grouped, encoding_of, encoding_at, empty_of}
@@ -120,7 +120,7 @@ module _ {L : Type 0} (g : Grounds) (t : Table L) (r : Range L) (single : IsSing
       (λ m u n p c is step. rolled (level t) (grows t g.reading single) (nest m rows) (nest u rows)
       n p c (subst (λ x. takes_at t (nest_takes t) x (nest m rows) n p c (nest u rows)) (sym is)
       (step, sym (h.rows_beside n rows))))
-      fs l z c (all_numbers (λ n. t.place n ≡ Leaf) fs has) folded
+      fs l z c has folded
 
   -- one message more in a row
   module _ (i : ℕ) (l : L) (rows : Rows L) (before : List (Nest L))
@@ -151,7 +151,7 @@ module _ {L : Type 0} (g : Grounds) (t : Table L) (r : Range L) (single : IsSing
           ∙ ap (with_row k (m ∷ [])) (sym (h.beside k (nest l rows))),
     )
 
-    message_taken : (place : Place) → t.place (t.number i) ≡ place → IsPlaced i (t.once i) place
+    message_taken : (place : Place) → t.place (t.number i) ≡ place → IsPlaceOf i (t.once i) place
         → (t.once i ≡ true → before ≡ [])
         → nest_takes t (nest l rows) (t.number i)
         (plain_payload ((encoding_at t (t.number i)).payload (nest_records t m)))
@@ -291,7 +291,7 @@ module _ {L : Type 0} (g : Grounds) (t : Table L) (r : Range L) (single : IsSing
         })
 
     row_folded : (i : ℕ) (place : Place) → t.place (t.number i) ≡ place
-        → IsPlaced i (t.once i) place → i < t.rows → (l : L) (rows : Rows L)
+        → IsPlaceOf i (t.once i) place → i < t.rows → (l : L) (rows : Rows L)
         (before : List (Nest L)) → rows_row i rows ≡ before → i < count_rows rows
         → (q : Row L) → (t.once i ≡ true → IsFitBehind before q) → RowHolds t r.Holds q
         → FoldsBack (nest_takes t) (nest l rows) (plain (row_records t (t.number i) q))

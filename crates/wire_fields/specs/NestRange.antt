@@ -25,8 +25,8 @@ IsFit true end = Unit {0}
 IsFit true (ahead m end) = Unit {0}
 IsFit true (ahead m (ahead k ms)) = ⊥
 
--- of the leaf this holds, and the messages of the rows are such too, of a size that a message may
--- have
+-- Of the leaf this holds; there are as many rows as the table has, each with no more messages than
+-- it may have; and these are such too, of a size that a message may have.
 abbrev mutual
   pub NestHolds : {L : Type 0} → Table L → (L → Type 0) → Nest L → Type 0
   NestHolds t Holds (nest l rows) =
@@ -76,17 +76,17 @@ runs_from t l i zero = none
 runs_from t l i (suc count) = joined_records (t.run i l) (runs_from t l (suc i) count)
 
 -- the place of the records of the row at i
-abbrev pub IsPlaced : ℕ → Bool → Place → Type 0
-IsPlaced i once Leaf = ⊥
-IsPlaced i once (Once k) = (k ≡ i) × (once ≡ true)
-IsPlaced i once (Each k bytes) = (k ≡ i) × (once ≡ false)
-IsPlaced i once (Grouped k) = (k ≡ i) × (once ≡ true)
+abbrev pub IsPlaceOf : ℕ → Bool → Place → Type 0
+IsPlaceOf i once Leaf = ⊥
+IsPlaceOf i once (Once k) = (k ≡ i) × (once ≡ true)
+IsPlaceOf i once (Each k bytes) = (k ≡ i) × (once ≡ false)
+IsPlaceOf i once (Grouped k) = (k ≡ i) × (once ≡ true)
 
 -- What a type shows of its table: each row has a number whose records go there, beside a message
 -- all stays, and the runs of a leaf fold back to it, under numbers whose records go to the leaf.
 pub record LeafBack {L : Type 0} (t : Table L) (r : Range L) : Type 0 where
   pub number : (i : ℕ) → i < t.rows → IsFieldNumber (t.number i)
-  pub place : (i : ℕ) → i < t.rows → IsPlaced i (t.once i) (t.place (t.number i))
+  pub place : (i : ℕ) → i < t.rows → IsPlaceOf i (t.once i) (t.place (t.number i))
   pub beside : (i : ℕ) (m : Nest L) → t.beside i m ≡ m
   pub rows_beside : (n : ℕ) (rs : Rows L) → t.rows_beside n rs ≡ rs
   pub back : (l : L) → r.Holds l
@@ -115,7 +115,7 @@ module _ {V : Type 0} (g : Grounds) (t : Table (V × Fields)) (known : Shape V) 
     → runs_from t l 0 (suc t.rows) ≡ (two known unknown).records l)
     (here : (n : ℕ) → x.Has n → t.place n ≡ Leaf)
     (number : (i : ℕ) → i < t.rows → IsFieldNumber (t.number i))
-    (place : (i : ℕ) → i < t.rows → IsPlaced i (t.once i) (t.place (t.number i)))
+    (place : (i : ℕ) → i < t.rows → IsPlaceOf i (t.once i) (t.place (t.number i)))
     (beside : (i : ℕ) (m : Nest (V × Fields)) → t.beside i m ≡ m)
     (rows_beside : (n : ℕ) (rs : Rows (V × Fields)) → t.rows_beside n rs ≡ rs) where
   pub leaf_back : LeafBack t (leaf_range t known r)

@@ -151,7 +151,7 @@ const KEPT_RANGE: [Template; 3] = [
 const LEAVING_RANGE: [Template; 3] = [
     (
         "whole_range",
-        "pair_range ($range$)\n    (others_range $module$-known.owns)",
+        "pair_range ($range$)\n    (left_range $module$-known)",
     ),
     (
         "whole_returned",
@@ -159,7 +159,7 @@ const LEAVING_RANGE: [Template; 3] = [
     ),
     (
         "uses",
-        "Rattle.wire_fields.specs.Ranges others_range\n\
+        "Rattle.wire_fields.specs.LeavingBack left_range\n\
         Rattle.wire_fields.specs.LeavingBack with_unknown_returned\n",
     ),
 ];

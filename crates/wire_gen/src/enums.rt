@@ -1,6 +1,7 @@
 //! The code and the definitions of an enum.
 use crate::comments::put_comment;
 use crate::error::GenerateError;
+use crate::laws_pages::has_laws;
 use crate::names::{constant_name, value_name};
 use crate::schema::{EnumType, Schema};
 use crate::words::{Template, Words};
@@ -49,9 +50,9 @@ $protos$        }
 
 const DEFINITIONS: &str = "\
 -- The numbers of a `$name$`. Generated.
-use Rattle.std.specs.Prelude.{ℤ, pos$negsuc$, List, [], ◌∷◌, Option}
+$uses_of_arith$use Rattle.std.specs.Prelude.{ℤ, pos$negsuc$, List, [], ◌∷◌, Option}
 use Rattle.wire_codec.specs.EnumNumbers.{first_numbered}
-use Rattle.$crate$.specs.declared.$module$.$name$.{$name$}
+$uses_of_closed$use Rattle.$crate$.specs.declared.$module$.$name$.{$name$}
 use Rattle.$crate$.specs.declared.$module$.$name$.TheVariants.{$all$}
 
 abbrev pub $module$-number : $name$ → ℤ
@@ -61,9 +62,24 @@ $module$-values = $list$[]
 
 abbrev pub $module$-of : ℤ → Option $name$
 $module$-of = first_numbered $module$-number $module$-values
+$closed$";
+
+const CLOSED: &str = "
+-- each value is read back where the enum is closed
+pub $module$-closed : (e : $name$) → IsClosed $module$-number $module$-of (Known e)
+$closeds$";
+
+const USES_OF_CLOSED: &str = "\
+use Rattle.wire_codec.specs.EnumValue.TheVariants.{Known}
+use Rattle.wire_fields.specs.Ranges.{IsClosed}
 ";
 
-const OF_VALUE: [Template; 8] = [
+const OF_VALUE: [Template; 9] = [
+    (
+        "closeds",
+        "$module$-closed $value$ =\n    \
+        record { value = $value$; is = refl; fits = omega arith; found = refl }\n",
+    ),
     ("values", "    $value$ = $digits$,\n"),
     (
         "uses",
@@ -131,6 +147,16 @@ pub(crate) fn enum_files(
     page.append("code", ENUM);
     if !page.get("aliases").is_empty() {
         page.append("code", ALIASES);
+    }
+    if of_enum.origin.features.is_closed() && has_laws(base) {
+        page.fill_all(&[
+            ("closed", CLOSED),
+            ("uses_of_closed", USES_OF_CLOSED),
+            (
+                "uses_of_arith",
+                "use Rattle.std.proofs.Common.{arith, refl}\n",
+            ),
+        ]);
     }
     page.fill("text", DEFINITIONS);
     Ok((page.finish("code")?, page.finish("text")?))

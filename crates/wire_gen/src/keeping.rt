@@ -140,9 +140,9 @@ pub(crate) fn put_owned(page: &mut Words, variants: &[Words]) {
     page.fill("owned_variants", OWNED);
 }
 
-const SCALAR_OWNED: &str = "variant_owned g.plain ($owner$)\n    $definition$ $digits$ x refl";
+const SCALAR_OWNED: &str = "scalar_owned g.plain ($owner$)\n    $definition$ $digits$ x refl";
 
-const USES_OF_SCALAR: &str = "Rattle.wire_fields.specs.KeepingBack variant_owned\n";
+const USES_OF_SCALAR: &str = "Rattle.wire_fields.specs.KeepingBack scalar_owned\n";
 
 const OF_PLAIN: [Template; 2] = [
     ("all_calls", "merge "),

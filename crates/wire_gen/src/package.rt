@@ -136,7 +136,7 @@ impl Package {
         if message.is_recursive {
             return self.add_recursive(schema, message, fields);
         }
-        let tree = tree_of(&page, &mut fields)?;
+        let tree = tree_of(&page, &mut fields, true)?;
         let code = code_of(&page, schema, message, &fields, &tree)?;
         let definitions = definitions_of(&page, &fields, &tree, message)?;
         let answers = answers_of(&page, &fields, &tree, false)?;

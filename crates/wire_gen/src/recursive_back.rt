@@ -9,7 +9,7 @@ const USES: &str = "\
 Rattle.std.specs.Prelude ◌<◌
 Rattle.wire_codec.specs.FieldNumber IsFieldNumber
 Rattle.wire_fields.specs.NestBack nest_returned
-Rattle.wire_fields.specs.NestRange IsPlaced
+Rattle.wire_fields.specs.NestRange IsPlaceOf
 Rattle.wire_fields.specs.NestRange followed
 Rattle.wire_fields.specs.NestRange leaf_back
 Rattle.wire_fields.specs.NestRange leaf_range
@@ -21,56 +21,59 @@ Rattle.wire_fields.specs.NestRange same_order
 
 const RANGE: &str = "
 -- what is read back once it is written
-abbrev pub $module$-known-range : Range $name$-Known
-$module$-known-range =
+abbrev pub $module$-range-of-known : Range $name$-Known
+$module$-range-of-known =
     $range$
 
-abbrev pub $module$-known-returned : Grounds → Returned $module$-known $module$-known-range
-$module$-known-returned g =
+abbrev pub $module$-returned-of-known : Grounds → Returned $module$-known $module$-range-of-known
+$module$-returned-of-known g =
     $returned$
 
-pub $module$-numbered : Grounds → (i : ℕ) → i < $count$ → IsFieldNumber ($module$-number i)
-$numbered$
-pub $module$-placed : (i : ℕ) → i < $count$
-    → IsPlaced i ($module$-once i) ($module$-place ($module$-number i))
-$placed$
+pub $module$-row_numbers : Grounds → (i : ℕ) → i < $count$ → IsFieldNumber ($module$-number i)
+$row_numbers$
+pub $module$-row_places : (i : ℕ) → i < $count$
+    → IsPlaceOf i ($module$-once i) ($module$-place ($module$-number i))
+$row_places$
 -- the runs, one behind another, are the records of the leaf
-pub $module$-ordered : (l : $name$-Leaf)
+pub $module$-runs_in_order : (l : $name$-Leaf)
     → runs_from $module$-table l 0 (suc $count$) ≡ $module$-leaf.records l
-$module$-ordered l = same_order
+$module$-runs_in_order l = same_order
     $run_pieces$
     (followed $leaf_pieces$(piece (unknown.records l.1))) refl
 
 abbrev pub $module$-range : Range $name$-Value
 $module$-range =
-    nest_range $module$-table (leaf_range $module$-table $module$-known $module$-known-range)
+    nest_range $module$-table (leaf_range $module$-table $module$-known $module$-range-of-known)
 
 pub $module$-returned : Grounds → Returned $module$-shape $module$-range
 $module$-returned g =
-    nest_returned g $module$-table (leaf_range $module$-table $module$-known $module$-known-range)
+    nest_returned g $module$-table (leaf_range $module$-table $module$-known $module$-range-of-known)
     ($module$-leaf.single g.reading)
-    (leaf_back g $module$-table $module$-known $module$-known-range ($module$-known-returned g)
-    refl refl $module$-ordered (λ n h. $apart$)
-    ($module$-numbered g) $module$-placed (λ i m. refl) (λ n rs. refl))
+    (leaf_back g $module$-table $module$-known $module$-range-of-known ($module$-returned-of-known g)
+    refl refl $module$-runs_in_order (λ n h. $apart$)
+    ($module$-row_numbers g) $module$-row_places (λ i m. refl) (λ n rs. refl))
     $module$-shape refl refl refl (λ n p. refl)
 ";
 
 const OF_ROW: [Template; 2] = [
     (
-        "numbered",
-        "$module$-numbered g $at$ low = g.number $number$ (omega arith) (omega arith)\n",
+        "row_numbers",
+        "$module$-row_numbers g $at$ low = g.number $number$ (omega arith) (omega arith)\n",
     ),
-    ("placed", "$module$-placed $at$ low = (refl, refl)\n"),
+    (
+        "row_places",
+        "$module$-row_places $at$ low = (refl, refl)\n",
+    ),
 ];
 
 const OF_NO_ROW: [Template; 2] = [
     (
-        "numbered",
-        "$module$-numbered g $at_least$ low = absurd (omega (arith, low))\n",
+        "row_numbers",
+        "$module$-row_numbers g $at_least$ low = absurd (omega (arith, low))\n",
     ),
     (
-        "placed",
-        "$module$-placed $at_least$ low = absurd (omega (arith, low))\n",
+        "row_places",
+        "$module$-row_places $at_least$ low = absurd (omega (arith, low))\n",
     ),
 ];
 

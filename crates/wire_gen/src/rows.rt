@@ -35,7 +35,7 @@ pub(crate) fn leaf_tree(
     if !is_plain || leaves || leaf.is_empty() || leaf.len() > MOST_LEAVES {
         return Err(base.refused(NO_LEAF));
     }
-    let tree = tree_of(base, &mut leaf)?;
+    let tree = tree_of(base, &mut leaf, false)?;
     let (mut rows, mut leaf) = (rows.into_iter(), leaf.into_iter());
     let mut fields = Vec::new(alloc);
     for is_row in order {

@@ -159,9 +159,15 @@ const SECOND: [Template; 3] = [
     ("taken", "($taken$, refl)"),
 ];
 
-/// The tree of these fields. Each field is told its `path`.
-pub(crate) fn tree_of(base: &Words, fields: &mut [Field]) -> Result<Tree, GenerateError> {
+/// The tree of these fields, with parts by themselves where they may be. Each field is told its
+/// `path`.
+pub(crate) fn tree_of(
+    base: &Words,
+    fields: &mut [Field],
+    has_parts: bool,
+) -> Result<Tree, GenerateError> {
     let alloc = base.alloc();
+    let count = if has_parts { fields.len() } else { 0 };
     let mut tree = Tree {
         words: Words::new(alloc),
         pairs: Vec::new(alloc),
@@ -184,7 +190,7 @@ pub(crate) fn tree_of(base: &Words, fields: &mut [Field]) -> Result<Tree, Genera
             match left.take() {
                 Some(first) => {
                     reach(&first, &node, fields);
-                    next.push(tree.pair(first, node, fields.len())?)?;
+                    next.push(tree.pair(first, node, count)?)?;
                 }
                 None => left = Some(node),
             }
@@ -250,7 +256,7 @@ fn reach(left: &Node, right: &Node, fields: &mut [Field]) {
 }
 
 impl Tree {
-    // A pair of these, which is a part by itself where it has the fields of one and there are more.
+    // A pair of these, which is a part by itself where it has the fields of one and is not all.
     fn pair(&mut self, left: Node, mut right: Node, count: usize) -> Result<Node, GenerateError> {
         let (first, between, behind) = (left.first, left.behind, right.behind);
         let mut words = left.words;
@@ -292,6 +298,10 @@ impl Tree {
 
     // Makes a part by itself of fields in a row.
     fn part(&mut self, node: &mut Node) -> Result<(), GenerateError> {
+        let mut parts = self.parts.iter();
+        if parts.any(|it| it.first == node.first && it.behind == node.behind) {
+            return Ok(());
+        }
         node.words.fill_all(&NAMES);
         self.parts.push(Node {
             first: node.first,

@@ -1,5 +1,5 @@
 -- What is written of a `Counter` is read back.
-use Rattle.std.proofs.Common.{◌≡◌, ℕ, false}
+use Rattle.std.proofs.Common.{◌≡◌, ℕ, false, arith}
 use Rattle.std.specs.Prelude.{◌<◌, ◌^◌, ◌⊎◌}
 use Rattle.wire_codec.specs.Charge.{charge}
 use Rattle.wire_codec.specs.Field.{Payload}
@@ -12,8 +12,11 @@ use Rattle.wire_codec.specs.ScalarLaws.{ReadsBack}
 use Rattle.wire_codec.specs.ValueMap.{uint64}
 use Rattle.wire_fields.specs.declared.form.Form.TheVariants.{Varint}
 use Rattle.wire_fields.specs.Back.{AreOthers, FoldsBack, Back, two_back, known_back, unknown_back}
+use Rattle.wire_fields.specs.Grounds.{Grounds}
 use Rattle.wire_fields.specs.Numbers.{numeric}
 use Rattle.wire_fields.specs.Presence.{implicit}
+use Rattle.wire_fields.specs.Ranges.{Range}
+use Rattle.wire_fields.specs.Returned.{Returned}
 use Rattle.wire_fields.specs.ScalarBack.{number_back, implicit_back}
 use Rattle.wire_fields.specs.Shape.{unknown}
 use Rattle.wire_tables.specs.Counter.{CounterValue, counter_known, counter}
@@ -42,3 +45,14 @@ counter_back same charges back first =
     (implicit_back same charges (numeric Varint uint64) _
     (number_back Varint uint64 (λ v. v < 2 ^ 64) back (λ v h. h))))
     (unknown_back same IsCounterOther) (λ n p h. h p)
+
+-- ---- as a range
+
+abbrev pub counter_range : Range CounterValue
+counter_range = record { Holds = IsCounter; charge_of = counter_charge }
+
+pub counter_returned : Grounds → Returned counter counter_range
+counter_returned g = record {
+  Has = λ n. (n ≡ 1) ⊎ IsCounterOther n;
+  back = counter_back g.plain g.charges g.uint64 (g.number 1 (omega arith) (omega arith));
+}

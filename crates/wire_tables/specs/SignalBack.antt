@@ -1,26 +1,40 @@
--- What is written of a `Signal` whose levels have numbers is read back.
+-- What is written of a `Signal` whose levels are ones that the enum has is read back, with what it
+-- has kept.
 use Rattle.std.proofs.Common.{◌≡◌, ◌⊎◌, inl, inr, ℕ, false, refl, arith}
 use Rattle.std.specs.Prelude.{Some, None, ◌==◌}
-use Rattle.wire_codec.specs.Limits.{Charge, no_charge}
+use Rattle.wire_codec.specs.EnumValue.TheVariants.{Known}
+use Rattle.wire_codec.specs.Field.{varint}
+use Rattle.wire_codec.specs.Limits.{no_charge}
 use Rattle.wire_codec.specs.Records.{plain}
+use Rattle.wire_codec.specs.ValueMap.{int32}
 use Rattle.wire_fields.specs.declared.form.Form.TheVariants.{Varint}
 use Rattle.wire_fields.specs.Back.{AllAre, FoldsBack}
 use Rattle.wire_fields.specs.ClosedBack.{closed_back, closed_once_returned, closed_packed_returned}
 use Rattle.wire_fields.specs.ClosedBack.{closed_unpacked_returned, closing_returned, closing_value}
-use Rattle.wire_fields.specs.ClosedBack.{ClosingOrApart}
+use Rattle.wire_fields.specs.ClosedBack.{ClosingOrApart, once_leaves}
 use Rattle.wire_fields.specs.Enums.{open_enum}
 use Rattle.wire_fields.specs.Grounds.{Grounds, numeric_back, string_back}
-use Rattle.wire_fields.specs.LeavingBack.{both_returned, none_returned, with_unknown_returned}
+use Rattle.wire_fields.specs.Leaving.{both_leaving}
+use Rattle.wire_fields.specs.LeavingBack.{both_returned, none_returned, left_range, IsLeft}
+use Rattle.wire_fields.specs.LeavingBack.{leaves_left, leaves_first, with_unknown_returned}
 use Rattle.wire_fields.specs.Numbers.{numeric}
 use Rattle.wire_fields.specs.OneofBack.{variant_back, variant_has}
 use Rattle.wire_fields.specs.Presence.{always}
 use Rattle.wire_fields.specs.Ranges.{Range, closed_range, string_range, optional_range}
-use Rattle.wire_fields.specs.Ranges.{packed_range, unpacked_range, pair_range, others_range}
+use Rattle.wire_fields.specs.Ranges.{packed_range, unpacked_range, pair_range, IsClosed}
 use Rattle.wire_fields.specs.Returned.{Returned, always_returned}
 use Rattle.wire_fields.specs.Texts.{string}
+use Rattle.wire_tables.specs.declared.level.Level.{Level}
+use Rattle.wire_tables.specs.declared.level.Level.TheVariants.{Low, High}
 use Rattle.wire_tables.specs.Cause.{CauseValue, cause, cause_records, of_trigger}
 use Rattle.wire_tables.specs.Level.{level_number, level_of}
-use Rattle.wire_tables.specs.Signal.{SignalValue, signal, signal_known}
+use Rattle.wire_tables.specs.Signal.{SignalValue, signal, signal_known, signal_level, signal_history}
+use Rattle.wire_tables.specs.Signal.{signal_marks, signal_cause}
+
+-- each level is one that is read back
+pub level_closed : (e : Level) → IsClosed level_number level_of (Known e)
+level_closed Low = record { value = Low; is = refl; fits = omega arith; found = refl }
+level_closed High = record { value = High; is = refl; fits = omega arith; found = refl }
 
 -- ---- its cause
 
@@ -85,7 +99,7 @@ signal_range =
     pair_range (pair_range (pair_range (optional_range (closed_range level_number level_of))
     (packed_range Varint (open_enum level_number level_of) (closed_range level_number level_of)))
     (pair_range (unpacked_range (closed_range level_number level_of)) cause_range))
-    (others_range signal_known.owns)
+    (left_range signal_known)
 
 pub signal_returned : Grounds → Returned signal signal_range
 signal_returned g =
@@ -104,3 +118,12 @@ signal_returned g =
       | inl h ↦ rw h refl
       | inr h ↦ elim h [ inl h ↦ rw h refl | inr h ↦ rw h refl ]
     ]))
+
+-- a level's record with a number that no level has is one that is kept
+pub level_left : (x : ℕ) → level_of (int32.dec x) ≡ None → IsLeft signal_known 1 (varint x)
+level_left x lacks =
+    leaves_left signal_known 1 (varint x)
+    (leaves_first (both_leaving signal_level signal_history)
+    (both_leaving signal_marks signal_cause) 1 (varint x)
+    (leaves_first signal_level signal_history 1 (varint x)
+    (once_leaves level_number level_of 1 x lacks)))

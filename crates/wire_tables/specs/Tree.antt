@@ -9,7 +9,8 @@ use Rattle.wire_fields.specs.declared.recursive.Place.{Place}
 use Rattle.wire_fields.specs.declared.recursive.Place.TheVariants.{Leaf, Once, Each}
 use Rattle.wire_fields.specs.Messages.{embedded_once, boxed_value}
 use Rattle.wire_fields.specs.Nest.{Nest, nest, row, done, row_of, boxed_row, row_count}
-use Rattle.wire_fields.specs.NestTable.{Table, if_number, as_it_was, nest_takes, nest_single}
+use Rattle.wire_fields.specs.NestTable.{Table, if_number, as_it_was, empty_of, nest_records}
+use Rattle.wire_fields.specs.NestTable.{nest_takes, nest_single}
 use Rattle.wire_fields.specs.Presence.{implicit}
 use Rattle.wire_fields.specs.Shape.{Shape, known, two, unknown}
 use Rattle.wire_fields.specs.Texts.{string}
@@ -82,3 +83,12 @@ tree_counted m = ap row_count (fold_out-Tree TreeValue one_tree m)
 
 pub tree_single : OneReading → IsSingle (nest_takes tree)
 tree_single reading = nest_single tree reading (tree_leaf.single reading)
+
+abbrev pub tree_shape : Shape TreeValue
+tree_shape = record {
+  owns = λ n p. true;
+  default = empty_of tree;
+  records = nest_records tree;
+  takes = nest_takes tree;
+  single = tree_single;
+}

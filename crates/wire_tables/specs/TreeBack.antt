@@ -6,39 +6,20 @@ use Rattle.wire_codec.specs.Records.{none}
 use Rattle.wire_fields.specs.Grounds.{Grounds, string_back}
 use Rattle.wire_fields.specs.Messages.{embedded_once}
 use Rattle.wire_fields.specs.NestBack.{nest_returned}
-use Rattle.wire_fields.specs.NestRange.{IsPlaced, piece, followed, same_order, runs_from}
+use Rattle.wire_fields.specs.NestRange.{IsPlaceOf, piece, followed, same_order, runs_from}
 use Rattle.wire_fields.specs.NestRange.{leaf_back, leaf_range, nest_range}
-use Rattle.wire_fields.specs.NestTable.{empty_of, nest_records, nest_takes}
 use Rattle.wire_fields.specs.Presence.{implicit}
 use Rattle.wire_fields.specs.Ranges.{Range, string_range, once_range, pair_range}
 use Rattle.wire_fields.specs.Returned.{Returned, known_returned, two_returned, implicit_returned}
 use Rattle.wire_fields.specs.Returned.{embedded_once_returned}
-use Rattle.wire_fields.specs.Shape.{Shape, unknown}
+use Rattle.wire_fields.specs.Shape.{unknown}
 use Rattle.wire_fields.specs.Texts.{string}
-use Rattle.wire_tables.specs.Counter.{CounterValue, counter}
-use Rattle.wire_tables.specs.CounterBack.{IsCounter, IsCounterOther, counter_charge, counter_back}
+use Rattle.wire_tables.specs.Counter.{counter}
+use Rattle.wire_tables.specs.CounterBack.{counter_range, counter_returned}
 use Rattle.wire_tables.specs.Tree.{TreeKnown, TreeLeaf, TreeValue, tree_known, tree_leaf, tree_name}
-use Rattle.wire_tables.specs.Tree.{tree_visits, tree_number, tree_once, tree_place, tree, tree_single}
-
-abbrev pub tree_shape : Shape TreeValue
-tree_shape = record {
-  owns = λ n p. true;
-  default = empty_of tree;
-  records = nest_records tree;
-  takes = nest_takes tree;
-  single = tree_single;
-}
+use Rattle.wire_tables.specs.Tree.{tree_visits, tree_number, tree_once, tree_place, tree, tree_shape}
 
 -- ---- its name and visits
-
-abbrev pub counter_range : Range CounterValue
-counter_range = record { Holds = IsCounter; charge_of = counter_charge }
-
-counter_returned : Grounds → Returned counter counter_range
-counter_returned g = record {
-  Has = λ n. (n ≡ 1) ⊎ IsCounterOther n;
-  back = counter_back g.plain g.charges g.uint64 (g.number 1 (omega arith) (omega arith));
-}
 
 abbrev pub known_range : Range TreeKnown
 known_range = pair_range string_range (once_range counter counter_range)
@@ -54,19 +35,19 @@ tree_known_returned g =
 
 -- ---- its rows
 
-tree_numbered : Grounds → (i : ℕ) → i < 2 → IsFieldNumber (tree_number i)
-tree_numbered g zero low = g.number 2 (omega arith) (omega arith)
-tree_numbered g (suc zero) low = g.number 3 (omega arith) (omega arith)
-tree_numbered g (suc (suc i)) low = absurd (omega (arith, low))
+tree_row_numbers : Grounds → (i : ℕ) → i < 2 → IsFieldNumber (tree_number i)
+tree_row_numbers g zero low = g.number 2 (omega arith) (omega arith)
+tree_row_numbers g (suc zero) low = g.number 3 (omega arith) (omega arith)
+tree_row_numbers g (suc (suc i)) low = absurd (omega (arith, low))
 
-tree_placed : (i : ℕ) → i < 2 → IsPlaced i (tree_once i) (tree_place (tree_number i))
-tree_placed zero low = (refl, refl)
-tree_placed (suc zero) low = (refl, refl)
-tree_placed (suc (suc i)) low = absurd (omega (arith, low))
+tree_row_places : (i : ℕ) → i < 2 → IsPlaceOf i (tree_once i) (tree_place (tree_number i))
+tree_row_places zero low = (refl, refl)
+tree_row_places (suc zero) low = (refl, refl)
+tree_row_places (suc (suc i)) low = absurd (omega (arith, low))
 
 -- the runs, one behind another, are the records of the leaf
-tree_ordered : (l : TreeLeaf) → runs_from tree l 0 3 ≡ tree_leaf.records l
-tree_ordered l =
+tree_runs_in_order : (l : TreeLeaf) → runs_from tree l 0 3 ≡ tree_leaf.records l
+tree_runs_in_order l =
     let name = piece (tree_name.records l.0.0) in
     let visits = piece (tree_visits.records l.0.1) in
     let others = piece (unknown.records l.1) in
@@ -80,7 +61,7 @@ tree_range = nest_range tree (leaf_range tree tree_known known_range)
 pub tree_returned : Grounds → Returned tree_shape tree_range
 tree_returned g =
     nest_returned g tree (leaf_range tree tree_known known_range) (tree_leaf.single g.reading)
-    (leaf_back g tree tree_known known_range (tree_known_returned g) refl refl tree_ordered
-    (λ n h. elim h [ inl h ↦ rw h refl | inr h ↦ rw h refl ]) (tree_numbered g) tree_placed
+    (leaf_back g tree tree_known known_range (tree_known_returned g) refl refl tree_runs_in_order
+    (λ n h. elim h [ inl h ↦ rw h refl | inr h ↦ rw h refl ]) (tree_row_numbers g) tree_row_places
     (λ i m. refl) (λ n rs. refl))
     tree_shape refl refl refl (λ n p. refl)

@@ -6,7 +6,8 @@ ghost use Rattle.wire_tables.specs.MeterBack.{meter_range};
 ghost use Rattle.wire_tables.specs.ProfileBack.{ProfilesFoldBack};
 ghost use Rattle.wire_tables.specs.Signal.{signal};
 ghost use Rattle.wire_tables.specs.SignalBack.{signal_range};
-ghost use Rattle.wire_tables.specs.TreeBack.{tree_shape, tree_range};
+ghost use Rattle.wire_tables.specs.Tree.{tree_shape};
+ghost use Rattle.wire_tables.specs.TreeBack.{tree_range};
 
 use crate::{Meter, Signal, Tree};
 use wire_codec::laws;
@@ -31,7 +32,8 @@ pub fn profiles_fold_back()
     laws::scalar::values_read_back();
 }
 
-/// What is written of a `Signal` whose levels have numbers decodes to it, where the limits suffice.
+/// What is written of a `Signal` whose levels are ones that the enum has decodes to it, with what it
+/// has kept, where the limits suffice.
 pub fn signals_read_back()
     ensures { ReadsBack signal signal_range }
 {
@@ -39,7 +41,7 @@ pub fn signals_read_back()
     laws::text_decodes::<Signal>();
 }
 
-/// What is written of a `Meter` decodes to it, where the limits suffice.
+/// What is written of a `Meter` decodes to it, with what it has kept, where the limits suffice.
 pub fn meters_read_back()
     ensures { ReadsBack meter meter_range }
 {
