@@ -210,7 +210,13 @@ $onces$            _ => Ok(()),
     }
 ";
 
-const NO_PUT: &str = "    fn put(
+const NO_PUT: &str =
+    "    fn put(&mut self, _alloc: Global, _row: usize, _message: $name$) -> Result<(), DecodeError> {
+        Ok(())
+    }
+";
+
+const LONG_NO_PUT: &str = "    fn put(
         &mut self,
         _alloc: Global,
         _row: usize,
@@ -219,6 +225,9 @@ const NO_PUT: &str = "    fn put(
         Ok(())
     }
 ";
+
+// The longest name with which the first stands in one line.
+const SHORT_NAME: usize = 9;
 
 const PUSH: &str = "    fn push(&mut self, row: usize, message: $name$) -> Result<(), DecodeError> {
         match row {
@@ -358,7 +367,17 @@ fn put_rows(page: &mut Words, count: usize) {
     );
     let has_once = !page.get("onces").is_empty();
     page.fill("take", if has_once { TAKE } else { NO_TAKE });
-    page.fill("put", if has_once { PUT } else { NO_PUT });
+    let is_short = page.get("name").len() <= SHORT_NAME;
+    page.fill(
+        "put",
+        if has_once {
+            PUT
+        } else if is_short {
+            NO_PUT
+        } else {
+            LONG_NO_PUT
+        },
+    );
     let has_each = !page.get("eaches").is_empty();
     page.fill("push", if has_each { PUSH } else { NO_PUSH });
 }

@@ -25,14 +25,12 @@ Rattle.wire_codec.specs.Records Records
 Rattle.wire_codec.specs.Records joined_records
 Rattle.wire_codec.specs.Records none
 Rattle.wire_codec.specs.TakingLaws OneReading
-Rattle.wire_fields.specs.Nest Nest
 Rattle.wire_fields.specs.Nest boxed_row
 Rattle.wire_fields.specs.Nest done
 Rattle.wire_fields.specs.Nest nest
 Rattle.wire_fields.specs.Nest row
 Rattle.wire_fields.specs.Nest row_count
 Rattle.wire_fields.specs.Nest row_of
-Rattle.wire_fields.specs.NestTable Table
 Rattle.wire_fields.specs.NestTable as_it_was
 Rattle.wire_fields.specs.NestTable empty_of
 Rattle.wire_fields.specs.NestTable if_number
@@ -44,12 +42,18 @@ Rattle.wire_fields.specs.Shape Shape
 Rattle.wire_fields.specs.Shape known
 Rattle.wire_fields.specs.Shape two
 Rattle.wire_fields.specs.Shape unknown
-Rattle.wire_fields.specs.declared.recursive.Place Place
-Rattle.wire_fields.specs.declared.recursive.Place.TheVariants Leaf
 Rattle.$crate$.specs.declared.$module$.$name$ $name$
 Rattle.$crate$.specs.declared.$module$.$name$ $name$-F
 Rattle.$crate$.specs.declared.$module$.$name$ fold-$name$
 Rattle.$crate$.specs.declared.$module$.$name$ fold_out-$name$
+";
+
+// (a message may be called as these are)
+const ALIASES: &str = "\
+use Rattle.wire_fields.specs.Nest as nests
+use Rattle.wire_fields.specs.NestTable as tables
+use Rattle.wire_fields.specs.declared.recursive.Place as place
+use Rattle.wire_fields.specs.declared.recursive.Place.TheVariants as places
 ";
 
 const KIND: &str = "\
@@ -61,7 +65,7 @@ $module$-$field$-kind = $definition$
 const TEXT: &str = "\
 -- A `$name$` as contracts see it, and its table: its leaf, and rows of messages of its own type.
 -- Generated.
-$imports$
+$imports$$aliases$
 $kinds$abbrev pub $name$-Known : Type 0
 $name$-Known =
     $value$
@@ -70,7 +74,7 @@ abbrev pub $name$-Leaf : Type 0
 $name$-Leaf = $name$-Known × Fields
 
 abbrev pub $name$-Value : Type 0
-$name$-Value = Nest $name$-Leaf
+$name$-Value = nests.Nest $name$-Leaf
 
 -- one message, with values in the places of those that it holds
 abbrev pub $module$-one : $name$-F $name$-Value → $name$-Value
@@ -98,10 +102,10 @@ abbrev pub $module$-number : ℕ → ℕ
 $numbers$
 abbrev pub $module$-once : ℕ → Bool
 $onces$
-abbrev pub $module$-place : ℕ → Place
+abbrev pub $module$-place : ℕ → place.Place
 $module$-place n = $places$
 
-abbrev pub $module$-table : Table $name$-Leaf
+abbrev pub $module$-table : tables.Table $name$-Leaf
 $module$-table = record {
   default = $module$-leaf.default;
   takes = $module$-leaf.takes;
@@ -181,6 +185,7 @@ pub(crate) fn recursive_definitions(
         page.indent("view");
     }
     definition_imports(&mut page);
+    page.set("aliases", ALIASES);
     page.fill("text", TEXT);
     page.finish("text")
 }
@@ -220,19 +225,19 @@ fn put_number(page: &mut Words, at: &str) {
 }
 
 const OF_EACH: [Template; 3] = [
-    ("here", "Each $row$ $size$"),
+    ("here", "places.Each $row$ $size$"),
     ("once", "Each"),
     ("row_view", "m.$field$.items"),
 ];
 
 const OF_ONCE: [Template; 2] = [
-    ("here", "$once$ $row$"),
+    ("here", "places.$once$ $row$"),
     ("row_view", "(boxed_row m.$field$)"),
 ];
 
 // Where records go, and the rows as they are seen, from the last one on.
 fn put_rows(page: &mut Words, fields: &[Field], count: usize) {
-    page.fill_all(&[("places", "Leaf"), ("row_views", "done")]);
+    page.fill_all(&[("places", "places.Leaf"), ("row_views", "done")]);
     let mut row = count;
     for field in fields.iter().rev() {
         if is_row(field) {
@@ -242,10 +247,6 @@ fn put_rows(page: &mut Words, fields: &[Field], count: usize) {
             let is_each = field.words.get("kind").starts_with("Each");
             page.set("once", once_place(field));
             page.fill_all(if is_each { &OF_EACH } else { &OF_ONCE });
-            page.append(
-                "uses",
-                "Rattle.wire_fields.specs.declared.recursive.Place.TheVariants $once$\n",
-            );
             page.fill_all(&[
                 ("places", "if_number (n == $number$) ($here$) ($places$)"),
                 ("row_views", "(row (row_of $row_view$) $row_views$)"),
