@@ -111,7 +111,7 @@ fn borrows_alike(case: &Case, left: Left, said: &mut Said) {
 fn walks_alike(case: &Case, left: Left, span: &[u8], said: &mut Said) {
     let mut context = case.context();
     let answer = register_unknown_record(span, &mut context);
-    let Some(charge) = said.decoded(answer) else {
+    let Some(charge) = said.answered(answer) else {
         return said.expect(false, "walks alike");
     };
     said.expect(
@@ -150,8 +150,8 @@ fn is_exact(case: &Case, depth: u32, fields: usize, bytes: usize, said: &mut Sai
 fn writes_no_more(span: &[u8], said: &mut Said) {
     let mut text = Vec::new(said.alloc);
     let answer = UnknownFields::decode_from_slice(said.alloc, span);
-    if let Some(fields) = said.decoded(answer) {
-        said.encoded(fields.write_to(&mut text));
+    if let Some(fields) = said.answered(answer) {
+        said.answered(fields.write_to(&mut text));
     }
     let (is_less, is_same) = (text.len() < span.len(), text.as_slice() == span);
     said.expect(is_less | is_same, "writes no more");

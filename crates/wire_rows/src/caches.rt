@@ -32,19 +32,17 @@ fn stepped(mut cache: SizeCache, step: Step<'_>, said: &mut Said) -> SizeCache {
         "clear" => cache.clear(),
         "respill" => return SizeCache::with_spill_buffer(cache.into_spill_buffer()),
         "set" => set(&mut cache, step.number(), step.times),
-        "set-all" => set_all(&mut cache, step.times),
+        "set-all" => {
+            for index in (0..cache.slot_count()).rev() {
+                let size = u32::try_from(index).unwrap_or(0).saturating_mul(step.times);
+                set(&mut cache, index, size);
+            }
+        }
         "reserve" => reserve(&mut cache, step.times, said),
         "next" => next(&mut cache, step.times, said),
         _ => {}
     }
     cache
-}
-
-fn set_all(cache: &mut SizeCache, times: u32) {
-    for index in (0..cache.slot_count()).rev() {
-        let size = u32::try_from(index).unwrap_or(0).saturating_mul(times);
-        set(cache, index, size);
-    }
 }
 
 fn set(cache: &mut SizeCache, slot: usize, size: u32) {
@@ -71,7 +69,7 @@ fn reserve(cache: &mut SizeCache, times: u32, said: &mut Said) {
             Err(error) => {
                 said.expect(slots >= 16, "a slot inside asks for memory");
                 said.expect(cache.slot_count() == slots, "a refused slot");
-                said.refuse_to_write(error);
+                said.refuse(error);
             }
         }
     }
@@ -96,34 +94,24 @@ fn pool(row: &Row<'_>, said: &mut Said) {
     let most = row.number("most").unwrap_or(64);
     let mut released = 0u32;
     for word in row.words.split(' ') {
-        released = released.saturating_add(released_by(Step::parse(word), &mut pool, said));
+        let step = Step::parse(word);
+        if step.kind == "release" {
+            let buffer = said.made(Vec::with_capacity(said.alloc, step.number()));
+            let buffer = buffer.unwrap_or(Vec::new(said.alloc));
+            pool.release(SizeCache::with_spill_buffer(buffer));
+            released = released.saturating_add(1);
+        }
     }
     let mut kept = 0u32;
     for _ in 0..released {
-        let capacity = acquired(&mut pool, said);
+        let cache = pool.acquire();
+        said.expect(cache.slot_count() == 0, "a used cache");
+        said.expect(cache.unread() == 0, "a cache with unread sizes");
+        let capacity = cache.into_spill_buffer().capacity();
         said.expect(capacity <= most, "a large buffer is kept");
         kept = kept.saturating_add(u32::from(capacity > 0));
     }
     said.show(&kept);
     said.also(" of ", &released);
     said.word(" kept");
-}
-
-// How many caches a step releases.
-fn released_by(step: Step<'_>, pool: &mut SizeCachePool, said: &mut Said) -> u32 {
-    if step.kind != "release" {
-        return 0;
-    }
-    let buffer = said.made(Vec::with_capacity(said.alloc, step.number()));
-    let buffer = buffer.unwrap_or(Vec::new(said.alloc));
-    pool.release(SizeCache::with_spill_buffer(buffer));
-    1
-}
-
-// The capacity of the buffer of a cache that is taken.
-fn acquired(pool: &mut SizeCachePool, said: &mut Said) -> usize {
-    let cache = pool.acquire();
-    said.expect(cache.slot_count() == 0, "a used cache");
-    said.expect(cache.unread() == 0, "a cache with unread sizes");
-    cache.into_spill_buffer().capacity()
 }

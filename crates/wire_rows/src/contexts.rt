@@ -27,22 +27,21 @@ pub fn tell(row: &Row<'_>, said: &mut Said) -> bool {
 fn context(row: &Row<'_>, said: &mut Said) {
     let mut context = row.context();
     for word in row.words.split(' ') {
-        say_step(step(&mut context, Step::parse(word)), said);
+        match step(&mut context, Step::parse(word)) {
+            Some(Ok(())) => said.word("Ok "),
+            Some(Err(error)) => {
+                said.refuse(error);
+                said.word(" ");
+            }
+            None => {}
+        }
     }
     said.show(&context.depth());
     said.also(" ", &context.remaining_unknown_fields());
     said.also(" ", &context.remaining_element_memory());
-    said.limit(context.remaining_unknown_bytes(), " for payloads");
-}
-
-fn say_step(answer: Option<Result<(), DecodeError>>, said: &mut Said) {
-    match answer {
-        Some(Ok(())) => said.word("Ok "),
-        Some(Err(error)) => {
-            said.refuse(error);
-            said.word(" ");
-        }
-        None => {}
+    if let Some(left) = context.remaining_unknown_bytes() {
+        said.also(", ", &left);
+        said.word(" for payloads");
     }
 }
 
@@ -52,16 +51,12 @@ fn step(context: &mut DecodeContext, step: Step<'_>) -> Option<Result<(), Decode
         "payload" => Some(context.register_unknown_bytes(step.number())),
         "descend" => Some(context.descend()),
         "field" => Some(context.register_unknown_field()),
-        "ascend" => ascend(context),
+        "ascend" if context.depth() < u32::MAX => {
+            context.ascend();
+            None
+        }
         _ => None,
     }
-}
-
-fn ascend(context: &mut DecodeContext) -> Option<Result<(), DecodeError>> {
-    if context.depth() < u32::MAX {
-        context.ascend();
-    }
-    None
 }
 
 fn options(options: DecodeOptions, said: &mut Said) {

@@ -5,9 +5,8 @@ ghost use Rattle.wire_rows.specs.declared.enums.Color.TheVariants.{Green};
 ghost use Rattle.wire_codec.specs.EnumNumbers.{first_numbered, first_numbered_keeps};
 
 use crate::row::Row;
-use crate::said::Said;
+use crate::said::{Said, hash_of};
 use std::fmt::Debug;
-use std::hash::{DefaultHasher, Hash, Hasher};
 use wire_codec::{EnumValue, Enumeration};
 
 pub fn tell(row: &Row<'_>, said: &mut Said) -> bool {
@@ -30,22 +29,16 @@ fn say_number<E: Enumeration + Drop>(number: i32, said: &mut Said) {
     said.expect(value.is_known() == known.is_some(), "known");
     said.expect(value.is_unknown() == known.is_none(), "unknown");
     if let Some(known) = known {
-        is_the_known(&value, known, said);
+        said.expect(value.is(known), "not the known one");
+        let is_known = value == EnumValue::from_known(known);
+        said.expect(is_known, "another than the known one");
+        let one = EnumValue::Unknown(number);
+        said.expect(one != value, "an unknown number is equal to a known one");
+        said.expect(!one.is(known), "an unknown number is a known one");
     }
     said.made_word(value.to_string(said.alloc));
     said.also(" ", &value);
     said.also(", default ", &EnumValue::<E>::default().to_i32());
-}
-
-fn is_the_known<E: Enumeration + Drop>(value: &EnumValue<E>, known: E, said: &mut Said) {
-    said.expect(value.is(known), "not the known one");
-    said.expect(
-        *value == EnumValue::from_known(known),
-        "another than the known one",
-    );
-    let one = EnumValue::Unknown(value.to_i32());
-    said.expect(one != *value, "an unknown number is equal to a known one");
-    said.expect(!one.is(known), "an unknown number is a known one");
 }
 
 fn say_name<E: Enumeration + Debug + 'static>(row: &Row<'_>, said: &mut Said) {
@@ -61,8 +54,9 @@ fn say_name<E: Enumeration + Debug + 'static>(row: &Row<'_>, said: &mut Said) {
 // Equal values hash equally, and a known value equals no number.
 fn say_values(said: &mut Said) {
     let (green, one) = (green(), EnumValue::Unknown(1));
-    said.expect(hash_of(green) == hash_of(EnumValue::from(1)), "a hash");
-    said.expect(hash_of(green) != hash_of(one), "the same hash");
+    let again = EnumValue::<Color>::from(1);
+    said.expect(hash_of(&green) == hash_of(&again), "a hash");
+    said.expect(hash_of(&green) != hash_of(&one), "the same hash");
     said.expect(green != one, "a number");
     said.expect(green.is(Color::Green), "not green");
     said.expect(!green.is(Color::Blue), "blue");
@@ -181,10 +175,4 @@ fn no_status() -> EnumValue<Status>
     ensures { result ≡ Unknown (pos 0) }
 {
     EnumValue::default()
-}
-
-fn hash_of(value: EnumValue<Color>) -> u64 {
-    let mut state = DefaultHasher::new();
-    value.hash(&mut state);
-    state.finish()
 }

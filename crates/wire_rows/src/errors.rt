@@ -1,24 +1,19 @@
 //! The texts of the errors.
 use crate::row::Row;
 use crate::said::Said;
+use std::fmt::Display;
 use wire_codec::{DecodeError, EncodeError};
 
 pub fn tell(row: &Row<'_>, said: &mut Said) -> bool {
     match row.call {
-        "DecodeError" => say_decode_error(&decode_error(row.words.trim()), said),
-        "EncodeError" => say_encode_error(&encode_error(row.words.trim()), said),
+        "DecodeError" => say_text(&decode_error(row.words.trim()), said),
+        "EncodeError" => say_text(&encode_error(row.words.trim()), said),
         _ => return false,
     }
     true
 }
 
-fn say_decode_error(error: &DecodeError, said: &mut Said) {
-    let copy = said.made(error.clone());
-    said.expect(copy.as_ref() == Some(error), "a clone");
-    said.made_word(error.to_string(said.alloc));
-}
-
-fn say_encode_error(error: &EncodeError, said: &mut Said) {
+fn say_text<E: Clone + PartialEq + Display + Drop>(error: &E, said: &mut Said) {
     let copy = said.made(error.clone());
     said.expect(copy.as_ref() == Some(error), "a clone");
     said.made_word(error.to_string(said.alloc));

@@ -1,11 +1,10 @@
 //! Frames of a stream: fed whole, and in chunks of each size.
 use crate::narrow::Narrow;
 use crate::row::Row;
-use crate::said::Said;
+use crate::said::{Digits, Said};
 use bytes::Bytes;
 use std::alloc::{AllocError, Global};
-use std::fmt;
-use std::fmt::{Debug, Write};
+use std::fmt::Write;
 use wire_callers::counter::Counter;
 use wire_codec::{DecodeError, DecodeOptions, EncodeError, EncodeSink};
 use wire_frames::{
@@ -69,30 +68,24 @@ fn wanting<T: Drop>(said: &mut Said) -> Option<T> {
     said.made(Err::<T, ()>(()))
 }
 
-// ---- all at once
-
 fn read_all(row: &Row<'_>, size: usize, said: &mut Said) -> Option<Read> {
     let mut chunks = Vec::new(said.alloc);
     for chunk in row.bytes.chunks(size.max(1)) {
         let chunk = said.made(Bytes::copy_from_slice(said.alloc, chunk))?;
         said.made(chunks.push(chunk))?;
     }
-    match frames_of(said.alloc, framing(row), limit(row), chunks) {
-        Ok(frames) => say_frames(&frames, said),
-        Err(FrameError::OutOfMemory) => wanting(said),
-        Err(error) => Some(Read {
-            text: String::new(said.alloc),
-            end: Some(error),
-        }),
-    }
-}
-
-fn say_frames(frames: &[Frame], said: &mut Said) -> Option<Read> {
     let mut text = String::new(said.alloc);
-    for frame in frames {
-        said.made(say_frame(frame, &mut text))?;
-    }
-    Some(Read { text, end: None })
+    let end = match frames_of(said.alloc, framing(row), limit(row), chunks) {
+        Ok(frames) => {
+            for frame in &frames {
+                said.made(say_frame(frame, &mut text))?;
+            }
+            None
+        }
+        Err(FrameError::OutOfMemory) => return wanting(said),
+        Err(error) => Some(error),
+    };
+    Some(Read { text, end })
 }
 
 // ---- call by call
@@ -102,33 +95,23 @@ fn read_by_calls(row: &Row<'_>, size: usize, said: &mut Said) -> Option<Read> {
     let mut text = String::new(said.alloc);
     let mut left = row.bytes.len();
     for chunk in row.bytes.chunks(size.max(1)) {
-        feed(&mut decoder, chunk, said)?;
         left = left.saturating_sub(chunk.len());
+        let chunk = said.made(Bytes::copy_from_slice(said.alloc, chunk))?;
+        if let Err(unfed) = decoder.feed(chunk) {
+            said.expect(unfed.cause == UnfedCause::OutOfMemory, "a chunk is refused");
+            return wanting(said);
+        }
         let by = match row.word("by") {
             Some("next_at_end") if left > 0 => "next",
             by => by.unwrap_or("next"),
         };
-        if let Some(error) = take(by, &mut decoder, row, &mut text, said)? {
-            return Some(Read {
-                text,
-                end: Some(error),
-            });
+        let end = take(by, &mut decoder, row, &mut text, said)?;
+        if end.is_some() {
+            return Some(Read { text, end });
         }
     }
     let end = decoder.next_at_end().err();
     Some(Read { text, end })
-}
-
-fn feed(decoder: &mut FrameDecoder, chunk: &[u8], said: &mut Said) -> Option<()> {
-    let alloc = said.alloc;
-    let chunk = said.made(Bytes::copy_from_slice(alloc, chunk))?;
-    match decoder.feed(chunk) {
-        Ok(()) => Some(()),
-        Err(unfed) => {
-            said.expect(unfed.cause == UnfedCause::OutOfMemory, "a chunk is refused");
-            wanting(said)
-        }
-    }
 }
 
 // Takes what is whole, and answers the error behind it; none where memory is wanting. Of a frame
@@ -164,11 +147,14 @@ fn call(
     let options = row.options().unwrap_or(DecodeOptions::new());
     let said = match by {
         "next_message" => match decoder.next_message::<Counter>(alloc, &options)? {
-            Some(counter) => say_counter(&counter, text),
+            Some(counter) => write!(text, "{}; ", counter.value),
             None => return Ok(false),
         },
         "message" => match decoder.next()? {
-            Some(frame) => say_counter(&frame.message(alloc, &options)?, text),
+            Some(frame) => {
+                let counter = frame.message::<Counter>(alloc, &options)?;
+                write!(text, "{}; ", counter.value)
+            }
             None => return Ok(false),
         },
         "next_text" => match decoder.next_text()? {
@@ -190,43 +176,16 @@ fn call(
     }
 }
 
-// ---- words
-
-// Two digits for each byte, and `-` for no bytes.
-#[derive(Clone, Copy)]
-struct Text<'a>(&'a [u8]);
-
-impl Debug for Text<'_> {
-    fn fmt<W: Write>(&self, f: &mut fmt::Formatter<W>) -> fmt::Result {
-        if self.0.is_empty() {
-            f.write_str("-")?;
-        }
-        for byte in self.0 {
-            write!(f, "{byte:02x}")?;
-        }
-        Ok(())
-    }
-}
-
 // The flag, where it is set, and the payload.
 fn say_frame(frame: &Frame, text: &mut String) -> Result<(), AllocError> {
     let flag = if frame.compressed { "compressed " } else { "" };
-    write!(text, "{flag}{:?}; ", Text(frame.payload.as_slice()))
+    write!(text, "{flag}{:?}; ", Digits(frame.payload.as_slice()))
 }
 
 // How many bytes the prefix has, the text, and the payload of it.
 fn say_text(whole: &FrameText, text: &mut String) -> Result<(), AllocError> {
-    let bytes = Text(whole.text.as_slice());
-    write!(
-        text,
-        "{} of {bytes:?}, {:?}; ",
-        whole.prefix,
-        Text(whole.payload())
-    )
-}
-
-fn say_counter(counter: &Counter, text: &mut String) -> Result<(), AllocError> {
-    write!(text, "{}; ", counter.value)
+    let (bytes, payload) = (Digits(whole.text.as_slice()), Digits(whole.payload()));
+    write!(text, "{} of {bytes:?}, {payload:?}; ", whole.prefix)
 }
 
 // ---- one frame
@@ -234,7 +193,9 @@ fn say_counter(counter: &Counter, text: &mut String) -> Result<(), AllocError> {
 fn put(row: &Row<'_>, said: &mut Said) {
     match row.word("into") {
         Some("Narrow") => {
-            let mut sink = Narrow::new(said.alloc);
+            let mut sink = Narrow {
+                bytes: Vec::new(said.alloc),
+            };
             let answer = put_into(row, &mut sink);
             say_put(answer, &sink.bytes, said)
         }
@@ -256,8 +217,8 @@ fn put_into<S: EncodeSink>(row: &Row<'_>, sink: &mut S) -> Result<(), EncodeErro
 // What the sink holds, behind the refusal where there is one.
 fn say_put(answer: Result<(), EncodeError>, bytes: &[u8], said: &mut Said) {
     if answer.is_err() {
-        said.encoded(answer);
+        said.answered(answer);
         said.word(", ");
     }
-    said.show(&Text(bytes));
+    said.show(&Digits(bytes));
 }

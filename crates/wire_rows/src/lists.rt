@@ -26,64 +26,61 @@ pub fn tell(row: &Row<'_>, said: &mut Said) -> bool {
 }
 
 fn tell_packed(kind: &str, row: &Row<'_>, said: &mut Said) -> bool {
+    // For how many elements a reservation is asked.
+    let room = row.number("reserve").unwrap_or(count_varints(row.bytes));
     match kind {
-        "int32" | "sint32" | "sfixed32" => tell_i32(kind, row, said),
-        "int64" | "sint64" | "sfixed64" => tell_i64(kind, row, said),
-        "uint32" | "fixed32" => tell_u32(kind, row, said),
-        "uint64" | "fixed64" => tell_u64(kind, row, said),
-        "bool" => tell_bool(row, said),
+        "int32" | "sint32" | "sfixed32" => tell_i32(kind, row, room, said),
+        "int64" | "sint64" | "sfixed64" => tell_i64(kind, row, room, said),
+        "uint32" | "fixed32" => tell_u32(kind, row, room, said),
+        "uint64" | "fixed64" => tell_u64(kind, row, room, said),
+        "bool" => tell_bool(row, room, said),
         _ => return false,
     }
     true
 }
 
-fn tell_i32(kind: &str, row: &Row<'_>, said: &mut Said) {
+fn tell_i32(kind: &str, row: &Row<'_>, room: usize, said: &mut Said) {
     let mut list = one(said, 4);
     let answer = match kind {
-        "int32" => extend_packed_int32(said.alloc, row.bytes, &mut list, room_of(row)),
-        "sint32" => extend_packed_sint32(said.alloc, row.bytes, &mut list, room_of(row)),
+        "int32" => extend_packed_int32(said.alloc, row.bytes, &mut list, room),
+        "sint32" => extend_packed_sint32(said.alloc, row.bytes, &mut list, room),
         _ => extend_packed_sfixed32(said.alloc, row.bytes, &mut list),
     };
     say_list(row, said, answer, &list)
 }
 
-fn tell_i64(kind: &str, row: &Row<'_>, said: &mut Said) {
+fn tell_i64(kind: &str, row: &Row<'_>, room: usize, said: &mut Said) {
     let mut list = one(said, 4);
     let answer = match kind {
-        "int64" => extend_packed_int64(said.alloc, row.bytes, &mut list, room_of(row)),
-        "sint64" => extend_packed_sint64(said.alloc, row.bytes, &mut list, room_of(row)),
+        "int64" => extend_packed_int64(said.alloc, row.bytes, &mut list, room),
+        "sint64" => extend_packed_sint64(said.alloc, row.bytes, &mut list, room),
         _ => extend_packed_sfixed64(said.alloc, row.bytes, &mut list),
     };
     say_list(row, said, answer, &list)
 }
 
-fn tell_u32(kind: &str, row: &Row<'_>, said: &mut Said) {
+fn tell_u32(kind: &str, row: &Row<'_>, room: usize, said: &mut Said) {
     let mut list = one(said, 4);
     let answer = match kind {
-        "uint32" => extend_packed_uint32(said.alloc, row.bytes, &mut list, room_of(row)),
+        "uint32" => extend_packed_uint32(said.alloc, row.bytes, &mut list, room),
         _ => extend_packed_fixed32(said.alloc, row.bytes, &mut list),
     };
     say_list(row, said, answer, &list)
 }
 
-fn tell_u64(kind: &str, row: &Row<'_>, said: &mut Said) {
+fn tell_u64(kind: &str, row: &Row<'_>, room: usize, said: &mut Said) {
     let mut list = one(said, 4);
     let answer = match kind {
-        "uint64" => extend_packed_uint64(said.alloc, row.bytes, &mut list, room_of(row)),
+        "uint64" => extend_packed_uint64(said.alloc, row.bytes, &mut list, room),
         _ => extend_packed_fixed64(said.alloc, row.bytes, &mut list),
     };
     say_list(row, said, answer, &list)
 }
 
-fn tell_bool(row: &Row<'_>, said: &mut Said) {
+fn tell_bool(row: &Row<'_>, room: usize, said: &mut Said) {
     let mut list = one(said, true);
-    let answer = extend_packed_bool(said.alloc, row.bytes, &mut list, room_of(row));
+    let answer = extend_packed_bool(said.alloc, row.bytes, &mut list, room);
     say_list(row, said, answer, &list)
-}
-
-// For how many elements a reservation is asked.
-fn room_of(row: &Row<'_>) -> usize {
-    row.number("reserve").unwrap_or(count_varints(row.bytes))
 }
 
 // A list of one element.
@@ -175,7 +172,9 @@ fn say_plugged<L: ProtoList<u32>>(said: &mut Said) {
     let answer = list.reserve(100);
     said.expect(are_up_to(&list, 10), "a reservation");
     said.made(answer);
-    say_copy(&list, said);
+    if let Some(copy) = said.made(list.clone()) {
+        said.show(&copy.as_slice());
+    }
     list.clear();
     said.expect(list == L::empty(said.alloc), "not cleared");
 }
@@ -183,10 +182,4 @@ fn say_plugged<L: ProtoList<u32>>(said: &mut Said) {
 // Whether the elements are those from 1 up to this one.
 fn are_up_to<L: ProtoList<u32>>(list: &L, end: u32) -> bool {
     list.as_slice().iter().copied().eq(1..end)
-}
-
-fn say_copy<L: ProtoList<u32>>(list: &L, said: &mut Said) {
-    if let Some(copy) = said.made(list.clone()) {
-        said.show(&copy.as_slice());
-    }
 }

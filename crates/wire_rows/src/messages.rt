@@ -55,74 +55,38 @@ pub fn tell(row: &Row<'_>, said: &mut Said) -> bool {
 // ---- from a buffer
 
 fn read_as<M: Sample, B: Buf>(row: &Row<'_>, call: &str, buf: &mut B, said: &mut Said) -> bool {
-    match call {
-        "decode" => {
-            let answer = decode::<M, B>(row, buf, said);
-            say_decoded(answer, row, buf, said)
+    let alloc = said.alloc;
+    let answer = match (call, row.options()) {
+        ("decode", Some(options)) => options.decode::<M, B>(alloc, buf),
+        ("decode", None) => M::decode(alloc, buf),
+        ("decode_length_delimited", Some(options)) => {
+            options.decode_length_delimited::<M, B>(alloc, buf)
         }
-        "decode_length_delimited" => {
-            let answer = decode_length_delimited::<M, B>(row, buf, said);
-            say_decoded(answer, row, buf, said)
-        }
+        ("decode_length_delimited", None) => M::decode_length_delimited(alloc, buf),
         _ => return merge_as::<M, B>(row, call, buf, said),
-    }
-    true
-}
-
-fn decode<M: Message, B: Buf>(row: &Row<'_>, buf: &mut B, said: &Said) -> Result<M, DecodeError> {
-    match row.options() {
-        Some(options) => options.decode::<M, B>(said.alloc, buf),
-        None => M::decode(said.alloc, buf),
-    }
-}
-
-fn decode_length_delimited<M: Message, B: Buf>(
-    row: &Row<'_>,
-    buf: &mut B,
-    said: &Said,
-) -> Result<M, DecodeError> {
-    match row.options() {
-        Some(options) => options.decode_length_delimited::<M, B>(said.alloc, buf),
-        None => M::decode_length_delimited(said.alloc, buf),
-    }
-}
-
-fn say_decoded<M: Sample, B: Buf>(
-    answer: Result<M, DecodeError>,
-    row: &Row<'_>,
-    buf: &B,
-    said: &mut Said,
-) {
-    if let Some(message) = said.decoded(answer) {
+    };
+    if let Some(message) = said.answered(answer) {
         say_message(&message, row.bytes, said);
         said.left(buf.remaining());
     }
+    true
 }
 
 fn say_message<M: Sample>(message: &M, given: &[u8], said: &mut Said) {
     message.say(said);
     said.word("; ");
-    if let Some(text) = said.encoded(message.try_encode_to_vec(said.alloc)) {
+    if let Some(text) = said.answered(message.try_encode_to_vec(said.alloc)) {
         said.written(&text, given);
     }
 }
 
-// A message is merged into the one that the row names, under a context or under options.
+// A message is merged into the one that the row names, under a context or under options. What a
+// refused call leaves is told where a contract says it.
 fn merge_as<M: Sample, B: Buf>(row: &Row<'_>, call: &str, buf: &mut B, said: &mut Said) -> bool {
     let onto = row.onto(said);
-    match said.decoded(M::decode_from_slice(said.alloc, &onto)) {
-        Some(message) => merge_onto(message, row, call, buf, said),
-        None => true,
-    }
-}
-
-fn merge_onto<M: Sample, B: Buf>(
-    mut message: M,
-    row: &Row<'_>,
-    call: &str,
-    buf: &mut B,
-    said: &mut Said,
-) -> bool {
+    let Some(mut message) = said.answered(M::decode_from_slice(said.alloc, &onto)) else {
+        return true;
+    };
     let mut context = row.context();
     let depth = context.depth();
     match merge(&mut message, row, call, buf, &mut context, said) {
@@ -135,20 +99,15 @@ fn merge_onto<M: Sample, B: Buf>(
         Some(Err(error)) => {
             is_a_value(&message, said);
             said.refuse(error);
-            say_left(&message, call, buf, said);
+            if call == "merge_within" {
+                said.word(", ");
+                message.say(said);
+                said.left(buf.remaining());
+            }
         }
         None => return false,
     }
     true
-}
-
-// What a refused call leaves, where a contract says it.
-fn say_left<M: Sample, B: Buf>(message: &M, call: &str, buf: &B, said: &mut Said) {
-    if call == "merge_within" {
-        said.word(", ");
-        message.say(said);
-        said.left(buf.remaining());
-    }
 }
 
 // What a merging call answers; nothing where none has this name.
@@ -163,7 +122,10 @@ fn merge<M: Sample, B: Buf>(
     let alloc = said.alloc;
     Some(match call {
         "merge" => message.merge(alloc, buf, context),
-        "merge_field" => merge_record(message, buf, context, said),
+        "merge_field" => match Tag::decode(buf) {
+            Ok(tag) => message.merge_field(alloc, tag, buf, context),
+            Err(error) => Err(error),
+        },
         "merge_to_limit" => {
             let limit = row.number("limit").unwrap_or(0);
             message.merge_to_limit(alloc, buf, context, limit)
@@ -181,20 +143,10 @@ fn merge<M: Sample, B: Buf>(
     })
 }
 
-fn merge_record<M: Message, B: Buf>(
-    message: &mut M,
-    buf: &mut B,
-    context: &mut DecodeContext,
-    said: &Said,
-) -> Result<(), DecodeError> {
-    let tag = Tag::decode(buf)?;
-    message.merge_field(said.alloc, tag, buf, context)
-}
-
 // A refused merge leaves a value that can be written and read again.
 fn is_a_value<M: Message>(message: &M, said: &mut Said) {
-    if let Some(text) = said.encoded(message.try_encode_to_vec(said.alloc)) {
-        let again = said.decoded(M::decode_from_slice(said.alloc, &text));
+    if let Some(text) = said.answered(message.try_encode_to_vec(said.alloc)) {
+        let again = said.answered(M::decode_from_slice(said.alloc, &text));
         said.expect(again.as_ref() == Some(message), "no value is left");
     }
 }
@@ -216,34 +168,27 @@ fn decode_slice<M: Sample>(row: &Row<'_>, said: &mut Said) {
         Some(options) => options.decode_from_slice::<M>(said.alloc, row.bytes),
         None => M::decode_from_slice(said.alloc, row.bytes),
     };
-    if let Some(message) = said.decoded(answer) {
+    if let Some(message) = said.answered(answer) {
         say_message(&message, row.bytes, said)
     }
 }
 
 // Each span is merged by a call of its own, and the first refusal ends the row.
 fn merge_slices<M: Sample>(row: &Row<'_>, said: &mut Said) {
-    let onto = row.onto(said);
-    if let Some(mut message) = given::<M>(row, &onto, said) {
-        for index in 0..row.span_count() {
-            if let Err(error) = merge_slice(&mut message, row, row.span(index), said) {
-                return say_refused(&message, error, said);
-            }
+    let (alloc, onto) = (said.alloc, row.onto(said));
+    let Some(mut message) = given::<M>(row, &onto, said) else {
+        return;
+    };
+    for index in 0..row.span_count() {
+        let answer = match row.options() {
+            Some(options) => options.merge_from_slice(alloc, &mut message, row.span(index)),
+            None => message.merge_from_slice(alloc, row.span(index)),
+        };
+        if let Err(error) = answer {
+            return say_refused(&message, error, said);
         }
-        say_message(&message, row.bytes, said);
     }
-}
-
-fn merge_slice<M: Message>(
-    message: &mut M,
-    row: &Row<'_>,
-    span: &[u8],
-    said: &Said,
-) -> Result<(), DecodeError> {
-    match row.options() {
-        Some(options) => options.merge_from_slice(said.alloc, message, span),
-        None => message.merge_from_slice(said.alloc, span),
-    }
+    say_message(&message, row.bytes, said);
 }
 
 fn say_refused<M: Sample>(message: &M, error: DecodeError, said: &mut Said) {
@@ -257,18 +202,15 @@ fn say_refused<M: Sample>(message: &M, error: DecodeError, said: &mut Said) {
 
 // A cleared message is a default one, and another than it was.
 fn clear<M: Sample>(row: &Row<'_>, said: &mut Said) {
-    if let Some(message) = given::<M>(row, row.bytes, said) {
-        if let Some(copy) = said.made(message.clone()) {
-            say_cleared(message, &copy, said);
-        }
+    let Some(mut message) = given::<M>(row, row.bytes, said) else {
+        return;
+    };
+    if let Some(copy) = said.made(message.clone()) {
+        message.clear();
+        said.expect(message == M::default_value(said.alloc), "not cleared");
+        said.expect(message != copy, "nothing to clear");
+        copy.say(said);
+        said.word("; then ");
+        message.say(said);
     }
-}
-
-fn say_cleared<M: Sample>(mut message: M, copy: &M, said: &mut Said) {
-    message.clear();
-    said.expect(message == M::default_value(said.alloc), "not cleared");
-    said.expect(message != *copy, "nothing to clear");
-    copy.say(said);
-    said.word("; then ");
-    message.say(said);
 }

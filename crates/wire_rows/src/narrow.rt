@@ -1,7 +1,6 @@
 //! A sink that counts five bytes at most.
 ghost use Rattle.std.specs.Prelude.{Some};
 
-use std::alloc::Global;
 use wire_codec::{EncodeError, EncodeSink};
 
 const MOST: usize = 5;
@@ -10,14 +9,6 @@ const MOST: usize = 5;
 #[derive(Drop)]
 pub struct Narrow {
     pub bytes: Vec<u8>,
-}
-
-impl Narrow {
-    pub fn new(alloc: Global) -> Narrow {
-        Narrow {
-            bytes: Vec::new(alloc),
-        }
-    }
 }
 
 impl EncodeSink for Narrow {

@@ -7,9 +7,18 @@ use wire_codec::{EncodeError, EncodeSink, Rope, RopeBuf};
 
 /// Puts the words of a row in turn, and says the segments; then the reader behind so many bytes.
 pub fn tell(row: &Row<'_>, said: &mut Said) -> bool {
-    match row.call {
-        "Rope" => say_rope(row, rope_of(row, said), said),
-        _ => return false,
+    if row.call != "Rope" {
+        return false;
+    }
+    let rope = rope_of(row, said);
+    let count = rope.segment_count();
+    if let Some(bytes) = said.made(rope.to_contiguous_bytes()) {
+        said.expect(rope.len() == bytes.len(), "another length");
+        said.expect(rope.is_empty() == bytes.is_empty(), "empty");
+        match row.number("advance") {
+            Some(advance) => say_reader(rope, &bytes, count, advance, said),
+            None => say_segments(rope, &bytes, count, said),
+        }
     }
     true
 }
@@ -18,32 +27,14 @@ fn rope_of(row: &Row<'_>, said: &mut Said) -> Rope {
     let mut rope = Rope::with_min_segment(said.alloc, row.number("min").unwrap_or(4096));
     for word in row.words.split(' ') {
         let step = Step::parse(word);
-        let text = text_of(step, said);
+        let mut text = Vec::new(said.alloc);
+        for _ in 0..step.times {
+            said.made(text.extend_from_slice(step.text.as_bytes()));
+        }
         let answer = put(said.alloc, step, &text, &mut rope);
-        said.encoded(answer);
+        said.answered(answer);
     }
     rope
-}
-
-fn text_of(step: Step<'_>, said: &mut Said) -> Vec<u8> {
-    let mut text = Vec::new(said.alloc);
-    for _ in 0..step.times {
-        said.made(text.extend_from_slice(step.text.as_bytes()));
-    }
-    text
-}
-
-fn say_rope(row: &Row<'_>, rope: Rope, said: &mut Said) {
-    let count = rope.segment_count();
-    let Some(bytes) = said.made(rope.to_contiguous_bytes()) else {
-        return;
-    };
-    said.expect(rope.len() == bytes.len(), "another length");
-    said.expect(rope.is_empty() == bytes.is_empty(), "empty");
-    match row.number("advance") {
-        Some(advance) => say_reader(rope, &bytes, count, advance, said),
-        None => say_segments(rope, &bytes, count, said),
-    }
 }
 
 fn put(alloc: Global, step: Step<'_>, text: &[u8], rope: &mut Rope) -> Result<(), EncodeError> {
@@ -63,7 +54,7 @@ fn handed_back(rope: &Rope, bytes: &Bytes, count: usize, said: &mut Said) {
         said.expect(back == *bytes, "other bytes are handed back");
         said.expect(rope.segment_count() == count, "another rope is handed back");
     }
-    said.refuse_to_write(EncodeError::OutOfMemory);
+    said.refuse(EncodeError::OutOfMemory);
 }
 
 fn say_segments(rope: Rope, bytes: &Bytes, count: usize, said: &mut Said) {
@@ -75,16 +66,12 @@ fn say_segments(rope: Rope, bytes: &Bytes, count: usize, said: &mut Said) {
     said.show(&count);
     said.word(":");
     for segment in &segments {
-        say_segment(segment.as_slice(), said);
-    }
-}
-
-fn say_segment(segment: &[u8], said: &mut Said) {
-    if segment.len() > 20 {
-        said.also(" ", &segment.len());
-        said.word(" bytes");
-    } else if let Ok(text) = std::str::from_utf8(segment) {
-        said.also(" ", &text);
+        if segment.len() > 20 {
+            said.also(" ", &segment.len());
+            said.word(" bytes");
+        } else if let Ok(text) = std::str::from_utf8(segment.as_slice()) {
+            said.also(" ", &text);
+        }
     }
 }
 

@@ -138,8 +138,17 @@ impl Bytes {
         let (given, rest) = line.split_once('|')?;
         let (bytes, answer) = rest.split_once('|')?;
         let (call, words) = given.split_once(' ')?;
-        self.read(bytes, said)?;
-        self.put_into_levels(words, said)?;
+        self.bytes.clear();
+        self.ends.clear();
+        self.start = 0;
+        for word in bytes.split(' ') {
+            self.take(word, said)?;
+        }
+        for word in words.split(' ') {
+            if let Some(levels) = word.strip_prefix("levels=") {
+                self.wrap(levels.parse().ok()?, said)?;
+            }
+        }
         said.made(self.ends.push(self.bytes.len()))?;
         Some(Row {
             call,
@@ -148,25 +157,6 @@ impl Bytes {
             ends: &self.ends,
             answer: answer.trim(),
         })
-    }
-
-    fn read(&mut self, bytes: &str, said: &mut Said) -> Option<()> {
-        self.bytes.clear();
-        self.ends.clear();
-        self.start = 0;
-        for word in bytes.split(' ') {
-            self.take(word, said)?;
-        }
-        Some(())
-    }
-
-    fn put_into_levels(&mut self, words: &str, said: &mut Said) -> Option<()> {
-        for word in words.split(' ') {
-            if let Some(levels) = word.strip_prefix("levels=") {
-                self.wrap(levels.parse().ok()?, said)?;
-            }
-        }
-        Some(())
     }
 
     fn take(&mut self, word: &str, said: &mut Said) -> Option<()> {
@@ -196,7 +186,7 @@ impl Bytes {
         self.bytes.reverse();
         for _ in 0..levels {
             let mut head = said.copied(b"\x12");
-            said.encoded(encode_varint(self.bytes.len() as u64, &mut head))?;
+            said.answered(encode_varint(self.bytes.len() as u64, &mut head))?;
             head.reverse();
             said.made(self.bytes.extend_from_slice(&head))?;
         }

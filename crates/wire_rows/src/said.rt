@@ -1,9 +1,10 @@
 //! What a row says of its call, in the words of the table.
 use crate::row::Row;
 use bytes::Buf;
-use std::alloc::Global;
+use std::alloc::{AllocError, Global};
 use std::fmt;
 use std::fmt::{Debug, Write};
+use std::hash::{DefaultHasher, Hash, Hasher};
 use wire_codec::{DecodeContext, DecodeError, EncodeError};
 
 /// What a row finds: the wanted answer, want of memory, or anything else.
@@ -13,6 +14,13 @@ pub enum Found {
     OutOfMemory,
     Other,
 }
+
+/// Why a call refuses, which can be for want of memory.
+pub trait Refusal: Debug + PartialEq + From<AllocError> + Drop {}
+
+impl Refusal for DecodeError {}
+
+impl Refusal for EncodeError {}
 
 /// What a row says. Once memory was wanting it says nothing more, and nothing more is expected.
 #[derive(Drop)]
@@ -107,26 +115,17 @@ impl Said {
         }
     }
 
-    /// The refusal of a call that reads.
-    pub fn refuse(&mut self, error: DecodeError) {
-        if error == DecodeError::OutOfMemory {
+    /// The refusal of a call.
+    pub fn refuse<E: Refusal>(&mut self, error: E) {
+        if error == E::from(AllocError) {
             self.wants_memory = true;
         } else {
             self.show(&error);
         }
     }
 
-    /// The refusal of a call that writes.
-    pub fn refuse_to_write(&mut self, error: EncodeError) {
-        if error == EncodeError::OutOfMemory {
-            self.wants_memory = true;
-        } else {
-            self.show(&error);
-        }
-    }
-
-    /// What was decoded, or the refusal.
-    pub fn decoded<T: Drop>(&mut self, answer: Result<T, DecodeError>) -> Option<T> {
+    /// What a call answers; where it refuses, that is said.
+    pub fn answered<T: Drop, E: Refusal>(&mut self, answer: Result<T, E>) -> Option<T> {
         match answer {
             Ok(value) => Some(value),
             Err(error) => {
@@ -136,14 +135,10 @@ impl Said {
         }
     }
 
-    /// What a writing call answers, or the refusal.
-    pub fn encoded<T: Drop>(&mut self, answer: Result<T, EncodeError>) -> Option<T> {
-        match answer {
-            Ok(value) => Some(value),
-            Err(error) => {
-                self.refuse_to_write(error);
-                None
-            }
+    /// Shows what a call answers, or the refusal.
+    pub fn show_answer<T: Debug + Drop, E: Refusal>(&mut self, answer: Result<T, E>) {
+        if let Some(value) = self.answered(answer) {
+            self.show(&value);
         }
     }
 
@@ -152,20 +147,6 @@ impl Said {
         if left > 0 {
             self.also(", ", &left);
             self.word(" left");
-        }
-    }
-
-    /// What was decoded, where it was, or the refusal.
-    pub fn decoded_as<T: Debug + Drop>(&mut self, answer: Result<T, DecodeError>) {
-        if let Some(value) = self.decoded(answer) {
-            self.show(&value);
-        }
-    }
-
-    /// What a writing call answers, or the refusal.
-    pub fn encoded_as<T: Debug + Drop>(&mut self, answer: Result<T, EncodeError>) {
-        if let Some(value) = self.encoded(answer) {
-            self.show(&value);
         }
     }
 
@@ -178,7 +159,7 @@ impl Said {
 
     /// What a call read and how many bytes it left, or why it refused.
     pub fn read<T: Debug + Drop, B: Buf>(&mut self, answer: Result<T, DecodeError>, buf: &B) {
-        if let Some(value) = self.decoded(answer) {
+        if let Some(value) = self.answered(answer) {
             self.show(&value);
             self.left(buf.remaining());
         }
@@ -197,20 +178,20 @@ impl Said {
 
     /// What is left of the limits that a row names.
     pub fn limits(&mut self, row: &Row<'_>, context: &DecodeContext) {
-        let slots = row
-            .word("slots")
-            .is_some()
-            .then_some(context.remaining_unknown_fields());
-        self.limit(slots, " slots");
-        self.limit(context.remaining_unknown_bytes(), " for payloads");
-        self.limit(context.remaining_element_memory(), " for elements");
-    }
-
-    /// What is left of a limit, where there is one.
-    pub fn limit(&mut self, left: Option<usize>, of: &str) {
-        if let Some(left) = left {
-            self.also(", ", &left);
-            self.word(of);
+        let is_named = row.word("slots").is_some();
+        let limits = [
+            (
+                is_named.then_some(context.remaining_unknown_fields()),
+                " slots",
+            ),
+            (context.remaining_unknown_bytes(), " for payloads"),
+            (context.remaining_element_memory(), " for elements"),
+        ];
+        for (left, of) in limits {
+            if let Some(left) = left {
+                self.also(", ", &left);
+                self.word(of);
+            }
         }
     }
 }
@@ -227,4 +208,27 @@ impl Debug for Hex<'_> {
         }
         Ok(())
     }
+}
+
+/// Bytes, two digits each with nothing between them, and `-` for no bytes.
+#[derive(Clone, Copy)]
+pub struct Digits<'a>(pub &'a [u8]);
+
+impl Debug for Digits<'_> {
+    fn fmt<W: Write>(&self, f: &mut fmt::Formatter<W>) -> fmt::Result {
+        if self.0.is_empty() {
+            f.write_str("-")?;
+        }
+        for byte in self.0 {
+            write!(f, "{byte:02x}")?;
+        }
+        Ok(())
+    }
+}
+
+/// The hash of a value.
+pub fn hash_of<T: Hash>(value: &T) -> u64 {
+    let mut state = DefaultHasher::new();
+    value.hash(&mut state);
+    state.finish()
 }

@@ -9,16 +9,10 @@ use wire_codec::{EncodeError, EncodeSink, Tag, WireType, check_wire_type, *};
 // ---- reading
 
 pub fn read<B: Buf>(row: &Row<'_>, buf: &mut B, said: &mut Said) -> bool {
-    read_value(row.call, buf, said)
-        || read_fixed(row.call, buf, said)
-        || read_element(row.call, buf, said)
-}
-
-fn read_value<B: Buf>(call: &str, buf: &mut B, said: &mut Said) -> bool {
-    match call {
+    match row.call {
         "decode_varint" => said.read(decode_varint(buf), buf),
         "Tag::decode" => {
-            if let Some(tag) = said.decoded(Tag::decode(buf)) {
+            if let Some(tag) = said.answered(Tag::decode(buf)) {
                 said.read(Ok((tag.field_number(), tag.wire_type())), buf)
             }
         }
@@ -29,7 +23,14 @@ fn read_value<B: Buf>(call: &str, buf: &mut B, said: &mut Said) -> bool {
         "decode_sint32" => said.read(decode_sint32(buf), buf),
         "decode_sint64" => said.read(decode_sint64(buf), buf),
         "decode_bool" => said.read(decode_bool(buf), buf),
-        _ => return false,
+        "decode_int32_packed" => said.read(decode_int32_packed(buf), buf),
+        "decode_int64_packed" => said.read(decode_int64_packed(buf), buf),
+        "decode_uint32_packed" => said.read(decode_uint32_packed(buf), buf),
+        "decode_uint64_packed" => said.read(decode_uint64_packed(buf), buf),
+        "decode_sint32_packed" => said.read(decode_sint32_packed(buf), buf),
+        "decode_sint64_packed" => said.read(decode_sint64_packed(buf), buf),
+        "decode_bool_packed" => said.read(decode_bool_packed(buf), buf),
+        _ => return read_fixed(row.call, buf, said),
     }
     true
 }
@@ -46,20 +47,6 @@ fn read_fixed<B: Buf>(call: &str, buf: &mut B, said: &mut Said) -> bool {
     }
     if buf.remaining() == before {
         said.word(", not moved");
-    }
-    true
-}
-
-fn read_element<B: Buf>(call: &str, buf: &mut B, said: &mut Said) -> bool {
-    match call {
-        "decode_int32_packed" => said.read(decode_int32_packed(buf), buf),
-        "decode_int64_packed" => said.read(decode_int64_packed(buf), buf),
-        "decode_uint32_packed" => said.read(decode_uint32_packed(buf), buf),
-        "decode_uint64_packed" => said.read(decode_uint64_packed(buf), buf),
-        "decode_sint32_packed" => said.read(decode_sint32_packed(buf), buf),
-        "decode_sint64_packed" => said.read(decode_sint64_packed(buf), buf),
-        "decode_bool_packed" => said.read(decode_bool_packed(buf), buf),
-        _ => return false,
     }
     true
 }
@@ -124,23 +111,15 @@ fn put_field<S: EncodeSink>(row: &Row<'_>, sink: &mut S) -> Option<Result<(), En
 // ---- numbers alone
 
 pub fn tell(row: &Row<'_>, said: &mut Said) -> bool {
-    let number = match row.call {
-        "varint_len" => varint_len(row.value()),
-        "int32_encoded_len" => int32_encoded_len(row.value()),
-        "int64_encoded_len" => int64_encoded_len(row.value()),
-        "uint32_encoded_len" => uint32_encoded_len(row.value()),
-        "uint64_encoded_len" => uint64_encoded_len(row.value()),
-        "sint32_encoded_len" => sint32_encoded_len(row.value()),
-        "sint64_encoded_len" => sint64_encoded_len(row.value()),
-        "count_varints" => count_varints(row.bytes),
-        _ => return tell_types(row, said),
-    };
-    said.show(&number);
-    true
-}
-
-fn tell_types(row: &Row<'_>, said: &mut Said) -> bool {
     match row.call {
+        "varint_len" => said.show(&varint_len(row.value())),
+        "int32_encoded_len" => said.show(&int32_encoded_len(row.value())),
+        "int64_encoded_len" => said.show(&int64_encoded_len(row.value())),
+        "uint32_encoded_len" => said.show(&uint32_encoded_len(row.value())),
+        "uint64_encoded_len" => said.show(&uint64_encoded_len(row.value())),
+        "sint32_encoded_len" => said.show(&sint32_encoded_len(row.value())),
+        "sint64_encoded_len" => said.show(&sint64_encoded_len(row.value())),
+        "count_varints" => said.show(&count_varints(row.bytes)),
         "WireType::from_u32" => said.show(&WireType::from_u32(row.value())),
         "check_wire_type" => {
             let tag = Tag::new(field_number(row), wire_type(row, "type"));

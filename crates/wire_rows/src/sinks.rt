@@ -11,7 +11,7 @@ pub fn tell(row: &Row<'_>, said: &mut Said) -> bool {
             let of_others = (Vec::<u8>::IS_SEGMENTED, BytesMut::IS_SEGMENTED);
             said.show(&(Rope::IS_SEGMENTED, of_others.0, of_others.1));
         }
-        "puts" => puts_into_each(row, said),
+        "puts" => puts_into(row, said),
         _ => return written(row, said),
     }
     true
@@ -25,25 +25,17 @@ fn written(row: &Row<'_>, said: &mut Said) -> bool {
     let Some(answer) = put(row, &mut whole) else {
         return false;
     };
-    said.encoded(answer);
-    into_vector(row, &whole, said);
-    into_buffer(row, &whole, said);
+    said.answered(answer);
+    let mut vector = Vec::new(said.alloc);
+    let answer = put_behind(row, &mut vector);
+    is_front(answer, &vector, &whole, said);
+    let mut buffer = BytesMut::new(said.alloc);
+    let answer = put_behind(row, &mut buffer);
+    is_front(answer, buffer.as_slice(), &whole, said);
     into_rope(row, Rope::with_min_segment(said.alloc, 1), &whole, said);
     into_rope(row, Rope::new(said.alloc), &whole, said);
     said.written(whole.get(1..).unwrap_or(&[]), row.bytes);
     true
-}
-
-fn into_vector(row: &Row<'_>, whole: &[u8], said: &mut Said) {
-    let mut vector = Vec::new(said.alloc);
-    let answer = put_behind(row, &mut vector);
-    is_front(answer, &vector, whole, said);
-}
-
-fn into_buffer(row: &Row<'_>, whole: &[u8], said: &mut Said) {
-    let mut buffer = BytesMut::new(said.alloc);
-    let answer = put_behind(row, &mut buffer);
-    is_front(answer, buffer.as_slice(), whole, said);
 }
 
 fn into_rope(row: &Row<'_>, mut rope: Rope, whole: &[u8], said: &mut Said) {
@@ -69,49 +61,43 @@ fn put_behind<S: EncodeSink>(row: &Row<'_>, sink: &mut S) -> Result<(), EncodeEr
 // A write that is refused leaves a front of what is written when it is not.
 fn is_front(answer: Result<(), EncodeError>, written: &[u8], whole: &[u8], said: &mut Said) {
     said.expect(whole.starts_with(written), "no front");
-    if said.encoded(answer).is_some() {
+    if said.answered(answer).is_some() {
         said.expect(written == whole, "another sink");
     }
 }
 
 // ---- single puts
 
-// The puts of a row behind a byte, again and again.
-fn puts_into_each(row: &Row<'_>, said: &mut Said) {
+// The puts of a row, again and again, into the sink that it names.
+fn puts_into(row: &Row<'_>, said: &mut Said) {
     let mut text = said.copied(&[0; 1024]);
     text.clear();
     match row.word("into") {
-        Some("Vec") => puts_into_vector(row, &mut text, said),
-        Some("BytesMut") => puts_into_buffer(row, &mut text, said),
-        _ => puts_into_rope(row, &mut text, said),
-    }
-}
-
-fn puts_into_vector(row: &Row<'_>, text: &mut Vec<u8>, said: &mut Said) {
-    let mut sink = Vec::new(said.alloc);
-    let answer = puts(row, &mut sink, text);
-    is_left(answer, &sink, text, said)
-}
-
-fn puts_into_buffer(row: &Row<'_>, text: &mut Vec<u8>, said: &mut Said) {
-    let mut sink = BytesMut::new(said.alloc);
-    let answer = puts(row, &mut sink, text);
-    is_left(answer, sink.as_slice(), text, said)
-}
-
-fn puts_into_rope(row: &Row<'_>, text: &mut Vec<u8>, said: &mut Said) {
-    let least = row.number("min").unwrap_or(4096);
-    let mut sink = Rope::with_min_segment(said.alloc, least);
-    let answer = puts(row, &mut sink, text);
-    if let Some(bytes) = said.made(sink.to_contiguous_bytes()) {
-        is_left(answer, bytes.as_slice(), text, said)
+        Some("Vec") => {
+            let mut sink = Vec::new(said.alloc);
+            let answer = puts(row, &mut sink, &mut text);
+            is_left(answer, &sink, &text, said)
+        }
+        Some("BytesMut") => {
+            let mut sink = BytesMut::new(said.alloc);
+            let answer = puts(row, &mut sink, &mut text);
+            is_left(answer, sink.as_slice(), &text, said)
+        }
+        _ => {
+            let least = row.number("min").unwrap_or(4096);
+            let mut sink = Rope::with_min_segment(said.alloc, least);
+            let answer = puts(row, &mut sink, &mut text);
+            if let Some(bytes) = said.made(sink.to_contiguous_bytes()) {
+                is_left(answer, bytes.as_slice(), &text, said)
+            }
+        }
     }
 }
 
 // A put that is refused leaves the sink as it was.
 fn is_left(answer: Result<(), EncodeError>, written: &[u8], text: &[u8], said: &mut Said) {
     said.expect(written == text, "other bytes");
-    if said.encoded(answer).is_some() {
+    if said.answered(answer).is_some() {
         said.word("as put");
     }
 }
@@ -139,15 +125,5 @@ fn put_one<S: EncodeSink>(kind: &str, sink: &mut S) -> Result<&'static [u8], Enc
         "shared" => (sink.put_shared(Bytes::from_static(b"cd")), b"cd"),
         _ => return Ok(b""),
     };
-    put_as(answer, bytes)
-}
-
-fn put_as(
-    answer: Result<(), EncodeError>,
-    bytes: &'static [u8],
-) -> Result<&'static [u8], EncodeError> {
-    match answer {
-        Ok(()) => Ok(bytes),
-        Err(error) => Err(error),
-    }
+    answer.map(|()| bytes)
 }

@@ -52,28 +52,16 @@ impl Table {
 
     // Whether a line is a row, and one that is astray.
     fn is_astray(&mut self, line: &str) -> bool {
-        match line {
-            "half" => {
-                self.is_halving = true;
-                false
-            }
-            _ if is_row(line) => self.counted(line),
-            _ => false,
+        if line == "half" {
+            self.is_halving = true;
+            return false;
         }
-    }
-
-    fn counted(&mut self, line: &str) -> bool {
+        if line.is_empty() || line.starts_with("#") {
+            return false;
+        }
         self.rows = self.rows.saturating_add(1);
         self.said.clear();
-        let found = match self.bytes.row(line, &mut self.said) {
-            Some(row) => found(&row, self.is_halving, &mut self.said),
-            None => no_row(&mut self.said),
-        };
-        self.count(found)
-    }
-
-    fn count(&mut self, found: Found) -> bool {
-        match found {
+        match self.found(line) {
             Found::Own => return false,
             Found::OutOfMemory if self.status != 1 => self.status = 2,
             _ => self.status = 1,
@@ -81,15 +69,16 @@ impl Table {
         self.astray = self.astray.saturating_add(1);
         true
     }
-}
 
-fn is_row(line: &str) -> bool {
-    !line.is_empty() && !line.starts_with("#")
-}
-
-fn no_row(said: &mut Said) -> Found {
-    said.expect(false, "no row");
-    said.found("")
+    fn found(&mut self, line: &str) -> Found {
+        match self.bytes.row(line, &mut self.said) {
+            Some(row) => found(&row, self.is_halving, &mut self.said),
+            None => {
+                self.said.expect(false, "no row");
+                self.said.found("")
+            }
+        }
+    }
 }
 
 // What a row finds: its call's answer, and where it reads from a buffer also that on the bytes cut.
@@ -113,20 +102,16 @@ fn found_in_pieces(row: &Row<'_>, is_halving: bool, said: &mut Said) -> Found {
         false => (0, len),
     };
     for place in first..=last {
-        let found = found_cut(row, place, said);
+        said.clear();
+        if let Some(mut pieces) = cut(row.bytes, place, said) {
+            calls::read(row, &mut pieces, said);
+        }
+        let found = said.found(row.answer);
         if !matches!(found, Found::Own) {
             return found;
         }
     }
     Found::Own
-}
-
-fn found_cut(row: &Row<'_>, place: usize, said: &mut Said) -> Found {
-    said.clear();
-    if let Some(mut pieces) = cut(row.bytes, place, said) {
-        calls::read(row, &mut pieces, said);
-    }
-    said.found(row.answer)
 }
 
 /// A buffer whose chunks are two pieces of the bytes, or one where the other has no byte; none

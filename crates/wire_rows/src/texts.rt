@@ -6,17 +6,19 @@ use crate::said::{Hex, Said};
 use crate::scalars::field_number;
 use bytes::{Buf, Bytes};
 use wire_codec::{
-    DecodeError, EncodeError, EncodeSink, WirePayload, borrow_bytes, borrow_str, bytes_encoded_len,
-    decode_bytes, decode_bytes_to_bytes, decode_length, decode_string, encode_bytes, encode_string,
-    merge_bytes, merge_string, put_bytes_field, put_string_field, string_encoded_len,
+    DecodeError, EncodeError, EncodeSink, ProtoBytes, WirePayload, borrow_bytes, borrow_str,
+    bytes_encoded_len, decode_bytes, decode_bytes_to_bytes, decode_length, decode_string,
+    encode_bytes, encode_string, merge_bytes, merge_string, put_bytes_field, put_string_field,
+    string_encoded_len,
 };
 
 pub fn read<B: Buf>(row: &Row<'_>, buf: &mut B, said: &mut Said) -> bool {
+    let alloc = said.alloc;
     match row.call {
         "decode_length" => said.read(decode_length(buf, row.number("max")), buf),
-        "decode_string" => said.read(decode_string(said.alloc, buf), buf),
-        "decode_bytes" => decoded_bytes(buf, said),
-        "decode_bytes_to_bytes" => decoded_shared(buf, said),
+        "decode_string" => said.read(decode_string(alloc, buf), buf),
+        "decode_bytes" => say_bytes(decode_bytes(alloc, buf), buf, said),
+        "decode_bytes_to_bytes" => say_bytes(decode_bytes_to_bytes(alloc, buf), buf, said),
         "merge_string" => merged_string(buf, said),
         "merge_bytes" => merged_bytes(buf, said),
         _ => return plugged::read(row, buf, said),
@@ -24,14 +26,9 @@ pub fn read<B: Buf>(row: &Row<'_>, buf: &mut B, said: &mut Said) -> bool {
     true
 }
 
-fn decoded_bytes<B: Buf>(buf: &mut B, said: &mut Said) {
-    if let Some(bytes) = said.decoded(decode_bytes(said.alloc, buf)) {
-        said.read(Ok(Hex(&bytes)), buf)
-    }
-}
-
-fn decoded_shared<B: Buf>(buf: &mut B, said: &mut Said) {
-    if let Some(bytes) = said.decoded(decode_bytes_to_bytes(said.alloc, buf)) {
+// The bytes that a call reads, and how many it leaves.
+fn say_bytes<P: ProtoBytes, B: Buf>(answer: Result<P, DecodeError>, buf: &B, said: &mut Said) {
+    if let Some(bytes) = said.answered(answer) {
         said.read(Ok(Hex(bytes.as_slice())), buf)
     }
 }
@@ -83,29 +80,22 @@ fn text_of<'a>(row: &Row<'a>) -> &'a str {
 }
 
 pub fn tell(row: &Row<'_>, said: &mut Said) -> bool {
+    let mut rest = row.bytes;
     match row.call {
-        "borrow_str" => borrowed_str(row.bytes, said),
-        "borrow_bytes" => borrowed_bytes(row.bytes, said),
-        "bytes_encoded_len" => said.encoded_as(bytes_encoded_len(row.bytes)),
-        "string_encoded_len" => said.encoded_as(string_encoded_len(text_of(row))),
+        "borrow_str" => {
+            said.show_answer(borrow_str(&mut rest));
+            said.left(rest.len());
+        }
+        "borrow_bytes" => {
+            said.show_answer(borrow_bytes(&mut rest).map(Hex));
+            said.left(rest.len());
+        }
+        "bytes_encoded_len" => said.show_answer(bytes_encoded_len(row.bytes)),
+        "string_encoded_len" => said.show_answer(string_encoded_len(text_of(row))),
         "WirePayload" => payload(row.bytes, said),
         _ => return plugged::tell(row, said),
     }
     true
-}
-
-fn borrowed_str(bytes: &[u8], said: &mut Said) {
-    let mut rest = bytes;
-    said.decoded_as(borrow_str(&mut rest));
-    said.left(rest.len());
-}
-
-fn borrowed_bytes(bytes: &[u8], said: &mut Said) {
-    let mut rest = bytes;
-    if let Some(bytes) = said.decoded(borrow_bytes(&mut rest)) {
-        said.show(&Hex(bytes));
-    }
-    said.left(rest.len());
 }
 
 // A payload that is lent, a copy of it that is owned, and one that shares with the copy.
@@ -113,33 +103,21 @@ fn payload(bytes: &[u8], said: &mut Said) {
     let Some(copy) = said.made(Bytes::copy_from_slice(said.alloc, bytes)) else {
         return;
     };
-    let owned = WirePayload::owned(copy);
-    say_lent(bytes, said);
-    said.expect(owned.is_owned(), "not owned");
-    said.expect(
-        owned.to_str() == WirePayload::borrowed(bytes).to_str(),
-        "another text",
-    );
-    said.expect(owned.len() == bytes.len(), "another length");
-    said.expect(owned.is_empty() == bytes.is_empty(), "empty");
-    is_copied(&owned, bytes, said);
-    is_made(owned, bytes, said);
-}
-
-fn say_lent(bytes: &[u8], said: &mut Said) {
-    let lent = WirePayload::borrowed(bytes);
+    let (lent, owned) = (WirePayload::borrowed(bytes), WirePayload::owned(copy));
     said.expect(!lent.is_owned(), "owned");
     said.show(&lent.len());
     said.word(" ");
-    said.decoded_as(lent.to_str());
+    said.show_answer(lent.to_str());
+    said.expect(owned.to_str() == lent.to_str(), "another text");
     is_made(lent, bytes, said);
-}
-
-fn is_copied(owned: &WirePayload<'_>, bytes: &[u8], said: &mut Said) {
+    said.expect(owned.is_owned(), "not owned");
+    said.expect(owned.len() == bytes.len(), "another length");
+    said.expect(owned.is_empty() == bytes.is_empty(), "empty");
     if let Some(copy) = said.made(owned.clone()) {
         said.expect(copy.is_owned(), "a copy that is not owned");
         said.expect(copy.as_slice() == bytes, "another copy");
     }
+    is_made(owned, bytes, said);
 }
 
 fn is_made(payload: WirePayload<'_>, bytes: &[u8], said: &mut Said) {

@@ -1,11 +1,10 @@
 //! Payloads that are skipped, and unknown fields: decoded, written, measured and borrowed.
 use crate::row::Row;
-use crate::said::{Hex, Said};
+use crate::said::{Hex, Said, hash_of};
 use crate::scalars::field_number;
 use bytes::Buf;
-use std::hash::{DefaultHasher, Hash, Hasher};
 use wire_codec::{
-    DecodeContext, DecodeError, Tag, UnknownField, UnknownFieldData, UnknownFields, borrow_group,
+    DecodeError, Tag, UnknownField, UnknownFieldData, UnknownFields, borrow_group,
     decode_unknown_field, skip_field, skip_field_depth,
 };
 
@@ -13,52 +12,45 @@ use wire_codec::{
 
 pub fn read<B: Buf>(row: &Row<'_>, buf: &mut B, said: &mut Said) -> bool {
     match row.call {
-        "skip_field" => skip(buf, said),
-        "skip_field_depth" => skip_within(row.number("depth").unwrap_or(0), buf, said),
+        "skip_field" => {
+            if let Some(tag) = said.answered(Tag::decode(buf)) {
+                said.read(skip_field(tag, buf), buf)
+            }
+        }
+        "skip_field_depth" => {
+            if let Some(tag) = said.answered(Tag::decode(buf)) {
+                let depth = row.number("depth").unwrap_or(0);
+                said.read(skip_field_depth(tag, buf, depth), buf)
+            }
+        }
         "decode_unknown_field" => decode(row, buf, said),
         _ => return false,
     }
     true
 }
 
-fn skip<B: Buf>(buf: &mut B, said: &mut Said) {
-    if let Some(tag) = said.decoded(Tag::decode(buf)) {
-        said.read(skip_field(tag, buf), buf)
-    }
-}
-
-fn skip_within<B: Buf>(depth: u32, buf: &mut B, said: &mut Said) {
-    if let Some(tag) = said.decoded(Tag::decode(buf)) {
-        said.read(skip_field_depth(tag, buf, depth), buf)
-    }
-}
-
 fn decode<B: Buf>(row: &Row<'_>, buf: &mut B, said: &mut Said) {
-    if let Some(tag) = said.decoded(Tag::decode(buf)) {
-        decode_behind(tag, row, buf, said);
-    }
-}
-
-fn decode_behind<B: Buf>(tag: Tag, row: &Row<'_>, buf: &mut B, said: &mut Said) {
+    let Some(tag) = said.answered(Tag::decode(buf)) else {
+        return;
+    };
     let mut context = row.context();
     let depth = context.depth();
     let answer = decode_unknown_field(said.alloc, tag, buf, &mut context);
-    let Some(field) = said.decoded(answer) else {
-        return;
-    };
-    said.expect(context.depth() == depth, "another depth");
-    let mut text = Vec::new(said.alloc);
-    said.encoded(field.write_to(&mut text));
-    said.written(&text, row.bytes);
-    said.left(buf.remaining());
-    said.limits(row, &context);
+    if let Some(field) = said.answered(answer) {
+        said.expect(context.depth() == depth, "another depth");
+        let mut text = Vec::new(said.alloc);
+        said.answered(field.write_to(&mut text));
+        said.written(&text, row.bytes);
+        said.left(buf.remaining());
+        said.limits(row, &context);
+    }
 }
 
 // ---- lists of fields
 
 pub fn tell(row: &Row<'_>, said: &mut Said) -> bool {
     match row.call {
-        "UnknownFields" => decode_all(row.bytes, said),
+        "UnknownFields" => decode_all(row, said),
         "decode_from_slice_within" => decode_within(row, said),
         "UnknownFields::push" => push(said),
         "UnknownFields::retain" => retain(row, said),
@@ -69,10 +61,35 @@ pub fn tell(row: &Row<'_>, said: &mut Said) -> bool {
     true
 }
 
-fn decode_all(bytes: &[u8], said: &mut Said) {
-    let answer = UnknownFields::decode_from_slice(said.alloc, bytes);
-    if let Some(fields) = said.decoded(answer) {
-        say_fields(&fields, bytes, said)
+fn decode_all(row: &Row<'_>, said: &mut Said) {
+    let answer = UnknownFields::decode_from_slice(said.alloc, row.bytes);
+    if let Some(fields) = said.answered(answer) {
+        say_fields(&fields, row.bytes, said)
+    }
+}
+
+// The fields of even numbers are kept, in order.
+fn retain(row: &Row<'_>, said: &mut Said) {
+    let answer = UnknownFields::decode_from_slice(said.alloc, row.bytes);
+    if let Some(mut fields) = said.answered(answer) {
+        fields.retain(|field| field.number % 2 == 0);
+        say_fields(&fields, row.bytes, said);
+    }
+}
+
+// A list under the limits of the row, and another of one field under what is left.
+fn decode_within(row: &Row<'_>, said: &mut Said) {
+    let alloc = said.alloc;
+    let mut context = row.context();
+    let answer = UnknownFields::decode_from_slice_within(alloc, row.bytes, &mut context);
+    if let Some(fields) = said.answered(answer) {
+        say_fields(&fields, row.bytes, said);
+        said.also(", ", &context.remaining_unknown_fields());
+        said.word(" slots, then ");
+        let more = UnknownFields::decode_from_slice_within(alloc, b"\x08\x00", &mut context);
+        if said.answered(more).is_some() {
+            said.word("one more");
+        }
     }
 }
 
@@ -83,12 +100,16 @@ fn say_fields(fields: &UnknownFields, given: &[u8], said: &mut Said) {
     let mut text = said.copied(b"\x07");
     let answer = fields.write_to(&mut text);
     said.expect(pieces.starts_with(&text), "no front");
-    said.encoded(answer);
+    said.answered(answer);
     said.expect(pieces == text, "other fields");
     let text = text.get(1..).unwrap_or(&[]);
     said.expect(fields.encoded_len() == Ok(text.len()), "another length");
     said.expect(fields.is_empty() == text.is_empty(), "empty");
-    say_copy(fields, said);
+    if let Some(copy) = said.made(fields.clone()) {
+        said.expect(copy == *fields, "a clone");
+        said.expect(hash_of(&copy) == hash_of(fields), "a clone's hash");
+        said.show(&copy.into_iter().count());
+    }
     said.word(": ");
     said.written(text, given);
 }
@@ -98,46 +119,11 @@ fn in_pieces(fields: &UnknownFields, said: &mut Said) -> Vec<u8> {
     let mut pieces = said.copied(b"\x07");
     let mut numbers = 0usize;
     for field in fields {
-        said.encoded(field.write_to(&mut pieces));
+        said.answered(field.write_to(&mut pieces));
         numbers = numbers.saturating_add(1);
     }
     said.expect(numbers == fields.len(), "another count");
     pieces
-}
-
-fn say_copy(fields: &UnknownFields, said: &mut Said) {
-    if let Some(copy) = said.made(fields.clone()) {
-        said.expect(copy == *fields, "a clone");
-        said.expect(hash_of(&copy) == hash_of(fields), "a clone's hash");
-        said.show(&copy.into_iter().count());
-    }
-}
-
-fn hash_of(fields: &UnknownFields) -> u64 {
-    let mut state = DefaultHasher::new();
-    fields.hash(&mut state);
-    state.finish()
-}
-
-// A list under the limits of the row, and another of one field under what is left.
-fn decode_within(row: &Row<'_>, said: &mut Said) {
-    let alloc = said.alloc;
-    let mut context = row.context();
-    let answer = UnknownFields::decode_from_slice_within(alloc, row.bytes, &mut context);
-    let Some(fields) = said.decoded(answer) else {
-        return;
-    };
-    say_fields(&fields, row.bytes, said);
-    said.also(", ", &context.remaining_unknown_fields());
-    said.word(" slots, then ");
-    say_one_more(&mut context, said);
-}
-
-fn say_one_more(context: &mut DecodeContext, said: &mut Said) {
-    let answer = UnknownFields::decode_from_slice_within(said.alloc, b"\x08\x00", context);
-    if said.decoded(answer).is_some() {
-        said.word("one more");
-    }
 }
 
 // A push that is refused hands the very field back, and leaves the others.
@@ -146,7 +132,9 @@ fn push(said: &mut Said) {
     for number in 1..=9 {
         let value = UnknownFieldData::Fixed32(number);
         if let Err(back) = fields.push(UnknownField { number, value }) {
-            is_handed_back(&back, number, said);
+            said.expect(back.number == number, "another number is handed back");
+            let is_own = back.value == UnknownFieldData::Fixed32(number);
+            said.expect(is_own, "another value is handed back");
             said.expect(are_up_to(&fields, number), "a refused push");
             return said.refuse(DecodeError::OutOfMemory);
         }
@@ -157,12 +145,6 @@ fn push(said: &mut Said) {
     fields.clear();
     said.expect(fields == none, "not cleared");
     said.word("pushed");
-}
-
-fn is_handed_back(back: &UnknownField, number: u32, said: &mut Said) {
-    said.expect(back.number == number, "another number is handed back");
-    let is_own = back.value == UnknownFieldData::Fixed32(number);
-    said.expect(is_own, "another value is handed back");
 }
 
 // Whether the fields are those of the numbers from 1 up to this one.
@@ -177,15 +159,6 @@ fn are_up_to(fields: &UnknownFields, end: u32) -> bool {
     next == end
 }
 
-// The fields of even numbers are kept, in order.
-fn retain(row: &Row<'_>, said: &mut Said) {
-    let answer = UnknownFields::decode_from_slice(said.alloc, row.bytes);
-    if let Some(mut fields) = said.decoded(answer) {
-        fields.retain(|field| field.number % 2 == 0);
-        say_fields(&fields, row.bytes, said);
-    }
-}
-
 fn value_of(row: &Row<'_>, said: &mut Said) -> Option<UnknownFieldData> {
     if let Some(value) = row.number("varint") {
         return Some(UnknownFieldData::Varint(value));
@@ -193,7 +166,7 @@ fn value_of(row: &Row<'_>, said: &mut Said) -> Option<UnknownFieldData> {
     if row.word("payload").is_some() {
         return Some(UnknownFieldData::LengthDelimited(said.copied(row.bytes)));
     }
-    let fields = said.decoded(UnknownFields::decode_from_slice(said.alloc, row.bytes))?;
+    let fields = said.answered(UnknownFields::decode_from_slice(said.alloc, row.bytes))?;
     Some(UnknownFieldData::Group(fields))
 }
 
@@ -205,19 +178,15 @@ fn measure(row: &Row<'_>, said: &mut Said) {
     };
     let field = UnknownField { number, value };
     let mut text = Vec::new(said.alloc);
-    said.encoded(field.write_to(&mut text));
+    said.answered(field.write_to(&mut text));
     said.expect(field.encoded_len() == Ok(text.len()), "another length");
     said.show(&text.len());
     said.also(": ", &Hex(text.get(..7).unwrap_or(&text)));
     said.word("; ");
-    is_read_again(&field, &text, said);
-}
-
-fn is_read_again(field: &UnknownField, text: &[u8], said: &mut Said) {
-    let answer = UnknownFields::decode_from_slice(said.alloc, text);
-    if let Some(fields) = said.decoded(answer) {
+    let answer = UnknownFields::decode_from_slice(said.alloc, &text);
+    if let Some(fields) = said.answered(answer) {
         said.expect(fields.len() == 1, "another count");
-        said.expect(fields.iter().next() == Some(field), "another field");
+        said.expect(fields.iter().next() == Some(&field), "another field");
         said.word("read again");
     }
 }

@@ -21,7 +21,7 @@ fn walk(row: &Row<'_>, said: &mut Said) {
     let mut context = row.context();
     let depth = context.depth();
     let answer = register_unknown_record(row.bytes, &mut context);
-    if let Some(charge) = said.decoded(answer) {
+    if let Some(charge) = said.answered(answer) {
         said.expect(context.depth() == depth, "another depth");
         say_charge(charge.fields, charge.depth, charge.bytes, said);
         said.limits(row, &context);
@@ -64,30 +64,30 @@ fn say_view(row: &Row<'_>, view: &UnknownFieldsView<'_>, said: &mut Said) {
     say_charge(view.fields(), view.depth(), view.bytes(), said);
     said.word(", ");
     let mut text = Vec::new(said.alloc);
-    said.encoded(view.write_to(&mut text));
+    said.answered(view.write_to(&mut text));
     said.expect(view.encoded_len() == Ok(text.len()), "another length");
-    said.expect(len_of_spans(view) == text.len(), "other spans");
-    said.expect(view.is_empty() == (view.len() == 0), "empty");
-    said.written(&text, row.bytes);
-    said.word("; ");
-    if let Some(owned) = said.decoded(view.to_owned_fields()) {
-        replays_as(view, &owned, said);
-        say_shortest(&owned, &text, said);
-    }
-}
-
-fn len_of_spans(view: &UnknownFieldsView<'_>) -> usize {
     let mut len = 0usize;
     for span in view.iter() {
         len = len.saturating_add(span.len());
     }
-    len
+    said.expect(len == text.len(), "other spans");
+    said.expect(view.is_empty() == (view.len() == 0), "empty");
+    said.written(&text, row.bytes);
+    said.word("; ");
+    if let Some(owned) = said.answered(view.to_owned_fields()) {
+        replays_as(view, &owned, said);
+        let mut shortest = Vec::new(said.alloc);
+        said.answered(owned.write_to(&mut shortest));
+        said.show(&owned.len());
+        said.word(": ");
+        said.written(&shortest, &text);
+    }
 }
 
 fn replays_as(view: &UnknownFieldsView<'_>, owned: &UnknownFields, said: &mut Said) {
     let context = DecodeContext::new(view.depth(), view.fields());
     let mut context = context.with_unknown_bytes(view.bytes());
-    let replayed = said.decoded(view.replay(&mut context));
+    let replayed = said.answered(view.replay(&mut context));
     said.expect(replayed.as_ref() == Some(owned), "another replay");
     said.expect(context.remaining_unknown_fields() == 0, "a charge of slots");
     let bytes = context.remaining_unknown_bytes();
@@ -95,19 +95,11 @@ fn replays_as(view: &UnknownFieldsView<'_>, owned: &UnknownFields, said: &mut Sa
     said.expect(context.depth() == view.depth(), "a charge of levels");
 }
 
-fn say_shortest(owned: &UnknownFields, text: &[u8], said: &mut Said) {
-    let mut shortest = Vec::new(said.alloc);
-    said.encoded(owned.write_to(&mut shortest));
-    said.show(&owned.len());
-    said.word(": ");
-    said.written(&shortest, text);
-}
-
 // The spans outlive the view, and spell what a decoded person keeps.
 fn unknowns(row: &Row<'_>, said: &mut Said) {
     let mut context = row.context();
     let answer = person_unknowns(said.alloc, row.bytes, &mut context);
-    let Some(view) = said.decoded(answer) else {
+    let Some(view) = said.answered(answer) else {
         return;
     };
     for span in view.iter() {
@@ -116,12 +108,8 @@ fn unknowns(row: &Row<'_>, said: &mut Said) {
     }
     say_view(row, &view, said);
     said.limits(row, &context);
-    is_kept_by_a_person(row.bytes, &view, said);
-}
-
-fn is_kept_by_a_person(bytes: &[u8], view: &UnknownFieldsView<'_>, said: &mut Said) {
-    if let Ok(person) = Person::decode_from_slice(said.alloc, bytes) {
-        let owned = said.decoded(view.to_owned_fields());
+    if let Ok(person) = Person::decode_from_slice(said.alloc, row.bytes) {
+        let owned = said.answered(view.to_owned_fields());
         let is_kept = owned.as_ref() == Some(person.unknown());
         said.expect(is_kept, "other fields are kept");
     }

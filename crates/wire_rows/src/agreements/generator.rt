@@ -24,10 +24,10 @@ impl Generator {
         self.is_hostile = self.below(2) == 0;
         let tag = self.first_tag();
         let (mut head, mut behind) = (Vec::new(said.alloc), Vec::new(said.alloc));
-        said.encoded(self.put_varint(varint_of(tag), &mut head));
-        said.encoded(self.put_payload(tag, &mut behind));
+        said.answered(self.put_varint(varint_of(tag), &mut head));
+        said.answered(self.put_payload(tag, &mut behind));
         if self.is_hostile {
-            said.encoded(self.spoil(&mut behind));
+            said.answered(self.spoil(&mut behind));
         }
         Case {
             tag,

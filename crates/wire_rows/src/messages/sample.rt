@@ -19,7 +19,7 @@ pub trait Sample: Message {
 pub fn given<M: Sample>(row: &Row<'_>, bytes: &[u8], said: &mut Said) -> Option<M> {
     match M::named(row) {
         Some(message) => Some(message),
-        None => said.decoded(M::decode_from_slice(said.alloc, bytes)),
+        None => said.answered(M::decode_from_slice(said.alloc, bytes)),
     }
 }
 

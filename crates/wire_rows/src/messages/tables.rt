@@ -52,23 +52,19 @@ impl Sample for Reading {
     }
 }
 
+// Of visits their count is shown, and how many unknown fields they have.
 impl Sample for Card {
     fn say(&self, said: &mut Said) {
         said.show(&self.name);
-        say_contact(&self.contact, said);
-        said.also(" ", &self.unknown.len());
-    }
-}
-
-// Of visits their count is shown, and how many unknown fields they have.
-fn say_contact(contact: &Option<Contact>, said: &mut Said) {
-    match contact {
-        Some(Contact::Visits(visits)) => {
-            said.also(" Some(Visits(", &visits.count);
-            said.also(", ", &visits.unknown.len());
-            said.word("))");
+        match &self.contact {
+            Some(Contact::Visits(visits)) => {
+                said.also(" Some(Visits(", &visits.count);
+                said.also(", ", &visits.unknown.len());
+                said.word("))");
+            }
+            contact => said.also(" ", contact),
         }
-        _ => said.also(" ", contact),
+        said.also(" ", &self.unknown.len());
     }
 }
 

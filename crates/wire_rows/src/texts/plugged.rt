@@ -2,6 +2,7 @@
 ghost use Rattle.std.specs.Prelude.{string_bytes};
 ghost use Rattle.wire_rows.specs.NoX.{answers_no_x, answers_no_x_by_bytes};
 
+use super::say_bytes;
 use crate::row::Row;
 use crate::said::{Hex, Said};
 use crate::table::cut;
@@ -53,22 +54,15 @@ pub fn read<B: Buf>(row: &Row<'_>, buf: &mut B, said: &mut Said) -> bool {
     match row.call {
         "decode_string_to<String>" => said.read(decode_string_to::<String, B>(alloc, buf), buf),
         "decode_string_to<NoX>" => {
-            let answer = decode_string_to::<NoX, B>(alloc, buf);
-            if let Some(value) = said.decoded(answer) {
+            if let Some(value) = said.answered(decode_string_to::<NoX, B>(alloc, buf)) {
                 said.read(Ok(value.as_str()), buf)
             }
         }
-        "decode_bytes_to<Vec>" => read_bytes::<Vec<u8>, B>(buf, said),
-        "decode_bytes_to<Bytes>" => read_bytes::<Bytes, B>(buf, said),
+        "decode_bytes_to<Vec>" => say_bytes(decode_bytes_to::<Vec<u8>, B>(alloc, buf), buf, said),
+        "decode_bytes_to<Bytes>" => say_bytes(decode_bytes_to::<Bytes, B>(alloc, buf), buf, said),
         _ => return false,
     }
     true
-}
-
-fn read_bytes<P: ProtoBytes, B: Buf>(buf: &mut B, said: &mut Said) {
-    if let Some(bytes) = said.decoded(decode_bytes_to::<P, B>(said.alloc, buf)) {
-        said.read(Ok(Hex(bytes.as_slice())), buf)
-    }
 }
 
 pub fn tell(row: &Row<'_>, said: &mut Said) -> bool {
@@ -97,61 +91,45 @@ fn refused_payload(row: &Row<'_>, said: &mut Said) {
 
 fn say_refused<B: Buf>(buf: &mut B, said: &mut Said) {
     let answer = decode_string_to::<NoX, B>(said.alloc, buf);
-    said.decoded(answer);
+    said.answered(answer);
     said.also(" ", &Hex(buf.chunk()));
 }
 
 // A text, made in each of the ways that a type has.
 fn made<P: ProtoString>(said: &mut Said) {
     let alloc = said.alloc;
-    let lent = P::from_wire(alloc, WirePayload::borrowed(b"hi"));
-    if let Some(lent) = said.decoded(lent) {
-        made_of_its_own(&lent, said);
-        made_of_a_text(&lent, said);
-        said.expect(P::empty(alloc).as_str() == "", "empty");
-        said.show(&lent.as_str());
+    let Some(lent) = said.answered(P::from_wire(alloc, WirePayload::borrowed(b"hi"))) else {
+        return;
+    };
+    if let Some(payload) = said.made(Bytes::copy_from_slice(alloc, b"hi")) {
+        let own = said.answered(P::from_wire(alloc, WirePayload::owned(payload)));
+        said.expect(own.as_ref() == Some(&lent), "another text of one's own");
     }
-}
-
-fn made_of_its_own<P: ProtoString>(lent: &P, said: &mut Said) {
-    if let Some(payload) = said.made(Bytes::copy_from_slice(said.alloc, b"hi")) {
-        let own = said.decoded(P::from_wire(said.alloc, WirePayload::owned(payload)));
-        said.expect(own.as_ref() == Some(lent), "another text of one's own");
-    }
-}
-
-fn made_of_a_text<P: ProtoString>(lent: &P, said: &mut Said) {
-    if let Some(copy) = said.decoded(P::from_text(said.alloc, "hi")) {
-        said.expect(copy == *lent, "another text");
+    if let Some(copy) = said.answered(P::from_text(alloc, "hi")) {
+        said.expect(copy == lent, "another text");
         let again = said.made(copy.clone());
         said.expect(again.as_ref() == Some(&copy), "a clone");
     }
+    said.expect(P::empty(alloc).as_str() == "", "empty");
+    said.show(&lent.as_str());
 }
 
 // Bytes, made in each of the ways that a type has.
 fn made_bytes<P: ProtoBytes>(said: &mut Said) {
     let alloc = said.alloc;
-    let lent = P::from_wire(alloc, WirePayload::borrowed(b"\xc3"));
-    if let Some(lent) = said.decoded(lent) {
-        bytes_of_their_own(&lent, said);
-        bytes_of_a_vector(&lent, said);
-        said.expect(P::empty(alloc).as_slice().is_empty(), "empty");
-        said.show(&Hex(lent.as_slice()));
+    let Some(lent) = said.answered(P::from_wire(alloc, WirePayload::borrowed(b"\xc3"))) else {
+        return;
+    };
+    if let Some(payload) = said.made(Bytes::copy_from_slice(alloc, b"\xc3")) {
+        let own = said.answered(P::from_wire(alloc, WirePayload::owned(payload)));
+        said.expect(own.as_ref() == Some(&lent), "other bytes of one's own");
     }
-}
-
-fn bytes_of_their_own<P: ProtoBytes>(lent: &P, said: &mut Said) {
-    if let Some(payload) = said.made(Bytes::copy_from_slice(said.alloc, b"\xc3")) {
-        let own = said.decoded(P::from_wire(said.alloc, WirePayload::owned(payload)));
-        said.expect(own.as_ref() == Some(lent), "other bytes of one's own");
-    }
-}
-
-fn bytes_of_a_vector<P: ProtoBytes>(lent: &P, said: &mut Said) {
     let copy = said.copied(b"\xc3");
-    if let Some(copy) = said.decoded(P::from_vec(said.alloc, copy)) {
-        said.expect(copy == *lent, "other bytes");
+    if let Some(copy) = said.answered(P::from_vec(alloc, copy)) {
+        said.expect(copy == lent, "other bytes");
         let again = said.made(copy.clone());
         said.expect(again.as_ref() == Some(&copy), "a clone");
     }
+    said.expect(P::empty(alloc).as_slice().is_empty(), "empty");
+    said.show(&Hex(lent.as_slice()));
 }
