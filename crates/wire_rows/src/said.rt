@@ -179,11 +179,9 @@ impl Said {
     /// What is left of the limits that a row names.
     pub fn limits(&mut self, row: &Row<'_>, context: &DecodeContext) {
         let is_named = row.word("slots").is_some();
+        let slots = is_named.then_some(context.remaining_unknown_fields());
         let limits = [
-            (
-                is_named.then_some(context.remaining_unknown_fields()),
-                " slots",
-            ),
+            (slots, " slots"),
             (context.remaining_unknown_bytes(), " for payloads"),
             (context.remaining_element_memory(), " for elements"),
         ];
