@@ -3,7 +3,7 @@ use Rattle.std.proofs.Common.{arith, refl}
 use Rattle.wire_codec.specs.Field.{Fields}
 use Rattle.wire_fields.specs.Grounds.{Grounds}
 use Rattle.wire_fields.specs.Ranges.{Range, others_range, pair_range}
-use Rattle.wire_fields.specs.Returned.{Returned, known_returned, whole_returned}
+use Rattle.wire_fields.specs.Returned.{Returned, whole_returned}
 use Rattle.wire_fields.specs.Shape.{Shape, two, unknown}
 use Rattle.wire_well_known.specs.ValueKind.{ValueKind-Value, value_kind-of, value_kind-range}
 use Rattle.wire_well_known.specs.ValueKind.{value_kind-returned, value_kind-shape}
