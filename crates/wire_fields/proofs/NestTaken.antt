@@ -1,4 +1,4 @@
--- What a message that holds itself takes, by the place of the record.
+-- What a message that holds itself or others takes, by the place of the record.
 use Rattle.std.proofs.Common.{◌≡◌, ℕ, List, [], refl, sym, ap, ◌∙◌, subst}
 use Rattle.std.specs.Prelude.{Result, Ok, Err, OnOk}
 use Rattle.wire_codec.specs.Folds.{Step, IsSingle}
@@ -8,12 +8,12 @@ use Rattle.wire_codec.specs.TakingLaws.{OneReading}
 use Rattle.wire_codec.specs.WireType.{WireType}
 use Rattle.wire_fields.specs.declared.recursive.Place.{Place}
 use Rattle.wire_fields.specs.declared.recursive.Place.TheVariants.{Leaf}
-use Rattle.wire_fields.specs.Least.{rolled, unrolled}
+use Rattle.wire_fields.specs.Least.{Steps, rolled, unrolled}
 use Rattle.wire_fields.specs.Messages.{Encoding, inside}
 use Rattle.wire_fields.specs.Nest.{Nest, nest, end, row_of, leaf_of, rows_of}
 use Rattle.wire_fields.specs.Nest.{with_row}
 use Rattle.wire_fields.specs.NestRows.{set_again}
-use Rattle.wire_fields.specs.NestTable.{Table, level, takes_at, nest_takes, owned, grows}
+use Rattle.wire_fields.specs.NestTable.{Family, level, takes_at, family_takes, owned, grows}
 
 -- ---- rows
 
@@ -31,40 +31,45 @@ both_ok (Err e) f p q = tt
 
 -- ---- places
 
-module _ {L : Type 0} (t : Table L) (reading : OneReading) (single : IsSingle t.takes) (l : Limits)
-    (n : ℕ) (w : WireType) (m : Nest L) (old : List ℕ) (place : Place)
-    (is : t.place n ≡ place) where
+module _ {S L : Type 0} (family : Family S L) (reading : OneReading)
+    (single : (s : S) → IsSingle (family.table s).takes) (s : S) (l : Limits) (n : ℕ) (w : WireType)
+    (m : Nest L) (old : List ℕ) (place : Place) (is : (family.table s).place n ≡ place) where
   pub placed_taken : (k : Limits) (z : Nest L) (new : List ℕ)
-      → IsCharged l k (λ c. TakesRecord (takes_at t (nest_takes t) place) l n w m old c z new)
-      → IsCharged l k (λ c. TakesRecord (nest_takes t) l n w m old c z new)
+      → IsCharged l k (λ c. TakesRecord (takes_at family (family_takes family) s place) l n w m old
+      c z new)
+      → IsCharged l k (λ c. TakesRecord (family_takes family s) l n w m old c z new)
   placed_taken k z new h = record {
     charge = h.charge;
     taken = record {
       payload = h.taken.payload;
       read = h.taken.read;
-      step = rolled (level t) (grows t reading single) m z n h.taken.payload h.charge
-          (subst (λ x. takes_at t (nest_takes t) x m n h.taken.payload h.charge z) (sym is)
+      step = rolled (level family) (grows family reading single) s m z n h.taken.payload h.charge
+          (subst (λ x. takes_at family (family_takes family) s x m n h.taken.payload h.charge z)
+          (sym is)
           h.taken.step);
     };
     left = h.left;
   }
 
-  pub not_placed : NotTaken (TakesRecord (takes_at t (nest_takes t) place) l n w m old)
-      → NotTaken (TakesRecord (nest_takes t) l n w m old)
+  pub not_placed : NotTaken (TakesRecord (takes_at family (family_takes family) s place) l n w m
+      old)
+      → NotTaken (TakesRecord (family_takes family s) l n w m old)
   not_placed none c z new h = none c z new (record {
     payload = h.payload;
     read = h.read;
-    step = subst (λ x. takes_at t (nest_takes t) x m n h.payload c z) is
-        (unrolled (level t) (grows t reading single) m z n h.payload c h.step);
+    step = subst (λ x. takes_at family (family_takes family) s x m n h.payload c z) is
+        (unrolled (level family) (grows family reading single) s m z n h.payload c h.step);
   })
 
 -- into the leaf
-module _ {L : Type 0} (t : Table L) (step : Step (Nest L)) (l : Limits) (n : ℕ) (w : WireType)
-    (m : Nest L) (old : List ℕ) where
+module _ {S L : Type 0} (family : Family S L) (steps : Steps S (Nest L)) (s : S) (l : Limits)
+    (n : ℕ)
+    (w : WireType) (m : Nest L) (old : List ℕ) where
   pub leaf_taken : (k : Limits) (z : Nest L) (new : List ℕ)
-      → rows_of z ≡ t.rows_beside n (rows_of m)
-      → IsCharged l k (λ c. TakesRecord t.takes l n w (leaf_of m) old c (leaf_of z) new)
-      → IsCharged l k (λ c. TakesRecord (takes_at t step Leaf) l n w m old c z new)
+      → rows_of z ≡ (family.table s).rows_beside n (rows_of m)
+      → IsCharged l k (λ c. TakesRecord (family.table s).takes l n w (leaf_of m) old c
+      (leaf_of z) new)
+      → IsCharged l k (λ c. TakesRecord (takes_at family steps s Leaf) l n w m old c z new)
   leaf_taken k z new rows h = record {
     charge = h.charge;
     taken = record {
@@ -75,8 +80,8 @@ module _ {L : Type 0} (t : Table L) (step : Step (Nest L)) (l : Limits) (n : ℕ
     left = h.left;
   }
 
-  pub no_leaf : NotTaken (TakesRecord t.takes l n w (leaf_of m) old)
-      → NotTaken (TakesRecord (takes_at t step Leaf) l n w m old)
+  pub no_leaf : NotTaken (TakesRecord (family.table s).takes l n w (leaf_of m) old)
+      → NotTaken (TakesRecord (takes_at family steps s Leaf) l n w m old)
   no_leaf none c z new h =
       none c (leaf_of z) new (record { payload = h.payload; read = h.read; step = h.step.0 })
 
@@ -85,7 +90,8 @@ module _ {V : Type 0} (encoding : Encoding) (start : V → V) (put : V → V →
     (l : Limits) (n : ℕ) (w : WireType) (m from : V) (old : List ℕ) (from_is : from ≡ start m) where
   pub owned_taken : (k : Limits) (after z : V) (new : List ℕ) → z ≡ put m after
       → IsCharged l k (λ c. TakesRecord (inside encoding step) l n w from old c after new)
-      → IsCharged l k (λ c. TakesRecord (owned encoding start put (λ one. one) step) l n w m old c z new)
+      → IsCharged l k (λ c. TakesRecord (owned encoding start put (λ one. one) step) l n w m old c z
+      new)
   owned_taken k after z new is h = record {
     charge = h.charge;
     taken = record {

@@ -1,5 +1,5 @@
--- The step of a type that holds itself, as the least one that its fields ask for: a record is taken
--- where it is taken at some height.
+-- The steps of types that hold themselves or one another, as the least ones that their fields ask
+-- for: a record is taken where it is taken at some height.
 use Rattle.std.proofs.Common.{◌≡◌, ℕ, zero, suc, ◌+◌, sym, subst, add-zero, arith}
 use Rattle.wire_codec.specs.Field.{Payload, Fields, none, field}
 use Rattle.wire_codec.specs.Folds.{Step, IsSingle, Folds}
@@ -18,60 +18,79 @@ at_some chain m n p c z = (h : ℕ) × chain h m n p c z
 abbrev pub Rising : {V : Type 0} → (ℕ → Step V) → Type 0
 Rising chain = (h k : ℕ) → Within (chain h) (chain (h + k)) × Within (chain k) (chain (h + k))
 
--- how the step of a type follows from the step of what it holds
-pub record Grows {V : Type 0} (f : Step V → Step V) : Type 1 where
-  pub more : (a b : Step V) → Within a b → Within (f a) (f b)
-  pub single : (a : Step V) → IsSingle a → IsSingle (f a)
-  pub finite : (chain : ℕ → Step V) → Rising chain → Within (f (at_some chain))
-      (at_some (λ h. f (chain h)))
+-- ---- the types of a set, which hold one another
+
+-- a step for each type
+abbrev pub Steps : Type 0 → Type 0 → Type 1
+Steps S V = S → Step V
+
+abbrev pub AllWithin : {S V : Type 0} → Steps S V → Steps S V → Type 0
+AllWithin {S} a b = (s : S) → Within (a s) (b s)
+
+abbrev pub AllSingle : {S V : Type 0} → Steps S V → Type 0
+AllSingle {S} a = (s : S) → IsSingle (a s)
+
+abbrev pub AllRising : {S V : Type 0} → (ℕ → Steps S V) → Type 0
+AllRising {S} chain = (s : S) → Rising (λ h. chain h s)
+
+abbrev pub all_at_some : {S V : Type 0} → (ℕ → Steps S V) → Steps S V
+all_at_some chain s = at_some (λ h. chain h s)
+
+-- how the steps of the types follow from the steps of what they hold
+pub record Grows {S V : Type 0} (f : Steps S V → Steps S V) : Type 1 where
+  pub more : (a b : Steps S V) → AllWithin a b → AllWithin (f a) (f b)
+  pub single : (a : Steps S V) → AllSingle a → AllSingle (f a)
+  pub finite : (chain : ℕ → Steps S V) → AllRising chain
+      → AllWithin (f (all_at_some chain)) (all_at_some (λ h. f (chain h)))
 
 -- messages that hold others up to a height
-abbrev pub up_to : {V : Type 0} → (Step V → Step V) → ℕ → Step V
-up_to f zero m n p c z = ⊥
-up_to f (suc h) m n p c z = f (up_to f h) m n p c z
+abbrev pub up_to : {S V : Type 0} → (Steps S V → Steps S V) → ℕ → Steps S V
+up_to f zero s m n p c z = ⊥
+up_to f (suc h) s m n p c z = f (up_to f h) s m n p c z
 
-abbrev pub least : {V : Type 0} → (Step V → Step V) → Step V
-least f = at_some (up_to f)
+abbrev pub least : {S V : Type 0} → (Steps S V → Steps S V) → Steps S V
+least f = all_at_some (up_to f)
 
-module _ {V : Type 0} (f : Step V → Step V) (grows : Grows f) where
-  one_up : (h : ℕ) → Within (up_to f h) (up_to f (suc h))
-  one_up zero m z n p c t = absurd t
-  one_up (suc h) m z n p c t =
-      grows.more (up_to f h) (up_to f (suc h)) (one_up h) m z n p c t
+module _ {S V : Type 0} (f : Steps S V → Steps S V) (grows : Grows f) where
+  one_up : (h : ℕ) → AllWithin (up_to f h) (up_to f (suc h))
+  one_up zero s m z n p c t = absurd t
+  one_up (suc h) s m z n p c t =
+      grows.more (up_to f h) (up_to f (suc h)) (one_up h) s m z n p c t
 
-  up : (h k : ℕ) → Within (up_to f h) (up_to f (h + k))
-  up h zero m z n p c t = subst (λ x. up_to f x m n p c z) (sym (add-zero h)) t
-  up h (suc k) m z n p c t =
+  up : (h k : ℕ) → AllWithin (up_to f h) (up_to f (h + k))
+  up h zero s m z n p c t = subst (λ x. up_to f x s m n p c z) (sym (add-zero h)) t
+  up h (suc k) s m z n p c t =
       let e : suc (h + k) ≡ h + suc k = omega arith in
-      subst (λ x. up_to f x m n p c z) e (one_up (h + k) m z n p c (up h k m z n p c t))
+      subst (λ x. up_to f x s m n p c z) e (one_up (h + k) s m z n p c (up h k s m z n p c t))
 
-  rising : Rising (up_to f)
-  rising h k = (
-    up h k,
+  rising : AllRising (up_to f)
+  rising s h k = (
+    up h k s,
     λ m z n p c t. let e : k + h ≡ h + k = omega arith in
-        subst (λ x. up_to f x m n p c z) e (up k h m z n p c t),
+        subst (λ x. up_to f x s m n p c z) e (up k h s m z n p c t),
   )
 
-  single_at : (h : ℕ) → IsSingle (up_to f h)
-  single_at zero m u z w n p c d h k = absurd h
-  single_at (suc h) m u z w n p c d s t =
-      grows.single (up_to f h) (single_at h) m u z w n p c d s t
+  single_at : (h : ℕ) → AllSingle (up_to f h)
+  single_at zero s m u z w n p c d h k = absurd h
+  single_at (suc h) s m u z w n p c d x y =
+      grows.single (up_to f h) (single_at h) s m u z w n p c d x y
 
   -- the charge and the outcome are single
-  pub least_single : IsSingle (least f)
-  least_single m u z w n p c d (h, s) (k, t) =
-      single_at (h + k) m u z w n p c d ((rising h k).0 m z n p c s) ((rising h k).1 u w n p d t)
+  pub least_single : AllSingle (least f)
+  least_single s m u z w n p c d (h, x) (k, y) =
+      single_at (h + k) s m u z w n p c d ((rising s h k).0 m z n p c x)
+      ((rising s h k).1 u w n p d y)
 
-  -- the step of the type is what its fields ask for
-  pub unrolled : Within (least f) (f (least f))
-  unrolled m z n p c (zero, t) = absurd t
-  unrolled m z n p c (suc h, t) =
-      grows.more (up_to f h) (least f) (λ m z n p c s. (h, s)) m z n p c t
+  -- the step of a type is what its fields ask for
+  pub unrolled : AllWithin (least f) (f (least f))
+  unrolled s m z n p c (zero, t) = absurd t
+  unrolled s m z n p c (suc h, t) =
+      grows.more (up_to f h) (least f) (λ r m z n p c x. (h, x)) s m z n p c t
 
-  pub rolled : Within (f (least f)) (least f)
-  rolled m z n p c t =
-      let (h, s) = grows.finite (up_to f) rising m z n p c t in
-      (suc h, s)
+  pub rolled : AllWithin (f (least f)) (least f)
+  rolled s m z n p c t =
+      let (h, x) = grows.finite (up_to f) rising s m z n p c t in
+      (suc h, x)
 
 -- ---- lists and messages inside
 

@@ -33,5 +33,6 @@ pub mod Returned
 pub mod Scalar
 pub mod ScalarBack
 pub mod Shape
+pub mod Sums
 pub mod Texts
 pub mod Twins

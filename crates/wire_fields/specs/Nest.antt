@@ -1,4 +1,4 @@
--- Values that hold values of their own type.
+-- Values that hold values of their own type, or of the types of a set.
 use Rattle.std.proofs.Common.{◌≡◌, ℕ, zero, suc, ◌+◌, ◌<◌, ◌≤◌, List, [], ◌∷◌, get_or, length, map, ◌++◌, sym}
 use Rattle.std.proofs.lemmas.List.{map-append}
 use Rattle.std.proofs.Common.{refl, ap, ◌∙◌, arith}
@@ -133,9 +133,16 @@ pub row_less : {L : Type 0} (ms : List (Nest L)) (m : Nest L) (i : ℕ) → ms �
 row_less ms m i e = omega (arith, ap all_nodes e, one_less m i)
 
 -- and one of a row no more than the row
-pub item_less : {L T : Type 0} (view : T → Nest L) (ts : List T) (i : ℕ) (t : T) → i < length ts
-    → t ≡ get_or ts i t → nodes (view t) ≤ all_nodes (map view ts)
-item_less view [] i t h e = absurd (omega (arith, h))
-item_less view (x ∷ xs) zero t h e = omega (arith, ap (λ y. nodes (view y)) e)
-item_less view (x ∷ xs) (suc i) t h e =
-    omega (arith, item_less view xs i t (omega (arith, h)) e)
+pub message_less : {L : Type 0} (ms : List (Nest L)) (i : ℕ) (d : Nest L) → i < length ms
+    → nodes (get_or ms i d) ≤ all_nodes ms
+message_less [] i d h = absurd (omega (arith, h))
+message_less (m ∷ ms) zero d h = omega arith
+message_less (m ∷ ms) (suc i) d h = omega (arith, message_less ms i d (omega (arith, h)))
+
+-- ---- messages that lie in a slice
+
+pub viewed_at : {T L : Type 0} (view : T → Nest L) (ts : List T) (i : ℕ) (t : T) (d : Nest L)
+    → i < length (map view ts) → t ≡ get_or ts i t → get_or (map view ts) i d ≡ view t
+viewed_at view [] i t d h e = absurd (omega (arith, h))
+viewed_at view (x ∷ xs) zero t d h e = ap view (sym e)
+viewed_at view (x ∷ xs) (suc i) t d h e = viewed_at view xs i t d (omega (arith, h)) e

@@ -1,4 +1,5 @@
--- What is written of a message that holds itself is read back, where what is written of its leaf is.
+-- What is written of messages that hold themselves or one another is read back, where what is
+-- written of their leaves is.
 use Rattle.std.proofs.Common.{◌≡◌, ℕ, suc, ◌+◌, ◌<◌, ◌≤◌, List, [], ◌∷◌, ◌++◌, append_assoc, refl, sym, ap, ◌∙◌, subst, arith}
 use Rattle.std.proofs.Math.Nat.{add_comm, max_comm}
 use Rattle.std.proofs.lemmas.List.{append-nil}
@@ -17,17 +18,18 @@ use Rattle.wire_fields.specs.Grounds.{Grounds}
 use Rattle.wire_fields.specs.Least.{rolled}
 use Rattle.wire_fields.specs.LeavingBack.{all_any}
 use Rattle.wire_fields.specs.MessageBack.{EncodingBack, prefixed_back, delimited_back}
-use Rattle.wire_fields.specs.Messages.{or_else}
+use Rattle.wire_fields.specs.Messages.{length_prefixed, or_else}
 use Rattle.wire_fields.specs.Nest.{Nest, nest, Rows, done, row, Row, end, ahead, listed, row_of}
 use Rattle.wire_fields.specs.Nest.{listed_row, row_listed, rows_row, set_rows, count_rows}
 use Rattle.wire_fields.specs.Nest.{empty_rows, with_row, first_of}
-use Rattle.wire_fields.specs.NestRange.{IsFit, NestHolds, RowsHold, RowHolds, price, nest_charge}
-use Rattle.wire_fields.specs.NestRange.{rows_charge, row_charge, nest_range, runs_from, IsPlaceOf, LeafBack}
+use Rattle.wire_fields.specs.NestRange.{IsFit, FamilyHolds, nest_range, RowsHold, RowHolds, price, family_charge}
+use Rattle.wire_fields.specs.NestRange.{rows_charge, row_charge, family_range, runs_from, IsPlaceOf, LeafBack}
 use Rattle.wire_fields.specs.NestRows.{set_same, set_again, row_set, row_behind, count_set}
 use Rattle.wire_fields.specs.NestRows.{no_messages, count_empty, filled, all_filled}
-use Rattle.wire_fields.specs.NestTable.{Table, is_grouped, encoding_of, encoding_at, empty_of}
-use Rattle.wire_fields.specs.NestTable.{nest_records, rows_records, row_records, placed, takes_at}
-use Rattle.wire_fields.specs.NestTable.{level, nest_takes, grows, owned, one_of, with_one}
+use Rattle.wire_fields.specs.NestTable.{Family, is_grouped, encoding_of, encoding_at, empty_of}
+use Rattle.wire_fields.specs.NestTable.{family_records, rows_records, row_records, placed, takes_at}
+use Rattle.wire_fields.specs.NestTable.{level, family_takes, grows, owned, new_in, one_in, with_one}
+use Rattle.wire_fields.specs.NestTable.{with_more, Table, alone, nest_records, nest_takes}
 use Rattle.wire_fields.specs.Ranges.{Range}
 use Rattle.wire_fields.specs.Returned.{Returned}
 use Rattle.wire_fields.specs.Shape.{Shape}
@@ -95,149 +97,170 @@ fit_behind true end h is = tt
 fit_behind true (ahead m end) h is = (refl, refl)
 fit_behind true (ahead m (ahead k ms)) h is = absurd h
 
-module _ {L : Type 0} (g : Grounds) (t : Table L) (r : Range L) (single : IsSingle t.takes)
-    (h : LeafBack t r) where
+module _ {S L : Type 0} (g : Grounds) (family : Family S L) (r : S → Range L)
+    (single : (s : S) → IsSingle (family.table s).takes) (h : (s : S) → LeafBack (family.table s)
+    (r s)) where
   encoding_back : (grouped : Bool) → EncodingBack (encoding_of grouped)
   encoding_back false = prefixed_back g.spells
   encoding_back true = delimited_back
 
-  taken : (n : ℕ) (place : Place) → t.place n ≡ place → (m z : Nest L) (rs : Records) (c : Charge)
-      → takes_at t (nest_takes t) place m n
+  taken : (s : S) (n : ℕ) (place : Place) → (family.table s).place n ≡ place → (m z : Nest L)
+      (rs : Records) (c : Charge)
+      → takes_at family (family_takes family) s place m n
       (plain_payload ((encoding_of (is_grouped place)).payload rs)) c z
-      → nest_takes t m n (plain_payload ((encoding_at t n).payload rs)) c z
-  taken n place is m z rs c step =
-      rolled (level t) (grows t g.reading single) m z n
-      (plain_payload ((encoding_at t n).payload rs)) c
-      (subst (λ x. takes_at t (nest_takes t) x m n
+      → family_takes family s m n (plain_payload ((encoding_at (family.table s) n).payload rs)) c z
+  taken s n place is m z rs c step =
+      rolled (level family) (grows family g.reading single) s m z n
+      (plain_payload ((encoding_at (family.table s) n).payload rs)) c
+      (subst (λ x. takes_at family (family_takes family) s x m n
       (plain_payload ((encoding_of (is_grouped x)).payload rs)) c z) (sym is) step)
 
   -- records of the leaf
-  leaf_lifted : (fs : Fields) (l z : L) (rows : Rows L) (c : Charge)
-      → AllAre (λ n. t.place n ≡ Leaf) fs → Folds t.takes l fs c z
-      → Folds (nest_takes t) (nest l rows) fs c (nest z rows)
-  leaf_lifted fs l z rows c has folded =
-      fold_lifted (λ n p. t.place n ≡ Leaf) t.takes (nest_takes t) (λ x. nest x rows)
-      (λ m u n p c is step. rolled (level t) (grows t g.reading single) (nest m rows) (nest u rows)
-      n p c (subst (λ x. takes_at t (nest_takes t) x (nest m rows) n p c (nest u rows)) (sym is)
-      (step, sym (h.rows_beside n rows))))
+  leaf_lifted : (s : S) (fs : Fields) (l z : L) (rows : Rows L) (c : Charge)
+      → AllAre (λ n. (family.table s).place n ≡ Leaf) fs → Folds (family.table s).takes l fs c z
+      → Folds (family_takes family s) (nest l rows) fs c (nest z rows)
+  leaf_lifted s fs l z rows c has folded =
+      fold_lifted (λ n p. (family.table s).place n ≡ Leaf) (family.table s).takes
+      (family_takes family s) (λ x. nest x rows)
+      (λ m u n p c is step. rolled (level family) (grows family g.reading single) s (nest m rows)
+      (nest u rows) n p c
+      (subst (λ x. takes_at family (family_takes family) s x (nest m rows) n p c (nest u rows))
+      (sym is)
+      (step, sym ((h s).rows_beside n rows))))
       fs l z c has folded
 
   -- one message more in a row
-  module _ (i : ℕ) (l : L) (rows : Rows L) (before : List (Nest L))
+  module _ (s : S) (i : ℕ) (l : L) (rows : Rows L) (before : List (Nest L))
       (row_is : rows_row i rows ≡ before) (m : Nest L) (c : Charge)
-      (inner : FoldsBack (nest_takes t) (empty_of t) (plain (nest_records t m)) c m)
-      (short : text_size (nest_records t m) ≤ 2147483647) where
-    once_taken : (grouped : Bool) (k : ℕ) → k ≡ i → before ≡ []
-        → owned (encoding_of grouped) (one_of t k) (with_one t k) (λ one. one) (nest_takes t)
-        (nest l rows) (t.number i)
-        (plain_payload ((encoding_of grouped).payload (nest_records t m))) (nested c)
-        (nest l (set_rows i (row_of (before ++ m ∷ [])) rows))
-    once_taken grouped k same nothing = (
+      (inner : FoldsBack (family_takes family (family.holds s i)) (new_in family s i)
+      (plain (family_records family (family.holds s i) m)) c m)
+      (short : text_size (family_records family (family.holds s i) m) ≤ 2147483647) where
+    -- what is written of it
+    abbrev written : Records
+    written = family_records family (family.holds s i) m
+
+    abbrev with_it : Nest L
+    with_it = nest l (set_rows i (row_of (before ++ m ∷ [])) rows)
+
+    once_taken : (grouped : Bool) → before ≡ []
+        → owned (encoding_of grouped) (one_in family s i) (with_one (family.table s) i) (λ one. one)
+        (family_takes family (family.holds s i)) (nest l rows) ((family.table s).number i)
+        (plain_payload ((encoding_of grouped).payload written)) (nested c) with_it
+    once_taken grouped nothing = (
       m,
       nested c,
       (
-        plain (nest_records t m),
+        plain written,
         c,
-        (encoding_back grouped).holds (nest_records t m) inner.fitting inner.numbered short,
-        subst (λ x. Folds (nest_takes t) x (plain (nest_records t m)) c m)
-            (sym (ap (λ x. or_else (empty_of t) (first_of (rows_row x rows))) same
-            ∙ ap (λ (ms : List (Nest L)). or_else (empty_of t) (first_of ms))
+        (encoding_back grouped).holds written inner.fitting inner.numbered short,
+        subst (λ x. Folds (family_takes family (family.holds s i)) x (plain written) c m)
+            (sym (ap (λ (ms : List (Nest L)). or_else (new_in family s i) (first_of ms))
             (row_is ∙ nothing))) inner.folded,
         refl,
       ),
       refl,
       ap (λ (ms : List (Nest L)). nest l (set_rows i (row_of (ms ++ m ∷ [])) rows)) nothing
-          ∙ ap (λ x. nest l (set_rows x (row_of (m ∷ [])) rows)) (sym same)
-          ∙ ap (with_row k (m ∷ [])) (sym (h.beside k (nest l rows))),
+          ∙ ap (with_row i (m ∷ [])) (sym ((h s).beside i (nest l rows))),
     )
 
-    message_taken : (place : Place) → t.place (t.number i) ≡ place → IsPlaceOf i (t.once i) place
-        → (t.once i ≡ true → before ≡ [])
-        → nest_takes t (nest l rows) (t.number i)
-        (plain_payload ((encoding_at t (t.number i)).payload (nest_records t m)))
-        (price place (nested c)) (nest l (set_rows i (row_of (before ++ m ∷ [])) rows))
+    each_taken : (bytes : ℕ)
+        → owned length_prefixed (λ m. new_in family s i) (with_more i) (placed bytes)
+        (family_takes family (family.holds s i)) (nest l rows) ((family.table s).number i)
+        (plain_payload (length_prefixed.payload written)) (placed bytes (nested c)) with_it
+    each_taken bytes = (
+      m,
+      nested c,
+      (
+        plain written,
+        c,
+        (encoding_back false).holds written inner.fitting inner.numbered short,
+        inner.folded,
+        refl,
+      ),
+      refl,
+      ap (λ (ms : List (Nest L)). nest l (set_rows i (row_of (ms ++ m ∷ [])) rows)) (sym row_is),
+    )
+
+    message_taken : (place : Place) → (family.table s).place ((family.table s).number i) ≡ place
+        → IsPlaceOf i ((family.table s).once i) place → ((family.table s).once i ≡ true → before
+        ≡ [])
+        → family_takes family s (nest l rows) ((family.table s).number i)
+        (plain_payload ((encoding_at (family.table s) ((family.table s).number i)).payload written))
+        (price place (nested c)) with_it
     message_taken Leaf is at nothing = absurd at
     message_taken (Once k) is at nothing =
-        taken (t.number i) (Once k) is (nest l rows)
-        (nest l (set_rows i (row_of (before ++ m ∷ [])) rows)) (nest_records t m) (nested c)
-        (once_taken false k at.0 (nothing at.1))
+        taken s ((family.table s).number i) (Once i) (is ∙ ap Once at.0)
+        (nest l rows) with_it written
+        (nested c) (once_taken false (nothing at.1))
     message_taken (Grouped k) is at nothing =
-        taken (t.number i) (Grouped k) is (nest l rows)
-        (nest l (set_rows i (row_of (before ++ m ∷ [])) rows)) (nest_records t m) (nested c)
-        (once_taken true k at.0 (nothing at.1))
+        taken s ((family.table s).number i) (Grouped i) (is ∙ ap Grouped at.0)
+        (nest l rows) with_it written
+        (nested c) (once_taken true (nothing at.1))
     message_taken (Each k bytes) is at nothing =
-        taken (t.number i) (Each k bytes) is (nest l rows)
-        (nest l (set_rows i (row_of (before ++ m ∷ [])) rows)) (nest_records t m)
-        (placed bytes (nested c)) (
-          m,
-          nested c,
-          (
-            plain (nest_records t m),
-            c,
-            (encoding_back false).holds (nest_records t m) inner.fitting inner.numbered short,
-            inner.folded,
-            refl,
-          ),
-          refl,
-          ap (λ (ms : List (Nest L)). nest l (set_rows i (row_of (ms ++ m ∷ [])) rows))
-              (sym row_is)
-              ∙ ap (λ x. nest l (set_rows x (row_of (rows_row x rows ++ m ∷ [])) rows))
-              (sym at.0),
-        )
+        taken s ((family.table s).number i) (Each i bytes) (is ∙ ap (λ x. Each x bytes) at.0)
+        (nest l rows)
+        with_it written (placed bytes (nested c)) (each_taken bytes)
 
   mutual
-    nest_folded : (m : Nest L) → NestHolds t r.Holds m
-        → FoldsBack (nest_takes t) (empty_of t) (plain (nest_records t m))
-        (nest_charge t r.charge_of m) m
-    nest_folded (nest l rows) holds =
+    nest_folded : (s : S) (m : Nest L) → FamilyHolds family r s m
+        → FoldsBack (family_takes family s) (empty_of (family.table s)) (plain
+        (family_records family s m))
+        (family_charge family r s m) m
+    nest_folded s (nest l rows) holds =
+        let t = family.table s in
         let start = empty_rows t.rows in
         let run = plain (t.run 0 l) in
         let runs = plain (runs_from t l 1 (count_rows rows)) in
-        let behind_records = plain (rows_records t l 0 rows) in
+        let behind_records = plain (rows_records family s l 0 rows) in
         let leaf = subst (λ k. FoldsBack t.takes t.default (plain (runs_from t l 0 (suc k)))
-        (r.charge_of l) l) (sym holds.1) (h.back l holds.0) in
+        ((r s).charge_of l) l) (sym holds.1) ((h s).back l holds.0).0 in
         let own = subst (λ k. AllAre (λ n. t.place n ≡ Leaf) (plain (runs_from t l 0 (suc k))))
-        (sym holds.1) (h.has l holds.0) in
+        (sym holds.1) ((h s).back l holds.0).1 in
         let is = plain_joined (t.run 0 l) (runs_from t l 1 (count_rows rows)) in
         let (u, first, last, front, behind, sum) = fold_split t.takes g.charges run runs t.default l
-        (r.charge_of l) (subst (λ fs. Folds t.takes t.default fs (r.charge_of l) l) is leaf.folded)
+        ((r s).charge_of l) (subst (λ fs. Folds t.takes t.default fs
+        ((r s).charge_of l) l) is leaf.folded)
         in
         let has = all_split (λ n. t.place n ≡ Leaf) run runs
         (subst (AllAre (λ n. t.place n ≡ Leaf)) is own) in
         let fitting = fitting_split run runs (subst AreFitting is leaf.fitting) in
         let numbered = numbered_split run runs (subst AreNumbered is leaf.numbered) in
-        let more = rows_folded 0 rows start u l last holds.2 (λ j low. no_messages L j t.rows)
+        let more = rows_folded s 0 rows start u l last holds.2 (λ j low. no_messages L j t.rows)
         (omega (arith, holds.1)) (count_empty L t.rows) fitting.1 numbered.1 behind has.1 in
-        subst (λ fs. FoldsBack (nest_takes t) (empty_of t) fs
-        (both (r.charge_of l) (rows_charge t r.charge_of 0 rows)) (nest l rows))
-        (sym (plain_joined (t.run 0 l) (rows_records t l 0 rows)))
+        subst (λ fs. FoldsBack (family_takes family s) (empty_of t) fs
+        (both ((r s).charge_of l) (rows_charge family r s 0 rows)) (nest l rows))
+        (sym (plain_joined (t.run 0 l) (rows_records family s l 0 rows)))
         (record {
           fitting = fitting_joined run behind_records fitting.0 more.fitting;
           numbered = numbered_joined run behind_records numbered.0 more.numbered;
-          folded = subst (λ c. Folds (nest_takes t) (empty_of t) (joined run behind_records) c
+          folded = subst (λ c. Folds (family_takes family s) (empty_of t)
+              (joined run behind_records) c
               (nest l rows))
-              (ap (both first) (swapped (rows_charge t r.charge_of 0 rows) last)
-              ∙ sym (g.charges.assoc first last (rows_charge t r.charge_of 0 rows))
-              ∙ ap (λ c. both c (rows_charge t r.charge_of 0 rows)) (sym sum))
-              (fold_on (nest_takes t) g.charges run behind_records (empty_of t) (nest u start)
-              (nest l rows) first (both (rows_charge t r.charge_of 0 rows) last)
-              (leaf_lifted run t.default u start first has.0 front)
-              (subst (λ x. Folds (nest_takes t) (nest u start) behind_records
-              (both (rows_charge t r.charge_of 0 rows) last) (nest l x))
+              (ap (both first) (swapped (rows_charge family r s 0 rows) last)
+              ∙ sym (g.charges.assoc first last (rows_charge family r s 0 rows))
+              ∙ ap (λ c. both c (rows_charge family r s 0 rows)) (sym sum))
+              (fold_on (family_takes family s) g.charges run behind_records (empty_of t)
+              (nest u start)
+              (nest l rows) first (both (rows_charge family r s 0 rows) last)
+              (leaf_lifted s run t.default u start first has.0 front)
+              (subst (λ x. Folds (family_takes family s) (nest u start) behind_records
+              (both (rows_charge family r s 0 rows) last) (nest l x))
               (ap (λ k. filled 0 rows (empty_rows k)) (sym holds.1) ∙ all_filled rows)
               more.folded));
         })
 
-    rows_folded : (i : ℕ) (rs into : Rows L) (l z : L) (c : Charge) → RowsHold t r.Holds i rs
-        → ((j : ℕ) → i ≤ j → rows_row j into ≡ []) → i + count_rows rs ≡ t.rows
-        → count_rows into ≡ t.rows
-        → AreFitting (plain (runs_from t z (suc i) (count_rows rs)))
-        → AreNumbered (plain (runs_from t z (suc i) (count_rows rs)))
-        → Folds t.takes l (plain (runs_from t z (suc i) (count_rows rs))) c z
-        → AllAre (λ n. t.place n ≡ Leaf) (plain (runs_from t z (suc i) (count_rows rs)))
-        → FoldsBack (nest_takes t) (nest l into) (plain (rows_records t z i rs))
-        (both (rows_charge t r.charge_of i rs) c) (nest z (filled i rs into))
-    rows_folded i done into l z c holds empty count size fitting numbered folded has = record {
+    rows_folded : (s : S) (i : ℕ) (rs into : Rows L) (l z : L) (c : Charge)
+        → RowsHold family r s i rs → ((j : ℕ) → i ≤ j → rows_row j into ≡ [])
+        → i + count_rows rs ≡ (family.table s).rows → count_rows into ≡ (family.table s).rows
+        → AreFitting (plain (runs_from (family.table s) z (suc i) (count_rows rs)))
+        → AreNumbered (plain (runs_from (family.table s) z (suc i) (count_rows rs)))
+        → Folds (family.table s).takes l (plain (runs_from (family.table s) z (suc i)
+        (count_rows rs))) c z
+        → AllAre (λ n. (family.table s).place n ≡ Leaf) (plain (runs_from (family.table s) z (suc i)
+        (count_rows rs)))
+        → FoldsBack (family_takes family s) (nest l into) (plain (rows_records family s z i rs))
+        (both (rows_charge family r s i rs) c) (nest z (filled i rs into))
+    rows_folded s i done into l z c holds empty count size fitting numbered folded has = record {
       fitting = tt;
       numbered = tt;
       folded = (
@@ -245,13 +268,15 @@ module _ {L : Type 0} (g : Grounds) (t : Table L) (r : Range L) (single : IsSing
         ap (λ x. nest x into) folded.1,
       );
     }
-    rows_folded i (row q rs) into l z c holds empty count size fitting numbered folded has =
+    rows_folded s i (row q rs) into l z c holds empty count size fitting numbered folded has =
+        let t = family.table s in
+        let held = family.holds s i in
         let n = t.number i in
         let low : i < t.rows = omega (arith, count) in
-        let here = plain (row_records t n q) in
+        let here = plain (row_records family held (encoding_at t n) n q) in
         let run = plain (t.run (suc i) z) in
         let runs = plain (runs_from t z (suc (suc i)) (count_rows rs)) in
-        let others = plain (rows_records t z (suc i) rs) in
+        let others = plain (rows_records family s z (suc i) rs) in
         let next = set_rows i q into in
         let is = plain_joined (t.run (suc i) z) (runs_from t z (suc (suc i)) (count_rows rs)) in
         let (u, first, last, front, behind, sum) = fold_split t.takes g.charges run runs l z c
@@ -260,44 +285,52 @@ module _ {L : Type 0} (g : Grounds) (t : Table L) (r : Range L) (single : IsSing
         (subst (AllAre (λ n. t.place n ≡ Leaf)) is has) in
         let fit = fitting_split run runs (subst AreFitting is fitting) in
         let num = numbered_split run runs (subst AreNumbered is numbered) in
-        let one = row_folded i (t.place n) refl (h.place i low) low l into [] (empty i (omega arith))
+        let one = row_folded s i (t.place n) refl ((h s).place i low) low l into [] (empty i
+        (omega arith))
         (omega (arith, low, size)) q (fit_behind (t.once i) q holds.0) holds.1 in
-        let more = rows_folded (suc i) rs next u z last holds.2
+        let more = rows_folded s (suc i) rs next u z last holds.2
         (λ j above. row_behind i j q into (omega (arith, above)) ∙ empty j (omega (arith, above)))
         (omega (arith, count)) (count_set i q into ∙ size) fit.1 num.1 behind own.1 in
-        let row_total = row_charge t r.charge_of (t.place n) q in
-        let total = rows_charge t r.charge_of (suc i) rs in
-        subst (λ fs. FoldsBack (nest_takes t) (nest l into) fs
+        let row_total = row_charge family r held (t.place n) q in
+        let total = rows_charge family r s (suc i) rs in
+        subst (λ fs. FoldsBack (family_takes family s) (nest l into) fs
         (both (both row_total total) c) (nest z (filled (suc i) rs next)))
-        (sym (plain_joined (row_records t n q)
-        (joined_records (t.run (suc i) z) (rows_records t z (suc i) rs))
-        ∙ ap (joined here) (plain_joined (t.run (suc i) z) (rows_records t z (suc i) rs))))
+        (sym (plain_joined (row_records family held (encoding_at t n) n q)
+        (joined_records (t.run (suc i) z) (rows_records family s z (suc i) rs))
+        ∙ ap (joined here) (plain_joined (t.run (suc i) z) (rows_records family s z (suc i) rs))))
         (record {
           fitting = fitting_joined here (joined run others) one.fitting
               (fitting_joined run others fit.0 more.fitting);
           numbered = numbered_joined here (joined run others) one.numbered
               (numbered_joined run others num.0 more.numbered);
-          folded = subst (λ d. Folds (nest_takes t) (nest l into) (joined here (joined run others)) d
+          folded = subst (λ d. Folds (family_takes family s) (nest l into) (joined here
+              (joined run others)) d
               (nest z (filled (suc i) rs next)))
               (paired g.charges row_total first total last
               ∙ ap (both (both row_total total)) (sym sum))
-              (fold_on (nest_takes t) g.charges here (joined run others) (nest l into) (nest l next)
+              (fold_on (family_takes family s) g.charges here (joined run others) (nest l into)
+              (nest l next)
               (nest z (filled (suc i) rs next)) row_total (both first (both total last))
-              (subst (λ x. Folds (nest_takes t) (nest l into) here row_total
+              (subst (λ x. Folds (family_takes family s) (nest l into) here row_total
               (nest l (set_rows i x into))) (row_listed q) one.folded)
-              (fold_on (nest_takes t) g.charges run others (nest l next) (nest u next)
+              (fold_on (family_takes family s) g.charges run others (nest l next) (nest u next)
               (nest z (filled (suc i) rs next)) first (both total last)
-              (leaf_lifted run l u next first own.0 front) more.folded));
+              (leaf_lifted s run l u next first own.0 front) more.folded));
         })
 
-    row_folded : (i : ℕ) (place : Place) → t.place (t.number i) ≡ place
-        → IsPlaceOf i (t.once i) place → i < t.rows → (l : L) (rows : Rows L)
+    row_folded : (s : S) (i : ℕ) (place : Place) → (family.table s).place
+        ((family.table s).number i) ≡ place
+        → IsPlaceOf i ((family.table s).once i) place → i < (family.table s).rows → (l : L)
+        (rows : Rows L)
         (before : List (Nest L)) → rows_row i rows ≡ before → i < count_rows rows
-        → (q : Row L) → (t.once i ≡ true → IsFitBehind before q) → RowHolds t r.Holds q
-        → FoldsBack (nest_takes t) (nest l rows) (plain (row_records t (t.number i) q))
-        (row_charge t r.charge_of place q)
+        → (q : Row L) → ((family.table s).once i ≡ true → IsFitBehind before q)
+        → RowHolds family r (family.holds s i) q
+        → FoldsBack (family_takes family s) (nest l rows) (plain (row_records family
+        (family.holds s i)
+        (encoding_at (family.table s) ((family.table s).number i)) ((family.table s).number i) q))
+        (row_charge family r (family.holds s i) place q)
         (nest l (set_rows i (row_of (before ++ listed q)) rows))
-    row_folded i place is at low l rows before row_is there end fit holds = record {
+    row_folded s i place is at low l rows before row_is there end fit holds = record {
       fitting = tt;
       numbered = tt;
       folded = (
@@ -307,27 +340,31 @@ module _ {L : Type 0} (g : Grounds) (t : Table L) (r : Range L) (single : IsSing
             ∙ ap (nest l) (set_same i rows),
       );
     }
-    row_folded i place is at low l rows before row_is there (ahead m ms) fit holds =
+    row_folded s i place is at low l rows before row_is there (ahead m ms) fit holds =
+        let t = family.table s in
+        let held = family.holds s i in
         let n = t.number i in
-        let rs = nest_records t m in
-        let inner = nest_folded m holds.0 in
+        let rs = family_records family held m in
+        let inner = nest_folded held m holds.0 in
         let e = encoding_back (is_grouped (t.place n)) in
         let next = set_rows i (row_of (before ++ m ∷ [])) rows in
-        let more = row_folded i place is at low l next (before ++ m ∷ [])
+        let more = row_folded s i place is at low l next (before ++ m ∷ [])
         (row_set i (row_of (before ++ m ∷ [])) rows there ∙ listed_row (before ++ m ∷ []))
         (omega (arith, there, count_set i (row_of (before ++ m ∷ [])) rows)) ms
         (λ once. subst (IsFitBehind (before ++ m ∷ [])) (sym (fit once).1) tt) holds.2 in
         record {
           fitting = (e.fitting rs inner.fitting holds.1, more.fitting);
-          numbered = (h.number i low, e.numbered rs inner.numbered, more.numbered);
+          numbered = ((h s).number i low, e.numbered rs inner.numbered, more.numbered);
           folded = (
             nest l next,
-            price place (nested (nest_charge t r.charge_of m)),
-            row_charge t r.charge_of place ms,
-            message_taken i l rows before row_is m (nest_charge t r.charge_of m) inner holds.1 place
+            price place (nested (family_charge family r held m)),
+            row_charge family r held place ms,
+            message_taken s i l rows before row_is m (family_charge family r held m) inner holds.1
+                place
                 is at (λ once. (fit once).0),
-            subst (λ x. Folds (nest_takes t) (nest l next) (plain (row_records t n ms))
-                (row_charge t r.charge_of place ms) (nest l x))
+            subst (λ x. Folds (family_takes family s) (nest l next) (plain (row_records family held
+                (encoding_at t n) n ms))
+                (row_charge family r held place ms) (nest l x))
                 (set_again i (row_of ((before ++ m ∷ []) ++ listed ms))
                 (row_of (before ++ m ∷ [])) rows
                 ∙ ap (λ (xs : List (Nest L)). set_rows i (row_of xs) rows)
@@ -336,21 +373,28 @@ module _ {L : Type 0} (g : Grounds) (t : Table L) (r : Range L) (single : IsSing
           );
         }
 
-  -- a message of this table
-  pub nest_returned : (s : Shape (Nest L)) → s.default ≡ empty_of t
-      → s.records ≡ nest_records t → s.takes ≡ nest_takes t
-      → ((n : ℕ) (p : Payload) → s.owns n p ≡ true) → Returned s (nest_range t r)
-  nest_returned s start records step owns = record {
+  -- a message of such a table
+  pub family_returned : (s : S) (shape : Shape (Nest L)) → shape.default ≡ empty_of (family.table s)
+      → shape.records ≡ family_records family s → shape.takes ≡ family_takes family s
+      → ((n : ℕ) (p : Payload) → shape.owns n p ≡ true) → Returned shape (family_range family r s)
+  family_returned s shape start records step owns = record {
     Has = λ n. Unit {0};
     back = record {
-      back = λ m holds.
-          subst (λ k. FoldsBack k s.default (plain (s.records m)) (nest_charge t r.charge_of m) m)
-          (sym step)
-          (subst (λ d. FoldsBack (nest_takes t) d (plain (s.records m))
-          (nest_charge t r.charge_of m) m) (sym start)
-          (subst (λ f. FoldsBack (nest_takes t) (empty_of t) (plain (f m))
-          (nest_charge t r.charge_of m) m) (sym records) (nest_folded m holds)));
-      has = λ m holds. all_any (plain (s.records m));
+      back = λ m holds. subst (λ k. FoldsBack k shape.default (plain (shape.records m))
+          (family_charge family r s m) m) (sym step)
+          (subst (λ d. FoldsBack (family_takes family s) d (plain (shape.records m))
+          (family_charge family r s m) m) (sym start)
+          (subst (λ f. FoldsBack (family_takes family s) (empty_of (family.table s)) (plain (f m))
+          (family_charge family r s m) m) (sym records) (nest_folded s m holds)));
+      has = λ m holds. all_any (plain (shape.records m));
       own = λ n p has. owns n p;
     };
   }
+
+-- a message of a type that holds itself alone
+module _ {L : Type 0} (g : Grounds) (t : Table L) (r : Range L) (single : IsSingle t.takes)
+    (h : LeafBack t r) where
+  pub nest_returned : (shape : Shape (Nest L)) → shape.default ≡ empty_of t
+      → shape.records ≡ nest_records t → shape.takes ≡ nest_takes t
+      → ((n : ℕ) (p : Payload) → shape.owns n p ≡ true) → Returned shape (nest_range t r)
+  nest_returned = family_returned g (alone t) (λ s. r) (λ s. single) (λ s. h) tt

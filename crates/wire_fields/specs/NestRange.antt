@@ -1,9 +1,11 @@
--- Which messages that hold themselves are read back, and what a type shows of its table for that.
+-- Which messages that hold themselves or one another are read back, and what a type shows of its
+-- table for that.
 use Rattle.std.proofs.Common.{◌≡◌, ◌⊎◌, inl, inr, ℕ, zero, suc, ◌<◌, ◌≤◌, refl, sym, ap, ◌∙◌, subst}
 use Rattle.std.specs.Prelude.{Bool, true, false}
 use Rattle.wire_codec.specs.Charge.{charge}
 use Rattle.wire_codec.specs.Field.{Fields}
 use Rattle.wire_codec.specs.FieldNumber.{IsFieldNumber}
+use Rattle.wire_codec.specs.Folds.{Step}
 use Rattle.wire_codec.specs.Limits.{Charge, both, nested, no_charge}
 use Rattle.wire_codec.specs.Records.{Records, none, field, plain, joined_records, text_size}
 use Rattle.wire_fields.specs.declared.recursive.Place.{Place}
@@ -11,7 +13,7 @@ use Rattle.wire_fields.specs.declared.recursive.Place.TheVariants.{Leaf, Once, E
 use Rattle.wire_fields.specs.Back.{AllAre, FoldsBack, AreOthers, all_weaker, two_back, unknown_back}
 use Rattle.wire_fields.specs.Grounds.{Grounds}
 use Rattle.wire_fields.specs.Nest.{Nest, nest, Rows, done, row, Row, end, ahead, count_rows}
-use Rattle.wire_fields.specs.NestTable.{Table, nest_records, placed}
+use Rattle.wire_fields.specs.NestTable.{Table, Family, alone, family_records, placed}
 use Rattle.wire_fields.specs.Ranges.{Range, pair_range, NotOwned}
 use Rattle.wire_fields.specs.Returned.{Returned}
 use Rattle.wire_fields.specs.Shape.{Shape, two, unknown}
@@ -28,19 +30,21 @@ IsFit true (ahead m (ahead k ms)) = ⊥
 -- Of the leaf this holds; there are as many rows as the table has, each with no more messages than
 -- it may have; and these are such too, of a size that a message may have.
 abbrev mutual
-  pub NestHolds : {L : Type 0} → Table L → (L → Type 0) → Nest L → Type 0
-  NestHolds t Holds (nest l rows) =
-      Holds l × (count_rows rows ≡ t.rows) × RowsHold t Holds 0 rows
+  pub FamilyHolds : {S L : Type 0} → Family S L → (S → Range L) → S → Nest L → Type 0
+  FamilyHolds family r s (nest l rows) =
+      (r s).Holds l × (count_rows rows ≡ (family.table s).rows) × RowsHold family r s 0 rows
 
-  pub RowsHold : {L : Type 0} → Table L → (L → Type 0) → ℕ → Rows L → Type 0
-  RowsHold t Holds i done = Unit {0}
-  RowsHold t Holds i (row r rs) =
-      IsFit (t.once i) r × RowHolds t Holds r × RowsHold t Holds (suc i) rs
+  pub RowsHold : {S L : Type 0} → Family S L → (S → Range L) → S → ℕ → Rows L → Type 0
+  RowsHold family r s i done = Unit {0}
+  RowsHold family r s i (row q rs) =
+      IsFit ((family.table s).once i) q × RowHolds family r (family.holds s i) q
+      × RowsHold family r s (suc i) rs
 
-  pub RowHolds : {L : Type 0} → Table L → (L → Type 0) → Row L → Type 0
-  RowHolds t Holds end = Unit {0}
-  RowHolds t Holds (ahead m ms) =
-      NestHolds t Holds m × (text_size (nest_records t m) ≤ 2147483647) × RowHolds t Holds ms
+  pub RowHolds : {S L : Type 0} → Family S L → (S → Range L) → S → Row L → Type 0
+  RowHolds family r s end = Unit {0}
+  RowHolds family r s (ahead m ms) =
+      FamilyHolds family r s m × (text_size (family_records family s m) ≤ 2147483647)
+      × RowHolds family r s ms
 
 -- with its place in memory, where it is one of many
 abbrev pub price : Place → Charge → Charge
@@ -51,29 +55,38 @@ price (Grouped i) one = one
 
 -- that of the leaf, and that of the messages, each a level down
 abbrev mutual
-  pub nest_charge : {L : Type 0} → Table L → (L → Charge) → Nest L → Charge
-  nest_charge t charge_of (nest l rows) = both (charge_of l) (rows_charge t charge_of 0 rows)
+  pub family_charge : {S L : Type 0} → Family S L → (S → Range L) → S → Nest L → Charge
+  family_charge family r s (nest l rows) = both ((r s).charge_of l) (rows_charge family r s 0 rows)
 
-  pub rows_charge : {L : Type 0} → Table L → (L → Charge) → ℕ → Rows L → Charge
-  rows_charge t charge_of i done = no_charge
-  rows_charge t charge_of i (row r rs) =
-      both (row_charge t charge_of (t.place (t.number i)) r) (rows_charge t charge_of (suc i) rs)
+  pub rows_charge : {S L : Type 0} → Family S L → (S → Range L) → S → ℕ → Rows L → Charge
+  rows_charge family r s i done = no_charge
+  rows_charge family r s i (row q rs) =
+      both (row_charge family r (family.holds s i) ((family.table s).place
+      ((family.table s).number i)) q)
+      (rows_charge family r s (suc i) rs)
 
-  pub row_charge : {L : Type 0} → Table L → (L → Charge) → Place → Row L → Charge
-  row_charge t charge_of place end = no_charge
-  row_charge t charge_of place (ahead m ms) =
-      both (price place (nested (nest_charge t charge_of m))) (row_charge t charge_of place ms)
+  pub row_charge : {S L : Type 0} → Family S L → (S → Range L) → S → Place → Row L → Charge
+  row_charge family r s place end = no_charge
+  row_charge family r s place (ahead m ms) =
+      both (price place (nested (family_charge family r s m))) (row_charge family r s place ms)
+
+abbrev pub family_range : {S L : Type 0} → Family S L → (S → Range L) → S → Range (Nest L)
+family_range family r s = record {
+  Holds = FamilyHolds family r s;
+  charge_of = family_charge family r s;
+}
 
 abbrev pub nest_range : {L : Type 0} → Table L → Range L → Range (Nest L)
-nest_range t r = record {
-  Holds = NestHolds t r.Holds;
-  charge_of = nest_charge t r.charge_of;
-}
+nest_range t r = family_range (alone t) (λ s. r) tt
 
 -- the runs of a leaf from the one at i on, so many
 abbrev pub runs_from : {L : Type 0} → Table L → L → ℕ → ℕ → Records
 runs_from t l i zero = none
 runs_from t l i (suc count) = joined_records (t.run i l) (runs_from t l (suc i) count)
+
+-- all of them, before the first row and behind each
+abbrev pub all_runs : {L : Type 0} → Table L → L → Records
+all_runs t l = runs_from t l 0 (suc t.rows)
 
 -- the place of the records of the row at i
 abbrev pub IsPlaceOf : ℕ → Bool → Place → Type 0
@@ -82,6 +95,15 @@ IsPlaceOf i once (Once k) = (k ≡ i) × (once ≡ true)
 IsPlaceOf i once (Each k bytes) = (k ≡ i) × (once ≡ false)
 IsPlaceOf i once (Grouped k) = (k ≡ i) × (once ≡ true)
 
+abbrev pub GoesToLeaf : {L : Type 0} → Table L → ℕ → Type 0
+GoesToLeaf t n = t.place n ≡ Leaf
+
+-- what is written of such a value folds back to it, under these numbers
+abbrev pub IsReadBack : {L : Type 0} → Step L → L → (L → Records) → (ℕ → Type 0) → Range L → Type 0
+IsReadBack takes start records Has r =
+    (l : _) → r.Holds l
+    → FoldsBack takes start (plain (records l)) (r.charge_of l) l × AllAre Has (plain (records l))
+
 -- What a type shows of its table: each row has a number whose records go there, beside a message
 -- all stays, and the runs of a leaf fold back to it, under numbers whose records go to the leaf.
 pub record LeafBack {L : Type 0} (t : Table L) (r : Range L) : Type 0 where
@@ -89,25 +111,60 @@ pub record LeafBack {L : Type 0} (t : Table L) (r : Range L) : Type 0 where
   pub place : (i : ℕ) → i < t.rows → IsPlaceOf i (t.once i) (t.place (t.number i))
   pub beside : (i : ℕ) (m : Nest L) → t.beside i m ≡ m
   pub rows_beside : (n : ℕ) (rs : Rows L) → t.rows_beside n rs ≡ rs
-  pub back : (l : L) → r.Holds l
-      → FoldsBack t.takes t.default (plain (runs_from t l 0 (suc t.rows))) (r.charge_of l) l
-  pub has : (l : L) → r.Holds l
-      → AllAre (λ n. t.place n ≡ Leaf) (plain (runs_from t l 0 (suc t.rows)))
+  pub back : IsReadBack t.takes t.default (all_runs t) (GoesToLeaf t) r
 
 -- ---- leaves that are fields with the unknown ones
 
 -- a number that the fields do not own, and whose records go to no row
-abbrev pub IsOther : {V : Type 0} → Table (V × Fields) → Shape V → ℕ → Type 0
-IsOther t known n = NotOwned known.owns n × (t.place n ≡ Leaf)
+abbrev pub IsOther : {L V : Type 0} → Table L → Shape V → ℕ → Type 0
+IsOther t known n = NotOwned known.owns n × GoesToLeaf t n
 
-abbrev pub leaf_range : {V : Type 0} → Table (V × Fields) → Shape V → Range V → Range (V × Fields)
+abbrev pub leaf_range : {L V : Type 0} → Table L → Shape V → Range V → Range (V × Fields)
 leaf_range t known r = pair_range r (record {
   Holds = AreOthers (IsOther t known);
   charge_of = charge;
 })
 
--- What a type shows of its rows. The runs of the leaf are what it is written as, and its fields have
--- numbers that go there.
+-- the fields have numbers that go to the leaf
+pub known_back : {L V : Type 0} → Grounds → (t : Table L) (known : Shape V) (r : Range V)
+    (x : Returned known r) → ((n : ℕ) → x.Has n → GoesToLeaf t n)
+    → IsReadBack (two known unknown).takes (two known unknown).default (two known unknown).records
+    (GoesToLeaf t) (leaf_range t known r)
+known_back g t known r x here l holds =
+    let both_back = two_back known unknown r.Holds (AreOthers (IsOther t known)) r.charge_of charge
+    x.Has (IsOther t known) g.charges x.back (unknown_back g.plain (IsOther t known))
+    (λ n p h. h.0 p) in (
+      both_back.back l holds,
+      all_weaker (λ n. x.Has n ⊎ IsOther t known n) (GoesToLeaf t)
+          (λ n. elim [ inl h ↦ here n h | inr h ↦ h.1 ])
+          (plain ((two known unknown).records l)) (both_back.has l holds),
+    )
+
+-- What a type shows of its rows, with runs that are what the leaf is written as.
+pub table_back : {L : Type 0} (t : Table L) (r : Range L) (takes : Step L) (start : L)
+    (records : L → Records) → IsReadBack takes start records (GoesToLeaf t) r
+    → t.takes ≡ takes → t.default ≡ start → ((l : L) → all_runs t l ≡ records l)
+    → ((i : ℕ) → i < t.rows → IsFieldNumber (t.number i))
+    → ((i : ℕ) → i < t.rows → IsPlaceOf i (t.once i) (t.place (t.number i)))
+    → ((i : ℕ) (m : Nest L) → t.beside i m ≡ m)
+    → ((n : ℕ) (rs : Rows L) → t.rows_beside n rs ≡ rs) → LeafBack t r
+table_back t r takes start records back takes_is start_is runs_are number place beside rows_beside =
+    record {
+      number = number;
+      place = place;
+      beside = beside;
+      rows_beside = rows_beside;
+      back = λ l holds. (
+        subst (λ rs. FoldsBack t.takes t.default (plain rs) (r.charge_of l) l) (sym (runs_are l))
+            (subst (λ s. FoldsBack t.takes s (plain (records l)) (r.charge_of l) l) (sym start_is)
+            (subst (λ s. FoldsBack s start (plain (records l)) (r.charge_of l) l) (sym takes_is)
+            (back l holds).0)),
+        subst (λ rs. AllAre (GoesToLeaf t) (plain rs)) (sym (runs_are l)) (back l holds).1,
+      );
+    }
+
+-- The same of fields with the unknown ones, of a type that holds itself alone. The fields have
+-- numbers that go to the leaf.
 module _ {V : Type 0} (g : Grounds) (t : Table (V × Fields)) (known : Shape V) (r : Range V)
     (x : Returned known r) (takes_is : t.takes ≡ (two known unknown).takes)
     (start_is : t.default ≡ (two known unknown).default)
@@ -120,26 +177,9 @@ module _ {V : Type 0} (g : Grounds) (t : Table (V × Fields)) (known : Shape V) 
     (rows_beside : (n : ℕ) (rs : Rows (V × Fields)) → t.rows_beside n rs ≡ rs) where
   pub leaf_back : LeafBack t (leaf_range t known r)
   leaf_back =
-      let both_back = two_back known unknown r.Holds (AreOthers (IsOther t known)) r.charge_of charge
-      x.Has (IsOther t known) g.charges x.back (unknown_back g.plain (IsOther t known))
-      (λ n p h. h.0 p) in
-      record {
-        number = number;
-        place = place;
-        beside = beside;
-        rows_beside = rows_beside;
-        back = λ l holds. subst (λ fs. FoldsBack t.takes t.default fs
-            ((leaf_range t known r).charge_of l) l) (sym (ap plain (runs_are l)))
-            (subst (λ s. FoldsBack t.takes s (plain ((two known unknown).records l))
-            ((leaf_range t known r).charge_of l) l) (sym start_is)
-            (subst (λ s. FoldsBack s (two known unknown).default
-            (plain ((two known unknown).records l)) ((leaf_range t known r).charge_of l) l)
-            (sym takes_is) (both_back.back l holds)));
-        has = λ l holds. subst (AllAre (λ n. t.place n ≡ Leaf)) (sym (ap plain (runs_are l)))
-            (all_weaker (λ n. x.Has n ⊎ IsOther t known n) (λ n. t.place n ≡ Leaf)
-            (λ n. elim [ inl h ↦ here n h | inr h ↦ h.1 ])
-            (plain ((two known unknown).records l)) (both_back.has l holds));
-      }
+      table_back t (leaf_range t known r) (two known unknown).takes (two known unknown).default
+      (two known unknown).records (known_back g t known r x here) takes_is start_is runs_are number
+      place beside rows_beside
 
 -- ---- records put together in one order or another
 

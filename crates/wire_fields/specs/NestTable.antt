@@ -1,5 +1,7 @@
--- A message type that holds itself, as a table: its records, and what it makes of a record.
-use Rattle.std.proofs.Common.{◌≡◌, ℕ, suc, [], ◌∷◌, ◌++◌, ◌<◌, ap, ◌∙◌, sym}
+-- Message types that hold themselves or one another, as tables: their records, and what they make
+-- of
+-- a record.
+use Rattle.std.proofs.Common.{◌≡◌, ℕ, zero, suc, List, [], ◌∷◌, ◌++◌, ◌<◌, get_or, map, ap, ◌∙◌, sym}
 use Rattle.std.specs.Prelude.{Bool, true, false}
 use Rattle.wire_codec.specs.Folds.{Step, IsSingle}
 use Rattle.wire_codec.specs.Limits.{Charge, both, element_of}
@@ -7,14 +9,18 @@ use Rattle.wire_codec.specs.Records.{Records, none, joined_records}
 use Rattle.wire_codec.specs.TakingLaws.{OneReading}
 use Rattle.wire_fields.specs.declared.recursive.Place.{Place}
 use Rattle.wire_fields.specs.declared.recursive.Place.TheVariants.{Leaf, Once, Each, Grouped}
-use Rattle.wire_fields.specs.Least.{Within, at_some, Rising, Grows, least, least_single, inside_more, inside_finite}
+use Rattle.wire_fields.specs.Least.{Within, at_some, Rising, Steps, AllWithin, AllSingle, AllRising}
+use Rattle.wire_fields.specs.Least.{all_at_some, Grows, least, least_single, inside_more, inside_finite}
 use Rattle.wire_fields.specs.Messages.{Encoding, length_prefixed, delimited, inside, or_else}
 use Rattle.wire_fields.specs.Messages.{inside_single, message_record}
 use Rattle.wire_fields.specs.Nest.{Nest, nest, Rows, done, row, Row, end, ahead, leaf_of, rows_of}
-use Rattle.wire_fields.specs.Nest.{row_at, with_row, first_of, empty_rows, same_nest}
+use Rattle.wire_fields.specs.Nest.{row_at, with_row, first_of, row_count, empty_rows, same_nest}
+use Rattle.wire_fields.specs.NestRows.{count_empty}
 
--- The fields of the type itself are embedded messages or groups, each with a row of the value. All
--- other fields, with the unknown ones, are the leaf, which is a table as of any message; they are
+-- The fields of the types of a family are embedded messages or groups, each with a row of the
+-- value.
+-- All other fields, with the unknown ones, are the leaf, which is a table as of any message; they
+-- are
 -- written in runs: before the first row, behind the first, and so on.
 pub record Table (L : Type 0) : Type 1 where
   pub default : L
@@ -30,6 +36,15 @@ pub record Table (L : Type 0) : Type 1 where
   -- beside the leaf's field of a number: all, but for the others of a oneof
   pub beside : ℕ → Nest L → Nest L
   pub rows_beside : ℕ → Rows L → Rows L
+
+-- Types that hold one another: a table for each, and of which type the messages of a row are.
+pub record Family (S L : Type 0) : Type 1 where
+  pub table : S → Table L
+  pub holds : S → ℕ → S
+
+-- a type that holds itself alone
+abbrev pub alone : {L : Type 0} → Table L → Family (Unit {0}) L
+alone t = record { table = λ s. t; holds = λ s i. tt }
 
 -- there is such a row
 abbrev pub IsThere : {L : Type 0} → Table L → Place → Type 0
@@ -66,37 +81,59 @@ as_it_was n v = v
 abbrev pub empty_of : {L : Type 0} → Table L → Nest L
 empty_of t = nest t.default (empty_rows t.rows)
 
+-- one of several messages of a table
+abbrev pub message_at : {L : Type 0} → Table L → List (Nest L) → ℕ → Nest L
+message_at t ms i = get_or ms i (empty_of t)
+
+-- as each of the messages has all of the rows, so does any that is named
+pub all_counted : {L T : Type 0} (t : Table L) (view : T → Nest L)
+    → ((m : T) → row_count (view m) ≡ t.rows) → (ms : List T) (i : ℕ)
+    → row_count (message_at t (map view ms) i) ≡ t.rows
+all_counted {L} t view has [] i = count_empty L t.rows
+all_counted t view has (m ∷ ms) zero = has m
+all_counted t view has (m ∷ ms) (suc i) = all_counted t view has ms i
+
 -- ---- records
 
 abbrev mutual
-  pub nest_records : {L : Type 0} → Table L → Nest L → Records
-  nest_records t (nest l rows) = joined_records (t.run 0 l) (rows_records t l 0 rows)
+  pub family_records : {S L : Type 0} → Family S L → S → Nest L → Records
+  family_records family s (nest l rows) =
+      joined_records ((family.table s).run 0 l) (rows_records family s l 0 rows)
 
   -- the rows from the one at i on, and the runs behind them
-  pub rows_records : {L : Type 0} → Table L → L → ℕ → Rows L → Records
-  rows_records t l i done = none
-  rows_records t l i (row r rs) =
-      joined_records (row_records t (t.number i) r)
-      (joined_records (t.run (suc i) l) (rows_records t l (suc i) rs))
+  pub rows_records : {S L : Type 0} → Family S L → S → L → ℕ → Rows L → Records
+  rows_records family s l i done = none
+  rows_records family s l i (row r rs) =
+      let n = (family.table s).number i in
+      joined_records (row_records family (family.holds s i) (encoding_at (family.table s) n) n r)
+      (joined_records ((family.table s).run (suc i) l) (rows_records family s l (suc i) rs))
 
   -- an embedded message or a group for each
-  pub row_records : {L : Type 0} → Table L → ℕ → Row L → Records
-  row_records t n end = none
-  row_records t n (ahead m ms) =
-      joined_records (message_record (encoding_at t n) n (nest_records t m)) (row_records t n ms)
+  pub row_records : {S L : Type 0} → Family S L → S → Encoding → ℕ → Row L → Records
+  row_records family s encoding n end = none
+  row_records family s encoding n (ahead m ms) =
+      joined_records (message_record encoding n (family_records family s m))
+      (row_records family s encoding n ms)
+
+abbrev pub records_at : {S L : Type 0} → Family S L → S → List (Nest L) → ℕ → Records
+records_at family s ms i = family_records family s (message_at (family.table s) ms i)
 
 -- ---- what is taken
 
--- a message of the type itself takes the payload, and is put into the value with its charge
+-- a message of such a type takes the payload, and is put into the value with its charge
 abbrev pub owned : {V : Type 0} → Encoding → (V → V) → (V → V → V) → (Charge → Charge) → Step V
     → Step V
 owned {V} encoding start put price step m n p c z =
     (after : V) × (one : Charge) × inside encoding step (start m) n p one after
     × (c ≡ price one) × (z ≡ put m after)
 
+-- the message of no records, of the type of a row
+abbrev pub new_in : {S L : Type 0} → Family S L → S → ℕ → Nest L
+new_in family s i = empty_of (family.table (family.holds s i))
+
 -- the message of a row that has one at most, or a new one
-abbrev pub one_of : {L : Type 0} → Table L → ℕ → Nest L → Nest L
-one_of t i m = or_else (empty_of t) (first_of (row_at i m))
+abbrev pub one_in : {S L : Type 0} → Family S L → S → ℕ → Nest L → Nest L
+one_in family s i m = or_else (new_in family s i) (first_of (row_at i m))
 
 abbrev pub with_one : {L : Type 0} → Table L → ℕ → Nest L → Nest L → Nest L
 with_one t i m after = with_row i (after ∷ []) (t.beside i m)
@@ -111,22 +148,26 @@ placed bytes one = both (element_of bytes) one
 -- A record of the leaf is the leaf's. Once: the message that is there takes the
 -- payload, or a new one does. Each: a new one does, which is charged for its place in memory
 -- besides, and is put behind those that are there. Grouped: as once, of a group.
-abbrev pub takes_at : {L : Type 0} → Table L → Step (Nest L) → Place → Step (Nest L)
-takes_at t step Leaf m n p c z =
-    t.takes (leaf_of m) n p c (leaf_of z) × (rows_of z ≡ t.rows_beside n (rows_of m))
-takes_at t step (Once i) m n p c z =
-    owned length_prefixed (one_of t i) (with_one t i) (λ one. one) step m n p c z
-takes_at t step (Each i bytes) m n p c z =
-    owned length_prefixed (λ m. empty_of t) (with_more i) (placed bytes) step m n p c z
-takes_at t step (Grouped i) m n p c z =
-    owned delimited (one_of t i) (with_one t i) (λ one. one) step m n p c z
+abbrev pub takes_at : {S L : Type 0} → Family S L → Steps S (Nest L) → S → Place → Step (Nest L)
+takes_at family steps s Leaf m n p c z =
+    (family.table s).takes (leaf_of m) n p c (leaf_of z)
+    × (rows_of z ≡ (family.table s).rows_beside n (rows_of m))
+takes_at family steps s (Once i) m n p c z =
+    owned length_prefixed (one_in family s i) (with_one (family.table s) i) (λ one. one)
+    (steps (family.holds s i)) m n p c z
+takes_at family steps s (Each i bytes) m n p c z =
+    owned length_prefixed (λ m. new_in family s i) (with_more i) (placed bytes)
+    (steps (family.holds s i)) m n p c z
+takes_at family steps s (Grouped i) m n p c z =
+    owned delimited (one_in family s i) (with_one (family.table s) i) (λ one. one)
+    (steps (family.holds s i)) m n p c z
 
 -- what a value makes of a record, by what those in it make of theirs
-abbrev pub level : {L : Type 0} → Table L → Step (Nest L) → Step (Nest L)
-level t step m n p c z = takes_at t step (t.place n) m n p c z
+abbrev pub level : {S L : Type 0} → Family S L → Steps S (Nest L) → Steps S (Nest L)
+level family steps s m n p c z = takes_at family steps s ((family.table s).place n) m n p c z
 
-abbrev pub nest_takes : {L : Type 0} → Table L → Step (Nest L)
-nest_takes t = least (level t)
+abbrev pub family_takes : {S L : Type 0} → Family S L → Steps S (Nest L)
+family_takes family = least (level family)
 
 -- ---- single
 
@@ -154,51 +195,91 @@ module _ {V : Type 0} (encoding : Encoding) (start : V → V) (put : V → V →
         λ e. is ∙ ap (put m) (agree.1 (ap start e)) ∙ ap (λ (x : V). put x after_2) e ∙ sym is_2,
       )
 
-module _ {L : Type 0} (t : Table L) (reading : OneReading) (single : IsSingle t.takes) where
-  at_more : (place : Place) (a b : Step (Nest L)) → Within a b
-      → Within (takes_at t a place) (takes_at t b place)
-  at_more Leaf a b on m z n p c h = h
-  at_more (Once i) a b on m z n p c h =
-      owned_more length_prefixed (one_of t i) (with_one t i) (λ one. one) a b on m z n p c h
-  at_more (Each i bytes) a b on m z n p c h =
-      owned_more length_prefixed (λ m. empty_of t) (with_more i) (placed bytes) a b on m z n p c h
-  at_more (Grouped i) a b on m z n p c h =
-      owned_more delimited (one_of t i) (with_one t i) (λ one. one) a b on m z n p c h
+module _ {S L : Type 0} (family : Family S L) (reading : OneReading)
+    (single : (s : S) → IsSingle (family.table s).takes) where
+  at_more : (s : S) (place : Place) (a b : Steps S (Nest L)) → AllWithin a b
+      → Within (takes_at family a s place) (takes_at family b s place)
+  at_more s Leaf a b on m z n p c h = h
+  at_more s (Once i) a b on m z n p c h =
+      let k = family.holds s i in
+      owned_more length_prefixed (one_in family s i) (with_one (family.table s) i) (λ one. one)
+      (a k) (b k) (on k)
+      m z n p c h
+  at_more s (Each i bytes) a b on m z n p c h =
+      let k = family.holds s i in
+      owned_more length_prefixed (λ m. new_in family s i) (with_more i) (placed bytes) (a k) (b k)
+      (on k)
+      m z n p c h
+  at_more s (Grouped i) a b on m z n p c h =
+      let k = family.holds s i in
+      owned_more delimited (one_in family s i) (with_one (family.table s) i) (λ one. one) (a k)
+      (b k) (on k)
+      m z n p c h
 
-  at_finite : (place : Place) (chain : ℕ → Step (Nest L)) → Rising chain
-      → Within (takes_at t (at_some chain) place) (at_some (λ h. takes_at t (chain h) place))
-  at_finite Leaf chain rising m z n p c h = (0, h)
-  at_finite (Once i) chain rising m z n p c h =
-      owned_finite length_prefixed (one_of t i) (with_one t i) (λ one. one) chain rising m z n p c h
-  at_finite (Each i bytes) chain rising m z n p c h =
-      owned_finite length_prefixed (λ m. empty_of t) (with_more i) (placed bytes) chain rising m z n
-      p c h
-  at_finite (Grouped i) chain rising m z n p c h =
-      owned_finite delimited (one_of t i) (with_one t i) (λ one. one) chain rising m z n p c h
+  at_finite : (s : S) (place : Place) (chain : ℕ → Steps S (Nest L)) → AllRising chain
+      → Within (takes_at family (all_at_some chain) s place)
+      (at_some (λ h. takes_at family (chain h) s place))
+  at_finite s Leaf chain rising m z n p c h = (0, h)
+  at_finite s (Once i) chain rising m z n p c h =
+      let k = family.holds s i in
+      owned_finite length_prefixed (one_in family s i) (with_one (family.table s) i) (λ one. one)
+      (λ h. chain h k) (rising k) m z n p c h
+  at_finite s (Each i bytes) chain rising m z n p c h =
+      let k = family.holds s i in
+      owned_finite length_prefixed (λ m. new_in family s i) (with_more i) (placed bytes)
+      (λ h. chain h k) (rising k) m z n p c h
+  at_finite s (Grouped i) chain rising m z n p c h =
+      let k = family.holds s i in
+      owned_finite delimited (one_in family s i) (with_one (family.table s) i) (λ one. one)
+      (λ h. chain h k) (rising k) m z n p c h
 
-  at_single : (place : Place) (a : Step (Nest L)) → IsSingle a → IsSingle (takes_at t a place)
-  at_single Leaf a one m u z w n p c d h k =
-      let same = single (leaf_of m) (leaf_of u) (leaf_of z) (leaf_of w) n p c d h.0 k.0 in (
+  at_single : (s : S) (place : Place) (a : Steps S (Nest L)) → AllSingle a
+      → IsSingle (takes_at family a s place)
+  at_single s Leaf a one m u z w n p c d h k =
+      let same = single s (leaf_of m) (leaf_of u) (leaf_of z) (leaf_of w) n p c d h.0 k.0 in (
         same.0,
         λ e. same_nest z w (same.1 (ap leaf_of e)) (h.1
-            ∙ ap (λ (x : Nest L). t.rows_beside n (rows_of x)) e ∙ sym k.1),
+            ∙ ap (λ (x : Nest L). (family.table s).rows_beside n (rows_of x)) e ∙ sym k.1),
       )
-  at_single (Once i) a one m u z w n p c d h k =
-      owned_single length_prefixed (one_of t i) (with_one t i) (λ one. one) reading a one m u z w n p
-      c d h k
-  at_single (Each i bytes) a one m u z w n p c d h k =
-      owned_single length_prefixed (λ m. empty_of t) (with_more i) (placed bytes) reading a one m u z
-      w n p c d h k
-  at_single (Grouped i) a one m u z w n p c d h k =
-      owned_single delimited (one_of t i) (with_one t i) (λ one. one) reading a one m u z w n p c d
-      h k
+  at_single s (Once i) a one m u z w n p c d h k =
+      let held = family.holds s i in
+      owned_single length_prefixed (one_in family s i) (with_one (family.table s) i)
+      (λ one. one) reading (a held)
+      (one held) m u z w n p c d h k
+  at_single s (Each i bytes) a one m u z w n p c d h k =
+      let held = family.holds s i in
+      owned_single length_prefixed (λ m. new_in family s i) (with_more i) (placed bytes) reading
+      (a held)
+      (one held) m u z w n p c d h k
+  at_single s (Grouped i) a one m u z w n p c d h k =
+      let held = family.holds s i in
+      owned_single delimited (one_in family s i) (with_one (family.table s) i) (λ one. one) reading
+      (a held)
+      (one held) m u z w n p c d h k
 
-  pub grows : Grows (level t)
+  pub grows : Grows (level family)
   grows = record {
-    more = λ a b on m z n p c h. at_more (t.place n) a b on m z n p c h;
-    single = λ a one m u z w n p c d h k. at_single (t.place n) a one m u z w n p c d h k;
-    finite = λ chain rising m z n p c h. at_finite (t.place n) chain rising m z n p c h;
+    more = λ a b on s m z n p c h. at_more s ((family.table s).place n) a b on m z n p c h;
+    single = λ a one s m u z w n p c d h k. at_single s ((family.table s).place n) a one m u z w n p
+        c d h k;
+    finite = λ chain rising s m z n p c h. at_finite s ((family.table s).place n) chain rising m z n
+        p c h;
   }
 
-  pub nest_single : IsSingle (nest_takes t)
-  nest_single = least_single (level t) grows
+  pub family_single : AllSingle (family_takes family)
+  family_single = least_single (level family) grows
+
+-- ---- a type that holds itself alone
+
+abbrev pub nest_records : {L : Type 0} → Table L → Nest L → Records
+nest_records t = family_records (alone t) tt
+
+abbrev pub nest_takes : {L : Type 0} → Table L → Step (Nest L)
+nest_takes t = family_takes (alone t) tt
+
+abbrev pub one_of : {L : Type 0} → Table L → ℕ → Nest L → Nest L
+one_of t = one_in (alone t) tt
+
+pub nest_single : {L : Type 0} (t : Table L) → OneReading → IsSingle t.takes
+    → IsSingle (nest_takes t)
+nest_single t reading single = family_single (alone t) reading (λ s. single) tt

@@ -49,7 +49,10 @@ pub use number::Number;
 pub use packed::{Packed, Unpacked};
 pub use parts::{Known, Parts, Rest, measure, write};
 pub use presence::{Always, Implicit, Optional};
-pub use recursive::{Place, Recursive, merge_nest, nest_size, push_message, write_nest};
+pub use recursive::{
+    Place, Recursive, RecursiveHeld, RecursiveMember, RecursiveSlice, merge_held, merge_nest,
+    nest_size, push_message, slice_size, write_nest, write_slice,
+};
 pub use repeated::Repeated;
 pub use scalar::{Numeric, Scalar};
 pub use text::{Blob, Text};

@@ -1,5 +1,5 @@
-//! Message types that hold themselves. Their loops are here, once for all types: a type has only
-//! calls that do not lead back to it.
+//! Message types that hold themselves or one another. Their loops are here, once for all types: a
+//! type has only calls that do not lead back to it.
 ghost use Rattle.std.specs.Prelude.{◌≡◌, ◌≢◌, ◌≤◌, ◌<◌, ◌∷◌, ◌++◌, [], true, false, length, map, OnOk, OnErr, IfOk, IfErr};
 ghost use Rattle.wire_codec.specs.DecodeError.TheVariants as errors;
 ghost use Rattle.wire_codec.specs.EncodeError.TheVariants.{OutOfMemory};
@@ -17,16 +17,24 @@ ghost use Rattle.wire_fields.specs.Measuring.{Measures};
 ghost use Rattle.wire_fields.specs.Nest.{Nest, leaf_of, rows_of, row_at, with_row, row_count};
 ghost use Rattle.wire_fields.specs.NestTable.{Table, IsThere, is_grouped, empty_of, one_of, with_one};
 
+mod alone;
+mod held;
+mod member;
 mod merge;
 mod size;
+mod slices;
 mod write;
 
+pub use alone::{merge_nest, nest_size, write_nest};
 use bytes::Buf;
-pub use merge::merge_nest;
-pub use size::nest_size;
+pub use held::RecursiveHeld;
+pub use member::RecursiveMember;
+pub use merge::merge_held;
+pub use size::slice_size;
+pub use slices::RecursiveSlice;
 use std::alloc::Global;
 use wire_codec::{DecodeContext, DecodeError, EncodeError, EncodeSink, SizeCache, Tag};
-pub use write::write_nest;
+pub use write::write_slice;
 
 /// Where a message that holds itself puts the records of a field number.
 #[derive(Clone, Copy, Debug, PartialEq)]
@@ -64,9 +72,9 @@ pub fn push_message<T: Drop>(messages: &mut Vec<T>, message: T) -> Result<(), De
 }
 
 /// A message type that holds itself. Each field of its own type, optional or repeated, is a row of
-/// messages, which stand behind their lengths, or in groups where the place of the row's number says
-/// so. All other fields, and the unknown ones, are its leaf. The leaf's fields are written in runs:
-/// before the first row, behind the first, and so on, by the order of the numbers.
+/// messages, which stand behind their lengths, or in groups where the place of the row's number
+/// says so. All other fields, and the unknown ones, are its leaf. The leaf's fields are written in
+/// runs: before the first row, behind the first, and so on, by the order of the numbers.
 pub trait Recursive: Drop {
     /// What contracts see of the leaf.
     ghost Leaf: { Type 0 };

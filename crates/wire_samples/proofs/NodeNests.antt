@@ -15,10 +15,11 @@ use Rattle.wire_fields.specs.Arms.{unlike}
 use Rattle.wire_fields.specs.declared.form.Form.TheVariants.{Varint}
 use Rattle.wire_fields.specs.declared.recursive.Place.TheVariants.{Leaf, Once, Each, Grouped}
 use Rattle.wire_fields.specs.Least.{rolled, up_to}
-use Rattle.wire_fields.specs.Messages.{inside, length_prefixed}
+use Rattle.wire_fields.specs.Messages.{inside, length_prefixed, delimited}
 use Rattle.wire_fields.specs.Nest as nests
 use Rattle.wire_fields.specs.Nest.{Nest, nest, Row, Rows, row, done, end, row_of, same_nest}
 use Rattle.wire_fields.specs.NestTable.{nest_records, row_records, nest_takes, level, takes_at}
+use Rattle.wire_fields.specs.NestTable.{alone, family_takes}
 use Rattle.wire_fields.specs.NestTable.{if_number, grows, one_of, with_one, with_more}
 use Rattle.wire_fields.specs.Numbers.{numeric}
 use Rattle.wire_fields.specs.Presence.{implicit_records, sets}
@@ -59,19 +60,22 @@ mutual
     nothing_behind (of_fields fs),
   ) refl
 
-  child_same : (m : MaybeNode) → row_records node_table 2 (maybe_row m) ≡ child_record m
+  child_same : (m : MaybeNode) → row_records (alone node_table) tt length_prefixed 2 (maybe_row m)
+      ≡ child_record m
   child_same absent = refl
   child_same (present m) =
       ap (λ (rs : Records). records.field 2 (records.embedded rs) records.none) (same_records m)
 
-  children_same : (ms : NodeList) → row_records node_table 3 (list_row ms) ≡ children_records ms
+  children_same : (ms : NodeList) → row_records (alone node_table) tt length_prefixed 3
+      (list_row ms) ≡ children_records ms
   children_same empty = refl
   children_same (ahead m ms) =
       ap (λ (rs : Records). records.field 3 (records.embedded rs)
-      (row_records node_table 3 (list_row ms))) (same_records m)
+      (row_records (alone node_table) tt length_prefixed 3 (list_row ms))) (same_records m)
       ∙ ap (records.field 3 (records.embedded (node_records m))) (children_same ms)
 
-  group_same : (m : MaybeNode) → row_records node_table 4 (maybe_row m) ≡ group_record m
+  group_same : (m : MaybeNode) → row_records (alone node_table) tt delimited 4 (maybe_row m)
+      ≡ group_record m
   group_same absent = refl
   group_same (present m) =
       ap (λ (rs : Records). records.field 4 (records.group rs) records.none) (same_records m)
@@ -179,13 +183,14 @@ other_place n is =
 
 module _ (step : Step NodeNest) where
   value_level : (m : NodeValue) (v : ℤ) (p : Payload) (c : Charge) → SetsSint64 p v → c ≡ no_charge
-      → level node_table step (as_nest m) 1 p c (as_nest (with_value m v))
+      → level (alone node_table) (λ s. step) tt (as_nest m) 1 p c (as_nest (with_value m v))
   value_level (node w kid kids own fs) v p c made charged =
       (((charged, number_back sint64 p v made), refl), refl)
 
   unknown_level : (m : NodeValue) (n : ℕ) (p : Payload) (c : Charge) → IsNodeOther n
       → c ≡ payload_charge p
-      → level node_table step (as_nest m) n p c (as_nest (with_unknown m (push (unknown_of m) n p)))
+      → level (alone node_table) (λ s. step) tt (as_nest m) n p c (as_nest (with_unknown m (push
+      (unknown_of m) n p)))
   unknown_level (node w kid kids own fs) n p c is charged =
       rw (other_place n is, unlike n 1 is.value) (((charged, refl), refl), refl)
 
@@ -194,8 +199,10 @@ module _ (reading : OneReading) where
   takes = nest_takes node_table
 
   abbrev climbs : (m z : NodeNest) (n : ℕ) (p : Payload) (c : Charge)
-      → level node_table takes m n p c z → takes m n p c z
-  climbs = rolled (level node_table) (grows node_table reading (node_leaf.single reading))
+      → level (alone node_table) (family_takes (alone node_table)) tt m n p c z → takes m n p c z
+  climbs =
+      rolled (level (alone node_table))
+      (grows (alone node_table) reading (λ s. node_leaf.single reading)) tt
 
   mutual
     pub in_nest : {m z : NodeValue} {n : ℕ} {p : Payload} {c : Charge} → NodeTakes m n p c z
@@ -274,7 +281,7 @@ module _ (step : Step NodeNest) (back : StepBack step) where
       }
 
   at_value : (m : NodeValue) (p : Payload) (c : Charge) (y : NodeNest)
-      → level node_table step (as_nest m) 1 p c y → Made y (NodeTakes m 1 p c)
+      → level (alone node_table) (λ s. step) tt (as_nest m) 1 p c y → Made y (NodeTakes m 1 p c)
   at_value (node w kid kids own fs) p c (nest l rows) (((charged, made), same), rows_is) = record {
     value = node l.0 kid kids own fs;
     is = same_nest (nest l rows) (as_nest (node l.0 kid kids own fs))
@@ -283,7 +290,7 @@ module _ (step : Step NodeNest) (back : StepBack step) where
   }
 
   at_child : (m : NodeValue) (p : Payload) (c : Charge) (y : NodeNest)
-      → level node_table step (as_nest m) 2 p c y → Made y (NodeTakes m 2 p c)
+      → level (alone node_table) (λ s. step) tt (as_nest m) 2 p c y → Made y (NodeTakes m 2 p c)
   at_child m p c y (after, one, (fs, within, has, folds, priced), charged, is) =
       let all = folds_back (or_default (child_of m)) fs within after
       (subst (λ x. Folds step x fs within after) (child_start m) folds) in
@@ -295,7 +302,7 @@ module _ (step : Step NodeNest) (back : StepBack step) where
       }
 
   at_another : (m : NodeValue) (p : Payload) (c : Charge) (y : NodeNest)
-      → level node_table step (as_nest m) 3 p c y → Made y (NodeTakes m 3 p c)
+      → level (alone node_table) (λ s. step) tt (as_nest m) 3 p c y → Made y (NodeTakes m 3 p c)
   at_another m p c y (after, one, (fs, within, has, folds, priced), charged, is) =
       let all = folds_back default_node fs within after folds in
       record {
@@ -307,7 +314,7 @@ module _ (step : Step NodeNest) (back : StepBack step) where
       }
 
   at_group : (m : NodeValue) (p : Payload) (c : Charge) (y : NodeNest)
-      → level node_table step (as_nest m) 4 p c y → Made y (NodeTakes m 4 p c)
+      → level (alone node_table) (λ s. step) tt (as_nest m) 4 p c y → Made y (NodeTakes m 4 p c)
   at_group m p c y (after, one, (fs, within, has, folds, priced), charged, is) =
       let all = folds_back (or_default (group_of m)) fs within after
       (subst (λ x. Folds step x fs within after) (group_start m) folds) in
@@ -318,9 +325,9 @@ module _ (step : Step NodeNest) (back : StepBack step) where
       }
 
   at_other : (m : NodeValue) (n : ℕ) (p : Payload) (c : Charge) (y : NodeNest) → IsNodeOther n
-      → level node_table step (as_nest m) n p c y → Made y (NodeTakes m n p c)
+      → level (alone node_table) (λ s. step) tt (as_nest m) n p c y → Made y (NodeTakes m n p c)
   at_other (node w kid kids own fs) n p c (nest l rows) is h =
-      let (kept, rows_is) = subst (λ x. takes_at node_table step x
+      let (kept, rows_is) = subst (λ x. takes_at (alone node_table) (λ s. step) tt x
       (as_nest (node w kid kids own fs)) n p c (nest l rows)) (other_place n is) h in
       let ((charged, pushed), same) = subst (λ b. on b
       (sets (numeric Varint sint64) w n p c l.0 × (l.1 ≡ fs)) (keeps fs n p c l.1 × (l.0 ≡ w)))
@@ -332,7 +339,7 @@ module _ (step : Step NodeNest) (back : StepBack step) where
         makes = unknown is charged refl;
       }
 
-  level_back : StepBack (level node_table step)
+  level_back : StepBack (level (alone node_table) (λ s. step) tt)
   level_back m n p c y h = elim (eqb_tells n 1) [
     | inl e ↦ moved 1 e.1 (at_value m p c y)
     | inr one ↦ elim (eqb_tells n 2) [
@@ -353,15 +360,16 @@ module _ (step : Step NodeNest) (back : StepBack step) where
   ]
     where
       moved : (k : ℕ) → n ≡ k
-          → (level node_table step (as_nest m) k p c y → Made y (NodeTakes m k p c))
+          → (level (alone node_table) (λ s. step) tt (as_nest m) k p c y → Made y
+          (NodeTakes m k p c))
           → Made y (NodeTakes m n p c)
       moved k e f = subst (λ x. Made y (NodeTakes m x p c)) (sym e)
-          (f (subst (λ x. level node_table step (as_nest m) x p c y) e h))
+          (f (subst (λ x. level (alone node_table) (λ s. step) tt (as_nest m) x p c y) e h))
 
-up_back : (h : ℕ) → StepBack (up_to (level node_table) h)
+up_back : (h : ℕ) → StepBack (up_to (level (alone node_table)) h tt)
 up_back zero m n p c y h = absurd h
 up_back (suc h) m n p c y taken =
-    level_back (up_to (level node_table) h) (up_back h) m n p c y taken
+    level_back (up_to (level (alone node_table)) h tt) (up_back h) m n p c y taken
 
 pub from_nest : (m z : NodeValue) (n : ℕ) (p : Payload) (c : Charge)
     → nest_takes node_table (as_nest m) n p c (as_nest z) → NodeTakes m n p c z

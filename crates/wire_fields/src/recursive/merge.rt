@@ -1,4 +1,4 @@
-//! A message that holds itself, from bytes.
+//! Messages that hold themselves or one another, from bytes.
 ghost use Rattle.std.specs.Prelude.{◌≡◌, ◌≢◌, ◌-◌, ◌^◌, ◌<◌, OnOk, OnErr, IfOk, IfErr};
 ghost use Rattle.wire_codec.specs.DecodeError.TheVariants.{OutOfMemory};
 ghost use Rattle.wire_codec.specs.Limits.{Charge, NoCountGrew, left_after, outer};
@@ -8,9 +8,9 @@ ghost use Rattle.wire_codec.specs.Taking.{TakesRecord, IsCharged, NotTaken};
 ghost use Rattle.wire_fields.specs.Messages.{length_prefixed, delimited, inside};
 ghost use Rattle.wire_fields.specs.Nest.{Nest};
 ghost use Rattle.wire_fields.specs.NestPayload.{Enters, TakesWithin};
-ghost use Rattle.wire_fields.specs.NestTable.{nest_takes};
+ghost use Rattle.wire_fields.specs.NestTable.{family_takes};
 
-use super::{Place, Recursive};
+use super::{Place, RecursiveHeld};
 use bytes::Buf;
 use std::alloc::Global;
 use wire_codec::{
@@ -21,7 +21,7 @@ use wire_codec::{
 /// What `merge_field` of a message that holds itself does.
 #[cycle(merge)]
 #[inline(always)]
-pub fn merge_nest<T: Recursive, B: Buf>(
+pub fn merge_held<T: RecursiveHeld, B: Buf>(
     message: &mut T,
     alloc: Global,
     tag: Tag,
@@ -29,17 +29,19 @@ pub fn merge_nest<T: Recursive, B: Buf>(
     context: &mut DecodeContext,
 ) -> Result<(), DecodeError>
     ensures ok { OnOk result (IsCharged context.old context.new (λ c.
-        TakesRecord (nest_takes T.table) context.old (tag_number tag) (tag_type tag)
-        (T.view message.old) (B.unread buf.old) c (T.view message.new) (B.unread buf.new))) }
+        TakesRecord (family_takes T.family (T.sort message.old)) context.old (tag_number tag)
+        (tag_type tag) (T.view message.old) (B.unread buf.old) c (T.view message.new)
+        (B.unread buf.new))) }
     ensures err { IfErr result (λ e. e ≢ OutOfMemory → NotTaken
-        (TakesRecord (nest_takes T.table) context.old (tag_number tag) (tag_type tag)
-        (T.view message.old) (B.unread buf.old))) }
+        (TakesRecord (family_takes T.family (T.sort message.old)) context.old (tag_number tag)
+        (tag_type tag) (T.view message.old) (B.unread buf.old))) }
+    ensures sort { T.sort message.new ≡ T.sort message.old }
     ensures counts { OnErr result (NoCountGrew context.old context.new) }
     ensures kept { B.kept buf.new ≡ B.kept buf.old }
 {
     laws::records_in_order();
     laws::grammar::limits_add_up();
-    match T::place(tag.field_number()) {
+    match message.place(tag.field_number()) {
         Place::Leaf => message.merge_leaf(alloc, tag, buf, context),
         Place::Once(row) => {
             let mut own = message.take(alloc, row);
@@ -48,7 +50,7 @@ pub fn merge_nest<T: Recursive, B: Buf>(
         }
         Place::Each(row, bytes) => {
             context.register_element_memory(bytes)?;
-            let mut own = T::empty(alloc);
+            let mut own = message.new_in(alloc, row);
             merge_embedded(&mut own, alloc, tag, buf, context)?;
             message.push(row, own)
         }
@@ -62,7 +64,7 @@ pub fn merge_nest<T: Recursive, B: Buf>(
 
 // Reads the payload behind this tag and takes its records into the message, one level down.
 #[cycle(merge)]
-fn merge_embedded<T: Recursive, B: Buf>(
+fn merge_embedded<T: RecursiveHeld, B: Buf>(
     message: &mut T,
     alloc: Global,
     tag: Tag,
@@ -70,12 +72,15 @@ fn merge_embedded<T: Recursive, B: Buf>(
     context: &mut DecodeContext,
 ) -> Result<(), DecodeError>
     ensures ok { OnOk result (IsCharged context.old context.new (λ c.
-        TakesRecord (inside length_prefixed (nest_takes T.table)) context.old (tag_number tag)
+        TakesRecord (inside length_prefixed (family_takes T.family
+        (T.sort message.old))) context.old (tag_number tag)
         (tag_type tag) (T.view message.old) (B.unread buf.old) c (T.view message.new)
         (B.unread buf.new))) }
     ensures err { IfErr result (λ e. e ≢ OutOfMemory → NotTaken
-        (TakesRecord (inside length_prefixed (nest_takes T.table)) context.old (tag_number tag)
+        (TakesRecord (inside length_prefixed (family_takes T.family
+        (T.sort message.old))) context.old (tag_number tag)
         (tag_type tag) (T.view message.old) (B.unread buf.old))) }
+    ensures sort { T.sort message.new ≡ T.sort message.old }
     ensures counts { OnErr result (NoCountGrew context.old context.new) }
     ensures kept { B.kept buf.new ≡ B.kept buf.old }
 {
@@ -90,15 +95,15 @@ fn merge_embedded<T: Recursive, B: Buf>(
 // Takes a level, and reads the length of an embedded message: answers how many bytes stand behind
 // its payload.
 #[inline(always)]
-fn enter_payload<T: Recursive, B: Buf>(
+fn enter_payload<T: RecursiveHeld, B: Buf>(
     buf: &mut B,
     context: &mut DecodeContext,
 ) -> Result<usize, DecodeError>
     ensures ok { IfOk result (Enters context.old context.new (B.unread buf.old)
         (B.unread buf.new)) }
     ensures room { OnOk result (context.new.depth < 2 ^ 32 - 1) }
-    ensures err { OnErr result ((m : Nest T.Leaf)
-        → NotTaken (TakesEmbedded (nest_takes T.table) context.old m (B.unread buf.old))) }
+    ensures err { OnErr result ((s : T.Sort) (m : Nest T.Leaf)
+        → NotTaken (TakesEmbedded (family_takes T.family s) context.old m (B.unread buf.old))) }
     ensures counts { OnErr result (NoCountGrew context.old context.new) }
     ensures kept { B.kept buf.new ≡ B.kept buf.old }
 {
@@ -112,7 +117,7 @@ fn enter_payload<T: Recursive, B: Buf>(
 // Takes the records of a payload with `rest` bytes behind it, and gives its level back. A record
 // that runs past the payload is refused.
 #[cycle(merge)]
-fn merge_payload<T: Recursive, B: Buf>(
+fn merge_payload<T: RecursiveHeld, B: Buf>(
     message: &mut T,
     alloc: Global,
     buf: &mut B,
@@ -120,11 +125,14 @@ fn merge_payload<T: Recursive, B: Buf>(
     rest: usize,
 ) -> Result<(), DecodeError>
     requires { context.old.depth < 2 ^ 32 - 1 }
-    ensures ok { OnOk result ((c : Charge) × TakesWithin (nest_takes T.table) context.old rest
+    ensures ok { OnOk result ((c : Charge) × TakesWithin (family_takes T.family
+        (T.sort message.old)) context.old rest
         (T.view message.old) (B.unread buf.old) c (T.view message.new) (B.unread buf.new)
         × (context.new ≡ outer (left_after context.old c))) }
-    ensures err { IfErr result (λ e. e ≢ OutOfMemory → NotTaken (TakesWithin (nest_takes T.table)
+    ensures err { IfErr result (λ e. e ≢ OutOfMemory → NotTaken (TakesWithin (family_takes T.family
+        (T.sort message.old))
         context.old rest (T.view message.old) (B.unread buf.old))) }
+    ensures sort { T.sort message.new ≡ T.sort message.old }
     ensures counts { OnErr result (NoCountGrew context.old context.new) }
     ensures kept { B.kept buf.new ≡ B.kept buf.old }
 {
@@ -132,7 +140,7 @@ fn merge_payload<T: Recursive, B: Buf>(
     laws::grammar::one_list();
     while buf.remaining() > rest {
         let tag = Tag::decode(buf)?;
-        merge_nest(message, alloc, tag, buf, context)?;
+        merge_held(message, alloc, tag, buf, context)?;
     }
     if buf.remaining() < rest {
         return Err(DecodeError::UnexpectedEof);
@@ -143,7 +151,7 @@ fn merge_payload<T: Recursive, B: Buf>(
 
 // Takes the body of the group behind this tag into the message, one level down.
 #[cycle(merge)]
-fn merge_grouped<T: Recursive, B: Buf>(
+fn merge_grouped<T: RecursiveHeld, B: Buf>(
     message: &mut T,
     alloc: Global,
     tag: Tag,
@@ -151,12 +159,15 @@ fn merge_grouped<T: Recursive, B: Buf>(
     context: &mut DecodeContext,
 ) -> Result<(), DecodeError>
     ensures ok { OnOk result (IsCharged context.old context.new (λ c.
-        TakesRecord (inside delimited (nest_takes T.table)) context.old (tag_number tag)
+        TakesRecord (inside delimited (family_takes T.family (T.sort message.old))) context.old
+        (tag_number tag)
         (tag_type tag) (T.view message.old) (B.unread buf.old) c (T.view message.new)
         (B.unread buf.new))) }
     ensures err { IfErr result (λ e. e ≢ OutOfMemory → NotTaken
-        (TakesRecord (inside delimited (nest_takes T.table)) context.old (tag_number tag)
+        (TakesRecord (inside delimited (family_takes T.family (T.sort message.old))) context.old
+        (tag_number tag)
         (tag_type tag) (T.view message.old) (B.unread buf.old))) }
+    ensures sort { T.sort message.new ≡ T.sort message.old }
     ensures counts { OnErr result (NoCountGrew context.old context.new) }
     ensures kept { B.kept buf.new ≡ B.kept buf.old }
 {
@@ -168,7 +179,7 @@ fn merge_grouped<T: Recursive, B: Buf>(
 
 // Takes the records of a group of this number up to its end tag, one level down.
 #[cycle(merge)]
-fn merge_group<T: Recursive, B: Buf>(
+fn merge_group<T: RecursiveHeld, B: Buf>(
     message: &mut T,
     alloc: Global,
     buf: &mut B,
@@ -176,10 +187,13 @@ fn merge_group<T: Recursive, B: Buf>(
     number: u32,
 ) -> Result<(), DecodeError>
     ensures ok { OnOk result (IsCharged context.old context.new (λ c.
-        TakesGroup (nest_takes T.table) context.old number (T.view message.old)
+        TakesGroup (family_takes T.family (T.sort message.old)) context.old number
+        (T.view message.old)
         (B.unread buf.old) c (T.view message.new) (B.unread buf.new))) }
-    ensures err { IfErr result (λ e. e ≢ OutOfMemory → NotTaken (TakesGroup (nest_takes T.table)
+    ensures err { IfErr result (λ e. e ≢ OutOfMemory → NotTaken (TakesGroup (family_takes T.family
+        (T.sort message.old))
         context.old number (T.view message.old) (B.unread buf.old))) }
+    ensures sort { T.sort message.new ≡ T.sort message.old }
     ensures counts { OnErr result (NoCountGrew context.old context.new) }
     ensures kept { B.kept buf.new ≡ B.kept buf.old }
 {
@@ -187,7 +201,7 @@ fn merge_group<T: Recursive, B: Buf>(
     laws::levels_and_counts();
     context.descend()?;
     while let Some(tag) = Tag::decode_in_group(buf, number)? {
-        merge_nest(message, alloc, tag, buf, context)?;
+        merge_held(message, alloc, tag, buf, context)?;
     }
     context.ascend();
     Ok(())

@@ -1,5 +1,5 @@
-//! A message that holds itself, written.
-ghost use Rattle.std.specs.Prelude.{◌≡◌, ◌≤◌, length, map, OnOk};
+//! Messages that hold themselves or one another, written.
+ghost use Rattle.std.specs.Prelude.{◌≡◌, ◌≤◌, ◌<◌, length, OnOk};
 ghost use Rattle.wire_codec.specs.FieldNumber.{IsFieldNumber};
 ghost use Rattle.wire_codec.specs.Records.{text, text_size};
 ghost use Rattle.wire_codec.specs.Sizes.{sizes};
@@ -7,36 +7,41 @@ ghost use Rattle.wire_codec.specs.Tape.{NextAre, advanced};
 ghost use Rattle.wire_codec.specs.Writes.{Writes};
 ghost use Rattle.wire_fields.specs.Messages.{length_prefixed, delimited};
 ghost use Rattle.wire_fields.specs.Messages.{message_record, message_each};
-ghost use Rattle.wire_fields.specs.NestTable.{nest_records, encoding_of};
+ghost use Rattle.wire_fields.specs.NestTable.{family_records, records_at, encoding_of};
 
-use super::Recursive;
+use super::RecursiveSlice;
 use wire_codec::{
     EncodeError, EncodeSink, SizeCache, laws, put_group_end, put_group_start,
     put_len_delimited_header,
 };
 
-/// What `write_to` of a message that holds itself does.
+/// What `write_to` of the message at an index does.
 #[cycle(write)]
-pub fn write_nest<T: Recursive, S: EncodeSink>(
-    message: &T,
+pub fn write_slice<T: RecursiveSlice, S: EncodeSink>(
+    messages: T,
+    index: usize,
     cache: &mut SizeCache,
     sink: &mut S,
 ) -> Result<(), EncodeError>
-    requires sizes { NextAre (sizes (nest_records T.table (T.view message.now))) cache.old }
-    requires size { text_size (nest_records T.table (T.view message.now)) ≤ 2147483647 }
-    ensures written { Writes S.most (text (nest_records T.table (T.view message.now)))
+    requires message { index < length (T.views messages) }
+    requires sizes { NextAre (sizes
+        (records_at T.family (T.sort messages) (T.views messages) index)) cache.old }
+    requires size { text_size (records_at T.family (T.sort messages) (T.views messages) index)
+        ≤ 2147483647 }
+    ensures written { Writes S.most
+        (text (records_at T.family (T.sort messages) (T.views messages) index))
         (S.bytes_of sink.old) (S.bytes_of sink.new) result }
-    ensures read { OnOk result (cache.new ≡ advanced cache.old
-        (length (sizes (nest_records T.table (T.view message.now))))) }
+    ensures read { OnOk result (cache.new ≡ advanced cache.old (length (sizes
+        (records_at T.family (T.sort messages) (T.views messages) index)))) }
 {
     laws::joined_records_add_up();
     laws::piece_by_piece();
-    message.put_run(0, cache, sink)?;
-    for row in 0..T::rows() {
-        let number = T::number(row);
-        let grouped = T::place(number).is_grouped();
-        put_row(number, grouped, message.row(row), cache, sink)?;
-        message.put_run(row + 1, cache, sink)?;
+    messages.put_run(index, 0, cache, sink)?;
+    for row in 0..messages.rows() {
+        let number = messages.number(row);
+        let grouped = messages.is_grouped(row);
+        put_row(number, grouped, messages.row(index, row), cache, sink)?;
+        messages.put_run(index, row + 1, cache, sink)?;
     }
     Ok(())
 }
@@ -44,25 +49,27 @@ pub fn write_nest<T: Recursive, S: EncodeSink>(
 // Writes the records of a row. A row of no messages is passed over in place.
 #[cycle(write)]
 #[inline(always)]
-fn put_row<T: Recursive, S: EncodeSink>(
+fn put_row<T: RecursiveSlice, S: EncodeSink>(
     number: u32,
     grouped: bool,
-    messages: &[T],
+    messages: T,
     cache: &mut SizeCache,
     sink: &mut S,
 ) -> Result<(), EncodeError>
     requires number { IsFieldNumber number }
-    requires sizes { NextAre (sizes (message_each (encoding_of grouped) (nest_records T.table)
-        number (map T.view messages.now))) cache.old }
-    requires size { text_size (message_each (encoding_of grouped) (nest_records T.table) number
-        (map T.view messages.now)) ≤ 2147483647 }
+    requires sizes { NextAre (sizes (message_each (encoding_of grouped)
+        (family_records T.family (T.sort messages)) number (T.views messages))) cache.old }
+    requires size { text_size (message_each (encoding_of grouped)
+        (family_records T.family (T.sort messages)) number (T.views messages)) ≤ 2147483647 }
     ensures written { Writes S.most (text (message_each (encoding_of grouped)
-        (nest_records T.table) number (map T.view messages.now))) (S.bytes_of sink.old)
+        (family_records T.family (T.sort messages)) number (T.views messages)))
+        (S.bytes_of sink.old)
         (S.bytes_of sink.new) result }
     ensures read { OnOk result (cache.new ≡ advanced cache.old (length (sizes (message_each
-        (encoding_of grouped) (nest_records T.table) number (map T.view messages.now))))) }
+        (encoding_of grouped) (family_records T.family (T.sort messages)) number
+        (T.views messages))))) }
 {
-    if messages.is_empty() {
+    if messages.count() == 0 {
         return Ok(());
     }
     put_each(number, grouped, messages, cache, sink)
@@ -71,28 +78,30 @@ fn put_row<T: Recursive, S: EncodeSink>(
 // Writes the records of the messages.
 #[cycle(write)]
 #[inline(never)]
-fn put_each<T: Recursive, S: EncodeSink>(
+fn put_each<T: RecursiveSlice, S: EncodeSink>(
     number: u32,
     grouped: bool,
-    messages: &[T],
+    messages: T,
     cache: &mut SizeCache,
     sink: &mut S,
 ) -> Result<(), EncodeError>
     requires number { IsFieldNumber number }
-    requires sizes { NextAre (sizes (message_each (encoding_of grouped) (nest_records T.table)
-        number (map T.view messages.now))) cache.old }
-    requires size { text_size (message_each (encoding_of grouped) (nest_records T.table) number
-        (map T.view messages.now)) ≤ 2147483647 }
+    requires sizes { NextAre (sizes (message_each (encoding_of grouped)
+        (family_records T.family (T.sort messages)) number (T.views messages))) cache.old }
+    requires size { text_size (message_each (encoding_of grouped)
+        (family_records T.family (T.sort messages)) number (T.views messages)) ≤ 2147483647 }
     ensures written { Writes S.most (text (message_each (encoding_of grouped)
-        (nest_records T.table) number (map T.view messages.now))) (S.bytes_of sink.old)
+        (family_records T.family (T.sort messages)) number (T.views messages)))
+        (S.bytes_of sink.old)
         (S.bytes_of sink.new) result }
     ensures read { OnOk result (cache.new ≡ advanced cache.old (length (sizes (message_each
-        (encoding_of grouped) (nest_records T.table) number (map T.view messages.now))))) }
+        (encoding_of grouped) (family_records T.family (T.sort messages)) number
+        (T.views messages))))) }
 {
     laws::joined_records_add_up();
     laws::piece_by_piece();
-    for message in messages {
-        put_message(number, grouped, message, cache, sink)?;
+    for index in 0..messages.count() {
+        put_message(number, grouped, messages, index, cache, sink)?;
     }
     Ok(())
 }
@@ -100,77 +109,89 @@ fn put_each<T: Recursive, S: EncodeSink>(
 // Writes the record of a message.
 #[cycle(write)]
 #[inline(always)]
-fn put_message<T: Recursive, S: EncodeSink>(
+fn put_message<T: RecursiveSlice, S: EncodeSink>(
     number: u32,
     grouped: bool,
-    message: &T,
+    messages: T,
+    index: usize,
     cache: &mut SizeCache,
     sink: &mut S,
 ) -> Result<(), EncodeError>
     requires number { IsFieldNumber number }
+    requires message { index < length (T.views messages) }
     requires sizes { NextAre (sizes (message_record (encoding_of grouped) number
-        (nest_records T.table (T.view message.now)))) cache.old }
+        (records_at T.family (T.sort messages) (T.views messages) index))) cache.old }
     requires size { text_size (message_record (encoding_of grouped) number
-        (nest_records T.table (T.view message.now))) ≤ 2147483647 }
+        (records_at T.family (T.sort messages) (T.views messages) index)) ≤ 2147483647 }
     ensures written { Writes S.most (text (message_record (encoding_of grouped) number
-        (nest_records T.table (T.view message.now)))) (S.bytes_of sink.old) (S.bytes_of sink.new)
+        (records_at T.family (T.sort messages) (T.views messages) index))) (S.bytes_of sink.old)
+        (S.bytes_of sink.new)
         result }
     ensures read { OnOk result (cache.new ≡ advanced cache.old (length (sizes (message_record
-        (encoding_of grouped) number (nest_records T.table (T.view message.now)))))) }
+        (encoding_of grouped) number (records_at T.family (T.sort messages)
+        (T.views messages) index))))) }
 {
     if grouped {
-        put_grouped(number, message, cache, sink)
+        put_grouped(number, messages, index, cache, sink)
     } else {
-        put_embedded(number, message, cache, sink)
+        put_embedded(number, messages, index, cache, sink)
     }
 }
 
 // Writes an embedded message: its size, which the cache has next, and its encoding.
 #[cycle(write)]
-fn put_embedded<T: Recursive, S: EncodeSink>(
+fn put_embedded<T: RecursiveSlice, S: EncodeSink>(
     number: u32,
-    message: &T,
+    messages: T,
+    index: usize,
     cache: &mut SizeCache,
     sink: &mut S,
 ) -> Result<(), EncodeError>
     requires number { IsFieldNumber number }
+    requires message { index < length (T.views messages) }
     requires sizes { NextAre (sizes (message_record length_prefixed number
-        (nest_records T.table (T.view message.now)))) cache.old }
+        (records_at T.family (T.sort messages) (T.views messages) index))) cache.old }
     requires size { text_size (message_record length_prefixed number
-        (nest_records T.table (T.view message.now))) ≤ 2147483647 }
+        (records_at T.family (T.sort messages) (T.views messages) index)) ≤ 2147483647 }
     ensures written { Writes S.most (text (message_record length_prefixed number
-        (nest_records T.table (T.view message.now)))) (S.bytes_of sink.old) (S.bytes_of sink.new)
+        (records_at T.family (T.sort messages) (T.views messages) index))) (S.bytes_of sink.old)
+        (S.bytes_of sink.new)
         result }
     ensures read { OnOk result (cache.new ≡ advanced cache.old (length (sizes
-        (message_record length_prefixed number (nest_records T.table (T.view message.now)))))) }
+        (message_record length_prefixed number (records_at T.family (T.sort messages)
+        (T.views messages) index))))) }
 {
     laws::piece_by_piece();
     let len = cache.consume_next();
     put_len_delimited_header(number, u64::from(len), sink)?;
-    write_nest(message, cache, sink)
+    write_slice(messages, index, cache, sink)
 }
 
 // Writes a group, between its two tags.
 #[cycle(write)]
-fn put_grouped<T: Recursive, S: EncodeSink>(
+fn put_grouped<T: RecursiveSlice, S: EncodeSink>(
     number: u32,
-    message: &T,
+    messages: T,
+    index: usize,
     cache: &mut SizeCache,
     sink: &mut S,
 ) -> Result<(), EncodeError>
     requires number { IsFieldNumber number }
+    requires message { index < length (T.views messages) }
     requires sizes { NextAre (sizes (message_record delimited number
-        (nest_records T.table (T.view message.now)))) cache.old }
+        (records_at T.family (T.sort messages) (T.views messages) index))) cache.old }
     requires size { text_size (message_record delimited number
-        (nest_records T.table (T.view message.now))) ≤ 2147483647 }
+        (records_at T.family (T.sort messages) (T.views messages) index)) ≤ 2147483647 }
     ensures written { Writes S.most (text (message_record delimited number
-        (nest_records T.table (T.view message.now)))) (S.bytes_of sink.old) (S.bytes_of sink.new)
+        (records_at T.family (T.sort messages) (T.views messages) index))) (S.bytes_of sink.old)
+        (S.bytes_of sink.new)
         result }
     ensures read { OnOk result (cache.new ≡ advanced cache.old (length (sizes
-        (message_record delimited number (nest_records T.table (T.view message.now)))))) }
+        (message_record delimited number (records_at T.family (T.sort messages)
+        (T.views messages) index))))) }
 {
     laws::piece_by_piece();
     put_group_start(number, sink)?;
-    write_nest(message, cache, sink)?;
+    write_slice(messages, index, cache, sink)?;
     put_group_end(number, sink)
 }

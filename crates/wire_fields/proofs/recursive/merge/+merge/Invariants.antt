@@ -2,7 +2,7 @@ use Rattle.std.proofs.Common.{◌≡◌, ◌+◌, ◌*◌, length}
 use Rattle.wire_codec.specs.Ending.{by_limit, by_tag}
 use Rattle.wire_codec.specs.Limits.{inner}
 use Rattle.wire_codec.proofs.Lists.{Follows}
-use Rattle.wire_fields.specs.NestTable.{nest_takes}
+use Rattle.wire_fields.specs.NestTable.{family_takes}
 use Rattle.wire_fields.proofs.recursive.merge.+merge.Given as goal
 
 -- ---- levels: a level down is less, whatever is called there
@@ -16,8 +16,8 @@ decreases-merge_grouped g l = 3 * l.context.now.depth + 1
 abbrev pub decreases-merge_embedded : goal.decreases-merge_embedded
 decreases-merge_embedded g l = 3 * l.context.now.depth + 1
 
-abbrev pub decreases-merge_nest : goal.decreases-merge_nest
-decreases-merge_nest g l = 3 * l.context.now.depth + 2
+abbrev pub decreases-merge_held : goal.decreases-merge_held
+decreases-merge_held g l = 3 * l.context.now.depth + 2
 
 abbrev pub decreases-merge_payload : goal.decreases-merge_payload
 decreases-merge_payload g l = 3 * l.context.now.depth + 3
@@ -26,9 +26,11 @@ decreases-merge_payload g l = 3 * l.context.now.depth + 3
 
 abbrev pub invariant-merge_payload-loop-alloc : goal.invariant-merge_payload-loop-alloc
 invariant-merge_payload-loop-alloc g l = record {
-  follows : Follows (nest_takes g.T.Recursive.table) (by_limit l.fn.rest) l.fn.context
-      (g.T.Recursive.view l.fn.message) (g.B.Buf.unread l.fn.buf) l.context
-      (g.T.Recursive.view l.message) (g.B.Buf.unread l.buf);
+  follows : Follows (family_takes g.T.RecursiveHeld.family (g.T.RecursiveHeld.sort l.fn.message))
+      (by_limit l.fn.rest) l.fn.context
+      (g.T.RecursiveHeld.view l.fn.message) (g.B.Buf.unread l.fn.buf) l.context
+      (g.T.RecursiveHeld.view l.message) (g.B.Buf.unread l.buf);
+  sort : g.T.RecursiveHeld.sort l.message ≡ g.T.RecursiveHeld.sort l.fn.message;
   kept : g.B.Buf.kept l.buf ≡ g.B.Buf.kept l.fn.buf;
 }
 
@@ -37,9 +39,11 @@ decreases-merge_payload-loop-alloc g l = length (g.B.Buf.unread l.buf)
 
 abbrev pub invariant-merge_group-loop-tag : goal.invariant-merge_group-loop-tag
 invariant-merge_group-loop-tag g l = record {
-  follows : Follows (nest_takes g.T.Recursive.table) (by_tag l.fn.number) (inner l.fn.context)
-      (g.T.Recursive.view l.fn.message) (g.B.Buf.unread l.fn.buf) l.context
-      (g.T.Recursive.view l.message) (g.B.Buf.unread l.buf);
+  follows : Follows (family_takes g.T.RecursiveHeld.family (g.T.RecursiveHeld.sort l.fn.message))
+      (by_tag l.fn.number) (inner l.fn.context)
+      (g.T.RecursiveHeld.view l.fn.message) (g.B.Buf.unread l.fn.buf) l.context
+      (g.T.RecursiveHeld.view l.message) (g.B.Buf.unread l.buf);
+  sort : g.T.RecursiveHeld.sort l.message ≡ g.T.RecursiveHeld.sort l.fn.message;
   kept : g.B.Buf.kept l.buf ≡ g.B.Buf.kept l.fn.buf;
 }
 

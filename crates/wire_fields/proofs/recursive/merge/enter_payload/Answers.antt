@@ -6,15 +6,16 @@ use Rattle.wire_codec.specs.Limits.{Limits, inner}
 use Rattle.wire_codec.specs.Read.{Reads}
 use Rattle.wire_codec.proofs.DelimitedLists.{no_delimited}
 use Rattle.wire_fields.specs.NestPayload.{Enters}
-use Rattle.wire_fields.specs.NestTable.{nest_takes}
+use Rattle.wire_fields.specs.NestTable.{family_takes}
 use Rattle.wire_fields.proofs.recursive.merge.enter_payload.Goals as goal
 
 pub returns-in_err-len-clause-err : goal.returns-in_err-len-clause-err
 returns-in_err-len-clause-err g c =
     let p = err_from_is_err_and c.from_residual-in_err-len.result
     c.from_residual-in_err-len.ensures.1 in
-    rw (p.1) (λ m. λ charge z new h. no_delimited c.delimited_is_read.ensures
-    (nest_takes g.T.Recursive.table) _ _ _ _ _ c.in_err-len.ensures.fault charge z new h.taken)
+    rw (p.1) (λ s m. λ charge z new h. no_delimited c.delimited_is_read.ensures
+    (family_takes g.T.RecursiveHeld.family s) _ _ _ _ _ c.in_err-len.ensures.fault charge z new
+    h.taken)
 
 -- a length that was read, and as many bytes at the front of those behind it
 entered : (l k : Limits) (old now : List ℕ) (total len : ℕ) → 0 < l.depth → k ≡ inner l
