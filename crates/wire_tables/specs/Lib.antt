@@ -3,6 +3,9 @@ pub mod Cause
 pub mod Contact
 pub mod Counter
 pub mod CounterBack
+pub mod Expression
+pub mod ExpressionBack
+pub mod Expressions
 pub mod Ledger
 pub mod Level
 pub mod Meter

@@ -1,6 +1,8 @@
 //! Laws of the message types: each function is a theorem, and does nothing.
 ghost use Rattle.wire_fields.specs.Returned.{ReadsBack};
 ghost use Rattle.wire_tables.specs.CounterBack.{CountersFoldBack};
+ghost use Rattle.wire_tables.specs.Expression.{an_expression, a_call, shape_of};
+ghost use Rattle.wire_tables.specs.ExpressionBack.{range_of};
 ghost use Rattle.wire_tables.specs.Meter.{meter};
 ghost use Rattle.wire_tables.specs.MeterBack.{meter_range};
 ghost use Rattle.wire_tables.specs.ProfileBack.{ProfilesFoldBack};
@@ -9,7 +11,7 @@ ghost use Rattle.wire_tables.specs.SignalBack.{signal_range};
 ghost use Rattle.wire_tables.specs.Tree.{tree_shape};
 ghost use Rattle.wire_tables.specs.TreeBack.{tree_range};
 
-use crate::{Meter, Signal, Tree};
+use crate::{Call, Expression, Meter, Signal, Tree};
 use wire_codec::laws;
 use wire_fields::laws::grounds;
 
@@ -55,4 +57,20 @@ pub fn trees_read_back()
 {
     grounds();
     laws::text_decodes::<Tree>();
+}
+
+/// What is written of an `Expression` decodes to it, where the limits suffice.
+pub fn expressions_read_back()
+    ensures { ReadsBack (shape_of an_expression) (range_of an_expression) }
+{
+    grounds();
+    laws::text_decodes::<Expression>();
+}
+
+/// What is written of a `Call` decodes to it, where the limits suffice.
+pub fn calls_read_back()
+    ensures { ReadsBack (shape_of a_call) (range_of a_call) }
+{
+    grounds();
+    laws::text_decodes::<Call>();
 }

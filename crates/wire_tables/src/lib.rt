@@ -1,10 +1,13 @@
 //! Message types as tables of their fields, as a compiler of schemas would write them.
 #![tactic(auto)]
 
+mod call;
 mod card;
 mod cause;
 mod contact;
 mod counter;
+mod expression;
+mod expressions;
 pub mod laws;
 mod ledger;
 mod level;
@@ -16,10 +19,12 @@ mod rule;
 mod signal;
 mod tree;
 
+pub use call::Call;
 pub use card::Card;
 pub use cause::{Cause, CauseKind};
 pub use contact::{Contact, ContactKind};
 pub use counter::Counter;
+pub use expression::Expression;
 pub use ledger::Ledger;
 pub use level::Level;
 pub use meter::Meter;

@@ -1,7 +1,9 @@
 //! The messages that are tables of fields, and how each is shown.
 use super::sample::Sample;
 use crate::said::{Hex, Said};
-use wire_tables::{Card, Contact, Counter, Ledger, Meter, Profile, Pulse, Reading, Signal};
+use wire_tables::{
+    Call, Card, Contact, Counter, Expression, Ledger, Meter, Profile, Pulse, Reading, Signal,
+};
 
 impl Sample for Counter {
     fn say(&self, said: &mut Said) {
@@ -100,6 +102,26 @@ impl Sample for Signal {
         said.also(" ", &self.history);
         said.also(" ", &self.marks);
         said.also(" ", &self.cause);
+        said.also(" ", &self.unknown.len());
+    }
+}
+
+impl Sample for Expression {
+    fn say(&self, said: &mut Said) {
+        said.show(&self.value);
+        if let Some(call) = &self.call {
+            said.word(" ");
+            call.say(said);
+        }
+        said.also(" ", &self.unknown.len());
+    }
+}
+
+impl Sample for Call {
+    fn say(&self, said: &mut Said) {
+        said.show(&self.name);
+        said.also(" ", &self.arguments.len());
+        said.also(" ", &self.receiver.is_some());
         said.also(" ", &self.unknown.len());
     }
 }
