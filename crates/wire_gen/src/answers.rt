@@ -12,9 +12,11 @@ Rattle.std.proofs.Common ◌∙◌
 Rattle.wire_codec.specs.TagView tag_number
 Rattle.wire_fields.specs.Arms arm_err
 Rattle.wire_fields.specs.Arms unlike
-Rattle.$crate$.specs.$name$ $module$-known
-Rattle.$crate$.specs.$name$ $whole$
+Rattle.$crate$.specs.$specs_of_own$ $module$-known
+Rattle.$crate$.specs.$specs_of_own$ $whole$
 $whole_uses$";
+
+const FAMILY: &str = "use Rattle.$crate$.specs.$family_name$ as family\n";
 
 const HEAD: &str = "\
 $imports$use Rattle.$crate$.proofs.$module$.$goals$.Goals as goal
@@ -42,6 +44,21 @@ const OF_LEAF: [Template; 5] = [
         "Rattle.$crate$.specs.$name$ $name$-Value\n\
         Rattle.$crate$.specs.$name$ $module$-one\n\
         Rattle.$crate$.specs.declared.$module$.$name$ fold_out-$name$\n",
+    ),
+];
+
+// Of that of a type of a family.
+const OF_MEMBER: [Template; 5] = [
+    ("goals", "$name$RecursiveMemberFamilyHeld.merge_leaf"),
+    ("whole", "$module$-leaf"),
+    (
+        "before",
+        "rw (fold_out-$name$$their_trees$$their_ones$ c.args.self.now)\n    ($err_open$",
+    ),
+    ("behind", "$err_close$)"),
+    (
+        "whole_uses",
+        "Rattle.$crate$.specs.declared.$module$.$name$ fold_out-$name$\n$err_uses$",
     ),
 ];
 
@@ -151,7 +168,7 @@ const OF_ONEOF: Template = ("uses", "$specs$ $definition$\n");
 
 const OF_KIND: Template = (
     "uses",
-    "Rattle.$crate$.specs.$name$ $module$-$field$-kind\n",
+    "Rattle.$crate$.specs.$specs_of_own$ $module$-$field$-kind\n",
 );
 
 // Of a number of a oneof that leaves records of other wire types.
@@ -173,7 +190,18 @@ pub(crate) fn answers_of(
 ) -> Result<String, GenerateError> {
     let mut page = Words::like(base);
     page.copy(&tree.words, &["unlike"]);
-    page.fill_all(if is_recursive { &OF_LEAF } else { &OF_WHOLE });
+    let is_member = !page.get("family_name").is_empty();
+    page.fill_all(if is_member {
+        &OF_MEMBER
+    } else if is_recursive {
+        &OF_LEAF
+    } else {
+        &OF_WHOLE
+    });
+    page.fill(
+        "specs_of_own",
+        if is_member { "$family_name$" } else { "$name$" },
+    );
     page.fill("uses", USES);
     for field in fields {
         page.copy(
@@ -230,6 +258,7 @@ pub(crate) fn answers_of(
         page.append("uses", USES_OF_REST_TAKEN);
     }
     definition_imports(&mut page);
+    page.append("imports", if is_member { FAMILY } else { "" });
     page.fill("text", HEAD);
     page.append("text", "$answers$");
     page.append("text", if is_large { REST_TAKEN } else { "" });

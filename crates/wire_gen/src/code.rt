@@ -24,6 +24,9 @@ wire_fields measure
 wire_fields write
 ";
 
+// Of types that hold one another.
+const CYCLE: &str = "#[cycle($family_module$)]\n";
+
 const STRUCT: &str = "\
 #[derive($derived$Debug, Drop, PartialEq)]
 pub struct $name$ {$declared$}
@@ -247,6 +250,8 @@ pub(crate) fn put_head(page: &mut Words, schema: &Schema, message: &MessageType)
         comment => put_comment(page, "code", "", comment),
     }
     page.set("derived", if message.is_twin { "" } else { "Clone, " });
+    let is_member = !page.get("family_name").is_empty();
+    page.append("code", if is_member { CYCLE } else { "" });
     page.append_all(&[("code", STRUCT), ("code", NAME)]);
 }
 

@@ -4,14 +4,37 @@ use crate::schema::Schema;
 use wire_descriptor::FieldDescriptorProto;
 
 impl Schema {
-    /// No message types hold one another: each turn leaves those open that hold an open one beside
-    /// themselves.
-    pub(crate) fn stop_on_cycles(&mut self) -> Result<(), GenerateError> {
+    /// Which message types hold themselves, and which hold one another: each tells the place of the
+    /// first of its family, by their modules.
+    pub(crate) fn find_families(&mut self) -> Result<(), GenerateError> {
         let held = self.held_by_each()?;
+        let open = self.open_ones(&held)?;
+        let mut reached = Vec::new(self.alloc);
+        for (start, is_open) in open.iter().enumerate() {
+            reached.push(self.reached(&held, start, *is_open)?)?;
+        }
+        let mut families = Vec::new(self.alloc);
+        for place in 0..self.messages.len() {
+            families.push(self.first_of_family(&reached, place))?;
+        }
+        for (message, family) in self.messages.iter_mut().zip(families) {
+            message.family = family;
+        }
+        for (holder, held) in held {
+            if let Some(message) = self.messages.get_mut(holder) {
+                message.is_recursive |= holder == held;
+            }
+        }
+        Ok(())
+    }
+
+    // Those that lead to types that hold one another: each turn leaves those open that hold an open
+    // one beside themselves.
+    fn open_ones(&self, held: &[(usize, usize)]) -> Result<Vec<bool>, GenerateError> {
         let mut open = self.flags(true)?;
         for _ in 0..self.messages.len() {
             let mut next = self.flags(false)?;
-            for (holder, held) in &held {
+            for (holder, held) in held {
                 if holder != held && open.get(*held) == Some(&true) {
                     if let Some(flag) = next.get_mut(*holder) {
                         *flag = true;
@@ -23,28 +46,65 @@ impl Schema {
             }
             open = next;
         }
-        for (message, is_open) in self.messages.iter_mut().zip(open) {
-            if is_open && message.origin.is_own {
-                let why =
-                    "$full$: messages that hold one another want encoded=FIELD, of one between \
-                           them";
-                return Err(message.words.refused(why));
-            }
-        }
-        for (holder, held) in held {
-            if let Some(message) = self.messages.get_mut(holder) {
-                message.is_recursive |= holder == held;
-            }
-        }
-        Ok(())
+        Ok(open)
     }
 
-    /// The clone of a message that holds itself is a derived one, which says nothing of it, nor of
+    // What the type at a place holds, whatever lies between; itself where it is open, and else
+    // nothing.
+    fn reached(
+        &self,
+        held: &[(usize, usize)],
+        start: usize,
+        is_open: bool,
+    ) -> Result<Vec<bool>, GenerateError> {
+        let mut flags = self.flags(false)?;
+        if let Some(flag) = flags.get_mut(start) {
+            *flag = is_open;
+        }
+        for _ in 0..self.messages.len() {
+            let mut is_same = true;
+            for (holder, held) in held {
+                if flags.get(*holder) == Some(&true) && flags.get(*held) == Some(&false) {
+                    if let Some(flag) = flags.get_mut(*held) {
+                        *flag = true;
+                        is_same = false;
+                    }
+                }
+            }
+            if is_same {
+                break;
+            }
+        }
+        Ok(flags)
+    }
+
+    // The first of those that the type at this place reaches and that reach it, where there are
+    // others.
+    fn first_of_family(&self, reached: &[Vec<bool>], place: usize) -> Option<usize> {
+        let mut first: Option<(&str, usize)> = None;
+        let mut count: usize = 0;
+        for (other, message) in self.messages.iter().enumerate() {
+            if reaches(reached, place, other) && reaches(reached, other, place) {
+                let own = (message.words.get("module"), other);
+                first = match first {
+                    Some(least) if least <= own => Some(least),
+                    _ => Some(own),
+                };
+                count = count.saturating_add(1);
+            }
+        }
+        match first {
+            Some((_, first)) if count > 1 => Some(first),
+            _ => None,
+        }
+    }
+
+    /// The clone of a message that holds itself or others is a derived one, which says nothing of it, nor of
     /// what holds such a message.
     pub(crate) fn find_twins(&mut self) -> Result<(), GenerateError> {
         let mut flags = self.flags(true)?;
         for (message, flag) in self.messages.iter().zip(flags.iter_mut()) {
-            *flag = !message.is_recursive;
+            *flag = !message.is_recursive && message.family.is_none();
         }
         self.spread(&mut flags)?;
         for (message, flag) in self.messages.iter_mut().zip(flags) {
@@ -101,5 +161,12 @@ impl Schema {
             },
             None => field.type_name.as_str(),
         }
+    }
+}
+
+fn reaches(reached: &[Vec<bool>], from: usize, to: usize) -> bool {
+    match reached.get(from) {
+        Some(flags) => flags.get(to) == Some(&true),
+        None => false,
     }
 }

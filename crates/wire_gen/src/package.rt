@@ -6,16 +6,19 @@ use crate::definitions::definitions_of;
 use crate::enums::enum_files;
 use crate::error::GenerateError;
 use crate::extensions::extensions_of;
+use crate::family::{family_code, set_family};
+use crate::family_definitions::{family_definitions, held_answers};
 use crate::features::{FIRST_EDITION, LAST_EDITION};
 use crate::field::{Field, Oneof, fields_of};
 use crate::laws_pages::{LAW, LAW_ANSWERS, LAW_USES, LAWS, has_laws};
+use crate::member_definitions::{MEMBER_MERGE, member_definitions};
 use crate::names::order_key;
 use crate::oneof::oneof_code;
 use crate::oneof_definitions::oneof_definitions;
 use crate::oneof_proofs::{merge_answers, variant_answers};
 use crate::parameters::set_crate;
 use crate::recursive::recursive_code;
-use crate::recursive_definitions::{recursive_definitions, row_answers};
+use crate::recursive_definitions::{recursive_definitions, row_answers, table_page};
 use crate::rows::{is_row, leaf_tree};
 use crate::schema::{EnumType, MessageType, Schema};
 use crate::tree::tree_of;
@@ -74,6 +77,17 @@ pub(crate) fn answer(alloc: Global, request: &[u8]) -> Result<Vec<u8>, GenerateE
     }
 }
 
+// Where the proofs of a message type that holds itself are, and of one of a family.
+const FOLDERS: [Template; 2] = [
+    ("folder", "proofs/$module$/$name$Recursive"),
+    ("row_folder", "$folder$"),
+];
+
+const MEMBER_FOLDERS: [Template; 2] = [
+    ("folder", "proofs/$module$/$name$RecursiveMemberFamilyHeld"),
+    ("row_folder", "proofs/$module$/$name$"),
+];
+
 fn files_of(
     alloc: Global,
     request: &CodeGeneratorRequest,
@@ -86,9 +100,12 @@ fn files_of(
         base,
         files: Vec::new(alloc),
     };
-    for message in &schema.messages {
+    for (place, message) in schema.messages.iter().enumerate() {
         if message.origin.is_own {
             package.add_message(&schema, message)?;
+            if message.family == Some(place) {
+                package.add_family(&schema, place)?;
+            }
         }
     }
     for of_enum in &schema.enums {
@@ -133,7 +150,7 @@ impl Package {
         if fields.len() > MOST_FIELDS {
             return Err(page.refused("$full$: more than 80 fields"));
         }
-        if message.is_recursive {
+        if message.is_recursive || message.family.is_some() {
             return self.add_recursive(schema, message, fields);
         }
         let tree = tree_of(&page, &mut fields, true)?;
@@ -156,7 +173,7 @@ impl Package {
         self.add(&mut page, path, answers)
     }
 
-    // A message type that holds itself: some of these fields are of its own type.
+    // A message type that holds itself, or is of a family: some of these fields are rows.
     fn add_recursive(
         &mut self,
         schema: &Schema,
@@ -164,9 +181,16 @@ impl Package {
         fields: Vec<Field>,
     ) -> Result<(), GenerateError> {
         let mut page = self.page(&message.words);
+        match message.family {
+            Some(first) => drop(set_family(&mut page, schema, first)?),
+            None => page.fill("family", " $name$ "),
+        }
         let (fields, tree) = leaf_tree(&mut page, fields)?;
         let code = recursive_code(&page, schema, message, &fields)?;
-        let definitions = recursive_definitions(&page, &fields, &tree)?;
+        let definitions = match message.family {
+            Some(_) => member_definitions(&page)?,
+            None => recursive_definitions(&page, &fields, &tree)?,
+        };
         let mut leaf = Vec::new(page.alloc());
         let [of_row, of_push] = row_answers(&page, &fields)?;
         for field in fields {
@@ -184,14 +208,51 @@ impl Package {
                 self.add_oneof(oneof, message)?;
             }
         }
-        let folder = "proofs/$module$/$name$Recursive";
-        page.fill("folder", folder);
+        let is_member = message.family.is_some();
+        page.fill_all(if is_member { &MEMBER_FOLDERS } else { &FOLDERS });
         self.add(&mut page, "$folder$/merge_leaf/Answers.antt", answers)?;
         if !of_row.is_empty() {
-            self.add(&mut page, "$folder$/row/Answers.antt", of_row)?;
+            self.add(&mut page, "$row_folder$/row/Answers.antt", of_row)?;
             self.add(&mut page, "$folder$/push/Answers.antt", of_push)?;
         }
+        if is_member {
+            page.fill("answers", MEMBER_MERGE);
+            let answers = page.finish("answers")?;
+            let path = "proofs/$module$/$name$Message/merge_field/Answers.antt";
+            self.add(&mut page, path, answers)?;
+        }
         Ok(())
+    }
+
+    // What message types that hold one another have together; the first of them is at this place.
+    fn add_family(&mut self, schema: &Schema, first: usize) -> Result<(), GenerateError> {
+        let mut tables = Vec::new(self.base.alloc());
+        let mut page = Words::like(&self.base);
+        let members = set_family(&mut page, schema, first)?;
+        for member in &members {
+            let messages = schema.messages.iter();
+            for message in messages.filter(|it| it.words.get("name") == member.get("name")) {
+                if message.family == Some(first) {
+                    let mut own = self.page(&message.words);
+                    set_family(&mut own, schema, first)?;
+                    let fields = fields_of(&self.base, schema, message)?;
+                    let (fields, tree) = leaf_tree(&mut own, fields)?;
+                    tables.push(table_page(&own, &fields, &tree))?;
+                }
+            }
+        }
+        let code = family_code(&page, &members)?;
+        let definitions = family_definitions(&page, &tables)?;
+        let answers = held_answers(&page, &members)?;
+        self.roots.copy(&page, &["family_name", "family_module"]);
+        self.roots.append_all(&[
+            ("modules", "mod $family_module$\n"),
+            ("definitions", "pub mod $family_name$\n"),
+        ]);
+        self.add(&mut page, "src/$family_module$.rt", code)?;
+        self.add(&mut page, "specs/$family_name$.antt", definitions)?;
+        let path = "proofs/$family_module$/FamilyHeldRecursiveHeld/merge_leaf/Answers.antt";
+        self.add(&mut page, path, answers)
     }
 
     // A oneof of a message.

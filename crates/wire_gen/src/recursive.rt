@@ -3,7 +3,9 @@
 use crate::code::{put_field, put_field_comment, put_head, set_rest};
 use crate::error::GenerateError;
 use crate::field::Field;
+use crate::member::{LONG_EACH, MEMBER, MEMBER_EACH, MEMBER_GHOSTS, MEMBER_ONCE, MEMBER_USES};
 use crate::rows::{is_row, once_place};
+use crate::runs::{put_field_in_run, put_run};
 use crate::schema::{MessageType, Schema};
 use crate::words::{Template, Words};
 
@@ -25,6 +27,8 @@ wire_fields merge_nest
 wire_fields nest_size
 wire_fields write_nest
 ";
+
+const GHOSTS: &str = "ghost use Rattle.$crate$.specs.$name$.{$module$-value};\n\n";
 
 const RECURSIVE: &str = "
 impl Recursive for $name$ {
@@ -242,18 +246,7 @@ const NO_PUSH: &str =
     }
 ";
 
-const RUN_FIELD: &str = "                let field_$number$: Known<$kind$> = Known {
-                    number: $number$,
-                    held: &self.$field$,
-                };
-";
-
-const RUN_REST: &str = "                let rest = Rest {
-                    fields: &self.unknown,
-                };
-";
-
-/// The module of a message type that holds itself, whose words the base has.
+/// The module of a message type that holds itself, or is of a family, whose words the base has.
 pub(crate) fn recursive_code(
     base: &Words,
     schema: &Schema,
@@ -261,11 +254,13 @@ pub(crate) fn recursive_code(
     fields: &[Field],
 ) -> Result<String, GenerateError> {
     let mut page = Words::like(base);
-    page.set("uses", USES);
+    let is_member = !page.get("family_name").is_empty();
+    page.fill("uses", if is_member { MEMBER_USES } else { USES });
     let mut count: usize = 0;
     for field in fields {
         if is_row(field) {
             page.copy(&field.words, &["field", "number", "size", "at"]);
+            page.copy(&field.words, &["of_name", "of_path"]);
             page.index("row", count);
             put_run(&mut page, false);
             put_row(&mut page, schema, field);
@@ -280,23 +275,46 @@ pub(crate) fn recursive_code(
     set_rest(&mut page, false);
     page.fill(
         "head_ghosts",
-        "ghost use Rattle.$crate$.specs.$name$.{$module$-value};\n\n",
+        if is_member { MEMBER_GHOSTS } else { GHOSTS },
     );
     put_head(&mut page, schema, message);
-    page.append("code", RECURSIVE);
+    page.append("code", if is_member { MEMBER } else { RECURSIVE });
     page.finish("code")
 }
 
 fn put_row(page: &mut Words, schema: &Schema, field: &Field) {
     put_field_comment(page, schema);
-    let is_each = field.words.get("kind").starts_with("Each");
-    if is_each {
-        page.append_all(&OF_EACH);
+    let is_member = !page.get("family_name").is_empty();
+    let is_other = is_member && page.get("of_name") != page.get("name");
+    page.append(
+        "uses",
+        if is_other {
+            "$of_path$ $of_name$\n"
+        } else {
+            ""
+        },
+    );
+    if field.words.get("kind").starts_with("Each") {
+        page.append_all(if is_member { &MEMBER_EACH } else { &OF_EACH });
+        if page.get("each_line").chars().count() > 100 {
+            page.fill("each_line", LONG_EACH);
+        }
+        page.append("eaches", if is_member { "$each_line$\n" } else { "" });
+        page.set("each_line", "");
         page.append("uses", "wire_fields push_message\n");
     } else {
         page.set("once", once_place(field));
-        page.append_all(&OF_ONCE);
+        page.append_all(if is_member { &MEMBER_ONCE } else { &OF_ONCE });
         page.append("uses", "std::slice from_ref\n");
+        let is_group = page.get("once") == "Grouped";
+        page.append(
+            "grouped",
+            if is_group {
+                "            $row$ => true,\n"
+            } else {
+                ""
+            },
+        );
     }
     page.fill("last_number", "$number$");
     page.append("numbered", "            $row$ => $number$,\n");
@@ -310,48 +328,7 @@ fn put_leaf(page: &mut Words, schema: &Schema, field: &Field) {
     );
     put_field(page, schema, &field.words);
     page.copy(&field.words, &["number"]);
-    page.append("run_lets", RUN_FIELD);
-    put_in_run(page, "field_$number$");
-}
-
-// Puts a part behind those of the run so far.
-fn put_in_run(page: &mut Words, part: &str) {
-    page.fill("part", part);
-    let is_first = page.get("run").is_empty();
-    page.fill(
-        "run",
-        if is_first {
-            "$part$"
-        } else {
-            "($run$, $part$)"
-        },
-    );
-}
-
-// The arms of a run that ends.
-fn put_run(page: &mut Words, is_last: bool) {
-    if is_last {
-        page.append("run_lets", RUN_REST);
-        put_in_run(page, "rest");
-    }
-    page.set("run_at", "_");
-    if !is_last {
-        page.fill("run_at", "$row$");
-    }
-    if page.get("run").is_empty() {
-        page.append("lens", "            $run_at$ => Ok(0),\n");
-        page.append("puts", "            $run_at$ => Ok(()),\n");
-        return;
-    }
-    page.append(
-        "lens",
-        "            $run_at$ => {\n$run_lets$                $run$.len(cache)\n            }\n",
-    );
-    page.append(
-        "puts",
-        "            $run_at$ => {\n$run_lets$                $run$.put(cache, sink)\n            }\n",
-    );
-    page.fill_all(&[("run", ""), ("run_lets", "")]);
+    put_field_in_run(page);
 }
 
 // The calls of rows, of which some may be for no row.

@@ -1,6 +1,7 @@
 //! What is read back of a message that holds itself.
 use crate::definitions::put_returned;
 use crate::field::Field;
+use crate::member_definitions::MEMBER_RANGE;
 use crate::rows::is_row;
 use crate::tree::Tree;
 use crate::words::{Template, Words};
@@ -8,15 +9,18 @@ use crate::words::{Template, Words};
 const USES: &str = "\
 Rattle.std.specs.Prelude ◌<◌
 Rattle.wire_codec.specs.FieldNumber IsFieldNumber
-Rattle.wire_fields.specs.NestBack nest_returned
 Rattle.wire_fields.specs.NestRange IsPlaceOf
 Rattle.wire_fields.specs.NestRange followed
-Rattle.wire_fields.specs.NestRange leaf_back
 Rattle.wire_fields.specs.NestRange leaf_range
-Rattle.wire_fields.specs.NestRange nest_range
 Rattle.wire_fields.specs.NestRange piece
-Rattle.wire_fields.specs.NestRange runs_from
 Rattle.wire_fields.specs.NestRange same_order
+";
+
+const USES_ALONE: &str = "\
+Rattle.wire_fields.specs.NestBack nest_returned
+Rattle.wire_fields.specs.NestRange leaf_back
+Rattle.wire_fields.specs.NestRange nest_range
+Rattle.wire_fields.specs.NestRange runs_from
 ";
 
 const RANGE: &str = "
@@ -79,7 +83,9 @@ const OF_NO_ROW: [Template; 2] = [
 
 /// Puts what is read back behind the definitions of a message that holds itself.
 pub(crate) fn put_back(page: &mut Words, fields: &[Field], tree: &Tree) {
+    let is_alone = page.get("family_name").is_empty();
     page.append("uses", USES);
+    page.append("uses", if is_alone { USES_ALONE } else { "" });
     page.fill_all(&[("at", "zero"), ("at_least", "i"), ("run_piece", "")]);
     page.fill_all(&[("run_ends", "(piece none)"), ("run_pieces", "")]);
     for field in fields {
@@ -98,7 +104,8 @@ pub(crate) fn put_back(page: &mut Words, fields: &[Field], tree: &Tree) {
     end_run(page);
     page.append("run_pieces", "$run_ends$");
     put_returned(page, fields, tree);
-    page.append("back", RANGE);
+    let is_member = !page.get("family_name").is_empty();
+    page.append("back", if is_member { MEMBER_RANGE } else { RANGE });
 }
 
 // Puts the records of a field behind those of the run so far.

@@ -4,6 +4,9 @@ use crate::error::GenerateError;
 use crate::field::Field;
 use crate::imports::definition_imports;
 use crate::laws_pages::has_laws;
+use crate::member_definitions::{
+    MEMBER_PUSH, MEMBER_PUSH_HEAD, MEMBER_ROW, MEMBER_ROW_HEAD, MEMBER_USES,
+};
 use crate::recursive_back::put_back;
 use crate::rows::{is_row, once_place};
 use crate::tree::Tree;
@@ -49,7 +52,7 @@ Rattle.$crate$.specs.declared.$module$.$name$ fold_out-$name$
 ";
 
 // (a message may be called as these are)
-const ALIASES: &str = "\
+pub(crate) const ALIASES: &str = "\
 use Rattle.wire_fields.specs.Nest as nests
 use Rattle.wire_fields.specs.NestTable as tables
 use Rattle.wire_fields.specs.declared.recursive.Place as place
@@ -140,9 +143,19 @@ pub(crate) fn recursive_definitions(
     fields: &[Field],
     tree: &Tree,
 ) -> Result<String, GenerateError> {
+    let mut page = table_page(base, fields, tree);
+    definition_imports(&mut page);
+    page.set("aliases", ALIASES);
+    page.fill("text", TEXT);
+    page.finish("text")
+}
+
+/// The words of such a table, or of that of one type of a family.
+pub(crate) fn table_page(base: &Words, fields: &[Field], tree: &Tree) -> Words {
     let is_read_back = has_laws(base);
     let mut page = Words::like(base);
-    page.fill("uses", USES);
+    let is_member = !page.get("family_name").is_empty();
+    page.fill("uses", if is_member { MEMBER_USES } else { USES });
     page.fill_all(&[("at", "zero"), ("at_least", "i")]);
     let mut count: usize = 0;
     for field in fields {
@@ -158,6 +171,7 @@ pub(crate) fn recursive_definitions(
             }
             let is_each = field.words.get("kind").starts_with("Each");
             page.set("of_row", field.words.get("number"));
+            page.set("type_of_row", field.words.get("of_name"));
             page.set("is_once", if is_each { "false" } else { "true" });
             page.fill_all(&[("at_before", "$at$"), ("least_before", "$at_least$")]);
             page.fill_all(&[("at", "(suc $at$)"), ("at_least", "(suc $at_least$)")]);
@@ -184,10 +198,7 @@ pub(crate) fn recursive_definitions(
     for _ in 0..3 {
         page.indent("view");
     }
-    definition_imports(&mut page);
-    page.set("aliases", ALIASES);
-    page.fill("text", TEXT);
-    page.finish("text")
+    page
 }
 
 // Puts the records of a field behind those of the run so far.
@@ -215,12 +226,16 @@ fn put_run(page: &mut Words, at: &str) {
     page.set("run", "");
 }
 
-// The lines of a row's number, and of whether it has one message at most.
+// The lines of a row's number, of whether it has one message at most, and of the type of these.
 fn put_number(page: &mut Words, at: &str) {
     page.fill("here", at);
     page.append_all(&[
         ("numbers", "$module$-number $here$ = $of_row$\n"),
         ("onces", "$module$-once $here$ = $is_once$\n"),
+        (
+            "holds",
+            "family-holds $name$-Sort $here$ = $type_of_row$-Sort\n",
+        ),
     ]);
 }
 
@@ -295,11 +310,13 @@ returns-in-$row$-clause-ok c =
 /// The answers of `row`, and those of `push`; nothing where there is no row of many messages.
 pub(crate) fn row_answers(base: &Words, fields: &[Field]) -> Result<[String; 2], GenerateError> {
     let mut page = Words::like(base);
+    let is_member = !page.get("family_name").is_empty();
     let mut row: usize = 0;
     let mut is_first = true;
     for field in fields {
         if is_row(field) {
             if field.words.get("kind").starts_with("Each") {
+                page.copy(&field.words, &["of_name", "of_module"]);
                 page.index("row", row);
                 page.fill(
                     "call",
@@ -309,7 +326,7 @@ pub(crate) fn row_answers(base: &Words, fields: &[Field]) -> Result<[String; 2],
                         "(c.deref-in-$row$)"
                     },
                 );
-                page.append("rows", ROW);
+                page.append("rows", if is_member { MEMBER_ROW } else { ROW });
                 page.fill(
                     "call",
                     if is_first {
@@ -318,16 +335,23 @@ pub(crate) fn row_answers(base: &Words, fields: &[Field]) -> Result<[String; 2],
                         "(c.push_message-in-$row$)"
                     },
                 );
-                page.append("pushes", PUSH);
+                page.append("pushes", if is_member { MEMBER_PUSH } else { PUSH });
                 is_first = false;
             }
             row = row.saturating_add(1);
         }
     }
-    if is_first {
-        return Ok([page.finish("rows")?, page.finish("pushes")?]);
+    if !is_first {
+        page.fill("of_row", if is_member { MEMBER_ROW_HEAD } else { ROW_HEAD });
+        page.fill(
+            "of_push",
+            if is_member {
+                MEMBER_PUSH_HEAD
+            } else {
+                PUSH_HEAD
+            },
+        );
+        page.append_all(&[("of_row", "$rows$"), ("of_push", "$pushes$")]);
     }
-    page.fill_all(&[("of_row", ROW_HEAD), ("of_push", PUSH_HEAD)]);
-    page.append_all(&[("of_row", "$rows$"), ("of_push", "$pushes$")]);
     Ok([page.finish("of_row")?, page.finish("of_push")?])
 }

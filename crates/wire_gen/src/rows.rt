@@ -1,15 +1,16 @@
-//! Which fields of a message are of its own type.
+//! Which fields of a message are of its own type, or of one of its family.
 use crate::error::GenerateError;
 use crate::field::Field;
 use crate::tree::{Tree, tree_of};
 use crate::words::Words;
 
-/// Whether a field is of its message's own type.
+/// Whether a field is of its message's own type, or of one of its family.
 pub(crate) fn is_row(field: &Field) -> bool {
     !field.words.get("is_row").is_empty()
 }
 
-/// Tells the fields of a message's own type that they are rows, and makes the tree of the others.
+/// Tells the fields of these types that they are rows, and makes the tree of the others. The word
+/// `family` of the base is ` A B `, the types, or ` A ` where a type holds itself alone.
 pub(crate) fn leaf_tree(
     base: &mut Words,
     fields: Vec<Field>,
@@ -48,10 +49,11 @@ pub(crate) fn leaf_tree(
 }
 
 const BY_OTHER: &str =
-    "$full$: a message that holds itself by a map, a oneof or groups wants encoded=FIELD";
+    "$full$: messages that hold themselves or one another by a map, a oneof or groups want \
+                        encoded=FIELD";
 
-const NO_LEAF: &str = "$full$: a message that holds itself has one to eight other fields, and \
-                       neither closed enums, unknown=drop nor mismatch=keep";
+const NO_LEAF: &str = "$full$: a message that holds itself, or what holds it, has one to eight \
+                       other fields, and neither closed enums, unknown=drop nor mismatch=keep";
 
 // The most other fields: the runs of these are tuples.
 const MOST_LEAVES: usize = 8;
@@ -65,21 +67,27 @@ pub(crate) fn once_place(field: &Field) -> &'static str {
     }
 }
 
-// Whether a field is an embedded message or a group of the type itself, or a list of such messages.
+// Whether a field is an embedded message or a group of such a type, or a list of such messages.
 fn is_own(base: &Words, field: &Words) -> bool {
     let kind = field.get("kind");
     let is_single = kind.starts_with("Embedded<") || kind.starts_with("Group<");
     let is_row = is_single || kind.starts_with("EachEmbedded<");
-    is_row && field.get("of_name") == base.get("name")
+    is_row && is_of_family(base, field)
 }
 
-// Whether another kind of field has the type itself.
+// Whether another kind of field has such a type.
 fn holds_own(base: &Words, field: &Field) -> bool {
     match &field.oneof {
-        Some(oneof) => oneof
-            .variants
-            .iter()
-            .any(|it| it.get("of_name") == base.get("name")),
-        None => field.words.get("of_name") == base.get("name"),
+        Some(oneof) => oneof.variants.iter().any(|it| is_of_family(base, it)),
+        None => is_of_family(base, &field.words),
     }
+}
+
+fn is_of_family(base: &Words, field: &Words) -> bool {
+    let is_here = field.get("of_crate") == base.get("crate");
+    is_here
+        && base
+            .get("family")
+            .split(' ')
+            .any(|it| it == field.get("of_name") && it != "")
 }

@@ -32,6 +32,8 @@ pub(crate) struct MessageType {
     pub descriptor: DescriptorProto,
     /// Whether it holds messages of its own type.
     pub is_recursive: bool,
+    /// The place of the first of the types that hold one another, where it is one of these.
+    pub family: Option<usize>,
     /// Whether a clone is seen by contracts as its source is.
     pub is_twin: bool,
 }
@@ -99,7 +101,7 @@ impl Schema {
             }
         }
         adapt(base, &mut schema)?;
-        schema.stop_on_cycles()?;
+        schema.find_families()?;
         schema.find_twins()?;
         Ok(schema)
     }
@@ -134,6 +136,7 @@ impl Schema {
                 origin,
                 descriptor: descriptor.clone()?,
                 is_recursive: false,
+                family: None,
                 is_twin: true,
             })?;
         }
@@ -166,6 +169,7 @@ impl Schema {
                 origin,
                 descriptor,
                 is_recursive: false,
+                family: None,
                 is_twin: true,
             })?;
         }
@@ -180,6 +184,7 @@ impl Schema {
             origin,
             descriptor: message.descriptor,
             is_recursive: false,
+            family: None,
             is_twin: true,
         };
         if is_entry {

@@ -1,0 +1,331 @@
+//! The definitions of message types that hold one another, on a page of all of them.
+use crate::error::GenerateError;
+use crate::imports::definition_imports;
+use crate::laws_pages::has_laws;
+use crate::recursive_definitions::ALIASES;
+use crate::words::{Template, Words};
+
+const USES: &str = "\
+Rattle.std.proofs.Common List
+Rattle.std.proofs.Common ap
+Rattle.std.proofs.Common inl
+Rattle.std.proofs.Common inr
+Rattle.std.proofs.Common map
+Rattle.std.proofs.Common suc
+Rattle.std.proofs.Common zero
+Rattle.std.proofs.Common ◌≡◌
+Rattle.std.proofs.Common ◌⊎◌
+Rattle.std.specs.Prelude Bool
+Rattle.std.specs.Prelude false
+Rattle.std.specs.Prelude true
+Rattle.std.specs.Prelude ◌==◌
+Rattle.std.specs.Prelude ℕ
+Rattle.wire_codec.specs.Field Fields
+Rattle.wire_codec.specs.Folds IsSingle
+Rattle.wire_codec.specs.Records Records
+Rattle.wire_codec.specs.Records joined_records
+Rattle.wire_codec.specs.Records none
+Rattle.wire_codec.specs.TakingLaws OneReading
+Rattle.wire_fields.specs.Nest boxed_row
+Rattle.wire_fields.specs.Nest done
+Rattle.wire_fields.specs.Nest nest
+Rattle.wire_fields.specs.Nest row
+Rattle.wire_fields.specs.Nest row_count
+Rattle.wire_fields.specs.Nest row_of
+Rattle.wire_fields.specs.NestTable all_counted
+Rattle.wire_fields.specs.NestTable as_it_was
+Rattle.wire_fields.specs.NestTable empty_of
+Rattle.wire_fields.specs.NestTable family_records
+Rattle.wire_fields.specs.NestTable family_single
+Rattle.wire_fields.specs.NestTable family_takes
+Rattle.wire_fields.specs.NestTable if_number
+Rattle.wire_fields.specs.NestTable message_at
+Rattle.wire_fields.specs.Shape Lawful
+Rattle.wire_fields.specs.Shape Shape
+Rattle.wire_fields.specs.Shape known
+Rattle.wire_fields.specs.Shape two
+Rattle.wire_fields.specs.Shape unknown
+Rattle.wire_fields.specs.Sums first_single
+Rattle.wire_fields.specs.Sums first_takes
+Rattle.wire_fields.specs.Sums of_first
+Rattle.wire_fields.specs.Sums of_second
+Rattle.wire_fields.specs.Sums second_single
+Rattle.wire_fields.specs.Sums second_takes
+Rattle.$crate$.specs.declared.$family_module$.FamilyHeld FamilyHeld
+Rattle.$crate$.specs.declared.$family_module$.FamilySlice FamilySlice
+";
+
+const USES_OF_BACK: &str = "\
+Rattle.wire_fields.specs.NestBack family_returned
+Rattle.wire_fields.specs.NestRange GoesToLeaf
+Rattle.wire_fields.specs.NestRange IsReadBack
+Rattle.wire_fields.specs.NestRange LeafBack
+Rattle.wire_fields.specs.NestRange all_runs
+Rattle.wire_fields.specs.NestRange family_range
+Rattle.wire_fields.specs.NestRange known_back
+Rattle.wire_fields.specs.NestRange table_back
+Rattle.wire_fields.specs.Sums first_back
+Rattle.wire_fields.specs.Sums first_range
+Rattle.wire_fields.specs.Sums second_back
+Rattle.wire_fields.specs.Sums second_range
+";
+
+const MORE_ALIASES: &str = "\
+use Rattle.$crate$.specs.declared.$family_module$.FamilyHeld.TheVariants as held
+use Rattle.$crate$.specs.declared.$family_module$.FamilySlice.TheVariants as slices
+";
+
+const TEXT: &str = "\
+-- Messages that hold one another, as contracts see them, and their tables. Generated.
+-- They are $listed$.
+$imports$$aliases$
+-- which of them a message is
+pub data Family-Sorts : Type 0 where
+$sorts$
+$leaves$abbrev pub Family-Leaves : Type 0
+Family-Leaves = $sum$
+
+abbrev pub Family-Tree : Type 0
+Family-Tree = nests.Nest Family-Leaves
+
+$values$$folds$$tables$abbrev pub family-tables : Family-Sorts → tables.Table Family-Leaves
+$table_lines$
+-- of which type the messages of a row are
+abbrev pub family-holds : Family-Sorts → ℕ → Family-Sorts
+$all_holds$
+abbrev pub family-all : tables.Family Family-Sorts Family-Leaves
+family-all = record { table = family-tables; holds = family-holds }
+
+$counted$pub family-singles : OneReading → (s : Family-Sorts) → IsSingle (family-tables s).takes
+$singles$
+pub family-single-takes : OneReading → (s : Family-Sorts) → IsSingle (family_takes family-all s)
+family-single-takes reading = family_single family-all reading (family-singles reading)
+
+abbrev pub family-shapes : Family-Sorts → Shape Family-Tree
+family-shapes s = record {
+  owns = λ n p. true;
+  default = empty_of (family-tables s);
+  records = family_records family-all s;
+  takes = family_takes family-all s;
+  single = λ reading. family-single-takes reading s;
+}
+
+-- as one type
+abbrev pub family-held-sort : FamilyHeld → Family-Sorts
+$held_sorts$
+abbrev pub family-held-value : FamilyHeld → Family-Tree
+$held_values$
+abbrev pub family-slice-sort : FamilySlice → Family-Sorts
+$slice_sorts$
+abbrev pub family-slice-values : FamilySlice → List Family-Tree
+$slice_values$
+pub family-slice-counted : (ms : FamilySlice) (i : ℕ)
+    → row_count (message_at (family-tables (family-slice-sort ms)) (family-slice-values ms) i)
+    ≡ (family-tables (family-slice-sort ms)).rows
+$slice_counted$$backs$";
+
+const BACK: &str = "
+abbrev pub family-leaf-ranges : Family-Sorts → Range Family-Leaves
+$leaf_ranges$
+abbrev pub family-ranges : Family-Sorts → Range Family-Tree
+family-ranges = family_range family-all family-leaf-ranges
+
+pub family-leaves-back : Grounds → (s : Family-Sorts)
+    → LeafBack (family-tables s) (family-leaf-ranges s)
+$leaves_back$
+pub family-returned : Grounds → (s : Family-Sorts) → Returned (family-shapes s) (family-ranges s)
+family-returned g s =
+    family_returned g family-all family-leaf-ranges (family-singles g.reading)
+    (family-leaves-back g) s (family-shapes s) refl refl refl (λ n p. refl)
+";
+
+const OF_MEMBER: [Template; 15] = [
+    ("sorts", "  $name$-Sort : Family-Sorts\n"),
+    (
+        "leaves",
+        "$kinds$abbrev pub $name$-Known : Type 0
+$name$-Known =
+    $value$
+
+abbrev pub $name$-Leaf : Type 0
+$name$-Leaf = $name$-Known × Fields
+
+",
+    ),
+    (
+        "values",
+        "-- one message, with values in the places of those that it holds
+abbrev pub $module$-one : $name$-F$trees$ → Family-Tree
+$module$-one m =
+    nest ($into_open$(
+$view$,
+      m.unknown,
+    )$into_close$)
+    $row_views$
+
+",
+    ),
+    (
+        "folds",
+        "abbrev pub $module$-value : $name$ → Family-Tree
+$module$-value = fold-$name$$trees$$ones$
+
+",
+    ),
+    (
+        "tables",
+        "abbrev pub $module$-known : Shape $name$-Known
+$module$-known =
+    $table$
+
+abbrev pub $module$-leaf : Shape $name$-Leaf
+$module$-leaf = two $module$-known unknown
+
+-- the records of the leaf before the first row, behind the first, and so on
+abbrev pub $module$-run : ℕ → $name$-Leaf → Records
+$runs$
+abbrev pub $module$-number : ℕ → ℕ
+$numbers$
+abbrev pub $module$-once : ℕ → Bool
+$onces$
+abbrev pub $module$-place : ℕ → place.Place
+$module$-place n = $places$
+
+abbrev pub $module$-table : tables.Table Family-Leaves
+$module$-table = record {
+  default = $sum_start$;
+  takes = $sum_takes$;
+  run = λ i. $sum_run$;
+  rows = $count$;
+  number = $module$-number;
+  once = $module$-once;
+  place = $module$-place;
+  beside = as_it_was;
+  rows_beside = as_it_was;
+}
+
+",
+    ),
+    (
+        "table_lines",
+        "family-tables $name$-Sort = $module$-table\n",
+    ),
+    ("all_holds", "$holds$"),
+    (
+        "counted",
+        "pub $module$-counted : (m : $name$) → row_count ($module$-value m) ≡ $count$
+$module$-counted m = ap row_count (fold_out-$name$$trees$$ones$ m)
+
+",
+    ),
+    (
+        "singles",
+        "family-singles reading $name$-Sort = $sum_single$\n",
+    ),
+    (
+        "held_sorts",
+        "family-held-sort (held.$name$ m) = $name$-Sort\n",
+    ),
+    (
+        "held_values",
+        "family-held-value (held.$name$ m) = $module$-value m\n",
+    ),
+    (
+        "slice_sorts",
+        "family-slice-sort (slices.$name$ ms) = $name$-Sort\n",
+    ),
+    (
+        "slice_values",
+        "family-slice-values (slices.$name$ ms) = map $module$-value ms.now\n",
+    ),
+    (
+        "slice_counted",
+        "family-slice-counted (slices.$name$ ms) i =
+    all_counted $module$-table $module$-value $module$-counted ms.now i
+",
+    ),
+    ("backs", "$back$"),
+];
+
+const OF_BACK: [Template; 2] = [
+    (
+        "leaf_ranges",
+        "family-leaf-ranges $name$-Sort = $sum_range$\n",
+    ),
+    (
+        "leaves_back",
+        "family-leaves-back g $name$-Sort = $module$-back g\n",
+    ),
+];
+
+/// The page of all of them, of which each has a page of a table.
+pub(crate) fn family_definitions(base: &Words, members: &[Words]) -> Result<String, GenerateError> {
+    let mut page = Words::like(base);
+    page.fill("uses", USES);
+    let is_read_back = has_laws(base);
+    page.append("uses", if is_read_back { USES_OF_BACK } else { "" });
+    for member in members {
+        let mut own = Words::like(member);
+        own.fill("aliases", "");
+        for (name, template) in &OF_MEMBER {
+            own.fill("line", template);
+            page.set("line", own.get("line"));
+            page.append(name, "$line$");
+        }
+        for (name, template) in &OF_BACK {
+            own.fill("line", template);
+            page.set("line", own.get("line"));
+            page.append(name, "$line$");
+        }
+        page.copy(&own, &["name"]);
+        page.set("line", own.get("uses"));
+        page.append("uses", "$line$");
+        let is_first = page.get("listed").is_empty();
+        page.append("listed", if is_first { "`$name$`" } else { ", `$name$`" });
+        let is_last = page.get("sum_open").len() >= members.len().saturating_sub(1);
+        page.append(
+            "sum",
+            if is_last {
+                "$name$-Leaf$sum_open$"
+            } else {
+                "$name$-Leaf ⊎ ("
+            },
+        );
+        page.append("sum_open", ")");
+    }
+    definition_imports(&mut page);
+    page.fill("aliases", MORE_ALIASES);
+    page.append("aliases", ALIASES);
+    page.append("backs", if is_read_back { BACK } else { "" });
+    page.fill("text", TEXT);
+    page.finish("text")
+}
+
+const HELD_HEAD: &str = "\
+use Rattle.$crate$.proofs.$family_module$.FamilyHeldRecursiveHeld.merge_leaf.Goals as goal
+$answers$";
+
+const HELD: &str = "
+pub returns-in-$name$-clause-err : goal.returns-in-$name$-clause-err
+returns-in-$name$-clause-err g c = rw c.in-$name$.is $call$.ensures.err
+";
+
+/// The answers of `merge_leaf` of all of them as one type.
+pub(crate) fn held_answers(base: &Words, members: &[Words]) -> Result<String, GenerateError> {
+    let mut page = Words::like(base);
+    for member in members {
+        page.copy(member, &["name"]);
+        let is_first = page.get("answers").is_empty();
+        page.fill(
+            "call",
+            if is_first {
+                "c.merge_leaf"
+            } else {
+                "(c.merge_leaf-in-$name$)"
+            },
+        );
+        page.append("answers", HELD);
+    }
+    page.fill("text", HELD_HEAD);
+    page.finish("text")
+}

@@ -1,0 +1,149 @@
+//! The definitions and the proofs of one of several message types that hold one another.
+use crate::error::GenerateError;
+use crate::imports::definition_imports;
+use crate::laws_pages::has_laws;
+use crate::words::Words;
+
+/// What the definitions of one of them bring in.
+pub(crate) const MEMBER_USES: &str = "\
+Rattle.$crate$.specs.declared.$module$.$name$ $name$
+Rattle.$crate$.specs.declared.$module$.$name$ $name$-F
+Rattle.$crate$.specs.declared.$module$.$name$ fold-$name$
+Rattle.$crate$.specs.declared.$module$.$name$ fold_out-$name$
+";
+
+/// What is read back of one of them.
+pub(crate) const MEMBER_RANGE: &str = "
+-- what is read back once it is written
+abbrev pub $module$-range-of-known : Range $name$-Known
+$module$-range-of-known =
+    $range$
+
+abbrev pub $module$-returned-of-known : Grounds → Returned $module$-known $module$-range-of-known
+$module$-returned-of-known g =
+    $returned$
+
+pub $module$-row_numbers : Grounds → (i : ℕ) → i < $count$ → IsFieldNumber ($module$-number i)
+$row_numbers$
+pub $module$-row_places : (i : ℕ) → i < $count$
+    → IsPlaceOf i ($module$-once i) ($module$-place ($module$-number i))
+$row_places$
+-- the runs, one behind another, are the records of the leaf
+pub $module$-runs_in_order : (l : Family-Leaves) → all_runs $module$-table l ≡ $sum_records$ l
+$other_patterns$$module$-runs_in_order $pattern$ = same_order
+    $run_pieces$
+    (followed $leaf_pieces$(piece (unknown.records l.1))) refl
+
+abbrev pub $module$-range-of-leaf : Range $name$-Leaf
+$module$-range-of-leaf = leaf_range $module$-table $module$-known $module$-range-of-known
+
+pub $module$-known-back : (g : Grounds)
+    → IsReadBack $module$-leaf.takes $module$-leaf.default $module$-leaf.records
+    (GoesToLeaf $module$-table) $module$-range-of-leaf
+$module$-known-back g =
+    known_back g $module$-table $module$-known $module$-range-of-known
+    ($module$-returned-of-known g) (λ n h. $apart$)
+
+pub $module$-back : Grounds → LeafBack $module$-table $sum_range$
+$module$-back g =
+    table_back $module$-table $sum_range$ $sum_takes$
+    $sum_start$ $sum_records$
+    $sum_back$
+    refl refl $module$-runs_in_order ($module$-row_numbers g) $module$-row_places (λ i m. refl)
+    (λ n rs. refl)
+";
+
+const FACE: &str = "\
+-- A `$name$` as contracts see it, which is one of the types of `$family_name$`. Generated.
+$imports$use Rattle.$crate$.specs.$family_name$ as family
+
+abbrev pub $name$-Value : Type 0
+$name$-Value = family.Family-Tree
+
+abbrev pub $module$-value : $name$ → $name$-Value
+$module$-value = family.$module$-value
+
+abbrev pub $module$-shape : Shape $name$-Value
+$module$-shape = family.family-shapes family.$name$-Sort
+$back$";
+
+const FACE_OF_BACK: &str = "
+abbrev pub $module$-range : Range $name$-Value
+$module$-range = family.family-ranges family.$name$-Sort
+
+pub $module$-returned : Grounds → Returned $module$-shape $module$-range
+$module$-returned g = family.family-returned g family.$name$-Sort
+";
+
+const FACE_USES: &str = "\
+Rattle.wire_fields.specs.Shape Shape
+Rattle.$crate$.specs.declared.$module$.$name$ $name$
+";
+
+const FACE_USES_OF_BACK: &str = "\
+Rattle.wire_fields.specs.Grounds Grounds
+Rattle.wire_fields.specs.Ranges Range
+Rattle.wire_fields.specs.Returned Returned
+";
+
+/// The page of one of them.
+pub(crate) fn member_definitions(base: &Words) -> Result<String, GenerateError> {
+    let mut page = Words::like(base);
+    let is_read_back = has_laws(base);
+    page.fill("uses", FACE_USES);
+    page.append("uses", if is_read_back { FACE_USES_OF_BACK } else { "" });
+    page.fill("back", if is_read_back { FACE_OF_BACK } else { "" });
+    definition_imports(&mut page);
+    page.fill("text", FACE);
+    page.finish("text")
+}
+
+pub(crate) const MEMBER_ROW_HEAD: &str = "\
+use Rattle.std.proofs.Common.{◌∙◌, ap, map, sym}
+use Rattle.wire_fields.specs.Nest.{listed_row}
+use Rattle.$crate$.specs.$family_name$ as family
+use Rattle.$crate$.specs.declared.$module$.$name$.{fold_out-$name$}
+use Rattle.$crate$.proofs.$module$.$name$.row.Goals as goal
+";
+
+pub(crate) const MEMBER_ROW: &str = "
+pub returns-in-$row$-clause-messages : goal.returns-in-$row$-clause-messages
+returns-in-$row$-clause-messages c =
+    rw (c.in-$row$.is, fold_out-$name$$their_trees$$their_ones$ c.args.self.now)
+    (ap (map family.$of_module$-value) $call$.ensures.value ∙ sym (listed_row _))
+";
+
+pub(crate) const MEMBER_PUSH_HEAD: &str = "\
+use Rattle.std.proofs.Common.{◌∙◌}
+use Rattle.std.proofs.lemmas.Result.{on_ok_weaker}
+use Rattle.wire_fields.specs.Nest.{listed_row, row_pushed}
+use Rattle.$crate$.specs.$family_name$ as family
+$type_uses$\
+use Rattle.$crate$.specs.declared.$module$.$name$.{out-$name$, fold_out-$name$}
+use Rattle.$crate$.specs.declared.$first_module$.$first_name$.TheFolds.{fold-roll-$name$}
+use Rattle.$crate$.specs.declared.$first_module$.$first_name$.TheFolds.{map-$name$}
+use Rattle.$crate$.proofs.$module$.$name$RecursiveMemberFamilyHeld.push.Goals as goal
+";
+
+pub(crate) const MEMBER_PUSH: &str = "
+pub returns-in-$row$-$of_name$-clause-ok : goal.returns-in-$row$-$of_name$-clause-ok
+returns-in-$row$-$of_name$-clause-ok c =
+    λ here many kind. on_ok_weaker $call$.result (λ pushed. rw (
+      c.in-$row$-$of_name$.is-0,
+      c.in-$row$-$of_name$.is-1,
+      fold_out-$name$$their_trees$$their_ones$ c.args.self.now,
+    ) (fold-roll-$name$$their_trees$$their_ones$ _
+    ∙ row_pushed family.$of_module$-value $row$
+    (family.$module$-one (map-$name$$types$$their_trees$$their_values$
+    (out-$name$ c.args.self.now)))
+    _ _ c.in-$row$-$of_name$.message (listed_row _) pushed)) $call$.ensures.ok
+";
+
+pub(crate) const MEMBER_MERGE: &str = "\
+use Rattle.std.proofs.Common.{sym}
+use Rattle.$crate$.proofs.$module$.$name$Message.merge_field.Goals as goal
+
+pub returns-in-$name$-clause-err : goal.returns-in-$name$-clause-err
+returns-in-$name$-clause-err g c =
+    rw (sym c.replace.ensures.value) c.merge_held-merged.ensures.err
+";
