@@ -18,7 +18,7 @@ at_some chain m n p c z = (h : ℕ) × chain h m n p c z
 abbrev pub Rising : {V : Type 0} → (ℕ → Step V) → Type 0
 Rising chain = (h k : ℕ) → Within (chain h) (chain (h + k)) × Within (chain k) (chain (h + k))
 
--- ---- the types of a set, which hold one another
+-- ---- the types of a family
 
 -- a step for each type
 abbrev pub Steps : Type 0 → Type 0 → Type 1

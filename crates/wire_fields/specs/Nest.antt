@@ -1,4 +1,4 @@
--- Values that hold values of their own type, or of the types of a set.
+-- Values that hold values of their own type, or of the types of a family.
 use Rattle.std.proofs.Common.{◌≡◌, ℕ, zero, suc, ◌+◌, ◌<◌, ◌≤◌, List, [], ◌∷◌, get_or, length, map, ◌++◌, sym}
 use Rattle.std.proofs.lemmas.List.{map-append}
 use Rattle.std.proofs.Common.{refl, ap, ◌∙◌, arith}
@@ -6,7 +6,7 @@ use Rattle.std.specs.Prelude.{Option, Some, None, Box, box_value}
 use Rattle.std.specs.declared.alloc.Global.{Global}
 
 mutual
-  -- the leaf, which is all that is not of the type itself, and a row for each field that is
+  -- the leaf, which is all that is of none of these types, and a row for each field that is of one
   pub data Nest (L : Type 0) : Type 0 where
     nest : L → Rows L → Nest L
 

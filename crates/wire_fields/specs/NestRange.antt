@@ -27,7 +27,7 @@ IsFit true end = Unit {0}
 IsFit true (ahead m end) = Unit {0}
 IsFit true (ahead m (ahead k ms)) = ⊥
 
--- Of the leaf this holds; there are as many rows as the table has, each with no more messages than
+-- The leaf is in range; there are as many rows as the table has, each with no more messages than
 -- it may have; and these are such too, of a size that a message may have.
 abbrev mutual
   pub FamilyHolds : {S L : Type 0} → Family S L → (S → Range L) → S → Nest L → Type 0

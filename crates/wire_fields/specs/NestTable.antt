@@ -1,6 +1,5 @@
 -- Message types that hold themselves or one another, as tables: their records, and what they make
--- of
--- a record.
+-- of a record.
 use Rattle.std.proofs.Common.{◌≡◌, ℕ, zero, suc, List, [], ◌∷◌, ◌++◌, ◌<◌, get_or, map, ap, ◌∙◌, sym}
 use Rattle.std.specs.Prelude.{Bool, true, false}
 use Rattle.wire_codec.specs.Folds.{Step, IsSingle}
@@ -17,11 +16,9 @@ use Rattle.wire_fields.specs.Nest.{Nest, nest, Rows, done, row, Row, end, ahead,
 use Rattle.wire_fields.specs.Nest.{row_at, with_row, first_of, row_count, empty_rows, same_nest}
 use Rattle.wire_fields.specs.NestRows.{count_empty}
 
--- The fields of the types of a family are embedded messages or groups, each with a row of the
--- value.
--- All other fields, with the unknown ones, are the leaf, which is a table as of any message; they
--- are
--- written in runs: before the first row, behind the first, and so on.
+-- The fields whose messages are of the family are embedded messages or groups, each with a row of
+-- the value. All other fields, with the unknown ones, are the leaf, which is a table as of any
+-- message; they are written in runs: before the first row, behind the first, and so on.
 pub record Table (L : Type 0) : Type 1 where
   pub default : L
   pub takes : Step L

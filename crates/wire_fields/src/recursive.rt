@@ -39,7 +39,7 @@ pub use write::write_slice;
 /// Where a message that holds itself puts the records of a field number.
 #[derive(Clone, Copy, Debug, PartialEq)]
 pub enum Place {
-    /// Into a field that is not of its own type, or among the unknown fields.
+    /// Into a field of the leaf, or among the unknown fields.
     Leaf,
     /// Into this row, which has one message at most.
     Once(usize),

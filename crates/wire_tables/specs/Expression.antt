@@ -26,7 +26,7 @@ pub data Sort : Type 0 where
   an_expression : Sort
   a_call : Sort
 
--- its value, and its name
+-- the value of the one, and the name of the other, each with its unknown fields
 abbrev pub ExpressionLeaf : Type 0
 ExpressionLeaf = ℤ × Fields
 

@@ -74,6 +74,7 @@ impl RecursiveMember<Held> for Expression {
         }
     }
 
+    // (no row has many)
     fn new_in(alloc: Global, _: usize) -> Held {
         Held::Expression(Expression::empty(alloc))
     }

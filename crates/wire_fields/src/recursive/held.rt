@@ -16,10 +16,10 @@ use std::alloc::Global;
 use wire_codec::{DecodeContext, DecodeError, Tag};
 
 /// Message types that hold one another, as one type: an enum of them, or a type that holds itself
-/// alone. What is moved out of a message, or put into it, is of that type again. Each field of
-/// these types, optional or repeated, is a row of messages, which stand behind their lengths, or in
-/// groups where the place of the row's number says so. All other fields, and the unknown ones, are
-/// the leaf. `RecursiveSlice` says how such messages are written.
+/// alone. What is moved out of a message, or put into it, is of that type again. Each field
+/// whose message is of the family, optional or repeated, is a row of messages, which stand behind
+/// their lengths, or in groups where the place of the row's number says so. All other fields, and
+/// the unknown ones, are the leaf. `RecursiveSlice` says how such messages are written.
 pub trait RecursiveHeld: Drop {
     /// The types, and what contracts see of the leaves.
     ghost Sort: { Type 0 };
@@ -39,7 +39,7 @@ pub trait RecursiveHeld: Drop {
         ensures there { IsThere (family.table (sort self.now)) result };
 
     /// The message of no records, of the type of a row that has many. For any other row it is open
-    /// which type it is of.
+    /// which message it is.
     fn new_in(&self, alloc: Global, row: usize) -> Self
         ensures result { row < (family.table (sort self.now)).rows
             → (family.table (sort self.now)).once row ≡ false
@@ -63,8 +63,9 @@ pub trait RecursiveHeld: Drop {
             ≡ with_row row [] ((family.table (sort self.old)).beside row (view self.old)) }
         ensures kind { sort self.new ≡ sort self.old };
 
-    /// Makes a message the one of such a row, in the place of the others of a oneof. For any other
-    /// row, and a message of another type, it is open what is done. Refused where memory runs out.
+    /// Makes a message the one of a row that has one at most, in place of the others of a oneof.
+    /// For any other row, and a message of another type, it is open what is done. Refused where
+    /// memory runs out.
     fn put(&mut self, alloc: Global, row: usize, message: Self) -> Result<(), DecodeError>
         ensures ok { row < (family.table (sort self.old)).rows
             → (family.table (sort self.old)).once row ≡ true

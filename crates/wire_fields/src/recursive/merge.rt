@@ -18,7 +18,7 @@ use wire_codec::{
     laws,
 };
 
-/// What `merge_field` of a message that holds itself does.
+/// What `merge_field` of a message of a family does.
 #[cycle(merge)]
 #[inline(always)]
 pub fn merge_held<T: RecursiveHeld, B: Buf>(

@@ -12,7 +12,7 @@ ghost use Rattle.wire_fields.specs.NestTable.{Family, is_grouped, message_at};
 
 use wire_codec::{EncodeError, EncodeSink, SizeCache};
 
-/// Messages of one of such types, one behind another in a slice: the slice itself, or an enum of
+/// Messages of one type of a family, one behind another in a slice: the slice itself, or an enum of
 /// slices for types that hold one another. The leaf's fields are written in runs: before the first
 /// row, behind the first, and so on, by the order of the numbers.
 pub trait RecursiveSlice: Copy {
