@@ -1,3 +1,4 @@
+pub mod ClosedMaps
 pub mod Closing
 pub mod Dropping
 pub mod Keeping

@@ -2,6 +2,8 @@ pub mod Arms
 pub mod Back
 pub mod Closed
 pub mod ClosedBack
+pub mod ClosedMaps
+pub mod ClosedMapsBack
 pub mod ClosedOneof
 pub mod Dropped
 pub mod Enums

@@ -4,17 +4,18 @@ use Rattle.std.proofs.lemmas.List.{append-nil}
 use Rattle.std.specs.BTreeMap.{insert_entry}
 use Rattle.std.specs.declared.cmp.Ordering.{Ordering}
 use Rattle.std.specs.declared.cmp.Ordering.TheVariants.{Greater}
-use Rattle.wire_codec.specs.Field.{Fields, none, field, joined}
+use Rattle.wire_codec.specs.Field.{Payload, Fields, none, field, joined}
 use Rattle.wire_codec.specs.FieldNumber.{IsFieldNumber}
-use Rattle.wire_codec.specs.Folds.{Folds}
+use Rattle.wire_codec.specs.Folds.{Step, Folds}
 use Rattle.wire_codec.specs.Laws.{FieldsArePlain}
 use Rattle.wire_codec.specs.Limits.{Charge, both, nested, no_charge, element_of}
 use Rattle.wire_codec.specs.LimitsLaws.{ChargesAddUp}
 use Rattle.wire_codec.specs.RecordLaws.{ShortestTextSpells}
 use Rattle.wire_codec.specs.Records as values
-use Rattle.wire_codec.specs.Records.{plain, text_size, joined_records}
+use Rattle.wire_codec.specs.Records.{plain, plain_payload, embedded, text_size, joined_records}
 use Rattle.wire_fields.specs.Back.{AllAre, FoldsBack, KindBack, plain_joined}
-use Rattle.wire_fields.specs.Maps.{entry_records, entry_takes, entry_default, each_entry, map_kind}
+use Rattle.wire_fields.specs.Maps.{EntryOf, entry_records, entry_takes, entry_default, reads_entry}
+use Rattle.wire_fields.specs.Maps.{each_entry, map_kind}
 use Rattle.wire_fields.specs.MessageBack.{prefixed_back}
 use Rattle.wire_fields.specs.OneofBack.{AlwaysBack}
 use Rattle.wire_fields.specs.Scalar.{ScalarType, scalar_record}
@@ -52,6 +53,11 @@ follow_more order [] e es h above = (above, tt)
 follow_more order (b ∷ bs) e es h above = (h.0.1, follow_more order bs e es h.1 above)
 
 -- ---- entries
+
+pub entries_have : {K V : Type 0} (key : ScalarType K) (value : FieldKind V) (n : ℕ)
+    (es : List (K × V)) → AllAre (λ j. j ≡ n) (plain (each_entry key value n es))
+entries_have key value n [] = tt
+entries_have key value n (e ∷ es) = (refl, entries_have key value n es)
 
 module _ {K V : Type 0} (key : ScalarType K) (value : FieldKind V) (HoldsKey : K → Type 0)
     (HoldsValue : V → Type 0) (charge_of : V → Charge) where
@@ -124,54 +130,67 @@ module _ {K V : Type 0} (key : ScalarType K) (value : FieldKind V) (HoldsKey : K
 
     module _ (place : ℕ) (order : K → K → Ordering)
         (number : (n : ℕ) → 1 ≤ n → n ≤ 2 → IsFieldNumber n) where
-      entries_folded : (n : ℕ) → IsFieldNumber n → (bs es : List (K × V)) → AreEntries es
-          → Ascend order es → Follow order bs es
-          → FoldsBack (map_kind place order key value).takes bs (plain (each_entry key value n es))
-          (entries_charge place es) (bs ++ es)
-      entries_folded n is bs [] holds ascend follow =
-          record { fitting = tt; numbered = tt; folded = (refl, append-nil bs) }
-      entries_folded n is bs (e ∷ es) holds ascend follow =
-          let rs = entry_records key value e in
-          let encoded = prefixed_back spells in
-          let inner = entry_back number e holds.0 in
-          let next = bs ++ e ∷ [] in
-          let more = entries_folded n is next es holds.1 ascend.1
-          (follow_more order bs e es follow ascend.0) in
-          record {
-            fitting = (encoded.fitting rs inner.fitting holds.0.short, more.fitting);
-            numbered = (is, encoded.numbered rs inner.numbered, more.numbered);
-            folded = (
-              next,
-              both (element_of place) (nested (charge_of e.1)),
-              entries_charge place es,
-              (
-                (e, tt),
-                nested (charge_of e.1),
-                (
-                  plain rs,
-                  charge_of e.1,
-                  encoded.holds rs inner.fitting inner.numbered holds.0.short,
-                  inner.folded,
-                  refl,
-                ),
-                refl,
-                sym (put_last order bs e es follow),
-              ),
-              subst (λ z. Folds (map_kind place order key value).takes next
-                  (plain (each_entry key value n es)) (entries_charge place es) z)
-                  (append_assoc bs (e ∷ []) es) more.folded,
-              refl,
-            );
-          }
+      -- an entry that is read is put in its place, for what its reading is charged
+      abbrev pub PutsEntries : Step (List (K × V)) → Type 0
+      PutsEntries takes =
+          (n : ℕ) (bs : List (K × V)) (e : K × V) (p : Payload) (c : Charge) → IsEntry e
+          → reads_entry place key value (entry_default key value) n p c (e, tt)
+          → takes bs n p c (insert_entry order bs e.0 e.1)
 
-      entries_have : (n : ℕ) (es : List (K × V))
-          → AllAre (λ j. j ≡ n) (plain (each_entry key value n es))
-      entries_have n [] = tt
-      entries_have n (e ∷ es) = (refl, entries_have n es)
+      module _ (takes : Step (List (K × V))) (puts : PutsEntries takes) where
+        entries_folded : (n : ℕ) → IsFieldNumber n → (bs es : List (K × V)) → AreEntries es
+            → Ascend order es → Follow order bs es
+            → FoldsBack takes bs (plain (each_entry key value n es)) (entries_charge place es)
+            (bs ++ es)
+        entries_folded n is bs [] holds ascend follow =
+            record { fitting = tt; numbered = tt; folded = (refl, append-nil bs) }
+        entries_folded n is bs (e ∷ es) holds ascend follow =
+            let rs = entry_records key value e in
+            let encoded = prefixed_back spells in
+            let inner = entry_back number e holds.0 in
+            let next = bs ++ e ∷ [] in
+            let one = both (element_of place) (nested (charge_of e.1)) in
+            let p = plain_payload (embedded rs) in
+            let more = entries_folded n is next es holds.1 ascend.1
+            (follow_more order bs e es follow ascend.0) in
+            record {
+              fitting = (encoded.fitting rs inner.fitting holds.0.short, more.fitting);
+              numbered = (is, encoded.numbered rs inner.numbered, more.numbered);
+              folded = (
+                next,
+                one,
+                entries_charge place es,
+                subst (takes bs n p one) (put_last order bs e es follow)
+                    (puts n bs e p one holds.0 (
+                      (e, tt),
+                      nested (charge_of e.1),
+                      (
+                        plain rs,
+                        charge_of e.1,
+                        encoded.holds rs inner.fitting inner.numbered holds.0.short,
+                        inner.folded,
+                        refl,
+                      ),
+                      refl,
+                      refl,
+                    )),
+                subst (λ z. Folds takes next (plain (each_entry key value n es))
+                    (entries_charge place es) z)
+                    (append_assoc bs (e ∷ []) es) more.folded,
+                refl,
+              );
+            }
+
+        pub all_folded : (n : ℕ) → IsFieldNumber n → (es : List (K × V))
+            → AreEntries es × Ascend order es
+            → FoldsBack takes [] (plain (each_entry key value n es)) (entries_charge place es) es
+        all_folded n is es h = entries_folded n is [] es h.0 h.1 tt
 
       pub map_back : KindBack (map_kind place order key value)
           (λ es. AreEntries es × Ascend order es) (entries_charge place)
       map_back = record {
-        back = λ n is es h. entries_folded n is [] es h.0 h.1 tt;
-        has = λ n es h. entries_have n es;
+        back = all_folded (map_kind place order key value).takes
+            (λ n bs e p c is (after, one, read, charged, same).
+            (after, one, read, charged, ap (λ (x : EntryOf K V). insert_entry order bs x.0.0 x.0.1) same));
+        has = λ n es h. entries_have key value n es;
       }

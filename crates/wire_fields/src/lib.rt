@@ -7,6 +7,7 @@
 #![tactic(auto)]
 
 mod closed;
+mod closed_map;
 mod dropped;
 mod encoding;
 mod enums;
@@ -33,6 +34,7 @@ mod types;
 mod unknown;
 
 pub use closed::{merge_closed, merge_closed_each};
+pub use closed_map::ClosedMap;
 pub use dropped::{Dropped, pass_over};
 pub use encoding::{Delimited, LengthPrefixed, MessageEncoding};
 pub use floats::{DoubleBits, FloatBits};

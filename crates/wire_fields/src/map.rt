@@ -192,7 +192,7 @@ where
 }
 
 // Puts an entry in its place, or its value in that of the entry with the same key.
-fn insert<K: Scalar, V: EntryValue>(
+pub(crate) fn insert<K: Scalar, V: EntryValue>(
     held: &mut BTreeMap<K::Held, V::Held>,
     entry: Entry<K, V>,
 ) -> Result<(), DecodeError>

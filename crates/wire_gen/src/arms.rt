@@ -31,6 +31,16 @@ $first$                tag,
             ),
 ";
 
+const CLOSED_MAP_ARM: &str = "            $number$ => <$kind$ as ClosedMap>::merge_closed(
+                alloc,
+                tag,
+                &mut self.$field$,
+                &mut self.unknown,
+                buf,
+                context,
+            ),
+";
+
 const KEEPING_ARM: &str = "            $number$ => merge_or_keep::<$kind$, B>(
                 alloc,
                 tag,
@@ -48,6 +58,9 @@ pub(crate) fn put_arm(page: &mut Words) {
         return page.append("arms", KEEPING_ARM);
     }
     let is_plain = page.get("call") == "merge";
+    if !is_plain && page.get("kind").starts_with("Map<") {
+        return page.append("arms", CLOSED_MAP_ARM);
+    }
     let is_closed = page.get("call").starts_with("merge_closed");
     page.fill("callee", "$call$");
     page.append("callee", if is_closed { "::<$of_name$, B>" } else { "" });

@@ -1,7 +1,7 @@
 //! Fields of closed enums, of which a number that the enum does not have goes to the unknown fields.
 use crate::words::{Template, Words};
 
-const CLOSED: [Template; 7] = [
+const CLOSED: [Template; 4] = [
     (
         "definition",
         "$closed$ $of_module$-number $of_module$-of $number$",
@@ -20,12 +20,21 @@ const CLOSED: [Template; 7] = [
         "definitions",
         "$of_specs$.declared.$of_module$.$of_name$ $of_name$\n",
     ),
+];
+
+const OF_CLOSED: [Template; 2] = [
+    ("definitions", "Rattle.wire_fields.specs.Closed $closed$\n"),
+    ("code", "wire_fields $call$\n"),
+];
+
+// What such a field is in its message, whichever it is.
+const LEAVING: [Template; 3] = [
     ("table", "$module$-$field$-kind"),
     ("step", "$module$-$field$-kind.takes"),
     ("sort", "Leaving"),
 ];
 
-const OF_CLOSED: [Template; 4] = [
+const OF_LEAVING: [Template; 2] = [
     (
         "definitions",
         "$specs$ $of_module$-number\n$specs$ $of_module$-of\n",
@@ -34,8 +43,6 @@ const OF_CLOSED: [Template; 4] = [
         "definitions",
         "Rattle.wire_codec.specs.EnumValue EnumValue\n",
     ),
-    ("definitions", "Rattle.wire_fields.specs.Closed $closed$\n"),
-    ("code", "wire_fields $call$\n"),
 ];
 
 // A closed enum where there is one, and as many as there are in one record, and each in its own.
@@ -68,8 +75,49 @@ const IN_EACH: [Template; 3] = [
     ),
 ];
 
+// As values of a map.
+const IN_MAP: [Template; 6] = [
+    ("closed", "closed_$key_order$"),
+    ("call", "merge_closed"),
+    (
+        "definition",
+        "$closed$ $of_entry$$key_numbers$ $of_module$-number $of_module$-of $number$",
+    ),
+    (
+        "returned",
+        "closed_map_returned g _ _ _ $of_module$-number $of_module$-of $key_range$\n    \
+        $key_back$ $number$ (omega arith) (omega arith)",
+    ),
+    (
+        "returned_uses",
+        "Rattle.wire_fields.specs.Ranges $key_order$_range\n\
+        Rattle.wire_fields.specs.Ranges closed_range\n$key_uses$$numeric$\
+        Rattle.wire_fields.specs.Presence always\n\
+        Rattle.wire_fields.specs.Enums open_enum\n\
+        Rattle.wire_fields.specs.declared.form.Form.TheVariants Varint\n\
+        Rattle.wire_fields.specs.ClosedMapsBack closed_map_returned\n",
+    ),
+    (
+        "definitions",
+        "$key_definitions$Rattle.wire_fields.specs.Maps viewed\n\
+        $of_specs$.declared.$of_module$.$of_name$ $of_name$\n",
+    ),
+];
+
+const OF_MAP: [Template; 3] = [
+    (
+        "definitions",
+        "Rattle.wire_fields.specs.ClosedMaps $closed$\n",
+    ),
+    ("definitions", "Rattle.std.specs.Prelude List\n"),
+    ("code", "wire_fields ClosedMap\n"),
+];
+
 /// Makes the words of a field of a closed enum, of those of an open one.
 pub(crate) fn set_closed(words: &mut Words) {
+    if words.get("kind").starts_with("Map<") {
+        return set_closed_map(words);
+    }
     let is_once = words.get("kind").starts_with("Optional");
     let is_packed = words.get("kind").starts_with("Packed");
     words.fill_all(if is_once {
@@ -81,10 +129,22 @@ pub(crate) fn set_closed(words: &mut Words) {
     });
     words.fill_all(&CLOSED);
     words.append_all(&OF_CLOSED);
+    set_leaving(words);
     if is_once {
         words.fill("view", "m.$field$");
         words.append("definitions", "Rattle.std.specs.Prelude Option\n");
     } else {
         words.append("definitions", "Rattle.std.specs.Prelude List\n");
     }
+}
+
+fn set_closed_map(words: &mut Words) {
+    words.fill_all(&IN_MAP);
+    words.append_all(&OF_MAP);
+    set_leaving(words);
+}
+
+fn set_leaving(words: &mut Words) {
+    words.fill_all(&LEAVING);
+    words.append_all(&OF_LEAVING);
 }

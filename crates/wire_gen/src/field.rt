@@ -203,11 +203,7 @@ fn set_part(
         return Err(words.refused("$full$: a map whose entries lack a field"));
     };
     // (entries are length-prefixed, and so are messages in them)
-    let sort = set_item(schema, features.prefixed(), field, words)?;
-    if !words.get("closed").is_empty() {
-        return Err(words.refused("$full$.$proto$: closed enums in a map want enums=open"));
-    }
-    Ok(sort)
+    set_item(schema, features.prefixed(), field, words)
 }
 
 fn variant_of(

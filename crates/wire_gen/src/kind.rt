@@ -279,6 +279,7 @@ pub(crate) fn set_key(words: &mut Words) {
         ("key_range", "$item_range$"),
         ("key_back", "$item_back$"),
         ("key_uses", "$range_uses$$scalar_uses$"),
+        ("key_definitions", "$definitions$"),
         ("key_range_there", ""),
     ]);
     if !words.get("order_numbers").is_empty() {

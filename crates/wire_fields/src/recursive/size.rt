@@ -16,6 +16,7 @@ use wire_codec::{EncodeError, SizeCache, laws, saturate_size, varint_len};
 
 /// What `compute_size` of the message at an index answers.
 #[cycle(size)]
+#[inline(always)]
 pub fn slice_size<T: RecursiveSlice>(
     messages: T,
     index: usize,
@@ -109,6 +110,7 @@ fn message_len<T: RecursiveSlice>(
 
 // How many bytes an embedded message takes. Its slot stands before those of the messages in it.
 #[cycle(size)]
+#[inline(always)]
 fn embedded_len<T: RecursiveSlice>(
     number: u32,
     messages: T,
@@ -129,6 +131,7 @@ fn embedded_len<T: RecursiveSlice>(
 
 // How many bytes a group takes, with its two tags.
 #[cycle(size)]
+#[inline(always)]
 fn grouped_len<T: RecursiveSlice>(
     number: u32,
     messages: T,

@@ -17,6 +17,7 @@ use wire_codec::{
 
 /// What `write_to` of the message at an index does.
 #[cycle(write)]
+#[inline(always)]
 pub fn write_slice<T: RecursiveSlice, S: EncodeSink>(
     messages: T,
     index: usize,
@@ -140,6 +141,7 @@ fn put_message<T: RecursiveSlice, S: EncodeSink>(
 
 // Writes an embedded message: its size, which the cache has next, and its encoding.
 #[cycle(write)]
+#[inline(always)]
 fn put_embedded<T: RecursiveSlice, S: EncodeSink>(
     number: u32,
     messages: T,
@@ -169,6 +171,7 @@ fn put_embedded<T: RecursiveSlice, S: EncodeSink>(
 
 // Writes a group, between its two tags.
 #[cycle(write)]
+#[inline(always)]
 fn put_grouped<T: RecursiveSlice, S: EncodeSink>(
     number: u32,
     messages: T,

@@ -1,0 +1,66 @@
+-- Maps with the values of a closed enum are read back: of values that the enum has, no entry goes to
+-- the unknown fields.
+use Rattle.std.proofs.Common.{◌≡◌, ℕ, ◌^◌, ◌<◌, ◌≤◌, refl, sym, ap, ◌∙◌, subst, arith}
+use Rattle.std.specs.declared.cmp.Ordering.{Ordering}
+use Rattle.std.specs.Prelude.{ℤ, Option, Some}
+use Rattle.wire_codec.specs.EnumValue.{EnumValue}
+use Rattle.wire_codec.specs.Field.{Payload, Fields}
+use Rattle.wire_codec.specs.Limits.{Charge, both}
+use Rattle.wire_fields.specs.Back.{same_owned}
+use Rattle.wire_fields.specs.ClosedBack.{closed_back}
+use Rattle.wire_fields.specs.ClosedMaps.{closed_value, closed_map_of, closes_entry, entry_or_kept}
+use Rattle.wire_fields.specs.ClosedMaps.{kept_charge}
+use Rattle.wire_fields.specs.Grounds.{Grounds, numeric_back}
+use Rattle.wire_fields.specs.LeavingBack.{beside_unknown, ReturnedBeside}
+use Rattle.wire_fields.specs.MapsBack.{PutsEntries, all_folded, entries_have}
+use Rattle.wire_fields.specs.OneofBack.{AlwaysBack}
+use Rattle.wire_fields.specs.Ranges.{Range, IsClosed, closed_range, map_range}
+use Rattle.wire_fields.specs.Returned.{always_returned}
+use Rattle.wire_fields.specs.Scalar.{ScalarType}
+use Rattle.wire_fields.specs.ScalarBack.{ScalarBack}
+use Rattle.wire_fields.specs.Shape.{FieldKind}
+
+module _ (g : Grounds) {K E : Type 0} (place : ℕ) (order : K → K → Ordering) (key : ScalarType K)
+    (number : E → ℤ) (of_number : ℤ → Option E) (r : Range K)
+    (key_back : ScalarBack key r.Holds) where
+  abbrev value : FieldKind (EnumValue E)
+  value = closed_value number of_number
+
+  abbrev values : Range (EnumValue E)
+  values = closed_range number of_number
+
+  abbrev value_back : AlwaysBack value values.Holds values.charge_of
+  value_back = always_returned g _ _ (numeric_back (closed_back g number of_number))
+
+  found : (n : ℕ) (p : Payload) (u : Fields) (k : K) (v : EnumValue E)
+      → IsClosed number of_number v → entry_or_kept n p u k v ≡ (Some (k, v), u)
+  found n p u k v h =
+      subst (λ (x : EnumValue E). entry_or_kept n p u k x ≡ (Some (k, x), u)) (sym h.is) refl
+
+  uncharged : (p : Payload) (c : Charge) (v : EnumValue E) → IsClosed number of_number v
+      → c ≡ both c (kept_charge p v)
+  uncharged p c v h =
+      sym (ap (λ (x : EnumValue E). both c (kept_charge p x)) h.is ∙ g.charges.nothing_last c)
+
+  pub puts : (u : Fields) → PutsEntries key value r.Holds values.Holds values.charge_of g.plain g.charges
+      g.spells key_back value_back place order (λ n low high. g.number n low (omega (arith, high)))
+      (beside_unknown u (closes_entry place order key value))
+  puts u n bs e p c is read = (
+    (Some (e.0, e.1), u),
+    ((e, tt), c, read, uncharged p c e.1 is.value_held, sym (found n p u e.0 e.1 is.value_held)),
+    refl,
+  )
+
+  abbrev pub closed_map_returned : (n : ℕ) → 1 ≤ n → n < 2 ^ 29
+      → ReturnedBeside (closed_map_of place order key number of_number n)
+      (map_range place order key value r values)
+  closed_map_returned n low high = record {
+    Has = λ j. j ≡ n;
+    back = λ u. record {
+      back = all_folded key value r.Holds values.Holds values.charge_of g.plain g.charges g.spells
+          key_back value_back place order (λ k below above. g.number k below (omega (arith, above)))
+          (beside_unknown u (closes_entry place order key value)) (puts u) n (g.number n low high);
+      has = λ es h. entries_have key value n es;
+      own = λ j p. same_owned n j;
+    };
+  }
