@@ -67,7 +67,8 @@ module _ {K E : Type 0} (place : ℕ) (key : ScalarType K) (value : FieldKind (E
   pub entry_unparsed : NotDecoded (entry_takes key value) low start b → (c : Charge) → Fits c l
       → (k : K) (v : EnumValue E) → IsEntryOf place key value b c k v → ⊥
   entry_unparsed none c fits k v (after, up, (fs, within, has, folded, is), sum, same) =
-      let fits_both = (limits.both_fit l (element_of place) up).0 (subst (λ x. Fits x l) sum fits) in
+      let fits_both =
+      (limits.both_fit l (element_of place) up).0 (subst (λ x. Fits x l) sum fits) in
       let fits_one = subst (Fits up) (sym charged) fits_both.1 in
       let level = (levels.nested_fits one within).0 (subst (λ x. Fits x one) is fits_one) in
       none after (
@@ -209,7 +210,8 @@ module _ {K E : Type 0} (place : ℕ) (order : K → K → Ordering) (key : Scal
       (z : List (K × EnumValue E)) (new : List ℕ) → z ≡ with_found order m.0 found
       → IsCharged l k (λ c. TakesRecord (finds_entry place key value) l n w (None, m.1) old c
       (found, u) new)
-      → IsCharged l k (λ c. TakesRecord (closes_entry place order key value) l n w m old c (z, u) new)
+      → IsCharged l k (λ c. TakesRecord (closes_entry place order key value) l n w m old c (z, u)
+      new)
   found_put k found u z new is h = record {
     charge = h.charge;
     taken = record {
@@ -222,8 +224,8 @@ module _ {K E : Type 0} (place : ℕ) (order : K → K → Ordering) (key : Scal
 
 -- an entry that is found is put in the same place in either
 pub viewed_found : {A S T K V : Type 0} (key : S → K) (value : T → V) (cmp : S → S → Ordering)
-    (order : K → K → Ordering) → ((x y : S) → cmp x y ≡ order (key x) (key y)) → (k : A → S) (v : A → T)
-    (es : List (S × T)) (found : Option A)
+    (order : K → K → Ordering) → ((x y : S) → cmp x y ≡ order (key x) (key y)) → (k : A → S)
+    (v : A → T) (es : List (S × T)) (found : Option A)
     → viewed key value (with_found cmp es (option_map (λ a. (k a, v a)) found))
     ≡ with_found order (viewed key value es) (option_map (λ a. (key (k a), value (v a))) found)
 viewed_found key value cmp order same k v es None = refl

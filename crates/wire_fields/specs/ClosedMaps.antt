@@ -39,7 +39,7 @@ abbrev pub entry_or_kept : {K E : Type 0} → ℕ → Payload → Fields → K �
 entry_or_kept n p u k (Known e) = (Some (k, Known e), u)
 entry_or_kept n p u k (Unknown i) = (None, push u n p)
 
--- a record that is kept is charged as an unknown field
+-- what a record that is kept is charged besides
 abbrev pub kept_charge : {E : Type 0} → Payload → EnumValue E → Charge
 kept_charge p (Known e) = no_charge
 kept_charge p (Unknown i) = payload_charge p
@@ -66,11 +66,12 @@ abbrev pub with_found : {K V : Type 0} → (K → K → Ordering) → List (K ×
 with_found order m None = m
 with_found order m (Some e) = insert_entry order m e.0 e.1
 
--- the entry that is found takes its place, and its value that of the entry with the same key
+-- the entry that is found is put in its place, or its value in that of the one with the same key
 abbrev pub closes_entry : {K E : Type 0} → ℕ → (K → K → Ordering) → ScalarType K
     → FieldKind (EnumValue E) → Step (List (K × EnumValue E) × Fields)
 closes_entry {K} {E} place order key value m n p c z =
-    (found : Option (K × EnumValue E) × Fields) × finds_entry place key value (None, m.1) n p c found
+    (found : Option (K × EnumValue E) × Fields)
+    × finds_entry place key value (None, m.1) n p c found
     × (z ≡ (with_found order m.0 found.0, found.1))
 
 module _ {K E : Type 0} (place : ℕ) (order : K → K → Ordering) (key : ScalarType K)
@@ -79,7 +80,8 @@ module _ {K E : Type 0} (place : ℕ) (order : K → K → Ordering) (key : Scal
   value = closed_value number of_number
 
   finds_single : OneReading → IsSingle (finds_entry place key value)
-  finds_single reading m u z w n p c d (e, one, read, charged, is) (f, two, read_2, charged_2, is_2) =
+  finds_single reading m u z w n p c d (e, one, read, charged, is)
+      (f, two, read_2, charged_2, is_2) =
       let start = entry_default key value in
       let takes = entry_takes key value in
       let agree = gathers_single length_prefixed takes reading
@@ -97,12 +99,14 @@ module _ {K E : Type 0} (place : ℕ) (order : K → K → Ordering) (key : Scal
 
   pub closes_entry_single : OneReading → IsSingle (closes_entry place order key value)
   closes_entry_single reading m u z w n p c d (found, find, is) (found_2, find_2, is_2) =
-      let agree = finds_single reading (None, m.1) (None, u.1) found found_2 n p c d find find_2 in (
+      let agree =
+      finds_single reading (None, m.1) (None, u.1) found found_2 n p c d find find_2 in (
         agree.0,
         λ i. is
             ∙ ap (λ (x : Option (K × EnumValue E) × Fields). (with_found order m.0 x.0, x.1))
             (agree.1 (ap (λ (x : List (K × EnumValue E) × Fields). (None, x.1)) i))
-            ∙ ap (λ (x : List (K × EnumValue E) × Fields). (with_found order x.0 found_2.0, found_2.1)) i
+            ∙ ap (λ (x : List (K × EnumValue E) × Fields).
+            (with_found order x.0 found_2.0, found_2.1)) i
             ∙ sym is_2,
       )
 
@@ -118,7 +122,7 @@ module _ {K E : Type 0} (place : ℕ) (order : K → K → Ordering) (key : Scal
     single = λ reading. closes_entry_single reading;
   }
 
--- maps by the type of their keys, as those with other values
+-- by the type of the keys, as maps of other values
 abbrev pub closed_text_map : {E : Type 0} → ℕ → (E → ℤ) → (ℤ → Option E) → ℕ
     → Leaving (List (List ℕ × EnumValue E))
 closed_text_map place = closed_map_of place (slice_cmp nat_cmp) string

@@ -1,4 +1,4 @@
--- Maps with the values of a closed enum are read back: of values that the enum has, no entry goes to
+-- Maps with the values of a closed enum are read back: no entry whose value the enum has goes to
 -- the unknown fields.
 use Rattle.std.proofs.Common.{◌≡◌, ℕ, ◌^◌, ◌<◌, ◌≤◌, refl, sym, ap, ◌∙◌, subst, arith}
 use Rattle.std.specs.declared.cmp.Ordering.{Ordering}
@@ -42,8 +42,7 @@ module _ (g : Grounds) {K E : Type 0} (place : ℕ) (order : K → K → Orderin
   uncharged p c v h =
       sym (ap (λ (x : EnumValue E). both c (kept_charge p x)) h.is ∙ g.charges.nothing_last c)
 
-  pub puts : (u : Fields) → PutsEntries key value r.Holds values.Holds values.charge_of g.plain g.charges
-      g.spells key_back value_back place order (λ n low high. g.number n low (omega (arith, high)))
+  pub puts : (u : Fields) → PutsEntries key value r.Holds values.Holds values.charge_of place order
       (beside_unknown u (closes_entry place order key value))
   puts u n bs e p c is read = (
     (Some (e.0, e.1), u),

@@ -77,8 +77,16 @@ module _ {K V : Type 0} (key : ScalarType K) (value : FieldKind V) (HoldsKey : K
   entries_charge place (e ∷ es) =
       both (both (element_of place) (nested (charge_of e.1))) (entries_charge place es)
 
+  -- such an entry, where it is read, is put in its place, for what its reading is charged
+  abbrev pub PutsEntries : ℕ → (K → K → Ordering) → Step (List (K × V)) → Type 0
+  PutsEntries place order takes =
+      (n : ℕ) (bs : List (K × V)) (e : K × V) (p : Payload) (c : Charge) → IsEntry e
+      → reads_entry place key value (entry_default key value) n p c (e, tt)
+      → takes bs n p c (insert_entry order bs e.0 e.1)
+
   module _ (same : FieldsArePlain) (charges : ChargesAddUp) (spells : ShortestTextSpells)
-      (key_back : ScalarBack key HoldsKey) (value_back : AlwaysBack value HoldsValue charge_of) where
+      (key_back : ScalarBack key HoldsKey)
+      (value_back : AlwaysBack value HoldsValue charge_of) where
     abbrev entry_fields : K × V → Fields
     entry_fields e = field 1 (key.payload e.0) (field 2 (value_back.payload e.1) none)
 
@@ -130,14 +138,7 @@ module _ {K V : Type 0} (key : ScalarType K) (value : FieldKind V) (HoldsKey : K
 
     module _ (place : ℕ) (order : K → K → Ordering)
         (number : (n : ℕ) → 1 ≤ n → n ≤ 2 → IsFieldNumber n) where
-      -- an entry that is read is put in its place, for what its reading is charged
-      abbrev pub PutsEntries : Step (List (K × V)) → Type 0
-      PutsEntries takes =
-          (n : ℕ) (bs : List (K × V)) (e : K × V) (p : Payload) (c : Charge) → IsEntry e
-          → reads_entry place key value (entry_default key value) n p c (e, tt)
-          → takes bs n p c (insert_entry order bs e.0 e.1)
-
-      module _ (takes : Step (List (K × V))) (puts : PutsEntries takes) where
+      module _ (takes : Step (List (K × V))) (puts : PutsEntries place order takes) where
         entries_folded : (n : ℕ) → IsFieldNumber n → (bs es : List (K × V)) → AreEntries es
             → Ascend order es → Follow order bs es
             → FoldsBack takes bs (plain (each_entry key value n es)) (entries_charge place es)
@@ -190,7 +191,12 @@ module _ {K V : Type 0} (key : ScalarType K) (value : FieldKind V) (HoldsKey : K
           (λ es. AreEntries es × Ascend order es) (entries_charge place)
       map_back = record {
         back = all_folded (map_kind place order key value).takes
-            (λ n bs e p c is (after, one, read, charged, same).
-            (after, one, read, charged, ap (λ (x : EntryOf K V). insert_entry order bs x.0.0 x.0.1) same));
+            (λ n bs e p c is (after, one, read, charged, same). (
+              after,
+              one,
+              read,
+              charged,
+              ap (λ (x : EntryOf K V). insert_entry order bs x.0.0 x.0.1) same,
+            ));
         has = λ n es h. entries_have key value n es;
       }

@@ -25,8 +25,8 @@ use wire_codec::{
     UnknownField, UnknownFieldData, UnknownFields, laws,
 };
 
-/// A map whose values are of a closed enum: `Map<K, Always<Enum<E>>, PLACE>`, as which it is
-/// written. What it holds are `EnumValue`s, of which reading makes known ones alone.
+/// A map whose values are of a closed enum: `Map<K, Always<Enum<E>>, PLACE>`, and written as that
+/// kind. What it holds are `EnumValue`s, of which reading makes known ones alone.
 pub trait ClosedMap {
     /// What a message holds.
     type Held: Drop;
@@ -39,10 +39,10 @@ pub trait ClosedMap {
     ghost closes: { Step (Value × Fields) };
 
     /// Takes the record behind this tag into the map where the enum has the value of the entry, and
-    /// else keeps the record as an unknown field, its bytes as they stand; it is then charged as an
-    /// unknown field besides. An entry without a value has that of number 0. Refused as `merge`, or
-    /// with `UnknownFieldLimitExceeded`. A refusal leaves open what is held, and the place of the
-    /// buffer.
+    /// else keeps it as an unknown field, its payload as it stands; it is then charged as one
+    /// besides. An entry without a value has that of number 0. The payload is copied before it is
+    /// read. Refused as `merge`, or with `UnknownFieldLimitExceeded`. A refusal leaves open what the
+    /// map and the unknown fields hold, the place of the buffer and the depth of the context.
     fn merge_closed<B: Buf>(
         alloc: Global,
         tag: Tag,

@@ -247,53 +247,10 @@ merge_held-returns-in-Leaf-clause-err g t c =
     (g.met.T.RecursiveHeld.single reading) s _ _ _ _ _ _ place
     (no_leaf family (family_takes family) s _ _ _ _ _ (none other))) c.merge_leaf.ensures.err
 
-pub merge_held-returns-in_err-merge_embedded-in-Once-clause-err
-    : goal.merge_held-returns-in_err-merge_embedded-in-Once-clause-err
-merge_held-returns-in_err-merge_embedded-in-Once-clause-err g t c =
-    let there = c.in-Once.ensures.there in
-    let p = err_from_is_err_and c.from_residual.result c.from_residual.ensures.1 in
-    let family = g.T.RecursiveHeld.family in
-    let s = g.T.RecursiveHeld.sort c.args.message.now in
-    let reading = c.records_in_order.ensures.reading in
-    let place = ap (family.table s).place (sym c.field_number.ensures.number) ∙ sym
-    c.in-Once.ensures.is in
-    let held = c.take-own.ensures.sort there.0 there.1 in
-    let none = rw held at c.in_err-merge_embedded-in-Once.ensures.err in
-    rw (p.1, p.2) (λ other. not_placed family reading (g.met.T.RecursiveHeld.single reading) s _ _ _
-    _ _ _
-    place (not_owned length_prefixed (one_in family s c.in-Once.row) (with_one
-    (family.table s) c.in-Once.row)
-    (family_takes family (family.holds s c.in-Once.row)) _ _ _ _ _ _
-    (c.take-own.ensures.result there.0 there.1) (none other)))
-
-pub merge_held-returns-in_ok-merge_embedded-in-Once-clause-ok
-    : goal.merge_held-returns-in_ok-merge_embedded-in-Once-clause-ok
-merge_held-returns-in_ok-merge_embedded-in-Once-clause-ok g t c =
-    let there = c.in-Once.ensures.there in
-    let family = g.T.RecursiveHeld.family in
-    let s = g.T.RecursiveHeld.sort c.args.message.now in
-    let reading = c.records_in_order.ensures.reading in
-    let place = ap (family.table s).place (sym c.field_number.ensures.number) ∙ sym
-    c.in-Once.ensures.is in
-    let held = c.take-own.ensures.sort there.0 there.1 in
-    let taken = rw held at c.in_ok-merge_embedded-in-Once.ensures.ok in
-    let put = rw c.take-own.ensures.kind at c.put.ensures.ok in
-    on_ok_weaker c.put.result (λ is. placed_taken family reading (g.met.T.RecursiveHeld.single
-    reading)
-    s _ _ _ _ _ _ place _ _ _ (owned_taken length_prefixed (one_in family s c.in-Once.row)
-    (with_one (family.table s) c.in-Once.row) (family_takes family (family.holds s c.in-Once.row)) _
-    _ _ _ _ _
-    (c.take-own.ensures.result there.0 there.1) _ _ _ _
-    (is ∙ same_beside c.in-Once.row (g.T.RecursiveHeld.view c.merge_embedded.new.message ∷ [])
-    ((family.table s).beside c.in-Once.row (g.T.RecursiveHeld.view c.take-own.new.self))
-    ((family.table s).beside c.in-Once.row (g.T.RecursiveHeld.view c.args.message.now))
-    (c.take-own.ensures.others there.0 there.1)) taken))
-    (put there.0 there.1 (c.in_ok-merge_embedded-in-Once.ensures.sort ∙ held))
-
 pub merge_held-returns-in_err-register_element_memory-in-Each-clause-err
     : goal.merge_held-returns-in_err-register_element_memory-in-Each-clause-err
 merge_held-returns-in_err-register_element_memory-in-Each-clause-err g t c =
-    let r = c.from_residual-in_err-register_element_memory-in-Each in
+    let r = c.from_residual in
     let p = err_from_is_err_and r.result r.ensures.1 in
     let family = g.T.RecursiveHeld.family in
     let s = g.T.RecursiveHeld.sort c.args.message.now in
@@ -350,46 +307,87 @@ merge_held-returns-in_ok-merge_embedded-in-Each-clause-ok g t c =
     c.in_ok-register_element_memory-in-Each.ensures.taken is taken))
     (c.push.ensures.ok there.0 there.1 (c.in_ok-merge_embedded-in-Each.ensures.sort ∙ held))
 
-pub merge_held-returns-in_err-merge_grouped-in-Grouped-clause-err
-    : goal.merge_held-returns-in_err-merge_grouped-in-Grouped-clause-err
-merge_held-returns-in_err-merge_grouped-in-Grouped-clause-err g t c =
-    let there = c.in-Grouped.ensures.there in
-    let p = err_from_is_err_and c.from_residual-in_err-merge_grouped-in-Grouped.result
-    c.from_residual-in_err-merge_grouped-in-Grouped.ensures.1 in
+-- ---- rows that have one message at most
+
+pub merge_once-returns-in_err-merge_embedded-clause-err
+    : goal.merge_once-returns-in_err-merge_embedded-clause-err
+merge_once-returns-in_err-merge_embedded-clause-err g t c =
+    let there = c.requires.there in
+    let p = err_from_is_err_and c.from_residual.result c.from_residual.ensures.1 in
     let family = g.T.RecursiveHeld.family in
     let s = g.T.RecursiveHeld.sort c.args.message.now in
     let reading = c.records_in_order.ensures.reading in
-    let place = ap (family.table s).place (sym c.field_number.ensures.number) ∙ sym
-    c.in-Grouped.ensures.is in
-    let held = c.take-own-in-Grouped.ensures.sort there.0 there.1 in
-    let none = rw held at c.in_err-merge_grouped-in-Grouped.ensures.err in
+    let place = c.requires.place in
+    let held = c.take-own.ensures.sort there.0 there.1 in
+    let none = rw held at c.in_err-merge_embedded.ensures.err in
     rw (p.1, p.2) (λ other. not_placed family reading (g.met.T.RecursiveHeld.single reading) s _ _ _
     _ _ _
-    place (not_owned delimited (one_in family s c.in-Grouped.row) (with_one
-    (family.table s) c.in-Grouped.row)
-    (family_takes family (family.holds s c.in-Grouped.row)) _ _ _ _ _ _
-    (c.take-own-in-Grouped.ensures.result there.0 there.1) (none other)))
+    place (not_owned length_prefixed (one_in family s c.args.row) (with_one
+    (family.table s) c.args.row)
+    (family_takes family (family.holds s c.args.row)) _ _ _ _ _ _
+    (c.take-own.ensures.result there.0 there.1) (none other)))
 
-pub merge_held-returns-in_ok-merge_grouped-in-Grouped-clause-ok
-    : goal.merge_held-returns-in_ok-merge_grouped-in-Grouped-clause-ok
-merge_held-returns-in_ok-merge_grouped-in-Grouped-clause-ok g t c =
-    let there = c.in-Grouped.ensures.there in
+pub merge_once-returns-clause-ok
+    : goal.merge_once-returns-clause-ok
+merge_once-returns-clause-ok g t c =
+    let there = c.requires.there in
     let family = g.T.RecursiveHeld.family in
     let s = g.T.RecursiveHeld.sort c.args.message.now in
     let reading = c.records_in_order.ensures.reading in
-    let place = ap (family.table s).place (sym c.field_number.ensures.number) ∙ sym
-    c.in-Grouped.ensures.is in
-    let held = c.take-own-in-Grouped.ensures.sort there.0 there.1 in
-    let taken = rw held at c.in_ok-merge_grouped-in-Grouped.ensures.ok in
-    let put = rw c.take-own-in-Grouped.ensures.kind at c.put-in-Grouped.ensures.ok in
-    on_ok_weaker c.put-in-Grouped.result (λ is. placed_taken family reading
+    let place = c.requires.place in
+    let held = c.take-own.ensures.sort there.0 there.1 in
+    let taken = rw held at c.in_ok-merge_embedded.ensures.ok in
+    let put = rw c.take-own.ensures.kind at c.put.ensures.ok in
+    on_ok_weaker c.put.result (λ is. placed_taken family reading (g.met.T.RecursiveHeld.single
+    reading)
+    s _ _ _ _ _ _ place _ _ _ (owned_taken length_prefixed (one_in family s c.args.row)
+    (with_one (family.table s) c.args.row) (family_takes family (family.holds s c.args.row)) _
+    _ _ _ _ _
+    (c.take-own.ensures.result there.0 there.1) _ _ _ _
+    (is ∙ same_beside c.args.row (g.T.RecursiveHeld.view c.merge_embedded.new.message ∷ [])
+    ((family.table s).beside c.args.row (g.T.RecursiveHeld.view c.take-own.new.self))
+    ((family.table s).beside c.args.row (g.T.RecursiveHeld.view c.args.message.now))
+    (c.take-own.ensures.others there.0 there.1)) taken))
+    (put there.0 there.1 (c.in_ok-merge_embedded.ensures.sort ∙ held))
+
+pub merge_once_grouped-returns-in_err-merge_grouped-clause-err
+    : goal.merge_once_grouped-returns-in_err-merge_grouped-clause-err
+merge_once_grouped-returns-in_err-merge_grouped-clause-err g t c =
+    let there = c.requires.there in
+    let p = err_from_is_err_and c.from_residual.result
+    c.from_residual.ensures.1 in
+    let family = g.T.RecursiveHeld.family in
+    let s = g.T.RecursiveHeld.sort c.args.message.now in
+    let reading = c.records_in_order.ensures.reading in
+    let place = c.requires.place in
+    let held = c.take-own.ensures.sort there.0 there.1 in
+    let none = rw held at c.in_err-merge_grouped.ensures.err in
+    rw (p.1, p.2) (λ other. not_placed family reading (g.met.T.RecursiveHeld.single reading) s _ _ _
+    _ _ _
+    place (not_owned delimited (one_in family s c.args.row) (with_one
+    (family.table s) c.args.row)
+    (family_takes family (family.holds s c.args.row)) _ _ _ _ _ _
+    (c.take-own.ensures.result there.0 there.1) (none other)))
+
+pub merge_once_grouped-returns-clause-ok
+    : goal.merge_once_grouped-returns-clause-ok
+merge_once_grouped-returns-clause-ok g t c =
+    let there = c.requires.there in
+    let family = g.T.RecursiveHeld.family in
+    let s = g.T.RecursiveHeld.sort c.args.message.now in
+    let reading = c.records_in_order.ensures.reading in
+    let place = c.requires.place in
+    let held = c.take-own.ensures.sort there.0 there.1 in
+    let taken = rw held at c.in_ok-merge_grouped.ensures.ok in
+    let put = rw c.take-own.ensures.kind at c.put.ensures.ok in
+    on_ok_weaker c.put.result (λ is. placed_taken family reading
     (g.met.T.RecursiveHeld.single reading) s _ _ _ _ _ _ place _ _ _ (owned_taken delimited
-    (one_in family s c.in-Grouped.row) (with_one (family.table s) c.in-Grouped.row)
-    (family_takes family (family.holds s c.in-Grouped.row)) _ _ _ _ _ _
-    (c.take-own-in-Grouped.ensures.result there.0 there.1) _ _ _ _
-    (is ∙ same_beside c.in-Grouped.row (g.T.RecursiveHeld.view c.merge_grouped.new.message ∷ [])
-    ((family.table s).beside c.in-Grouped.row
-    (g.T.RecursiveHeld.view c.take-own-in-Grouped.new.self))
-    ((family.table s).beside c.in-Grouped.row (g.T.RecursiveHeld.view c.args.message.now))
-    (c.take-own-in-Grouped.ensures.others there.0 there.1)) taken))
-    (put there.0 there.1 (c.in_ok-merge_grouped-in-Grouped.ensures.sort ∙ held))
+    (one_in family s c.args.row) (with_one (family.table s) c.args.row)
+    (family_takes family (family.holds s c.args.row)) _ _ _ _ _ _
+    (c.take-own.ensures.result there.0 there.1) _ _ _ _
+    (is ∙ same_beside c.args.row (g.T.RecursiveHeld.view c.merge_grouped.new.message ∷ [])
+    ((family.table s).beside c.args.row
+    (g.T.RecursiveHeld.view c.take-own.new.self))
+    ((family.table s).beside c.args.row (g.T.RecursiveHeld.view c.args.message.now))
+    (c.take-own.ensures.others there.0 there.1)) taken))
+    (put there.0 there.1 (c.in_ok-merge_grouped.ensures.sort ∙ held))

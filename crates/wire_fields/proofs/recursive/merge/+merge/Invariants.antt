@@ -8,19 +8,25 @@ use Rattle.wire_fields.proofs.recursive.merge.+merge.Given as goal
 -- ---- levels: a level down is less, whatever is called there
 
 abbrev pub decreases-merge_group : goal.decreases-merge_group
-decreases-merge_group g l = 3 * l.context.now.depth
+decreases-merge_group g l = 4 * l.context.now.depth
 
 abbrev pub decreases-merge_grouped : goal.decreases-merge_grouped
-decreases-merge_grouped g l = 3 * l.context.now.depth + 1
+decreases-merge_grouped g l = 4 * l.context.now.depth + 1
 
 abbrev pub decreases-merge_embedded : goal.decreases-merge_embedded
-decreases-merge_embedded g l = 3 * l.context.now.depth + 1
+decreases-merge_embedded g l = 4 * l.context.now.depth + 1
 
 abbrev pub decreases-merge_held : goal.decreases-merge_held
-decreases-merge_held g l = 3 * l.context.now.depth + 2
+decreases-merge_held g l = 4 * l.context.now.depth + 3
+
+abbrev pub decreases-merge_once : goal.decreases-merge_once
+decreases-merge_once g l = 4 * l.context.now.depth + 2
+
+abbrev pub decreases-merge_once_grouped : goal.decreases-merge_once_grouped
+decreases-merge_once_grouped g l = 4 * l.context.now.depth + 2
 
 abbrev pub decreases-merge_payload : goal.decreases-merge_payload
-decreases-merge_payload g l = 3 * l.context.now.depth + 3
+decreases-merge_payload g l = 4 * l.context.now.depth + 4
 
 -- ---- what is taken from here on is what is taken from the start
 
