@@ -9,7 +9,7 @@ ghost use Rattle.wire_fields.specs.Messages.{length_prefixed, delimited, inside}
 ghost use Rattle.wire_fields.specs.Nest.{Nest};
 ghost use Rattle.wire_fields.specs.NestPayload.{Enters, TakesWithin};
 ghost use Rattle.wire_fields.specs.NestTable.{family_takes};
-ghost use Rattle.wire_fields.specs.declared.recursive.Place.TheVariants.{Once, Grouped};
+ghost use Rattle.wire_fields.specs.declared.recursive.Place.TheVariants.{Once, Each, Grouped};
 ghost use Rattle.wire_fields.specs.NestTable.{IsThere};
 
 use super::{Place, RecursiveHeld};
@@ -42,24 +42,18 @@ pub fn merge_held<T: RecursiveHeld, B: Buf>(
     ensures kept { B.kept buf.new ≡ B.kept buf.old }
 {
     laws::records_in_order();
-    laws::grammar::limits_add_up();
     match message.place(tag.field_number()) {
         Place::Leaf => message.merge_leaf(alloc, tag, buf, context),
         Place::Once(row) => merge_once(message, alloc, tag, row, buf, context),
-        Place::Each(row, bytes) => {
-            context.register_element_memory(bytes)?;
-            let mut own = message.new_in(alloc, row);
-            merge_embedded(&mut own, alloc, tag, buf, context)?;
-            message.push(row, own)
-        }
+        Place::Each(row, bytes) => merge_each(message, alloc, tag, row, bytes, buf, context),
         Place::Grouped(row) => merge_once_grouped(message, alloc, tag, row, buf, context),
     }
 }
 
-// Takes the record of a row that has one message at most. Apart, so that its locals are not made
-// ready for each record.
+// Takes the record of a row that has one message at most. Apart, as `merge_each`, since the
+// locals of a function are made ready where it begins.
 #[cycle(merge)]
-#[inline(never)]
+#[inline(always)]
 fn merge_once<T: RecursiveHeld, B: Buf>(
     message: &mut T,
     alloc: Global,
@@ -87,9 +81,42 @@ fn merge_once<T: RecursiveHeld, B: Buf>(
     message.put(alloc, row, own)
 }
 
+// Takes the record of a row that has many, and charges its place in memory.
+#[cycle(merge)]
+#[inline(always)]
+fn merge_each<T: RecursiveHeld, B: Buf>(
+    message: &mut T,
+    alloc: Global,
+    tag: Tag,
+    row: usize,
+    bytes: usize,
+    buf: &mut B,
+    context: &mut DecodeContext,
+) -> Result<(), DecodeError>
+    requires place { (T.family.table (T.sort message.old)).place (tag_number tag) ≡ Each row bytes }
+    requires there { IsThere (T.family.table (T.sort message.old)) (Each row bytes) }
+    ensures ok { OnOk result (IsCharged context.old context.new (λ c.
+        TakesRecord (family_takes T.family (T.sort message.old)) context.old (tag_number tag)
+        (tag_type tag) (T.view message.old) (B.unread buf.old) c (T.view message.new)
+        (B.unread buf.new))) }
+    ensures err { IfErr result (λ e. e ≢ OutOfMemory → NotTaken
+        (TakesRecord (family_takes T.family (T.sort message.old)) context.old (tag_number tag)
+        (tag_type tag) (T.view message.old) (B.unread buf.old))) }
+    ensures sort { T.sort message.new ≡ T.sort message.old }
+    ensures counts { OnErr result (NoCountGrew context.old context.new) }
+    ensures kept { B.kept buf.new ≡ B.kept buf.old }
+{
+    laws::records_in_order();
+    laws::grammar::limits_add_up();
+    context.register_element_memory(bytes)?;
+    let mut own = message.new_in(alloc, row);
+    merge_embedded(&mut own, alloc, tag, buf, context)?;
+    message.push(row, own)
+}
+
 // The same of a row whose message stands in a group.
 #[cycle(merge)]
-#[inline(never)]
+#[inline(always)]
 fn merge_once_grouped<T: RecursiveHeld, B: Buf>(
     message: &mut T,
     alloc: Global,

@@ -247,67 +247,64 @@ merge_held-returns-in-Leaf-clause-err g t c =
     (g.met.T.RecursiveHeld.single reading) s _ _ _ _ _ _ place
     (no_leaf family (family_takes family) s _ _ _ _ _ (none other))) c.merge_leaf.ensures.err
 
-pub merge_held-returns-in_err-register_element_memory-in-Each-clause-err
-    : goal.merge_held-returns-in_err-register_element_memory-in-Each-clause-err
-merge_held-returns-in_err-register_element_memory-in-Each-clause-err g t c =
+-- ---- rows
+
+pub merge_each-returns-in_err-register_element_memory-clause-err
+    : goal.merge_each-returns-in_err-register_element_memory-clause-err
+merge_each-returns-in_err-register_element_memory-clause-err g t c =
     let r = c.from_residual in
     let p = err_from_is_err_and r.result r.ensures.1 in
     let family = g.T.RecursiveHeld.family in
     let s = g.T.RecursiveHeld.sort c.args.message.now in
     let reading = c.records_in_order.ensures.reading in
-    let place = ap (family.table s).place (sym c.field_number.ensures.number) ∙ sym
-    c.in-Each.ensures.is in
-    let start = new_in family s c.in-Each.row in
+    let place = c.requires.place in
+    let start = new_in family s c.args.row in
     rw (p.1, p.2) (λ other. not_placed family reading (g.met.T.RecursiveHeld.single reading) s _ _ _
     _ _ _
-    place (no_room c.in-Each.bytes length_prefixed (family_takes family
-    (family.holds s c.in-Each.row)) start
-    (with_more c.in-Each.row) c.limits_add_up.ensures _ _ _ _ start _ (λ i. start)
-    c.in_err-register_element_memory-in-Each.ensures.none_left))
+    place (no_room c.args.bytes length_prefixed (family_takes family
+    (family.holds s c.args.row)) start
+    (with_more c.args.row) c.limits_add_up.ensures _ _ _ _ start _ (λ i. start)
+    c.in_err-register_element_memory.ensures.none_left))
 
-pub merge_held-returns-in_err-merge_embedded-in-Each-clause-err
-    : goal.merge_held-returns-in_err-merge_embedded-in-Each-clause-err
-merge_held-returns-in_err-merge_embedded-in-Each-clause-err g t c =
-    let there = c.in-Each.ensures.there in
-    let r = c.from_residual-in_err-merge_embedded-in-Each in
+pub merge_each-returns-in_err-merge_embedded-clause-err
+    : goal.merge_each-returns-in_err-merge_embedded-clause-err
+merge_each-returns-in_err-merge_embedded-clause-err g t c =
+    let there = c.requires.there in
+    let r = c.from_residual-in_err-merge_embedded in
     let p = err_from_is_err_and r.result r.ensures.1 in
     let family = g.T.RecursiveHeld.family in
     let s = g.T.RecursiveHeld.sort c.args.message.now in
     let reading = c.records_in_order.ensures.reading in
-    let place = ap (family.table s).place (sym c.field_number.ensures.number) ∙ sym
-    c.in-Each.ensures.is in
+    let place = c.requires.place in
     let held = c.new_in-own.ensures.sort there.0 there.1 in
-    let none = rw held at c.in_err-merge_embedded-in-Each.ensures.err in
+    let none = rw held at c.in_err-merge_embedded.ensures.err in
     rw (p.1, p.2) (λ other. not_placed family reading (g.met.T.RecursiveHeld.single reading) s _ _ _
     _ _ _
-    place (no_more c.in-Each.bytes length_prefixed (family_takes family
-    (family.holds s c.in-Each.row))
-    (new_in family s c.in-Each.row) (with_more c.in-Each.row) c.limits_add_up.ensures _ _ _ _ _ _
+    place (no_more c.args.bytes length_prefixed (family_takes family
+    (family.holds s c.args.row))
+    (new_in family s c.args.row) (with_more c.args.row) c.limits_add_up.ensures _ _ _ _ _ _
     (c.new_in-own.ensures.result there.0 there.1) _
-    c.in_ok-register_element_memory-in-Each.ensures.ok (none other)))
+    c.in_ok-register_element_memory.ensures.ok (none other)))
 
-pub merge_held-returns-in_ok-merge_embedded-in-Each-clause-ok
-    : goal.merge_held-returns-in_ok-merge_embedded-in-Each-clause-ok
-merge_held-returns-in_ok-merge_embedded-in-Each-clause-ok g t c =
-    let there = c.in-Each.ensures.there in
+pub merge_each-returns-clause-ok
+    : goal.merge_each-returns-clause-ok
+merge_each-returns-clause-ok g t c =
+    let there = c.requires.there in
     let family = g.T.RecursiveHeld.family in
     let s = g.T.RecursiveHeld.sort c.args.message.now in
     let reading = c.records_in_order.ensures.reading in
-    let place = ap (family.table s).place (sym c.field_number.ensures.number) ∙ sym
-    c.in-Each.ensures.is in
+    let place = c.requires.place in
     let held = c.new_in-own.ensures.sort there.0 there.1 in
-    let taken = rw held at c.in_ok-merge_embedded-in-Each.ensures.ok in
+    let taken = rw held at c.in_ok-merge_embedded.ensures.ok in
     on_ok_weaker c.push.result (λ is. placed_taken family reading (g.met.T.RecursiveHeld.single
     reading)
-    s _ _ _ _ _ _ place _ _ _ (each_taken c.in-Each.bytes length_prefixed
-    (family_takes family (family.holds s c.in-Each.row)) (new_in family s c.in-Each.row)
-    (with_more c.in-Each.row) c.limits_add_up.ensures _ _ _ _ _ _
+    s _ _ _ _ _ _ place _ _ _ (each_taken c.args.bytes length_prefixed
+    (family_takes family (family.holds s c.args.row)) (new_in family s c.args.row)
+    (with_more c.args.row) c.limits_add_up.ensures _ _ _ _ _ _
     (c.new_in-own.ensures.result there.0 there.1) _ _ _ _ _
-    c.in_ok-register_element_memory-in-Each.ensures.ok
-    c.in_ok-register_element_memory-in-Each.ensures.taken is taken))
-    (c.push.ensures.ok there.0 there.1 (c.in_ok-merge_embedded-in-Each.ensures.sort ∙ held))
-
--- ---- rows that have one message at most
+    c.in_ok-register_element_memory.ensures.ok
+    c.in_ok-register_element_memory.ensures.taken is taken))
+    (c.push.ensures.ok there.0 there.1 (c.in_ok-merge_embedded.ensures.sort ∙ held))
 
 pub merge_once-returns-in_err-merge_embedded-clause-err
     : goal.merge_once-returns-in_err-merge_embedded-clause-err

@@ -22,6 +22,9 @@ decreases-merge_held g l = 4 * l.context.now.depth + 3
 abbrev pub decreases-merge_once : goal.decreases-merge_once
 decreases-merge_once g l = 4 * l.context.now.depth + 2
 
+abbrev pub decreases-merge_each : goal.decreases-merge_each
+decreases-merge_each g l = 4 * l.context.now.depth + 2
+
 abbrev pub decreases-merge_once_grouped : goal.decreases-merge_once_grouped
 decreases-merge_once_grouped g l = 4 * l.context.now.depth + 2
 
