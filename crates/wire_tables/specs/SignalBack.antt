@@ -6,22 +6,24 @@ use Rattle.wire_codec.specs.EnumValue.TheVariants.{Known}
 use Rattle.wire_codec.specs.Field.{varint}
 use Rattle.wire_codec.specs.Limits.{no_charge}
 use Rattle.wire_codec.specs.Records.{plain}
-use Rattle.wire_codec.specs.ValueMap.{int32}
+use Rattle.wire_codec.specs.ValueMap.{int32, sint32}
 use Rattle.wire_fields.specs.declared.form.Form.TheVariants.{Varint}
 use Rattle.wire_fields.specs.Back.{AllAre, FoldsBack}
 use Rattle.wire_fields.specs.ClosedBack.{closed_back, closed_once_returned, closed_packed_returned}
 use Rattle.wire_fields.specs.ClosedBack.{closed_unpacked_returned, closing_returned, closing_value}
 use Rattle.wire_fields.specs.ClosedBack.{ClosingOrApart, once_leaves}
+use Rattle.wire_fields.specs.ClosedMapsBack.{closed_map_returned}
 use Rattle.wire_fields.specs.Enums.{open_enum}
-use Rattle.wire_fields.specs.Grounds.{Grounds, numeric_back, string_back}
+use Rattle.wire_fields.specs.Grounds.{Grounds, numeric_back, string_back, sint32_back}
 use Rattle.wire_fields.specs.Leaving.{both_leaving}
-use Rattle.wire_fields.specs.LeavingBack.{both_returned, none_returned, left_range, IsLeft}
+use Rattle.wire_fields.specs.LeavingBack.{both_returned, none_returned, left_range, IsLeft, ReturnedBeside}
 use Rattle.wire_fields.specs.LeavingBack.{leaves_left, leaves_first, with_unknown_returned}
 use Rattle.wire_fields.specs.Numbers.{numeric}
 use Rattle.wire_fields.specs.OneofBack.{variant_back, variant_has}
 use Rattle.wire_fields.specs.Presence.{always}
 use Rattle.wire_fields.specs.Ranges.{Range, closed_range, string_range, optional_range}
 use Rattle.wire_fields.specs.Ranges.{packed_range, unpacked_range, pair_range, IsClosed}
+use Rattle.wire_fields.specs.Ranges.{text_map_range, signed_map_range, sint32_range}
 use Rattle.wire_fields.specs.Returned.{Returned, always_returned}
 use Rattle.wire_fields.specs.Texts.{string}
 use Rattle.wire_tables.specs.declared.level.Level.{Level}
@@ -29,7 +31,8 @@ use Rattle.wire_tables.specs.declared.level.Level.TheVariants.{Low, High}
 use Rattle.wire_tables.specs.Cause.{CauseValue, cause, cause_records, of_trigger}
 use Rattle.wire_tables.specs.Level.{level_number, level_of}
 use Rattle.wire_tables.specs.Signal.{SignalValue, signal, signal_known, signal_level, signal_history}
-use Rattle.wire_tables.specs.Signal.{signal_marks, signal_cause}
+use Rattle.wire_tables.specs.Signal.{signal_marks, signal_cause, SignalMaps, signal_by_name}
+use Rattle.wire_tables.specs.Signal.{signal_by_place}
 
 -- each level is one that is read back
 pub level_closed : (e : Level) → IsClosed level_number level_of (Known e)
@@ -94,12 +97,31 @@ cause_apart g (Some (inr e)) h =
 
 -- ---- the signal
 
+abbrev pub signal_maps_range : Range SignalMaps
+signal_maps_range =
+    pair_range
+    (text_map_range 32 (always (numeric Varint (open_enum level_number level_of)))
+    (closed_range level_number level_of))
+    (signed_map_range 16 Varint sint32 (always (numeric Varint (open_enum level_number level_of)))
+    sint32_range (closed_range level_number level_of))
+
 abbrev pub signal_range : Range SignalValue
 signal_range =
     pair_range (pair_range (pair_range (optional_range (closed_range level_number level_of))
     (packed_range Varint (open_enum level_number level_of) (closed_range level_number level_of)))
-    (pair_range (unpacked_range (closed_range level_number level_of)) cause_range))
+    (pair_range (pair_range (unpacked_range (closed_range level_number level_of)) cause_range)
+    signal_maps_range))
     (left_range signal_known)
+
+abbrev signal_maps_returned : (g : Grounds)
+    → ReturnedBeside (both_leaving signal_by_name signal_by_place) signal_maps_range
+signal_maps_returned g =
+    both_returned g
+    (closed_map_returned g _ _ _ level_number level_of string_range string_back 6 (omega arith)
+    (omega arith))
+    (closed_map_returned g _ _ _ level_number level_of sint32_range (numeric_back (sint32_back g)) 7
+    (omega arith) (omega arith))
+    (λ n p h. rw h refl)
 
 pub signal_returned : Grounds → Returned signal signal_range
 signal_returned g =
@@ -110,12 +132,18 @@ signal_returned g =
     (closed_packed_returned g level_number level_of 2 (omega arith) (omega arith))
     (λ n p h. rw h refl))
     (both_returned g
+    (both_returned g
     (closed_unpacked_returned g level_number level_of 3 (omega arith) (omega arith))
     (closing_returned g level_number level_of 5 of_trigger _ _ (none_returned (cause_returned g))
     (cause_apart g))
     (λ n p h. elim h [ inl h ↦ rw h refl | inr h ↦ rw h refl ]))
+    (signal_maps_returned g)
+    (λ n p h. elim h [ inl h ↦ rw h refl | inr h ↦ rw h refl ]))
     (λ n p h. elim h [
-      | inl h ↦ rw h refl
+      | inl h ↦ elim h [
+        | inl h ↦ rw h refl
+        | inr h ↦ elim h [ inl h ↦ rw h refl | inr h ↦ rw h refl ]
+      ]
       | inr h ↦ elim h [ inl h ↦ rw h refl | inr h ↦ rw h refl ]
     ]))
 
@@ -124,6 +152,7 @@ pub level_left : (x : ℕ) → level_of (int32.dec x) ≡ None → IsLeft signal
 level_left x lacks =
     leaves_left signal_known 1 (varint x)
     (leaves_first (both_leaving signal_level signal_history)
-    (both_leaving signal_marks signal_cause) 1 (varint x)
+    (both_leaving (both_leaving signal_marks signal_cause)
+    (both_leaving signal_by_name signal_by_place)) 1 (varint x)
     (leaves_first signal_level signal_history 1 (varint x)
     (once_leaves level_number level_of 1 x lacks)))

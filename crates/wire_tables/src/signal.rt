@@ -3,13 +3,14 @@ use crate::cause::{Cause, CauseKind, set_or_keep_trigger};
 use crate::level::Level;
 use bytes::Buf;
 use std::alloc::Global;
+use std::collections::BTreeMap;
 use wire_codec::{
     DecodeContext, DecodeError, EncodeError, EncodeSink, EnumValue, Message, SizeCache, Tag,
     UnknownFields,
 };
 use wire_fields::{
-    Enum, Kind, Known, Optional, Packed, Rest, Unpacked, keep, measure, merge_closed,
-    merge_closed_each, write,
+    Always, ClosedMap, Enum, Kind, Known, Map, Optional, Packed, Rest, Sint32, Text, Unpacked,
+    keep, measure, merge_closed, merge_closed_each, write,
 };
 
 /// A signal with levels of a closed enum: numbers that it does not have go to the unknown fields.
@@ -19,6 +20,8 @@ pub struct Signal {
     pub history: Vec<EnumValue<Level>>,
     pub marks: Vec<EnumValue<Level>>,
     pub cause: Option<Cause>,
+    pub by_name: BTreeMap<String, EnumValue<Level>>,
+    pub by_place: BTreeMap<i32, EnumValue<Level>>,
     pub unknown: UnknownFields,
 }
 
@@ -43,6 +46,8 @@ impl Message for Signal {
             history: <Packed<Enum<Level>> as Kind>::empty(alloc),
             marks: <Unpacked<Enum<Level>> as Kind>::empty(alloc),
             cause: <CauseKind as Kind>::empty(alloc),
+            by_name: <Map<Text, Always<Enum<Level>>, 32> as Kind>::empty(alloc),
+            by_place: <Map<Sint32, Always<Enum<Level>>, 16> as Kind>::empty(alloc),
             unknown: UnknownFields::new(alloc),
         }
     }
@@ -64,7 +69,15 @@ impl Message for Signal {
             number: 4,
             held: &self.cause,
         };
-        let known = ((level, history), (marks, cause));
+        let by_name: Known<Map<Text, Always<Enum<Level>>, 32>> = Known {
+            number: 6,
+            held: &self.by_name,
+        };
+        let by_place: Known<Map<Sint32, Always<Enum<Level>>, 16>> = Known {
+            number: 7,
+            held: &self.by_place,
+        };
+        let known = ((level, history), ((marks, cause), (by_name, by_place)));
         measure(
             (
                 known,
@@ -97,7 +110,15 @@ impl Message for Signal {
             number: 4,
             held: &self.cause,
         };
-        let known = ((level, history), (marks, cause));
+        let by_name: Known<Map<Text, Always<Enum<Level>>, 32>> = Known {
+            number: 6,
+            held: &self.by_name,
+        };
+        let by_place: Known<Map<Sint32, Always<Enum<Level>>, 16>> = Known {
+            number: 7,
+            held: &self.by_place,
+        };
+        let known = ((level, history), ((marks, cause), (by_name, by_place)));
         write(
             (
                 known,
@@ -137,6 +158,22 @@ impl Message for Signal {
             ),
             4 => <CauseKind as Kind>::merge(alloc, tag, &mut self.cause, buf, context),
             5 => set_or_keep_trigger(tag, &mut self.cause, &mut self.unknown, buf, context),
+            6 => <Map<Text, Always<Enum<Level>>, 32> as ClosedMap>::merge_closed(
+                alloc,
+                tag,
+                &mut self.by_name,
+                &mut self.unknown,
+                buf,
+                context,
+            ),
+            7 => <Map<Sint32, Always<Enum<Level>>, 16> as ClosedMap>::merge_closed(
+                alloc,
+                tag,
+                &mut self.by_place,
+                &mut self.unknown,
+                buf,
+                context,
+            ),
             _ => keep(alloc, tag, &mut self.unknown, buf, context),
         }
     }
@@ -146,6 +183,8 @@ impl Message for Signal {
         <Packed<Enum<Level>> as Kind>::clear(&mut self.history);
         <Unpacked<Enum<Level>> as Kind>::clear(&mut self.marks);
         <CauseKind as Kind>::clear(&mut self.cause);
+        <Map<Text, Always<Enum<Level>>, 32> as Kind>::clear(&mut self.by_name);
+        <Map<Sint32, Always<Enum<Level>>, 16> as Kind>::clear(&mut self.by_place);
         self.unknown.clear();
     }
 }

@@ -102,6 +102,10 @@ impl Sample for Signal {
         said.also(" ", &self.history);
         said.also(" ", &self.marks);
         said.also(" ", &self.cause);
+        if !self.by_name.is_empty() || !self.by_place.is_empty() {
+            said.also(" ", &self.by_name);
+            said.also(" ", &self.by_place);
+        }
         said.also(" ", &self.unknown.len());
     }
 }
