@@ -198,11 +198,11 @@ known_back n f Holds charge_of is h = record {
 
 -- ---- unknown fields
 
-joined_none : (fs : Fields) → joined fs none ≡ fs
+pub joined_none : (fs : Fields) → joined fs none ≡ fs
 joined_none none = refl
 joined_none (field n p rest) = ap (field n p) (joined_none rest)
 
-push_joined : (fs : Fields) (n : ℕ) (p : Payload) (gs : Fields)
+pub push_joined : (fs : Fields) (n : ℕ) (p : Payload) (gs : Fields)
     → joined (push fs n p) gs ≡ joined fs (field n p gs)
 push_joined none n p gs = refl
 push_joined (field k q rest) n p gs = ap (field k q) (push_joined rest n p gs)

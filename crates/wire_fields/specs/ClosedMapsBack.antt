@@ -1,24 +1,56 @@
 -- Maps with the values of a closed enum are read back: no entry whose value the enum has goes to
--- the unknown fields.
+-- the unknown fields, and the record of any other is left there once more.
 use Rattle.std.proofs.Common.{◌≡◌, ℕ, ◌^◌, ◌<◌, ◌≤◌, refl, sym, ap, ◌∙◌, subst, arith}
 use Rattle.std.specs.declared.cmp.Ordering.{Ordering}
-use Rattle.std.specs.Prelude.{ℤ, Option, Some}
+use Rattle.std.specs.Prelude.{ℤ, Bool, true, false, Option, Some, None, ◌==◌}
+use Rattle.wire_codec.specs.Charge.{payload_charge}
 use Rattle.wire_codec.specs.EnumValue.{EnumValue}
-use Rattle.wire_codec.specs.Field.{Payload, Fields}
-use Rattle.wire_codec.specs.Limits.{Charge, both}
+use Rattle.wire_codec.specs.EnumValue.TheVariants.{Unknown}
+use Rattle.wire_codec.specs.Field.{Payload, Fields, push}
+use Rattle.wire_codec.specs.Limits.{Charge, both, nested, no_charge, element_of}
+use Rattle.wire_codec.specs.Records.{plain_payload, embedded}
 use Rattle.wire_fields.specs.Back.{same_owned}
 use Rattle.wire_fields.specs.ClosedBack.{closed_back}
 use Rattle.wire_fields.specs.ClosedMaps.{closed_value, closed_map_of, closes_entry, entry_or_kept}
 use Rattle.wire_fields.specs.ClosedMaps.{kept_charge}
-use Rattle.wire_fields.specs.Grounds.{Grounds, numeric_back}
-use Rattle.wire_fields.specs.LeavingBack.{beside_unknown, ReturnedBeside}
-use Rattle.wire_fields.specs.MapsBack.{PutsEntries, all_folded, entries_have}
+use Rattle.wire_fields.specs.Grounds.{Grounds, numeric_back, enum_back}
+use Rattle.wire_fields.specs.LeavingBack.{beside_unknown, ReturnedBeside, LeavesFor}
+use Rattle.wire_fields.specs.Maps.{entry_records, entry_default, reads_entry}
+use Rattle.wire_fields.specs.MapsBack.{PutsEntries, IsEntry, all_folded, entries_have, entry_read}
 use Rattle.wire_fields.specs.OneofBack.{AlwaysBack}
-use Rattle.wire_fields.specs.Ranges.{Range, IsClosed, closed_range, map_range}
+use Rattle.wire_fields.specs.Ranges.{Range, IsClosed, closed_range, enum_range, map_range}
 use Rattle.wire_fields.specs.Returned.{always_returned}
 use Rattle.wire_fields.specs.Scalar.{ScalarType}
 use Rattle.wire_fields.specs.ScalarBack.{ScalarBack}
 use Rattle.wire_fields.specs.Shape.{FieldKind}
+
+-- ---- entries that are left
+
+abbrev pub charge_where : Bool → Charge → Charge → Charge
+charge_where true here there = here
+charge_where false here there = there
+
+-- What the record of an entry is charged that is left: the place of an entry, a level, and what an
+-- unknown field is. A group among the other fields of the entry would take levels besides.
+abbrev pub left_charge : ℕ → Payload → Charge
+left_charge place p = both (both (element_of place) (nested no_charge)) (payload_charge p)
+
+-- what records are charged where those of number k are such, and all others as these are
+abbrev pub entries_left : ℕ → ℕ → (ℕ → Payload → Charge) → ℕ → Payload → Charge
+entries_left place k others n p = charge_where (n == k) (left_charge place p) (others n p)
+
+-- the record of any entry whose value the enum does not have, for what reading it is charged
+pub closed_map_leaves : {K E : Type 0} (place : ℕ) (order : K → K → Ordering) (key : ScalarType K)
+    (number : E → ℤ) (of_number : ℤ → Option E) (n : ℕ) (p : Payload) (c : Charge) (k : K) (i : ℤ)
+    → reads_entry place key (closed_value number of_number)
+    (entry_default key (closed_value number of_number)) n p c ((k, Unknown i), tt)
+    → LeavesFor (closed_map_of place order key number of_number n) (both c (payload_charge p)) n p
+closed_map_leaves place order key number of_number n p c k i read = record {
+  own = same_owned n n refl;
+  left = λ m u. ((None, push u n p), (((k, Unknown i), tt), c, read, refl, refl), refl);
+}
+
+-- ---- what is written
 
 module _ (g : Grounds) {K E : Type 0} (place : ℕ) (order : K → K → Ordering) (key : ScalarType K)
     (number : E → ℤ) (of_number : ℤ → Option E) (r : Range K)
@@ -63,3 +95,18 @@ module _ (g : Grounds) {K E : Type 0} (place : ℕ) (order : K → K → Orderin
       own = λ j p. same_owned n j;
     };
   }
+
+  -- the record that is written of an entry with such a value
+  pub written_entry_leaves : (n : ℕ) (k : K) (i : ℤ)
+      → IsEntry key value r.Holds (enum_range number of_number).Holds
+      (enum_range number of_number).charge_of (k, Unknown i)
+      → let p = plain_payload (embedded (entry_records key value (k, Unknown i))) in
+      LeavesFor (closed_map_of place order key number of_number n) (left_charge place p) n p
+  written_entry_leaves n k i h =
+      closed_map_leaves place order key number of_number n
+      (plain_payload (embedded (entry_records key value (k, Unknown i))))
+      (both (element_of place) (nested no_charge)) k i
+      (entry_read key value r.Holds (enum_range number of_number).Holds
+      (enum_range number of_number).charge_of g.plain g.charges g.spells key_back
+      (always_returned g _ _ (numeric_back (enum_back g number of_number)))
+      (λ j below above. g.number j below (omega (arith, above))) place n (k, Unknown i) h)

@@ -1,14 +1,15 @@
 -- Fields that leave records to the unknown fields are read back too: what is written of a value is
 -- taken into it, and the unknown fields stay as they are.
 use Rattle.std.proofs.Common.{◌≡◌, ◌⊎◌, ℕ, true, false, refl, sym, ap, ◌∙◌, subst}
-use Rattle.wire_codec.specs.Charge.{charge, payload_charge}
+use Rattle.wire_codec.specs.Charge.{charge, payload_charge, total}
 use Rattle.wire_codec.specs.Field.{Payload, Fields, none, field, joined, push}
 use Rattle.wire_codec.specs.Folds.{Step, IsSingle, Folds}
 use Rattle.wire_codec.specs.InRange.{AreFitting, AreNumbered}
-use Rattle.wire_codec.specs.Limits.{both}
+use Rattle.wire_codec.specs.Limits.{Charge, both}
 use Rattle.wire_codec.specs.Records.{plain, joined_records, of_fields}
 use Rattle.wire_fields.specs.Back.{AllHave, AllAre, FoldsBack, Back, two_back, fold_on, fold_lifted}
-use Rattle.wire_fields.specs.Back.{kept_fold, fitting_joined, numbered_joined, plain_joined, or_left, or_right}
+use Rattle.wire_fields.specs.Back.{fitting_joined, numbered_joined, plain_joined, joined_none, push_joined}
+use Rattle.wire_fields.specs.Back.{or_left, or_right}
 use Rattle.wire_fields.specs.Grounds.{Grounds}
 use Rattle.wire_fields.specs.Leaving.{Leaving, leaving_other, leaving_none, both_leaving}
 use Rattle.wire_fields.specs.Leaving.{first_of, second_of, with_unknown, keeps_beside}
@@ -96,19 +97,31 @@ both_returned {A} {B} {a} {b} {r} {q} g x y apart = record {
 
 -- ---- unknown fields
 
--- a record that stays among the unknown fields, whatever the fields hold
-abbrev pub IsLeft : {V : Type 0} → Leaving V → ℕ → Payload → Type 0
-IsLeft {V} s n p =
-    (m : V) (u : Fields) → (with_unknown s).takes (m, u) n p (payload_charge p) (m, push u n p)
+-- a record that stays among the unknown fields, whatever the fields hold, for this charge
+abbrev pub IsLeftFor : {V : Type 0} → Leaving V → Charge → ℕ → Payload → Type 0
+IsLeftFor {V} s c n p = (m : V) (u : Fields) → (with_unknown s).takes (m, u) n p c (m, push u n p)
 
--- records in range, each of which is such
-pub record AreLeft {V : Type 0} (s : Leaving V) (fs : Fields) : Type 0 where
+-- for what any unknown field is charged
+abbrev pub IsLeft : {V : Type 0} → Leaving V → ℕ → Payload → Type 0
+IsLeft s n p = IsLeftFor s (payload_charge p) n p
+
+-- records in range, each of which is such, for its price
+pub record AreLeftFor {V : Type 0} (s : Leaving V) (price : ℕ → Payload → Charge) (fs : Fields)
+    : Type 0 where
   pub fitting : AreFitting fs
   pub numbered : AreNumbered fs
-  pub left : AllHave (IsLeft s) fs
+  pub left : AllHave (λ n p. IsLeftFor s (price n p) n p) fs
+
+abbrev pub AreLeft : {V : Type 0} → Leaving V → Fields → Type 0
+AreLeft s = AreLeftFor s (λ n p. payload_charge p)
 
 abbrev pub left_range : {V : Type 0} → Leaving V → Range Fields
 left_range s = record { Holds = AreLeft s; charge_of = charge }
+
+-- A field that reads a record before it leaves it charges for that besides, so of a table with such
+-- fields it is said what each record is charged.
+abbrev pub priced_range : {V : Type 0} → Leaving V → (ℕ → Payload → Charge) → Range Fields
+priced_range s price = record { Holds = AreLeftFor s price; charge_of = total price }
 
 -- one of a number that the fields do not have is such
 pub not_owned_left : {V : Type 0} (s : Leaving V) (n : ℕ) (p : Payload) → s.owns n p ≡ false
@@ -117,43 +130,67 @@ not_owned_left s n p is m u =
     subst (λ b. on b (s.takes (m, u) n p (payload_charge p) (m, push u n p))
     (keeps_beside (m, u) n p (payload_charge p) (m, push u n p))) (sym is) ((refl, refl), refl)
 
--- one that is the fields' own by its number, and which they leave
-pub record Leaves {V : Type 0} (s : Leaving V) (n : ℕ) (p : Payload) : Type 0 where
+-- one that is the fields' own by its number, and which they leave for this charge
+pub record LeavesFor {V : Type 0} (s : Leaving V) (c : Charge) (n : ℕ) (p : Payload) : Type 0 where
   pub own : s.owns n p ≡ true
-  pub left : (m : V) (u : Fields) → s.takes (m, u) n p (payload_charge p) (m, push u n p)
+  pub left : (m : V) (u : Fields) → s.takes (m, u) n p c (m, push u n p)
 
-pub leaves_left : {V : Type 0} (s : Leaving V) (n : ℕ) (p : Payload) → Leaves s n p → IsLeft s n p
-leaves_left s n p h m u =
-    subst (λ b. on b (s.takes (m, u) n p (payload_charge p) (m, push u n p))
-    (keeps_beside (m, u) n p (payload_charge p) (m, push u n p))) (sym h.own) (h.left m u)
+abbrev pub Leaves : {V : Type 0} → Leaving V → ℕ → Payload → Type 0
+Leaves s n p = LeavesFor s (payload_charge p) n p
+
+pub leaves_left : {V : Type 0} {c : Charge} (s : Leaving V) (n : ℕ) (p : Payload)
+    → LeavesFor s c n p → IsLeftFor s c n p
+leaves_left {V} {c} s n p h m u =
+    subst (λ b. on b (s.takes (m, u) n p c (m, push u n p))
+    (keeps_beside (m, u) n p c (m, push u n p))) (sym h.own) (h.left m u)
 
 -- in a tree
-module _ {A B : Type 0} (a : Leaving A) (b : Leaving B) (n : ℕ) (p : Payload) where
-  pub leaves_first : Leaves a n p → Leaves (both_leaving a b) n p
+module _ {A B : Type 0} {c : Charge} (a : Leaving A) (b : Leaving B) (n : ℕ) (p : Payload) where
+  pub leaves_first : LeavesFor a c n p → LeavesFor (both_leaving a b) c n p
   leaves_first h = record {
     own = or_left (a.owns n p) (b.owns n p) h.own;
     left = λ m u. subst
-        (λ t. on t (first_of a.takes (m, u) n p (payload_charge p) (m, push u n p))
-        (second_of b.takes (m, u) n p (payload_charge p) (m, push u n p))) (sym h.own)
+        (λ t. on t (first_of a.takes (m, u) n p c (m, push u n p))
+        (second_of b.takes (m, u) n p c (m, push u n p))) (sym h.own)
         (h.left m.0 u, refl);
   }
 
-  pub leaves_second : a.owns n p ≡ false → Leaves b n p → Leaves (both_leaving a b) n p
+  pub leaves_second : a.owns n p ≡ false → LeavesFor b c n p → LeavesFor (both_leaving a b) c n p
   leaves_second apart h = record {
     own = or_right (a.owns n p) (b.owns n p) h.own;
     left = λ m u. subst
-        (λ t. on t (first_of a.takes (m, u) n p (payload_charge p) (m, push u n p))
-        (second_of b.takes (m, u) n p (payload_charge p) (m, push u n p))) (sym apart)
+        (λ t. on t (first_of a.takes (m, u) n p c (m, push u n p))
+        (second_of b.takes (m, u) n p c (m, push u n p))) (sym apart)
         (h.left m.1 u, refl);
   }
 
 -- ---- a message
 
+pub total_charge : (fs : Fields) → total (λ n p. payload_charge p) fs ≡ charge fs
+total_charge none = refl
+total_charge (field n p rest) = ap (both (payload_charge p)) (total_charge rest)
+
 module _ {V : Type 0} (g : Grounds) (s : Leaving V) (r : Range V) (x : ReturnedBeside s r) where
-  whole_folded : (m : V × Fields) → (pair_range r (left_range s)).Holds m
+  -- each record that is left goes behind the others
+  left_folded : (price : ℕ → Payload → Charge) (m : V) (into fs : Fields)
+      → AllHave (λ n p. IsLeftFor s (price n p) n p) fs
+      → Folds (with_unknown s).takes (m, into) fs (total price fs) (m, joined into fs)
+  left_folded price m into none h = (refl, ap (λ u. (m, u)) (joined_none into))
+  left_folded price m into (field n p rest) h = (
+    (m, push into n p),
+    price n p,
+    total price rest,
+    h.0 m into,
+    subst (λ u. Folds (with_unknown s).takes (m, push into n p) rest (total price rest) (m, u))
+        (push_joined into n p rest) (left_folded price m (push into n p) rest h.1),
+    refl,
+  )
+
+  whole_folded : (price : ℕ → Payload → Charge) (m : V × Fields)
+      → (pair_range r (priced_range s price)).Holds m
       → Folds (with_unknown s).takes (with_unknown s).default (joined (plain (s.records m.0)) m.1)
-      (both (r.charge_of m.0) (charge m.1)) m
-  whole_folded m h =
+      (both (r.charge_of m.0) (total price m.1)) m
+  whole_folded price m h =
       let t = with_unknown s in
       let fs = plain (s.records m.0) in
       let known = fold_lifted (λ n p. x.Has n) (beside_unknown none s.takes) t.takes
@@ -163,28 +200,43 @@ module _ {V : Type 0} (g : Grounds) (s : Leaving V) (r : Range V) (x : ReturnedB
       (sym ((x.back none).own n p is)) step)
       fs s.default m.0 (r.charge_of m.0) ((x.back none).has m.0 h.0)
       ((x.back none).back m.0 h.0).folded in
-      let others = fold_lifted (IsLeft s) keeps t.takes (λ u. (m.0, u))
-      (λ u z n p c is step. subst (λ d. t.takes (m.0, u) n p d (m.0, z)) (sym step.0)
-      (subst (λ w. t.takes (m.0, u) n p (payload_charge p) (m.0, w)) (sym step.1) (is m.0 u)))
-      m.1 none m.1 (charge m.1) h.1.left (kept_fold none m.1) in
-      fold_on t.takes g.charges fs m.1 t.default (m.0, none) m (r.charge_of m.0) (charge m.1) known
-      others
+      fold_on t.takes g.charges fs m.1 t.default (m.0, none) m (r.charge_of m.0) (total price m.1)
+      known (left_folded price m.0 none m.1 h.1.left)
+
+  whole_back : (price : ℕ → Payload → Charge) (m : V × Fields)
+      → (pair_range r (priced_range s price)).Holds m
+      → FoldsBack (with_unknown s).takes (with_unknown s).default
+      (plain ((with_unknown s).records m)) (both (r.charge_of m.0) (total price m.1)) m
+  whole_back price m h =
+      let t = with_unknown s in
+      let fs = plain (s.records m.0) in
+      let inner = (x.back none).back m.0 h.0 in
+      subst (λ y. FoldsBack t.takes t.default y (both (r.charge_of m.0) (total price m.1)) m)
+      (sym (plain_joined (s.records m.0) (of_fields m.1) ∙ ap (joined fs) (g.plain.plain m.1)))
+      (record {
+        fitting = fitting_joined fs m.1 inner.fitting h.1.fitting;
+        numbered = numbered_joined fs m.1 inner.numbered h.1.numbered;
+        folded = whole_folded price m h;
+      })
+
+  pub priced_returned : (price : ℕ → Payload → Charge)
+      → Returned (with_unknown s) (pair_range r (priced_range s price))
+  priced_returned price = record {
+    Has = λ n. Unit {0};
+    back = record {
+      back = whole_back price;
+      has = λ m h. all_any (plain (joined_records (s.records m.0) (of_fields m.1)));
+      own = λ n p h. refl;
+    };
+  }
 
   pub with_unknown_returned : Returned (with_unknown s) (pair_range r (left_range s))
   with_unknown_returned = record {
     Has = λ n. Unit {0};
     back = record {
-      back = λ m h.
-          let t = with_unknown s in
-          let fs = plain (s.records m.0) in
-          let inner = (x.back none).back m.0 h.0 in
-          subst (λ y. FoldsBack t.takes t.default y (both (r.charge_of m.0) (charge m.1)) m)
-          (sym (plain_joined (s.records m.0) (of_fields m.1) ∙ ap (joined fs) (g.plain.plain m.1)))
-          (record {
-            fitting = fitting_joined fs m.1 inner.fitting h.1.fitting;
-            numbered = numbered_joined fs m.1 inner.numbered h.1.numbered;
-            folded = whole_folded m h;
-          });
+      back = λ m h. subst (λ c. FoldsBack (with_unknown s).takes (with_unknown s).default
+          (plain ((with_unknown s).records m)) (both (r.charge_of m.0) c) m) (total_charge m.1)
+          (whole_back (λ n p. payload_charge p) m h);
       has = λ m h. all_any (plain (joined_records (s.records m.0) (of_fields m.1)));
       own = λ n p h. refl;
     };

@@ -134,6 +134,28 @@ module _ {K V : Type 0} (key : ScalarType K) (value : FieldKind V) (HoldsKey : K
           );
         })
 
+    -- its record is read as the entry that it is of, under any number
+    pub entry_read : (number : (n : ℕ) → 1 ≤ n → n ≤ 2 → IsFieldNumber n) (place n : ℕ) (e : K × V)
+        → IsEntry e
+        → reads_entry place key value (entry_default key value) n
+        (plain_payload (embedded (entry_records key value e)))
+        (both (element_of place) (nested (charge_of e.1))) (e, tt)
+    entry_read number place n e h =
+        let rs = entry_records key value e in
+        let inner = entry_back number e h in (
+          (e, tt),
+          nested (charge_of e.1),
+          (
+            plain rs,
+            charge_of e.1,
+            (prefixed_back spells).holds rs inner.fitting inner.numbered h.short,
+            inner.folded,
+            refl,
+          ),
+          refl,
+          refl,
+        )
+
     -- ---- maps
 
     module _ (place : ℕ) (order : K → K → Ordering)
@@ -162,19 +184,7 @@ module _ {K V : Type 0} (key : ScalarType K) (value : FieldKind V) (HoldsKey : K
                 one,
                 entries_charge place es,
                 subst (takes bs n p one) (put_last order bs e es follow)
-                    (puts n bs e p one holds.0 (
-                      (e, tt),
-                      nested (charge_of e.1),
-                      (
-                        plain rs,
-                        charge_of e.1,
-                        encoded.holds rs inner.fitting inner.numbered holds.0.short,
-                        inner.folded,
-                        refl,
-                      ),
-                      refl,
-                      refl,
-                    )),
+                    (puts n bs e p one holds.0 (entry_read number place n e holds.0)),
                 subst (λ z. Folds takes next (plain (each_entry key value n es))
                     (entries_charge place es) z)
                     (append_assoc bs (e ∷ []) es) more.folded,

@@ -1,19 +1,17 @@
 -- What is written of messages that hold themselves or one another is read back, where what is
 -- written of their leaves is.
 use Rattle.std.proofs.Common.{◌≡◌, ℕ, suc, ◌+◌, ◌<◌, ◌≤◌, List, [], ◌∷◌, ◌++◌, append_assoc, refl, sym, ap, ◌∙◌, subst, arith}
-use Rattle.std.proofs.Math.Nat.{add_comm, max_comm}
 use Rattle.std.proofs.lemmas.List.{append-nil}
 use Rattle.std.specs.Prelude.{Bool, true, false}
 use Rattle.wire_codec.specs.Field.{Payload, Fields, none, field, joined}
-use Rattle.wire_codec.specs.Folds.{Step, IsSingle, Folds}
+use Rattle.wire_codec.specs.Folds.{IsSingle, Folds}
 use Rattle.wire_codec.specs.InRange.{AreFitting, AreNumbered}
 use Rattle.wire_codec.specs.Limits.{Charge, both, nested, no_charge}
-use Rattle.wire_codec.specs.LimitsLaws.{ChargesAddUp}
 use Rattle.wire_codec.specs.Records.{Records, plain, plain_payload, joined_records, text_size}
 use Rattle.wire_fields.specs.declared.recursive.Place.{Place}
 use Rattle.wire_fields.specs.declared.recursive.Place.TheVariants.{Leaf, Once, Each, Grouped}
 use Rattle.wire_fields.specs.Back.{AllAre, FoldsBack, plain_joined, fitting_joined, numbered_joined}
-use Rattle.wire_fields.specs.Back.{fold_on, fold_lifted}
+use Rattle.wire_fields.specs.Back.{fold_on}
 use Rattle.wire_fields.specs.Grounds.{Grounds}
 use Rattle.wire_fields.specs.Least.{rolled}
 use Rattle.wire_fields.specs.LeavingBack.{all_any}
@@ -22,10 +20,14 @@ use Rattle.wire_fields.specs.Messages.{length_prefixed, or_else}
 use Rattle.wire_fields.specs.Nest.{Nest, nest, Rows, done, row, Row, end, ahead, listed, row_of}
 use Rattle.wire_fields.specs.Nest.{listed_row, row_listed, rows_row, set_rows, count_rows}
 use Rattle.wire_fields.specs.Nest.{empty_rows, with_row, first_of}
-use Rattle.wire_fields.specs.NestRange.{IsFit, FamilyHolds, nest_range, RowsHold, RowHolds, price, family_charge}
-use Rattle.wire_fields.specs.NestRange.{rows_charge, row_charge, family_range, runs_from, IsPlaceOf, LeafBack}
+use Rattle.wire_fields.specs.NestLists.{fold_split, all_split, fitting_split, numbered_split}
+use Rattle.wire_fields.specs.NestLists.{swapped, paired}
+use Rattle.wire_fields.specs.NestRange.{IsFitBehind, fit_behind, Beside, any_beside, FamilyHolds, nest_range, RowsHold}
+use Rattle.wire_fields.specs.NestRange.{RowHolds, price, family_charge, fitting_range, IsWithin}
+use Rattle.wire_fields.specs.NestRange.{rows_charge, row_charge, family_range, runs_from, IsPlaceOf}
+use Rattle.wire_fields.specs.NestRange.{LeafBeside, LeafBack, IsKept, kept_behind}
 use Rattle.wire_fields.specs.NestRows.{set_same, set_again, row_set, row_behind, count_set}
-use Rattle.wire_fields.specs.NestRows.{no_messages, count_empty, filled, all_filled}
+use Rattle.wire_fields.specs.NestRows.{within_set, no_messages, count_empty, filled, all_filled}
 use Rattle.wire_fields.specs.NestTable.{Family, is_grouped, encoding_of, encoding_at, empty_of}
 use Rattle.wire_fields.specs.NestTable.{family_records, rows_records, row_records, placed, takes_at}
 use Rattle.wire_fields.specs.NestTable.{level, family_takes, grows, owned, new_in, one_in, with_one}
@@ -34,72 +36,11 @@ use Rattle.wire_fields.specs.Ranges.{Range}
 use Rattle.wire_fields.specs.Returned.{Returned}
 use Rattle.wire_fields.specs.Shape.{Shape}
 
--- ---- lists of records
-
-fold_split : {V : Type 0} (takes : Step V) → ChargesAddUp → (fs gs : Fields) (m z : V) (c : Charge)
-    → Folds takes m (joined fs gs) c z
-    → (u : V) × (first rest : Charge) × Folds takes m fs first u × Folds takes u gs rest z
-    × (c ≡ both first rest)
-fold_split takes charges none gs m z c h =
-    (m, no_charge, c, (refl, refl), h, sym (charges.nothing_first c))
-fold_split takes charges (field n p others) gs m z c (mid, one, rest, step, more, sum) =
-    let (u, first, last, front, behind, is) = fold_split takes charges others gs mid z rest more in (
-      u,
-      both one first,
-      last,
-      (mid, one, first, step, front, refl),
-      behind,
-      sum ∙ ap (both one) is ∙ sym (charges.assoc one first last),
-    )
-
-all_split : (Is : ℕ → Type 0) (fs gs : Fields) → AllAre Is (joined fs gs)
-    → AllAre Is fs × AllAre Is gs
-all_split Is none gs h = (tt, h)
-all_split Is (field n p rest) gs h =
-    let parts = all_split Is rest gs h.1 in ((h.0, parts.0), parts.1)
-
-fitting_split : (fs gs : Fields) → AreFitting (joined fs gs) → AreFitting fs × AreFitting gs
-fitting_split none gs h = (tt, h)
-fitting_split (field n p rest) gs h =
-    let parts = fitting_split rest gs h.1 in ((h.0, parts.0), parts.1)
-
-numbered_split : (fs gs : Fields) → AreNumbered (joined fs gs) → AreNumbered fs × AreNumbered gs
-numbered_split none gs h = (tt, h)
-numbered_split (field n p rest) gs h =
-    let parts = numbered_split rest gs h.2 in ((h.0, h.1, parts.0), parts.1)
-
--- charges in another order
-swapped : (a b : Charge) → both a b ≡ both b a
-swapped a b =
-    rw (
-      max_comm a.depth b.depth,
-      add_comm a.counts.unknown_fields b.counts.unknown_fields,
-      add_comm a.counts.element_memory b.counts.element_memory,
-      add_comm a.counts.unknown_bytes b.counts.unknown_bytes,
-    ) refl
-
-paired : ChargesAddUp → (a b c d : Charge) → both a (both b (both c d)) ≡ both (both a c) (both b d)
-paired charges a b c d =
-    ap (both a) (sym (charges.assoc b c d) ∙ ap (λ x. both x d) (swapped b c)
-    ∙ charges.assoc c b d)
-    ∙ sym (charges.assoc a c (both b d))
-
 -- ---- the proof
 
--- behind these messages the row has one more only where it may have many
-abbrev IsFitBehind : {L : Type 0} → List (Nest L) → Row L → Type 0
-IsFitBehind before end = Unit {0}
-IsFitBehind before (ahead m ms) = (before ≡ []) × (ms ≡ end)
-
-fit_behind : {L : Type 0} (once : Bool) (r : Row L) → IsFit once r → once ≡ true → IsFitBehind [] r
-fit_behind false r h is = absurd cc
-fit_behind true end h is = tt
-fit_behind true (ahead m end) h is = (refl, refl)
-fit_behind true (ahead m (ahead k ms)) h is = absurd h
-
-module _ {S L : Type 0} (g : Grounds) (family : Family S L) (r : S → Range L)
-    (single : (s : S) → IsSingle (family.table s).takes) (h : (s : S) → LeafBack (family.table s)
-    (r s)) where
+module _ {S L : Type 0} (g : Grounds) (family : Family S L) (r : S → Range L) (fits : S → Beside L)
+    (single : (s : S) → IsSingle (family.table s).takes)
+    (h : (s : S) → LeafBeside (family.table s) (r s) (fits s)) where
   encoding_back : (grouped : Bool) → EncodingBack (encoding_of grouped)
   encoding_back false = prefixed_back g.spells
   encoding_back true = delimited_back
@@ -115,26 +56,48 @@ module _ {S L : Type 0} (g : Grounds) (family : Family S L) (r : S → Range L)
       (subst (λ x. takes_at family (family_takes family) s x m n
       (plain_payload ((encoding_of (is_grouped x)).payload rs)) c z) (sym is) step)
 
-  -- records of the leaf
-  leaf_lifted : (s : S) (fs : Fields) (l z : L) (rows : Rows L) (c : Charge)
-      → AllAre (λ n. (family.table s).place n ≡ Leaf) fs → Folds (family.table s).takes l fs c z
-      → Folds (family_takes family s) (nest l rows) fs c (nest z rows)
-  leaf_lifted s fs l z rows c has folded =
-      fold_lifted (λ n p. (family.table s).place n ≡ Leaf) (family.table s).takes
-      (family_takes family s) (λ x. nest x rows)
-      (λ m u n p c is step. rolled (level family) (grows family g.reading single) s (nest m rows)
-      (nest u rows) n p c
-      (subst (λ x. takes_at family (family_takes family) s x (nest m rows) n p c (nest u rows))
-      (sym is)
-      (step, sym ((h s).rows_beside n rows))))
-      fs l z c has folded
+  -- records of a leaf, on the way to it
+  leaf_lifted : (s : S) (l : L) (all rows : Rows L) → fits s l all → IsWithin all rows
+      → (fs : Fields) (m z : L) (c : Charge) → AllAre ((h s).Has l) fs → (h s).OnWay l m
+      → Folds (family.table s).takes m fs c z
+      → Folds (family_takes family s) (nest m rows) fs c (nest z rows) × (h s).OnWay l z
+  leaf_lifted s l all rows fit within none m z c has way folded = (
+    (folded.0, ap (λ x. nest x rows) folded.1),
+    subst ((h s).OnWay l) (sym folded.1) way,
+  )
+  leaf_lifted s l all rows fit within (field n p others) m z c has way
+      (mid, first, rest, step, more, sum) =
+      let behind = leaf_lifted s l all rows fit within others mid z rest has.1
+      ((h s).goes_on l m mid n p first has.0 way step) more in (
+        (
+          nest mid rows,
+          first,
+          rest,
+          rolled (level family) (grows family g.reading single) s (nest m rows) (nest mid rows) n p
+              first
+              (subst (λ x. takes_at family (family_takes family) s x (nest m rows) n p first
+              (nest mid rows)) (sym ((h s).here l n has.0))
+              (step, sym ((h s).rows_beside l all rows n fit has.0 within))),
+          behind.0,
+          sum,
+        ),
+        behind.1,
+      )
+
+  -- the messages of a row stand beside the leaf on the way
+  row_kept : (s : S) (l m : L) (all : Rows L) → fits s l all → (h s).OnWay l m → (i : ℕ) (q : Row L)
+      → rows_row i all ≡ listed q → IsKept (family.table s) i m q
+  row_kept s l m all fit way i end is = tt
+  row_kept s l m all fit way i (ahead k ks) is =
+      λ rows. (h s).beside l m all rows i k (listed ks) fit way is
 
   -- one message more in a row
   module _ (s : S) (i : ℕ) (l : L) (rows : Rows L) (before : List (Nest L))
       (row_is : rows_row i rows ≡ before) (m : Nest L) (c : Charge)
       (inner : FoldsBack (family_takes family (family.holds s i)) (new_in family s i)
       (plain (family_records family (family.holds s i) m)) c m)
-      (short : text_size (family_records family (family.holds s i) m) ≤ 2147483647) where
+      (short : text_size (family_records family (family.holds s i) m) ≤ 2147483647)
+      (kept : (rs : Rows L) → (family.table s).beside i (nest l rs) ≡ nest l rs) where
     -- what is written of it
     abbrev written : Records
     written = family_records family (family.holds s i) m
@@ -160,7 +123,7 @@ module _ {S L : Type 0} (g : Grounds) (family : Family S L) (r : S → Range L)
       ),
       refl,
       ap (λ (ms : List (Nest L)). nest l (set_rows i (row_of (ms ++ m ∷ [])) rows)) nothing
-          ∙ ap (with_row i (m ∷ [])) (sym ((h s).beside i (nest l rows))),
+          ∙ ap (with_row i (m ∷ [])) (sym (kept rows)),
     )
 
     each_taken : (bytes : ℕ)
@@ -202,7 +165,7 @@ module _ {S L : Type 0} (g : Grounds) (family : Family S L) (r : S → Range L)
         with_it written (placed bytes (nested c)) (each_taken bytes)
 
   mutual
-    nest_folded : (s : S) (m : Nest L) → FamilyHolds family r s m
+    nest_folded : (s : S) (m : Nest L) → FamilyHolds family r fits s m
         → FoldsBack (family_takes family s) (empty_of (family.table s)) (plain
         (family_records family s m))
         (family_charge family r s m) m
@@ -214,18 +177,22 @@ module _ {S L : Type 0} (g : Grounds) (family : Family S L) (r : S → Range L)
         let behind_records = plain (rows_records family s l 0 rows) in
         let leaf = subst (λ k. FoldsBack t.takes t.default (plain (runs_from t l 0 (suc k)))
         ((r s).charge_of l) l) (sym holds.1) ((h s).back l holds.0).0 in
-        let own = subst (λ k. AllAre (λ n. t.place n ≡ Leaf) (plain (runs_from t l 0 (suc k))))
+        let own = subst (λ k. AllAre ((h s).Has l) (plain (runs_from t l 0 (suc k))))
         (sym holds.1) ((h s).back l holds.0).1 in
         let is = plain_joined (t.run 0 l) (runs_from t l 1 (count_rows rows)) in
         let (u, first, last, front, behind, sum) = fold_split t.takes g.charges run runs t.default l
         ((r s).charge_of l) (subst (λ fs. Folds t.takes t.default fs
         ((r s).charge_of l) l) is leaf.folded)
         in
-        let has = all_split (λ n. t.place n ≡ Leaf) run runs
-        (subst (AllAre (λ n. t.place n ≡ Leaf)) is own) in
+        let has = all_split ((h s).Has l) run runs (subst (AllAre ((h s).Has l)) is own) in
         let fitting = fitting_split run runs (subst AreFitting is leaf.fitting) in
         let numbered = numbered_split run runs (subst AreNumbered is leaf.numbered) in
-        let more = rows_folded s 0 rows start u l last holds.2 (λ j low. no_messages L j t.rows)
+        let within : IsWithin rows start = λ j nothing. no_messages L j t.rows in
+        let lifted = leaf_lifted s l rows start holds.3 within run t.default u first has.0
+        ((h s).begins l) front in
+        let more = rows_folded s 0 rows start rows u l last holds.3
+        (λ j k e. let same : j ≡ k = omega (arith, e) in ap (λ x. rows_row x rows) same) lifted.1 within holds.2
+        (λ j low. no_messages L j t.rows)
         (omega (arith, holds.1)) (count_empty L t.rows) fitting.1 numbered.1 behind has.1 in
         subst (λ fs. FoldsBack (family_takes family s) (empty_of t) fs
         (both ((r s).charge_of l) (rows_charge family r s 0 rows)) (nest l rows))
@@ -242,33 +209,36 @@ module _ {S L : Type 0} (g : Grounds) (family : Family S L) (r : S → Range L)
               (fold_on (family_takes family s) g.charges run behind_records (empty_of t)
               (nest u start)
               (nest l rows) first (both (rows_charge family r s 0 rows) last)
-              (leaf_lifted s run t.default u start first has.0 front)
+              lifted.0
               (subst (λ x. Folds (family_takes family s) (nest u start) behind_records
               (both (rows_charge family r s 0 rows) last) (nest l x))
               (ap (λ k. filled 0 rows (empty_rows k)) (sym holds.1) ∙ all_filled rows)
               more.folded));
         })
 
-    rows_folded : (s : S) (i : ℕ) (rs into : Rows L) (l z : L) (c : Charge)
-        → RowsHold family r s i rs → ((j : ℕ) → i ≤ j → rows_row j into ≡ [])
+    rows_folded : (s : S) (i : ℕ) (rs into all : Rows L) (l z : L) (c : Charge) → fits s z all
+        → ((j k : ℕ) → j ≡ i + k → rows_row j all ≡ rows_row k rs) → (h s).OnWay z l
+        → IsWithin all into → RowsHold family r fits s i rs
+        → ((j : ℕ) → i ≤ j → rows_row j into ≡ [])
         → i + count_rows rs ≡ (family.table s).rows → count_rows into ≡ (family.table s).rows
         → AreFitting (plain (runs_from (family.table s) z (suc i) (count_rows rs)))
         → AreNumbered (plain (runs_from (family.table s) z (suc i) (count_rows rs)))
         → Folds (family.table s).takes l (plain (runs_from (family.table s) z (suc i)
         (count_rows rs))) c z
-        → AllAre (λ n. (family.table s).place n ≡ Leaf) (plain (runs_from (family.table s) z (suc i)
-        (count_rows rs)))
+        → AllAre ((h s).Has z) (plain (runs_from (family.table s) z (suc i) (count_rows rs)))
         → FoldsBack (family_takes family s) (nest l into) (plain (rows_records family s z i rs))
         (both (rows_charge family r s i rs) c) (nest z (filled i rs into))
-    rows_folded s i done into l z c holds empty count size fitting numbered folded has = record {
-      fitting = tt;
-      numbered = tt;
-      folded = (
-        ap (both no_charge) folded.0 ∙ g.charges.nothing_first no_charge,
-        ap (λ x. nest x into) folded.1,
-      );
-    }
-    rows_folded s i (row q rs) into l z c holds empty count size fitting numbered folded has =
+    rows_folded s i done into all l z c fit rest way within holds empty count size fitting numbered
+        folded has = record {
+          fitting = tt;
+          numbered = tt;
+          folded = (
+            ap (both no_charge) folded.0 ∙ g.charges.nothing_first no_charge,
+            ap (λ x. nest x into) folded.1,
+          );
+        }
+    rows_folded s i (row q rs) into all l z c fit rest way within holds empty count size fitting
+        numbered folded has =
         let t = family.table s in
         let held = family.holds s i in
         let n = t.number i in
@@ -281,16 +251,19 @@ module _ {S L : Type 0} (g : Grounds) (family : Family S L) (r : S → Range L)
         let is = plain_joined (t.run (suc i) z) (runs_from t z (suc (suc i)) (count_rows rs)) in
         let (u, first, last, front, behind, sum) = fold_split t.takes g.charges run runs l z c
         (subst (λ fs. Folds t.takes l fs c z) is folded) in
-        let own = all_split (λ n. t.place n ≡ Leaf) run runs
-        (subst (AllAre (λ n. t.place n ≡ Leaf)) is has) in
-        let fit = fitting_split run runs (subst AreFitting is fitting) in
+        let own = all_split ((h s).Has z) run runs (subst (AllAre ((h s).Has z)) is has) in
+        let small = fitting_split run runs (subst AreFitting is fitting) in
         let num = numbered_split run runs (subst AreNumbered is numbered) in
         let one = row_folded s i (t.place n) refl ((h s).place i low) low l into [] (empty i
         (omega arith))
-        (omega (arith, low, size)) q (fit_behind (t.once i) q holds.0) holds.1 in
-        let more = rows_folded s (suc i) rs next u z last holds.2
+        (omega (arith, low, size)) q (fit_behind (t.once i) q holds.0) holds.1
+        (row_kept s z l all fit way i q (rest i 0 (omega arith))) in
+        let inside = within_set (λ j. rows_row j all) i q into within (rest i 0 (omega arith)) in
+        let lifted = leaf_lifted s z all next fit inside run l u first own.0 way front in
+        let more = rows_folded s (suc i) rs next all u z last fit
+        (λ j k e. rest j (suc k) (omega (arith, e))) lifted.1 inside holds.2
         (λ j above. row_behind i j q into (omega (arith, above)) ∙ empty j (omega (arith, above)))
-        (omega (arith, count)) (count_set i q into ∙ size) fit.1 num.1 behind own.1 in
+        (omega (arith, count)) (count_set i q into ∙ size) small.1 num.1 behind own.1 in
         let row_total = row_charge family r held (t.place n) q in
         let total = rows_charge family r s (suc i) rs in
         subst (λ fs. FoldsBack (family_takes family s) (nest l into) fs
@@ -300,7 +273,7 @@ module _ {S L : Type 0} (g : Grounds) (family : Family S L) (r : S → Range L)
         ∙ ap (joined here) (plain_joined (t.run (suc i) z) (rows_records family s z (suc i) rs))))
         (record {
           fitting = fitting_joined here (joined run others) one.fitting
-              (fitting_joined run others fit.0 more.fitting);
+              (fitting_joined run others small.0 more.fitting);
           numbered = numbered_joined here (joined run others) one.numbered
               (numbered_joined run others num.0 more.numbered);
           folded = subst (λ d. Folds (family_takes family s) (nest l into) (joined here
@@ -315,7 +288,7 @@ module _ {S L : Type 0} (g : Grounds) (family : Family S L) (r : S → Range L)
               (nest l (set_rows i x into))) (row_listed q) one.folded)
               (fold_on (family_takes family s) g.charges run others (nest l next) (nest u next)
               (nest z (filled (suc i) rs next)) first (both total last)
-              (leaf_lifted s run l u next first own.0 front) more.folded));
+              lifted.0 more.folded));
         })
 
     row_folded : (s : S) (i : ℕ) (place : Place) → (family.table s).place
@@ -324,13 +297,13 @@ module _ {S L : Type 0} (g : Grounds) (family : Family S L) (r : S → Range L)
         (rows : Rows L)
         (before : List (Nest L)) → rows_row i rows ≡ before → i < count_rows rows
         → (q : Row L) → ((family.table s).once i ≡ true → IsFitBehind before q)
-        → RowHolds family r (family.holds s i) q
+        → RowHolds family r fits (family.holds s i) q → IsKept (family.table s) i l q
         → FoldsBack (family_takes family s) (nest l rows) (plain (row_records family
         (family.holds s i)
         (encoding_at (family.table s) ((family.table s).number i)) ((family.table s).number i) q))
         (row_charge family r (family.holds s i) place q)
         (nest l (set_rows i (row_of (before ++ listed q)) rows))
-    row_folded s i place is at low l rows before row_is there end fit holds = record {
+    row_folded s i place is at low l rows before row_is there end fit holds kept = record {
       fitting = tt;
       numbered = tt;
       folded = (
@@ -340,7 +313,7 @@ module _ {S L : Type 0} (g : Grounds) (family : Family S L) (r : S → Range L)
             ∙ ap (nest l) (set_same i rows),
       );
     }
-    row_folded s i place is at low l rows before row_is there (ahead m ms) fit holds =
+    row_folded s i place is at low l rows before row_is there (ahead m ms) fit holds kept =
         let t = family.table s in
         let held = family.holds s i in
         let n = t.number i in
@@ -351,7 +324,8 @@ module _ {S L : Type 0} (g : Grounds) (family : Family S L) (r : S → Range L)
         let more = row_folded s i place is at low l next (before ++ m ∷ [])
         (row_set i (row_of (before ++ m ∷ [])) rows there ∙ listed_row (before ++ m ∷ []))
         (omega (arith, there, count_set i (row_of (before ++ m ∷ [])) rows)) ms
-        (λ once. subst (IsFitBehind (before ++ m ∷ [])) (sym (fit once).1) tt) holds.2 in
+        (λ once. subst (IsFitBehind (before ++ m ∷ [])) (sym (fit once).1) tt) holds.2
+        (kept_behind t i l m ms kept) in
         record {
           fitting = (e.fitting rs inner.fitting holds.1, more.fitting);
           numbered = ((h s).number i low, e.numbered rs inner.numbered, more.numbered);
@@ -360,8 +334,7 @@ module _ {S L : Type 0} (g : Grounds) (family : Family S L) (r : S → Range L)
             price place (nested (family_charge family r held m)),
             row_charge family r held place ms,
             message_taken s i l rows before row_is m (family_charge family r held m) inner holds.1
-                place
-                is at (λ once. (fit once).0),
+                kept place is at (λ once. (fit once).0),
             subst (λ x. Folds (family_takes family s) (nest l next) (plain (row_records family held
                 (encoding_at t n) n ms))
                 (row_charge family r held place ms) (nest l x))
@@ -374,10 +347,11 @@ module _ {S L : Type 0} (g : Grounds) (family : Family S L) (r : S → Range L)
         }
 
   -- a message of such a table
-  pub family_returned : (s : S) (shape : Shape (Nest L)) → shape.default ≡ empty_of (family.table s)
+  pub fitting_returned : (s : S) (shape : Shape (Nest L)) → shape.default ≡ empty_of (family.table s)
       → shape.records ≡ family_records family s → shape.takes ≡ family_takes family s
-      → ((n : ℕ) (p : Payload) → shape.owns n p ≡ true) → Returned shape (family_range family r s)
-  family_returned s shape start records step owns = record {
+      → ((n : ℕ) (p : Payload) → shape.owns n p ≡ true)
+      → Returned shape (fitting_range family r fits s)
+  fitting_returned s shape start records step owns = record {
     Has = λ n. Unit {0};
     back = record {
       back = λ m holds. subst (λ k. FoldsBack k shape.default (plain (shape.records m))
@@ -390,6 +364,15 @@ module _ {S L : Type 0} (g : Grounds) (family : Family S L) (r : S → Range L)
       own = λ n p has. owns n p;
     };
   }
+
+-- where no row is one of a oneof
+module _ {S L : Type 0} (g : Grounds) (family : Family S L) (r : S → Range L)
+    (single : (s : S) → IsSingle (family.table s).takes)
+    (h : (s : S) → LeafBack (family.table s) (r s)) where
+  pub family_returned : (s : S) (shape : Shape (Nest L)) → shape.default ≡ empty_of (family.table s)
+      → shape.records ≡ family_records family s → shape.takes ≡ family_takes family s
+      → ((n : ℕ) (p : Payload) → shape.owns n p ≡ true) → Returned shape (family_range family r s)
+  family_returned = fitting_returned g family r (λ s. any_beside) single h
 
 -- a message of a type that holds itself alone
 module _ {L : Type 0} (g : Grounds) (t : Table L) (r : Range L) (single : IsSingle t.takes)

@@ -1,9 +1,9 @@
 -- Which messages that hold themselves or one another are read back, and what a type shows of its
 -- table for that.
-use Rattle.std.proofs.Common.{◌≡◌, ◌⊎◌, inl, inr, ℕ, zero, suc, ◌<◌, ◌≤◌, refl, sym, ap, ◌∙◌, subst}
+use Rattle.std.proofs.Common.{◌≡◌, ◌⊎◌, inl, inr, ℕ, zero, suc, ◌<◌, ◌≤◌, List, [], ◌∷◌, refl, sym, ap, ◌∙◌, subst}
 use Rattle.std.specs.Prelude.{Bool, true, false}
 use Rattle.wire_codec.specs.Charge.{charge}
-use Rattle.wire_codec.specs.Field.{Fields}
+use Rattle.wire_codec.specs.Field.{Payload, Fields}
 use Rattle.wire_codec.specs.FieldNumber.{IsFieldNumber}
 use Rattle.wire_codec.specs.Folds.{Step}
 use Rattle.wire_codec.specs.Limits.{Charge, both, nested, no_charge}
@@ -13,6 +13,7 @@ use Rattle.wire_fields.specs.declared.recursive.Place.TheVariants.{Leaf, Once, E
 use Rattle.wire_fields.specs.Back.{AllAre, FoldsBack, AreOthers, all_weaker, two_back, unknown_back}
 use Rattle.wire_fields.specs.Grounds.{Grounds}
 use Rattle.wire_fields.specs.Nest.{Nest, nest, Rows, done, row, Row, end, ahead, count_rows}
+use Rattle.wire_fields.specs.Nest.{rows_row}
 use Rattle.wire_fields.specs.NestTable.{Table, Family, alone, family_records, placed}
 use Rattle.wire_fields.specs.Ranges.{Range, pair_range, NotOwned}
 use Rattle.wire_fields.specs.Returned.{Returned}
@@ -27,24 +28,46 @@ IsFit true end = Unit {0}
 IsFit true (ahead m end) = Unit {0}
 IsFit true (ahead m (ahead k ms)) = ⊥
 
+-- behind these messages the row has one more only where it may have many
+abbrev pub IsFitBehind : {L : Type 0} → List (Nest L) → Row L → Type 0
+IsFitBehind before end = Unit {0}
+IsFitBehind before (ahead m ms) = (before ≡ []) × (ms ≡ end)
+
+pub fit_behind : {L : Type 0} (once : Bool) (r : Row L) → IsFit once r → once ≡ true → IsFitBehind [] r
+fit_behind false r h is = absurd cc
+fit_behind true end h is = tt
+fit_behind true (ahead m end) h is = (refl, refl)
+fit_behind true (ahead m (ahead k ms)) h is = absurd h
+
+-- which rows may stand beside a leaf: any, but where a row is one of a oneof
+abbrev pub Beside : Type 0 → Type 1
+Beside L = L → Rows L → Type 0
+
+abbrev pub any_beside : {L : Type 0} → Beside L
+any_beside l rows = Unit {0}
+
 -- The leaf is in range; there are as many rows as the table has, each with no more messages than
--- it may have; and these are such too, of a size that a message may have.
+-- it may have; these are such too, of a size that a message may have; and the rows may stand beside
+-- the leaf.
 abbrev mutual
-  pub FamilyHolds : {S L : Type 0} → Family S L → (S → Range L) → S → Nest L → Type 0
-  FamilyHolds family r s (nest l rows) =
-      (r s).Holds l × (count_rows rows ≡ (family.table s).rows) × RowsHold family r s 0 rows
+  pub FamilyHolds : {S L : Type 0} → Family S L → (S → Range L) → (S → Beside L) → S → Nest L
+      → Type 0
+  FamilyHolds family r fits s (nest l rows) =
+      (r s).Holds l × (count_rows rows ≡ (family.table s).rows) × RowsHold family r fits s 0 rows
+      × fits s l rows
 
-  pub RowsHold : {S L : Type 0} → Family S L → (S → Range L) → S → ℕ → Rows L → Type 0
-  RowsHold family r s i done = Unit {0}
-  RowsHold family r s i (row q rs) =
-      IsFit ((family.table s).once i) q × RowHolds family r (family.holds s i) q
-      × RowsHold family r s (suc i) rs
+  pub RowsHold : {S L : Type 0} → Family S L → (S → Range L) → (S → Beside L) → S → ℕ → Rows L
+      → Type 0
+  RowsHold family r fits s i done = Unit {0}
+  RowsHold family r fits s i (row q rs) =
+      IsFit ((family.table s).once i) q × RowHolds family r fits (family.holds s i) q
+      × RowsHold family r fits s (suc i) rs
 
-  pub RowHolds : {S L : Type 0} → Family S L → (S → Range L) → S → Row L → Type 0
-  RowHolds family r s end = Unit {0}
-  RowHolds family r s (ahead m ms) =
-      FamilyHolds family r s m × (text_size (family_records family s m) ≤ 2147483647)
-      × RowHolds family r s ms
+  pub RowHolds : {S L : Type 0} → Family S L → (S → Range L) → (S → Beside L) → S → Row L → Type 0
+  RowHolds family r fits s end = Unit {0}
+  RowHolds family r fits s (ahead m ms) =
+      FamilyHolds family r fits s m × (text_size (family_records family s m) ≤ 2147483647)
+      × RowHolds family r fits s ms
 
 -- with its place in memory, where it is one of many
 abbrev pub price : Place → Charge → Charge
@@ -70,11 +93,15 @@ abbrev mutual
   row_charge family r s place (ahead m ms) =
       both (price place (nested (family_charge family r s m))) (row_charge family r s place ms)
 
-abbrev pub family_range : {S L : Type 0} → Family S L → (S → Range L) → S → Range (Nest L)
-family_range family r s = record {
-  Holds = FamilyHolds family r s;
+abbrev pub fitting_range : {S L : Type 0} → Family S L → (S → Range L) → (S → Beside L) → S
+    → Range (Nest L)
+fitting_range family r fits s = record {
+  Holds = FamilyHolds family r fits s;
   charge_of = family_charge family r s;
 }
+
+abbrev pub family_range : {S L : Type 0} → Family S L → (S → Range L) → S → Range (Nest L)
+family_range family r = fitting_range family r (λ s. any_beside)
 
 abbrev pub nest_range : {L : Type 0} → Table L → Range L → Range (Nest L)
 nest_range t r = family_range (alone t) (λ s. r) tt
@@ -104,14 +131,46 @@ IsReadBack takes start records Has r =
     (l : _) → r.Holds l
     → FoldsBack takes start (plain (records l)) (r.charge_of l) l × AllAre Has (plain (records l))
 
--- What a type shows of its table: each row has a number whose records go there, beside a message
--- all stays, and the runs of a leaf fold back to it, under numbers whose records go to the leaf.
-pub record LeafBack {L : Type 0} (t : Table L) (r : Range L) : Type 0 where
+-- no row has a message where these have none
+abbrev pub IsWithin : {L : Type 0} → Rows L → Rows L → Type 0
+IsWithin rows into = (j : ℕ) → rows_row j rows ≡ [] → rows_row j into ≡ []
+
+-- beside the messages of a row a leaf stays, whatever rows it has
+abbrev pub IsKept : {L : Type 0} → Table L → ℕ → L → Row L → Type 0
+IsKept t i l end = Unit {0}
+IsKept {L} t i l (ahead m ms) = (rows : Rows L) → t.beside i (nest l rows) ≡ nest l rows
+
+pub kept_behind : {L : Type 0} (t : Table L) (i : ℕ) (l : L) (m : Nest L) (q : Row L)
+    → IsKept t i l (ahead m q) → IsKept t i l q
+kept_behind t i l m end kept = tt
+kept_behind t i l m (ahead k ks) kept = kept
+
+-- What a type shows of its table. Each row has a number whose records go there. The runs of a leaf
+-- fold back to it, under numbers whose records go to the leaf, and which this leaf has. On the way
+-- to it, all that was read stays: the leaf so far beside a message of a row, the rows so far beside
+-- a record of the leaf.
+pub record LeafBeside {L : Type 0} (t : Table L) (r : Range L) (Fits : Beside L) : Type 1 where
   pub number : (i : ℕ) → i < t.rows → IsFieldNumber (t.number i)
   pub place : (i : ℕ) → i < t.rows → IsPlaceOf i (t.once i) (t.place (t.number i))
-  pub beside : (i : ℕ) (m : Nest L) → t.beside i m ≡ m
-  pub rows_beside : (n : ℕ) (rs : Rows L) → t.rows_beside n rs ≡ rs
-  pub back : IsReadBack t.takes t.default (all_runs t) (GoesToLeaf t) r
+  pub Has : L → ℕ → Type 0
+  pub here : (l : L) (n : ℕ) → Has l n → GoesToLeaf t n
+  pub back : (l : L) → r.Holds l
+      → FoldsBack t.takes t.default (plain (all_runs t l)) (r.charge_of l) l
+      × AllAre (Has l) (plain (all_runs t l))
+  -- the leaves on the way to one
+  pub OnWay : L → L → Type 0
+  pub begins : (l : L) → OnWay l t.default
+  pub goes_on : (l m z : L) (n : ℕ) (p : Payload) (c : Charge) → Has l n → OnWay l m
+      → t.takes m n p c z → OnWay l z
+  pub beside : (l m : L) (rows into : Rows L) (i : ℕ) (k : Nest L) (ks : List (Nest L))
+      → Fits l rows → OnWay l m → rows_row i rows ≡ k ∷ ks
+      → t.beside i (nest m into) ≡ nest m into
+  pub rows_beside : (l : L) (rows into : Rows L) (n : ℕ) → Fits l rows → Has l n
+      → IsWithin rows into → t.rows_beside n into ≡ into
+
+-- where no row is one of a oneof
+abbrev pub LeafBack : {L : Type 0} → Table L → Range L → Type 1
+LeafBack t r = LeafBeside t r any_beside
 
 -- ---- leaves that are fields with the unknown ones
 
@@ -152,8 +211,13 @@ table_back t r takes start records back takes_is start_is runs_are number place 
     record {
       number = number;
       place = place;
-      beside = beside;
-      rows_beside = rows_beside;
+      Has = λ l. GoesToLeaf t;
+      here = λ l n has. has;
+      OnWay = λ l m. Unit {0};
+      begins = λ l. tt;
+      goes_on = λ l m z n p c has way step. tt;
+      beside = λ l m rows into i k ks fits way is. beside i (nest m into);
+      rows_beside = λ l rows into n fits has within. rows_beside n into;
       back = λ l holds. (
         subst (λ rs. FoldsBack t.takes t.default (plain rs) (r.charge_of l) l) (sym (runs_are l))
             (subst (λ s. FoldsBack t.takes s (plain (records l)) (r.charge_of l) l) (sym start_is)

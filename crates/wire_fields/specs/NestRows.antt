@@ -1,6 +1,6 @@
 -- The rows of a value that holds itself as they are read back, one message after another.
-use Rattle.std.proofs.Common.{◌≡◌, ℕ, zero, suc, ◌<◌, [], refl, ap, ◌∙◌, arith}
-use Rattle.wire_fields.specs.Nest.{Rows, done, row, Row, listed, row_of, row_listed}
+use Rattle.std.proofs.Common.{◌≡◌, ℕ, zero, suc, ◌<◌, List, [], refl, sym, ap, ◌∙◌, arith}
+use Rattle.wire_fields.specs.Nest.{Nest, Rows, done, row, Row, listed, row_of, row_listed}
 use Rattle.wire_fields.specs.Nest.{rows_row, set_rows, count_rows, empty_rows}
 
 -- a row of a value, set to what it is
@@ -34,6 +34,17 @@ pub count_set : {L : Type 0} (i : ℕ) (r : Row L) (rs : Rows L)
 count_set i r done = refl
 count_set zero r (row q rs) = refl
 count_set (suc i) r (row q rs) = ap suc (count_set i r rs)
+
+-- a row that is set to what it is to be, so that no row has a message where f has none
+pub within_set : {L : Type 0} (f : ℕ → List (Nest L)) (i : ℕ) (q : Row L) (into : Rows L)
+    → ((j : ℕ) → f j ≡ [] → rows_row j into ≡ []) → f i ≡ listed q
+    → (j : ℕ) → f j ≡ [] → rows_row j (set_rows i q into) ≡ []
+within_set f i q done within is j none = refl
+within_set f zero q (row p rs) within is zero none = sym is ∙ none
+within_set f zero q (row p rs) within is (suc j) none = within (suc j) none
+within_set f (suc i) q (row p rs) within is zero none = within zero none
+within_set f (suc i) q (row p rs) within is (suc j) none =
+    within_set (λ k. f (suc k)) i q rs (λ k. within (suc k)) is j none
 
 pub no_messages : (L : Type 0) (i k : ℕ) → rows_row i (empty_rows {L = L} k) ≡ []
 no_messages L i zero = refl

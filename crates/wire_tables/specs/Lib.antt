@@ -15,6 +15,7 @@ pub mod ProfileBack
 pub mod Pulse
 pub mod Reading
 pub mod Rule
+pub mod RuleBack
 pub mod Signal
 pub mod SignalBack
 pub mod Tree

@@ -10,7 +10,8 @@ use Rattle.wire_fields.specs.declared.form.Form.TheVariants.{Varint}
 use Rattle.wire_fields.specs.declared.recursive.Place.{Place}
 use Rattle.wire_fields.specs.declared.recursive.Place.TheVariants.{Leaf, Once, Each}
 use Rattle.wire_fields.specs.Nest.{Nest, nest, Rows, row, end, done, row_of, row_count, leaf_of, rows_of, set_rows}
-use Rattle.wire_fields.specs.NestTable.{Table, if_number, nest_takes, nest_single}
+use Rattle.wire_fields.specs.NestTable.{Table, if_number, empty_of, nest_records, nest_takes}
+use Rattle.wire_fields.specs.NestTable.{nest_single}
 use Rattle.wire_fields.specs.Numbers.{numeric}
 use Rattle.wire_fields.specs.Oneof.{variant, either_of, oneof}
 use Rattle.wire_fields.specs.Presence.{implicit, always}
@@ -145,3 +146,12 @@ rule_counted m = ap row_count (fold_out-Rule TestValue RuleValue one_test one_ru
 
 pub rule_single : OneReading → IsSingle (nest_takes rule)
 rule_single reading = nest_single rule reading (rule_leaf.single reading)
+
+abbrev pub rule_shape : Shape RuleValue
+rule_shape = record {
+  owns = λ n p. true;
+  default = empty_of rule;
+  records = nest_records rule;
+  takes = nest_takes rule;
+  single = rule_single;
+}

@@ -1,27 +1,30 @@
 -- What is written of a `Signal` whose levels are ones that the enum has is read back, with what it
 -- has kept.
-use Rattle.std.proofs.Common.{◌≡◌, ◌⊎◌, inl, inr, ℕ, false, refl, arith}
-use Rattle.std.specs.Prelude.{Some, None, ◌==◌}
-use Rattle.wire_codec.specs.EnumValue.TheVariants.{Known}
-use Rattle.wire_codec.specs.Field.{varint}
-use Rattle.wire_codec.specs.Limits.{no_charge}
-use Rattle.wire_codec.specs.Records.{plain}
+use Rattle.std.proofs.Common.{◌≡◌, ◌⊎◌, inl, inr, ℕ, List, false, refl, arith}
+use Rattle.std.specs.Prelude.{ℤ, Some, None, ◌==◌}
+use Rattle.wire_codec.specs.EnumValue.TheVariants.{Known, Unknown}
+use Rattle.wire_codec.specs.Field.{Payload, varint}
+use Rattle.wire_codec.specs.Limits.{Charge, no_charge}
+use Rattle.wire_codec.specs.Records.{plain, plain_payload, embedded}
 use Rattle.wire_codec.specs.ValueMap.{int32, sint32}
 use Rattle.wire_fields.specs.declared.form.Form.TheVariants.{Varint}
 use Rattle.wire_fields.specs.Back.{AllAre, FoldsBack}
 use Rattle.wire_fields.specs.ClosedBack.{closed_back, closed_once_returned, closed_packed_returned}
 use Rattle.wire_fields.specs.ClosedBack.{closed_unpacked_returned, closing_returned, closing_value}
 use Rattle.wire_fields.specs.ClosedBack.{ClosingOrApart, once_leaves}
-use Rattle.wire_fields.specs.ClosedMapsBack.{closed_map_returned}
+use Rattle.wire_fields.specs.ClosedMapsBack.{closed_map_returned, written_entry_leaves, left_charge}
 use Rattle.wire_fields.specs.Enums.{open_enum}
 use Rattle.wire_fields.specs.Grounds.{Grounds, numeric_back, string_back, sint32_back}
 use Rattle.wire_fields.specs.Leaving.{both_leaving}
-use Rattle.wire_fields.specs.LeavingBack.{both_returned, none_returned, left_range, IsLeft, ReturnedBeside}
-use Rattle.wire_fields.specs.LeavingBack.{leaves_left, leaves_first, with_unknown_returned}
+use Rattle.wire_fields.specs.LeavingBack.{both_returned, none_returned, priced_range, IsLeft, IsLeftFor}
+use Rattle.wire_fields.specs.LeavingBack.{ReturnedBeside, leaves_left, leaves_first, leaves_second}
+use Rattle.wire_fields.specs.LeavingBack.{priced_returned}
+use Rattle.wire_fields.specs.Maps.{entry_records}
+use Rattle.wire_fields.specs.MapsBack.{IsEntry}
 use Rattle.wire_fields.specs.Numbers.{numeric}
 use Rattle.wire_fields.specs.OneofBack.{variant_back, variant_has}
 use Rattle.wire_fields.specs.Presence.{always}
-use Rattle.wire_fields.specs.Ranges.{Range, closed_range, string_range, optional_range}
+use Rattle.wire_fields.specs.Ranges.{Range, closed_range, enum_range, string_range, optional_range}
 use Rattle.wire_fields.specs.Ranges.{packed_range, unpacked_range, pair_range, IsClosed}
 use Rattle.wire_fields.specs.Ranges.{text_map_range, signed_map_range, sint32_range}
 use Rattle.wire_fields.specs.Returned.{Returned, always_returned}
@@ -105,13 +108,14 @@ signal_maps_range =
     (signed_map_range 16 Varint sint32 (always (numeric Varint (open_enum level_number level_of)))
     sint32_range (closed_range level_number level_of))
 
-abbrev pub signal_range : Range SignalValue
-signal_range =
+-- with what it has kept, each record of it for its price
+abbrev pub signal_range : (ℕ → Payload → Charge) → Range SignalValue
+signal_range price =
     pair_range (pair_range (pair_range (optional_range (closed_range level_number level_of))
     (packed_range Varint (open_enum level_number level_of) (closed_range level_number level_of)))
     (pair_range (pair_range (unpacked_range (closed_range level_number level_of)) cause_range)
     signal_maps_range))
-    (left_range signal_known)
+    (priced_range signal_known price)
 
 abbrev signal_maps_returned : (g : Grounds)
     → ReturnedBeside (both_leaving signal_by_name signal_by_place) signal_maps_range
@@ -123,9 +127,10 @@ signal_maps_returned g =
     (omega arith) (omega arith))
     (λ n p h. rw h refl)
 
-pub signal_returned : Grounds → Returned signal signal_range
+pub signal_returned : Grounds → (price : ℕ → Payload → Charge)
+    → Returned signal (signal_range price)
 signal_returned g =
-    with_unknown_returned g signal_known _
+    priced_returned g signal_known _
     (both_returned g
     (both_returned g
     (closed_once_returned g level_number level_of 1 (omega arith) (omega arith))
@@ -156,3 +161,23 @@ level_left x lacks =
     (both_leaving signal_by_name signal_by_place)) 1 (varint x)
     (leaves_first signal_level signal_history 1 (varint x)
     (once_leaves level_number level_of 1 x lacks)))
+
+-- what is written of an entry by name with such a number is kept too, at this price
+pub entry_left : Grounds → (name : List ℕ) (x : ℤ)
+    → IsEntry string (always (numeric Varint (open_enum level_number level_of))).kind
+    string_range.Holds (enum_range level_number level_of).Holds
+    (enum_range level_number level_of).charge_of (name, Unknown x)
+    → let p = plain_payload (embedded (entry_records string
+    (always (numeric Varint (open_enum level_number level_of))).kind (name, Unknown x))) in
+    IsLeftFor signal_known (left_charge 32 p) 6 p
+entry_left g name x h =
+    let p = plain_payload (embedded (entry_records string
+    (always (numeric Varint (open_enum level_number level_of))).kind (name, Unknown x))) in
+    leaves_left signal_known 6 p
+    (leaves_second (both_leaving signal_level signal_history)
+    (both_leaving (both_leaving signal_marks signal_cause)
+    (both_leaving signal_by_name signal_by_place)) 6 p refl
+    (leaves_second (both_leaving signal_marks signal_cause)
+    (both_leaving signal_by_name signal_by_place) 6 p refl
+    (leaves_first signal_by_name signal_by_place 6 p
+    (written_entry_leaves g _ _ _ level_number level_of string_range string_back 6 name x h))))

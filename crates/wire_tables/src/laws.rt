@@ -1,4 +1,7 @@
 //! Laws of the message types: each function is a theorem, and does nothing.
+ghost use Rattle.std.specs.Prelude.{ℕ};
+ghost use Rattle.wire_codec.specs.Field.{Payload};
+ghost use Rattle.wire_codec.specs.Limits.{Charge};
 ghost use Rattle.wire_fields.specs.Returned.{ReadsBack};
 ghost use Rattle.wire_tables.specs.CounterBack.{CountersFoldBack};
 ghost use Rattle.wire_tables.specs.Expression.{an_expression, a_call, shape_of};
@@ -6,12 +9,14 @@ ghost use Rattle.wire_tables.specs.ExpressionBack.{range_of};
 ghost use Rattle.wire_tables.specs.Meter.{meter};
 ghost use Rattle.wire_tables.specs.MeterBack.{meter_range};
 ghost use Rattle.wire_tables.specs.ProfileBack.{ProfilesFoldBack};
+ghost use Rattle.wire_tables.specs.Rule.{rule_shape};
+ghost use Rattle.wire_tables.specs.RuleBack.{rule_range};
 ghost use Rattle.wire_tables.specs.Signal.{signal};
 ghost use Rattle.wire_tables.specs.SignalBack.{signal_range};
 ghost use Rattle.wire_tables.specs.Tree.{tree_shape};
 ghost use Rattle.wire_tables.specs.TreeBack.{tree_range};
 
-use crate::{Call, Expression, Meter, Signal, Tree};
+use crate::{Call, Expression, Meter, Rule, Signal, Tree};
 use wire_codec::laws;
 use wire_fields::laws::grounds;
 
@@ -35,9 +40,9 @@ pub fn profiles_fold_back()
 }
 
 /// What is written of a `Signal` whose levels are ones that the enum has decodes to it, with what it
-/// has kept, where the limits suffice.
+/// has kept, each record of it for its price, where the limits suffice.
 pub fn signals_read_back()
-    ensures { ReadsBack signal signal_range }
+    ensures { (price : ℕ → Payload → Charge) → ReadsBack signal (signal_range price) }
 {
     grounds();
     laws::text_decodes::<Signal>();
@@ -57,6 +62,14 @@ pub fn trees_read_back()
 {
     grounds();
     laws::text_decodes::<Tree>();
+}
+
+/// What is written of a `Rule` decodes to it, where the limits suffice.
+pub fn rules_read_back()
+    ensures { ReadsBack rule_shape rule_range }
+{
+    grounds();
+    laws::text_decodes::<Rule>();
 }
 
 /// What is written of an `Expression` decodes to it, where the limits suffice.

@@ -1,6 +1,5 @@
 //! A message type that holds itself alone, as a family of one.
-ghost use Rattle.std.specs.Prelude.{◌≡◌, ◌≢◌, ◌≤◌, length, map, OnOk, OnErr, IfOk, IfErr};
-ghost use Rattle.std.specs.Mem.{FitsInMemory};
+ghost use Rattle.std.specs.Prelude.{◌≡◌, ◌≢◌, ◌≤◌, ◌∷◌, [], length, map, OnOk, OnErr, IfOk, IfErr};
 ghost use Rattle.wire_codec.specs.DecodeError.TheVariants as errors;
 ghost use Rattle.wire_codec.specs.EncodeError.TheVariants.{OutOfMemory};
 ghost use Rattle.wire_codec.specs.Limits.{NoCountGrew};
@@ -15,7 +14,7 @@ ghost use Rattle.wire_fields.specs.NestTable.{nest_records, nest_takes};
 use super::{Place, Recursive, RecursiveHeld, RecursiveSlice, merge_held, slice_size, write_slice};
 use bytes::Buf;
 use std::alloc::Global;
-use std::slice;
+use std::{mem, slice};
 use wire_codec::{DecodeContext, DecodeError, EncodeError, EncodeSink, SizeCache, Tag};
 
 impl<T: Recursive> RecursiveHeld for T {
@@ -131,18 +130,30 @@ impl<'a, T: Recursive> RecursiveSlice for Alone<'a, T> {
     }
 }
 
-/// What `compute_size` of a message that holds itself answers. That a value takes fewer than 2^63
-/// bytes the prover sees of each type that a program names.
+// The message as a slice of one. No value takes 2^63 bytes: of each type that a program names the
+// compiler knows so, but nothing says so of a type parameter.
+#[inline(always)]
+fn slice_of<T>(message: &T) -> Result<&[T], EncodeError>
+    ensures ok { IfOk result (λ messages. messages.now ≡ message.now ∷ []) }
+    ensures err { IfErr result (λ e. e ≡ OutOfMemory) }
+{
+    if mem::size_of_val(message) < 1 << 63 {
+        Ok(slice::from_ref(message))
+    } else {
+        Err(EncodeError::OutOfMemory)
+    }
+}
+
+/// What `compute_size` of a message that holds itself answers.
 #[inline(always)]
 pub fn nest_size<T: Recursive>(message: &T, cache: &mut SizeCache) -> Result<u32, EncodeError>
-    requires { FitsInMemory T.row }
     ensures size { IfOk result (λ answer. answer
         ≡ cut (text_size (nest_records T.table (T.view message.now)))) }
     ensures sizes { OnOk result (cache.new
         ≡ recorded cache.old (cut_sizes (nest_records T.table (T.view message.now)))) }
     ensures err { IfErr result (λ e. e ≡ OutOfMemory) }
 {
-    slice_size(Alone(slice::from_ref(message)), 0, cache)
+    slice_size(Alone(slice_of(message)?), 0, cache)
 }
 
 /// What `write_to` of a message that holds itself does.
@@ -152,7 +163,6 @@ pub fn write_nest<T: Recursive, S: EncodeSink>(
     cache: &mut SizeCache,
     sink: &mut S,
 ) -> Result<(), EncodeError>
-    requires fits { FitsInMemory T.row }
     requires sizes { NextAre (sizes (nest_records T.table (T.view message.now))) cache.old }
     requires size { text_size (nest_records T.table (T.view message.now)) ≤ 2147483647 }
     ensures written { Writes S.most (text (nest_records T.table (T.view message.now)))
@@ -160,7 +170,7 @@ pub fn write_nest<T: Recursive, S: EncodeSink>(
     ensures read { OnOk result (cache.new ≡ advanced cache.old
         (length (sizes (nest_records T.table (T.view message.now))))) }
 {
-    write_slice(Alone(slice::from_ref(message)), 0, cache, sink)
+    write_slice(Alone(slice_of(message)?), 0, cache, sink)
 }
 
 /// What `merge_field` of a message that holds itself does.

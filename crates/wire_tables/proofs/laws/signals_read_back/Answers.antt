@@ -3,4 +3,5 @@ use Rattle.wire_tables.specs.SignalBack.{signal_returned}
 use Rattle.wire_tables.proofs.laws.signals_read_back.Goals as goal
 
 pub returns : goal.returns
-returns c = reads_back (signal_returned c.grounds.ensures) c.text_decodes.ensures
+returns c =
+    λ price. reads_back (signal_returned c.grounds.ensures price) c.text_decodes.ensures
