@@ -30,16 +30,17 @@ abbrev pub charge_where : Bool → Charge → Charge → Charge
 charge_where true here there = here
 charge_where false here there = there
 
--- What the record of an entry is charged that is left: the place of an entry, a level, and what an
--- unknown field is. A group among the other fields of the entry would take levels besides.
+-- What the record of an entry that is left is charged: the place of an entry, a level, and as an
+-- unknown field. Groups among the other fields of the entry would take more levels.
 abbrev pub left_charge : ℕ → Payload → Charge
 left_charge place p = both (both (element_of place) (nested no_charge)) (payload_charge p)
 
--- what records are charged where those of number k are such, and all others as these are
+-- what each record is charged: one of number k as such an entry, any other as `others` says
 abbrev pub entries_left : ℕ → ℕ → (ℕ → Payload → Charge) → ℕ → Payload → Charge
 entries_left place k others n p = charge_where (n == k) (left_charge place p) (others n p)
 
--- the record of any entry whose value the enum does not have, for what reading it is charged
+-- The record of any entry whose value the enum does not have is left. It is charged for its
+-- reading, and as an unknown field.
 pub closed_map_leaves : {K E : Type 0} (place : ℕ) (order : K → K → Ordering) (key : ScalarType K)
     (number : E → ℤ) (of_number : ℤ → Option E) (n : ℕ) (p : Payload) (c : Charge) (k : K) (i : ℤ)
     → reads_entry place key (closed_value number of_number)
@@ -96,7 +97,7 @@ module _ (g : Grounds) {K E : Type 0} (place : ℕ) (order : K → K → Orderin
     };
   }
 
-  -- the record that is written of an entry with such a value
+  -- the same of the record that is written of such an entry
   pub written_entry_leaves : (n : ℕ) (k : K) (i : ℤ)
       → IsEntry key value r.Holds (enum_range number of_number).Holds
       (enum_range number of_number).charge_of (k, Unknown i)

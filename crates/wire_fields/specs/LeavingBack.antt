@@ -7,6 +7,7 @@ use Rattle.wire_codec.specs.Folds.{Step, IsSingle, Folds}
 use Rattle.wire_codec.specs.InRange.{AreFitting, AreNumbered}
 use Rattle.wire_codec.specs.Limits.{Charge, both}
 use Rattle.wire_codec.specs.Records.{plain, joined_records, of_fields}
+use Rattle.wire_codec.specs.TakingLaws.{OneReading}
 use Rattle.wire_fields.specs.Back.{AllHave, AllAre, FoldsBack, Back, two_back, fold_on, fold_lifted}
 use Rattle.wire_fields.specs.Back.{fitting_joined, numbered_joined, plain_joined, joined_none, push_joined}
 use Rattle.wire_fields.specs.Back.{or_left, or_right}
@@ -105,12 +106,12 @@ IsLeftFor {V} s c n p = (m : V) (u : Fields) → (with_unknown s).takes (m, u) n
 abbrev pub IsLeft : {V : Type 0} → Leaving V → ℕ → Payload → Type 0
 IsLeft s n p = IsLeftFor s (payload_charge p) n p
 
--- records in range, each of which is such, for its price
-pub record AreLeftFor {V : Type 0} (s : Leaving V) (price : ℕ → Payload → Charge) (fs : Fields)
+-- records in range, each of which is left for its charge
+pub record AreLeftFor {V : Type 0} (s : Leaving V) (charge_of : ℕ → Payload → Charge) (fs : Fields)
     : Type 0 where
   pub fitting : AreFitting fs
   pub numbered : AreNumbered fs
-  pub left : AllHave (λ n p. IsLeftFor s (price n p) n p) fs
+  pub left : AllHave (λ n p. IsLeftFor s (charge_of n p) n p) fs
 
 abbrev pub AreLeft : {V : Type 0} → Leaving V → Fields → Type 0
 AreLeft s = AreLeftFor s (λ n p. payload_charge p)
@@ -118,19 +119,27 @@ AreLeft s = AreLeftFor s (λ n p. payload_charge p)
 abbrev pub left_range : {V : Type 0} → Leaving V → Range Fields
 left_range s = record { Holds = AreLeft s; charge_of = charge }
 
--- A field that reads a record before it leaves it charges for that besides, so of a table with such
--- fields it is said what each record is charged.
-abbrev pub priced_range : {V : Type 0} → Leaving V → (ℕ → Payload → Charge) → Range Fields
-priced_range s price = record { Holds = AreLeftFor s price; charge_of = total price }
+-- A field that reads a record before it leaves it charges for the reading too. So for a table with
+-- such fields it is given what each record is charged.
+abbrev pub charged_range : {V : Type 0} → Leaving V → (ℕ → Payload → Charge) → Range Fields
+charged_range s charge_of = record { Holds = AreLeftFor s charge_of; charge_of = total charge_of }
 
--- one of a number that the fields do not have is such
+-- the bytes of a record force what it is charged
+pub one_charge : {V : Type 0} → OneReading → (s : Leaving V) (n : ℕ) (p : Payload) (c d : Charge)
+    → IsLeftFor s c n p → IsLeftFor s d n p → c ≡ d
+one_charge reading s n p c d h k =
+    ((with_unknown s).single reading (s.default, none) (s.default, none)
+    (s.default, push none n p) (s.default, push none n p) n p c d (h s.default none)
+    (k s.default none)).0
+
+-- a record with a number that the fields do not have is left
 pub not_owned_left : {V : Type 0} (s : Leaving V) (n : ℕ) (p : Payload) → s.owns n p ≡ false
     → IsLeft s n p
 not_owned_left s n p is m u =
     subst (λ b. on b (s.takes (m, u) n p (payload_charge p) (m, push u n p))
     (keeps_beside (m, u) n p (payload_charge p) (m, push u n p))) (sym is) ((refl, refl), refl)
 
--- one that is the fields' own by its number, and which they leave for this charge
+-- a record that is the fields' own, and which they leave for this charge
 pub record LeavesFor {V : Type 0} (s : Leaving V) (c : Charge) (n : ℕ) (p : Payload) : Type 0 where
   pub own : s.owns n p ≡ true
   pub left : (m : V) (u : Fields) → s.takes (m, u) n p c (m, push u n p)
@@ -166,31 +175,27 @@ module _ {A B : Type 0} {c : Charge} (a : Leaving A) (b : Leaving B) (n : ℕ) (
 
 -- ---- a message
 
-pub total_charge : (fs : Fields) → total (λ n p. payload_charge p) fs ≡ charge fs
-total_charge none = refl
-total_charge (field n p rest) = ap (both (payload_charge p)) (total_charge rest)
-
 module _ {V : Type 0} (g : Grounds) (s : Leaving V) (r : Range V) (x : ReturnedBeside s r) where
   -- each record that is left goes behind the others
-  left_folded : (price : ℕ → Payload → Charge) (m : V) (into fs : Fields)
-      → AllHave (λ n p. IsLeftFor s (price n p) n p) fs
-      → Folds (with_unknown s).takes (m, into) fs (total price fs) (m, joined into fs)
-  left_folded price m into none h = (refl, ap (λ u. (m, u)) (joined_none into))
-  left_folded price m into (field n p rest) h = (
+  left_folded : (charge_of : ℕ → Payload → Charge) (m : V) (into fs : Fields)
+      → AllHave (λ n p. IsLeftFor s (charge_of n p) n p) fs
+      → Folds (with_unknown s).takes (m, into) fs (total charge_of fs) (m, joined into fs)
+  left_folded charge_of m into none h = (refl, ap (λ u. (m, u)) (joined_none into))
+  left_folded charge_of m into (field n p rest) h = (
     (m, push into n p),
-    price n p,
-    total price rest,
+    charge_of n p,
+    total charge_of rest,
     h.0 m into,
-    subst (λ u. Folds (with_unknown s).takes (m, push into n p) rest (total price rest) (m, u))
-        (push_joined into n p rest) (left_folded price m (push into n p) rest h.1),
+    subst (λ u. Folds (with_unknown s).takes (m, push into n p) rest (total charge_of rest) (m, u))
+        (push_joined into n p rest) (left_folded charge_of m (push into n p) rest h.1),
     refl,
   )
 
-  whole_folded : (price : ℕ → Payload → Charge) (m : V × Fields)
-      → (pair_range r (priced_range s price)).Holds m
+  whole_folded : (charge_of : ℕ → Payload → Charge) (m : V × Fields)
+      → (pair_range r (charged_range s charge_of)).Holds m
       → Folds (with_unknown s).takes (with_unknown s).default (joined (plain (s.records m.0)) m.1)
-      (both (r.charge_of m.0) (total price m.1)) m
-  whole_folded price m h =
+      (both (r.charge_of m.0) (total charge_of m.1)) m
+  whole_folded charge_of m h =
       let t = with_unknown s in
       let fs = plain (s.records m.0) in
       let known = fold_lifted (λ n p. x.Has n) (beside_unknown none s.takes) t.takes
@@ -200,31 +205,31 @@ module _ {V : Type 0} (g : Grounds) (s : Leaving V) (r : Range V) (x : ReturnedB
       (sym ((x.back none).own n p is)) step)
       fs s.default m.0 (r.charge_of m.0) ((x.back none).has m.0 h.0)
       ((x.back none).back m.0 h.0).folded in
-      fold_on t.takes g.charges fs m.1 t.default (m.0, none) m (r.charge_of m.0) (total price m.1)
-      known (left_folded price m.0 none m.1 h.1.left)
+      fold_on t.takes g.charges fs m.1 t.default (m.0, none) m (r.charge_of m.0)
+      (total charge_of m.1) known (left_folded charge_of m.0 none m.1 h.1.left)
 
-  whole_back : (price : ℕ → Payload → Charge) (m : V × Fields)
-      → (pair_range r (priced_range s price)).Holds m
+  whole_back : (charge_of : ℕ → Payload → Charge) (m : V × Fields)
+      → (pair_range r (charged_range s charge_of)).Holds m
       → FoldsBack (with_unknown s).takes (with_unknown s).default
-      (plain ((with_unknown s).records m)) (both (r.charge_of m.0) (total price m.1)) m
-  whole_back price m h =
+      (plain ((with_unknown s).records m)) (both (r.charge_of m.0) (total charge_of m.1)) m
+  whole_back charge_of m h =
       let t = with_unknown s in
       let fs = plain (s.records m.0) in
       let inner = (x.back none).back m.0 h.0 in
-      subst (λ y. FoldsBack t.takes t.default y (both (r.charge_of m.0) (total price m.1)) m)
+      subst (λ y. FoldsBack t.takes t.default y (both (r.charge_of m.0) (total charge_of m.1)) m)
       (sym (plain_joined (s.records m.0) (of_fields m.1) ∙ ap (joined fs) (g.plain.plain m.1)))
       (record {
         fitting = fitting_joined fs m.1 inner.fitting h.1.fitting;
         numbered = numbered_joined fs m.1 inner.numbered h.1.numbered;
-        folded = whole_folded price m h;
+        folded = whole_folded charge_of m h;
       })
 
-  pub priced_returned : (price : ℕ → Payload → Charge)
-      → Returned (with_unknown s) (pair_range r (priced_range s price))
-  priced_returned price = record {
+  pub charged_returned : (charge_of : ℕ → Payload → Charge)
+      → Returned (with_unknown s) (pair_range r (charged_range s charge_of))
+  charged_returned charge_of = record {
     Has = λ n. Unit {0};
     back = record {
-      back = whole_back price;
+      back = whole_back charge_of;
       has = λ m h. all_any (plain (joined_records (s.records m.0) (of_fields m.1)));
       own = λ n p h. refl;
     };
@@ -235,7 +240,8 @@ module _ {V : Type 0} (g : Grounds) (s : Leaving V) (r : Range V) (x : ReturnedB
     Has = λ n. Unit {0};
     back = record {
       back = λ m h. subst (λ c. FoldsBack (with_unknown s).takes (with_unknown s).default
-          (plain ((with_unknown s).records m)) (both (r.charge_of m.0) c) m) (total_charge m.1)
+          (plain ((with_unknown s).records m)) (both (r.charge_of m.0) c) m)
+          (sym (g.charges.kept_records m.1))
           (whole_back (λ n p. payload_charge p) m h);
       has = λ m h. all_any (plain (joined_records (s.records m.0) (of_fields m.1)));
       own = λ n p h. refl;

@@ -20,7 +20,7 @@ pub mod MessageBack
 pub mod Messages
 pub mod Nest
 pub mod NestBack
-pub mod NestLists
+pub mod NestParts
 pub mod NestPayload
 pub mod NestRange
 pub mod NestRows

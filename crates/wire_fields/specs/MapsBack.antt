@@ -134,7 +134,7 @@ module _ {K V : Type 0} (key : ScalarType K) (value : FieldKind V) (HoldsKey : K
           );
         })
 
-    -- its record is read as the entry that it is of, under any number
+    -- the record of an entry is read as that entry, under any field number
     pub entry_read : (number : (n : ℕ) → 1 ≤ n → n ≤ 2 → IsFieldNumber n) (place n : ℕ) (e : K × V)
         → IsEntry e
         → reads_entry place key value (entry_default key value) n

@@ -20,12 +20,12 @@ use Rattle.wire_fields.specs.Messages.{length_prefixed, or_else}
 use Rattle.wire_fields.specs.Nest.{Nest, nest, Rows, done, row, Row, end, ahead, listed, row_of}
 use Rattle.wire_fields.specs.Nest.{listed_row, row_listed, rows_row, set_rows, count_rows}
 use Rattle.wire_fields.specs.Nest.{empty_rows, with_row, first_of}
-use Rattle.wire_fields.specs.NestLists.{fold_split, all_split, fitting_split, numbered_split}
-use Rattle.wire_fields.specs.NestLists.{swapped, paired}
-use Rattle.wire_fields.specs.NestRange.{IsFitBehind, fit_behind, Beside, any_beside, FamilyHolds, nest_range, RowsHold}
-use Rattle.wire_fields.specs.NestRange.{RowHolds, price, family_charge, fitting_range, IsWithin}
+use Rattle.wire_fields.specs.NestParts.{fold_split, all_split, fitting_split, numbered_split}
+use Rattle.wire_fields.specs.NestParts.{swapped, paired, IsFitBehind, fit_behind, IsKept, kept_behind}
+use Rattle.wire_fields.specs.NestRange.{Beside, any_beside, FamilyHolds, nest_range, RowsHold}
+use Rattle.wire_fields.specs.NestRange.{RowHolds, price, family_charge, beside_range, IsWithin}
 use Rattle.wire_fields.specs.NestRange.{rows_charge, row_charge, family_range, runs_from, IsPlaceOf}
-use Rattle.wire_fields.specs.NestRange.{LeafBeside, LeafBack, IsKept, kept_behind}
+use Rattle.wire_fields.specs.NestRange.{LeafBeside, LeafBack}
 use Rattle.wire_fields.specs.NestRows.{set_same, set_again, row_set, row_behind, count_set}
 use Rattle.wire_fields.specs.NestRows.{within_set, no_messages, count_empty, filled, all_filled}
 use Rattle.wire_fields.specs.NestTable.{Family, is_grouped, encoding_of, encoding_at, empty_of}
@@ -38,9 +38,9 @@ use Rattle.wire_fields.specs.Shape.{Shape}
 
 -- ---- the proof
 
-module _ {S L : Type 0} (g : Grounds) (family : Family S L) (r : S → Range L) (fits : S → Beside L)
-    (single : (s : S) → IsSingle (family.table s).takes)
-    (h : (s : S) → LeafBeside (family.table s) (r s) (fits s)) where
+module _ {S L : Type 0} (g : Grounds) (family : Family S L) (r : S → Range L)
+    (stands : S → Beside L) (single : (s : S) → IsSingle (family.table s).takes)
+    (h : (s : S) → LeafBeside (family.table s) (r s) (stands s)) where
   encoding_back : (grouped : Bool) → EncodingBack (encoding_of grouped)
   encoding_back false = prefixed_back g.spells
   encoding_back true = delimited_back
@@ -57,18 +57,18 @@ module _ {S L : Type 0} (g : Grounds) (family : Family S L) (r : S → Range L) 
       (plain_payload ((encoding_of (is_grouped x)).payload rs)) c z) (sym is) step)
 
   -- records of a leaf, on the way to it
-  leaf_lifted : (s : S) (l : L) (all rows : Rows L) → fits s l all → IsWithin all rows
-      → (fs : Fields) (m z : L) (c : Charge) → AllAre ((h s).Has l) fs → (h s).OnWay l m
-      → Folds (family.table s).takes m fs c z
+  leaf_lifted : (s : S) (l : L) (all rows : Rows L) → (r s).Holds l → stands s l all
+      → IsWithin all rows → (fs : Fields) (m z : L) (c : Charge) → AllAre ((h s).Has l) fs
+      → (h s).OnWay l m → Folds (family.table s).takes m fs c z
       → Folds (family_takes family s) (nest m rows) fs c (nest z rows) × (h s).OnWay l z
-  leaf_lifted s l all rows fit within none m z c has way folded = (
+  leaf_lifted s l all rows holds stand within none m z c has way folded = (
     (folded.0, ap (λ x. nest x rows) folded.1),
     subst ((h s).OnWay l) (sym folded.1) way,
   )
-  leaf_lifted s l all rows fit within (field n p others) m z c has way
+  leaf_lifted s l all rows holds stand within (field n p others) m z c has way
       (mid, first, rest, step, more, sum) =
-      let behind = leaf_lifted s l all rows fit within others mid z rest has.1
-      ((h s).goes_on l m mid n p first has.0 way step) more in (
+      let behind = leaf_lifted s l all rows holds stand within others mid z rest has.1
+      ((h s).goes_on l m mid n p first holds has.0 way step) more in (
         (
           nest mid rows,
           first,
@@ -77,19 +77,20 @@ module _ {S L : Type 0} (g : Grounds) (family : Family S L) (r : S → Range L) 
               first
               (subst (λ x. takes_at family (family_takes family) s x (nest m rows) n p first
               (nest mid rows)) (sym ((h s).here l n has.0))
-              (step, sym ((h s).rows_beside l all rows n fit has.0 within))),
+              (step, sym ((h s).rows_beside l all rows n holds stand has.0 within))),
           behind.0,
           sum,
         ),
         behind.1,
       )
 
-  -- the messages of a row stand beside the leaf on the way
-  row_kept : (s : S) (l m : L) (all : Rows L) → fits s l all → (h s).OnWay l m → (i : ℕ) (q : Row L)
-      → rows_row i all ≡ listed q → IsKept (family.table s) i m q
-  row_kept s l m all fit way i end is = tt
-  row_kept s l m all fit way i (ahead k ks) is =
-      λ rows. (h s).beside l m all rows i k (listed ks) fit way is
+  -- the leaf on the way stays beside the messages of a row
+  row_kept : (s : S) (l m : L) (all rows : Rows L) → (r s).Holds l → stands s l all
+      → (h s).OnWay l m → IsWithin all rows → (i : ℕ) (q : Row L) → rows_row i all ≡ listed q
+      → IsKept (family.table s) i m rows q
+  row_kept s l m all rows holds stand way within i end is = tt
+  row_kept s l m all rows holds stand way within i (ahead k ks) is =
+      λ once. (h s).beside l m all rows i k (listed ks) holds stand way within once is
 
   -- one message more in a row
   module _ (s : S) (i : ℕ) (l : L) (rows : Rows L) (before : List (Nest L))
@@ -97,7 +98,8 @@ module _ {S L : Type 0} (g : Grounds) (family : Family S L) (r : S → Range L) 
       (inner : FoldsBack (family_takes family (family.holds s i)) (new_in family s i)
       (plain (family_records family (family.holds s i) m)) c m)
       (short : text_size (family_records family (family.holds s i) m) ≤ 2147483647)
-      (kept : (rs : Rows L) → (family.table s).beside i (nest l rs) ≡ nest l rs) where
+      (kept : (family.table s).once i ≡ true
+      → (family.table s).beside i (nest l rows) ≡ nest l rows) where
     -- what is written of it
     abbrev written : Records
     written = family_records family (family.holds s i) m
@@ -105,11 +107,11 @@ module _ {S L : Type 0} (g : Grounds) (family : Family S L) (r : S → Range L) 
     abbrev with_it : Nest L
     with_it = nest l (set_rows i (row_of (before ++ m ∷ [])) rows)
 
-    once_taken : (grouped : Bool) → before ≡ []
+    once_taken : (grouped : Bool) → (family.table s).once i ≡ true → before ≡ []
         → owned (encoding_of grouped) (one_in family s i) (with_one (family.table s) i) (λ one. one)
         (family_takes family (family.holds s i)) (nest l rows) ((family.table s).number i)
         (plain_payload ((encoding_of grouped).payload written)) (nested c) with_it
-    once_taken grouped nothing = (
+    once_taken grouped once nothing = (
       m,
       nested c,
       (
@@ -123,7 +125,7 @@ module _ {S L : Type 0} (g : Grounds) (family : Family S L) (r : S → Range L) 
       ),
       refl,
       ap (λ (ms : List (Nest L)). nest l (set_rows i (row_of (ms ++ m ∷ [])) rows)) nothing
-          ∙ ap (with_row i (m ∷ [])) (sym (kept rows)),
+          ∙ ap (with_row i (m ∷ [])) (sym (kept once)),
     )
 
     each_taken : (bytes : ℕ)
@@ -154,18 +156,18 @@ module _ {S L : Type 0} (g : Grounds) (family : Family S L) (r : S → Range L) 
     message_taken (Once k) is at nothing =
         taken s ((family.table s).number i) (Once i) (is ∙ ap Once at.0)
         (nest l rows) with_it written
-        (nested c) (once_taken false (nothing at.1))
+        (nested c) (once_taken false at.1 (nothing at.1))
     message_taken (Grouped k) is at nothing =
         taken s ((family.table s).number i) (Grouped i) (is ∙ ap Grouped at.0)
         (nest l rows) with_it written
-        (nested c) (once_taken true (nothing at.1))
+        (nested c) (once_taken true at.1 (nothing at.1))
     message_taken (Each k bytes) is at nothing =
         taken s ((family.table s).number i) (Each i bytes) (is ∙ ap (λ x. Each x bytes) at.0)
         (nest l rows)
         with_it written (placed bytes (nested c)) (each_taken bytes)
 
   mutual
-    nest_folded : (s : S) (m : Nest L) → FamilyHolds family r fits s m
+    nest_folded : (s : S) (m : Nest L) → FamilyHolds family r stands s m
         → FoldsBack (family_takes family s) (empty_of (family.table s)) (plain
         (family_records family s m))
         (family_charge family r s m) m
@@ -188,10 +190,11 @@ module _ {S L : Type 0} (g : Grounds) (family : Family S L) (r : S → Range L) 
         let fitting = fitting_split run runs (subst AreFitting is leaf.fitting) in
         let numbered = numbered_split run runs (subst AreNumbered is leaf.numbered) in
         let within : IsWithin rows start = λ j nothing. no_messages L j t.rows in
-        let lifted = leaf_lifted s l rows start holds.3 within run t.default u first has.0
+        let lifted = leaf_lifted s l rows start holds.0 holds.3 within run t.default u first has.0
         ((h s).begins l) front in
-        let more = rows_folded s 0 rows start rows u l last holds.3
-        (λ j k e. let same : j ≡ k = omega (arith, e) in ap (λ x. rows_row x rows) same) lifted.1 within holds.2
+        let more = rows_folded s 0 rows start rows u l last holds.0 holds.3
+        (λ j k e. let same : j ≡ k = omega (arith, e) in ap (λ x. rows_row x rows) same)
+        lifted.1 within holds.2
         (λ j low. no_messages L j t.rows)
         (omega (arith, holds.1)) (count_empty L t.rows) fitting.1 numbered.1 behind has.1 in
         subst (λ fs. FoldsBack (family_takes family s) (empty_of t) fs
@@ -216,9 +219,10 @@ module _ {S L : Type 0} (g : Grounds) (family : Family S L) (r : S → Range L) 
               more.folded));
         })
 
-    rows_folded : (s : S) (i : ℕ) (rs into all : Rows L) (l z : L) (c : Charge) → fits s z all
+    rows_folded : (s : S) (i : ℕ) (rs into all : Rows L) (l z : L) (c : Charge) → (r s).Holds z
+        → stands s z all
         → ((j k : ℕ) → j ≡ i + k → rows_row j all ≡ rows_row k rs) → (h s).OnWay z l
-        → IsWithin all into → RowsHold family r fits s i rs
+        → IsWithin all into → RowsHold family r stands s i rs
         → ((j : ℕ) → i ≤ j → rows_row j into ≡ [])
         → i + count_rows rs ≡ (family.table s).rows → count_rows into ≡ (family.table s).rows
         → AreFitting (plain (runs_from (family.table s) z (suc i) (count_rows rs)))
@@ -228,8 +232,8 @@ module _ {S L : Type 0} (g : Grounds) (family : Family S L) (r : S → Range L) 
         → AllAre ((h s).Has z) (plain (runs_from (family.table s) z (suc i) (count_rows rs)))
         → FoldsBack (family_takes family s) (nest l into) (plain (rows_records family s z i rs))
         (both (rows_charge family r s i rs) c) (nest z (filled i rs into))
-    rows_folded s i done into all l z c fit rest way within holds empty count size fitting numbered
-        folded has = record {
+    rows_folded s i done into all l z c held stand rest way within holds empty count size fitting
+        numbered folded has = record {
           fitting = tt;
           numbered = tt;
           folded = (
@@ -237,8 +241,8 @@ module _ {S L : Type 0} (g : Grounds) (family : Family S L) (r : S → Range L) 
             ap (λ x. nest x into) folded.1,
           );
         }
-    rows_folded s i (row q rs) into all l z c fit rest way within holds empty count size fitting
-        numbered folded has =
+    rows_folded s i (row q rs) into all l z c leaf stand rest way within holds empty count size
+        fitting numbered folded has =
         let t = family.table s in
         let held = family.holds s i in
         let n = t.number i in
@@ -257,10 +261,10 @@ module _ {S L : Type 0} (g : Grounds) (family : Family S L) (r : S → Range L) 
         let one = row_folded s i (t.place n) refl ((h s).place i low) low l into [] (empty i
         (omega arith))
         (omega (arith, low, size)) q (fit_behind (t.once i) q holds.0) holds.1
-        (row_kept s z l all fit way i q (rest i 0 (omega arith))) in
+        (row_kept s z l all into leaf stand way within i q (rest i 0 (omega arith))) in
         let inside = within_set (λ j. rows_row j all) i q into within (rest i 0 (omega arith)) in
-        let lifted = leaf_lifted s z all next fit inside run l u first own.0 way front in
-        let more = rows_folded s (suc i) rs next all u z last fit
+        let lifted = leaf_lifted s z all next leaf stand inside run l u first own.0 way front in
+        let more = rows_folded s (suc i) rs next all u z last leaf stand
         (λ j k e. rest j (suc k) (omega (arith, e))) lifted.1 inside holds.2
         (λ j above. row_behind i j q into (omega (arith, above)) ∙ empty j (omega (arith, above)))
         (omega (arith, count)) (count_set i q into ∙ size) small.1 num.1 behind own.1 in
@@ -297,7 +301,7 @@ module _ {S L : Type 0} (g : Grounds) (family : Family S L) (r : S → Range L) 
         (rows : Rows L)
         (before : List (Nest L)) → rows_row i rows ≡ before → i < count_rows rows
         → (q : Row L) → ((family.table s).once i ≡ true → IsFitBehind before q)
-        → RowHolds family r fits (family.holds s i) q → IsKept (family.table s) i l q
+        → RowHolds family r stands (family.holds s i) q → IsKept (family.table s) i l rows q
         → FoldsBack (family_takes family s) (nest l rows) (plain (row_records family
         (family.holds s i)
         (encoding_at (family.table s) ((family.table s).number i)) ((family.table s).number i) q))
@@ -325,7 +329,7 @@ module _ {S L : Type 0} (g : Grounds) (family : Family S L) (r : S → Range L) 
         (row_set i (row_of (before ++ m ∷ [])) rows there ∙ listed_row (before ++ m ∷ []))
         (omega (arith, there, count_set i (row_of (before ++ m ∷ [])) rows)) ms
         (λ once. subst (IsFitBehind (before ++ m ∷ [])) (sym (fit once).1) tt) holds.2
-        (kept_behind t i l m ms kept) in
+        (kept_behind t i l next ms (λ once. (fit once).1)) in
         record {
           fitting = (e.fitting rs inner.fitting holds.1, more.fitting);
           numbered = ((h s).number i low, e.numbered rs inner.numbered, more.numbered);
@@ -347,11 +351,11 @@ module _ {S L : Type 0} (g : Grounds) (family : Family S L) (r : S → Range L) 
         }
 
   -- a message of such a table
-  pub fitting_returned : (s : S) (shape : Shape (Nest L)) → shape.default ≡ empty_of (family.table s)
+  pub beside_returned : (s : S) (shape : Shape (Nest L)) → shape.default ≡ empty_of (family.table s)
       → shape.records ≡ family_records family s → shape.takes ≡ family_takes family s
       → ((n : ℕ) (p : Payload) → shape.owns n p ≡ true)
-      → Returned shape (fitting_range family r fits s)
-  fitting_returned s shape start records step owns = record {
+      → Returned shape (beside_range family r stands s)
+  beside_returned s shape start records step owns = record {
     Has = λ n. Unit {0};
     back = record {
       back = λ m holds. subst (λ k. FoldsBack k shape.default (plain (shape.records m))
@@ -372,7 +376,7 @@ module _ {S L : Type 0} (g : Grounds) (family : Family S L) (r : S → Range L)
   pub family_returned : (s : S) (shape : Shape (Nest L)) → shape.default ≡ empty_of (family.table s)
       → shape.records ≡ family_records family s → shape.takes ≡ family_takes family s
       → ((n : ℕ) (p : Payload) → shape.owns n p ≡ true) → Returned shape (family_range family r s)
-  family_returned = fitting_returned g family r (λ s. any_beside) single h
+  family_returned = beside_returned g family r (λ s. any_beside) single h
 
 -- a message of a type that holds itself alone
 module _ {L : Type 0} (g : Grounds) (t : Table L) (r : Range L) (single : IsSingle t.takes)

@@ -28,17 +28,6 @@ IsFit true end = Unit {0}
 IsFit true (ahead m end) = Unit {0}
 IsFit true (ahead m (ahead k ms)) = ⊥
 
--- behind these messages the row has one more only where it may have many
-abbrev pub IsFitBehind : {L : Type 0} → List (Nest L) → Row L → Type 0
-IsFitBehind before end = Unit {0}
-IsFitBehind before (ahead m ms) = (before ≡ []) × (ms ≡ end)
-
-pub fit_behind : {L : Type 0} (once : Bool) (r : Row L) → IsFit once r → once ≡ true → IsFitBehind [] r
-fit_behind false r h is = absurd cc
-fit_behind true end h is = tt
-fit_behind true (ahead m end) h is = (refl, refl)
-fit_behind true (ahead m (ahead k ms)) h is = absurd h
-
 -- which rows may stand beside a leaf: any, but where a row is one of a oneof
 abbrev pub Beside : Type 0 → Type 1
 Beside L = L → Rows L → Type 0
@@ -52,22 +41,22 @@ any_beside l rows = Unit {0}
 abbrev mutual
   pub FamilyHolds : {S L : Type 0} → Family S L → (S → Range L) → (S → Beside L) → S → Nest L
       → Type 0
-  FamilyHolds family r fits s (nest l rows) =
-      (r s).Holds l × (count_rows rows ≡ (family.table s).rows) × RowsHold family r fits s 0 rows
-      × fits s l rows
+  FamilyHolds family r stands s (nest l rows) =
+      (r s).Holds l × (count_rows rows ≡ (family.table s).rows) × RowsHold family r stands s 0 rows
+      × stands s l rows
 
   pub RowsHold : {S L : Type 0} → Family S L → (S → Range L) → (S → Beside L) → S → ℕ → Rows L
       → Type 0
-  RowsHold family r fits s i done = Unit {0}
-  RowsHold family r fits s i (row q rs) =
-      IsFit ((family.table s).once i) q × RowHolds family r fits (family.holds s i) q
-      × RowsHold family r fits s (suc i) rs
+  RowsHold family r stands s i done = Unit {0}
+  RowsHold family r stands s i (row q rs) =
+      IsFit ((family.table s).once i) q × RowHolds family r stands (family.holds s i) q
+      × RowsHold family r stands s (suc i) rs
 
   pub RowHolds : {S L : Type 0} → Family S L → (S → Range L) → (S → Beside L) → S → Row L → Type 0
-  RowHolds family r fits s end = Unit {0}
-  RowHolds family r fits s (ahead m ms) =
-      FamilyHolds family r fits s m × (text_size (family_records family s m) ≤ 2147483647)
-      × RowHolds family r fits s ms
+  RowHolds family r stands s end = Unit {0}
+  RowHolds family r stands s (ahead m ms) =
+      FamilyHolds family r stands s m × (text_size (family_records family s m) ≤ 2147483647)
+      × RowHolds family r stands s ms
 
 -- with its place in memory, where it is one of many
 abbrev pub price : Place → Charge → Charge
@@ -93,15 +82,15 @@ abbrev mutual
   row_charge family r s place (ahead m ms) =
       both (price place (nested (family_charge family r s m))) (row_charge family r s place ms)
 
-abbrev pub fitting_range : {S L : Type 0} → Family S L → (S → Range L) → (S → Beside L) → S
+abbrev pub beside_range : {S L : Type 0} → Family S L → (S → Range L) → (S → Beside L) → S
     → Range (Nest L)
-fitting_range family r fits s = record {
-  Holds = FamilyHolds family r fits s;
+beside_range family r stands s = record {
+  Holds = FamilyHolds family r stands s;
   charge_of = family_charge family r s;
 }
 
 abbrev pub family_range : {S L : Type 0} → Family S L → (S → Range L) → S → Range (Nest L)
-family_range family r = fitting_range family r (λ s. any_beside)
+family_range family r = beside_range family r (λ s. any_beside)
 
 abbrev pub nest_range : {L : Type 0} → Table L → Range L → Range (Nest L)
 nest_range t r = family_range (alone t) (λ s. r) tt
@@ -131,25 +120,15 @@ IsReadBack takes start records Has r =
     (l : _) → r.Holds l
     → FoldsBack takes start (plain (records l)) (r.charge_of l) l × AllAre Has (plain (records l))
 
--- no row has a message where these have none
+-- `into` has messages only in rows where `rows` has some
 abbrev pub IsWithin : {L : Type 0} → Rows L → Rows L → Type 0
 IsWithin rows into = (j : ℕ) → rows_row j rows ≡ [] → rows_row j into ≡ []
 
--- beside the messages of a row a leaf stays, whatever rows it has
-abbrev pub IsKept : {L : Type 0} → Table L → ℕ → L → Row L → Type 0
-IsKept t i l end = Unit {0}
-IsKept {L} t i l (ahead m ms) = (rows : Rows L) → t.beside i (nest l rows) ≡ nest l rows
-
-pub kept_behind : {L : Type 0} (t : Table L) (i : ℕ) (l : L) (m : Nest L) (q : Row L)
-    → IsKept t i l (ahead m q) → IsKept t i l q
-kept_behind t i l m end kept = tt
-kept_behind t i l m (ahead k ks) kept = kept
-
 -- What a type shows of its table. Each row has a number whose records go there. The runs of a leaf
--- fold back to it, under numbers whose records go to the leaf, and which this leaf has. On the way
--- to it, all that was read stays: the leaf so far beside a message of a row, the rows so far beside
--- a record of the leaf.
-pub record LeafBeside {L : Type 0} (t : Table L) (r : Range L) (Fits : Beside L) : Type 1 where
+-- fold back to it, under numbers that this leaf has and whose records go to the leaf. Until it is
+-- read, a message of a row leaves the leaf and the rows so far as they are, and so does a record of
+-- the leaf.
+pub record LeafBeside {L : Type 0} (t : Table L) (r : Range L) (Stands : Beside L) : Type 1 where
   pub number : (i : ℕ) → i < t.rows → IsFieldNumber (t.number i)
   pub place : (i : ℕ) → i < t.rows → IsPlaceOf i (t.once i) (t.place (t.number i))
   pub Has : L → ℕ → Type 0
@@ -157,15 +136,15 @@ pub record LeafBeside {L : Type 0} (t : Table L) (r : Range L) (Fits : Beside L)
   pub back : (l : L) → r.Holds l
       → FoldsBack t.takes t.default (plain (all_runs t l)) (r.charge_of l) l
       × AllAre (Has l) (plain (all_runs t l))
-  -- the leaves on the way to one
+  -- `OnWay l m`: m comes up while l is read
   pub OnWay : L → L → Type 0
   pub begins : (l : L) → OnWay l t.default
-  pub goes_on : (l m z : L) (n : ℕ) (p : Payload) (c : Charge) → Has l n → OnWay l m
+  pub goes_on : (l m z : L) (n : ℕ) (p : Payload) (c : Charge) → r.Holds l → Has l n → OnWay l m
       → t.takes m n p c z → OnWay l z
   pub beside : (l m : L) (rows into : Rows L) (i : ℕ) (k : Nest L) (ks : List (Nest L))
-      → Fits l rows → OnWay l m → rows_row i rows ≡ k ∷ ks
-      → t.beside i (nest m into) ≡ nest m into
-  pub rows_beside : (l : L) (rows into : Rows L) (n : ℕ) → Fits l rows → Has l n
+      → r.Holds l → Stands l rows → OnWay l m → IsWithin rows into → t.once i ≡ true
+      → rows_row i rows ≡ k ∷ ks → t.beside i (nest m into) ≡ nest m into
+  pub rows_beside : (l : L) (rows into : Rows L) (n : ℕ) → r.Holds l → Stands l rows → Has l n
       → IsWithin rows into → t.rows_beside n into ≡ into
 
 -- where no row is one of a oneof
@@ -215,9 +194,9 @@ table_back t r takes start records back takes_is start_is runs_are number place 
       here = λ l n has. has;
       OnWay = λ l m. Unit {0};
       begins = λ l. tt;
-      goes_on = λ l m z n p c has way step. tt;
-      beside = λ l m rows into i k ks fits way is. beside i (nest m into);
-      rows_beside = λ l rows into n fits has within. rows_beside n into;
+      goes_on = λ l m z n p c holds has way step. tt;
+      beside = λ l m rows into i k ks holds stands way within once is. beside i (nest m into);
+      rows_beside = λ l rows into n holds stands has within. rows_beside n into;
       back = λ l holds. (
         subst (λ rs. FoldsBack t.takes t.default (plain rs) (r.charge_of l) l) (sym (runs_are l))
             (subst (λ s. FoldsBack t.takes s (plain (records l)) (r.charge_of l) l) (sym start_is)

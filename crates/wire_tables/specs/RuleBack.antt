@@ -1,4 +1,4 @@
--- What is written of a `Rule` is read back, a rule that is its test among them.
+-- What is written of a `Rule` is read back, also of one whose test is a rule.
 use Rattle.std.proofs.Common.{◌≡◌, ◌⊎◌, inl, inr, ℕ, zero, suc, List, [], ◌∷◌, refl, sym, ap, ◌∙◌, subst, arith}
 use Rattle.std.specs.Prelude.{◌<◌, Bool, true, false, Some, None, ◌==◌, ◌||◌}
 use Rattle.wire_codec.specs.Field.{Payload}
@@ -10,9 +10,9 @@ use Rattle.wire_fields.specs.declared.form.Form.TheVariants.{Varint}
 use Rattle.wire_fields.specs.Back.{AllAre, FoldsBack, all_weaker, all_joined, plain_joined}
 use Rattle.wire_fields.specs.Grounds.{Grounds, string_back, numeric_back, uint64_back}
 use Rattle.wire_fields.specs.Nest.{nest, Rows, done, row, end, ahead, rows_row, set_rows}
-use Rattle.wire_fields.specs.NestBack.{fitting_returned}
+use Rattle.wire_fields.specs.NestBack.{beside_returned}
 use Rattle.wire_fields.specs.NestRange.{Beside, IsWithin, LeafBeside, GoesToLeaf, IsOther, IsPlaceOf}
-use Rattle.wire_fields.specs.NestRange.{leaf_range, fitting_range, known_back, all_runs}
+use Rattle.wire_fields.specs.NestRange.{leaf_range, beside_range, known_back, all_runs}
 use Rattle.wire_fields.specs.NestRange.{piece, followed, same_order}
 use Rattle.wire_fields.specs.NestTable.{alone}
 use Rattle.wire_fields.specs.Numbers.{numeric}
@@ -49,7 +49,7 @@ test_folds g (Some (inr x)) h =
     uint64_range.charge_of (always_returned g _ _ (numeric_back (uint64_back g)))
     (λ x. Some (inr x)) 5 x refl (g.number 5 (omega arith) (omega arith)) h (λ c p k. (x, k, refl))
 
--- whether a value has one
+-- there is a plain test; there is none
 abbrev HasTest : PlainTest → Type 0
 HasTest None = ⊥
 HasTest (Some t) = Unit {0}
@@ -58,7 +58,7 @@ abbrev pub HasNone : PlainTest → Type 0
 HasNone None = Unit {0}
 HasNone (Some t) = ⊥
 
--- under which numbers it stands
+-- the field numbers of a plain test
 abbrev is_plain : ℕ → Bool
 is_plain n = n == 2 || n == 5
 
@@ -105,8 +105,8 @@ rule_known_returned g =
 -- ---- a rule as the test
 
 -- beside a rule as the test no plain one stands
-abbrev pub rule_fits : Beside RuleLeaf
-rule_fits l rows = HasNone l.0.1 ⊎ (rows_row 0 rows ≡ [])
+abbrev pub rule_stands : Beside RuleLeaf
+rule_stands l rows = HasNone l.0.1 ⊎ (rows_row 0 rows ≡ [])
 
 -- a record of a leaf goes to it, and is of a plain test only where the leaf has one
 abbrev RuleHas : RuleLeaf → ℕ → Type 0
@@ -124,7 +124,7 @@ none_is : (m : PlainTest) → HasNone m → m ≡ None
 none_is None h = refl
 none_is (Some t) h = absurd h
 
--- a record that is none of a plain test's leaves that
+-- a record with another number leaves the plain test as it is
 module _ (m z : RuleLeaf) (n : ℕ) (p : Payload) (c : Charge) (other : is_plain n ≡ false)
     (h : rule_leaf.takes m n p c z) where
   abbrev At : Bool → Type 0
@@ -147,7 +147,7 @@ module _ (m z : RuleLeaf) (n : ℕ) (p : Payload) (c : Charge) (other : is_plain
   test_stays : z.0.1 ≡ m.0.1
   test_stays = stays_at (n == 1) refl
 
--- no row has a message that has none
+-- an empty row, emptied, is as it was
 end_set : (rows : Rows RuleLeaf) → rows_row 0 rows ≡ [] → set_rows 0 end rows ≡ rows
 end_set done is = refl
 end_set (row end rs) is = refl
@@ -168,20 +168,20 @@ rule_goes_on l m z n p c has way step nothing = elim has.1 [
 ]
 
 rule_stays : (l m : RuleLeaf) (rows into : Rows RuleLeaf) (i : ℕ) (k : RuleValue)
-    (ks : List RuleValue) → rule_fits l rows → OnWay l m → rows_row i rows ≡ k ∷ ks
+    (ks : List RuleValue) → rule_stands l rows → OnWay l m → rows_row i rows ≡ k ∷ ks
     → rule.beside i (nest m into) ≡ nest m into
-rule_stays l m rows into zero k ks fits way is = elim fits [
+rule_stays l m rows into zero k ks stands way is = elim stands [
   | inl nothing ↦ ap (λ (t : PlainTest). nest ((m.0.0, t), m.1) into)
       (sym (none_is m.0.1 (way nothing)))
   | inr empty ↦ absurd (not_empty k ks (sym is ∙ empty))
 ]
-rule_stays l m rows into (suc i) k ks fits way is = refl
+rule_stays l m rows into (suc i) k ks stands way is = refl
 
-rule_rows_stay : (l : RuleLeaf) (rows into : Rows RuleLeaf) (n : ℕ) → rule_fits l rows → RuleHas l n
-    → IsWithin rows into → rule.rows_beside n into ≡ into
-rule_rows_stay l rows into n fits has within = elim has.1 [
+rule_rows_stay : (l : RuleLeaf) (rows into : Rows RuleLeaf) (n : ℕ) → rule_stands l rows
+    → RuleHas l n → IsWithin rows into → rule.rows_beside n into ≡ into
+rule_rows_stay l rows into n stands has within = elim has.1 [
   | inl other ↦ ap (λ b. without_not b into) other
-  | inr there ↦ elim fits [
+  | inr there ↦ elim stands [
     | inl nothing ↦ absurd (not_both l.0.1 nothing there)
     | inr empty ↦ no_not (is_plain n) into (within 0 empty)
   ]
@@ -239,14 +239,15 @@ leaf_has g l holds =
     (λ n h. (h.1, inl (or_false (n == 1) (is_plain n) (h.0 (Payload.varint 0))))) l.1
     holds.1.others)))
 
-abbrev rule_back : Grounds → LeafBeside rule rule_leaf_range rule_fits
+abbrev rule_back : Grounds → LeafBeside rule rule_leaf_range rule_stands
 rule_back g = record {
   number = rule_row_numbers g;
   place = rule_row_places;
   Has = RuleHas;
   here = λ l n has. has.0;
   back = λ l holds. subst (λ rs. FoldsBack rule.takes rule.default (plain rs)
-      (rule_leaf_range.charge_of l) l × AllAre (RuleHas l) (plain rs)) (sym (rule_runs_in_order l)) (
+      (rule_leaf_range.charge_of l) l × AllAre (RuleHas l) (plain rs))
+      (sym (rule_runs_in_order l)) (
         (known_back g rule rule_known known_range (rule_known_returned g)
             (λ n h. elim h [
               | inl h ↦ rw h refl
@@ -256,15 +257,16 @@ rule_back g = record {
       );
   OnWay = OnWay;
   begins = λ l nothing. tt;
-  goes_on = rule_goes_on;
-  beside = rule_stays;
-  rows_beside = rule_rows_stay;
+  goes_on = λ l m z n p c holds. rule_goes_on l m z n p c;
+  beside = λ l m rows into i k ks holds stands way within once.
+      rule_stays l m rows into i k ks stands way;
+  rows_beside = λ l rows into n holds. rule_rows_stay l rows into n;
 }
 
 abbrev pub rule_range : Range RuleValue
-rule_range = fitting_range (alone rule) (λ s. rule_leaf_range) (λ s. rule_fits) tt
+rule_range = beside_range (alone rule) (λ s. rule_leaf_range) (λ s. rule_stands) tt
 
 pub rule_returned : Grounds → Returned rule_shape rule_range
 rule_returned g =
-    fitting_returned g (alone rule) (λ s. rule_leaf_range) (λ s. rule_fits)
+    beside_returned g (alone rule) (λ s. rule_leaf_range) (λ s. rule_stands)
     (λ s. rule_leaf.single g.reading) (λ s. rule_back g) tt rule_shape refl refl refl (λ n p. refl)

@@ -2,6 +2,8 @@
 -- has kept.
 use Rattle.std.proofs.Common.{◌≡◌, ◌⊎◌, inl, inr, ℕ, List, false, refl, arith}
 use Rattle.std.specs.Prelude.{ℤ, Some, None, ◌==◌}
+use Rattle.wire_codec.specs.Charge.{payload_charge}
+use Rattle.wire_codec.specs.EnumValue.{EnumValue}
 use Rattle.wire_codec.specs.EnumValue.TheVariants.{Known, Unknown}
 use Rattle.wire_codec.specs.Field.{Payload, varint}
 use Rattle.wire_codec.specs.Limits.{Charge, no_charge}
@@ -12,13 +14,13 @@ use Rattle.wire_fields.specs.Back.{AllAre, FoldsBack}
 use Rattle.wire_fields.specs.ClosedBack.{closed_back, closed_once_returned, closed_packed_returned}
 use Rattle.wire_fields.specs.ClosedBack.{closed_unpacked_returned, closing_returned, closing_value}
 use Rattle.wire_fields.specs.ClosedBack.{ClosingOrApart, once_leaves}
-use Rattle.wire_fields.specs.ClosedMapsBack.{closed_map_returned, written_entry_leaves, left_charge}
+use Rattle.wire_fields.specs.ClosedMapsBack.{closed_map_returned, written_entry_leaves, entries_left}
 use Rattle.wire_fields.specs.Enums.{open_enum}
 use Rattle.wire_fields.specs.Grounds.{Grounds, numeric_back, string_back, sint32_back}
-use Rattle.wire_fields.specs.Leaving.{both_leaving}
-use Rattle.wire_fields.specs.LeavingBack.{both_returned, none_returned, priced_range, IsLeft, IsLeftFor}
-use Rattle.wire_fields.specs.LeavingBack.{ReturnedBeside, leaves_left, leaves_first, leaves_second}
-use Rattle.wire_fields.specs.LeavingBack.{priced_returned}
+use Rattle.wire_fields.specs.Leaving.{Leaving, both_leaving}
+use Rattle.wire_fields.specs.LeavingBack.{both_returned, none_returned, charged_range, IsLeftFor}
+use Rattle.wire_fields.specs.LeavingBack.{LeavesFor, ReturnedBeside, leaves_left, leaves_first, leaves_second}
+use Rattle.wire_fields.specs.LeavingBack.{charged_returned}
 use Rattle.wire_fields.specs.Maps.{entry_records}
 use Rattle.wire_fields.specs.MapsBack.{IsEntry}
 use Rattle.wire_fields.specs.Numbers.{numeric}
@@ -28,6 +30,7 @@ use Rattle.wire_fields.specs.Ranges.{Range, closed_range, enum_range, string_ran
 use Rattle.wire_fields.specs.Ranges.{packed_range, unpacked_range, pair_range, IsClosed}
 use Rattle.wire_fields.specs.Ranges.{text_map_range, signed_map_range, sint32_range}
 use Rattle.wire_fields.specs.Returned.{Returned, always_returned}
+use Rattle.wire_fields.specs.Shape.{FieldKind}
 use Rattle.wire_fields.specs.Texts.{string}
 use Rattle.wire_tables.specs.declared.level.Level.{Level}
 use Rattle.wire_tables.specs.declared.level.Level.TheVariants.{Low, High}
@@ -108,17 +111,19 @@ signal_maps_range =
     (signed_map_range 16 Varint sint32 (always (numeric Varint (open_enum level_number level_of)))
     sint32_range (closed_range level_number level_of))
 
--- with what it has kept, each record of it for its price
+-- with its unknown fields, for what each of them is charged
 abbrev pub signal_range : (ℕ → Payload → Charge) → Range SignalValue
-signal_range price =
+signal_range charge_of =
     pair_range (pair_range (pair_range (optional_range (closed_range level_number level_of))
     (packed_range Varint (open_enum level_number level_of) (closed_range level_number level_of)))
     (pair_range (pair_range (unpacked_range (closed_range level_number level_of)) cause_range)
     signal_maps_range))
-    (priced_range signal_known price)
+    (charged_range signal_known charge_of)
 
-abbrev signal_maps_returned : (g : Grounds)
-    → ReturnedBeside (both_leaving signal_by_name signal_by_place) signal_maps_range
+abbrev pub signal_maps : Leaving SignalMaps
+signal_maps = both_leaving signal_by_name signal_by_place
+
+abbrev signal_maps_returned : (g : Grounds) → ReturnedBeside signal_maps signal_maps_range
 signal_maps_returned g =
     both_returned g
     (closed_map_returned g _ _ _ level_number level_of string_range string_back 6 (omega arith)
@@ -127,10 +132,10 @@ signal_maps_returned g =
     (omega arith) (omega arith))
     (λ n p h. rw h refl)
 
-pub signal_returned : Grounds → (price : ℕ → Payload → Charge)
-    → Returned signal (signal_range price)
+pub signal_returned : Grounds → (charge_of : ℕ → Payload → Charge)
+    → Returned signal (signal_range charge_of)
 signal_returned g =
-    priced_returned g signal_known _
+    charged_returned g signal_known _
     (both_returned g
     (both_returned g
     (closed_once_returned g level_number level_of 1 (omega arith) (omega arith))
@@ -152,32 +157,62 @@ signal_returned g =
       | inr h ↦ elim h [ inl h ↦ rw h refl | inr h ↦ rw h refl ]
     ]))
 
--- a level's record with a number that no level has is one that is kept
-pub level_left : (x : ℕ) → level_of (int32.dec x) ≡ None → IsLeft signal_known 1 (varint x)
+-- ---- what it keeps
+
+-- what each record is charged that a signal keeps
+abbrev pub signal_left_charge : ℕ → Payload → Charge
+signal_left_charge = entries_left 32 6 (entries_left 16 7 (λ n p. payload_charge p))
+
+-- a level's record with a number that no level has
+pub level_left : (x : ℕ) → level_of (int32.dec x) ≡ None
+    → IsLeftFor signal_known (signal_left_charge 1 (varint x)) 1 (varint x)
 level_left x lacks =
     leaves_left signal_known 1 (varint x)
     (leaves_first (both_leaving signal_level signal_history)
-    (both_leaving (both_leaving signal_marks signal_cause)
-    (both_leaving signal_by_name signal_by_place)) 1 (varint x)
+    (both_leaving (both_leaving signal_marks signal_cause) signal_maps) 1 (varint x)
     (leaves_first signal_level signal_history 1 (varint x)
     (once_leaves level_number level_of 1 x lacks)))
 
--- what is written of an entry by name with such a number is kept too, at this price
-pub entry_left : Grounds → (name : List ℕ) (x : ℤ)
-    → IsEntry string (always (numeric Varint (open_enum level_number level_of))).kind
-    string_range.Holds (enum_range level_number level_of).Holds
-    (enum_range level_number level_of).charge_of (name, Unknown x)
-    → let p = plain_payload (embedded (entry_records string
-    (always (numeric Varint (open_enum level_number level_of))).kind (name, Unknown x))) in
-    IsLeftFor signal_known (left_charge 32 p) 6 p
-entry_left g name x h =
-    let p = plain_payload (embedded (entry_records string
-    (always (numeric Varint (open_enum level_number level_of))).kind (name, Unknown x))) in
-    leaves_left signal_known 6 p
+abbrev levels : FieldKind (EnumValue Level)
+levels = (always (numeric Varint (open_enum level_number level_of))).kind
+
+abbrev open_levels : Range (EnumValue Level)
+open_levels = enum_range level_number level_of
+
+-- what the maps leave, the signal leaves
+maps_leave : {c : Charge} (n : ℕ) (p : Payload)
+    → (both_leaving signal_level signal_history).owns n p ≡ false
+    → (both_leaving signal_marks signal_cause).owns n p ≡ false → LeavesFor signal_maps c n p
+    → IsLeftFor signal_known c n p
+maps_leave n p apart other h =
+    leaves_left signal_known n p
     (leaves_second (both_leaving signal_level signal_history)
-    (both_leaving (both_leaving signal_marks signal_cause)
-    (both_leaving signal_by_name signal_by_place)) 6 p refl
-    (leaves_second (both_leaving signal_marks signal_cause)
-    (both_leaving signal_by_name signal_by_place) 6 p refl
+    (both_leaving (both_leaving signal_marks signal_cause) signal_maps) n p apart
+    (leaves_second (both_leaving signal_marks signal_cause) signal_maps n p other h))
+
+-- what is written of an entry by name with such a number
+pub entry_by_name_left : Grounds → (name : List ℕ) (x : ℤ)
+    → IsEntry string levels string_range.Holds open_levels.Holds open_levels.charge_of
+    (name, Unknown x)
+    → let p = plain_payload (embedded (entry_records string levels (name, Unknown x))) in
+    IsLeftFor signal_known (signal_left_charge 6 p) 6 p
+entry_by_name_left g name x h =
+    let p = plain_payload (embedded (entry_records string levels (name, Unknown x))) in
+    maps_leave 6 p refl refl
     (leaves_first signal_by_name signal_by_place 6 p
-    (written_entry_leaves g _ _ _ level_number level_of string_range string_back 6 name x h))))
+    (written_entry_leaves g _ _ _ level_number level_of string_range string_back 6 name x h))
+
+-- and of one by place
+pub entry_by_place_left : Grounds → (place x : ℤ)
+    → IsEntry (numeric Varint sint32) levels sint32_range.Holds open_levels.Holds
+    open_levels.charge_of (place, Unknown x)
+    → let p = plain_payload (embedded (entry_records (numeric Varint sint32) levels
+    (place, Unknown x))) in
+    IsLeftFor signal_known (signal_left_charge 7 p) 7 p
+entry_by_place_left g place x h =
+    let p = plain_payload (embedded (entry_records (numeric Varint sint32) levels
+    (place, Unknown x))) in
+    maps_leave 7 p refl refl
+    (leaves_second signal_by_name signal_by_place 7 p refl
+    (written_entry_leaves g _ _ _ level_number level_of sint32_range (numeric_back (sint32_back g))
+    7 place x h))

@@ -39,10 +39,11 @@ pub fn profiles_fold_back()
     laws::scalar::values_read_back();
 }
 
-/// What is written of a `Signal` whose levels are ones that the enum has decodes to it, with what it
-/// has kept, each record of it for its price, where the limits suffice.
+/// What is written of a `Signal` whose levels are ones that the enum has decodes to it, with its
+/// unknown fields, whatever each of them is charged, where the limits suffice.
 pub fn signals_read_back()
-    ensures { (price : ℕ → Payload → Charge) → ReadsBack signal (signal_range price) }
+    ensures { (charge_of : ℕ → Payload → Charge)
+        → ReadsBack signal (signal_range charge_of) }
 {
     grounds();
     laws::text_decodes::<Signal>();

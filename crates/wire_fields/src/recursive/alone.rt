@@ -130,8 +130,8 @@ impl<'a, T: Recursive> RecursiveSlice for Alone<'a, T> {
     }
 }
 
-// The message as a slice of one. No value takes 2^63 bytes: of each type that a program names the
-// compiler knows so, but nothing says so of a type parameter.
+// The message as a slice of one. No value takes 2^63 bytes. The compiler knows that of each type
+// that a program names, and drops the test; of a type parameter nothing says so.
 #[inline(always)]
 fn slice_of<T>(message: &T) -> Result<&[T], EncodeError>
     ensures ok { IfOk result (λ messages. messages.now ≡ message.now ∷ []) }

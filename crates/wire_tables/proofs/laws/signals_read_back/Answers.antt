@@ -4,4 +4,4 @@ use Rattle.wire_tables.proofs.laws.signals_read_back.Goals as goal
 
 pub returns : goal.returns
 returns c =
-    λ price. reads_back (signal_returned c.grounds.ensures price) c.text_decodes.ensures
+    λ charge_of. reads_back (signal_returned c.grounds.ensures charge_of) c.text_decodes.ensures
