@@ -153,7 +153,8 @@ Rattle.wire_fields.specs.Arms from_last
 Rattle.wire_fields.specs.Leaving keeps_beside
 ";
 
-// The search does not find by itself that what a list of numbers takes the message takes.
+// The search does not find by itself that what a list of numbers takes the message takes, and of
+// other fields it takes seconds to find.
 const USES_OF_TAKEN: &str = "\
 Rattle.std.proofs.Common refl
 Rattle.wire_fields.specs.Arms arm_ok
@@ -307,7 +308,8 @@ fn put_arm(page: &mut Words) {
     page.append("answers", REFUSED);
     let kind = page.get("kind");
     let is_list = kind.starts_with("Unpacked") || kind.starts_with("Packed");
-    if is_list && page.get("sort") != "Leaving" {
+    let is_whole = page.get("before").is_empty();
+    if (is_list || is_whole) && page.get("sort") != "Leaving" {
         page.append("answers", TAKEN);
         page.append("uses", USES_OF_TAKEN);
     }

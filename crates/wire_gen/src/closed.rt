@@ -75,8 +75,9 @@ const IN_EACH: [Template; 3] = [
     ),
 ];
 
-// As values of a map.
-const IN_MAP: [Template; 6] = [
+// As values of a map. The record of an entry that is left is charged besides for its reading.
+const IN_MAP: [Template; 7] = [
+    ("left", "entries_left $of_entry$ $number$"),
     ("closed", "closed_$key_order$"),
     ("call", "merge_closed"),
     (

@@ -4,7 +4,7 @@ use crate::error::GenerateError;
 use crate::field::Field;
 use crate::imports::definition_imports;
 use crate::laws_pages::has_laws;
-use crate::rows::is_row;
+use crate::returned::{put_range, range_of};
 use crate::schema::MessageType;
 use crate::tree::Tree;
 use crate::words::{Template, Words};
@@ -103,97 +103,6 @@ abbrev pub $module$-shape : Shape $name$-Value
 $module$-shape = $rest$
 ";
 
-const RANGE: &str = "
--- what is read back once it is written
-abbrev pub $module$-range : Range $name$-Value
-$module$-range =
-    $whole_range$
-
-pub $module$-returned : Grounds → Returned $module$-shape $module$-range
-$module$-returned g =
-    $whole_returned$
-";
-
-const USES_OF_RANGE: &str = "\
-Rattle.wire_fields.specs.Grounds Grounds
-Rattle.wire_fields.specs.Ranges Range
-Rattle.wire_fields.specs.Returned Returned
-";
-
-const USES_OF_KNOWN: &str = "\
-Rattle.std.proofs.Common arith
-Rattle.std.proofs.Common refl
-Rattle.wire_fields.specs.Ranges pair_range
-";
-
-// What puts the proofs of fields together, and where that stands.
-const OF_RETURNED: [(&str, &str); 4] = [
-    ("known_returned", "Returned"),
-    ("two_returned", "Returned"),
-    ("none_returned", "LeavingBack"),
-    ("both_returned", "LeavingBack"),
-];
-
-// Of a message that keeps other fields, and of one that drops them, with fields and without.
-const KEPT_RANGE: [Template; 3] = [
-    (
-        "whole_range",
-        "pair_range ($range$)\n    (others_range $module$-known.owns)",
-    ),
-    ("whole_returned", "whole_returned g\n    ($returned$)"),
-    (
-        "uses",
-        "Rattle.wire_fields.specs.Ranges others_range\n\
-        Rattle.wire_fields.specs.Returned whole_returned\n",
-    ),
-];
-
-const LEAVING_RANGE: [Template; 3] = [
-    (
-        "whole_range",
-        "pair_range ($range$)\n    (left_range $module$-known)",
-    ),
-    (
-        "whole_returned",
-        "with_unknown_returned g $module$-known _\n    ($returned$)",
-    ),
-    (
-        "uses",
-        "Rattle.wire_fields.specs.LeavingBack left_range\n\
-        Rattle.wire_fields.specs.LeavingBack with_unknown_returned\n",
-    ),
-];
-
-const DROPPED_RANGE: [Template; 3] = [
-    ("whole_range", "pair_range ($range$)\n    dropped_range"),
-    ("whole_returned", "dropping_returned g\n    ($returned$)"),
-    (
-        "uses",
-        "Rattle.wire_fields.specs.Ranges dropped_range\n\
-        Rattle.wire_fields.specs.Returned dropping_returned\n",
-    ),
-];
-
-const EMPTY_RANGE: [Template; 3] = [
-    ("whole_range", "unknown_range"),
-    ("whole_returned", "unknown_returned g"),
-    (
-        "uses",
-        "Rattle.wire_fields.specs.Ranges unknown_range\n\
-        Rattle.wire_fields.specs.Returned unknown_returned\n",
-    ),
-];
-
-const EMPTY_DROPPED_RANGE: [Template; 3] = [
-    ("whole_range", "dropped_range"),
-    ("whole_returned", "nothing_returned"),
-    (
-        "uses",
-        "Rattle.wire_fields.specs.Ranges dropped_range\n\
-        Rattle.wire_fields.specs.Returned nothing_returned\n",
-    ),
-];
-
 const WHOLE: [Template; 2] = [("part", "Shape"), ("whole", "two $module$-known $rest$")];
 
 const LEAVING: [Template; 2] = [
@@ -285,50 +194,9 @@ pub(crate) fn definitions_of(
         &[("text", "$values$"), ("text", VALUE), ("text", SHAPE)]
     });
     if is_read_back {
-        page.append("text", RANGE);
+        page.append("text", range_of(fields));
     }
     page.finish("text")
-}
-
-/// Which values of the fields are read back, and why: the `range` of their tree, and `returned`.
-pub(crate) fn put_returned(page: &mut Words, fields: &[Field], tree: &Tree) {
-    page.copy(&tree.words, &["range", "returned", "apart"]);
-    page.append("uses", USES_OF_RANGE);
-    if !fields.is_empty() {
-        page.append("uses", USES_OF_KNOWN);
-    }
-    for field in fields {
-        if !is_row(field) {
-            page.copy(&field.words, &["returned_uses"]);
-            page.append("uses", "$returned_uses$");
-        }
-    }
-    for (name, module) in &OF_RETURNED {
-        if page.get("returned").contains(name) {
-            page.set("of", module);
-            page.set("import", name);
-            page.append("uses", "Rattle.wire_fields.specs.$of$ $import$\n");
-        }
-    }
-    if page.get("returned").contains("elim h") {
-        page.append(
-            "uses",
-            "Rattle.std.proofs.Common inl\nRattle.std.proofs.Common inr\n",
-        );
-    }
-}
-
-// What is read back of the message.
-fn put_range(page: &mut Words, fields: &[Field], tree: &Tree, is_kept: bool) {
-    put_returned(page, fields, tree);
-    let is_leaving = page.get("part") == "Leaving";
-    page.append_all(match (fields.is_empty(), is_kept) {
-        _ if is_leaving => &LEAVING_RANGE,
-        (false, true) => &KEPT_RANGE,
-        (false, false) => &DROPPED_RANGE,
-        (true, true) => &EMPTY_RANGE,
-        (true, false) => &EMPTY_DROPPED_RANGE,
-    });
 }
 
 // The words of a part of the tree, or of its root.

@@ -1,4 +1,5 @@
 //! The laws of the messages of a crate, and their proofs.
+use crate::field::Field;
 use crate::words::Words;
 
 /// Whether they are asked for.
@@ -6,9 +7,14 @@ pub(crate) fn has_laws(base: &Words) -> bool {
     base.get("without_laws").is_empty()
 }
 
+/// Whether there are fields that read an entry before they leave its record.
+pub(crate) fn leaves_entries(fields: &[Field]) -> bool {
+    fields.iter().any(|it| !it.words.get("left").is_empty())
+}
+
 pub(crate) const LAWS: &str = "\
 //! Laws of the message types: each function is a theorem, and does nothing. Generated.
-ghost use Rattle.wire_fields.specs.Returned.{ReadsBack};
+$charge_uses$ghost use Rattle.wire_fields.specs.Returned.{ReadsBack};
 $law_uses$
 use wire_codec::laws::text_decodes;
 use wire_fields::laws::grounds;
@@ -27,6 +33,41 @@ pub fn $module$_reads_back()
     grounds();
     text_decodes::<crate::$name$>();
 }
+";
+
+/// The same where records that are left are charged for their reading, too.
+pub(crate) const LAW_AT: &str = "
+/// What is written of a `$name$` in range decodes to it, with its unknown fields, whatever each of
+/// them is charged, where the limits suffice.
+pub fn $module$_reads_back()
+    ensures { (charge_of : ℕ → Payload → Charge)
+        → ReadsBack $module$-shape ($module$-range-at charge_of) }
+{
+    grounds();
+    text_decodes::<crate::$name$>();
+}
+";
+
+pub(crate) const LAW_AT_USES: &str = "\
+ghost use Rattle.$crate$.specs.$name$.{$module$-range-at};
+ghost use Rattle.$crate$.specs.$name$.{$module$-shape};
+";
+
+pub(crate) const CHARGE_USES: &str = "\
+ghost use Rattle.std.specs.Prelude.{ℕ};
+ghost use Rattle.wire_codec.specs.Field.{Payload};
+ghost use Rattle.wire_codec.specs.Limits.{Charge};
+";
+
+pub(crate) const LAW_AT_ANSWERS: &str = "\
+use Rattle.$crate$.specs.$name$.{$module$-returned-at}
+use Rattle.wire_fields.specs.Returned.{reads_back}
+use Rattle.$crate$.proofs.laws.$module$_reads_back.Goals as goal
+
+pub returns : goal.returns
+returns c =
+    λ charge_of. reads_back ($module$-returned-at c.grounds.ensures charge_of)
+    c.text_decodes.ensures
 ";
 
 pub(crate) const LAW_ANSWERS: &str = "\

@@ -35,6 +35,7 @@ mod parameters;
 mod recursive;
 mod recursive_back;
 mod recursive_definitions;
+mod returned;
 mod rows;
 mod runs;
 mod scalar;

@@ -10,7 +10,10 @@ use crate::family::{family_code, set_family};
 use crate::family_definitions::{family_definitions, held_answers};
 use crate::features::{FIRST_EDITION, LAST_EDITION};
 use crate::field::{Field, Oneof, fields_of};
-use crate::laws_pages::{LAW, LAW_ANSWERS, LAW_USES, LAWS, has_laws};
+use crate::laws_pages::{
+    CHARGE_USES, LAW, LAW_ANSWERS, LAW_AT, LAW_AT_ANSWERS, LAW_AT_USES, LAW_USES, LAWS, has_laws,
+    leaves_entries,
+};
 use crate::member_definitions::{MEMBER_MERGE, member_definitions};
 use crate::names::order_key;
 use crate::oneof::oneof_code;
@@ -159,7 +162,7 @@ impl Package {
         let answers = answers_of(&page, &fields, &tree, false)?;
         self.add_type(&mut page, code, definitions)?;
         if has_laws(&self.base) {
-            self.add_law(&mut page)?;
+            self.add_law(&mut page, leaves_entries(&fields))?;
         }
         for field in &fields {
             if let Some(oneof) = &field.oneof {
@@ -201,7 +204,7 @@ impl Package {
         let answers = answers_of(&page, &leaf, &tree, true)?;
         self.add_type(&mut page, code, definitions)?;
         if has_laws(&self.base) {
-            self.add_law(&mut page)?;
+            self.add_law(&mut page, false)?;
         }
         for field in &leaf {
             if let Some(oneof) = &field.oneof {
@@ -326,11 +329,24 @@ impl Package {
     }
 
     // A law, and its proof.
-    fn add_law(&mut self, page: &mut Words) -> Result<(), GenerateError> {
+    fn add_law(&mut self, page: &mut Words, has_charges: bool) -> Result<(), GenerateError> {
         self.roots.copy(page, &["name", "module"]);
-        self.roots
-            .append_all(&[("law_uses", LAW_USES), ("laws", LAW)]);
-        page.fill("answers", LAW_ANSWERS);
+        if has_charges {
+            self.roots.fill("charge_uses", CHARGE_USES);
+            self.roots
+                .append_all(&[("law_uses", LAW_AT_USES), ("laws", LAW_AT)]);
+        } else {
+            self.roots
+                .append_all(&[("law_uses", LAW_USES), ("laws", LAW)]);
+        }
+        page.fill(
+            "answers",
+            if has_charges {
+                LAW_AT_ANSWERS
+            } else {
+                LAW_ANSWERS
+            },
+        );
         let answers = page.finish("answers")?;
         self.add(
             page,

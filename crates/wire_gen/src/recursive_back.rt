@@ -1,7 +1,7 @@
 //! What is read back of a message that holds itself.
-use crate::definitions::put_returned;
 use crate::field::Field;
 use crate::member_definitions::MEMBER_RANGE;
+use crate::returned::put_returned;
 use crate::rows::is_row;
 use crate::tree::Tree;
 use crate::words::{Template, Words};

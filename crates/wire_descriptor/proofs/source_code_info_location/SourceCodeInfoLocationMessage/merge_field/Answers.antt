@@ -29,6 +29,13 @@ returns-in-3-clause-err g c =
     (λ charge z p h. (z.0.1, h.0.0)) _ _ _
     (c.merge-in-3).result (c.merge-in-3).ensures.err
 
+pub returns-in-3-clause-ok : goal.returns-in-3-clause-ok
+returns-in-3-clause-ok g c =
+    arm_ok source_code_info_location-shape.takes source_code_info_location-leading_comments-kind.kind.takes 3 _
+    (sym c.field_number.ensures.number ∙ c.in-3.is) _ _ _ _
+    (λ charge p h. ((h, refl), refl)) _ _ _ _ _
+    (c.merge-in-3).result (c.merge-in-3).ensures.ok
+
 pub returns-in_default-clause-err : goal.returns-in_default-clause-err
 returns-in_default-clause-err g c =
     let n = tag_number c.args.tag in

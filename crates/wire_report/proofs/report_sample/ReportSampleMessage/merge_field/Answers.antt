@@ -1,6 +1,6 @@
-use Rattle.std.proofs.Common.{rules, sym, ◌∙◌}
+use Rattle.std.proofs.Common.{refl, rules, sym, ◌∙◌}
 use Rattle.wire_codec.specs.TagView.{tag_number}
-use Rattle.wire_fields.specs.Arms.{arm_err, neither, rest_err, unlike}
+use Rattle.wire_fields.specs.Arms.{arm_err, arm_ok, neither, rest_err, unlike}
 use Rattle.wire_fields.specs.Shape.{keeps}
 use Rattle.wire_report.specs.ReportSample.{report_sample-count-kind, report_sample-known}
 use Rattle.wire_report.specs.ReportSample.{report_sample-name-kind, report_sample-shape}
@@ -14,6 +14,13 @@ returns-in-1-clause-err g c =
     (λ charge z p h. (z.0.0.0, h.0.0.0)) _ _ _
     c.merge.result c.merge.ensures.err
 
+pub returns-in-1-clause-ok : goal.returns-in-1-clause-ok
+returns-in-1-clause-ok g c =
+    arm_ok report_sample-shape.takes report_sample-name-kind.kind.takes 1 _
+    (sym c.field_number.ensures.number ∙ c.in-1.is) _ _ _ _
+    (λ charge p h. (((h, refl), refl), refl)) _ _ _ _ _
+    c.merge.result c.merge.ensures.ok
+
 pub returns-in-2-clause-err : goal.returns-in-2-clause-err
 returns-in-2-clause-err g c =
     arm_err report_sample-shape.takes report_sample-value-kind.kind.takes 2 _
@@ -21,12 +28,26 @@ returns-in-2-clause-err g c =
     (λ charge z p h. (z.0.0.1, h.0.0.0)) _ _ _
     (c.merge-in-2).result (c.merge-in-2).ensures.err
 
+pub returns-in-2-clause-ok : goal.returns-in-2-clause-ok
+returns-in-2-clause-ok g c =
+    arm_ok report_sample-shape.takes report_sample-value-kind.kind.takes 2 _
+    (sym c.field_number.ensures.number ∙ c.in-2.is) _ _ _ _
+    (λ charge p h. (((h, refl), refl), refl)) _ _ _ _ _
+    (c.merge-in-2).result (c.merge-in-2).ensures.ok
+
 pub returns-in-3-clause-err : goal.returns-in-3-clause-err
 returns-in-3-clause-err g c =
     arm_err report_sample-shape.takes report_sample-count-kind.kind.takes 3 _
     (sym c.field_number.ensures.number ∙ c.in-3.is) _ _
     (λ charge z p h. (z.0.1, h.0.0)) _ _ _
     (c.merge-in-3).result (c.merge-in-3).ensures.err
+
+pub returns-in-3-clause-ok : goal.returns-in-3-clause-ok
+returns-in-3-clause-ok g c =
+    arm_ok report_sample-shape.takes report_sample-count-kind.kind.takes 3 _
+    (sym c.field_number.ensures.number ∙ c.in-3.is) _ _ _ _
+    (λ charge p h. ((h, refl), refl)) _ _ _ _ _
+    (c.merge-in-3).result (c.merge-in-3).ensures.ok
 
 pub returns-in_default-clause-err : goal.returns-in_default-clause-err
 returns-in_default-clause-err g c =

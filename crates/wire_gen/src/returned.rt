@@ -1,0 +1,210 @@
+//! What is read back of a message type.
+use crate::field::Field;
+use crate::laws_pages::leaves_entries;
+use crate::rows::is_row;
+use crate::tree::Tree;
+use crate::words::{Template, Words};
+
+const RANGE: &str = "
+-- what is read back once it is written
+abbrev pub $module$-range : Range $name$-Value
+$module$-range =
+    $whole_range$
+
+pub $module$-returned : Grounds → Returned $module$-shape $module$-range
+$module$-returned g =
+    $whole_returned$
+";
+
+// The same where records that are left are charged for their reading, too.
+const RANGE_AT: &str = "
+-- what each record is charged that is left, an entry where it has a key and a value
+abbrev pub $module$-left-charge : ℕ → Payload → Charge
+$module$-left-charge = $left_charge$
+
+-- what is read back once it is written, with its unknown fields, for what each of them is charged
+abbrev pub $module$-range-at : (ℕ → Payload → Charge) → Range $name$-Value
+$module$-range-at charge_of =
+    $whole_range$
+
+abbrev pub $module$-range : Range $name$-Value
+$module$-range = $module$-range-at $module$-left-charge
+
+pub $module$-returned-at : Grounds → (charge_of : ℕ → Payload → Charge)
+    → Returned $module$-shape ($module$-range-at charge_of)
+$module$-returned-at g =
+    $whole_returned$
+
+pub $module$-returned : Grounds → Returned $module$-shape $module$-range
+$module$-returned g = $module$-returned-at g $module$-left-charge
+";
+
+const USES_OF_RANGE: &str = "\
+Rattle.wire_fields.specs.Grounds Grounds
+Rattle.wire_fields.specs.Ranges Range
+Rattle.wire_fields.specs.Returned Returned
+";
+
+const USES_OF_KNOWN: &str = "\
+Rattle.std.proofs.Common arith
+Rattle.std.proofs.Common refl
+Rattle.wire_fields.specs.Ranges pair_range
+";
+
+// What puts the proofs of fields together, and where that stands.
+const OF_RETURNED: [(&str, &str); 4] = [
+    ("known_returned", "Returned"),
+    ("two_returned", "Returned"),
+    ("none_returned", "LeavingBack"),
+    ("both_returned", "LeavingBack"),
+];
+
+// Of a message that keeps other fields, and of one that drops them, with fields and without.
+const KEPT_RANGE: [Template; 3] = [
+    (
+        "whole_range",
+        "pair_range ($range$)\n    (others_range $module$-known.owns)",
+    ),
+    ("whole_returned", "whole_returned g\n    ($returned$)"),
+    (
+        "uses",
+        "Rattle.wire_fields.specs.Ranges others_range\n\
+        Rattle.wire_fields.specs.Returned whole_returned\n",
+    ),
+];
+
+const LEAVING_RANGE: [Template; 3] = [
+    (
+        "whole_range",
+        "pair_range ($range$)\n    (left_range $module$-known)",
+    ),
+    (
+        "whole_returned",
+        "with_unknown_returned g $module$-known _\n    ($returned$)",
+    ),
+    (
+        "uses",
+        "Rattle.wire_fields.specs.LeavingBack left_range\n\
+        Rattle.wire_fields.specs.LeavingBack with_unknown_returned\n",
+    ),
+];
+
+const CHARGED_RANGE: [Template; 3] = [
+    (
+        "whole_range",
+        "pair_range ($range$)\n    (charged_range $module$-known charge_of)",
+    ),
+    (
+        "whole_returned",
+        "charged_returned g $module$-known _\n    ($returned$)",
+    ),
+    (
+        "uses",
+        "Rattle.std.specs.Prelude ℕ\n\
+        Rattle.wire_codec.specs.Charge payload_charge\n\
+        Rattle.wire_codec.specs.Field Payload\n\
+        Rattle.wire_codec.specs.Limits Charge\n\
+        Rattle.wire_fields.specs.ClosedMapsBack entries_left\n\
+        Rattle.wire_fields.specs.LeavingBack charged_range\n\
+        Rattle.wire_fields.specs.LeavingBack charged_returned\n",
+    ),
+];
+
+const DROPPED_RANGE: [Template; 3] = [
+    ("whole_range", "pair_range ($range$)\n    dropped_range"),
+    ("whole_returned", "dropping_returned g\n    ($returned$)"),
+    (
+        "uses",
+        "Rattle.wire_fields.specs.Ranges dropped_range\n\
+        Rattle.wire_fields.specs.Returned dropping_returned\n",
+    ),
+];
+
+const EMPTY_RANGE: [Template; 3] = [
+    ("whole_range", "unknown_range"),
+    ("whole_returned", "unknown_returned g"),
+    (
+        "uses",
+        "Rattle.wire_fields.specs.Ranges unknown_range\n\
+        Rattle.wire_fields.specs.Returned unknown_returned\n",
+    ),
+];
+
+const EMPTY_DROPPED_RANGE: [Template; 3] = [
+    ("whole_range", "dropped_range"),
+    ("whole_returned", "nothing_returned"),
+    (
+        "uses",
+        "Rattle.wire_fields.specs.Ranges dropped_range\n\
+        Rattle.wire_fields.specs.Returned nothing_returned\n",
+    ),
+];
+
+/// The page on what is read back, of a message with these fields.
+pub(crate) fn range_of(fields: &[Field]) -> &'static str {
+    if leaves_entries(fields) {
+        RANGE_AT
+    } else {
+        RANGE
+    }
+}
+
+/// Which values of the fields are read back, and why: the `range` of their tree, and `returned`.
+pub(crate) fn put_returned(page: &mut Words, fields: &[Field], tree: &Tree) {
+    page.copy(&tree.words, &["range", "returned", "apart"]);
+    page.append("uses", USES_OF_RANGE);
+    if !fields.is_empty() {
+        page.append("uses", USES_OF_KNOWN);
+    }
+    for field in fields {
+        if !is_row(field) {
+            page.copy(&field.words, &["returned_uses"]);
+            page.append("uses", "$returned_uses$");
+        }
+    }
+    for (name, module) in &OF_RETURNED {
+        if page.get("returned").contains(name) {
+            page.set("of", module);
+            page.set("import", name);
+            page.append("uses", "Rattle.wire_fields.specs.$of$ $import$\n");
+        }
+    }
+    if page.get("returned").contains("elim h") {
+        page.append(
+            "uses",
+            "Rattle.std.proofs.Common inl\nRattle.std.proofs.Common inr\n",
+        );
+    }
+}
+
+/// What is read back of the message.
+pub(crate) fn put_range(page: &mut Words, fields: &[Field], tree: &Tree, is_kept: bool) {
+    put_returned(page, fields, tree);
+    put_left_charge(page, fields);
+    let is_leaving = page.get("part") == "Leaving";
+    page.append_all(match (fields.is_empty(), is_kept) {
+        _ if leaves_entries(fields) => &CHARGED_RANGE,
+        _ if is_leaving => &LEAVING_RANGE,
+        (false, true) => &KEPT_RANGE,
+        (false, false) => &DROPPED_RANGE,
+        (true, true) => &EMPTY_RANGE,
+        (true, false) => &EMPTY_DROPPED_RANGE,
+    });
+}
+
+// What each record is charged that is left.
+fn put_left_charge(page: &mut Words, fields: &[Field]) {
+    page.set("left_charge", "λ n p. payload_charge p");
+    for field in fields {
+        page.copy(&field.words, &["left"]);
+        let is_of_entries = !page.get("left").is_empty();
+        page.fill(
+            "left_charge",
+            if is_of_entries {
+                "$left$ ($left_charge$)"
+            } else {
+                "$left_charge$"
+            },
+        );
+    }
+}
