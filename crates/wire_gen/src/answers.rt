@@ -130,7 +130,7 @@ returns-in_default-clause-err g c =
       z.1,
       (from_last $module$-known.owns $module$-known.takes keeps_beside n
           (λ p. $unlike$)
-          _ z charge p h).0,
+          ($module$-value c.args.self.now) z charge p h).0,
     ))
     _ _ _ c.keep.result c.keep.ensures.err
 ";
@@ -147,6 +147,7 @@ Rattle.wire_fields.specs.Dropped drops
 ";
 
 const USES_OF_BESIDE: &str = "\
+Rattle.$crate$.specs.$name$ $module$-value
 Rattle.wire_fields.specs.Shape keeps
 Rattle.std.proofs.Common refl
 Rattle.wire_fields.specs.Arms from_last

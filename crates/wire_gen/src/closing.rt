@@ -168,7 +168,7 @@ const CLOSING: [Template; 5] = [
     (
         "returned",
         "closing_returned g $of_module$-number $of_module$-of $next$\n    \
-        $word$-of-$module$-from _ _\n    ($returned$)\n    ($word$-of-$module$-apart g)",
+        $word$-of-$module$-from _ _\n    ($returned$)\n    ($word$-of-$module$-apart$charges$ g)",
     ),
     ("table", "$holder$-$field$-kind"),
     ("step", "$holder$-$field$-kind.takes"),

@@ -4,7 +4,7 @@ use crate::error::GenerateError;
 use crate::field::Field;
 use crate::imports::definition_imports;
 use crate::laws_pages::has_laws;
-use crate::returned::{put_range, range_of};
+use crate::returned::{put_range, put_range_page};
 use crate::schema::MessageType;
 use crate::tree::Tree;
 use crate::words::{Template, Words};
@@ -116,8 +116,8 @@ $module$-$field$-kind = $definition$
 
 ";
 
-/// Which values of a field are read back.
-pub(crate) const FIELD_RANGE: &str = "\
+// Which values of a field are read back.
+const FIELD_RANGE: &str = "\
 abbrev pub $module$-$field$-range : Range $bracketed$
 $module$-$field$-range =
     $own_range$
@@ -156,8 +156,9 @@ pub(crate) fn definitions_of(
         if field.oneof.is_none() || page.get("sort") == "Leaving" {
             let is_lawful = page.get("sort") == "Lawful";
             page.append("kinds", KIND);
-            let has_range = is_read_back && field.oneof.is_none();
-            page.append("kinds", if has_range { FIELD_RANGE } else { "" });
+            if is_read_back && field.oneof.is_none() {
+                put_field_range(&mut page);
+            }
             page.append("uses", if is_lawful { USES_OF_LAWFUL } else { "" });
         }
     }
@@ -194,9 +195,19 @@ pub(crate) fn definitions_of(
         &[("text", "$values$"), ("text", VALUE), ("text", SHAPE)]
     });
     if is_read_back {
-        page.append("text", range_of(fields));
+        put_range_page(&mut page, fields);
     }
     page.finish("text")
+}
+
+/// Puts which values of a field are read back among the kinds, or where that follows from what
+/// records are charged.
+pub(crate) fn put_field_range(page: &mut Words) {
+    if page.get("charged").is_empty() {
+        page.append("kinds", FIELD_RANGE);
+    } else {
+        page.append("ranges", FIELD_RANGE);
+    }
 }
 
 // The words of a part of the tree, or of its root.

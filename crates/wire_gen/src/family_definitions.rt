@@ -3,6 +3,7 @@ use crate::error::GenerateError;
 use crate::imports::definition_imports;
 use crate::laws_pages::has_laws;
 use crate::recursive_definitions::ALIASES;
+use crate::returned::under_charges;
 use crate::words::{Template, Words};
 
 const USES: &str = "\
@@ -296,7 +297,14 @@ pub(crate) fn family_definitions(base: &Words, members: &[Words]) -> Result<Stri
     definition_imports(&mut page);
     page.fill("aliases", MORE_ALIASES);
     page.append("aliases", ALIASES);
-    page.append("backs", if is_read_back { BACK } else { "" });
+    if is_read_back {
+        page.append("backs", BACK);
+        let backs = page.take("backs");
+        let (_, ranges) = backs.split_once('\n').unwrap_or(("", ""));
+        page.set("ranges", ranges);
+        under_charges(&mut page);
+        page.fill("backs", "\n$ranges$");
+    }
     page.fill("text", TEXT);
     page.finish("text")
 }

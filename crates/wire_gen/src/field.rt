@@ -56,7 +56,10 @@ pub(crate) fn fields_of(
             match field.oneof_index {
                 Some(index) if !field.proto3_optional => {
                     let variant = variant_of(words, schema, features, field)?;
-                    add_variant(base, message, index, variant, &mut fields)?;
+                    if is_new(&fields, index) {
+                        fields.push(oneof_of(base, schema, message, index)?)?;
+                    }
+                    add_variant(index, variant, &mut fields)?;
                 }
                 _ => fields.push(field_of(words, schema, features, field)?)?,
             }
@@ -129,7 +132,7 @@ pub(crate) fn started(
     field: &FieldDescriptorProto,
 ) -> Result<Words, GenerateError> {
     let mut words = Words::like(base);
-    words.copy(message, &["full", "name", "module"]);
+    words.copy(message, &["full", "name", "module", "member"]);
     words.set("proto", &field.name);
     words.set("field", &word_name(base.alloc(), &field.name)?);
     words.number("number", field.number);
@@ -225,40 +228,53 @@ fn variant_of(
     Ok(words)
 }
 
-// Puts a field into its oneof, which stands where its first field does.
-fn add_variant(
+// Whether there is no oneof of this index.
+fn is_new(fields: &[Field], index: i32) -> bool {
+    !fields.iter().any(|it| match &it.oneof {
+        Some(oneof) => oneof.index == index,
+        None => false,
+    })
+}
+
+// A oneof without fields, which stands where its first field does.
+fn oneof_of(
     base: &Words,
+    schema: &Schema,
     message: &MessageType,
     index: i32,
-    mut variant: Words,
-    fields: &mut Vec<Field>,
-) -> Result<(), GenerateError> {
-    for field in fields.iter_mut() {
+) -> Result<Field, GenerateError> {
+    let mut words = oneof_words(base, message, index)?;
+    let mut own = message.descriptor.field.iter();
+    if own.any(|it| it.oneof_index == Some(index) && schema.is_charged(it)) {
+        words.fill_all(&CHARGED_ONEOF);
+    }
+    let mut of = Words::like(base);
+    of.copy(&words, &["full", "name", "module", "place", "charged"]);
+    Ok(Field {
+        words,
+        oneof: Some(Oneof {
+            index,
+            words: of,
+            variants: Vec::new(base.alloc()),
+        }),
+    })
+}
+
+// Puts a field into its oneof.
+fn add_variant(index: i32, mut variant: Words, fields: &mut [Field]) -> Result<(), GenerateError> {
+    for field in fields {
         if let Some(oneof) = &mut field.oneof {
             if oneof.index == index {
                 tell_apart(&mut variant, &oneof.words);
+                if oneof.variants.is_empty() {
+                    field.words.set("number", variant.get("number"));
+                }
                 put_number(&mut field.words, &variant);
                 oneof.variants.push(variant)?;
                 return Ok(());
             }
         }
     }
-    let mut words = oneof_words(base, message, index)?;
-    tell_apart(&mut variant, &words);
-    words.set("number", variant.get("number"));
-    put_number(&mut words, &variant);
-    let mut of = Words::like(base);
-    of.copy(&words, &["full", "name", "module", "place"]);
-    let mut variants = Vec::new(base.alloc());
-    variants.push(variant)?;
-    fields.push(Field {
-        words,
-        oneof: Some(Oneof {
-            index,
-            words: of,
-            variants,
-        }),
-    })?;
     Ok(())
 }
 
@@ -324,6 +340,14 @@ const ONEOF: [Template; 16] = [
         "definitions",
         "$specs$ $name$-Value\n$specs$ $module$-of\n$specs$ $module$-shape\n",
     ),
+];
+
+// One that holds a message of which what is read back follows from what its records are charged.
+const CHARGED_ONEOF: [Template; 4] = [
+    ("charged", "charged"),
+    ("charges", " charges"),
+    ("range", "$module$-range charges"),
+    ("returned", "$module$-returned charges g"),
 ];
 
 // The words of a oneof, as a type and as a field.

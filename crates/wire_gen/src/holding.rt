@@ -20,9 +20,30 @@ impl Schema {
         for (message, family) in self.messages.iter_mut().zip(families) {
             message.family = family;
         }
+        self.number_members()?;
         for (holder, held) in held {
             if let Some(message) = self.messages.get_mut(holder) {
                 message.is_recursive |= holder == held;
+            }
+        }
+        Ok(())
+    }
+
+    // Tells each type of a family its place there, by their modules.
+    fn number_members(&mut self) -> Result<(), GenerateError> {
+        let mut places = Vec::new(self.alloc);
+        for message in &self.messages {
+            let module = message.words.get("module");
+            let family = self
+                .messages
+                .iter()
+                .filter(|it| it.family == message.family);
+            places.push(family.filter(|it| it.words.get("module") < module).count())?;
+        }
+        for (message, place) in self.messages.iter_mut().zip(places) {
+            if message.family.is_some() {
+                message.words.index("index", place);
+                message.words.fill("member", "$index$ ∷ ");
             }
         }
         Ok(())
@@ -111,6 +132,45 @@ impl Schema {
             message.is_twin = flag;
         }
         Ok(())
+    }
+
+    /// Which types leave entries of maps to their unknown fields, or hold such a type: what is read
+    /// back of these follows from what such a record is charged.
+    pub(crate) fn find_charged(&mut self) -> Result<(), GenerateError> {
+        let mut flags = self.flags(true)?;
+        for (message, flag) in self.messages.iter().zip(flags.iter_mut()) {
+            *flag = !message
+                .descriptor
+                .field
+                .iter()
+                .any(|it| self.leaves_entries(it));
+        }
+        self.spread(&mut flags)?;
+        for (message, flag) in self.messages.iter_mut().zip(flags) {
+            message
+                .words
+                .set("charged", if flag { "" } else { "charged" });
+        }
+        Ok(())
+    }
+
+    // Whether a field is a map with the values of a closed enum.
+    fn leaves_entries(&self, field: &FieldDescriptorProto) -> bool {
+        match self.entry(&field.type_name) {
+            Some(_) => match self.enum_of(self.held(field)) {
+                Some(of_enum) => of_enum.origin.features.is_closed(),
+                None => false,
+            },
+            None => false,
+        }
+    }
+
+    /// Whether a field holds a message that follows from what is charged.
+    pub(crate) fn is_charged(&self, field: &FieldDescriptorProto) -> bool {
+        match self.message(self.held(field)) {
+            Some(message) => !message.words.get("charged").is_empty(),
+            None => false,
+        }
     }
 
     // Takes the flag from what holds a message without one.

@@ -305,9 +305,26 @@ fn set_enum(
     Ok(Sort::Number)
 }
 
+// Of a message of which what is read back follows from what its records are charged.
+const CHARGED: [Template; 3] = [
+    (
+        "item_range",
+        "($of_module$-range (λ path. charges ($member$$number$ ∷ path)))",
+    ),
+    (
+        "item_back",
+        "($of_module$-returned (λ path. charges ($member$$number$ ∷ path)) g)",
+    ),
+    ("range_uses", "$range_uses$Rattle.std.specs.Prelude ◌∷◌\n"),
+];
+
 fn set_message(message: &MessageType, is_group: bool, words: &mut Words) -> Sort {
     set_names(&message.words, words);
     words.fill_all(&MESSAGE);
+    if !message.words.get("charged").is_empty() {
+        words.set("charged", "charged");
+        words.fill_all(&CHARGED);
+    }
     words.append_all(&OF_MESSAGE);
     if is_group {
         words.set("wire_type", "StartGroup");

@@ -169,8 +169,8 @@ const OF_KEEPING_ONEOF: [Template; 4] = [
 const KEEPING_ONEOF: [Template; 6] = [
     (
         "returned",
-        "leaving_back ($own$) $module$-shape $module$-range\n    \
-        ($module$-returned g) ($module$-owned g)",
+        "leaving_back ($own$) $module$-shape ($range$)\n    \
+        ($module$-returned$charges$ g) ($module$-owned$charges$ g)",
     ),
     ("definition", "leaving_other ($own$) $module$-shape"),
     ("table", "$holder$-$field$-kind"),

@@ -35,39 +35,33 @@ pub fn $module$_reads_back()
 }
 ";
 
-/// The same where records that are left are charged for their reading, too.
-pub(crate) const LAW_AT: &str = "
+/// The same where it follows from what records are charged that are left.
+pub(crate) const CHARGED_LAW: &str = "
 /// What is written of a `$name$` in range decodes to it, with its unknown fields, whatever each of
 /// them is charged, where the limits suffice.
 pub fn $module$_reads_back()
-    ensures { (charge_of : ℕ → Payload → Charge)
-        → ReadsBack $module$-shape ($module$-range-at charge_of) }
+    ensures { (charges : List ℕ → ℕ → Payload → Charge)
+        → ReadsBack $module$-shape ($module$-range charges) }
 {
     grounds();
     text_decodes::<crate::$name$>();
 }
 ";
 
-pub(crate) const LAW_AT_USES: &str = "\
-ghost use Rattle.$crate$.specs.$name$.{$module$-range-at};
-ghost use Rattle.$crate$.specs.$name$.{$module$-shape};
-";
-
 pub(crate) const CHARGE_USES: &str = "\
-ghost use Rattle.std.specs.Prelude.{ℕ};
+ghost use Rattle.std.specs.Prelude.{ℕ, List};
 ghost use Rattle.wire_codec.specs.Field.{Payload};
 ghost use Rattle.wire_codec.specs.Limits.{Charge};
 ";
 
-pub(crate) const LAW_AT_ANSWERS: &str = "\
-use Rattle.$crate$.specs.$name$.{$module$-returned-at}
+pub(crate) const CHARGED_LAW_ANSWERS: &str = "\
+use Rattle.$crate$.specs.$name$.{$module$-returned}
 use Rattle.wire_fields.specs.Returned.{reads_back}
 use Rattle.$crate$.proofs.laws.$module$_reads_back.Goals as goal
 
 pub returns : goal.returns
 returns c =
-    λ charge_of. reads_back ($module$-returned-at c.grounds.ensures charge_of)
-    c.text_decodes.ensures
+    λ charges. reads_back ($module$-returned charges c.grounds.ensures) c.text_decodes.ensures
 ";
 
 pub(crate) const LAW_ANSWERS: &str = "\

@@ -2,6 +2,7 @@
 use crate::error::GenerateError;
 use crate::imports::definition_imports;
 use crate::laws_pages::has_laws;
+use crate::returned::{under_charges, use_charges};
 use crate::words::Words;
 
 /// What the definitions of one of them bring in.
@@ -13,7 +14,7 @@ Rattle.$crate$.specs.declared.$module$.$name$ fold_out-$name$
 ";
 
 /// What is read back of one of them.
-pub(crate) const MEMBER_RANGE: &str = "
+pub(crate) const MEMBER_RANGE: &str = "\
 -- what is read back once it is written
 abbrev pub $module$-range-of-known : Range $name$-Known
 $module$-range-of-known =
@@ -67,12 +68,12 @@ abbrev pub $module$-shape : Shape $name$-Value
 $module$-shape = family.family-shapes family.$name$-Sort
 $back$";
 
-const FACE_OF_BACK: &str = "
+const FACE_OF_BACK: &str = "\
 abbrev pub $module$-range : Range $name$-Value
-$module$-range = family.family-ranges family.$name$-Sort
+$module$-range = family.family-ranges$charges$ family.$name$-Sort
 
 pub $module$-returned : Grounds → Returned $module$-shape $module$-range
-$module$-returned g = family.family-returned g family.$name$-Sort
+$module$-returned g = family.family-returned$charges$ g family.$name$-Sort
 ";
 
 const FACE_USES: &str = "\
@@ -91,8 +92,15 @@ pub(crate) fn member_definitions(base: &Words) -> Result<String, GenerateError> 
     let mut page = Words::like(base);
     let is_read_back = has_laws(base);
     page.fill("uses", FACE_USES);
-    page.append("uses", if is_read_back { FACE_USES_OF_BACK } else { "" });
-    page.fill("back", if is_read_back { FACE_OF_BACK } else { "" });
+    if is_read_back {
+        let is_charged = !page.get("charged").is_empty();
+        page.set("charges", if is_charged { " charges" } else { "" });
+        page.append("uses", FACE_USES_OF_BACK);
+        use_charges(&mut page);
+        page.fill("ranges", FACE_OF_BACK);
+        under_charges(&mut page);
+        page.fill("back", "\n$ranges$");
+    }
     definition_imports(&mut page);
     page.fill("text", FACE);
     page.finish("text")

@@ -5,6 +5,7 @@ use crate::field::{Oneof, put_apart};
 use crate::imports::definition_imports;
 use crate::keeping::put_owned;
 use crate::laws_pages::has_laws;
+use crate::returned::{under_charges, use_charges};
 use crate::words::{Template, Words};
 
 const USES: &str = "\
@@ -58,14 +59,14 @@ $module$-kind = record {
 }
 ";
 
-const RANGE: &str = "
+const RANGE: &str = "\
 -- what is read back once it is written
 abbrev pub $module$-holds : $name$-Value → Type 0
 $module$-holds None = Unit {0}
 $holds$
 abbrev pub $module$-charge : $name$-Value → Charge
 $module$-charge None = no_charge
-$charges$
+$of_charges$
 abbrev pub $module$-range : Range $name$-Value
 $module$-range = record { Holds = $module$-holds; charge_of = $module$-charge }
 
@@ -116,7 +117,7 @@ const OF_RETURNED: [Template; 5] = [
         "$module$-holds (Some $one$) =\n    $always_range$.Holds x\n",
     ),
     (
-        "charges",
+        "of_charges",
         "$module$-charge (Some $one$) =\n    $always_range$.charge_of x\n",
     ),
     (
@@ -239,6 +240,7 @@ pub(crate) fn oneof_definitions(base: &Words, oneof: &Oneof) -> Result<String, G
     }
     if is_read_back {
         page.append("uses", USES_OF_RANGE);
+        use_charges(&mut page);
     }
     if last > 0 {
         page.append("uses", USES_OF_MANY);
@@ -255,10 +257,10 @@ pub(crate) fn oneof_definitions(base: &Words, oneof: &Oneof) -> Result<String, G
     }
     page.append("text", SHAPE);
     if is_read_back {
-        page.append_all(&[
-            ("text", RANGE),
-            ("text", "$apart_variants$$owned_variants$"),
-        ]);
+        page.fill("ranges", RANGE);
+        page.append("ranges", "$apart_variants$$owned_variants$");
+        under_charges(&mut page);
+        page.append("text", "\n$ranges$");
     }
     page.finish("text")
 }

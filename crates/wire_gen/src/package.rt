@@ -11,8 +11,7 @@ use crate::family_definitions::{family_definitions, held_answers};
 use crate::features::{FIRST_EDITION, LAST_EDITION};
 use crate::field::{Field, Oneof, fields_of};
 use crate::laws_pages::{
-    CHARGE_USES, LAW, LAW_ANSWERS, LAW_AT, LAW_AT_ANSWERS, LAW_AT_USES, LAW_USES, LAWS, has_laws,
-    leaves_entries,
+    CHARGE_USES, CHARGED_LAW, CHARGED_LAW_ANSWERS, LAW, LAW_ANSWERS, LAW_USES, LAWS, has_laws,
 };
 use crate::member_definitions::{MEMBER_MERGE, member_definitions};
 use crate::names::order_key;
@@ -133,7 +132,7 @@ impl Package {
     // The words of the crate, and those of a type.
     fn page(&self, of: &Words) -> Words {
         let mut page = Words::like(&self.base);
-        page.copy(of, &["full", "name", "module", "place"]);
+        page.copy(of, &["full", "name", "module", "place", "charged"]);
         page
     }
 
@@ -162,7 +161,7 @@ impl Package {
         let answers = answers_of(&page, &fields, &tree, false)?;
         self.add_type(&mut page, code, definitions)?;
         if has_laws(&self.base) {
-            self.add_law(&mut page, leaves_entries(&fields))?;
+            self.add_law(&mut page)?;
         }
         for field in &fields {
             if let Some(oneof) = &field.oneof {
@@ -204,7 +203,7 @@ impl Package {
         let answers = answers_of(&page, &leaf, &tree, true)?;
         self.add_type(&mut page, code, definitions)?;
         if has_laws(&self.base) {
-            self.add_law(&mut page, false)?;
+            self.add_law(&mut page)?;
         }
         for field in &leaf {
             if let Some(oneof) = &field.oneof {
@@ -232,6 +231,9 @@ impl Package {
         let mut tables = Vec::new(self.base.alloc());
         let mut page = Words::like(&self.base);
         let members = set_family(&mut page, schema, first)?;
+        if let Some(message) = schema.messages.get(first) {
+            page.copy(&message.words, &["charged"]);
+        }
         for member in &members {
             let messages = schema.messages.iter();
             for message in messages.filter(|it| it.words.get("name") == member.get("name")) {
@@ -329,20 +331,19 @@ impl Package {
     }
 
     // A law, and its proof.
-    fn add_law(&mut self, page: &mut Words, has_charges: bool) -> Result<(), GenerateError> {
+    fn add_law(&mut self, page: &mut Words) -> Result<(), GenerateError> {
+        let is_charged = !page.get("charged").is_empty();
         self.roots.copy(page, &["name", "module"]);
-        if has_charges {
+        self.roots.append("law_uses", LAW_USES);
+        if is_charged {
             self.roots.fill("charge_uses", CHARGE_USES);
-            self.roots
-                .append_all(&[("law_uses", LAW_AT_USES), ("laws", LAW_AT)]);
-        } else {
-            self.roots
-                .append_all(&[("law_uses", LAW_USES), ("laws", LAW)]);
         }
+        self.roots
+            .append("laws", if is_charged { CHARGED_LAW } else { LAW });
         page.fill(
             "answers",
-            if has_charges {
-                LAW_AT_ANSWERS
+            if is_charged {
+                CHARGED_LAW_ANSWERS
             } else {
                 LAW_ANSWERS
             },

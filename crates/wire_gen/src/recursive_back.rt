@@ -1,7 +1,7 @@
 //! What is read back of a message that holds itself.
 use crate::field::Field;
 use crate::member_definitions::MEMBER_RANGE;
-use crate::returned::put_returned;
+use crate::returned::{put_returned, under_charges};
 use crate::rows::is_row;
 use crate::tree::Tree;
 use crate::words::{Template, Words};
@@ -23,7 +23,7 @@ Rattle.wire_fields.specs.NestRange nest_range
 Rattle.wire_fields.specs.NestRange runs_from
 ";
 
-const RANGE: &str = "
+const RANGE: &str = "\
 -- what is read back once it is written
 abbrev pub $module$-range-of-known : Range $name$-Known
 $module$-range-of-known =
@@ -105,7 +105,11 @@ pub(crate) fn put_back(page: &mut Words, fields: &[Field], tree: &Tree) {
     page.append("run_pieces", "$run_ends$");
     put_returned(page, fields, tree);
     let is_member = !page.get("family_name").is_empty();
-    page.append("back", if is_member { MEMBER_RANGE } else { RANGE });
+    page.append("ranges", if is_member { MEMBER_RANGE } else { RANGE });
+    if !is_member {
+        under_charges(page);
+    }
+    page.append("back", "\n$ranges$");
 }
 
 // Puts the records of a field behind those of the run so far.

@@ -1,5 +1,5 @@
 //! The definitions and the proofs of a message type that holds itself.
-use crate::definitions::FIELD_RANGE;
+use crate::definitions::put_field_range;
 use crate::error::GenerateError;
 use crate::field::Field;
 use crate::imports::definition_imports;
@@ -181,7 +181,9 @@ pub(crate) fn table_page(base: &Words, fields: &[Field], tree: &Tree) -> Words {
             if field.oneof.is_none() {
                 page.copy(&field.words, &["own_range"]);
                 page.append("kinds", KIND);
-                page.append("kinds", if is_read_back { FIELD_RANGE } else { "" });
+                if is_read_back {
+                    put_field_range(&mut page);
+                }
             }
             put_in_run(&mut page, "($table$).records l.0$path$");
         }

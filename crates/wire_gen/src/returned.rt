@@ -5,7 +5,7 @@ use crate::rows::is_row;
 use crate::tree::Tree;
 use crate::words::{Template, Words};
 
-const RANGE: &str = "
+const RANGE: &str = "\
 -- what is read back once it is written
 abbrev pub $module$-range : Range $name$-Value
 $module$-range =
@@ -16,27 +16,25 @@ $module$-returned g =
     $whole_returned$
 ";
 
-// The same where records that are left are charged for their reading, too.
-const RANGE_AT: &str = "
--- what each record is charged that is left, an entry where it has a key and a value
+// Of a message that leaves entries itself.
+const LEFT_CHARGE: &str = "
+-- what each record is charged that is left, an entry where it has a key, a value and no group
 abbrev pub $module$-left-charge : ℕ → Payload → Charge
 $module$-left-charge = $left_charge$
+";
 
--- what is read back once it is written, with its unknown fields, for what each of them is charged
-abbrev pub $module$-range-at : (ℕ → Payload → Charge) → Range $name$-Value
-$module$-range-at charge_of =
-    $whole_range$
+// Where it follows from what the records are charged that are left.
+const CHARGED: &str = "\
+-- for what each record is charged that is left, an entry of a map for its reading too: by the
+-- numbers of the fields that its message stands in, by its own number and by its payload
+module _ (charges : List ℕ → ℕ → Payload → Charge) where
+$ranges$";
 
-abbrev pub $module$-range : Range $name$-Value
-$module$-range = $module$-range-at $module$-left-charge
-
-pub $module$-returned-at : Grounds → (charge_of : ℕ → Payload → Charge)
-    → Returned $module$-shape ($module$-range-at charge_of)
-$module$-returned-at g =
-    $whole_returned$
-
-pub $module$-returned : Grounds → Returned $module$-shape $module$-range
-$module$-returned g = $module$-returned-at g $module$-left-charge
+const USES_OF_CHARGED: &str = "\
+Rattle.std.specs.Prelude List
+Rattle.std.specs.Prelude ℕ
+Rattle.wire_codec.specs.Field Payload
+Rattle.wire_codec.specs.Limits Charge
 ";
 
 const USES_OF_RANGE: &str = "\
@@ -92,18 +90,16 @@ const LEAVING_RANGE: [Template; 3] = [
 const CHARGED_RANGE: [Template; 3] = [
     (
         "whole_range",
-        "pair_range ($range$)\n    (charged_range $module$-known charge_of)",
+        "pair_range ($range$)\n    (charged_range $module$-known (charges []))",
     ),
     (
         "whole_returned",
-        "charged_returned g $module$-known _\n    ($returned$)",
+        "charged_returned g $module$-known _\n    ($returned$)\n    (charges [])",
     ),
     (
         "uses",
-        "Rattle.std.specs.Prelude ℕ\n\
+        "Rattle.std.specs.Prelude []\n\
         Rattle.wire_codec.specs.Charge payload_charge\n\
-        Rattle.wire_codec.specs.Field Payload\n\
-        Rattle.wire_codec.specs.Limits Charge\n\
         Rattle.wire_fields.specs.ClosedMapsBack entries_left\n\
         Rattle.wire_fields.specs.LeavingBack charged_range\n\
         Rattle.wire_fields.specs.LeavingBack charged_returned\n",
@@ -140,12 +136,28 @@ const EMPTY_DROPPED_RANGE: [Template; 3] = [
     ),
 ];
 
-/// The page on what is read back, of a message with these fields.
-pub(crate) fn range_of(fields: &[Field]) -> &'static str {
+/// Puts what is read back of a message behind the text of its page.
+pub(crate) fn put_range_page(page: &mut Words, fields: &[Field]) {
     if leaves_entries(fields) {
-        RANGE_AT
-    } else {
-        RANGE
+        page.append("text", LEFT_CHARGE);
+    }
+    page.append("ranges", RANGE);
+    under_charges(page);
+    page.append("text", "\n$ranges$");
+}
+
+/// Puts the word `ranges` under what records are charged, where it follows from that.
+pub(crate) fn under_charges(page: &mut Words) {
+    if !page.get("charged").is_empty() {
+        page.indent("ranges");
+        page.fill("ranges", CHARGED);
+    }
+}
+
+/// What that brings in.
+pub(crate) fn use_charges(page: &mut Words) {
+    if !page.get("charged").is_empty() {
+        page.append("uses", USES_OF_CHARGED);
     }
 }
 
@@ -153,6 +165,7 @@ pub(crate) fn range_of(fields: &[Field]) -> &'static str {
 pub(crate) fn put_returned(page: &mut Words, fields: &[Field], tree: &Tree) {
     page.copy(&tree.words, &["range", "returned", "apart"]);
     page.append("uses", USES_OF_RANGE);
+    use_charges(page);
     if !fields.is_empty() {
         page.append("uses", USES_OF_KNOWN);
     }

@@ -24,7 +24,8 @@ pub(crate) struct Origin {
 
 /// A message type. Its words are `full`, its name in schemas, as `.package.Outer.Inner`; `name`,
 /// the one in code, and `module`; `outer`, the names of the types that it stands in and its own;
-/// `home`, its crate; and `place`, its file and the numbers that lead there.
+/// `home`, its crate; `place`, its file and the numbers that lead there; `charged`, where it or what
+/// it holds leaves entries of maps; and `member`, its place in its family, before those of fields.
 #[derive(Drop)]
 pub(crate) struct MessageType {
     pub words: Words,
@@ -103,6 +104,7 @@ impl Schema {
         adapt(base, &mut schema)?;
         schema.find_families()?;
         schema.find_twins()?;
+        schema.find_charged()?;
         Ok(schema)
     }
 

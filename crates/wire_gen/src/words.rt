@@ -132,7 +132,13 @@ impl Words {
         let mut moved = String::new(self.alloc);
         let mut is_first = true;
         for line in text.split('\n') {
-            self.push(if is_first { first } else { "\n  " }, &mut moved);
+            let margin = match (is_first, line.is_empty()) {
+                (true, true) => "",
+                (true, false) => first,
+                (false, true) => "\n",
+                (false, false) => "\n  ",
+            };
+            self.push(margin, &mut moved);
             self.push(line, &mut moved);
             is_first = false;
         }
