@@ -1,9 +1,7 @@
 //! The proofs of a message type: why a record that a field refuses is refused by the message.
-use crate::error::GenerateError;
-use crate::field::Field;
 use crate::imports::definition_imports;
 use crate::tree::Tree;
-use crate::words::{Template, Words};
+use wire_schema::{Field, GenerateError, Template, Words};
 
 const USES: &str = "\
 Rattle.std.proofs.Common rules
@@ -192,6 +190,21 @@ pub(crate) fn answers_of(
 ) -> Result<String, GenerateError> {
     let mut page = Words::like(base);
     page.copy(&tree.words, &["unlike"]);
+    put_whole(&mut page, is_recursive);
+    for field in fields {
+        put_field(&mut page, field);
+    }
+    put_rest(&mut page, fields);
+    definition_imports(&mut page);
+    let is_member = !page.get("family_name").is_empty();
+    page.append("imports", if is_member { FAMILY } else { "" });
+    page.fill("text", HEAD);
+    page.append("text", "$answers$$rest$");
+    page.finish("text")
+}
+
+// What the fields are of, and what all answers bring in.
+fn put_whole(page: &mut Words, is_recursive: bool) {
     let is_member = !page.get("family_name").is_empty();
     page.fill_all(if is_member {
         &OF_MEMBER
@@ -205,76 +218,71 @@ pub(crate) fn answers_of(
         if is_member { "$family_name$" } else { "$name$" },
     );
     page.fill("uses", USES);
-    for field in fields {
-        page.copy(
-            &field.words,
-            &["field", "kind", "definition", "specs", "step", "shape"],
-        );
-        page.copy(&field.words, &["path", "firsts", "taken", "sort"]);
-        let is_beside = page.get("sort") == "Leaving";
-        page.fill("seen", if is_beside { BESIDE } else { INSIDE });
-        let (name, template) = if field.oneof.is_none() {
-            OF_KIND
-        } else {
-            OF_ONEOF
-        };
-        let is_of_many = is_beside && field.oneof.is_some();
-        page.append(name, if is_of_many { "" } else { template });
-        let mut types = field.words.get("all_own").split(' ');
-        let mut calls = field.words.get("all_calls").split(' ');
-        let mut steps = field.words.get("all_steps").split(' ');
-        for number in field.words.get("numbers").split(' ') {
-            page.set("number", number);
-            page.set("call", field.words.get("call"));
-            page.set("types", types.next().unwrap_or(""));
-            if is_of_many && page.get("call") == "merge_or_keep" {
-                page.append_all(&OF_KEEPING);
-                page.fill("step", KEEPING_STEP);
-            } else if is_of_many {
-                page.set("call", calls.next().unwrap_or(""));
-                page.set("step", steps.next().unwrap_or(""));
-                put_closing(&mut page);
-            }
-            put_arm(&mut page);
+}
+
+// The answers of the numbers of a field.
+fn put_field(page: &mut Words, field: &Field) {
+    page.copy(
+        &field.words,
+        &["field", "kind", "definition", "specs", "step", "shape"],
+    );
+    page.copy(&field.words, &["path", "firsts", "taken", "sort"]);
+    let is_beside = page.get("sort") == "Leaving";
+    page.fill("seen", if is_beside { BESIDE } else { INSIDE });
+    let (name, template) = if field.oneof.is_none() {
+        OF_KIND
+    } else {
+        OF_ONEOF
+    };
+    let is_of_many = is_beside && field.oneof.is_some();
+    page.append(name, if is_of_many { "" } else { template });
+    let mut types = field.words.get("all_own").split(' ');
+    let mut calls = field.words.get("all_calls").split(' ');
+    let mut steps = field.words.get("all_steps").split(' ');
+    for number in field.words.get("numbers").split(' ') {
+        page.set("number", number);
+        page.set("call", field.words.get("call"));
+        page.set("types", types.next().unwrap_or(""));
+        page.set("own_call", calls.next().unwrap_or(""));
+        page.set("own_step", steps.next().unwrap_or(""));
+        if is_of_many {
+            put_variant(page);
         }
+        put_arm(page);
     }
+}
+
+// One number of a oneof that leaves records to the unknown fields.
+fn put_variant(page: &mut Words) {
+    if page.get("call") == "merge_or_keep" {
+        page.append_all(&OF_KEEPING);
+        page.fill("step", KEEPING_STEP);
+    } else {
+        page.fill_all(&[("call", "$own_call$"), ("step", "$own_step$")]);
+        put_closing(page);
+    }
+}
+
+// The answers of the arm of all other numbers.
+fn put_rest(page: &mut Words, fields: &[Field]) {
     let leaves = fields
         .iter()
         .any(|it| it.words.get("both") == "both_leaving");
     let is_kept = page.get("unknown") == "keep";
-    page.append(
-        "uses",
-        if leaves {
-            USES_OF_BESIDE
-        } else if is_kept {
-            USES_OF_REST
-        } else {
-            USES_OF_DROPPED
-        },
-    );
+    page.fill("rest", "");
+    if leaves {
+        page.append_all(&[("uses", USES_OF_BESIDE), ("rest", REST_BESIDE)]);
+    } else if is_kept {
+        if fields.len() > MANY {
+            page.append_all(&[("uses", USES_OF_REST_TAKEN), ("rest", REST_TAKEN)]);
+        }
+        page.append_all(&[("uses", USES_OF_REST), ("rest", REST)]);
+    } else {
+        page.append_all(&[("uses", USES_OF_DROPPED), ("rest", REST_DROPPED)]);
+    }
     if page.get("unlike").contains("neither") {
         page.append("uses", "Rattle.wire_fields.specs.Arms neither\n");
     }
-    let is_large = fields.len() > MANY && is_kept && !leaves;
-    if is_large {
-        page.append("uses", USES_OF_REST_TAKEN);
-    }
-    definition_imports(&mut page);
-    page.append("imports", if is_member { FAMILY } else { "" });
-    page.fill("text", HEAD);
-    page.append("text", "$answers$");
-    page.append("text", if is_large { REST_TAKEN } else { "" });
-    page.append(
-        "text",
-        if leaves {
-            REST_BESIDE
-        } else if is_kept {
-            REST
-        } else {
-            REST_DROPPED
-        },
-    );
-    page.finish("text")
 }
 
 // Of one number of a oneof that has closed enums: what such a one makes of a record stands beside

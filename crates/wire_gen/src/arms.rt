@@ -1,5 +1,5 @@
 //! The calls of `merge_field`, one for each field number.
-use crate::words::Words;
+use wire_schema::Words;
 
 // The widest line of code, and the widest arguments of a call that stands in one.
 const WIDTH: usize = 100;

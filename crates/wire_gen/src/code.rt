@@ -2,12 +2,9 @@
 use crate::arms::put_arm;
 use crate::comments::put_comment;
 use crate::copies::set_clone;
-use crate::error::GenerateError;
-use crate::field::Field;
 use crate::imports::code_imports;
-use crate::schema::{MessageType, Schema};
 use crate::tree::{Node, Tree};
-use crate::words::{Template, Words};
+use wire_schema::{Field, GenerateError, MessageType, Schema, Template, Words};
 
 const USES: &str = "\
 bytes Buf
@@ -314,19 +311,16 @@ pub(crate) fn put_field(page: &mut Words, schema: &Schema, field: &Words) {
     let mut calls = field.get("all_calls").split(' ');
     for number in field.get("numbers").split(' ') {
         page.set("number", number);
-        let own = types.next().unwrap_or("");
-        page.set(
-            "own_types",
-            if own.is_empty() {
-                field.get("own_types")
-            } else {
-                own
-            },
-        );
-        match calls.next() {
-            None | Some("") => page.set("call", field.get("call")),
-            Some(call) => page.set("call", call),
-        }
+        page.set("own_types", or_else(types.next(), field.get("own_types")));
+        page.set("call", or_else(calls.next(), field.get("call")));
         put_arm(page);
+    }
+}
+
+// The word of one number of a oneof, or that of the whole field.
+fn or_else<'a>(own: Option<&'a str>, field: &'a str) -> &'a str {
+    match own {
+        None | Some("") => field,
+        Some(own) => own,
     }
 }

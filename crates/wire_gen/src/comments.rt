@@ -1,5 +1,5 @@
 //! Comments of a schema as documentation.
-use crate::words::Words;
+use wire_schema::Words;
 
 /// Puts a comment behind the word of this name, behind so many spaces.
 pub(crate) fn put_comment(page: &mut Words, name: &'static str, margin: &str, comment: &str) {

@@ -1,8 +1,7 @@
 //! Copies of a message: a clone, which contracts see as they see its source.
 use crate::code::put_in_braces;
-use crate::field::Field;
 use crate::tree::{Node, Tree};
-use crate::words::{Template, Words};
+use wire_schema::{Field, Template, Words};
 
 const CLONE: &str = "
 impl Clone for $name$ {

@@ -1,13 +1,10 @@
 //! The definitions of a message type.
 use crate::copies::put_copies;
-use crate::error::GenerateError;
-use crate::field::Field;
 use crate::imports::definition_imports;
 use crate::laws_pages::has_laws;
 use crate::returned::{put_range, put_range_page};
-use crate::schema::MessageType;
 use crate::tree::Tree;
-use crate::words::{Template, Words};
+use wire_schema::{Field, GenerateError, MessageType, Template, Words};
 
 const USES: &str = "\
 Rattle.wire_fields.specs.Shape Shape
@@ -140,38 +137,11 @@ pub(crate) fn definitions_of(
     let is_read_back = has_laws(base);
     let mut page = Words::like(base);
     page.fill("uses", USES);
-    let is_kept = page.get("unknown") == "keep";
-    page.append_all(if is_kept { &KEPT } else { &DROPPED });
-    if is_kept {
-        page.fill("uses_of_kept", "Rattle.wire_fields.specs.Shape unknown\n");
-    }
+    put_unknown(&mut page);
     for field in fields {
-        page.copy(
-            &field.words,
-            &["field", "value", "bracketed", "path", "sort"],
-        );
-        page.copy(&field.words, &["definition", "definitions", "own_range"]);
-        page.append_all(&[("uses", "$definitions$"), ("accessors", ACCESSOR)]);
-        page.fill("twice", "Rattle.wire_fields.specs.Shape two\n");
-        if field.oneof.is_none() || page.get("sort") == "Leaving" {
-            let is_lawful = page.get("sort") == "Lawful";
-            page.append("kinds", KIND);
-            if is_read_back && field.oneof.is_none() {
-                put_field_range(&mut page);
-            }
-            page.append("uses", if is_lawful { USES_OF_LAWFUL } else { "" });
-        }
+        put_field(&mut page, field, is_read_back);
     }
-    let leaves = fields
-        .iter()
-        .any(|it| it.words.get("both") == "both_leaving");
-    if leaves {
-        page.append("uses", USES_OF_LEAVING);
-        page.fill_all(&LEAVING);
-    } else {
-        page.append("uses", USES_OF_SHAPE);
-        page.fill_all(&WHOLE);
-    }
+    put_whole(&mut page, fields);
     for part in &tree.parts {
         put_tree(&mut page, &part.words);
         page.append_all(&[("values", PART_VALUE), ("shapes", PART_SHAPE)]);
@@ -185,19 +155,66 @@ pub(crate) fn definitions_of(
         page.append("uses", "Rattle.wire_fields.specs.Leaving both_leaving\n");
     }
     if is_read_back {
-        put_range(&mut page, fields, tree, is_kept);
+        put_range(&mut page, fields, tree);
     }
     definition_imports(&mut page);
+    put_text(&mut page, fields);
+    if is_read_back {
+        put_range_page(&mut page, fields);
+    }
+    page.finish("text")
+}
+
+// What the records come to that the schema lacks.
+fn put_unknown(page: &mut Words) {
+    if page.get("unknown") == "keep" {
+        page.append_all(&KEPT);
+        page.fill("uses_of_kept", "Rattle.wire_fields.specs.Shape unknown\n");
+    } else {
+        page.append_all(&DROPPED);
+    }
+}
+
+// What there is for each field.
+fn put_field(page: &mut Words, field: &Field, is_read_back: bool) {
+    page.copy(
+        &field.words,
+        &["field", "value", "bracketed", "path", "sort"],
+    );
+    page.copy(&field.words, &["definition", "definitions", "own_range"]);
+    page.append_all(&[("uses", "$definitions$"), ("accessors", ACCESSOR)]);
+    page.fill("twice", "Rattle.wire_fields.specs.Shape two\n");
+    if field.oneof.is_none() || page.get("sort") == "Leaving" {
+        let is_lawful = page.get("sort") == "Lawful";
+        page.append("kinds", KIND);
+        if is_read_back && field.oneof.is_none() {
+            put_field_range(page);
+        }
+        page.append("uses", if is_lawful { USES_OF_LAWFUL } else { "" });
+    }
+}
+
+// What the table of all fields is.
+fn put_whole(page: &mut Words, fields: &[Field]) {
+    let leaves = fields
+        .iter()
+        .any(|it| it.words.get("both") == "both_leaving");
+    if leaves {
+        page.append("uses", USES_OF_LEAVING);
+        page.fill_all(&LEAVING);
+    } else {
+        page.append("uses", USES_OF_SHAPE);
+        page.fill_all(&WHOLE);
+    }
+}
+
+fn put_text(page: &mut Words, fields: &[Field]) {
     page.fill("text", HEAD);
     page.append_all(if fields.is_empty() {
         &[("text", EMPTY)]
     } else {
         &[("text", "$values$"), ("text", VALUE), ("text", SHAPE)]
     });
-    if is_read_back {
-        put_range_page(&mut page, fields);
-    }
-    page.finish("text")
 }
 
 /// Puts which values of a field are read back among the kinds, or where that follows from what

@@ -1,10 +1,6 @@
 //! The code and the definitions of an enum.
 use crate::comments::put_comment;
-use crate::error::GenerateError;
 use crate::laws_pages::has_laws;
-use crate::names::{constant_name, value_name};
-use crate::schema::{EnumType, Schema};
-use crate::words::{Template, Words};
 use std::alloc::Global;
 
 const ENUM: &str = "\
@@ -74,6 +70,8 @@ use Rattle.wire_codec.specs.EnumValue.TheVariants.{Known}
 use Rattle.wire_fields.specs.Ranges.{IsClosed}
 ";
 
+use wire_schema::{EnumType, GenerateError, Schema, Template, Words, constant_name, value_name};
+
 const OF_VALUE: [Template; 9] = [
     (
         "closeds",
@@ -115,52 +113,64 @@ pub(crate) fn enum_files(
 ) -> Result<(String, String), GenerateError> {
     let mut page = Words::like(base);
     let values = values_of(base.alloc(), &mut page, of_enum)?;
-    for (index, (value, descriptor)) in values
-        .iter()
-        .zip(of_enum.descriptor.value.iter())
-        .enumerate()
-    {
-        page.set("value", &value.name);
-        page.set("proto", &descriptor.name);
-        page.number("digits", value.number);
-        page.number("below", value.number.saturating_add(1).saturating_neg());
+    let descriptors = of_enum.descriptor.value.iter();
+    for (index, (value, descriptor)) in values.iter().zip(descriptors).enumerate() {
         page.index("index", index);
-        page.fill("at", "$place$.2.$index$");
-        let comment = schema.comment(page.get("at"));
-        if value.is_alias {
-            page.set("first", first_of(&values, value.number));
-            put_alias(&mut page, comment);
-        } else {
-            put_comment(&mut page, "values", "    ", comment);
-            put_value(&mut page);
-        }
+        page.set("proto", &descriptor.name);
+        page.set("first", first_of(&values, value.number));
+        put_named(&mut page, schema, value);
     }
+    put_code(&mut page, schema, of_enum);
+    if of_enum.origin.features.is_closed() && has_laws(base) {
+        page.fill_all(&OF_CLOSED);
+    }
+    page.fill("text", DEFINITIONS);
+    Ok((page.finish("code")?, page.finish("text")?))
+}
+
+const OF_CLOSED: [Template; 3] = [
+    ("closed", CLOSED),
+    ("uses_of_closed", USES_OF_CLOSED),
+    (
+        "uses_of_arith",
+        "use Rattle.std.proofs.Common.{arith, refl}\n",
+    ),
+];
+
+// A value, or a further name of the first one of its number.
+fn put_named(page: &mut Words, schema: &Schema, value: &Named) {
+    page.set("value", &value.name);
+    page.number("digits", value.number);
+    page.number("below", value.number.saturating_add(1).saturating_neg());
+    page.fill("at", "$place$.2.$index$");
+    let comment = schema.comment(page.get("at"));
+    if value.is_alias {
+        put_alias(page, comment);
+    } else {
+        put_comment(page, "values", "    ", comment);
+        put_value(page);
+    }
+}
+
+fn put_code(page: &mut Words, schema: &Schema, of_enum: &EnumType) {
     page.set("full", of_enum.words.get("full").trim_start_matches('.'));
-    page.fill(
-        "code",
-        "//! The enum `$full$`. Generated.\nuse wire_codec::Enumeration;\nuse wire_fields::Plain;\n\n",
-    );
+    page.fill("code", HEAD);
     match schema.comment(of_enum.words.get("place")) {
         "" => page.append("code", "/// The enum `$name$`.\n"),
-        comment => put_comment(&mut page, "code", "", comment),
+        comment => put_comment(page, "code", "", comment),
     }
     page.append("code", ENUM);
     if !page.get("aliases").is_empty() {
         page.append("code", ALIASES);
     }
-    if of_enum.origin.features.is_closed() && has_laws(base) {
-        page.fill_all(&[
-            ("closed", CLOSED),
-            ("uses_of_closed", USES_OF_CLOSED),
-            (
-                "uses_of_arith",
-                "use Rattle.std.proofs.Common.{arith, refl}\n",
-            ),
-        ]);
-    }
-    page.fill("text", DEFINITIONS);
-    Ok((page.finish("code")?, page.finish("text")?))
 }
+
+const HEAD: &str = "\
+//! The enum `$full$`. Generated.
+use wire_codec::Enumeration;
+use wire_fields::Plain;
+
+";
 
 // The values, of which no two have one name. Where one has the number of another before it, it is
 // a constant.

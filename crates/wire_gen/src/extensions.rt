@@ -1,11 +1,9 @@
 //! Extensions: a function each, which is the extension's number and its kind.
 use crate::comments::put_comment;
-use crate::error::GenerateError;
-use crate::field::{features_of, set_field, started};
 use crate::imports::code_imports;
-use crate::names::{type_name, word_name};
-use crate::schema::{Extension, Schema};
-use crate::words::Words;
+use wire_schema::{
+    Extension, GenerateError, Schema, Words, features_of, set_field, started, type_name, word_name,
+};
 
 const HEAD: &str = "\
 //! The extensions of `$crate$`. Generated.
@@ -54,6 +52,18 @@ fn put_extension(
     set_field(schema, features, &extension.descriptor, &mut words)?;
     words.set("function", extension.words.get("outer"));
     words.append("function", "$proto$");
+    name_function(page, &words)?;
+    page.copy(
+        &words,
+        &["number", "kind", "code", "full", "proto", "own_types"],
+    );
+    page.set("extendee", &extension.descriptor.extendee);
+    put_function(page, schema, extension);
+    Ok(())
+}
+
+// What the function of an extension is called, which no other is.
+fn name_function(page: &mut Words, words: &Words) -> Result<(), GenerateError> {
     let function = type_name(words.alloc(), words.get("function"))?;
     let function = word_name(words.alloc(), &function)?;
     page.set("function", &function);
@@ -61,11 +71,10 @@ fn put_extension(
     if page.get("functions").contains(page.get("called")) {
         return Err(page.refused("two extensions are called $function$"));
     }
-    page.copy(
-        &words,
-        &["number", "kind", "code", "full", "proto", "own_types"],
-    );
-    page.set("extendee", &extension.descriptor.extendee);
+    Ok(())
+}
+
+fn put_function(page: &mut Words, schema: &Schema, extension: &Extension) {
     page.fill("of_types", "");
     if page.get("mismatch") == "keep" {
         page.fill("of_types", ".of_types(OwnTypes::$own_types$)");
@@ -81,7 +90,6 @@ fn put_extension(
     }
     page.append("functions", FUNCTION);
     put_uses(page);
-    Ok(())
 }
 
 // The names that the kind has; what a message holds for it is not named.

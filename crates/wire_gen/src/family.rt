@@ -1,8 +1,6 @@
 //! The code of message types that hold one another: the enums of all of them pass on what is asked.
-use crate::error::GenerateError;
 use crate::imports::code_imports;
-use crate::schema::Schema;
-use crate::words::{Template, Words};
+use wire_schema::{GenerateError, Schema, Template, Words};
 
 const FAMILY_USES: &str = "\
 bytes Buf

@@ -1,10 +1,8 @@
 //! The definitions of message types that hold one another, on a page of all of them.
-use crate::error::GenerateError;
 use crate::imports::definition_imports;
 use crate::laws_pages::has_laws;
 use crate::recursive_definitions::ALIASES;
 use crate::returned::under_charges;
-use crate::words::{Template, Words};
 
 const USES: &str = "\
 Rattle.std.proofs.Common List
@@ -265,53 +263,67 @@ pub(crate) fn family_definitions(base: &Words, members: &[Words]) -> Result<Stri
     page.fill("uses", USES);
     let is_read_back = has_laws(base);
     page.append("uses", if is_read_back { USES_OF_BACK } else { "" });
+    let last = members.len().saturating_sub(1);
     for member in members {
-        let mut own = Words::like(member);
-        own.fill("aliases", "");
-        for (name, template) in &OF_MEMBER {
-            own.fill("line", template);
-            page.set("line", own.get("line"));
-            page.append(name, "$line$");
-        }
-        for (name, template) in &OF_BACK {
-            own.fill("line", template);
-            page.set("line", own.get("line"));
-            page.append(name, "$line$");
-        }
-        page.copy(&own, &["name"]);
-        page.set("line", own.get("uses"));
-        page.append("uses", "$line$");
-        let is_first = page.get("listed").is_empty();
-        page.append("listed", if is_first { "`$name$`" } else { ", `$name$`" });
-        let is_last = page.get("sum_open").len() >= members.len().saturating_sub(1);
-        page.append(
-            "sum",
-            if is_last {
-                "$name$-Leaf$sum_open$"
-            } else {
-                "$name$-Leaf ⊎ ("
-            },
-        );
-        page.append("sum_open", ")");
+        put_member(&mut page, member, last);
     }
     definition_imports(&mut page);
     page.fill("aliases", MORE_ALIASES);
     page.append("aliases", ALIASES);
     if is_read_back {
-        page.append("backs", BACK);
-        let backs = page.take("backs");
-        let (_, ranges) = backs.split_once('\n').unwrap_or(("", ""));
-        page.set("ranges", ranges);
-        under_charges(&mut page);
-        page.fill("backs", "\n$ranges$");
+        put_back(&mut page);
     }
     page.fill("text", TEXT);
     page.finish("text")
 }
 
+// One of so many members behind the first.
+fn put_member(page: &mut Words, member: &Words, last: usize) {
+    let mut own = Words::like(member);
+    own.fill("aliases", "");
+    put_lines(page, &mut own, &OF_MEMBER);
+    put_lines(page, &mut own, &OF_BACK);
+    page.copy(&own, &["name"]);
+    page.set("line", own.get("uses"));
+    page.append("uses", "$line$");
+    let is_first = page.get("listed").is_empty();
+    page.append("listed", if is_first { "`$name$`" } else { ", `$name$`" });
+    let is_last = page.get("sum_open").len() >= last;
+    page.append(
+        "sum",
+        if is_last {
+            "$name$-Leaf$sum_open$"
+        } else {
+            "$name$-Leaf ⊎ ("
+        },
+    );
+    page.append("sum_open", ")");
+}
+
+// Lines of a member's words, each behind those of the others.
+fn put_lines(page: &mut Words, own: &mut Words, lines: &'static [Template]) {
+    for (name, template) in lines {
+        own.fill("line", template);
+        page.set("line", own.get("line"));
+        page.append(name, "$line$");
+    }
+}
+
+// What is read back of all.
+fn put_back(page: &mut Words) {
+    page.append("backs", BACK);
+    let backs = page.take("backs");
+    let (_, ranges) = backs.split_once('\n').unwrap_or(("", ""));
+    page.set("ranges", ranges);
+    under_charges(page);
+    page.fill("backs", "\n$ranges$");
+}
+
 const HELD_HEAD: &str = "\
 use Rattle.$crate$.proofs.$family_module$.FamilyHeldRecursiveHeld.merge_leaf.Goals as goal
 $answers$";
+
+use wire_schema::{GenerateError, Template, Words};
 
 const HELD: &str = "
 pub returns-in-$name$-clause-err : goal.returns-in-$name$-clause-err

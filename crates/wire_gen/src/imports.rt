@@ -1,5 +1,5 @@
 //! The names that a file brings in: lines of a module and a name each.
-use crate::words::Words;
+use wire_schema::Words;
 
 /// Of the lines of the word `uses`, the word `imports`: lines `use MODULE.{a, b}`, of at most a
 /// hundred columns where a name leaves room.

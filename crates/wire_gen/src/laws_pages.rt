@@ -1,6 +1,4 @@
 //! The laws of the messages of a crate, and their proofs.
-use crate::field::Field;
-use crate::words::Words;
 
 /// Whether they are asked for.
 pub(crate) fn has_laws(base: &Words) -> bool {
@@ -72,3 +70,5 @@ use Rattle.$crate$.proofs.laws.$module$_reads_back.Goals as goal
 pub returns : goal.returns
 returns c = reads_back ($module$-returned c.grounds.ensures) c.text_decodes.ensures
 ";
+
+use wire_schema::{Field, Words};

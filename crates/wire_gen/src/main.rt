@@ -4,48 +4,36 @@
 
 mod answers;
 mod arms;
-mod closed;
 mod closing;
 mod code;
 mod comments;
 mod copies;
 mod definitions;
 mod enums;
-mod error;
 mod extensions;
 mod family;
 mod family_definitions;
-mod features;
-mod field;
-mod holding;
 mod imports;
-mod item;
 mod keeping;
-mod kind;
 mod laws_pages;
 mod member;
 mod member_definitions;
-mod names;
 mod oneof;
 mod oneof_definitions;
 mod oneof_proofs;
-mod origin;
 mod package;
-mod parameters;
 mod recursive;
 mod recursive_back;
 mod recursive_definitions;
 mod returned;
+mod roots;
 mod rows;
 mod runs;
-mod scalar;
-mod schema;
 mod tree;
-mod words;
 
-use error::GenerateError;
 use std::io::{Read, Write};
 use std::process::ExitCode;
+use wire_schema::GenerateError;
 
 fn main(rt: HostRuntime) -> ExitCode {
     let mut request = Vec::new(rt.alloc());

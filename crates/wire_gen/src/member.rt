@@ -1,5 +1,5 @@
 //! The code of one of several message types that hold one another: its rows and its leaf.
-use crate::words::Template;
+use wire_schema::Template;
 
 /// What the module of one of them brings in.
 pub(crate) const MEMBER_USES: &str = "\

@@ -1,9 +1,7 @@
 //! The code of a oneof.
 use crate::closing::OF_CLOSED_VARIANT;
-use crate::error::GenerateError;
-use crate::field::Oneof;
 use crate::imports::{code_imports, ghost_imports};
-use crate::words::{Template, Words};
+use wire_schema::{GenerateError, Oneof, Template, Words};
 
 // The widest line of code.
 const WIDTH: usize = 100;

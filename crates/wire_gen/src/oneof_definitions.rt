@@ -1,12 +1,10 @@
 //! The definitions of a oneof.
 use crate::closing::{CLOSED_DEFINITIONS, put_apart_variants};
-use crate::error::GenerateError;
-use crate::field::{Oneof, put_apart};
 use crate::imports::definition_imports;
 use crate::keeping::put_owned;
 use crate::laws_pages::has_laws;
 use crate::returned::{under_charges, use_charges};
-use crate::words::{Template, Words};
+use wire_schema::{GenerateError, Oneof, Template, Words, put_apart};
 
 const USES: &str = "\
 Rattle.std.specs.Prelude None

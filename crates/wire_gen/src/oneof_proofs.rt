@@ -1,8 +1,5 @@
 //! The proofs of a oneof.
-use crate::error::GenerateError;
-use crate::field::Oneof;
 use crate::imports::definition_imports;
-use crate::words::Words;
 
 const USES: &str = "\
 Rattle.std.proofs.Common refl
@@ -79,6 +76,8 @@ returns-in_err-merge-clause-err g c =
           (sym c.take_$word$-value.ensures) h.1,
     )) _ _ _ ((c.in_err-merge).ensures.err other))
 ";
+
+use wire_schema::{GenerateError, Oneof, Words};
 
 /// The proofs of the kind's `merge`, where there is more than one variant.
 pub(crate) fn merge_answers(base: &Words, oneof: &Oneof) -> Result<String, GenerateError> {

@@ -4,49 +4,24 @@ use crate::closing::closed_answers;
 use crate::code::code_of;
 use crate::definitions::definitions_of;
 use crate::enums::enum_files;
-use crate::error::GenerateError;
 use crate::extensions::extensions_of;
 use crate::family::{family_code, set_family};
 use crate::family_definitions::{family_definitions, held_answers};
-use crate::features::{FIRST_EDITION, LAST_EDITION};
-use crate::field::{Field, Oneof, fields_of};
-use crate::laws_pages::{
-    CHARGE_USES, CHARGED_LAW, CHARGED_LAW_ANSWERS, LAW, LAW_ANSWERS, LAW_USES, LAWS, has_laws,
-};
 use crate::member_definitions::{MEMBER_MERGE, member_definitions};
-use crate::names::order_key;
 use crate::oneof::oneof_code;
 use crate::oneof_definitions::oneof_definitions;
 use crate::oneof_proofs::{merge_answers, variant_answers};
-use crate::parameters::set_crate;
 use crate::recursive::recursive_code;
 use crate::recursive_definitions::{recursive_definitions, row_answers, table_page};
 use crate::rows::{is_row, leaf_tree};
-use crate::schema::{EnumType, MessageType, Schema};
-use crate::tree::tree_of;
-use crate::words::{Template, Words};
+use crate::tree::{Tree, tree_of};
 use std::alloc::Global;
 use wire_codec::{DecodeOptions, Message};
 use wire_descriptor::{CodeGeneratorRequest, CodeGeneratorResponse, CodeGeneratorResponseFile};
-
-const README: &str = "\
-# $crate$
-
-Message types that were generated from schemas. The line of crates.txt is
-
-    $crate$: wire_codec wire_fields$needs$ bytes
-
-`rt check` proves of each type that encoding writes exactly the shortest encoding of the records
-that `specs/` tells of a value, and that decoding takes exactly the bytes that spell records of its
-table, within the limits, and gives their value.
-";
-
-const ROOT: &str = "\
-//! The messages of `$crate$`. Generated.
-#![tactic(auto)]
-
-$modules$
-$exports$";
+use wire_schema::{
+    EnumType, FIRST_EDITION, Field, GenerateError, LAST_EDITION, MessageType, Oneof, Schema,
+    Template, Words, fields_of, order_key, set_crate,
+};
 
 // The most fields of a message, of which it was seen that they are proved.
 const MOST_FIELDS: usize = 80;
@@ -102,33 +77,42 @@ fn files_of(
         base,
         files: Vec::new(alloc),
     };
-    for (place, message) in schema.messages.iter().enumerate() {
-        if message.origin.is_own {
-            package.add_message(&schema, message)?;
-            if message.family == Some(place) {
-                package.add_family(&schema, place)?;
-            }
-        }
-    }
-    for of_enum in &schema.enums {
-        if of_enum.origin.is_own {
-            package.add_enum(&schema, of_enum)?;
-        }
-    }
-    package.add_extensions(&schema)?;
-    package.add_roots()?;
+    package.add_all(&schema)?;
     Ok(package.files)
 }
 
 // The files so far. The words of the roots are lines of the files that name the others.
 #[derive(Drop)]
-struct Package {
-    base: Words,
-    roots: Words,
+pub(crate) struct Package {
+    pub base: Words,
+    pub roots: Words,
     files: Vec<CodeGeneratorResponseFile>,
 }
 
 impl Package {
+    fn add_all(&mut self, schema: &Schema) -> Result<(), GenerateError> {
+        self.add_messages(schema)?;
+        for of_enum in &schema.enums {
+            if of_enum.origin.is_own {
+                self.add_enum(schema, of_enum)?;
+            }
+        }
+        self.add_extensions(schema)?;
+        self.add_roots()
+    }
+
+    fn add_messages(&mut self, schema: &Schema) -> Result<(), GenerateError> {
+        for (place, message) in schema.messages.iter().enumerate() {
+            if message.origin.is_own {
+                self.add_message(schema, message)?;
+                if message.family == Some(place) {
+                    self.add_family(schema, place)?;
+                }
+            }
+        }
+        Ok(())
+    }
+
     // The words of the crate, and those of a type.
     fn page(&self, of: &Words) -> Words {
         let mut page = Words::like(&self.base);
@@ -137,7 +121,12 @@ impl Package {
     }
 
     // A file, whose path is a template.
-    fn add(&mut self, page: &mut Words, path: &str, content: String) -> Result<(), GenerateError> {
+    pub(crate) fn add(
+        &mut self,
+        page: &mut Words,
+        path: &str,
+        content: String,
+    ) -> Result<(), GenerateError> {
         let mut file = CodeGeneratorResponseFile::default_value(page.alloc());
         page.fill("file", path);
         file.name = page.finish("file")?;
@@ -158,19 +147,13 @@ impl Package {
         let tree = tree_of(&page, &mut fields, true)?;
         let code = code_of(&page, schema, message, &fields, &tree)?;
         let definitions = definitions_of(&page, &fields, &tree, message)?;
-        let answers = answers_of(&page, &fields, &tree, false)?;
         self.add_type(&mut page, code, definitions)?;
-        if has_laws(&self.base) {
-            self.add_law(&mut page)?;
-        }
-        for field in &fields {
-            if let Some(oneof) = &field.oneof {
-                self.add_oneof(oneof, message)?;
-            }
-        }
+        self.add_law(&mut page)?;
+        self.add_oneofs(&fields, message)?;
         if fields.is_empty() {
             return Ok(());
         }
+        let answers = answers_of(&page, &fields, &tree, false)?;
         let path = "proofs/$module$/$name$Message/merge_field/Answers.antt";
         self.add(&mut page, path, answers)
     }
@@ -187,65 +170,69 @@ impl Package {
             Some(first) => drop(set_family(&mut page, schema, first)?),
             None => page.fill("family", " $name$ "),
         }
+        let is_member = message.family.is_some();
+        page.fill_all(if is_member { &MEMBER_FOLDERS } else { &FOLDERS });
         let (fields, tree) = leaf_tree(&mut page, fields)?;
         let code = recursive_code(&page, schema, message, &fields)?;
-        let definitions = match message.family {
-            Some(_) => member_definitions(&page)?,
-            None => recursive_definitions(&page, &fields, &tree)?,
+        let definitions = if is_member {
+            member_definitions(&page)?
+        } else {
+            recursive_definitions(&page, &fields, &tree)?
         };
+        self.add_type(&mut page, code, definitions)?;
+        self.add_law(&mut page)?;
+        self.add_oneofs(&fields, message)?;
+        self.add_rows(&mut page, &fields)?;
+        self.add_leaf(&mut page, fields, &tree)?;
+        if is_member {
+            self.add_member(&mut page)?;
+        }
+        Ok(())
+    }
+
+    // The answers of the leaf of such a type.
+    fn add_leaf(
+        &mut self,
+        page: &mut Words,
+        fields: Vec<Field>,
+        tree: &Tree,
+    ) -> Result<(), GenerateError> {
         let mut leaf = Vec::new(page.alloc());
-        let [of_row, of_push] = row_answers(&page, &fields)?;
         for field in fields {
             if !is_row(&field) {
                 leaf.push(field)?;
             }
         }
-        let answers = answers_of(&page, &leaf, &tree, true)?;
-        self.add_type(&mut page, code, definitions)?;
-        if has_laws(&self.base) {
-            self.add_law(&mut page)?;
+        let answers = answers_of(page, &leaf, tree, true)?;
+        self.add(page, "$folder$/merge_leaf/Answers.antt", answers)
+    }
+
+    // Those of its rows, where a row has many messages.
+    fn add_rows(&mut self, page: &mut Words, fields: &[Field]) -> Result<(), GenerateError> {
+        let [of_row, of_push] = row_answers(page, fields)?;
+        if of_row.is_empty() {
+            return Ok(());
         }
-        for field in &leaf {
-            if let Some(oneof) = &field.oneof {
-                self.add_oneof(oneof, message)?;
-            }
-        }
-        let is_member = message.family.is_some();
-        page.fill_all(if is_member { &MEMBER_FOLDERS } else { &FOLDERS });
-        self.add(&mut page, "$folder$/merge_leaf/Answers.antt", answers)?;
-        if !of_row.is_empty() {
-            self.add(&mut page, "$row_folder$/row/Answers.antt", of_row)?;
-            self.add(&mut page, "$folder$/push/Answers.antt", of_push)?;
-        }
-        if is_member {
-            page.fill("answers", MEMBER_MERGE);
-            let answers = page.finish("answers")?;
-            let path = "proofs/$module$/$name$Message/merge_field/Answers.antt";
-            self.add(&mut page, path, answers)?;
-        }
-        Ok(())
+        self.add(page, "$row_folder$/row/Answers.antt", of_row)?;
+        self.add(page, "$folder$/push/Answers.antt", of_push)
+    }
+
+    // Those of `merge_field` of one of a family.
+    fn add_member(&mut self, page: &mut Words) -> Result<(), GenerateError> {
+        page.fill("answers", MEMBER_MERGE);
+        let answers = page.finish("answers")?;
+        let path = "proofs/$module$/$name$Message/merge_field/Answers.antt";
+        self.add(page, path, answers)
     }
 
     // What message types that hold one another have together; the first of them is at this place.
     fn add_family(&mut self, schema: &Schema, first: usize) -> Result<(), GenerateError> {
-        let mut tables = Vec::new(self.base.alloc());
         let mut page = Words::like(&self.base);
         let members = set_family(&mut page, schema, first)?;
         if let Some(message) = schema.messages.get(first) {
             page.copy(&message.words, &["charged"]);
         }
-        for member in &members {
-            let messages = schema.messages.iter();
-            for message in messages.filter(|it| it.words.get("name") == member.get("name")) {
-                if message.family == Some(first) {
-                    let mut own = self.page(&message.words);
-                    set_family(&mut own, schema, first)?;
-                    let fields = fields_of(&self.base, schema, message)?;
-                    let (fields, tree) = leaf_tree(&mut own, fields)?;
-                    tables.push(table_page(&own, &fields, &tree))?;
-                }
-            }
-        }
+        let tables = self.tables_of(schema, first, &members)?;
         let code = family_code(&page, &members)?;
         let definitions = family_definitions(&page, &tables)?;
         let answers = held_answers(&page, &members)?;
@@ -260,6 +247,48 @@ impl Package {
         self.add(&mut page, path, answers)
     }
 
+    // A page of the table of each of these members.
+    fn tables_of(
+        &self,
+        schema: &Schema,
+        first: usize,
+        members: &[Words],
+    ) -> Result<Vec<Words>, GenerateError> {
+        let mut tables = Vec::new(self.base.alloc());
+        for member in members {
+            for message in &schema.messages {
+                let is_named = message.words.get("name") == member.get("name");
+                if is_named && message.family == Some(first) {
+                    tables.push(self.table_of(schema, first, message)?)?;
+                }
+            }
+        }
+        Ok(tables)
+    }
+
+    fn table_of(
+        &self,
+        schema: &Schema,
+        first: usize,
+        message: &MessageType,
+    ) -> Result<Words, GenerateError> {
+        let mut page = self.page(&message.words);
+        set_family(&mut page, schema, first)?;
+        let fields = fields_of(&self.base, schema, message)?;
+        let (fields, tree) = leaf_tree(&mut page, fields)?;
+        Ok(table_page(&page, &fields, &tree))
+    }
+
+    // The oneofs among the fields of a message.
+    fn add_oneofs(&mut self, fields: &[Field], message: &MessageType) -> Result<(), GenerateError> {
+        for field in fields {
+            if let Some(oneof) = &field.oneof {
+                self.add_oneof(oneof, message)?;
+            }
+        }
+        Ok(())
+    }
+
     // A oneof of a message.
     fn add_oneof(&mut self, oneof: &Oneof, message: &MessageType) -> Result<(), GenerateError> {
         let mut page = self.page(&oneof.words);
@@ -272,20 +301,21 @@ impl Package {
             self.add(&mut page, path, answers)?;
         }
         for variant in &oneof.variants {
-            let answers = variant_answers(&page, variant)?;
-            page.copy(variant, &["word"]);
-            self.add(
-                &mut page,
-                "proofs/$module$/merge_$word$/Answers.antt",
-                answers,
-            )?;
-            if !variant.get("closed").is_empty() {
-                let answers = closed_answers(&page, variant)?;
-                let path = "proofs/$module$/set_or_keep_$word$/Answers.antt";
-                self.add(&mut page, path, answers)?;
-            }
+            self.add_variant(&mut page, variant)?;
         }
         Ok(())
+    }
+
+    fn add_variant(&mut self, page: &mut Words, variant: &Words) -> Result<(), GenerateError> {
+        let answers = variant_answers(page, variant)?;
+        page.copy(variant, &["word"]);
+        self.add(page, "proofs/$module$/merge_$word$/Answers.antt", answers)?;
+        if variant.get("closed").is_empty() {
+            return Ok(());
+        }
+        let answers = closed_answers(page, variant)?;
+        let path = "proofs/$module$/set_or_keep_$word$/Answers.antt";
+        self.add(page, path, answers)
     }
 
     fn add_enum(&mut self, schema: &Schema, of_enum: &EnumType) -> Result<(), GenerateError> {
@@ -328,72 +358,5 @@ impl Package {
         ]);
         let mut page = Words::like(&self.base);
         self.add(&mut page, "src/extensions.rt", code)
-    }
-
-    // A law, and its proof.
-    fn add_law(&mut self, page: &mut Words) -> Result<(), GenerateError> {
-        let is_charged = !page.get("charged").is_empty();
-        self.roots.copy(page, &["name", "module"]);
-        self.roots.append("law_uses", LAW_USES);
-        if is_charged {
-            self.roots.fill("charge_uses", CHARGE_USES);
-        }
-        self.roots
-            .append("laws", if is_charged { CHARGED_LAW } else { LAW });
-        page.fill(
-            "answers",
-            if is_charged {
-                CHARGED_LAW_ANSWERS
-            } else {
-                LAW_ANSWERS
-            },
-        );
-        let answers = page.finish("answers")?;
-        self.add(
-            page,
-            "proofs/laws/$module$_reads_back/Answers.antt",
-            answers,
-        )
-    }
-
-    // The files that name the others.
-    fn add_roots(&mut self) -> Result<(), GenerateError> {
-        if !self.roots.get("laws").is_empty() {
-            self.roots.append("modules", "mod laws\n");
-        }
-        let mut roots = Words::like(&self.roots);
-        for name in ["modules", "exports", "definitions"] {
-            sort_lines(&mut roots, name);
-        }
-        if !roots.get("laws").is_empty() {
-            sort_lines(&mut roots, "law_uses");
-            roots.fill("text", LAWS);
-            let laws = roots.finish("text")?;
-            self.add(&mut roots, "src/laws.rt", laws)?;
-        }
-        roots.fill_all(&[("root", ROOT), ("readme", README)]);
-        let root = roots.finish("root")?;
-        let definitions = roots.finish("definitions")?;
-        let readme = roots.finish("readme")?;
-        self.add(&mut roots, "src/lib.rt", root)?;
-        self.add(&mut roots, "specs/Lib.antt", definitions)?;
-        self.add(&mut roots, "README.md", readme)
-    }
-}
-
-// Puts the lines of a word in order: the modules by their names, and what they pass on by its key.
-fn sort_lines(roots: &mut Words, name: &'static str) {
-    let lines = roots.take(name);
-    for line in roots.sorted(&lines) {
-        let (_, line) = line.split_once('\t').unwrap_or(("", line));
-        roots.set("line", line);
-        roots.append(
-            name,
-            match (name, line) {
-                ("modules", "mod extensions" | "mod laws") => "pub $line$;\n",
-                ("modules", _) => "$line$;\n",
-                _ => "$line$\n",
-            },
-        );
     }
 }

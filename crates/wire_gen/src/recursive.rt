@@ -1,13 +1,10 @@
 //! The code of a message type that holds itself: its fields of its own type are rows, and all
 //! others its leaf, which is written in runs between the rows.
 use crate::code::{put_field, put_field_comment, put_head, set_rest};
-use crate::error::GenerateError;
-use crate::field::Field;
 use crate::member::{LONG_EACH, MEMBER, MEMBER_EACH, MEMBER_GHOSTS, MEMBER_ONCE, MEMBER_USES};
 use crate::rows::{is_row, once_place};
 use crate::runs::{put_field_in_run, put_run};
-use crate::schema::{MessageType, Schema};
-use crate::words::{Template, Words};
+use wire_schema::{Field, GenerateError, MessageType, Schema, Template, Words};
 
 const USES: &str = "\
 bytes Buf

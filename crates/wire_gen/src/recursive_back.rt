@@ -1,10 +1,9 @@
 //! What is read back of a message that holds itself.
-use crate::field::Field;
 use crate::member_definitions::MEMBER_RANGE;
 use crate::returned::{put_returned, under_charges};
 use crate::rows::is_row;
 use crate::tree::Tree;
-use crate::words::{Template, Words};
+use wire_schema::{Field, Template, Words};
 
 const USES: &str = "\
 Rattle.std.specs.Prelude ◌<◌

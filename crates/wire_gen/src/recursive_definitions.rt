@@ -1,7 +1,5 @@
 //! The definitions and the proofs of a message type that holds itself.
 use crate::definitions::put_field_range;
-use crate::error::GenerateError;
-use crate::field::Field;
 use crate::imports::definition_imports;
 use crate::laws_pages::has_laws;
 use crate::member_definitions::{
@@ -10,7 +8,6 @@ use crate::member_definitions::{
 use crate::recursive_back::put_back;
 use crate::rows::{is_row, once_place};
 use crate::tree::Tree;
-use crate::words::{Template, Words};
 
 const USES: &str = "\
 Rattle.std.proofs.Common ap
@@ -296,6 +293,8 @@ use Rattle.$crate$.specs.declared.$module$.$name$.{$name$, out-$name$, fold_out-
 use Rattle.$crate$.specs.declared.$module$.$name$.TheFolds.{fold-roll-$name$, map-$name$}
 use Rattle.$crate$.proofs.$module$.$name$Recursive.push.Goals as goal
 ";
+
+use wire_schema::{Field, GenerateError, Template, Words};
 
 const PUSH: &str = "
 pub returns-in-$row$-clause-ok : goal.returns-in-$row$-clause-ok

@@ -1,9 +1,8 @@
 //! What is read back of a message type.
-use crate::field::Field;
 use crate::laws_pages::leaves_entries;
 use crate::rows::is_row;
 use crate::tree::Tree;
-use crate::words::{Template, Words};
+use wire_schema::{Field, Template, Words};
 
 const RANGE: &str = "\
 -- what is read back once it is written
@@ -191,7 +190,8 @@ pub(crate) fn put_returned(page: &mut Words, fields: &[Field], tree: &Tree) {
 }
 
 /// What is read back of the message.
-pub(crate) fn put_range(page: &mut Words, fields: &[Field], tree: &Tree, is_kept: bool) {
+pub(crate) fn put_range(page: &mut Words, fields: &[Field], tree: &Tree) {
+    let is_kept = page.get("unknown") == "keep";
     put_returned(page, fields, tree);
     put_left_charge(page, fields);
     let is_leaving = page.get("part") == "Leaving";

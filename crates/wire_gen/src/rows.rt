@@ -1,8 +1,6 @@
 //! Which fields of a message are of its own type, or of one of its family.
-use crate::error::GenerateError;
-use crate::field::Field;
 use crate::tree::{Tree, tree_of};
-use crate::words::Words;
+use wire_schema::{Field, GenerateError, Words};
 
 /// Whether a field is of its message's own type, or of one of its family.
 pub(crate) fn is_row(field: &Field) -> bool {

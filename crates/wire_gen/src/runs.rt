@@ -1,6 +1,6 @@
 //! The code of the runs of a leaf: what is measured and written before the first row of a message,
 //! between its rows, and behind them.
-use crate::words::Words;
+use wire_schema::Words;
 
 const RUN_FIELD: &str = "                let field_$number$: Known<$kind$> = Known {
                     number: $number$,

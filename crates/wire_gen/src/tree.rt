@@ -1,8 +1,6 @@
 //! The fields of a message as a balanced tree of pairs, which its code, its definitions and its
 //! proofs have alike.
-use crate::error::GenerateError;
-use crate::field::Field;
-use crate::words::{Template, Words};
+use wire_schema::{Field, GenerateError, Template, Words};
 
 // The fields of a part by itself, where there are more: a tuple of many kinds is not proved. Maps
 // count for more.

@@ -240,34 +240,28 @@ const MAP: Kind = Kind {
 };
 
 /// Makes the words of a field of those of its values.
-pub(crate) fn set_kind(
-    features: Features,
-    field: &FieldDescriptorProto,
-    sort: Sort,
-    words: &mut Words,
-) {
+pub fn set_kind(features: Features, field: &FieldDescriptorProto, sort: Sort, words: &mut Words) {
     let is_repeated = field.label == LABEL_REPEATED;
     let is_packed = match &field.options {
         Some(options) => options.packed.unwrap_or(features.is_packed()),
         None => features.is_packed(),
     };
     let is_implicit = features.is_implicit() && !field.proto3_optional;
-    let kind = match sort {
-        Sort::Message if is_repeated => &EACH_EMBEDDED,
-        Sort::Message => &EMBEDDED,
-        Sort::Group if is_repeated => &EACH_GROUP,
-        Sort::Group => &GROUP,
-        Sort::Text if is_repeated => &REPEATED,
-        Sort::Number if is_repeated && is_packed => &PACKED,
-        Sort::Number if is_repeated => &UNPACKED,
-        _ if is_implicit => &IMPLICIT,
-        _ => &OPTIONAL,
-    };
-    put_kind(kind, words);
+    match sort {
+        Sort::Message if is_repeated => put_kind(&EACH_EMBEDDED, words),
+        Sort::Message => put_kind(&EMBEDDED, words),
+        Sort::Group if is_repeated => put_kind(&EACH_GROUP, words),
+        Sort::Group => put_kind(&GROUP, words),
+        Sort::Text if is_repeated => put_kind(&REPEATED, words),
+        Sort::Number if is_repeated && is_packed => put_kind(&PACKED, words),
+        Sort::Number if is_repeated => put_kind(&UNPACKED, words),
+        _ if is_implicit => put_kind(&IMPLICIT, words),
+        _ => put_kind(&OPTIONAL, words),
+    }
 }
 
 /// Makes the words of a value those of the key of a map.
-pub(crate) fn set_key(words: &mut Words) {
+pub fn set_key(words: &mut Words) {
     words.fill_all(&[
         ("key_held", "$held$"),
         ("key_kind", "$kind$"),
@@ -288,7 +282,7 @@ pub(crate) fn set_key(words: &mut Words) {
 }
 
 /// Makes the words of a map of those of its key and its values.
-pub(crate) fn set_map(sort: Sort, words: &mut Words) {
+pub fn set_map(sort: Sort, words: &mut Words) {
     set_always(sort, words);
     put_kind(&MAP, words);
     words.set("maps", "m");
@@ -318,7 +312,7 @@ const ALWAYS_MESSAGE: [Template; 3] = [
 ];
 
 /// How a value is there that is always written: `presence` in code, and `always` as a definition.
-pub(crate) fn set_always(sort: Sort, words: &mut Words) {
+pub fn set_always(sort: Sort, words: &mut Words) {
     let (presence, always) = match sort {
         Sort::Message => ("AlwaysEmbedded", "embedded_always"),
         Sort::Group => ("AlwaysGroup", "group_always"),

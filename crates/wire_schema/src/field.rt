@@ -19,7 +19,7 @@ const LABEL_REPEATED: i32 = 3;
 /// the fields of its descriptor; its `number`, and the `numbers` of all, where it is a oneof; its
 /// part of the `table`, and the `step` of its records.
 #[derive(Drop)]
-pub(crate) struct Field {
+pub struct Field {
     pub words: Words,
     /// The fields of a oneof.
     pub oneof: Option<Oneof>,
@@ -28,7 +28,7 @@ pub(crate) struct Field {
 /// A oneof, with its fields in the order of their numbers. Its words are those of a type; those of
 /// each field are those of its values, and its name as a `variant` and as a `word`.
 #[derive(Drop)]
-pub(crate) struct Oneof {
+pub struct Oneof {
     /// Its place among those of its message.
     index: i32,
     pub words: Words,
@@ -36,7 +36,7 @@ pub(crate) struct Oneof {
 }
 
 /// The fields of a message type, in the order of their numbers.
-pub(crate) fn fields_of(
+pub fn fields_of(
     base: &Words,
     schema: &Schema,
     message: &MessageType,
@@ -52,22 +52,36 @@ pub(crate) fn fields_of(
         if let Some(field) = message.descriptor.field.get(place) {
             let mut words = started(base, &message.words, field)?;
             words.index("at", place);
-            let features = features_of(message.origin.features, field, &mut words)?;
-            match field.oneof_index {
-                Some(index) if !field.proto3_optional => {
-                    let variant = variant_of(words, schema, features, field)?;
-                    if is_new(&fields, index) {
-                        fields.push(oneof_of(base, schema, message, index)?)?;
-                    }
-                    add_variant(index, variant, &mut fields)?;
-                }
-                _ => fields.push(field_of(words, schema, features, field)?)?,
-            }
+            add_field(base, words, schema, message, field, &mut fields)?;
         }
     }
     names_differ(alloc, &mut fields)?;
     leave_others(&mut fields);
     Ok(fields)
+}
+
+// Puts a field behind others, or into its oneof.
+fn add_field(
+    base: &Words,
+    mut words: Words,
+    schema: &Schema,
+    message: &MessageType,
+    field: &FieldDescriptorProto,
+    fields: &mut Vec<Field>,
+) -> Result<(), GenerateError> {
+    let features = features_of(message.origin.features, field, &mut words)?;
+    let index = match field.oneof_index {
+        Some(index) if !field.proto3_optional => index,
+        _ => {
+            fields.push(field_of(words, schema, features, field)?)?;
+            return Ok(());
+        }
+    };
+    let variant = variant_of(words, schema, features, field)?;
+    if is_new(fields, index) {
+        fields.push(oneof_of(base, schema, message, index)?)?;
+    }
+    add_variant(index, variant, fields)
 }
 
 // The numbers that a closed enum lacks go to the unknown fields.
@@ -109,7 +123,7 @@ fn add_name(
 }
 
 /// The features of a field of a message, or of an extension.
-pub(crate) fn features_of(
+pub fn features_of(
     outer: Features,
     field: &FieldDescriptorProto,
     words: &mut Words,
@@ -126,7 +140,7 @@ pub(crate) fn features_of(
 }
 
 /// The words of a field but for those of its values.
-pub(crate) fn started(
+pub fn started(
     base: &Words,
     message: &Words,
     field: &FieldDescriptorProto,
@@ -161,7 +175,7 @@ fn field_of(
 }
 
 /// Sets the words of the kind of a field, as an open one where it is of a closed enum.
-pub(crate) fn set_field(
+pub fn set_field(
     schema: &Schema,
     features: Features,
     field: &FieldDescriptorProto,
@@ -286,7 +300,7 @@ fn tell_apart(variant: &mut Words, oneof: &Words) {
 }
 
 /// Why a number `h` of a oneof is none of others, for one number more.
-pub(crate) fn put_apart(words: &mut Words, is_first: bool) {
+pub fn put_apart(words: &mut Words, is_first: bool) {
     words.indent_rest("apart");
     words.fill(
         "apart",

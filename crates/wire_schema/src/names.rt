@@ -22,7 +22,7 @@ const TYPES: &str = "AllocError Always AlwaysEmbedded BTreeMap Blob Bool Box Buf
     Tag Text Twin Type Uint32 Uint64 UnknownFields Unpacked Variants Vec";
 
 /// A name of capitals, `OuterInner` of `Outer.Inner` and of `outer_inner`.
-pub(crate) fn type_name(alloc: Global, name: &str) -> Result<String, GenerateError> {
+pub fn type_name(alloc: Global, name: &str) -> Result<String, GenerateError> {
     let mut text = String::new(alloc);
     let mut begins = true;
     for letter in name.chars() {
@@ -39,7 +39,7 @@ pub(crate) fn type_name(alloc: Global, name: &str) -> Result<String, GenerateErr
 }
 
 /// The name of a value of an enum, `VeryHigh` of `VERY_HIGH`.
-pub(crate) fn value_name(alloc: Global, name: &str) -> Result<String, GenerateError> {
+pub fn value_name(alloc: Global, name: &str) -> Result<String, GenerateError> {
     let mut text = String::new(alloc);
     let mut begins = true;
     for letter in name.chars() {
@@ -56,7 +56,7 @@ pub(crate) fn value_name(alloc: Global, name: &str) -> Result<String, GenerateEr
 }
 
 /// The name of a constant, `VERY_HIGH` of `very_high`.
-pub(crate) fn constant_name(alloc: Global, name: &str) -> Result<String, GenerateError> {
+pub fn constant_name(alloc: Global, name: &str) -> Result<String, GenerateError> {
     let mut text = String::new(alloc);
     for letter in name.chars() {
         text.push(letter.to_ascii_uppercase())?;
@@ -65,7 +65,7 @@ pub(crate) fn constant_name(alloc: Global, name: &str) -> Result<String, Generat
 }
 
 /// A name of small letters, `outer_inner` of `OuterInner`.
-pub(crate) fn word_name(alloc: Global, name: &str) -> Result<String, GenerateError> {
+pub fn word_name(alloc: Global, name: &str) -> Result<String, GenerateError> {
     let mut text = String::new(alloc);
     let mut was_small = false;
     for letter in name.chars() {
@@ -87,7 +87,7 @@ fn escaped(mut name: String, taken: &str) -> Result<String, GenerateError> {
 
 /// A text for a name, so that the order of the texts is that of the names in the formatter's lists:
 /// by their letters, with `_` before all others, and numbers by their values.
-pub(crate) fn order_key(alloc: Global, name: &str) -> Result<String, GenerateError> {
+pub fn order_key(alloc: Global, name: &str) -> Result<String, GenerateError> {
     let mut key = String::new(alloc);
     let mut number = String::new(alloc);
     for letter in name.chars() {

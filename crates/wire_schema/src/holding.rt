@@ -6,47 +6,56 @@ use wire_descriptor::FieldDescriptorProto;
 impl Schema {
     /// Which message types hold themselves, and which hold one another: each tells the place of the
     /// first of its family, by their modules.
-    pub(crate) fn find_families(&mut self) -> Result<(), GenerateError> {
+    pub fn find_families(&mut self) -> Result<(), GenerateError> {
         let held = self.held_by_each()?;
-        let open = self.open_ones(&held)?;
-        let mut reached = Vec::new(self.alloc);
-        for (start, is_open) in open.iter().enumerate() {
-            reached.push(self.reached(&held, start, *is_open)?)?;
-        }
-        let mut families = Vec::new(self.alloc);
-        for place in 0..self.messages.len() {
-            families.push(self.first_of_family(&reached, place))?;
-        }
+        let families = self.families(&held)?;
         for (message, family) in self.messages.iter_mut().zip(families) {
             message.family = family;
         }
-        self.number_members()?;
         for (holder, held) in held {
             if let Some(message) = self.messages.get_mut(holder) {
                 message.is_recursive |= holder == held;
             }
         }
+        self.number_members();
         Ok(())
     }
 
-    // Tells each type of a family its place there, by their modules.
-    fn number_members(&mut self) -> Result<(), GenerateError> {
-        let mut places = Vec::new(self.alloc);
-        for message in &self.messages {
-            let module = message.words.get("module");
-            let family = self
-                .messages
-                .iter()
-                .filter(|it| it.family == message.family);
-            places.push(family.filter(|it| it.words.get("module") < module).count())?;
+    // The place of the first of its family for each type that is of one.
+    fn families(&self, held: &[(usize, usize)]) -> Result<Vec<Option<usize>>, GenerateError> {
+        let open = self.open_ones(held)?;
+        let mut reached = Vec::new(self.alloc);
+        for (start, is_open) in open.iter().enumerate() {
+            reached.push(self.reached(held, start, *is_open)?)?;
         }
-        for (message, place) in self.messages.iter_mut().zip(places) {
-            if message.family.is_some() {
-                message.words.index("index", place);
-                message.words.fill("member", "$index$ ∷ ");
+        let mut families = Vec::new(self.alloc);
+        for place in 0..self.messages.len() {
+            families.push(self.first_of_family(&reached, place))?;
+        }
+        Ok(families)
+    }
+
+    // Tells each type of a family its place there, by their modules.
+    fn number_members(&mut self) {
+        for place in 0..self.messages.len() {
+            let index = self.place_in_family(place);
+            if let Some(message) = self.messages.get_mut(place) {
+                if message.family.is_some() {
+                    message.words.index("index", index);
+                    message.words.fill("member", "$index$ ∷ ");
+                }
             }
         }
-        Ok(())
+    }
+
+    // How many of the family of the type at this place are before it.
+    fn place_in_family(&self, place: usize) -> usize {
+        let Some(own) = self.messages.get(place) else {
+            return 0;
+        };
+        let family = self.messages.iter().filter(|it| it.family == own.family);
+        let module = own.words.get("module");
+        family.filter(|it| it.words.get("module") < module).count()
     }
 
     // Those that lead to types that hold one another: each turn leaves those open that hold an open
@@ -122,7 +131,7 @@ impl Schema {
 
     /// The clone of a message that holds itself or others is a derived one, which says nothing of it, nor of
     /// what holds such a message.
-    pub(crate) fn find_twins(&mut self) -> Result<(), GenerateError> {
+    pub fn find_twins(&mut self) -> Result<(), GenerateError> {
         let mut flags = self.flags(true)?;
         for (message, flag) in self.messages.iter().zip(flags.iter_mut()) {
             *flag = !message.is_recursive && message.family.is_none();
@@ -136,20 +145,17 @@ impl Schema {
 
     /// Which types leave entries of maps to their unknown fields, or hold such a type: what is read
     /// back of these follows from what such a record is charged.
-    pub(crate) fn find_charged(&mut self) -> Result<(), GenerateError> {
-        let mut flags = self.flags(true)?;
-        for (message, flag) in self.messages.iter().zip(flags.iter_mut()) {
-            *flag = !message
-                .descriptor
-                .field
-                .iter()
-                .any(|it| self.leaves_entries(it));
+    pub fn find_charged(&mut self) -> Result<(), GenerateError> {
+        let mut flags = Vec::new(self.alloc);
+        for message in &self.messages {
+            let mut fields = message.descriptor.field.iter();
+            flags.push(!fields.any(|it| self.leaves_entries(it)))?;
         }
         self.spread(&mut flags)?;
-        for (message, flag) in self.messages.iter_mut().zip(flags) {
-            message
-                .words
-                .set("charged", if flag { "" } else { "charged" });
+        for (message, is_plain) in self.messages.iter_mut().zip(flags) {
+            if !is_plain {
+                message.words.set("charged", "charged");
+            }
         }
         Ok(())
     }
@@ -166,7 +172,7 @@ impl Schema {
     }
 
     /// Whether a field holds a message that follows from what is charged.
-    pub(crate) fn is_charged(&self, field: &FieldDescriptorProto) -> bool {
+    pub fn is_charged(&self, field: &FieldDescriptorProto) -> bool {
         match self.message(self.held(field)) {
             Some(message) => !message.words.get("charged").is_empty(),
             None => false,

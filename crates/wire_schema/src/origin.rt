@@ -6,7 +6,7 @@ use crate::words::Words;
 use wire_descriptor::FileDescriptorProto;
 
 /// The crate that has the types of a file, of lines of a package or a file and a crate each.
-pub(crate) fn home_of<'a>(file: &FileDescriptorProto, imported: &'a str) -> &'a str {
+pub fn home_of<'a>(file: &FileDescriptorProto, imported: &'a str) -> &'a str {
     for line in imported.split('\n') {
         if let Some((of, home)) = line.split_once(' ') {
             if of == file.name.as_str() || of == file.package.as_str() {
@@ -19,12 +19,7 @@ pub(crate) fn home_of<'a>(file: &FileDescriptorProto, imported: &'a str) -> &'a 
 
 /// The words of a type of this name within a file or another type, where it is the one at this
 /// index.
-pub(crate) fn inner(
-    outer: &Words,
-    name: &str,
-    place: &str,
-    index: usize,
-) -> Result<Words, GenerateError> {
+pub fn inner(outer: &Words, name: &str, place: &str, index: usize) -> Result<Words, GenerateError> {
     let alloc = outer.alloc();
     let mut words = Words::like(outer);
     words.set("name", name);
@@ -41,7 +36,7 @@ pub(crate) fn inner(
 }
 
 /// What a type has of its file, but for what it says itself.
-pub(crate) fn own_origin(message: &MessageType) -> Result<Origin, GenerateError> {
+pub fn own_origin(message: &MessageType) -> Result<Origin, GenerateError> {
     let Some(options) = &message.descriptor.options else {
         return Ok(message.origin);
     };
@@ -54,10 +49,7 @@ pub(crate) fn own_origin(message: &MessageType) -> Result<Origin, GenerateError>
 }
 
 /// Services are passed over where the parameter says so.
-pub(crate) fn stop_on_services(
-    base: &Words,
-    file: &FileDescriptorProto,
-) -> Result<(), GenerateError> {
+pub fn stop_on_services(base: &Words, file: &FileDescriptorProto) -> Result<(), GenerateError> {
     if file.service.is_empty() || base.get("services") == "skip" {
         return Ok(());
     }

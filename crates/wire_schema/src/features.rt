@@ -4,9 +4,9 @@ use crate::words::Words;
 use wire_descriptor::{FeatureSet, FileDescriptorProto};
 
 /// The editions that are known: proto2, and that of 2023.
-pub(crate) const FIRST_EDITION: i32 = 998;
+pub const FIRST_EDITION: i32 = 998;
 
-pub(crate) const LAST_EDITION: i32 = 1000;
+pub const LAST_EDITION: i32 = 1000;
 
 const EDITION_2023: i32 = 1000;
 
@@ -35,7 +35,7 @@ const ALLOW: i32 = 1;
 
 /// The features of a part of a file.
 #[derive(Clone, Copy)]
-pub(crate) struct Features {
+pub struct Features {
     presence: i32,
     enum_type: i32,
     repeated: i32,
@@ -44,7 +44,7 @@ pub(crate) struct Features {
 
 impl Features {
     /// Those of a file.
-    pub(crate) fn of_file(
+    pub fn of_file(
         file: &FileDescriptorProto,
         words: &mut Words,
     ) -> Result<Features, GenerateError> {
@@ -70,7 +70,7 @@ impl Features {
     }
 
     /// The same but for what a part says itself.
-    pub(crate) fn with(
+    pub fn with(
         self,
         set: Option<&FeatureSet>,
         words: &mut Words,
@@ -93,7 +93,7 @@ impl Features {
     }
 
     /// The same with messages behind their length.
-    pub(crate) fn prefixed(self) -> Features {
+    pub fn prefixed(self) -> Features {
         Features {
             encoding: LENGTH_PREFIXED,
             ..self
@@ -101,7 +101,7 @@ impl Features {
     }
 
     /// The same with open enums.
-    pub(crate) fn with_open_enums(self) -> Features {
+    pub fn with_open_enums(self) -> Features {
         Features {
             enum_type: OPEN,
             ..self
@@ -109,23 +109,23 @@ impl Features {
     }
 
     /// Whether a number or a text is there only where it is none that is the default.
-    pub(crate) fn is_implicit(self) -> bool {
+    pub fn is_implicit(self) -> bool {
         self.presence == IMPLICIT
     }
 
-    pub(crate) fn is_required(self) -> bool {
+    pub fn is_required(self) -> bool {
         self.presence == LEGACY_REQUIRED
     }
 
-    pub(crate) fn is_closed(self) -> bool {
+    pub fn is_closed(self) -> bool {
         self.enum_type == CLOSED
     }
 
-    pub(crate) fn is_packed(self) -> bool {
+    pub fn is_packed(self) -> bool {
         self.repeated == PACKED
     }
 
-    pub(crate) fn is_delimited(self) -> bool {
+    pub fn is_delimited(self) -> bool {
         self.encoding == DELIMITED
     }
 }

@@ -6,7 +6,7 @@ use std::alloc::Global;
 /// Texts by their names. A name between two `$` of a template stands for the word of that name, and
 /// for nothing where there is none. Want of memory is told at the end, by `ended`.
 #[derive(Drop)]
-pub(crate) struct Words {
+pub struct Words {
     alloc: Global,
     words: Vec<Word>,
     is_short: bool,
@@ -19,11 +19,11 @@ struct Word {
 }
 
 /// The name of a word, and a template.
-pub(crate) type Template = (&'static str, &'static str);
+pub type Template = (&'static str, &'static str);
 
 impl Words {
     /// No words.
-    pub(crate) fn new(alloc: Global) -> Words {
+    pub fn new(alloc: Global) -> Words {
         Words {
             alloc,
             words: Vec::new(alloc),
@@ -32,17 +32,17 @@ impl Words {
     }
 
     /// The words of another.
-    pub(crate) fn like(others: &Words) -> Words {
+    pub fn like(others: &Words) -> Words {
         let mut words = Words::new(others.alloc);
         words.set_all(others);
         words
     }
 
-    pub(crate) fn alloc(&self) -> Global {
+    pub fn alloc(&self) -> Global {
         self.alloc
     }
 
-    pub(crate) fn get(&self, name: &str) -> &str {
+    pub fn get(&self, name: &str) -> &str {
         match self.words.get(self.place(name)) {
             Some(word) => &word.text,
             None => "",
@@ -50,7 +50,7 @@ impl Words {
     }
 
     /// Makes a text the word of this name.
-    pub(crate) fn set(&mut self, name: &'static str, text: &str) {
+    pub fn set(&mut self, name: &'static str, text: &str) {
         match String::from_str(self.alloc, text) {
             Ok(text) => self.put(name, text),
             Err(_) => self.is_short = true,
@@ -58,7 +58,7 @@ impl Words {
     }
 
     /// Takes all words of another.
-    pub(crate) fn set_all(&mut self, others: &Words) {
+    pub fn set_all(&mut self, others: &Words) {
         self.is_short |= others.is_short;
         for word in &others.words {
             self.set(word.name, &word.text);
@@ -66,7 +66,7 @@ impl Words {
     }
 
     /// Takes these words of another, and with them its want of memory.
-    pub(crate) fn copy(&mut self, others: &Words, names: &'static [&'static str]) {
+    pub fn copy(&mut self, others: &Words, names: &'static [&'static str]) {
         self.is_short |= others.is_short;
         for name in names {
             self.set(name, others.get(name));
@@ -74,7 +74,7 @@ impl Words {
     }
 
     /// Makes the digits of a number the word of this name.
-    pub(crate) fn number(&mut self, name: &'static str, number: i32) {
+    pub fn number(&mut self, name: &'static str, number: i32) {
         match number.to_string(self.alloc) {
             Ok(text) => self.put(name, text),
             Err(_) => self.is_short = true,
@@ -82,7 +82,7 @@ impl Words {
     }
 
     /// Makes the digits of a place in a list the word of this name.
-    pub(crate) fn index(&mut self, name: &'static str, index: usize) {
+    pub fn index(&mut self, name: &'static str, index: usize) {
         match index.to_string(self.alloc) {
             Ok(text) => self.put(name, text),
             Err(_) => self.is_short = true,
@@ -90,40 +90,40 @@ impl Words {
     }
 
     /// Makes a filled template the word of this name.
-    pub(crate) fn fill(&mut self, name: &'static str, template: &str) {
+    pub fn fill(&mut self, name: &'static str, template: &str) {
         let mut text = String::new(self.alloc);
         self.put_filled(template, &mut text);
         self.put(name, text);
     }
 
     /// Puts a filled template behind the word of this name.
-    pub(crate) fn append(&mut self, name: &'static str, template: &str) {
+    pub fn append(&mut self, name: &'static str, template: &str) {
         let mut text = self.take(name);
         self.put_filled(template, &mut text);
         self.put(name, text);
     }
 
     /// Makes each filled template the word of its name, one after another.
-    pub(crate) fn fill_all(&mut self, templates: &'static [Template]) {
+    pub fn fill_all(&mut self, templates: &'static [Template]) {
         for (name, template) in templates {
             self.fill(name, template);
         }
     }
 
     /// Puts each filled template behind the word of its name, one after another.
-    pub(crate) fn append_all(&mut self, templates: &'static [Template]) {
+    pub fn append_all(&mut self, templates: &'static [Template]) {
         for (name, template) in templates {
             self.append(name, template);
         }
     }
 
     /// Moves each line of the word two columns to the right.
-    pub(crate) fn indent(&mut self, name: &'static str) {
+    pub fn indent(&mut self, name: &'static str) {
         self.move_lines(name, "  ");
     }
 
     /// The same of all but the first line.
-    pub(crate) fn indent_rest(&mut self, name: &'static str) {
+    pub fn indent_rest(&mut self, name: &'static str) {
         self.move_lines(name, "");
     }
 
@@ -146,7 +146,7 @@ impl Words {
     }
 
     /// Takes the word out.
-    pub(crate) fn take(&mut self, name: &str) -> String {
+    pub fn take(&mut self, name: &str) -> String {
         let place = self.place(name);
         let empty = String::new(self.alloc);
         match self.words.get_mut(place) {
@@ -156,7 +156,7 @@ impl Words {
     }
 
     /// The lines of a text in order, each once, and no empty ones.
-    pub(crate) fn sorted<'a>(&mut self, text: &'a str) -> Vec<&'a str> {
+    pub fn sorted<'a>(&mut self, text: &'a str) -> Vec<&'a str> {
         let mut lines: Vec<&'a str> = Vec::new(self.alloc);
         for line in text.split('\n') {
             if !line.is_empty() && lines.push(line).is_err() {
@@ -171,7 +171,7 @@ impl Words {
     }
 
     /// The same in the order of the formatter.
-    pub(crate) fn ordered<'a>(&mut self, text: &'a str) -> Vec<&'a str> {
+    pub fn ordered<'a>(&mut self, text: &'a str) -> Vec<&'a str> {
         let mut keyed: Vec<(String, &'a str)> = Vec::new(self.alloc);
         for line in self.sorted(text) {
             match order_key(self.alloc, line) {
@@ -188,7 +188,7 @@ impl Words {
     }
 
     /// A refusal in the words of a template.
-    pub(crate) fn refused(&mut self, template: &str) -> GenerateError {
+    pub fn refused(&mut self, template: &str) -> GenerateError {
         self.fill("refusal", template);
         match self.ended() {
             Ok(()) => GenerateError::Refused(self.take("refusal")),
@@ -197,7 +197,7 @@ impl Words {
     }
 
     /// Whether memory sufficed for all that was asked so far.
-    pub(crate) fn ended(&self) -> Result<(), GenerateError> {
+    pub fn ended(&self) -> Result<(), GenerateError> {
         if self.is_short {
             return Err(GenerateError::OutOfMemory);
         }
@@ -205,7 +205,7 @@ impl Words {
     }
 
     /// The word of this name, where memory sufficed.
-    pub(crate) fn finish(&mut self, name: &str) -> Result<String, GenerateError> {
+    pub fn finish(&mut self, name: &str) -> Result<String, GenerateError> {
         self.ended()?;
         Ok(self.take(name))
     }

@@ -16,7 +16,7 @@ const MOST_MESSAGES: u32 = 100_000;
 
 /// What a type has of its file.
 #[derive(Clone, Copy)]
-pub(crate) struct Origin {
+pub struct Origin {
     pub features: Features,
     /// Whether it is generated, and not of another crate.
     pub is_own: bool,
@@ -27,7 +27,7 @@ pub(crate) struct Origin {
 /// `home`, its crate; `place`, its file and the numbers that lead there; `charged`, where it or what
 /// it holds leaves entries of maps; and `member`, its place in its family, before those of fields.
 #[derive(Drop)]
-pub(crate) struct MessageType {
+pub struct MessageType {
     pub words: Words,
     pub origin: Origin,
     pub descriptor: DescriptorProto,
@@ -39,9 +39,31 @@ pub(crate) struct MessageType {
     pub is_twin: bool,
 }
 
+impl MessageType {
+    // One of which nothing is known yet.
+    fn new(words: Words, origin: Origin, descriptor: DescriptorProto) -> MessageType {
+        MessageType {
+            words,
+            origin,
+            descriptor,
+            is_recursive: false,
+            family: None,
+            is_twin: true,
+        }
+    }
+
+    // Whether it is the type of a map's entries.
+    fn is_entry(&self) -> bool {
+        match &self.descriptor.options {
+            Some(options) => options.map_entry,
+            None => false,
+        }
+    }
+}
+
 /// An enum, with the words of a message type.
 #[derive(Drop)]
-pub(crate) struct EnumType {
+pub struct EnumType {
     pub words: Words,
     pub origin: Origin,
     pub descriptor: EnumDescriptorProto,
@@ -49,7 +71,7 @@ pub(crate) struct EnumType {
 
 /// An extension, with the words of what it stands in, and its own `at`.
 #[derive(Drop)]
-pub(crate) struct Extension {
+pub struct Extension {
     pub words: Words,
     pub origin: Origin,
     pub descriptor: FieldDescriptorProto,
@@ -63,7 +85,7 @@ struct Comment {
 }
 
 #[derive(Drop)]
-pub(crate) struct Schema {
+pub struct Schema {
     pub alloc: Global,
     pub messages: Vec<MessageType>,
     /// The types of the entries of maps.
@@ -76,10 +98,7 @@ pub(crate) struct Schema {
 impl Schema {
     /// The types of the files that are to be generated, and of those whose packages another crate
     /// has.
-    pub(crate) fn of(
-        base: &Words,
-        request: &CodeGeneratorRequest,
-    ) -> Result<Schema, GenerateError> {
+    pub fn of(base: &Words, request: &CodeGeneratorRequest) -> Result<Schema, GenerateError> {
         let alloc = base.alloc();
         let mut schema = Schema {
             alloc,
@@ -131,16 +150,20 @@ impl Schema {
         };
         self.add_extensions(&words, "$place$.7.$index$", &file.extension, origin)?;
         self.add_enums(&words, "$place$.5.$index$", &file.enum_type, origin)?;
+        self.add_messages(&mut words, file, origin)
+    }
+
+    // The message types of a file, with those within them.
+    fn add_messages(
+        &mut self,
+        file_words: &mut Words,
+        file: &FileDescriptorProto,
+        origin: Origin,
+    ) -> Result<(), GenerateError> {
         let mut pending = Vec::new(self.alloc);
         for (index, descriptor) in file.message_type.iter().enumerate() {
-            pending.push(MessageType {
-                words: inner(&words, &descriptor.name, "$place$.4.$index$", index)?,
-                origin,
-                descriptor: descriptor.clone()?,
-                is_recursive: false,
-                family: None,
-                is_twin: true,
-            })?;
+            let words = inner(file_words, &descriptor.name, "$place$.4.$index$", index)?;
+            pending.push(MessageType::new(words, origin, descriptor.clone()?))?;
         }
         for _ in 0..MOST_MESSAGES {
             match pending.pop() {
@@ -148,7 +171,7 @@ impl Schema {
                 None => return Ok(()),
             }
         }
-        Err(words.refused("$file$: more than 100,000 message types"))
+        Err(file_words.refused("$file$: more than 100,000 message types"))
     }
 
     // Takes a message type in, and puts those within it to the ones that are to be taken in.
@@ -158,41 +181,34 @@ impl Schema {
         pending: &mut Vec<MessageType>,
     ) -> Result<(), GenerateError> {
         let origin = own_origin(&message)?;
-        let descriptor = &message.descriptor;
-        let extensions = &descriptor.extension;
+        let extensions = &message.descriptor.extension;
         self.add_extensions(&message.words, "$place$.6.$index$", extensions, origin)?;
-        for (index, bytes) in descriptor.nested_type.iter().enumerate() {
+        self.find_within(&message, origin, pending)?;
+        let enums = &message.descriptor.enum_type;
+        self.add_enums(&message.words, "$place$.4.$index$", enums, origin)?;
+        let message = MessageType::new(message.words, origin, message.descriptor);
+        if message.is_entry() {
+            self.entries.push(message)?;
+        } else {
+            self.messages.push(message)?;
+        }
+        Ok(())
+    }
+
+    // The message types within one.
+    fn find_within(
+        &self,
+        message: &MessageType,
+        origin: Origin,
+        pending: &mut Vec<MessageType>,
+    ) -> Result<(), GenerateError> {
+        for (index, bytes) in message.descriptor.nested_type.iter().enumerate() {
             let descriptor = match DescriptorProto::decode_from_slice(self.alloc, bytes) {
                 Ok(descriptor) => descriptor,
                 Err(error) => return Err(GenerateError::Request(error)),
             };
-            pending.push(MessageType {
-                words: inner(&message.words, &descriptor.name, "$place$.3.$index$", index)?,
-                origin,
-                descriptor,
-                is_recursive: false,
-                family: None,
-                is_twin: true,
-            })?;
-        }
-        let enums = &descriptor.enum_type;
-        self.add_enums(&message.words, "$place$.4.$index$", enums, origin)?;
-        let is_entry = match &descriptor.options {
-            Some(options) => options.map_entry,
-            None => false,
-        };
-        let message = MessageType {
-            words: message.words,
-            origin,
-            descriptor: message.descriptor,
-            is_recursive: false,
-            family: None,
-            is_twin: true,
-        };
-        if is_entry {
-            self.entries.push(message)?;
-        } else {
-            self.messages.push(message)?;
+            let words = inner(&message.words, &descriptor.name, "$place$.3.$index$", index)?;
+            pending.push(MessageType::new(words, origin, descriptor))?;
         }
         Ok(())
     }
@@ -266,7 +282,7 @@ impl Schema {
     }
 
     /// What stands before the part of a file that is at this place.
-    pub(crate) fn comment(&self, place: &str) -> &str {
+    pub fn comment(&self, place: &str) -> &str {
         match self.comments.iter().find(|it| it.place.as_str() == place) {
             Some(comment) => &comment.text,
             None => "",
@@ -274,17 +290,17 @@ impl Schema {
     }
 
     /// The message type of this full name.
-    pub(crate) fn message(&self, full: &str) -> Option<&MessageType> {
+    pub fn message(&self, full: &str) -> Option<&MessageType> {
         self.messages.iter().find(|it| it.words.get("full") == full)
     }
 
     /// The type of a map's entries of this full name.
-    pub(crate) fn entry(&self, full: &str) -> Option<&MessageType> {
+    pub fn entry(&self, full: &str) -> Option<&MessageType> {
         self.entries.iter().find(|it| it.words.get("full") == full)
     }
 
     /// The enum of this full name.
-    pub(crate) fn enum_of(&self, full: &str) -> Option<&EnumType> {
+    pub fn enum_of(&self, full: &str) -> Option<&EnumType> {
         self.enums.iter().find(|it| it.words.get("full") == full)
     }
 }

@@ -2,13 +2,13 @@
 use crate::error::GenerateError;
 use crate::features::Features;
 use crate::scalar::{Scalar, number_type};
-use crate::schema::{MessageType, Schema};
+use crate::schema::Schema;
 use crate::words::{Template, Words};
 use wire_descriptor::FieldDescriptorProto;
 
 /// How a value is written.
 #[derive(Clone, Copy, PartialEq, Eq)]
-pub(crate) enum Sort {
+pub enum Sort {
     Number,
     Text,
     Message,
@@ -216,7 +216,7 @@ const OF_MESSAGE: [Template; 2] = [
 ];
 
 /// Sets the words of a value of this field; those of its message and of the crate are set.
-pub(crate) fn set_item(
+pub fn set_item(
     schema: &Schema,
     features: Features,
     field: &FieldDescriptorProto,
@@ -225,17 +225,10 @@ pub(crate) fn set_item(
     let sort = match field.type_ {
         9 => set_text(&STRING, words),
         12 => set_text(&BYTES, words),
-        10 | 11 => match schema.message(&field.type_name) {
-            Some(message) => {
-                set_message(message, field.type_ == 10 || features.is_delimited(), words)
-            }
-            None => return Err(foreign(field, words)),
-        },
+        10 => set_message(schema, true, field, words)?,
+        11 => set_message(schema, features.is_delimited(), field, words)?,
         14 => set_enum(schema, field, words)?,
-        number => match number_type(number) {
-            Some(scalar) => set_number(&scalar, words),
-            None => return Err(words.refused("$full$.$proto$: no type is known")),
-        },
+        number => set_number(number, words)?,
     };
     bracket(words);
     Ok(sort)
@@ -253,7 +246,16 @@ fn set_text(text: &'static [Template], words: &mut Words) -> Sort {
     Sort::Text
 }
 
-fn set_number(scalar: &Scalar, words: &mut Words) -> Sort {
+// A number of the type that descriptors have under this one.
+fn set_number(type_number: i32, words: &mut Words) -> Result<Sort, GenerateError> {
+    match number_type(type_number) {
+        Some(scalar) => set_scalar(&scalar, words),
+        None => return Err(words.refused("$full$.$proto$: no type is known")),
+    }
+    Ok(Sort::Number)
+}
+
+fn set_scalar(scalar: &Scalar, words: &mut Words) {
     words.set("held", scalar.held);
     words.set("kind", scalar.name);
     words.set("value", scalar.value);
@@ -268,7 +270,6 @@ fn set_number(scalar: &Scalar, words: &mut Words) -> Sort {
         _ => words.append_all(&OF_INTEGER),
     }
     set_order(scalar.value, words);
-    Sort::Number
 }
 
 // Which maps have such keys.
@@ -318,7 +319,15 @@ const CHARGED: [Template; 3] = [
     ("range_uses", "$range_uses$Rattle.std.specs.Prelude ◌∷◌\n"),
 ];
 
-fn set_message(message: &MessageType, is_group: bool, words: &mut Words) -> Sort {
+fn set_message(
+    schema: &Schema,
+    is_group: bool,
+    field: &FieldDescriptorProto,
+    words: &mut Words,
+) -> Result<Sort, GenerateError> {
+    let Some(message) = schema.message(&field.type_name) else {
+        return Err(foreign(field, words));
+    };
     set_names(&message.words, words);
     words.fill_all(&MESSAGE);
     if !message.words.get("charged").is_empty() {
@@ -328,10 +337,10 @@ fn set_message(message: &MessageType, is_group: bool, words: &mut Words) -> Sort
     words.append_all(&OF_MESSAGE);
     if is_group {
         words.set("wire_type", "StartGroup");
-        return Sort::Group;
+        return Ok(Sort::Group);
     }
     words.set("wire_type", "LengthDelimited");
-    Sort::Message
+    Ok(Sort::Message)
 }
 
 // What the type of a field is called.
@@ -355,7 +364,7 @@ fn set_names(of: &Words, words: &mut Words) {
 }
 
 /// Makes the value's type in brackets, where it has several words, the word `bracketed`.
-pub(crate) fn bracket(words: &mut Words) {
+pub fn bracket(words: &mut Words) {
     let is_one = !words.get("value").contains(' ');
     words.fill("bracketed", if is_one { "$value$" } else { "($value$)" });
 }

@@ -14,10 +14,7 @@ use wire_descriptor::CodeGeneratorRequest;
 /// optional ones; `services=skip` passes over services, `defaults=skip` over default values, and
 /// `laws=skip` writes no laws; and each `encoded=FIELD` names a field of messages that is held as
 /// the bytes of their encodings.
-pub(crate) fn set_crate(
-    base: &mut Words,
-    request: &CodeGeneratorRequest,
-) -> Result<(), GenerateError> {
+pub fn set_crate(base: &mut Words, request: &CodeGeneratorRequest) -> Result<(), GenerateError> {
     base.set("crate", first_name(request));
     base.fill_all(&DEFAULTS);
     for option in request.parameter.split(',') {
@@ -101,7 +98,7 @@ fn first_name(request: &CodeGeneratorRequest) -> &str {
 }
 
 /// Makes the types of the schema those that the parameter asks for.
-pub(crate) fn adapt(base: &Words, schema: &mut Schema) -> Result<(), GenerateError> {
+pub fn adapt(base: &Words, schema: &mut Schema) -> Result<(), GenerateError> {
     if base.get("enums") == "open" {
         for of_enum in &mut schema.enums {
             of_enum.origin.features = of_enum.origin.features.with_open_enums();

@@ -4,7 +4,7 @@ use wire_codec::{DecodeError, EncodeError};
 
 /// Why no crate is generated of a schema.
 #[derive(Drop)]
-pub(crate) enum GenerateError {
+pub enum GenerateError {
     /// What the schema has and a crate can't have, in a line.
     Refused(String),
     /// The request is none.
@@ -16,7 +16,7 @@ pub(crate) enum GenerateError {
 
 impl<T: Drop> From<AllocFailed<T>> for GenerateError {
     ghost use Rattle.std.specs.Prelude.{◌≡◌};
-    ghost use Rattle.wire_gen.specs.declared.error.GenerateError.TheVariants.{OutOfMemory};
+    ghost use Rattle.wire_schema.specs.declared.error.GenerateError.TheVariants.{OutOfMemory};
 
     ghost from_gives = { λ _ e. e ≡ OutOfMemory };
 
@@ -27,7 +27,7 @@ impl<T: Drop> From<AllocFailed<T>> for GenerateError {
 
 impl From<AllocError> for GenerateError {
     ghost use Rattle.std.specs.Prelude.{◌≡◌};
-    ghost use Rattle.wire_gen.specs.declared.error.GenerateError.TheVariants.{OutOfMemory};
+    ghost use Rattle.wire_schema.specs.declared.error.GenerateError.TheVariants.{OutOfMemory};
 
     ghost from_gives = { λ _ e. e ≡ OutOfMemory };
 

@@ -1,0 +1,51 @@
+//! Closed enums in a oneof: a number that the enum does not have goes to the unknown fields.
+use crate::words::{Template, Words};
+
+const CLOSING: [Template; 5] = [
+    (
+        "definition",
+        "closing $next$ $of_module$-of\n    $word$-of-$module$-from\n    ($definition$)",
+    ),
+    (
+        "returned",
+        "closing_returned g $of_module$-number $of_module$-of $next$\n    \
+        $word$-of-$module$-from _ _\n    ($returned$)\n    ($word$-of-$module$-apart$charges$ g)",
+    ),
+    ("table", "$holder$-$field$-kind"),
+    ("step", "$holder$-$field$-kind.takes"),
+    ("sort", "Leaving"),
+];
+
+const OF_CLOSING: [Template; 6] = [
+    (
+        "definitions",
+        "$specs$ $word$-of-$module$-from\nRattle.wire_fields.specs.ClosedOneof closing\n\
+        $of_specs$.$of_name$ $of_module$-of\n",
+    ),
+    (
+        "definitions",
+        "Rattle.wire_fields.specs.Leaving leaving_none\n",
+    ),
+    (
+        "returned_uses",
+        "$specs$ $word$-of-$module$-apart\n$of_specs$.$of_name$ $of_module$-number\n\
+        Rattle.wire_fields.specs.ClosedBack closing_returned\n",
+    ),
+    ("code", "crate::$module$ set_or_keep_$word$\n"),
+    ("all_calls", "set_or_keep_$word$ "),
+    ("all_steps", "$word$-of-$module$-closed "),
+];
+
+/// Makes the words of a oneof, whose next variant is of a closed enum, those of one that keeps the
+/// numbers that the enum lacks.
+pub fn set_closing(words: &mut Words, variant: &Words) {
+    words.copy(variant, &["word", "of_specs", "of_name", "of_module"]);
+    if words.get("sort") != "Leaving" {
+        words.fill_all(&[
+            ("definition", "leaving_none $definition$"),
+            ("returned", "none_returned ($returned$)"),
+        ]);
+    }
+    words.fill_all(&CLOSING);
+    words.append_all(&OF_CLOSING);
+}

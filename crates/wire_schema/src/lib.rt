@@ -1,0 +1,28 @@
+//! The message types of schemas, and the words of which their files are made: names, kinds of
+//! fields, and templates that are filled with them. Every function ends and is safe, for all
+//! descriptors; none has a contract, since what is made of the words is proved by itself.
+#![tactic(auto)]
+
+mod closed;
+mod closing;
+mod error;
+mod features;
+mod field;
+mod holding;
+mod item;
+mod keeping;
+mod kind;
+mod names;
+mod origin;
+mod parameters;
+mod scalar;
+mod schema;
+mod words;
+
+pub use error::GenerateError;
+pub use features::{FIRST_EDITION, Features, LAST_EDITION};
+pub use field::{Field, Oneof, features_of, fields_of, put_apart, set_field, started};
+pub use names::{constant_name, order_key, type_name, value_name, word_name};
+pub use parameters::set_crate;
+pub use schema::{EnumType, Extension, MessageType, Origin, Schema};
+pub use words::{Template, Words};
