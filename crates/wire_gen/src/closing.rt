@@ -1,5 +1,6 @@
 //! Closed enums in a oneof: a number that the enum does not have goes to the unknown fields.
 use crate::oneof_definitions::put_values;
+use wire_schema::{GenerateError, Template, Words};
 
 /// The function of a variant of a closed enum.
 pub(crate) const CLOSED_VARIANT: &str = "
@@ -149,8 +150,6 @@ returns-in_err-merge_closed-clause-err g c =
     rw (p.1, p.2) (λ other. closing_untaken $of_module$-of $word$-of-$module$-from _ _ _ _ _ _
     (c.in_err-merge_closed.ensures.err other))
 ";
-
-use wire_schema::{GenerateError, Template, Words};
 
 /// The proof of that function.
 pub(crate) fn closed_answers(base: &Words, variant: &Words) -> Result<String, GenerateError> {

@@ -182,6 +182,7 @@ fn put_field(page: &mut Words, field: &Field, is_read_back: bool) {
         &["field", "value", "bracketed", "path", "sort"],
     );
     page.copy(&field.words, &["definition", "definitions", "own_range"]);
+    page.copy(&field.words, &["of_charged"]);
     page.append_all(&[("uses", "$definitions$"), ("accessors", ACCESSOR)]);
     page.fill("twice", "Rattle.wire_fields.specs.Shape two\n");
     if field.oneof.is_none() || page.get("sort") == "Leaving" {
@@ -217,10 +218,10 @@ fn put_text(page: &mut Words, fields: &[Field]) {
     });
 }
 
-/// Puts which values of a field are read back among the kinds, or where that follows from what
-/// records are charged.
+/// Puts which values of a field are read back among the kinds, or where it holds a message of which
+/// that follows from what is charged, among the ranges.
 pub(crate) fn put_field_range(page: &mut Words) {
-    if page.get("charged").is_empty() {
+    if page.get("of_charged").is_empty() {
         page.append("kinds", FIELD_RANGE);
     } else {
         page.append("ranges", FIELD_RANGE);

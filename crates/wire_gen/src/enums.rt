@@ -2,6 +2,7 @@
 use crate::comments::put_comment;
 use crate::laws_pages::has_laws;
 use std::alloc::Global;
+use wire_schema::{EnumType, GenerateError, Schema, Template, Words, constant_name, value_name};
 
 const ENUM: &str = "\
 #[derive(Clone, Copy, Debug, PartialEq, Eq, Hash)]
@@ -69,8 +70,6 @@ const USES_OF_CLOSED: &str = "\
 use Rattle.wire_codec.specs.EnumValue.TheVariants.{Known}
 use Rattle.wire_fields.specs.Ranges.{IsClosed}
 ";
-
-use wire_schema::{EnumType, GenerateError, Schema, Template, Words, constant_name, value_name};
 
 const OF_VALUE: [Template; 9] = [
     (

@@ -3,6 +3,7 @@ use crate::imports::definition_imports;
 use crate::laws_pages::has_laws;
 use crate::recursive_definitions::ALIASES;
 use crate::returned::under_charges;
+use wire_schema::{GenerateError, Template, Words};
 
 const USES: &str = "\
 Rattle.std.proofs.Common List
@@ -309,7 +310,7 @@ fn put_lines(page: &mut Words, own: &mut Words, lines: &'static [Template]) {
     }
 }
 
-// What is read back of all.
+// What is read back of all, behind an empty line.
 fn put_back(page: &mut Words) {
     page.append("backs", BACK);
     let backs = page.take("backs");
@@ -322,8 +323,6 @@ fn put_back(page: &mut Words) {
 const HELD_HEAD: &str = "\
 use Rattle.$crate$.proofs.$family_module$.FamilyHeldRecursiveHeld.merge_leaf.Goals as goal
 $answers$";
-
-use wire_schema::{GenerateError, Template, Words};
 
 const HELD: &str = "
 pub returns-in-$name$-clause-err : goal.returns-in-$name$-clause-err

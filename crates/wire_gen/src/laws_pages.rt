@@ -1,13 +1,9 @@
 //! The laws of the messages of a crate, and their proofs.
+use wire_schema::Words;
 
 /// Whether they are asked for.
 pub(crate) fn has_laws(base: &Words) -> bool {
     base.get("without_laws").is_empty()
-}
-
-/// Whether there are fields that read an entry before they leave its record.
-pub(crate) fn leaves_entries(fields: &[Field]) -> bool {
-    fields.iter().any(|it| !it.words.get("left").is_empty())
 }
 
 pub(crate) const LAWS: &str = "\
@@ -35,8 +31,8 @@ pub fn $module$_reads_back()
 
 /// The same where it follows from what records are charged that are left.
 pub(crate) const CHARGED_LAW: &str = "
-/// What is written of a `$name$` in range decodes to it, with its unknown fields, whatever each of
-/// them is charged, where the limits suffice.
+/// What is written of a `$name$` in range decodes to it, whatever each record is charged that a map
+/// of a closed enum left, where the limits suffice.
 pub fn $module$_reads_back()
     ensures { (charges : List ℕ → ℕ → Payload → Charge)
         → ReadsBack $module$-shape ($module$-range charges) }
@@ -70,5 +66,3 @@ use Rattle.$crate$.proofs.laws.$module$_reads_back.Goals as goal
 pub returns : goal.returns
 returns c = reads_back ($module$-returned c.grounds.ensures) c.text_decodes.ensures
 ";
-
-use wire_schema::{Field, Words};

@@ -2,6 +2,7 @@
 use crate::imports::definition_imports;
 use crate::laws_pages::has_laws;
 use crate::returned::{under_charges, use_charges};
+use wire_schema::{GenerateError, Words};
 
 /// What the definitions of one of them bring in.
 pub(crate) const MEMBER_USES: &str = "\
@@ -153,5 +154,3 @@ pub returns-in-$name$-clause-err : goal.returns-in-$name$-clause-err
 returns-in-$name$-clause-err g c =
     rw (sym c.replace.ensures.value) c.merge_held-merged.ensures.err
 ";
-
-use wire_schema::{GenerateError, Words};

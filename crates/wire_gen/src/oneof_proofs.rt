@@ -1,5 +1,6 @@
 //! The proofs of a oneof.
 use crate::imports::definition_imports;
+use wire_schema::{GenerateError, Oneof, Words};
 
 const USES: &str = "\
 Rattle.std.proofs.Common refl
@@ -76,8 +77,6 @@ returns-in_err-merge-clause-err g c =
           (sym c.take_$word$-value.ensures) h.1,
     )) _ _ _ ((c.in_err-merge).ensures.err other))
 ";
-
-use wire_schema::{GenerateError, Oneof, Words};
 
 /// The proofs of the kind's `merge`, where there is more than one variant.
 pub(crate) fn merge_answers(base: &Words, oneof: &Oneof) -> Result<String, GenerateError> {

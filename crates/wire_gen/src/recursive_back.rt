@@ -103,9 +103,8 @@ pub(crate) fn put_back(page: &mut Words, fields: &[Field], tree: &Tree) {
     end_run(page);
     page.append("run_pieces", "$run_ends$");
     put_returned(page, fields, tree);
-    let is_member = !page.get("family_name").is_empty();
-    page.append("ranges", if is_member { MEMBER_RANGE } else { RANGE });
-    if !is_member {
+    page.append("ranges", if is_alone { RANGE } else { MEMBER_RANGE });
+    if is_alone {
         under_charges(page);
     }
     page.append("back", "\n$ranges$");

@@ -8,6 +8,7 @@ use crate::member_definitions::{
 use crate::recursive_back::put_back;
 use crate::rows::{is_row, once_place};
 use crate::tree::Tree;
+use wire_schema::{Field, GenerateError, Template, Words};
 
 const USES: &str = "\
 Rattle.std.proofs.Common ap
@@ -176,7 +177,7 @@ pub(crate) fn table_page(base: &Words, fields: &[Field], tree: &Tree) -> Words {
         } else {
             page.append("uses", "$definitions$");
             if field.oneof.is_none() {
-                page.copy(&field.words, &["own_range"]);
+                page.copy(&field.words, &["own_range", "of_charged"]);
                 page.append("kinds", KIND);
                 if is_read_back {
                     put_field_range(&mut page);
@@ -293,8 +294,6 @@ use Rattle.$crate$.specs.declared.$module$.$name$.{$name$, out-$name$, fold_out-
 use Rattle.$crate$.specs.declared.$module$.$name$.TheFolds.{fold-roll-$name$, map-$name$}
 use Rattle.$crate$.proofs.$module$.$name$Recursive.push.Goals as goal
 ";
-
-use wire_schema::{Field, GenerateError, Template, Words};
 
 const PUSH: &str = "
 pub returns-in-$row$-clause-ok : goal.returns-in-$row$-clause-ok

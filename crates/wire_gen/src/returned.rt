@@ -1,5 +1,4 @@
 //! What is read back of a message type.
-use crate::laws_pages::leaves_entries;
 use crate::rows::is_row;
 use crate::tree::Tree;
 use wire_schema::{Field, Template, Words};
@@ -23,9 +22,10 @@ $module$-left-charge = $left_charge$
 ";
 
 // Where it follows from what the records are charged that are left.
-const CHARGED: &str = "\
--- for what each record is charged that is left, an entry of a map for its reading too: by the
--- numbers of the fields that its message stands in, by its own number and by its payload
+const UNDER_CHARGES: &str = "\
+-- for what each record is charged that a map of a closed enum left, for its reading too: by the
+-- numbers of the fields that lead to its message, from the outermost one on, by its own number and
+-- by its payload; of types that hold one another the place of the one that leads out is before them
 module _ (charges : List ℕ → ℕ → Payload → Charge) where
 $ranges$";
 
@@ -86,7 +86,7 @@ const LEAVING_RANGE: [Template; 3] = [
     ),
 ];
 
-const CHARGED_RANGE: [Template; 3] = [
+const ENTRIES_RANGE: [Template; 3] = [
     (
         "whole_range",
         "pair_range ($range$)\n    (charged_range $module$-known (charges []))",
@@ -135,6 +135,11 @@ const EMPTY_DROPPED_RANGE: [Template; 3] = [
     ),
 ];
 
+// Whether there are fields that read an entry before they leave its record.
+fn leaves_entries(fields: &[Field]) -> bool {
+    fields.iter().any(|it| !it.words.get("left").is_empty())
+}
+
 /// Puts what is read back of a message behind the text of its page.
 pub(crate) fn put_range_page(page: &mut Words, fields: &[Field]) {
     if leaves_entries(fields) {
@@ -149,7 +154,7 @@ pub(crate) fn put_range_page(page: &mut Words, fields: &[Field]) {
 pub(crate) fn under_charges(page: &mut Words) {
     if !page.get("charged").is_empty() {
         page.indent("ranges");
-        page.fill("ranges", CHARGED);
+        page.fill("ranges", UNDER_CHARGES);
     }
 }
 
@@ -196,7 +201,7 @@ pub(crate) fn put_range(page: &mut Words, fields: &[Field], tree: &Tree) {
     put_left_charge(page, fields);
     let is_leaving = page.get("part") == "Leaving";
     page.append_all(match (fields.is_empty(), is_kept) {
-        _ if leaves_entries(fields) => &CHARGED_RANGE,
+        _ if leaves_entries(fields) => &ENTRIES_RANGE,
         _ if is_leaving => &LEAVING_RANGE,
         (false, true) => &KEPT_RANGE,
         (false, false) => &DROPPED_RANGE,

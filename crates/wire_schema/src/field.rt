@@ -274,7 +274,7 @@ fn oneof_of(
     })
 }
 
-// Puts a field into its oneof.
+// Puts a field into its oneof, which is there.
 fn add_variant(index: i32, mut variant: Words, fields: &mut [Field]) -> Result<(), GenerateError> {
     for field in fields {
         if let Some(oneof) = &mut field.oneof {

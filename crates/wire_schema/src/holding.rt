@@ -171,7 +171,7 @@ impl Schema {
         }
     }
 
-    /// Whether a field holds a message that follows from what is charged.
+    /// Whether a field holds a message of which what is read back follows from what is charged.
     pub fn is_charged(&self, field: &FieldDescriptorProto) -> bool {
         match self.message(self.held(field)) {
             Some(message) => !message.words.get("charged").is_empty(),

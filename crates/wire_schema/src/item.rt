@@ -331,7 +331,7 @@ fn set_message(
     set_names(&message.words, words);
     words.fill_all(&MESSAGE);
     if !message.words.get("charged").is_empty() {
-        words.set("charged", "charged");
+        words.set("of_charged", "of_charged");
         words.fill_all(&CHARGED);
     }
     words.append_all(&OF_MESSAGE);

@@ -16,10 +16,11 @@ const WORDS: &str = "abbrev abstract as assumption async await become box break 
 const TYPES: &str = "AllocError Always AlwaysEmbedded BTreeMap Blob Bool Box Buf Charge Clone \
     Copy Debug DecodeContext DecodeError Double DoubleBits Drop EachEmbedded EachGroup Embedded \
     EncodeError EncodeSink Enum EnumValue Enumeration Eq Err FamilyHeld FamilySlice FieldKind \
-    Fields Fixed32 Fixed64 Float FloatBits Global Grounds Group Hash Implicit Int32 Int64 Kind Known Lawful Leaving Lib \
-    List Map Message None Ok Option Optional Packed PartialEq Plain Range Records Repeated Rest \
-    Result Returned Self Sfixed32 Sfixed64 Shape Sint32 Sint64 Size SizeCache Some Step String \
-    Tag Text Twin Type Uint32 Uint64 UnknownFields Unpacked Variants Vec";
+    Fields Fixed32 Fixed64 Float FloatBits Global Grounds Group Hash Implicit Int32 Int64 Kind \
+    Known Lawful Leaving Lib List Map Message None Ok Option Optional Packed PartialEq Payload \
+    Plain Range Records Repeated Rest Result Returned Self Sfixed32 Sfixed64 Shape Sint32 Sint64 \
+    Size SizeCache Some Step String Tag Text Twin Type Uint32 Uint64 UnknownFields Unpacked \
+    Variants Vec";
 
 /// A name of capitals, `OuterInner` of `Outer.Inner` and of `outer_inner`.
 pub fn type_name(alloc: Global, name: &str) -> Result<String, GenerateError> {

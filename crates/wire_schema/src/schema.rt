@@ -25,7 +25,7 @@ pub struct Origin {
 /// A message type. Its words are `full`, its name in schemas, as `.package.Outer.Inner`; `name`,
 /// the one in code, and `module`; `outer`, the names of the types that it stands in and its own;
 /// `home`, its crate; `place`, its file and the numbers that lead there; `charged`, where it or what
-/// it holds leaves entries of maps; and `member`, its place in its family, before those of fields.
+/// it holds leaves entries of maps; and `member`, its place in its family as the head of a list.
 #[derive(Drop)]
 pub struct MessageType {
     pub words: Words,

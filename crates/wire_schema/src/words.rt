@@ -117,7 +117,7 @@ impl Words {
         }
     }
 
-    /// Moves each line of the word two columns to the right.
+    /// Moves each line of the word that is not empty two columns to the right.
     pub fn indent(&mut self, name: &'static str) {
         self.move_lines(name, "  ");
     }
@@ -132,13 +132,9 @@ impl Words {
         let mut moved = String::new(self.alloc);
         let mut is_first = true;
         for line in text.split('\n') {
-            let margin = match (is_first, line.is_empty()) {
-                (true, true) => "",
-                (true, false) => first,
-                (false, true) => "\n",
-                (false, false) => "\n  ",
-            };
-            self.push(margin, &mut moved);
+            let margin = if is_first { first } else { "  " };
+            self.push(if is_first { "" } else { "\n" }, &mut moved);
+            self.push(if line.is_empty() { "" } else { margin }, &mut moved);
             self.push(line, &mut moved);
             is_first = false;
         }
