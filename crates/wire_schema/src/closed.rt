@@ -115,7 +115,7 @@ const OF_MAP: [Template; 3] = [
 ];
 
 /// Makes the words of a field of a closed enum, of those of an open one.
-pub fn set_closed(words: &mut Words) {
+pub(crate) fn set_closed(words: &mut Words) {
     if words.get("kind").starts_with("Map<") {
         return set_closed_map(words);
     }

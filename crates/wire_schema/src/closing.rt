@@ -38,7 +38,7 @@ const OF_CLOSING: [Template; 6] = [
 
 /// Makes the words of a oneof, whose next variant is of a closed enum, those of one that keeps the
 /// numbers that the enum lacks.
-pub fn set_closing(words: &mut Words, variant: &Words) {
+pub(crate) fn set_closing(words: &mut Words, variant: &Words) {
     words.copy(variant, &["word", "of_specs", "of_name", "of_module"]);
     if words.get("sort") != "Leaving" {
         words.fill_all(&[

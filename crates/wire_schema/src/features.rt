@@ -44,7 +44,7 @@ pub struct Features {
 
 impl Features {
     /// Those of a file.
-    pub fn of_file(
+    pub(crate) fn of_file(
         file: &FileDescriptorProto,
         words: &mut Words,
     ) -> Result<Features, GenerateError> {
@@ -70,7 +70,7 @@ impl Features {
     }
 
     /// The same but for what a part says itself.
-    pub fn with(
+    pub(crate) fn with(
         self,
         set: Option<&FeatureSet>,
         words: &mut Words,
@@ -93,7 +93,7 @@ impl Features {
     }
 
     /// The same with messages behind their length.
-    pub fn prefixed(self) -> Features {
+    pub(crate) fn prefixed(self) -> Features {
         Features {
             encoding: LENGTH_PREFIXED,
             ..self
@@ -101,7 +101,7 @@ impl Features {
     }
 
     /// The same with open enums.
-    pub fn with_open_enums(self) -> Features {
+    pub(crate) fn with_open_enums(self) -> Features {
         Features {
             enum_type: OPEN,
             ..self
@@ -109,11 +109,11 @@ impl Features {
     }
 
     /// Whether a number or a text is there only where it is none that is the default.
-    pub fn is_implicit(self) -> bool {
+    pub(crate) fn is_implicit(self) -> bool {
         self.presence == IMPLICIT
     }
 
-    pub fn is_required(self) -> bool {
+    pub(crate) fn is_required(self) -> bool {
         self.presence == LEGACY_REQUIRED
     }
 
@@ -121,11 +121,11 @@ impl Features {
         self.enum_type == CLOSED
     }
 
-    pub fn is_packed(self) -> bool {
+    pub(crate) fn is_packed(self) -> bool {
         self.repeated == PACKED
     }
 
-    pub fn is_delimited(self) -> bool {
+    pub(crate) fn is_delimited(self) -> bool {
         self.encoding == DELIMITED
     }
 }

@@ -6,7 +6,7 @@ use wire_descriptor::FieldDescriptorProto;
 impl Schema {
     /// Which message types hold themselves, and which hold one another: each tells the place of the
     /// first of its family, by their modules.
-    pub fn find_families(&mut self) -> Result<(), GenerateError> {
+    pub(crate) fn find_families(&mut self) -> Result<(), GenerateError> {
         let held = self.held_by_each()?;
         let families = self.families(&held)?;
         for (message, family) in self.messages.iter_mut().zip(families) {
@@ -131,7 +131,7 @@ impl Schema {
 
     /// The clone of a message that holds itself or others is a derived one, which says nothing of it, nor of
     /// what holds such a message.
-    pub fn find_twins(&mut self) -> Result<(), GenerateError> {
+    pub(crate) fn find_twins(&mut self) -> Result<(), GenerateError> {
         let mut flags = self.flags(true)?;
         for (message, flag) in self.messages.iter().zip(flags.iter_mut()) {
             *flag = !message.is_recursive && message.family.is_none();
@@ -145,7 +145,7 @@ impl Schema {
 
     /// Which types leave entries of maps to their unknown fields, or hold such a type: what is read
     /// back of these follows from what such a record is charged.
-    pub fn find_charged(&mut self) -> Result<(), GenerateError> {
+    pub(crate) fn find_charged(&mut self) -> Result<(), GenerateError> {
         let mut flags = Vec::new(self.alloc);
         for message in &self.messages {
             let mut fields = message.descriptor.field.iter();
@@ -172,7 +172,7 @@ impl Schema {
     }
 
     /// Whether a field holds a message of which what is read back follows from what is charged.
-    pub fn is_charged(&self, field: &FieldDescriptorProto) -> bool {
+    pub(crate) fn is_charged(&self, field: &FieldDescriptorProto) -> bool {
         match self.message(self.held(field)) {
             Some(message) => !message.words.get("charged").is_empty(),
             None => false,

@@ -8,7 +8,7 @@ use wire_descriptor::FieldDescriptorProto;
 
 /// How a value is written.
 #[derive(Clone, Copy, PartialEq, Eq)]
-pub enum Sort {
+pub(crate) enum Sort {
     Number,
     Text,
     Message,
@@ -216,7 +216,7 @@ const OF_MESSAGE: [Template; 2] = [
 ];
 
 /// Sets the words of a value of this field; those of its message and of the crate are set.
-pub fn set_item(
+pub(crate) fn set_item(
     schema: &Schema,
     features: Features,
     field: &FieldDescriptorProto,
@@ -364,7 +364,7 @@ fn set_names(of: &Words, words: &mut Words) {
 }
 
 /// Makes the value's type in brackets, where it has several words, the word `bracketed`.
-pub fn bracket(words: &mut Words) {
+pub(crate) fn bracket(words: &mut Words) {
     let is_one = !words.get("value").contains(' ');
     words.fill("bracketed", if is_one { "$value$" } else { "($value$)" });
 }

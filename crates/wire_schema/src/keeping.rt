@@ -1,6 +1,7 @@
 //! Fields that leave records of other wire types to the unknown fields.
 use crate::closing::set_closing;
-use crate::field::{Field, put_apart};
+use crate::field::Field;
+use crate::oneof::put_apart;
 use crate::words::{Template, Words};
 
 const KEEPING: [Template; 7] = [
@@ -41,7 +42,7 @@ const OF_KEEPING: [Template; 4] = [
 
 /// Sets the wire types of a field, `types` in definitions and `own_types` in code. A list of
 /// numbers has that of bytes, too.
-pub fn set_types(is_list: bool, words: &mut Words) {
+pub(crate) fn set_types(is_list: bool, words: &mut Words) {
     let types = match words.get("wire_type") {
         "Fixed64" => "of_fixed64",
         "Fixed32" => "of_fixed32",
@@ -58,14 +59,14 @@ pub fn set_types(is_list: bool, words: &mut Words) {
 }
 
 /// Makes the words of a field those of one that leaves records of other wire types.
-pub fn set_keeping(words: &mut Words) {
+pub(crate) fn set_keeping(words: &mut Words) {
     words.fill_all(&KEEPING);
     words.append_all(&OF_KEEPING);
 }
 
 /// The numbers of a oneof are a list, and what goes with each: the call and the step of its records,
 /// or its wire types where records of others are left.
-pub fn put_number(words: &mut Words, variant: &Words) {
+pub(crate) fn put_number(words: &mut Words, variant: &Words) {
     words.set("next", variant.get("number"));
     words.copy(variant, &["types", "own_types"]);
     let is_first = words.get("numbers").is_empty();
@@ -141,7 +142,7 @@ const PAIRED_LEAVING: [Template; 3] = [
 ];
 
 /// Where a field leaves records to the unknown fields, its message is a table of such as may.
-pub fn leave_others(fields: &mut [Field]) {
+pub(crate) fn leave_others(fields: &mut [Field]) {
     let leaves = fields.iter().any(|it| it.words.get("sort") == "Leaving");
     for field in fields {
         if leaves && field.words.get("sort") != "Leaving" {

@@ -240,7 +240,12 @@ const MAP: Kind = Kind {
 };
 
 /// Makes the words of a field of those of its values.
-pub fn set_kind(features: Features, field: &FieldDescriptorProto, sort: Sort, words: &mut Words) {
+pub(crate) fn set_kind(
+    features: Features,
+    field: &FieldDescriptorProto,
+    sort: Sort,
+    words: &mut Words,
+) {
     let is_repeated = field.label == LABEL_REPEATED;
     let is_packed = match &field.options {
         Some(options) => options.packed.unwrap_or(features.is_packed()),
@@ -261,7 +266,7 @@ pub fn set_kind(features: Features, field: &FieldDescriptorProto, sort: Sort, wo
 }
 
 /// Makes the words of a value those of the key of a map.
-pub fn set_key(words: &mut Words) {
+pub(crate) fn set_key(words: &mut Words) {
     words.fill_all(&[
         ("key_held", "$held$"),
         ("key_kind", "$kind$"),
@@ -282,7 +287,7 @@ pub fn set_key(words: &mut Words) {
 }
 
 /// Makes the words of a map of those of its key and its values.
-pub fn set_map(sort: Sort, words: &mut Words) {
+pub(crate) fn set_map(sort: Sort, words: &mut Words) {
     set_always(sort, words);
     put_kind(&MAP, words);
     words.set("maps", "m");
@@ -312,7 +317,7 @@ const ALWAYS_MESSAGE: [Template; 3] = [
 ];
 
 /// How a value is there that is always written: `presence` in code, and `always` as a definition.
-pub fn set_always(sort: Sort, words: &mut Words) {
+pub(crate) fn set_always(sort: Sort, words: &mut Words) {
     let (presence, always) = match sort {
         Sort::Message => ("AlwaysEmbedded", "embedded_always"),
         Sort::Group => ("AlwaysGroup", "group_always"),

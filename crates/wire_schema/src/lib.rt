@@ -13,6 +13,7 @@ mod item;
 mod keeping;
 mod kind;
 mod names;
+mod oneof;
 mod origin;
 mod parameters;
 mod scalar;
@@ -21,8 +22,9 @@ mod words;
 
 pub use error::GenerateError;
 pub use features::{FIRST_EDITION, Features, LAST_EDITION};
-pub use field::{Field, Oneof, features_of, fields_of, put_apart, set_field, started};
+pub use field::{Field, features_of, fields_of, set_field, started};
 pub use names::{constant_name, order_key, type_name, value_name, word_name};
+pub use oneof::{Oneof, put_apart};
 pub use parameters::set_crate;
 pub use schema::{EnumType, Extension, MessageType, Origin, Schema};
 pub use words::{Template, Words};

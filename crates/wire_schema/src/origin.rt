@@ -6,7 +6,7 @@ use crate::words::Words;
 use wire_descriptor::FileDescriptorProto;
 
 /// The crate that has the types of a file, of lines of a package or a file and a crate each.
-pub fn home_of<'a>(file: &FileDescriptorProto, imported: &'a str) -> &'a str {
+pub(crate) fn home_of<'a>(file: &FileDescriptorProto, imported: &'a str) -> &'a str {
     for line in imported.split('\n') {
         if let Some((of, home)) = line.split_once(' ') {
             if of == file.name.as_str() || of == file.package.as_str() {
@@ -19,7 +19,12 @@ pub fn home_of<'a>(file: &FileDescriptorProto, imported: &'a str) -> &'a str {
 
 /// The words of a type of this name within a file or another type, where it is the one at this
 /// index.
-pub fn inner(outer: &Words, name: &str, place: &str, index: usize) -> Result<Words, GenerateError> {
+pub(crate) fn inner(
+    outer: &Words,
+    name: &str,
+    place: &str,
+    index: usize,
+) -> Result<Words, GenerateError> {
     let alloc = outer.alloc();
     let mut words = Words::like(outer);
     words.set("name", name);
@@ -36,7 +41,7 @@ pub fn inner(outer: &Words, name: &str, place: &str, index: usize) -> Result<Wor
 }
 
 /// What a type has of its file, but for what it says itself.
-pub fn own_origin(message: &MessageType) -> Result<Origin, GenerateError> {
+pub(crate) fn own_origin(message: &MessageType) -> Result<Origin, GenerateError> {
     let Some(options) = &message.descriptor.options else {
         return Ok(message.origin);
     };
@@ -49,7 +54,10 @@ pub fn own_origin(message: &MessageType) -> Result<Origin, GenerateError> {
 }
 
 /// Services are passed over where the parameter says so.
-pub fn stop_on_services(base: &Words, file: &FileDescriptorProto) -> Result<(), GenerateError> {
+pub(crate) fn stop_on_services(
+    base: &Words,
+    file: &FileDescriptorProto,
+) -> Result<(), GenerateError> {
     if file.service.is_empty() || base.get("services") == "skip" {
         return Ok(());
     }

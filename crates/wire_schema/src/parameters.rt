@@ -98,7 +98,7 @@ fn first_name(request: &CodeGeneratorRequest) -> &str {
 }
 
 /// Makes the types of the schema those that the parameter asks for.
-pub fn adapt(base: &Words, schema: &mut Schema) -> Result<(), GenerateError> {
+pub(crate) fn adapt(base: &Words, schema: &mut Schema) -> Result<(), GenerateError> {
     if base.get("enums") == "open" {
         for of_enum in &mut schema.enums {
             of_enum.origin.features = of_enum.origin.features.with_open_enums();

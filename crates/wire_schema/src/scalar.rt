@@ -2,7 +2,7 @@
 
 /// What a scalar type is in code and in definitions.
 #[derive(Clone, Copy)]
-pub struct Scalar {
+pub(crate) struct Scalar {
     /// The type of a value, and the name of the scalar among the kinds of fields.
     pub held: &'static str,
     pub name: &'static str,
@@ -29,7 +29,7 @@ const fn number(
 }
 
 /// The numeric scalar type of this number of `FieldDescriptorProto.Type`, if it is one.
-pub fn number_type(type_number: i32) -> Option<Scalar> {
+pub(crate) fn number_type(type_number: i32) -> Option<Scalar> {
     Some(match type_number {
         1 => number("DoubleBits", "Double", "DoubleBits", "Fixed64", "double"),
         2 => number("FloatBits", "Float", "FloatBits", "Fixed32", "float"),

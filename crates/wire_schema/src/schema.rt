@@ -295,7 +295,7 @@ impl Schema {
     }
 
     /// The type of a map's entries of this full name.
-    pub fn entry(&self, full: &str) -> Option<&MessageType> {
+    pub(crate) fn entry(&self, full: &str) -> Option<&MessageType> {
         self.entries.iter().find(|it| it.words.get("full") == full)
     }
 

@@ -1,0 +1,153 @@
+//! Oneofs, and which fields they have.
+use crate::error::GenerateError;
+use crate::field::Field;
+use crate::keeping::put_number;
+use crate::names::{type_name, word_name};
+use crate::schema::{MessageType, Schema};
+use crate::words::{Template, Words};
+
+/// A oneof, with its fields in the order of their numbers. Its words are those of a type; those of
+/// each field are those of its values, and its name as a `variant` and as a `word`.
+#[derive(Drop)]
+pub struct Oneof {
+    /// Its place among those of its message.
+    index: i32,
+    pub words: Words,
+    pub variants: Vec<Words>,
+}
+
+/// Whether there is no oneof of this index.
+pub(crate) fn is_new(fields: &[Field], index: i32) -> bool {
+    !fields.iter().any(|it| match &it.oneof {
+        Some(oneof) => oneof.index == index,
+        None => false,
+    })
+}
+
+/// A oneof without fields, which stands where its first field does.
+pub(crate) fn oneof_of(
+    base: &Words,
+    schema: &Schema,
+    message: &MessageType,
+    index: i32,
+) -> Result<Field, GenerateError> {
+    let mut words = oneof_words(base, message, index)?;
+    let mut own = message.descriptor.field.iter();
+    if own.any(|it| it.oneof_index == Some(index) && schema.is_charged(it)) {
+        words.fill_all(&CHARGED_ONEOF);
+    }
+    let mut of = Words::like(base);
+    of.copy(&words, &["full", "name", "module", "place", "charged"]);
+    Ok(Field {
+        words,
+        oneof: Some(Oneof {
+            index,
+            words: of,
+            variants: Vec::new(base.alloc()),
+        }),
+    })
+}
+
+/// Puts a field into its oneof, which is there.
+pub(crate) fn add_variant(
+    index: i32,
+    mut variant: Words,
+    fields: &mut [Field],
+) -> Result<(), GenerateError> {
+    for field in fields {
+        if let Some(oneof) = &mut field.oneof {
+            if oneof.index == index {
+                tell_apart(&mut variant, &oneof.words);
+                if oneof.variants.is_empty() {
+                    field.words.set("number", variant.get("number"));
+                }
+                put_number(&mut field.words, &variant);
+                oneof.variants.push(variant)?;
+                return Ok(());
+            }
+        }
+    }
+    Ok(())
+}
+
+// In a clause a variant is not called as its oneof.
+fn tell_apart(variant: &mut Words, oneof: &Words) {
+    if variant.get("variant") == oneof.get("name") {
+        variant.append("variant", "_");
+    }
+}
+
+/// Why a number `h` of a oneof is none of others, for one number more.
+pub fn put_apart(words: &mut Words, is_first: bool) {
+    words.indent_rest("apart");
+    words.fill(
+        "apart",
+        if is_first {
+            "rw h refl"
+        } else {
+            "elim h [\n      | inl h ↦ $apart$\n      | inr h ↦ rw h refl\n    ]"
+        },
+    );
+}
+
+const ONEOF: [Template; 16] = [
+    ("shape", "$module$-shape"),
+    ("range", "$module$-range"),
+    ("returned", "$module$-returned g"),
+    (
+        "returned_uses",
+        "$specs$ $module$-range\n$specs$ $module$-returned\n",
+    ),
+    ("held", "Option<$name$>"),
+    ("kind", "$name$Kind"),
+    ("value", "$name$-Value"),
+    ("bracketed", "$name$-Value"),
+    ("view", "$module$-of m.$field$"),
+    ("definition", "$module$-shape"),
+    ("table", "$module$-shape"),
+    ("step", "$module$-shape.takes"),
+    ("call", "merge"),
+    ("copy", "copied_$module$(&self.$field$)?"),
+    (
+        "code",
+        "crate::$module$ $name$\ncrate::$module$ $name$Kind\n",
+    ),
+    (
+        "definitions",
+        "$specs$ $name$-Value\n$specs$ $module$-of\n$specs$ $module$-shape\n",
+    ),
+];
+
+// One that holds a message of which what is read back follows from what its records are charged.
+const CHARGED_ONEOF: [Template; 4] = [
+    ("charged", "charged"),
+    ("charges", " charges"),
+    ("range", "$module$-range charges"),
+    ("returned", "$module$-returned charges g"),
+];
+
+// The words of a oneof, as a type and as a field.
+fn oneof_words(base: &Words, message: &MessageType, index: i32) -> Result<Words, GenerateError> {
+    let alloc = base.alloc();
+    let mut words = Words::like(base);
+    words.copy(&message.words, &["full", "outer", "place"]);
+    let place = usize::try_from(index).unwrap_or(usize::MAX);
+    let Some(descriptor) = message.descriptor.oneof_decl.get(place) else {
+        return Err(words.refused("$full$: a field of no oneof that is there"));
+    };
+    words.set("field", &word_name(alloc, &descriptor.name)?);
+    words.set("proto", &descriptor.name);
+    words.set("holder", message.words.get("module"));
+    words.number("index", index);
+    words.append_all(&[
+        ("full", ".$proto$"),
+        ("place", ".8.$index$"),
+        ("outer", "$proto$"),
+    ]);
+    let name = type_name(alloc, words.get("outer"))?;
+    words.set("module", &word_name(alloc, &name)?);
+    words.set("name", &name);
+    words.fill("specs", "Rattle.$crate$.specs.$name$");
+    words.fill_all(&ONEOF);
+    Ok(words)
+}
