@@ -46,7 +46,24 @@ const SHORTEST: &str = "Write the records as bytes again, with no varint padded,
 
 const DELIMITED: &str = "The input is a log: messages one after another, each behind its length";
 
+// Each flag, the one that it does not go with, if there is one, and its help.
+const FLAGS: [(&str, &str, &str); 5] = [
+    ("hex", "base64", HEX),
+    ("base64", "", BASE64),
+    ("offsets", "shortest", OFFSETS),
+    ("shortest", "", SHORTEST),
+    ("delimited", "shortest", DELIMITED),
+];
+
 const MOST: &str = "18446744073709551615";
+
+// Each limit, what it is unless it is given, and its help.
+const LIMITS: [(&str, &str, &str); 4] = [
+    ("depth", "100", "Levels of groups, at most 100"),
+    ("fields", MOST, "Records at most"),
+    ("bytes", MOST, "Bytes of payloads at most"),
+    ("size", "67108864", "Bytes of input at most"),
+];
 
 impl<'a> Options<'a> {
     /// The options of these words, of which the first is the program's name.
@@ -86,43 +103,41 @@ fn context(matches: &ArgMatches<'_>) -> DecodeContext {
 fn matches<'a>(alloc: Global, words: &'a [&'a str]) -> Result<ArgMatches<'a>, Error> {
     let file = Arg::new(alloc, "FILE").help("What to read; standard input without one");
     let command = Command::new(alloc, "wire_dump").about(ABOUT).arg(file)?;
-    let command = with_notations(alloc, command)?;
-    let command = with_forms(alloc, command)?;
-    let command = with_frames(alloc, command)?;
+    let command = with_flags(alloc, command)?;
     with_limits(alloc, command)?.try_get_matches_from(words)
 }
 
-fn with_notations<'a>(alloc: Global, command: Command<'a>) -> Result<Command<'a>, AllocError> {
-    let hex = flag(alloc, "hex", HEX).conflicts_with("base64")?;
-    command.arg(hex)?.arg(flag(alloc, "base64", BASE64))
+fn with_flags<'a>(alloc: Global, mut command: Command<'a>) -> Result<Command<'a>, AllocError> {
+    for (name, other, help) in &FLAGS {
+        command = command.arg(flag(alloc, name, other, help)?)?;
+    }
+    Ok(command)
 }
 
-fn with_forms<'a>(alloc: Global, command: Command<'a>) -> Result<Command<'a>, AllocError> {
-    let offsets = flag(alloc, "offsets", OFFSETS).conflicts_with("shortest")?;
-    command.arg(offsets)?.arg(flag(alloc, "shortest", SHORTEST))
+fn with_limits<'a>(alloc: Global, mut command: Command<'a>) -> Result<Command<'a>, AllocError> {
+    for (name, default, help) in &LIMITS {
+        command = command.arg(limit(alloc, name, default, help))?;
+    }
+    Ok(command)
 }
 
-fn with_frames<'a>(alloc: Global, command: Command<'a>) -> Result<Command<'a>, AllocError> {
-    let delimited = flag(alloc, "delimited", DELIMITED).conflicts_with("shortest")?;
-    command.arg(delimited)
-}
-
-fn with_limits<'a>(alloc: Global, command: Command<'a>) -> Result<Command<'a>, AllocError> {
-    command
-        .arg(number(alloc, "depth", "100", "Levels of groups, at most 100"))?
-        .arg(number(alloc, "fields", MOST, "Records at most"))?
-        .arg(number(alloc, "bytes", MOST, "Bytes of payloads at most"))?
-        .arg(number(alloc, "size", "67108864", "Bytes of input at most"))
-}
-
-fn flag<'a>(alloc: Global, name: &'a str, help: &'a str) -> Arg<'a> {
-    Arg::new(alloc, name)
+fn flag<'a>(
+    alloc: Global,
+    name: &'a str,
+    other: &'a str,
+    help: &'a str,
+) -> Result<Arg<'a>, AllocError> {
+    let flag = Arg::new(alloc, name)
         .long(name)
         .action(ArgAction::SetTrue)
-        .help(help)
+        .help(help);
+    if other.is_empty() {
+        return Ok(flag);
+    }
+    flag.conflicts_with(other)
 }
 
-fn number<'a>(alloc: Global, name: &'a str, default: &'a str, help: &'a str) -> Arg<'a> {
+fn limit<'a>(alloc: Global, name: &'a str, default: &'a str, help: &'a str) -> Arg<'a> {
     Arg::new(alloc, name)
         .long(name)
         .value_name("N")

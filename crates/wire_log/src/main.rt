@@ -12,6 +12,7 @@ use entry::{Stop, next_entry};
 use error::{RunError, read_error, write_error};
 use front::put_front;
 use options::Options;
+use std::alloc::Global;
 use std::env;
 use std::io::{Read, Write};
 use std::process::ExitCode;
@@ -34,29 +35,8 @@ fn run(rt: &HostRuntime) -> Result<(), RunError> {
         texts.push(word.as_str())?;
     }
     let options = Options::parse(rt.alloc(), &texts)?;
-    let mut log = Log {
-        decoder: FrameDecoder::new(rt.alloc(), Framing::Delimited, options.limit),
-        fed: 0,
-        index: 0,
-    };
-    // Each turn but the last takes a byte.
-    for _ in 0..u64::MAX {
-        let chunk = read_chunk(rt)?;
-        if chunk.is_empty() {
-            break;
-        }
-        log.fed = log.fed.saturating_add(chunk.len() as u64);
-        log.decoder.feed(chunk).or(Err(RunError::OutOfMemory))?;
-        if options.is_repair {
-            log.repair(rt)?;
-        } else {
-            log.list(rt, options.skip)?;
-        }
-    }
-    if log.decoder.is_empty() {
-        return Ok(());
-    }
-    Err(log.stopped(rt, &Stop::Frame(FrameError::Truncated)))
+    let mut log = Log::new(rt.alloc(), options.limit);
+    log.read(rt, &options)
 }
 
 fn words(rt: &HostRuntime) -> Result<Vec<String>, RunError> {
@@ -90,6 +70,41 @@ struct Log {
 }
 
 impl Log {
+    fn new(alloc: Global, limit: usize) -> Log {
+        Log {
+            decoder: FrameDecoder::new(alloc, Framing::Delimited, limit),
+            fed: 0,
+            index: 0,
+        }
+    }
+
+    // All of the log.
+    fn read(&mut self, rt: &HostRuntime, options: &Options) -> Result<(), RunError> {
+        // Each turn but the last takes a byte.
+        for _ in 0..u64::MAX {
+            let chunk = read_chunk(rt)?;
+            if chunk.is_empty() {
+                break;
+            }
+            self.take(rt, chunk, options)?;
+        }
+        if self.decoder.is_empty() {
+            return Ok(());
+        }
+        Err(self.stopped(rt, &Stop::Frame(FrameError::Truncated)))
+    }
+
+    // The next bytes of it.
+    fn take(&mut self, rt: &HostRuntime, chunk: Bytes, options: &Options) -> Result<(), RunError> {
+        self.fed = self.fed.saturating_add(chunk.len() as u64);
+        self.decoder.feed(chunk).or(Err(RunError::OutOfMemory))?;
+        if options.is_repair {
+            self.repair(rt)
+        } else {
+            self.list(rt, options.skip)
+        }
+    }
+
     // The byte at which the next frame begins.
     fn place(&self) -> u64 {
         self.fed.saturating_sub(self.decoder.unread_len() as u64)

@@ -138,10 +138,10 @@ fn failed_calls(answer: &Result<(), RunError>) -> (u64, u64) {
 
 // Whether a run answers so, writes these bytes, and no calls fail but for those that its error
 // tells of. Memory is wanted only before a byte is written.
-fn runs(alloc: Global, row: Row) -> Result<bool, RunError> {
+fn runs(alloc: Global, row: &Row) -> Result<bool, RunError> {
     let (input, reading, writing, answer, written) = row;
-    let mut reader = Counted::new(Source::new(input, reading));
-    let mut shelf = Shelf::new(writing);
+    let mut reader = Counted::new(Source::new(input, *reading));
+    let mut shelf = Shelf::new(*writing);
     let mut writer = Counted::new(&mut shelf);
     let found = run(alloc, &mut reader, &mut writer);
     let counts = (reader.failures(), writer.failures());
@@ -151,12 +151,12 @@ fn runs(alloc: Global, row: Row) -> Result<bool, RunError> {
     if found == Err(RunError::OutOfMemory) && shelf.taken().is_empty() {
         return Err(RunError::OutOfMemory);
     }
-    Ok(found == answer && shelf.taken() == written)
+    Ok(found == *answer && shelf.taken() == *written)
 }
 
 #[test]
 fn runs_answer_as_their_devices(rt: HostRuntime) {
-    for (place, row) in rows().into_iter().enumerate() {
+    for (place, row) in rows().iter().enumerate() {
         assert_eq!(rt; runs(rt.alloc(), row), Ok(true), "{place}");
     }
 }
@@ -165,7 +165,7 @@ fn runs_answer_as_their_devices(rt: HostRuntime) {
 #[test]
 fn each_call_may_fail(rt: HostRuntime) {
     for calls in 0..=CALLS {
-        for (place, row) in rows_behind(calls).into_iter().enumerate() {
+        for (place, row) in rows_behind(calls).iter().enumerate() {
             assert_eq!(rt; runs(rt.alloc(), row), Ok(true), "{calls} {place}");
         }
     }
