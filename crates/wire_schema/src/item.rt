@@ -296,7 +296,7 @@ fn set_enum(
     let Some(of_enum) = schema.enum_of(&field.type_name) else {
         return Err(foreign(field, words));
     };
-    set_names(&of_enum.words, words);
+    set_names(&of_enum.words, field, words)?;
     let is_closed = of_enum.origin.features.is_closed();
     words.fill_all(if is_closed { &CLOSED } else { &OPEN });
     words.fill_all(&ENUM);
@@ -328,7 +328,7 @@ fn set_message(
     let Some(message) = schema.message(&field.type_name) else {
         return Err(foreign(field, words));
     };
-    set_names(&message.words, words);
+    set_names(&message.words, field, words)?;
     words.fill_all(&MESSAGE);
     if !message.words.get("charged").is_empty() {
         words.set("of_charged", "of_charged");
@@ -343,8 +343,15 @@ fn set_message(
     Ok(Sort::Message)
 }
 
-// What the type of a field is called.
-fn set_names(of: &Words, words: &mut Words) {
+// What the type of a field is called, which is of a crate that is named.
+fn set_names(
+    of: &Words,
+    field: &FieldDescriptorProto,
+    words: &mut Words,
+) -> Result<(), GenerateError> {
+    if of.get("home").is_empty() {
+        return Err(foreign(field, words));
+    }
     words.set("of_name", of.get("name"));
     words.set("of_module", of.get("module"));
     words.set("of_crate", of.get("home"));
@@ -361,6 +368,7 @@ fn set_names(of: &Words, words: &mut Words) {
         ("of_specs", "Rattle.$of_crate$.specs"),
         ("specs", "$of_specs$.$of_name$"),
     ]);
+    Ok(())
 }
 
 /// Makes the value's type in brackets, where it has several words, the word `bracketed`.

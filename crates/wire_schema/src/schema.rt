@@ -24,7 +24,7 @@ pub struct Origin {
 
 /// A message type. Its words are `full`, its name in schemas, as `.package.Outer.Inner`; `name`,
 /// the one in code, and `module`; `outer`, the names of the types that it stands in and its own;
-/// `home`, its crate; `place`, its file and the numbers that lead there; `charged`, where it or what
+/// `home`, its crate, if one is named; `place`, its file and the numbers that lead there; `charged`, where it or what
 /// it holds leaves entries of maps; and `member`, its place in its family as the head of a list.
 #[derive(Drop)]
 pub struct MessageType {
@@ -96,8 +96,8 @@ pub struct Schema {
 }
 
 impl Schema {
-    /// The types of the files that are to be generated, and of those whose packages another crate
-    /// has.
+    /// The types of the files that are to be generated, and of all that these import; no field is of
+    /// a type whose file is of no crate that is named.
     pub fn of(base: &Words, request: &CodeGeneratorRequest) -> Result<Schema, GenerateError> {
         let alloc = base.alloc();
         let mut schema = Schema {
@@ -110,14 +110,14 @@ impl Schema {
         };
         for file in &request.proto_file {
             let is_own = request.file_to_generate.contains(&file.name);
-            let home = if is_own {
+            if is_own {
                 stop_on_services(base, file)?;
-                base.get("crate")
-            } else {
-                home_of(file, base.get("imported"))
-            };
-            if !home.is_empty() {
-                schema.add_file(file, is_own, home)?;
+                schema.add_file(file, is_own, base.get("crate"))?;
+                continue;
+            }
+            match home_of(file, base.get("imported")) {
+                "" => schema.add_beyond(file)?,
+                home => schema.add_file(file, is_own, home)?,
             }
         }
         adapt(base, &mut schema)?;
@@ -125,6 +125,14 @@ impl Schema {
         schema.find_twins()?;
         schema.find_charged()?;
         Ok(schema)
+    }
+
+    // A file of no crate that is named, which may have what is not generated.
+    fn add_beyond(&mut self, file: &FileDescriptorProto) -> Result<(), GenerateError> {
+        match self.add_file(file, false, "") {
+            Err(GenerateError::Refused(_)) => Ok(()),
+            answer => answer,
+        }
     }
 
     fn add_file(
