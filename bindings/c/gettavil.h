@@ -6,14 +6,14 @@
  * run at once. What stands on trust: that this header is that of the library, which `make test`
  * looks at, the C compiler, and that a caller hands in what these conditions say:
  *
- * - a pointer to a struct is not null, is aligned, and two pointers to structs that a call writes
- *   are not to the same struct;
- * - `bytes` points to `len` bytes that nothing writes during the call; where `len` is 0 it may be
- *   any pointer, NULL too;
+ * - a pointer to a struct, and `shortest`, is not null and is aligned, and what a call writes
+ *   (structs, `*shortest` and the room) overlaps nothing else that it is handed;
+ * - `bytes` points to `len` bytes, and `payload` to `payload_len`, that nothing writes during the
+ *   call; where the length is 0 it may be any pointer, NULL too;
  * - `room` points to `room_len` bytes that nothing else reads or writes during the call; where
  *   `room_len` is 0 it may be any pointer, NULL too.
  *
- * C99 and C++. The format is told at <https://protobuf.dev/programming-guides/encoding/>. */
+ * A struct that a call only sets need not be set before. C99 and C++11. The format is told at <https://protobuf.dev/programming-guides/encoding/>. */
 #ifndef GETTAVIL_H
 #define GETTAVIL_H
 
@@ -176,12 +176,13 @@ uint32_t gtv_put_group_end(gtv_writer *writer, uint8_t *room, size_t room_len, u
 
 /* How many bytes the shortest encoding of the same records has, in `*shortest`: tags, lengths and
  * numbers without padding, also in groups; payloads as they are. GTV_OK, GTV_DEPTH_TOO_LARGE, or
- * the status of the fault, which is set. */
+ * the status of the fault, which is set. `*shortest` is set with GTV_OK alone. */
 uint32_t gtv_shortest_len(const uint8_t *bytes, size_t len, const gtv_limits *limits,
                           size_t *shortest, gtv_fault *fault);
 
-/* Writes that encoding at the front of the room. `*shortest` is its length, also where the answer
- * is GTV_NO_ROOM. A refusal writes nothing into the room. */
+/* Writes that encoding at the front of the room. GTV_OK, GTV_NO_ROOM, GTV_DEPTH_TOO_LARGE, or the
+ * status of the fault, which is set. `*shortest` is its length, and set with the first two alone. A
+ * refusal writes nothing into the room. */
 uint32_t gtv_shortest(const uint8_t *bytes, size_t len, const gtv_limits *limits, uint8_t *room,
                       size_t room_len, size_t *shortest, gtv_fault *fault);
 

@@ -58,14 +58,14 @@ static int print_message(const uint8_t *bytes, size_t len) {
 }
 
 int main(void) {
-    uint8_t *bytes = malloc(MOST);
+    uint8_t *bytes = malloc(MOST + 1);
     if (bytes == NULL) {
         fputs("out of memory\n", stderr);
         return 2;
     }
-    size_t len = fread(bytes, 1, MOST, stdin);
+    size_t len = fread(bytes, 1, MOST + 1, stdin);
     int answer = 2;
-    if (ferror(stdin) || !feof(stdin)) {
+    if (ferror(stdin) || len > MOST) {
         fputs("the message can't be read, or is longer than 64 MiB\n", stderr);
     } else {
         answer = print_message(bytes, len);

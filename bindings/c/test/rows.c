@@ -3,40 +3,17 @@
  * room that just suffices and into room that is a byte too small; and the layout of each struct.
  * Says how many rows stood, and ends in 1 where one does not. */
 #include "gettavil.h"
+#include "guarded.h"
 
 #include <inttypes.h>
 #include <stdarg.h>
 #include <stdio.h>
 #include <stdlib.h>
 #include <string.h>
-#include <sys/mman.h>
-#include <unistd.h>
 
 enum { MOST_BYTES = 4096, MOST_TEXT = 1 << 20 };
 
-/* ---- memory between pages that no program may touch ---- */
-
-typedef struct Guarded {
-    uint8_t *first; /* the first byte that may be touched, behind a page */
-    size_t room;    /* how many there are, before another */
-} Guarded;
-
-static Guarded guarded(size_t room) {
-    size_t page = (size_t)sysconf(_SC_PAGESIZE);
-    Guarded it = {NULL, (room + page - 1) / page * page};
-    uint8_t *all = mmap(NULL, it.room + 2 * page, PROT_NONE, MAP_PRIVATE | MAP_ANONYMOUS, -1, 0);
-    if (all == MAP_FAILED || mprotect(all + page, it.room, PROT_READ | PROT_WRITE) != 0) {
-        perror("mmap");
-        exit(2);
-    }
-    it.first = all + page;
-    return it;
-}
-
 static Guarded input, output;
-
-/* So many bytes that end before a page, or begin behind one. */
-static uint8_t *at_end(Guarded it, size_t len) { return it.first + it.room - len; }
 
 /* ---- a text that grows ---- */
 

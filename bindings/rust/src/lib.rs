@@ -1,8 +1,9 @@
 //! Records of the Protocol Buffers wire format, read and written in place.
 //!
 //! Safe types over the library that `crates/wire_c` proves: for all bytes each call ends, touches
-//! only what it is handed, and answers as is said here. No call asks for memory but those that
-//! grow a `Vec`. See <https://protobuf.dev/programming-guides/encoding/> for the format.
+//! only what it is handed, and answers as is said here. The Rust of this crate is tested, not
+//! proved. No call asks for memory but those that grow a `Vec`, which abort where it is refused. See
+//! <https://protobuf.dev/programming-guides/encoding/> for the format.
 //!
 //! ```
 //! use gettavil::{Reader, Value};

@@ -5,7 +5,7 @@ use crate::ffi;
 use std::iter::FusedIterator;
 use std::ops::Range;
 
-/// What may be taken at most: none where not said, and 100 levels of groups.
+/// What may be taken at most. A count that is not set has no limit; the depth is 100.
 #[derive(Clone, Copy, Debug, PartialEq, Eq, Hash)]
 pub struct Limits {
     records: usize,
