@@ -13,7 +13,8 @@
  * - `room` points to `room_len` bytes that nothing else reads or writes during the call; where
  *   `room_len` is 0 it may be any pointer, NULL too.
  *
- * A struct that a call only sets need not be set before. C99 and C++11. The format is told at <https://protobuf.dev/programming-guides/encoding/>. */
+ * A struct that a call only sets need not be set before. C99 and C++11. The format is told at
+ * <https://protobuf.dev/programming-guides/encoding/>. */
 #ifndef GETTAVIL_H
 #define GETTAVIL_H
 
