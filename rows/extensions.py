@@ -18,6 +18,8 @@ BY_NAME = {name: it for name, it in (
         "priority", "title", "scores", "steps", "visits", "labels", "extra", "stamp", "flag",
         "counters", "picture"))}
 REPEATED = ("scores", "steps", "labels", "counters")
+TOO_LARGE = "refused: message length exceeds the size limit (2 GiB protobuf maximum, or a " \
+    "configured DecodeOptions limit)"
 
 
 def varint(x):
@@ -188,6 +190,19 @@ def rows():
                 yield f"add {name} {before.hex() or '-'} {source.hex() or '-'}", written(message)
     yield f"get strict {own('priority').hex()}{foreign('priority').hex()}", \
         "refused: wire type mismatch on field 100: expected 0, got 5"
+    yield from limits()
+
+
+def limits():
+    """What Python doesn't refuse: values past the greatest size, and past 100 levels."""
+    for call in ("set", "add"):
+        for times in (2**30, 2**30 - 3):
+            yield f"{call} repeat 0801 {times}", TOO_LARGE
+        yield f"{call} repeat 0801 2", "0801fa060408000800"
+        inner = "4b" * 99 + "4c" * 99
+        yield f"{call} deep 0801 99", f"0801d306{inner}d406"
+        for levels in (100, 300):
+            yield f"{call} deep 0801 {levels}", "refused: recursion limit exceeded"
 
 
 def main():

@@ -1,6 +1,7 @@
 //! Extensions beside those of protoc's Python. Standard input has a line for each row: a call, the
 //! name of an extension, the records of a message, and for `set` and `add` those of another one,
-//! whose value is put. `rows/extensions.py` makes the lines and what is wanted of them. Standard
+//! whose value is put; of the extensions `repeat` and `deep` the value is so many records, or so many
+//! groups in one another, as the line's last word says. `rows/extensions.py` makes the lines and what is wanted of them. Standard
 //! output gets a line for each: the records that the message has then, those of the value that was
 //! got, or a word.
 #![tactic(auto)]
@@ -9,12 +10,13 @@ use std::alloc::Global;
 use std::io;
 use std::io::Read;
 use std::process::ExitCode;
-use wire_codec::{DecodeContext, DecodeError, UnknownFields, WireType};
+use wire_codec::{DecodeContext, DecodeError, Message, UnknownFields, WireType};
 use wire_extensions::Extension;
 use wire_fields::{
     Blob, Bool, EachEmbedded, Embedded, Fixed64, Group, Int32, Kind, Optional, OwnTypes, Packed,
     Repeated, Sint32, Text, Unpacked,
 };
+use wire_samples::Repeat;
 use wire_tables::Counter;
 
 /// What a row gives its call.
@@ -80,6 +82,8 @@ fn answer(alloc: Global, row: Row<'_>) -> Result<String, RowError> {
         "counters" => called::<EachEmbedded<Counter, 32>>(alloc, row, 109, bytes),
         "picture" => called::<Optional<Blob>>(alloc, row, 110, bytes),
         "strict" => strict(alloc, row),
+        "repeat" => repeat(alloc, row),
+        "deep" => deep(alloc, row),
         _ => Err(RowError::NoCall),
     }
 }
@@ -90,6 +94,44 @@ fn strict(alloc: Global, row: Row<'_>) -> Result<String, RowError> {
         Some(extension) => said(alloc, row, &extension),
         None => Err(RowError::NoCall),
     }
+}
+
+// A message of so many records, which are no memory until they are written.
+fn repeat(alloc: Global, row: Row<'_>) -> Result<String, RowError> {
+    let times = row.other.parse().or(Err(RowError::NoDigits))?;
+    let extra = false;
+    put_message::<Embedded<Repeat>>(alloc, row, 111, Repeat { times, extra })
+}
+
+// A group that has so many groups in one another.
+fn deep(alloc: Global, row: Row<'_>) -> Result<String, RowError> {
+    let levels: u32 = row.other.parse().or(Err(RowError::NoDigits))?;
+    let mut bytes = Vec::new(alloc);
+    for byte in [0x4b, 0x4c] {
+        for _ in 0..levels {
+            bytes.push(byte).or(Err(RowError::OutOfMemory))?;
+        }
+    }
+    let mut context = DecodeContext::new(levels, 1_000_000);
+    let unknown = UnknownFields::decode_from_slice_within(alloc, &bytes, &mut context);
+    let unknown = unknown.map_err(RowError::Refused)?;
+    put_message::<Group<Counter>>(alloc, row, 106, Counter { count: 0, unknown })
+}
+
+fn put_message<K: Kind<Held = Option<Box<M>>>, M: Message>(
+    alloc: Global,
+    row: Row<'_>,
+    number: u32,
+    message: M,
+) -> Result<String, RowError> {
+    let mut fields = fields_of(alloc, row.fields)?;
+    let held = Some(Box::new(alloc, message).or(Err(RowError::OutOfMemory))?);
+    match (row.call, Extension::<K>::new(number)) {
+        ("set", Some(own)) => put(own.set(alloc, &mut fields, &held))?,
+        ("add", Some(own)) => put(own.add(alloc, &mut fields, &held))?,
+        _ => return Err(RowError::NoCall),
+    }
+    digits_of(alloc, &fields)
 }
 
 fn called<K: Kind>(

@@ -87,6 +87,25 @@ pub fn pool_of(row: &Row<'_>, said: &Said) -> SizeCachePool {
     }
 }
 
+/// Gives the pool a cache with a buffer of the capacity behind `buffer=`, where the row names one.
+pub fn give_buffer(pool: &mut SizeCachePool, row: &Row<'_>, said: &mut Said) {
+    if let Some(capacity) = row.number("buffer") {
+        let buffer = said.made(Vec::with_capacity(said.alloc, capacity));
+        let buffer = buffer.unwrap_or(Vec::new(said.alloc));
+        pool.release(SizeCache::with_spill_buffer(buffer));
+    }
+}
+
+/// A pool that was given a buffer has it after each call, one that was refused too.
+pub fn expect_buffer(pool: &mut SizeCachePool, row: &Row<'_>, said: &mut Said) {
+    if row.word("buffer").is_some() {
+        let cache = pool.acquire();
+        let buffer = cache.into_spill_buffer();
+        said.expect(buffer.capacity() > 0, "the pool has lost its buffer");
+        pool.release(SizeCache::with_spill_buffer(buffer));
+    }
+}
+
 // Caches with spill buffers of the capacities that the row names are released, and then as many are
 // taken: how many of these have a buffer, and that none has more than the greatest capacity.
 fn pool(row: &Row<'_>, said: &mut Said) {

@@ -12,7 +12,7 @@ use wire_codec::{
     extend_packed_uint64,
 };
 
-/// Says which elements are appended behind one, and why no more.
+/// Says which elements are appended behind one, or to none with `into=empty`, and why no more.
 pub fn tell(row: &Row<'_>, said: &mut Said) -> bool {
     match row.call {
         "ProtoList<Vec>" => say_plugged::<Vec<u32>>(said),
@@ -40,7 +40,7 @@ fn tell_packed(kind: &str, row: &Row<'_>, said: &mut Said) -> bool {
 }
 
 fn tell_i32(kind: &str, row: &Row<'_>, room: usize, said: &mut Said) {
-    let mut list = one(said, 4);
+    let mut list = begun(row, said, 4);
     let answer = match kind {
         "int32" => extend_packed_int32(said.alloc, row.bytes, &mut list, room),
         "sint32" => extend_packed_sint32(said.alloc, row.bytes, &mut list, room),
@@ -50,7 +50,7 @@ fn tell_i32(kind: &str, row: &Row<'_>, room: usize, said: &mut Said) {
 }
 
 fn tell_i64(kind: &str, row: &Row<'_>, room: usize, said: &mut Said) {
-    let mut list = one(said, 4);
+    let mut list = begun(row, said, 4);
     let answer = match kind {
         "int64" => extend_packed_int64(said.alloc, row.bytes, &mut list, room),
         "sint64" => extend_packed_sint64(said.alloc, row.bytes, &mut list, room),
@@ -60,7 +60,7 @@ fn tell_i64(kind: &str, row: &Row<'_>, room: usize, said: &mut Said) {
 }
 
 fn tell_u32(kind: &str, row: &Row<'_>, room: usize, said: &mut Said) {
-    let mut list = one(said, 4);
+    let mut list = begun(row, said, 4);
     let answer = match kind {
         "uint32" => extend_packed_uint32(said.alloc, row.bytes, &mut list, room),
         _ => extend_packed_fixed32(said.alloc, row.bytes, &mut list),
@@ -69,7 +69,7 @@ fn tell_u32(kind: &str, row: &Row<'_>, room: usize, said: &mut Said) {
 }
 
 fn tell_u64(kind: &str, row: &Row<'_>, room: usize, said: &mut Said) {
-    let mut list = one(said, 4);
+    let mut list = begun(row, said, 4);
     let answer = match kind {
         "uint64" => extend_packed_uint64(said.alloc, row.bytes, &mut list, room),
         _ => extend_packed_fixed64(said.alloc, row.bytes, &mut list),
@@ -78,27 +78,34 @@ fn tell_u64(kind: &str, row: &Row<'_>, room: usize, said: &mut Said) {
 }
 
 fn tell_bool(row: &Row<'_>, room: usize, said: &mut Said) {
-    let mut list = one(said, true);
+    let mut list = begun(row, said, true);
     let answer = extend_packed_bool(said.alloc, row.bytes, &mut list, room);
     say_list(row, said, answer, &list)
 }
 
-// A list of one element.
-fn one<T: Copy + Drop>(said: &mut Said, element: T) -> Vec<T> {
+// How many elements the list has that a row appends to.
+fn first(row: &Row<'_>) -> usize {
+    usize::from(row.word("into") != Some("empty"))
+}
+
+// The list that a row appends to: of one element, or of none.
+fn begun<T: Copy + Drop>(row: &Row<'_>, said: &mut Said, element: T) -> Vec<T> {
     let mut list = Vec::new(said.alloc);
-    said.made(list.push(element));
+    if first(row) > 0 {
+        said.made(list.push(element));
+    }
     list
 }
 
-// What is appended behind the first element, and why no more.
+// What is appended behind what the list had, and why no more.
 fn say_list<T: Copy + Debug + Drop>(
     row: &Row<'_>,
     said: &mut Said,
     answer: Result<(), DecodeError>,
     list: &[T],
 ) {
-    said.expect(!list.is_empty(), "the first element is gone");
-    let appended = list.get(1..).unwrap_or(&[]);
+    said.expect(list.len() >= first(row), "the first element is gone");
+    let appended = list.get(first(row)..).unwrap_or(&[]);
     if let Err(error) = answer {
         is_front(row, &error, appended, said);
         said.refuse(error);

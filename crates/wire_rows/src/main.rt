@@ -7,6 +7,7 @@ mod caches;
 mod callers;
 mod calls;
 mod contexts;
+mod counted;
 mod enums;
 mod errors;
 mod frames;

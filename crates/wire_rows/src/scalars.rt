@@ -1,6 +1,7 @@
 //! Varints, tags and scalars: read, written and measured.
 ghost use Rattle.wire_codec.specs.FieldNumber.{IsFieldNumber};
 
+use crate::counted::Counted;
 use crate::row::Row;
 use crate::said::Said;
 use bytes::Buf;
@@ -33,6 +34,19 @@ pub fn read<B: Buf>(row: &Row<'_>, buf: &mut B, said: &mut Said) -> bool {
         _ => return read_fixed(row.call, buf, said),
     }
     true
+}
+
+/// A varint that stands whole in one chunk is taken from it at once: no contract says so, and its
+/// bytes one by one take twice the time.
+pub fn expect_one_advance(row: &Row<'_>, said: &mut Said) {
+    if row.call == "decode_varint" {
+        let mut buf = Counted {
+            bytes: row.bytes,
+            advances: 0,
+        };
+        let is_read = decode_varint(&mut buf).is_ok();
+        said.expect(!is_read | (buf.advances == 1), "not taken at once");
+    }
 }
 
 // A fixed value that is short leaves the buffer where it was.

@@ -1,7 +1,7 @@
 //! The table as a whole: its rows one after another, each whole and cut.
-use crate::calls;
 use crate::row::{Bytes, Row};
 use crate::said::{Found, Said};
+use crate::{calls, scalars};
 use bytes::Buf;
 use std::alloc::Global;
 use std::io;
@@ -89,6 +89,7 @@ fn found(row: &Row<'_>, is_halving: bool, said: &mut Said) -> Found {
     let mut whole = row.bytes;
     let is_read = calls::read(row, &mut whole, said);
     said.expect(is_read, "no call");
+    scalars::expect_one_advance(row, said);
     match said.found(row.answer) {
         Found::Own => found_in_pieces(row, is_halving, said),
         found => found,

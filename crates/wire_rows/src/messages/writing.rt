@@ -1,6 +1,6 @@
 //! Messages that are written and measured, each call by its name.
 use super::sample::{Sample, given};
-use crate::caches::pool_of;
+use crate::caches::{expect_buffer, give_buffer, pool_of};
 use crate::row::Row;
 use crate::said::Said;
 use wire_codec::{EncodeError, Message, SizeCache, SizeCachePool, laws};
@@ -144,9 +144,12 @@ fn pooled<M: Message>(
     said: &mut Said,
 ) -> Answer {
     let mut pool = pool_of(row, said);
+    give_buffer(&mut pool, row, said);
     let mut again = said.copied(b"\x07");
     let first = by_pool(&mut pool, message, row, call, sink, said);
+    expect_buffer(&mut pool, row, said);
     let second = by_pool(&mut pool, message, row, call, &mut again, said);
+    expect_buffer(&mut pool, row, said);
     if first == Err(EncodeError::OutOfMemory) {
         let mut whole = said.copied(b"\x07");
         said.answered(message.try_encode(said.alloc, &mut whole));
