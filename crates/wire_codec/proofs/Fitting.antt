@@ -1,15 +1,14 @@
 -- Records that bytes spell have numbers and lengths in range.
-use Rattle.std.proofs.Common.{◌≡◌, ℕ, ◌+◌, ◌*◌, ◌^◌, ◌<◌, List, [], ◌∷◌, ◌++◌, length, get_or, sym, subst, ⊎_elim, arith}
+use Rattle.std.proofs.Common.{◌≡◌, ℕ, ◌+◌, ◌*◌, ◌^◌, ◌<◌, List, [], ◌∷◌, ◌++◌, length, get_or, subst, ⊎_elim, arith}
 use Rattle.std.specs.Prelude.{All}
 use Rattle.std.specs.Int.{w32, w64, from_le_bytes}
 use Rattle.std.proofs.lemmas.Bool.{cases_lt}
 use Rattle.std.proofs.lemmas.List.{get_or_past}
 use Rattle.std.proofs.lemmas.List.Elements.{All-nil, All-head, All-tail, All-cons, All-get_or}
-use Rattle.wire_base.specs.Field.{Payload, varint, fixed64, fixed32, bytes, group, Fields, none, field, type_of}
+use Rattle.wire_base.specs.Field.{Payload, varint, fixed64, fixed32, bytes, group, Fields, none, field}
 use Rattle.wire_base.specs.InRange.{IsPayloadFitting, AreFitting}
 use Rattle.wire_base.specs.Read.{Reads}
 use Rattle.wire_base.specs.Spells.{SpellsPayload, Spells}
-use Rattle.wire_codec.specs.Laws.{SpelledAreFitting}
 
 abbrev pub AreBytes : List ℕ → Type 0
 AreBytes t = All (λ b. b < 256) t
@@ -31,24 +30,24 @@ eight_bytes : (a b c d e f g h n : ℕ) → a < 256 → b < 256 → c < 256 → 
 eight_bytes a b c d e f g h n small_a small_b small_c small_d small_e small_f small_g small_h is =
     omega arith
 
-fixed32_fits : (t : List ℕ) (v : ℕ) → AreBytes t → from_le_bytes w32 t ≡ v → v < 2 ^ 32
+pub fixed32_fits : (t : List ℕ) (v : ℕ) → AreBytes t → from_le_bytes w32 t ≡ v → v < 2 ^ 32
 fixed32_fits t v all is =
     let at = byte_at t all in
     four_bytes _ _ _ _ v (at 0) (at 1) (at 2) (at 3) is
 
-fixed64_fits : (t : List ℕ) (v : ℕ) → AreBytes t → from_le_bytes w64 t ≡ v → v < 2 ^ 64
+pub fixed64_fits : (t : List ℕ) (v : ℕ) → AreBytes t → from_le_bytes w64 t ≡ v → v < 2 ^ 64
 fixed64_fits t v all is =
     let at = byte_at t all in
     eight_bytes _ _ _ _ _ _ _ _ v (at 0) (at 1) (at 2) (at 3) (at 4) (at 5) (at 6) (at 7) is
 
 -- the bytes of each of two parts are bytes
-bytes_front : (xs ys : List ℕ) → AreBytes (xs ++ ys) → AreBytes xs
+pub bytes_front : (xs ys : List ℕ) → AreBytes (xs ++ ys) → AreBytes xs
 bytes_front [] ys h = All-nil (λ b. b < 256)
 bytes_front (x ∷ xs) ys h =
     All-cons (λ b. b < 256) x xs (All-head (λ b. b < 256) x (xs ++ ys) h)
     (bytes_front xs ys (All-tail (λ b. b < 256) x (xs ++ ys) h))
 
-bytes_behind : (xs ys : List ℕ) → AreBytes (xs ++ ys) → AreBytes ys
+pub bytes_behind : (xs ys : List ℕ) → AreBytes (xs ++ ys) → AreBytes ys
 bytes_behind [] ys h = h
 bytes_behind (x ∷ xs) ys h = bytes_behind xs ys (All-tail (λ b. b < 256) x (xs ++ ys) h)
 

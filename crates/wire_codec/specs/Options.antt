@@ -19,6 +19,11 @@ default_options = record {
   unknown_byte_limit = 18446744073709551615;
 }
 
+-- what the records of an input may take where no options are named: 100 levels, 1,000,000 unknown
+-- fields and 32 MiB for elements
+abbrev pub default_limits : Limits
+default_limits = with_elements (counted 100 1000000) 33554432
+
 -- what the records of an input may take
 abbrev pub limits_of : Options → Limits
 limits_of o =

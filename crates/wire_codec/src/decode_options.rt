@@ -2,9 +2,9 @@
 ghost use Rattle.std.specs.Prelude.{◌≡◌, ◌≢◌, ◌<◌, ◌≤◌, [], length, Some, OnOk, IfOk, IfErr, IsErrAnd};
 ghost use Rattle.wire_base.specs.declared.error.DecodeError.TheVariants.{MessageTooLarge, OutOfMemory};
 ghost use Rattle.wire_base.specs.Delimited.{DelimitedFault};
-ghost use Rattle.wire_base.specs.Limits.{Charge, counted, with_elements};
+ghost use Rattle.wire_base.specs.Limits.{Charge};
 ghost use Rattle.wire_codec.specs.Nested.{TakesDelimited};
-ghost use Rattle.wire_codec.specs.Options.{default_options, limits_of};
+ghost use Rattle.wire_codec.specs.Options.{default_limits, default_options, limits_of};
 ghost use Rattle.wire_codec.specs.Options.{with_recursion, with_message_size};
 ghost use Rattle.wire_codec.specs.Options.{with_unknown_fields, with_element_memory};
 ghost use Rattle.wire_codec.specs.Options.{with_payload_bytes};
@@ -285,7 +285,7 @@ impl Default for DecodeOptions {
 
 // A context with all that a caller is allowed who names no limit.
 pub(crate) fn default_context() -> DecodeContext
-    ensures { result ≡ with_elements (counted 100 1000000) 33554432 }
+    ensures { result ≡ default_limits }
 {
     DecodeContext::new(RECURSION_LIMIT, DEFAULT_UNKNOWN_FIELD_LIMIT).with_element_memory(
         DEFAULT_ELEMENT_MEMORY_LIMIT,

@@ -4,13 +4,14 @@ ghost use Rattle.wire_base.specs.declared.error.DecodeError.TheVariants as error
 ghost use Rattle.wire_base.specs.declared.error.EncodeError.TheVariants.{OutOfMemory};
 ghost use Rattle.wire_base.specs.Delimited.{DelimitedFault};
 ghost use Rattle.wire_base.specs.Ending.{by_limit};
-ghost use Rattle.wire_base.specs.Limits.{Charge, NoCountGrew, counted, with_elements};
+ghost use Rattle.wire_base.specs.Limits.{Charge, NoCountGrew};
 ghost use Rattle.wire_base.specs.TagView.{tag_number, tag_type};
 ghost use Rattle.wire_codec.specs.Folds.{Step, IsSingle};
 ghost use Rattle.wire_codec.specs.Taking.{TakesRecord, TakesList, TakesAll, Decodes};
 ghost use Rattle.wire_codec.specs.Taking.{IsCharged, NotTaken, NotDecoded};
 ghost use Rattle.wire_codec.specs.Encoding.{TriesToAnswer, TriesToWrite, WritesWithin, read_tape};
 ghost use Rattle.wire_codec.specs.Nested.{TakesDelimited, TakesEmbedded, TakesGroup};
+ghost use Rattle.wire_codec.specs.Options.{default_limits};
 ghost use Rattle.wire_codec.specs.Records.{Records, text, text_size};
 ghost use Rattle.wire_codec.specs.Sizes.{cut, cut_sizes, sizes};
 ghost use Rattle.wire_codec.specs.TakingLaws.{OneReading};
@@ -439,14 +440,13 @@ pub trait Message: Clone + PartialEq + Drop {
         buf: &mut B,
     ) -> Result<Self, DecodeError>
         ensures ok { IfOk result (λ message. (c : Charge) × TakesDelimited takes
-            (with_elements (counted 100 1000000) 33554432) 2147483647 default
-            (B.unread buf.old) c (view message) (B.unread buf.new)) }
+            default_limits 2147483647 default (B.unread buf.old) c (view message)
+            (B.unread buf.new)) }
         ensures fault { (e : DecodeError)
             → DelimitedFault (Some 2147483647) (B.unread buf.old) e
             → IsErrAnd result (λ f. f ≡ e) }
         ensures err { IfErr result (λ e. e ≢ errors.OutOfMemory → NotTaken
-            (TakesDelimited takes (with_elements (counted 100 1000000) 33554432) 2147483647
-            default (B.unread buf.old))) }
+            (TakesDelimited takes default_limits 2147483647 default (B.unread buf.old))) }
         ensures kept { B.kept buf.new ≡ B.kept buf.old }
     {
         let mut message = Self::default_value(alloc);
@@ -458,12 +458,11 @@ pub trait Message: Clone + PartialEq + Drop {
     /// The value of the records of the whole buffer, which may have any length, within 100 levels,
     /// 1,000,000 unknown fields and 33,554,432 bytes for elements. Refused as `merge`.
     final fn decode<B: Buf>(alloc: Global, buf: &mut B) -> Result<Self, DecodeError>
-        ensures ok { IfOk result (λ message. Decodes takes
-            (with_elements (counted 100 1000000) 33554432) default
+        ensures ok { IfOk result (λ message. Decodes takes default_limits default
             (B.unread buf.old) (view message)) }
         ensures rest { OnOk result (B.unread buf.new ≡ []) }
         ensures err { IfErr result (λ e. e ≢ errors.OutOfMemory → NotDecoded takes
-            (with_elements (counted 100 1000000) 33554432) default (B.unread buf.old)) }
+            default_limits default (B.unread buf.old)) }
         ensures kept { B.kept buf.new ≡ B.kept buf.old }
     {
         let mut message = Self::default_value(alloc);
@@ -473,10 +472,10 @@ pub trait Message: Clone + PartialEq + Drop {
 
     /// The value of the records of all the bytes. Limits and refusals are those of `decode`.
     final fn decode_from_slice(alloc: Global, bytes: &[u8]) -> Result<Self, DecodeError>
-        ensures ok { IfOk result (λ message. Decodes takes
-            (with_elements (counted 100 1000000) 33554432) default bytes.now (view message)) }
+        ensures ok { IfOk result (λ message. Decodes takes default_limits default bytes.now
+            (view message)) }
         ensures err { IfErr result (λ e. e ≢ errors.OutOfMemory → NotDecoded takes
-            (with_elements (counted 100 1000000) 33554432) default bytes.now) }
+            default_limits default bytes.now) }
     {
         let mut buf = bytes;
         Self::decode(alloc, &mut buf)
@@ -485,10 +484,10 @@ pub trait Message: Clone + PartialEq + Drop {
     /// Takes the records of all the bytes into the value, within the limits of `decode`. Refused as
     /// `merge`.
     final fn merge_from_slice(&mut self, alloc: Global, bytes: &[u8]) -> Result<(), DecodeError>
-        ensures ok { OnOk result (Decodes takes (with_elements (counted 100 1000000) 33554432)
+        ensures ok { OnOk result (Decodes takes default_limits
             (view self.old) bytes.now (view self.new)) }
         ensures err { IfErr result (λ e. e ≢ errors.OutOfMemory → NotDecoded takes
-            (with_elements (counted 100 1000000) 33554432) (view self.old) bytes.now) }
+            default_limits (view self.old) bytes.now) }
     {
         let mut buf = bytes;
         self.merge(alloc, &mut buf, &mut default_context())

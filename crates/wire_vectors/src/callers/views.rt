@@ -3,7 +3,8 @@ ghost use Rattle.std.specs.Prelude.{◌≡◌, ◌≢◌, IfOk, IfErr, MatchResu
 ghost use Rattle.wire_codec.specs.DecodeError.TheVariants.{OutOfMemory};
 ghost use Rattle.wire_codec.specs.Charge.{charge};
 ghost use Rattle.wire_codec.specs.Field.{Fields};
-ghost use Rattle.wire_codec.specs.Limits.{Fits, counted, with_elements};
+ghost use Rattle.wire_codec.specs.Limits.{Fits, counted};
+ghost use Rattle.wire_codec.specs.Options.{default_limits};
 ghost use Rattle.wire_codec.specs.Spans.{SpellEach};
 ghost use Rattle.wire_codec.specs.Taking.{NotDecoded};
 ghost use Rattle.wire_samples.specs.Person.{PersonTakes, default_person};
@@ -23,7 +24,7 @@ pub fn unknown_twice(
 ) -> Result<(UnknownFields, UnknownFields), DecodeError>
     ensures same { IfOk result (λ both. both.0 ≡ both.1) }
     ensures err { IfErr result (λ e. e ≢ OutOfMemory → NotDecoded PersonTakes
-        (with_elements (counted 100 1000000) 33554432) default_person bytes.now) }
+        default_limits default_person bytes.now) }
 {
     let person = Person::decode_from_slice(alloc, bytes)?;
     let mut context = DecodeContext::new(RECURSION_LIMIT, DEFAULT_UNKNOWN_FIELD_LIMIT);
