@@ -1,13 +1,14 @@
--- What it stands on that written values are read back, and that it holds of each scalar type.
+-- What it stands on that written values are read back and decoded ones are in range, and that it
+-- holds of each scalar type.
 use Rattle.std.proofs.Common.{ℕ, ◌^◌, ◌<◌, ◌≤◌, Bool, true, false, refl, ap, ◌∙◌, arith}
 use Rattle.std.specs.Int.{w32, w64}
 use Rattle.std.specs.Prelude.{ℤ, pos, negsuc, FitsSigned, Option, IsUtf8}
 use Rattle.wire_codec.specs.Enumeration.{number_of, known_or}
 use Rattle.wire_codec.specs.FieldNumber.{IsFieldNumber}
 use Rattle.wire_codec.specs.InRange.{IsPayloadFitting}
-use Rattle.wire_codec.specs.Laws.{FieldsArePlain}
+use Rattle.wire_codec.specs.Laws.{FieldsArePlain, JoinedAddsUp, SpelledAreFitting}
 use Rattle.wire_codec.specs.LimitsLaws.{ChargesAddUp}
-use Rattle.wire_codec.specs.RecordLaws.{ShortestTextSpells}
+use Rattle.wire_codec.specs.RecordLaws.{ShortestTextSpells, SpelledAreNumbered}
 use Rattle.wire_codec.specs.ScalarLaws.{ReadsBack}
 use Rattle.wire_codec.specs.TakingLaws.{OneReading}
 use Rattle.wire_codec.specs.ValueMap as maps
@@ -40,6 +41,9 @@ pub record Grounds : Type 0 where
   pub fixed64 : ReadsBack maps.fixed64 (λ v. v < 2 ^ 64)
   pub sfixed32 : ReadsBack maps.sfixed32 (FitsSigned w32)
   pub sfixed64 : ReadsBack maps.sfixed64 (FitsSigned w64)
+  pub fitting : SpelledAreFitting
+  pub numbered : SpelledAreNumbered
+  pub joined : JoinedAddsUp
   pub number : (n : ℕ) → 1 ≤ n → n < 2 ^ 29 → IsFieldNumber n
 
 -- numbers in range are read back, and fit where they are written

@@ -36,6 +36,11 @@ pub mod Returned
 pub mod Scalar
 pub mod ScalarBack
 pub mod Shape
+pub mod Sound
+pub mod Stays
+pub mod StaysKinds
+pub mod StaysMaps
+pub mod StaysMessages
 pub mod Sums
 pub mod Texts
 pub mod Twins

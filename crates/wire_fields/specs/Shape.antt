@@ -1,11 +1,13 @@
 -- A message as a tree of fields: which records are theirs, what they write, and what they take.
 use Rattle.std.proofs.Common.{◌≡◌, ap, ◌∙◌, sym}
-use Rattle.std.specs.Prelude.{ℕ, Bool, true, false, ◌==◌, ◌||◌}
+use Rattle.std.specs.Prelude.{ℕ, Bool, List, true, false, ◌==◌, ◌||◌}
 use Rattle.wire_codec.specs.Charge.{payload_charge}
 use Rattle.wire_codec.specs.Field.{Payload, Fields, push}
 use Rattle.wire_codec.specs.Folds.{Step, IsSingle}
 use Rattle.wire_codec.specs.Limits.{Charge}
+use Rattle.wire_codec.specs.Options.{default_limits}
 use Rattle.wire_codec.specs.Records.{Records, joined_records, of_fields}
+use Rattle.wire_codec.specs.Taking.{Decodes, NotDecoded}
 use Rattle.wire_codec.specs.TakingLaws.{OneReading}
 
 -- ---- two parts of a value
@@ -73,6 +75,14 @@ pub record Shape (V : Type 0) : Type 1 where
   pub records : V → Records
   pub takes : Step V
   pub single : OneReading → IsSingle takes
+
+-- the value that all of the bytes are, within the limits of a caller that names none
+abbrev pub DecodesAs : {V : Type 0} → Shape V → List ℕ → V → Type 0
+DecodesAs s bytes m = Decodes s.takes default_limits s.default bytes m
+
+-- the bytes are no value within these limits
+abbrev pub NotDecodedAs : {V : Type 0} → Shape V → List ℕ → Type 0
+NotDecodedAs s bytes = NotDecoded s.takes default_limits s.default bytes
 
 -- one field of this number
 abbrev pub known : {V : Type 0} → ℕ → Lawful V → Shape V

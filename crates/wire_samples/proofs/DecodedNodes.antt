@@ -2,14 +2,15 @@
 use Rattle.std.proofs.Common.{ℕ, List, subst, arith}
 use Rattle.std.specs.Prelude.{ℤ, FitsSigned}
 use Rattle.std.specs.Int.{w64}
-use Rattle.wire_codec.specs.Field.{Payload, varint, fixed64, fixed32, bytes, group, Fields, none, field}
-use Rattle.wire_codec.specs.FieldNumber.{IsFieldNumber}
-use Rattle.wire_codec.specs.InRange.{IsPayloadFitting, AreFitting, IsPayloadNumbered, AreNumbered}
+use Rattle.wire_codec.specs.Field.{Payload, varint, fixed64, fixed32, bytes, group, Fields}
+use Rattle.wire_codec.specs.InRange.{IsPayloadFitting}
 use Rattle.wire_codec.specs.Laws.{SpelledAreFitting}
 use Rattle.wire_codec.specs.Limits.{Charge}
 use Rattle.wire_codec.specs.RecordLaws.{SpelledAreNumbered}
-use Rattle.wire_codec.specs.Spells.{SpellsPayload, Spells}
-use Rattle.wire_codec.proofs.Fitting.{AreBytes, read_bytes}
+use Rattle.wire_codec.proofs.Fitting.{AreBytes}
+use Rattle.wire_fields.specs.Sound.{HasBytes, IsSound, AreSound, first_is_sound, others_are_sound}
+use Rattle.wire_fields.specs.Sound.{body_is_sound, spelled_are_sound}
+use Rattle.wire_fields.specs.StaysKinds.{sint64_fits}
 use Rattle.wire_samples.specs.FieldSteps.{SetsSint64}
 use Rattle.wire_samples.specs.Kept.{AreKept}
 use Rattle.wire_samples.specs.Node.{NodeValue, MaybeNode, NodeList, node, absent, present, empty, ahead}
@@ -18,7 +19,7 @@ use Rattle.wire_samples.specs.Node.{child_of, group_of, unknown_of, default_node
 use Rattle.wire_samples.specs.Node.{with_another, with_group, with_unknown}
 use Rattle.wire_samples.specs.NodeSteps.{NodeTakes, value, child, another, grouped, unknown}
 use Rattle.wire_samples.specs.NodeSteps.{NodeMerges, merged, NodeFolds, no_more, one_more}
-use Rattle.wire_samples.proofs.Kept.{kept_more, none_kept, sint64_fits}
+use Rattle.wire_samples.proofs.Kept.{kept_more, none_kept}
 
 -- ---- nodes with another field
 
@@ -57,65 +58,7 @@ unknown_in_range : (m : NodeValue) (fs : Fields) → IsNode m
     → (AreKept IsNodeOther (unknown_of m) → AreKept IsNodeOther fs) → IsNode (with_unknown m fs)
 unknown_in_range (node v one many body kept) fs h more = (h.0, h.1, h.2, h.3, more h.4)
 
--- ---- records of bytes
-
-abbrev mutual
-  pub HasBytes : Payload → Type 0
-  HasBytes (varint v) = Unit {0}
-  HasBytes (fixed64 v) = Unit {0}
-  HasBytes (fixed32 v) = Unit {0}
-  HasBytes (bytes b) = AreBytes b
-  HasBytes (group fs) = HaveBytes fs
-
-  pub HaveBytes : Fields → Type 0
-  HaveBytes none = Unit {0}
-  HaveBytes (field n p rest) = HasBytes p × HaveBytes rest
-
-mutual
-  payload_bytes : (p : Payload) (n : ℕ) (t : List ℕ) → AreBytes t → SpellsPayload n p t
-      → HasBytes p
-  payload_bytes (varint v) n t all h = tt
-  payload_bytes (fixed64 v) n t all h = tt
-  payload_bytes (fixed32 v) n t all h = tt
-  payload_bytes (bytes b) n t all h = (read_bytes _ t b h all).1
-  payload_bytes (group fs) n t all (end, body, tag) =
-      records_bytes fs body.text (read_bytes (Spells fs) t end body all).0 body.spelled
-
-  records_bytes : (fs : Fields) (t : List ℕ) → AreBytes t → Spells fs t → HaveBytes fs
-  records_bytes none t all h = tt
-  records_bytes (field n p others) t all (behind, rest, tag, payload, more) =
-      let after_tag = read_bytes _ t behind tag all in
-      let after = read_bytes (SpellsPayload n p) behind rest payload after_tag.1 in
-      let here = payload_bytes p n payload.text after.0 payload.spelled in
-      (here, records_bytes others rest after.1 more)
-
--- a record, and records, whose numbers, lengths and bytes are in range
-record IsSound (n : ℕ) (p : Payload) : Type 0 where
-  number : IsFieldNumber n
-  fits : IsPayloadFitting p
-  numbered : IsPayloadNumbered p
-  of_bytes : HasBytes p
-
-pub record AreSound (fs : Fields) : Type 0 where
-  pub fit : AreFitting fs
-  pub numbered : AreNumbered fs
-  pub of_bytes : HaveBytes fs
-
-first_is_sound : {n : ℕ} {p : Payload} (rest : Fields) → AreSound (field n p rest) → IsSound n p
-first_is_sound rest h = record {
-  number = h.numbered.0;
-  fits = h.fit.0;
-  numbered = h.numbered.1;
-  of_bytes = h.of_bytes.0;
-}
-
-others_are_sound : (n : ℕ) (p : Payload) {rest : Fields} → AreSound (field n p rest)
-    → AreSound rest
-others_are_sound n p h =
-    record { fit = h.fit.1; numbered = h.numbered.2; of_bytes = h.of_bytes.1 }
-
-body_is_sound : (n : ℕ) (fs : Fields) → IsSound n (group fs) → AreSound fs
-body_is_sound n fs h = record { fit = h.fits; numbered = h.numbered; of_bytes = h.of_bytes }
+-- ---- records
 
 number_fits : (p : Payload) (v : ℤ) → SetsSint64 p v → IsPayloadFitting p → FitsSigned w64 v
 number_fits (varint x) v is fits = rw is (sint64_fits x fits)
@@ -125,13 +68,6 @@ number_fits (bytes b) v is fits = absurd is
 number_fits (group fs) v is fits = absurd is
 
 module _ (fitting : SpelledAreFitting) (numbers : SpelledAreNumbered) where
-  pub spelled_are_sound : (fs : Fields) (t : List ℕ) → AreBytes t → Spells fs t → AreSound fs
-  spelled_are_sound fs t all h = record {
-    fit = fitting fs t all h;
-    numbered = numbers fs t h;
-    of_bytes = records_bytes fs t all h;
-  }
-
   mutual
     takes_in_range : {m z : NodeValue} {n : ℕ} {p : Payload} {c : Charge} → NodeTakes m n p c z
         → IsSound n p → IsNode m → IsNode z
@@ -153,7 +89,7 @@ module _ (fitting : SpelledAreFitting) (numbers : SpelledAreNumbered) where
     merges_in_range : {m z : NodeValue} {b : List ℕ} {c : Charge} → NodeMerges m b c z
         → AreBytes b → IsNode m → IsNode z
     merges_in_range (merged fs short spelled k) all h =
-        folds_in_range k (spelled_are_sound fs _ all spelled) h
+        folds_in_range k (spelled_are_sound fitting numbers fs _ all spelled) h
 
     pub folds_in_range : {m z : NodeValue} {fs : Fields} {c : Charge} → NodeFolds m fs c z
         → AreSound fs → IsNode m → IsNode z

@@ -13,7 +13,8 @@ use Rattle.wire_codec.specs.ValueMap.{int32}
 use Rattle.wire_samples.specs.FieldSteps.{SetsInt32, SetsText, AppendsInt32}
 use Rattle.wire_samples.specs.Person.{PersonValue, PersonTakes, IsPerson, IsPersonOther, id, name}
 use Rattle.wire_samples.specs.Person.{scores, unknown, default_person}
-use Rattle.wire_samples.proofs.Kept.{kept_more, none_kept, int32_fits}
+use Rattle.wire_fields.specs.StaysKinds.{int32_fits}
+use Rattle.wire_samples.proofs.Kept.{kept_more, none_kept}
 
 number_fits : (p : Payload) (v : ℤ) → SetsInt32 p v → FitsSigned w32 v
 number_fits (varint x) v is = rw is (int32_fits x)

@@ -20,5 +20,8 @@ returns c =
       fixed64 = values.fixed64;
       sfixed32 = values.sfixed32;
       sfixed64 = values.sfixed64;
+      fitting = c.spelled_are_fitting.ensures;
+      numbered = c.spelled_are_numbered.ensures;
+      joined = c.joined_records_add_up.ensures;
       number = λ n low high. (low, high);
     }

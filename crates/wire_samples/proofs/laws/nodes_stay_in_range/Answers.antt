@@ -1,5 +1,6 @@
 use Rattle.wire_codec.proofs.Fitting.{read_bytes}
-use Rattle.wire_samples.proofs.DecodedNodes.{default_in_range, folds_in_range, spelled_are_sound}
+use Rattle.wire_fields.specs.Sound.{spelled_are_sound}
+use Rattle.wire_samples.proofs.DecodedNodes.{default_in_range, folds_in_range}
 use Rattle.wire_samples.proofs.NodeLists.{from_folds}
 use Rattle.wire_samples.proofs.laws.nodes_stay_in_range.Goals as goal
 
