@@ -1,7 +1,7 @@
 //! Caches of sizes and pools of them: in which order sizes are read, and which buffers are kept.
 use crate::row::{Row, Step};
 use crate::said::Said;
-use wire_codec::{SizeCache, SizeCachePool, checked_encode_size, saturate_size};
+use wire_codec::{EncodeError, SizeCache, SizeCachePool, checked_encode_size, saturate_size};
 
 pub fn tell(row: &Row<'_>, said: &mut Said) -> bool {
     match row.call {
@@ -88,22 +88,31 @@ pub fn pool_of(row: &Row<'_>, said: &Said) -> SizeCachePool {
 }
 
 /// Gives the pool a cache with a buffer of the capacity behind `buffer=`, where the row names one.
+/// A pool that keeps none was refused memory.
 pub fn give_buffer(pool: &mut SizeCachePool, row: &Row<'_>, said: &mut Said) {
     if let Some(capacity) = row.number("buffer") {
         let buffer = said.made(Vec::with_capacity(said.alloc, capacity));
         let buffer = buffer.unwrap_or(Vec::new(said.alloc));
         pool.release(SizeCache::with_spill_buffer(buffer));
+        if !has_buffer(pool) {
+            said.refuse(EncodeError::OutOfMemory);
+        }
     }
 }
 
 /// A pool that was given a buffer has it after each call, one that was refused too.
 pub fn expect_buffer(pool: &mut SizeCachePool, row: &Row<'_>, said: &mut Said) {
     if row.word("buffer").is_some() {
-        let cache = pool.acquire();
-        let buffer = cache.into_spill_buffer();
-        said.expect(buffer.capacity() > 0, "the pool has lost its buffer");
-        pool.release(SizeCache::with_spill_buffer(buffer));
+        said.expect(has_buffer(pool), "the pool has lost its buffer");
     }
+}
+
+// Whether the pool gives out a cache with a buffer; it has that back then.
+fn has_buffer(pool: &mut SizeCachePool) -> bool {
+    let buffer = pool.acquire().into_spill_buffer();
+    let has_room = buffer.capacity() > 0;
+    pool.release(SizeCache::with_spill_buffer(buffer));
+    has_room
 }
 
 // Caches with spill buffers of the capacities that the row names are released, and then as many are
