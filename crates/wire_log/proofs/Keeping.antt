@@ -80,18 +80,6 @@ entry_dropped was now next old new told tells more broken h k fed tell =
       limit = ap (λ (s : Stream). s.limit) k.rest ∙ h.limit;
     }
 
--- no frame follows
-pub stops_keeping : (was now : LogReader) (old new : List ℕ) (told tells : List Broken) (e : Stop)
-    → HasKept was now old new told tells
-    → StopsHere now.decoder.framing now.decoder.limit (unread now.decoder) e
-    → ((broken : Broken) → e ≢ stops.Records broken) → StopsKeeping was old new told tells e
-stops_keeping was now old new told tells e h stop others = record {
-  rest = unread now.decoder;
-  front = h.front;
-  stop = rw (h.framing, h.limit) at stop;
-  no_records = others;
-}
-
 memory_is_other : (e : Stop) → e ≡ stops.OutOfMemory → (broken : Broken) → e ≢ stops.Records broken
 memory_is_other e is broken other =
     let no : stops.OutOfMemory ≡ stops.Records broken = sym is ∙ other in absurd cc
@@ -110,22 +98,5 @@ keeping_wants was now next old new out told tells whole e h k is same =
       front = subst (λ (t : List ℕ). PutsKept was (unread now.decoder) old t told tells)
           (sym same) h.front;
       stop = no_memory (frame_of whole, unread next, taken) is;
-      no_records = memory_is_other e is;
-    }
-
--- or when it was told of
-pub telling_wants : (was now next : LogReader) (old new : List ℕ)
-    (told tells more : List Broken) (broken : Broken) (e : Stop)
-    → HasKept was now old new told tells → LeavesOut now next broken
-    → e ≡ stops.OutOfMemory → more ≡ tells → StopsKeeping was old new told more e
-telling_wants was now next old new told tells more broken e h k is same =
-    let frame = rw (h.framing, h.limit) at k.frame in
-    let taken = whole_read was.decoder.framing was.decoder.limit k.whole (unread now.decoder)
-        (unread next.decoder) frame k.parts in
-    record {
-      rest = unread now.decoder;
-      front = subst (λ (t : List Broken). PutsKept was (unread now.decoder) old new told t)
-          (sym same) h.front;
-      stop = no_memory (frame_of k.whole, unread next.decoder, taken) is;
       no_records = memory_is_other e is;
     }
