@@ -8,5 +8,4 @@ pub mod Front
 pub mod Frames
 pub mod Shortened
 pub mod Laws
-pub mod Outcome
 pub mod Input

@@ -3,35 +3,31 @@ ghost use Rattle.std.specs.Prelude.{◌≡◌, ◌≤◌, ◌⊎◌, length, Ok,
 ghost use Rattle.base64.specs.Engines.{standard_pad_indifferent, url_safe_pad_indifferent};
 ghost use Rattle.base64.specs.GeneralPurpose as base64_texts;
 ghost use Rattle.hex.specs.Hex as hexadecimal;
-ghost use Rattle.wire_dump.specs.declared.error.RunError.TheVariants.{NotBase64, NotHexadecimal};
 ghost use Rattle.wire_dump.specs.Input.{compact};
+ghost use Rattle.wire_run.specs.declared.error.RunError.TheVariants.{NotBase64, NotHexadecimal};
 
-use crate::error::{RunError, open_error, read_error};
 use crate::options::{Notation, Options};
 use base64::DecodeAllocError;
 use base64::engine::general_purpose::{STANDARD_PAD_INDIFFERENT, URL_SAFE_PAD_INDIFFERENT};
 use std::alloc::{AllocError, Global};
 use std::fs;
 use std::io::Read;
+use wire_run::{RunError, Source, open_error, read_error};
 
 /// All bytes of the input that the options name.
 pub(crate) fn input(rt: &HostRuntime, options: &Options<'_>) -> Result<Vec<u8>, RunError> {
-    let written = match options.file {
-        Some(path) => match fs::open(rt, path) {
+    let written = match options.source {
+        Source::File(path) => match fs::open(rt, path) {
             Ok(file) => read(rt.alloc(), file, options.size)?,
             Err(error) => return Err(open_error(error)),
         },
-        None => read(rt.alloc(), rt.stdin(), options.size)?,
+        Source::StandardInput => read(rt.alloc(), rt.stdin(), options.size)?,
     };
-    let bytes = match options.notation {
-        Notation::Plain => written,
-        Notation::Hexadecimal => of_hexadecimal(rt.alloc(), &written)?,
-        Notation::Base64 => of_base64(rt.alloc(), &written)?,
-    };
-    if bytes.is_empty() {
-        return Err(RunError::Empty);
+    match options.notation {
+        Notation::Plain => Ok(written),
+        Notation::Hexadecimal => of_hexadecimal(rt.alloc(), &written),
+        Notation::Base64 => of_base64(rt.alloc(), &written),
     }
-    Ok(bytes)
 }
 
 fn read<R: Read + Drop>(alloc: Global, reader: R, size: u64) -> Result<Vec<u8>, RunError>

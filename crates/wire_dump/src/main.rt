@@ -2,7 +2,7 @@
 #![tactic(auto)]
 
 mod dump;
-mod error;
+mod fault_line;
 mod frames;
 mod input;
 mod laws;
@@ -16,63 +16,48 @@ mod string;
 
 use bytes::Bytes;
 use dump::put_records;
-use error::{RunError, write_error};
+use fault_line::{RecordsPlace, tell_fault, tell_frame_error};
 use frames::put_frame;
 use input::input;
 use layout::Layout;
 use options::Options;
 use shortest::{reader_at_stop, shortest_text};
-use std::env;
 use std::io::Write;
 use std::process::ExitCode;
 use stop::Stop;
 use wire_frames::{FrameDecoder, FrameError, Framing};
-use wire_read::{Fault, Reader};
+use wire_read::Reader;
+use wire_run::{FramePlace, RunError, Source, answer_words, report, words, write_error};
+
+const NAME: &str = "wire_dump";
 
 fn main(rt: HostRuntime) -> ExitCode {
-    match run(&rt) {
-        Ok(()) => ExitCode::SUCCESS,
-        Err(error) => error.told(&rt),
+    match words(&rt, NAME) {
+        Ok(words) => answer(&rt, words.as_slice()),
+        Err(error) => report(&rt, NAME, Source::StandardInput, Err(error)),
     }
 }
 
-fn run(rt: &HostRuntime) -> Result<(), RunError> {
-    let words = words(rt)?;
-    let mut texts = Vec::new(rt.alloc());
-    for word in &words {
-        texts.push(word.as_str())?;
+// What these words ask for, and its status.
+fn answer(rt: &HostRuntime, words: &[String]) -> ExitCode {
+    match Options::parse(rt.alloc(), words) {
+        Ok(options) => report(rt, NAME, options.source, run(rt, &options)),
+        Err(error) => report(rt, NAME, Source::StandardInput, answer_words(rt, &error)),
     }
-    let options = Options::parse(rt.alloc(), &texts)?;
-    let bytes = input(rt, &options)?;
+}
+
+fn run(rt: &HostRuntime, options: &Options<'_>) -> Result<(), RunError> {
+    let bytes = input(rt, options)?;
     if options.is_delimited {
-        return print_log(rt, &options, bytes);
-    }
-    print(rt, &options, &bytes)
-}
-
-fn words(rt: &HostRuntime) -> Result<Vec<String>, RunError> {
-    let mut words = Vec::new(rt.alloc());
-    match env::args(rt) {
-        Ok(args) => {
-            for word in args {
-                words.push(word)?;
-            }
-            Ok(words)
-        }
-        Err(_) => Err(RunError::OutOfMemory),
+        print_log(rt, options, bytes)
+    } else if options.is_shortest {
+        print_shortest(rt, options, &bytes)
+    } else {
+        print(rt, options, &bytes)
     }
 }
 
 fn print(rt: &HostRuntime, options: &Options<'_>, bytes: &[u8]) -> Result<(), RunError> {
-    if options.is_shortest {
-        return match shortest_text(rt.alloc(), &options.context, bytes) {
-            Ok(text) => send(rt, &text),
-            Err(stop) => {
-                let reader = reader_at_stop(&options.context, bytes);
-                Err(refused(rt, 0, &stop, &reader))
-            }
-        };
-    }
     let mut reader = Reader::within(&options.context);
     let layout = Layout::new(options.has_offsets, 0);
     // Most lines are longer than their bytes; what is not written to takes no memory.
@@ -81,10 +66,16 @@ fn print(rt: &HostRuntime, options: &Options<'_>, bytes: &[u8]) -> Result<(), Ru
     };
     match put_records(&mut out, layout, 0, &mut reader, bytes) {
         Ok(()) => send(rt, &out),
-        Err(Stop::OutOfMemory) => Err(RunError::OutOfMemory),
+        Err(stop) => Err(stopped(rt, &out, &all_of(options.source), &stop, &reader)),
+    }
+}
+
+fn print_shortest(rt: &HostRuntime, options: &Options<'_>, bytes: &[u8]) -> Result<(), RunError> {
+    match shortest_text(rt.alloc(), &options.context, bytes) {
+        Ok(text) => send(rt, &text),
         Err(stop) => {
-            send(rt, &out)?;
-            Err(refused(rt, 0, &stop, &reader))
+            let reader = reader_at_stop(&options.context, bytes);
+            Err(stopped(rt, &[], &all_of(options.source), &stop, &reader))
         }
     }
 }
@@ -96,33 +87,41 @@ fn print_log(rt: &HostRuntime, options: &Options<'_>, bytes: Vec<u8>) -> Result<
     fed.or(Err(RunError::OutOfMemory))?;
     let mut out = Vec::new(rt.alloc());
     // Each turn but the last takes a byte.
-    for index in 0..u64::MAX {
+    for number in 0..u64::MAX {
         let start = total.saturating_sub(decoder.unread_len());
+        let frame = FramePlace {
+            number,
+            start: start as u64,
+        };
         let payload = match decoder.next_at_end() {
             Ok(Some(frame)) => frame.payload,
             Ok(None) => break,
-            Err(FrameError::OutOfMemory) => return Err(RunError::OutOfMemory),
-            Err(error) => {
-                send(rt, &out)?;
-                let _ = eprintln!(rt; "wire_dump: frame {index} at {start}: {error}");
-                return Err(RunError::Refused);
-            }
+            Err(error) => return Err(cut(rt, &out, options.source, frame, &error)),
         };
         let end = total.saturating_sub(decoder.unread_len());
         let place = end.saturating_sub(payload.len());
         let layout = Layout::new(options.has_offsets, 1);
         let mut reader = Reader::within(&options.context);
         let bytes = payload.as_slice();
-        match put_frame(&mut out, layout, index, start, place, &mut reader, bytes) {
-            Ok(()) => {}
-            Err(Stop::OutOfMemory) => return Err(RunError::OutOfMemory),
-            Err(stop) => {
-                send(rt, &out)?;
-                return Err(refused(rt, place, &stop, &reader));
-            }
+        if let Err(stop) = put_frame(&mut out, layout, number, start, place, &mut reader, bytes) {
+            let records = RecordsPlace {
+                source: options.source,
+                frame: Some(frame),
+                place,
+            };
+            return Err(stopped(rt, &out, &records, &stop, &reader));
         }
     }
     send(rt, &out)
+}
+
+// All of an input, which is no log.
+fn all_of(source: Source<'_>) -> RecordsPlace<'_> {
+    RecordsPlace {
+        source,
+        frame: None,
+        place: 0,
+    }
 }
 
 fn send(rt: &HostRuntime, text: &[u8]) -> Result<(), RunError> {
@@ -132,27 +131,42 @@ fn send(rt: &HostRuntime, text: &[u8]) -> Result<(), RunError> {
     }
 }
 
-// The error of what stopped behind this place; a fault is reported.
-fn refused(rt: &impl Eprint, place: usize, stop: &Stop, reader: &Reader) -> RunError {
-    match stop {
-        Stop::OutOfMemory => RunError::OutOfMemory,
-        Stop::Fault(fault) => {
-            report(rt, place, fault, reader);
-            RunError::Refused
+// Where records stop: what is put of those before a fault is written, and then the fault is told.
+fn stopped(
+    rt: &HostRuntime,
+    out: &[u8],
+    records: &RecordsPlace<'_>,
+    stop: &Stop,
+    reader: &Reader,
+) -> RunError {
+    let Stop::Fault(fault) = stop else {
+        return RunError::OutOfMemory;
+    };
+    match send(rt, out) {
+        Ok(()) => {
+            tell_fault(rt, records, fault, reader);
+            RunError::Broken
         }
+        Err(error) => error,
     }
 }
 
-// One line on standard error: where the record begins and the part at fault, the numbers of the
-// open groups, and why.
-fn report(rt: &impl Eprint, place: usize, fault: &Fault, reader: &Reader) {
-    let _ = eprintln!(rt;
-        "wire_dump: record at {}, {:?} at {}, in groups {:?}: {:?}: {}",
-        place.saturating_add(fault.record_place),
-        fault.part,
-        place.saturating_add(fault.part_place),
-        reader.open_groups(),
-        fault.error,
-        fault.error
-    );
+// Where a log stops at a frame: the same.
+fn cut(
+    rt: &HostRuntime,
+    out: &[u8],
+    source: Source<'_>,
+    frame: FramePlace,
+    error: &FrameError,
+) -> RunError {
+    if *error == FrameError::OutOfMemory {
+        return RunError::OutOfMemory;
+    }
+    match send(rt, out) {
+        Ok(()) => {
+            tell_frame_error(rt, source, frame, error);
+            RunError::Broken
+        }
+        Err(error) => error,
+    }
 }

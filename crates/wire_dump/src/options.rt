@@ -1,8 +1,8 @@
 //! The words of the command line.
-use crate::error::{RunError, words_error};
 use clap::{Arg, ArgAction, ArgMatches, Command, Error};
 use std::alloc::{AllocError, Global};
 use wire_codec::DecodeContext;
+use wire_run::Source;
 
 /// How the bytes of the input are written.
 #[derive(Clone, Copy, Debug, PartialEq)]
@@ -15,8 +15,7 @@ pub(crate) enum Notation {
 /// What is read, within which limits, and what is printed of it.
 #[derive(Drop)]
 pub(crate) struct Options<'a> {
-    /// The file that is read; standard input without one.
-    pub(crate) file: Option<&'a str>,
+    pub(crate) source: Source<'a>,
     pub(crate) notation: Notation,
     /// How many bytes the input may have.
     pub(crate) size: u64,
@@ -28,8 +27,8 @@ pub(crate) struct Options<'a> {
 
 const ABOUT: &str = "Prints the records of Protocol Buffers bytes, without a schema, and says at \
     which byte and why broken ones are broken. Status 0: all is printed; 1: the bytes are no \
-    records; 2: these words; 3: no such file; 4: reading failed; 5: the input is too long; 6: no \
-    hexadecimal text; 7: the input is empty; 8: writing failed; 9: a broken pipe; 10: no memory; \
+    records; 2: these words; 3: the file cannot be opened; 4: reading failed; 5: the input is too \
+    long; 6: no hexadecimal text; 8: writing failed; 9: nobody reads the output; 10: no memory; \
     11: no base64 text.";
 
 const HEX: &str = "The input is hexadecimal text, spaces between bytes or none";
@@ -67,19 +66,17 @@ const LIMITS: [(&str, &str, &str); 4] = [
 
 impl<'a> Options<'a> {
     /// The options of these words, of which the first is the program's name.
-    pub(crate) fn parse(alloc: Global, words: &'a [&'a str]) -> Result<Options<'a>, RunError> {
-        match matches(alloc, words) {
-            Ok(matches) => Ok(Options {
-                file: matches.get_str("FILE"),
-                notation: notation_of(&matches),
-                size: matches.get_one("size").unwrap_or(67_108_864),
-                context: context(&matches),
-                has_offsets: matches.get_flag("offsets"),
-                is_shortest: matches.get_flag("shortest"),
-                is_delimited: matches.get_flag("delimited"),
-            }),
-            Err(error) => Err(words_error(error)),
-        }
+    pub(crate) fn parse(alloc: Global, words: &'a [String]) -> Result<Options<'a>, Error> {
+        let matches = matches(alloc, words)?;
+        Ok(Options {
+            source: Source::named(matches.get_str("FILE")),
+            notation: notation_of(&matches),
+            size: matches.get_one("size").unwrap_or(67_108_864),
+            context: context(&matches),
+            has_offsets: matches.get_flag("offsets"),
+            is_shortest: matches.get_flag("shortest"),
+            is_delimited: matches.get_flag("delimited"),
+        })
     }
 }
 
@@ -100,9 +97,12 @@ fn context(matches: &ArgMatches<'_>) -> DecodeContext {
     DecodeContext::new(depth, fields).with_unknown_bytes(bytes)
 }
 
-fn matches<'a>(alloc: Global, words: &'a [&'a str]) -> Result<ArgMatches<'a>, Error> {
-    let file = Arg::new(alloc, "FILE").help("What to read; standard input without one");
-    let command = Command::new(alloc, "wire_dump").about(ABOUT).arg(file)?;
+fn matches<'a>(alloc: Global, words: &'a [String]) -> Result<ArgMatches<'a>, Error> {
+    let file = Arg::new(alloc, "FILE").help("What to read; standard input without one, and for -");
+    let command = Command::new(alloc, "wire_dump")
+        .version("1")
+        .about(ABOUT)
+        .arg(file)?;
     let command = with_flags(alloc, command)?;
     with_limits(alloc, command)?.try_get_matches_from(words)
 }

@@ -2,7 +2,6 @@
 use Rattle.std.proofs.Common.{◌≡◌, ◌≢◌, ℕ, ◌≤◌, inl, List, [], ◌∷◌, ◌++◌, length, Option, Some, None, refl, sym, ap, subst, ◌∙◌, append_assoc, length-append, arith}
 use Rattle.std.specs.Prelude.{IfNone}
 use Rattle.std.proofs.lemmas.List.{append-nil}
-use Rattle.wire_base.specs.Field.{Fields}
 use Rattle.wire_base.specs.Read.{Reads}
 use Rattle.wire_frames.specs.declared.frame.Frame.{Frame}
 use Rattle.wire_frames.specs.declared.frame.FrameText.{FrameText}
@@ -12,7 +11,8 @@ use Rattle.wire_frames.specs.Laws.{FramesAddUp, OneFrame, UnfinishedHasNoNext}
 use Rattle.wire_frames.specs.Stream.{Stream, unread}
 use Rattle.wire_log.specs.declared.entry.Stop.{Stop}
 use Rattle.wire_log.specs.declared.entry.Stop.TheVariants as stops
-use Rattle.wire_log.specs.Entries.{SpellsEntry, TakesEntry, HoldsEntry, StopsHere, no_memory, AreRecords, ReadsEntries, IsLongest, PutsFront, StopsBehind}
+use Rattle.wire_log.specs.Entries.{AreRecords, TakesEntry, HoldsEntry, StopsHere, no_memory}
+use Rattle.wire_log.specs.Fronts.{HaveRecords, ReadsEntries, IsLongest, PutsFront, StopsBehind}
 
 pub at_none : {T : Type 0} (o : Option T) (P : Type 0) → ((x : T) → o ≡ Some x → ⊥) → IfNone o P → P
 at_none None P full h = h
@@ -41,7 +41,7 @@ frames_shorten form limit (x ∷ xs) bytes rest (mid, first, others) =
 -- frames up to where none of records stands reach as far as any that are of records
 module _ (one : OneFrame) (form : Framing) (limit : ℕ) where
   reach : (xs ys : List Frame) (bytes r s : List ℕ) → Frames form limit xs bytes r
-      → (HoldsEntry form limit r → ⊥) → Frames form limit ys bytes s → AreRecords ys
+      → (HoldsEntry form limit r → ⊥) → Frames form limit ys bytes s → HaveRecords ys
       → length r ≤ length s
   reach xs [] bytes r s h ends k records =
       omega (arith, frames_shorten form limit xs bytes r h, ap length k)
@@ -66,10 +66,10 @@ no_entry_unfinished none form limit bytes begun (frame, rest, fields, read, spel
 
 -- ---- what is put
 
-AreRecords-push : (xs : List Frame) (x : Frame) (fs : Fields) → AreRecords xs
-    → SpellsEntry fs x.payload → AreRecords (xs ++ x ∷ [])
-AreRecords-push [] x fs h k = ((fs, k), tt)
-AreRecords-push (y ∷ xs) x fs h k = (h.0, AreRecords-push xs x fs h.1 k)
+HaveRecords-push : (xs : List Frame) (x : Frame) → HaveRecords xs → AreRecords x.payload
+    → HaveRecords (xs ++ x ∷ [])
+HaveRecords-push [] x h k = (k, tt)
+HaveRecords-push (y ∷ xs) x h k = (h.0, HaveRecords-push xs x h.1 k)
 
 -- so far a front was put, and the decoder stands behind it
 pub record HasPut (was now : Stream) (old new : List ℕ) : Type 0 where
@@ -90,9 +90,9 @@ nothing_put was old = record {
 }
 
 pub entry_put : FramesAddUp → (was now next : Stream) (old new out : List ℕ) (whole : FrameText)
-    (records : ℕ) → HasPut was now old new → TakesEntry now next whole records
-    → out ≡ new ++ whole.text → HasPut was next old out
-entry_put sums was now next old new out whole records h k put =
+    → HasPut was now old new → TakesEntry now next whole → out ≡ new ++ whole.text
+    → HasPut was next old out
+entry_put sums was now next old new out whole h k put =
     let before = h.front.entries.frames in
     let frame = rw (h.framing, h.limit) at k.frame in
     let taken = whole_read was.framing was.limit whole (unread now) (unread next) frame k.parts in
@@ -107,8 +107,7 @@ entry_put sums was now next old new out whole records h k put =
           frames = before ++ frame_of whole ∷ [];
           read = sums.one_more was.framing was.limit before (frame_of whole) (unread was)
               (unread now) (unread next) h.front.entries.read taken;
-          records = AreRecords-push before (frame_of whole) k.fields h.front.entries.records
-              k.entry;
+          records = HaveRecords-push before (frame_of whole) h.front.entries.records k.records;
         };
       };
       framing = ap (λ (s : Stream). s.framing) k.rest ∙ h.framing;
@@ -133,9 +132,9 @@ stops_behind one was now old new out e h stop only same =
 
 -- it is there, and memory ran out when it was put
 pub wants_memory : (was now next : Stream) (old new out : List ℕ) (whole : FrameText)
-    (records : ℕ) (e : Stop) → HasPut was now old new → TakesEntry now next whole records
-    → e ≡ stops.OutOfMemory → out ≡ new → StopsBehind was old out e
-wants_memory was now next old new out whole records e h k is same =
+    (e : Stop) → HasPut was now old new → TakesEntry now next whole → e ≡ stops.OutOfMemory
+    → out ≡ new → StopsBehind was old out e
+wants_memory was now next old new out whole e h k is same =
     let frame = rw (h.framing, h.limit) at k.frame in
     let taken = whole_read was.framing was.limit whole (unread now) (unread next) frame k.parts in
     record {

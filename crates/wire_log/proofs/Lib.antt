@@ -1,2 +1,3 @@
 pub mod Fronts
+pub mod Keeping
 pub mod Stops

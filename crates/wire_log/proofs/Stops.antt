@@ -1,11 +1,11 @@
 -- Why no frame of records is taken off the front.
-use Rattle.std.proofs.Common.{◌≡◌, ◌≢◌, ℕ, ◌⊎◌, inl, inr, List, sym, subst, ◌∙◌}
-use Rattle.wire_base.specs.declared.error.DecodeError.{DecodeError}
-use Rattle.wire_base.specs.declared.error.DecodeError.TheVariants as decode
+use Rattle.std.proofs.Common.{◌≡◌, ◌≢◌, ℕ, ◌⊎◌, inl, inr, List, [], refl, sym, subst, ◌∙◌}
+use Rattle.std.specs.Prelude.{Result, Ok, Err, IfErr, OnErr}
+use Rattle.wire_base.specs.Charge.{charge}
 use Rattle.wire_base.specs.Ending.{by_input}
-use Rattle.wire_base.specs.Field.{Fields}
+use Rattle.wire_base.specs.FaultLaws.{NoListBesideFault}
 use Rattle.wire_base.specs.Read.{Reads}
-use Rattle.wire_base.specs.Refusal.{ListRefusal}
+use Rattle.wire_base.specs.RecordLaws.{WholeInput}
 use Rattle.wire_frames.specs.declared.error.FrameError.{FrameError}
 use Rattle.wire_frames.specs.declared.error.FrameError.TheVariants.{LengthTooLong, UnknownFlag, FrameTooLarge, OutOfMemory}
 use Rattle.wire_frames.specs.declared.frame.Frame.{Frame}
@@ -14,9 +14,13 @@ use Rattle.wire_frames.specs.declared.frame.Framing.TheVariants.{Delimited, Grpc
 use Rattle.wire_frames.specs.Frames.{IsFrame, FrameFault, no_prefix, too_large, FrameRefusal, fault, memory}
 use Rattle.wire_frames.specs.Laws.{NoFrameBesideFault, OneFrame}
 use Rattle.wire_frames.specs.Prefix.{PrefixFault}
+use Rattle.wire_log.specs.declared.entry.Broken.{Broken}
+use Rattle.wire_log.specs.declared.entry.LogReader.{LogReader}
 use Rattle.wire_log.specs.declared.entry.Stop.{Stop}
 use Rattle.wire_log.specs.declared.entry.Stop.TheVariants as stops
-use Rattle.wire_log.specs.Entries.{entry_limits, SpellsEntry, HoldsEntry, StopsHere, no_frame, no_records, no_memory}
+use Rattle.wire_log.specs.Entries.{entry_limits, SpellsEntry, AreRecords, HoldsEntry, LeavesOut, StopsHere, no_frame, no_memory}
+use Rattle.wire_read.specs.declared.event.Fault.{Fault}
+use Rattle.wire_read.specs.Faults.{IsFault}
 
 -- ---- no frame
 
@@ -59,30 +63,30 @@ no_entry_refused beside form limit bytes error e (fault h) (inl (other, is)) not
 
 -- ---- no records
 
--- the stop of a payload's error
-abbrev pub RecordsStop : DecodeError → Stop → Type 0
-RecordsStop error e = ((error ≢ decode.OutOfMemory) × (e ≡ stops.Records error))
-    ⊎ ((error ≡ decode.OutOfMemory) × (e ≡ stops.OutOfMemory))
+-- the fault of a payload leaves no records in it
+pub no_records_beside : NoListBesideFault → WholeInput → (payload : List ℕ) (fault : Fault)
+    → IsFault entry_limits payload fault → AreRecords payload → ⊥
+no_records_beside beside whole payload wrong is (fields, spelled) =
+    beside entry_limits by_input payload [] wrong.error fields is.of_list
+    ((whole (charge fields) entry_limits fields payload []).1 (spelled.spelled, spelled.within, refl))
 
-pub records_stops : (form : Framing) (limit : ℕ) (bytes rest : List ℕ) (frame : Frame)
-    (error : DecodeError) (e : Stop) → Reads bytes (IsFrame form limit frame) rest
-    → ListRefusal entry_limits by_input frame.payload error → RecordsStop error e
-    → StopsHere form limit bytes e
-records_stops form limit bytes rest frame error e read refused (inr (wants, is)) =
-    no_memory (frame, rest, read) is
-records_stops form limit bytes rest frame error e read (inl h) (inl (other, is)) =
-    no_records frame rest error read h is
-records_stops form limit bytes rest frame error e read (inr (wants, behind)) (inl (other, is)) =
-    absurd (other wants)
+pub none_at_fault : NoListBesideFault → WholeInput → (payload : List ℕ)
+    (r : Result (Unit {0}) Fault) → IfErr r (IsFault entry_limits payload)
+    → OnErr r (AreRecords payload → ⊥)
+none_at_fault beside whole payload (Ok done) h = h
+none_at_fault beside whole payload (Err wrong) h = no_records_beside beside whole payload wrong h
 
-pub no_entry_unread : OneFrame → (form : Framing) (limit : ℕ) (bytes rest : List ℕ)
-    (frame : Frame) (error : DecodeError) (e : Stop)
-    → Reads bytes (IsFrame form limit frame) rest
-    → ((fs : Fields) → SpellsEntry fs frame.payload → error ≡ decode.OutOfMemory)
-    → RecordsStop error e → e ≢ stops.OutOfMemory → HoldsEntry form limit bytes → ⊥
-no_entry_unread one form limit bytes rest frame error e read only (inr (wants, is)) not_memory
-    entry = not_memory is
-no_entry_unread one form limit bytes rest frame error e read only (inl (other, is)) not_memory
-    (x, behind, fields, took, spelled) =
+-- no frame of records stands where one whose payload is none does
+pub no_entry_broken : OneFrame → (form : Framing) (limit : ℕ) (bytes rest : List ℕ)
+    (frame : Frame) → Reads bytes (IsFrame form limit frame) rest
+    → (AreRecords frame.payload → ⊥) → HoldsEntry form limit bytes → ⊥
+no_entry_broken one form limit bytes rest frame read none (x, behind, fields, took, spelled) =
     let same = one form limit x frame bytes behind rest took read in
-    other (only fields (subst (λ (f : Frame). SpellsEntry fields f.payload) same.0 spelled))
+    none (fields, subst (λ (f : Frame). SpellsEntry fields f.payload) same.0 spelled)
+
+-- what is told of one frame is told of no other
+pub told_of : (was now : LogReader) (told : Broken) → LeavesOut was now told → (broken : Broken)
+    → stops.Records told ≡ stops.Records broken → LeavesOut was now broken
+told_of was now told h broken same =
+    let is : told ≡ broken = cc in
+    subst (λ (b : Broken). LeavesOut was now b) is h

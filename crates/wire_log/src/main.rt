@@ -1,165 +1,160 @@
-//! Reads a log of messages, each behind its length, from standard input, and prints a line a frame;
-//! or writes the longest front of it whose payloads are records.
+//! Reads a log of messages, each behind its length, and prints a line a frame; or writes the longest
+//! front of it whose payloads are records, or all frames whose payloads are.
 #![tactic(auto)]
 
 mod entry;
-mod error;
 mod front;
+mod kept;
+mod lines;
 mod options;
 
 use bytes::Bytes;
-use entry::{Stop, next_entry};
-use error::{RunError, read_error, write_error};
+use entry::{Entry, LogReader, Stop, count_records};
 use front::put_front;
-use options::Options;
-use std::alloc::Global;
-use std::env;
+use kept::put_kept;
+use lines::{print_line, tell_left_out, tell_stop};
+use options::{Options, Task};
+use std::fs;
 use std::io::{Read, Write};
 use std::process::ExitCode;
-use wire_frames::{FrameDecoder, FrameError, Framing};
+use wire_frames::FrameError;
+use wire_run::{RunError, Source, answer_words, open_error, read_error, report, words, write_error};
+
+const NAME: &str = "wire_log";
 
 // How many bytes are read at a time.
-const CHUNK: usize = 64 * 1024;
+const CHUNK: u64 = 64 * 1024;
 
 fn main(rt: HostRuntime) -> ExitCode {
-    match run(&rt) {
-        Ok(()) => ExitCode::SUCCESS,
-        Err(error) => error.told(&rt),
+    match words(&rt, NAME) {
+        Ok(words) => answer(&rt, words.as_slice()),
+        Err(error) => report(&rt, NAME, Source::StandardInput, Err(error)),
     }
 }
 
-fn run(rt: &HostRuntime) -> Result<(), RunError> {
-    let words = words(rt)?;
-    let mut texts = Vec::new(rt.alloc());
-    for word in &words {
-        texts.push(word.as_str())?;
+// What these words ask for, and its status.
+fn answer(rt: &HostRuntime, words: &[String]) -> ExitCode {
+    match Options::parse(rt.alloc(), words) {
+        Ok(options) => report(rt, NAME, options.source, run(rt, &options)),
+        Err(error) => report(rt, NAME, Source::StandardInput, answer_words(rt, &error)),
     }
-    let options = Options::parse(rt.alloc(), &texts)?;
-    let mut log = Log::new(rt.alloc(), options.limit);
-    log.read(rt, &options)
 }
 
-fn words(rt: &HostRuntime) -> Result<Vec<String>, RunError> {
-    let mut words = Vec::new(rt.alloc());
-    match env::args(rt) {
-        Ok(args) => {
-            for word in args {
-                words.push(word)?;
-            }
-            Ok(words)
+fn run(rt: &HostRuntime, options: &Options<'_>) -> Result<(), RunError> {
+    match options.source {
+        Source::StandardInput => read_log(rt, options, &mut rt.stdin()),
+        Source::File(path) => match fs::open(rt, path) {
+            Ok(mut file) => read_log(rt, options, &mut file),
+            Err(error) => Err(open_error(error)),
+        },
+    }
+}
+
+// All of a log. It is broken where it stops before its end, and where frames are left out.
+fn read_log(
+    rt: &HostRuntime,
+    options: &Options<'_>,
+    input: &mut (impl Read + Drop),
+) -> Result<(), RunError> {
+    let mut log = LogReader::new(rt.alloc(), options.limit);
+    let mut is_whole = true;
+    // Each turn but the last takes a byte.
+    for _ in 0..u64::MAX {
+        let chunk = read_chunk(rt, input)?;
+        if chunk.is_empty() {
+            break;
         }
-        Err(_) => Err(RunError::OutOfMemory),
+        log.feed(chunk).or(Err(RunError::OutOfMemory))?;
+        is_whole &= take_frames(rt, options, &mut log)?;
+    }
+    if !log.decoder.is_empty() {
+        let end = Stop::Frame(FrameError::Truncated);
+        return Err(tell_stop(rt, options.source, &log, &end));
+    }
+    if is_whole {
+        Ok(())
+    } else {
+        Err(RunError::Broken)
     }
 }
 
-// The next bytes of standard input; none at its end.
-fn read_chunk(rt: &HostRuntime) -> Result<Bytes, RunError> {
+// The next bytes; none at the end.
+fn read_chunk(rt: &HostRuntime, input: &mut (impl Read + Drop)) -> Result<Bytes, RunError> {
     let mut bytes = Vec::new(rt.alloc());
-    match rt.stdin().take(CHUNK as u64).read_to_end(&mut bytes) {
+    match input.take(CHUNK).read_to_end(&mut bytes) {
         Ok(_) => Ok(Bytes::from_vec(bytes)?),
         Err(error) => Err(read_error(error)),
     }
 }
 
-// Where a run is in a log: what was read, and how many frames were taken off.
-#[derive(Drop)]
-struct Log {
-    decoder: FrameDecoder,
-    fed: u64,
-    index: u64,
+// Takes all whole frames of what was fed, and answers whether none was left out.
+fn take_frames(
+    rt: &HostRuntime,
+    options: &Options<'_>,
+    log: &mut LogReader,
+) -> Result<bool, RunError> {
+    match options.task {
+        Task::List { skip } => list(rt, options.source, log, skip).and(Ok(true)),
+        Task::Repair => repair(rt, options.source, log).and(Ok(true)),
+        Task::DropBroken => drop_broken(rt, options.source, log),
+    }
 }
 
-impl Log {
-    fn new(alloc: Global, limit: usize) -> Log {
-        Log {
-            decoder: FrameDecoder::new(alloc, Framing::Delimited, limit),
-            fed: 0,
-            index: 0,
-        }
-    }
-
-    // All of the log.
-    fn read(&mut self, rt: &HostRuntime, options: &Options) -> Result<(), RunError> {
-        // Each turn but the last takes a byte.
-        for _ in 0..u64::MAX {
-            let chunk = read_chunk(rt)?;
-            if chunk.is_empty() {
-                break;
-            }
-            self.take(rt, chunk, options)?;
-        }
-        if self.decoder.is_empty() {
-            return Ok(());
-        }
-        Err(self.stopped(rt, &Stop::Frame(FrameError::Truncated)))
-    }
-
-    // The next bytes of it.
-    fn take(&mut self, rt: &HostRuntime, chunk: Bytes, options: &Options) -> Result<(), RunError> {
-        self.fed = self.fed.saturating_add(chunk.len() as u64);
-        self.decoder.feed(chunk).or(Err(RunError::OutOfMemory))?;
-        if options.is_repair {
-            self.repair(rt)
-        } else {
-            self.list(rt, options.skip)
-        }
-    }
-
-    // The byte at which the next frame begins.
-    fn place(&self) -> u64 {
-        self.fed.saturating_sub(self.decoder.unread_len() as u64)
-    }
-
-    // Prints a line for each whole frame, but for the first ones that are passed over.
-    fn list(&mut self, rt: &HostRuntime, skip: u64) -> Result<(), RunError> {
-        loop {
-            let place = self.place();
-            match next_entry(rt.alloc(), &mut self.decoder) {
-                Ok(Some(entry)) => {
-                    if self.index >= skip {
-                        print_line(rt, place, entry.whole.payload().len(), entry.records)?;
-                    }
-                    self.index = self.index.saturating_add(1);
+// Prints a line for each frame, but for the first ones that are passed over.
+fn list(
+    rt: &HostRuntime,
+    source: Source<'_>,
+    log: &mut LogReader,
+    skip: u64,
+) -> Result<(), RunError> {
+    loop {
+        match log.next() {
+            Ok(Some(entry)) => {
+                if entry.place.number >= skip {
+                    print_entry(rt, &entry)?;
                 }
-                Ok(None) => return Ok(()),
-                Err(stop) => return Err(self.stopped(rt, &stop)),
             }
-        }
-    }
-
-    // Writes the whole frames whose payloads are records, as they stand.
-    fn repair(&mut self, rt: &HostRuntime) -> Result<(), RunError> {
-        let mut text = Vec::new(rt.alloc());
-        let answer = put_front(rt.alloc(), &mut self.decoder, &mut text);
-        match rt.stdout().write_all(&text) {
-            Ok(()) => {}
-            Err(error) => return Err(write_error(error)),
-        }
-        match answer {
-            Ok(()) => Ok(()),
-            Err(stop) => Err(self.stopped(rt, &stop)),
-        }
-    }
-
-    // One line on standard error: where the log stops, and why.
-    fn stopped(&self, rt: &impl Eprint, stop: &Stop) -> RunError {
-        match stop {
-            Stop::OutOfMemory => RunError::OutOfMemory,
-            Stop::Frame(error) => {
-                let _ = eprintln!(rt; "wire_log: frame at {}: {error}", self.place());
-                RunError::Stopped
-            }
-            Stop::Records(error) => {
-                let place = self.place();
-                let _ = eprintln!(rt; "wire_log: payload that ends at {place}: {error}");
-                RunError::Stopped
-            }
+            Ok(None) => return Ok(()),
+            Err(stop) => return Err(tell_stop(rt, source, log, &stop)),
         }
     }
 }
 
-fn print_line(rt: &HostRuntime, place: u64, len: usize, records: usize) -> Result<(), RunError> {
-    match println!(rt; "{place} {len} {records}") {
+fn print_entry(rt: &HostRuntime, entry: &Entry) -> Result<(), RunError> {
+    let payload = entry.whole.payload();
+    let records = count_records(rt.alloc(), payload).or(Err(RunError::OutOfMemory))?;
+    print_line(rt, entry.place, payload.len(), records)
+}
+
+// Writes the frames whose payloads are records up to one that is not, as they stand.
+fn repair(rt: &HostRuntime, source: Source<'_>, log: &mut LogReader) -> Result<(), RunError> {
+    let mut text = Vec::new(rt.alloc());
+    let answer = put_front(log, &mut text);
+    write_text(rt, &text)?;
+    match answer {
+        Ok(()) => Ok(()),
+        Err(stop) => Err(tell_stop(rt, source, log, &stop)),
+    }
+}
+
+// Writes the frames whose payloads are records, as they stand, and tells of those that it leaves
+// out.
+fn drop_broken(rt: &HostRuntime, source: Source<'_>, log: &mut LogReader) -> Result<bool, RunError> {
+    let mut text = Vec::new(rt.alloc());
+    let mut left_out = Vec::new(rt.alloc());
+    let answer = put_kept(log, &mut text, &mut left_out);
+    write_text(rt, &text)?;
+    for broken in &left_out {
+        tell_left_out(rt, source, broken);
+    }
+    match answer {
+        Ok(()) => Ok(left_out.is_empty()),
+        Err(stop) => Err(tell_stop(rt, source, log, &stop)),
+    }
+}
+
+fn write_text(rt: &HostRuntime, text: &[u8]) -> Result<(), RunError> {
+    match rt.stdout().write_all(text) {
         Ok(()) => Ok(()),
         Err(error) => Err(write_error(error)),
     }

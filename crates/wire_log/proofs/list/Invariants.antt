@@ -1,6 +1,6 @@
 use Rattle.std.proofs.Common.{length}
 use Rattle.wire_frames.specs.Stream.{unread}
-use Rattle.wire_log.proofs.Log.list.Given as goal
+use Rattle.wire_log.proofs.list.Given as goal
 
 abbrev pub decreases-loop-entry : goal.decreases-loop-entry
-decreases-loop-entry l = length (unread l.self.decoder)
+decreases-loop-entry l = length (unread l.log.decoder)
