@@ -3,6 +3,7 @@ use crate::copies::put_copies;
 use crate::imports::definition_imports;
 use crate::laws_pages::has_laws;
 use crate::returned::{put_range, put_range_page};
+use crate::stays::{is_settled, put_stays, put_stays_page};
 use crate::tree::Tree;
 use wire_schema::{Field, GenerateError, MessageType, Template, Words};
 
@@ -157,10 +158,17 @@ pub(crate) fn definitions_of(
     if is_read_back {
         put_range(&mut page, fields, tree);
     }
+    let is_settled = is_read_back && is_settled(&page);
+    if is_settled {
+        put_stays(&mut page, fields, tree);
+    }
     definition_imports(&mut page);
     put_text(&mut page, fields);
     if is_read_back {
         put_range_page(&mut page, fields);
+    }
+    if is_settled {
+        put_stays_page(&mut page);
     }
     page.finish("text")
 }

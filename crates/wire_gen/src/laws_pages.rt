@@ -9,7 +9,7 @@ pub(crate) fn has_laws(base: &Words) -> bool {
 pub(crate) const LAWS: &str = "\
 //! Laws of the message types: each function is a theorem, and does nothing. Generated.
 $charge_uses$ghost use Rattle.wire_fields.specs.Returned.{ReadsBack};
-$law_uses$
+$stay_uses$$law_uses$
 use wire_codec::laws::text_decodes;
 use wire_fields::laws::grounds;
 $laws$";
@@ -27,6 +27,29 @@ pub fn $module$_reads_back()
     grounds();
     text_decodes::<crate::$name$>();
 }
+";
+
+pub(crate) const STAY_USES: &str = "\
+ghost use Rattle.wire_fields.specs.Stays.{DecodesInRange};
+";
+
+pub(crate) const STAY_LAW: &str = "
+/// A `$name$` that bytes decode to is in range, where its encoding takes at most
+/// 2,147,483,647 bytes.
+pub fn $module$_decodes_in_range()
+    ensures { DecodesInRange $module$-shape $module$-range }
+{
+    grounds();
+}
+";
+
+pub(crate) const STAY_LAW_ANSWERS: &str = "\
+use Rattle.$crate$.specs.$name$.{$module$-stays}
+use Rattle.wire_fields.specs.Stays.{decodes_in_range}
+use Rattle.$crate$.proofs.laws.$module$_decodes_in_range.Goals as goal
+
+pub returns : goal.returns
+returns c = decodes_in_range c.grounds.ensures ($module$-stays c.grounds.ensures)
 ";
 
 /// The same where it follows from what records are charged that are left.

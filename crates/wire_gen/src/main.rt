@@ -29,6 +29,7 @@ mod returned;
 mod roots;
 mod rows;
 mod runs;
+mod stays;
 mod tree;
 
 use std::io::{Read, Write};

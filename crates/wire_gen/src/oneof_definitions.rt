@@ -4,6 +4,7 @@ use crate::imports::definition_imports;
 use crate::keeping::put_owned;
 use crate::laws_pages::has_laws;
 use crate::returned::{under_charges, use_charges};
+use crate::stays::{is_settled, put_oneof_stays, put_variant_stays};
 use wire_schema::{GenerateError, Oneof, Template, Words, put_apart};
 
 const USES: &str = "\
@@ -167,6 +168,9 @@ $word$-of-$module$ =
 
 const OTHER: &str = "$word$-of-$module$-as (Some $injected$) = None\n";
 
+const OTHER_THERE: &str =
+    "$word$-of-$module$-there g (Some $injected$) h =\n    ($word$-of-$module$-stays g).start\n";
+
 const OF_VARIANT: [Template; 5] = [
     ("ofs", "$module$-of (Some ($variant$ x)) = Some $seen$\n"),
     (
@@ -234,6 +238,7 @@ pub(crate) fn oneof_definitions(base: &Words, oneof: &Oneof) -> Result<String, G
         put_numbers(&mut page, place, last);
         if is_read_back {
             page.append_all(&OF_RETURNED);
+            put_variant_stays(&mut page, variant, place);
         }
     }
     if is_read_back {
@@ -248,6 +253,10 @@ pub(crate) fn oneof_definitions(base: &Words, oneof: &Oneof) -> Result<String, G
         put_apart_variants(&mut page, &oneof.variants);
         put_owned(&mut page, &oneof.variants);
     }
+    let is_settled = is_read_back && is_settled(&page);
+    if is_settled {
+        put_oneof_stays(&mut page);
+    }
     definition_imports(&mut page);
     page.append_all(&[("text", HEAD), ("text", VALUE)]);
     if last > 0 {
@@ -259,6 +268,9 @@ pub(crate) fn oneof_definitions(base: &Words, oneof: &Oneof) -> Result<String, G
         page.append("ranges", "$apart_variants$$owned_variants$");
         under_charges(&mut page);
         page.append("text", "\n$ranges$");
+    }
+    if is_settled {
+        page.append("text", "$stays_of_oneof$");
     }
     page.finish("text")
 }
@@ -288,16 +300,17 @@ pub(crate) fn put_values(page: &mut Words, place: usize, last: usize) {
     page.fill_all(&[("seen", "$injected$"), ("injected", "x")]);
     inject(page, place, last);
     page.fill_all(&[("one", "$injected$"), ("befores", ""), ("behinds", "")]);
+    page.fill_all(&[("befores_there", ""), ("behinds_there", "")]);
     for before in 0..place {
         page.set("injected", "other");
         inject(page, before, last);
-        page.append("befores", OTHER);
+        page.append_all(&[("befores", OTHER), ("befores_there", OTHER_THERE)]);
     }
     if place < last {
         let behind = place.saturating_add(1);
         page.set("injected", "other");
         inject(page, behind, behind);
-        page.append("behinds", OTHER);
+        page.append_all(&[("behinds", OTHER), ("behinds_there", OTHER_THERE)]);
     }
 }
 

@@ -116,7 +116,10 @@ impl Package {
     // The words of the crate, and those of a type.
     fn page(&self, of: &Words) -> Words {
         let mut page = Words::like(&self.base);
-        page.copy(of, &["full", "name", "module", "place", "charged"]);
+        page.copy(
+            of,
+            &["full", "name", "module", "place", "charged", "settled"],
+        );
         page
     }
 

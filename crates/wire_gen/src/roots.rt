@@ -1,8 +1,10 @@
 //! The files of a crate that name the others, and its laws.
 use crate::laws_pages::{
-    CHARGE_USES, CHARGED_LAW, CHARGED_LAW_ANSWERS, LAW, LAW_ANSWERS, LAW_USES, LAWS, has_laws,
+    CHARGE_USES, CHARGED_LAW, CHARGED_LAW_ANSWERS, LAW, LAW_ANSWERS, LAW_USES, LAWS, STAY_LAW,
+    STAY_LAW_ANSWERS, STAY_USES, has_laws,
 };
 use crate::package::Package;
+use crate::stays::is_settled;
 use wire_schema::{GenerateError, Words};
 
 const README: &str = "\
@@ -47,11 +49,22 @@ impl Package {
             },
         );
         let answers = page.finish("answers")?;
-        self.add(
-            page,
-            "proofs/laws/$module$_reads_back/Answers.antt",
-            answers,
-        )
+        let path = "proofs/laws/$module$_reads_back/Answers.antt";
+        self.add(page, path, answers)?;
+        if is_settled(page) {
+            self.add_stay_law(page)?;
+        }
+        Ok(())
+    }
+
+    // That what is decoded is in range.
+    fn add_stay_law(&mut self, page: &mut Words) -> Result<(), GenerateError> {
+        self.roots.fill("stay_uses", STAY_USES);
+        self.roots.append("laws", STAY_LAW);
+        page.fill("answers", STAY_LAW_ANSWERS);
+        let answers = page.finish("answers")?;
+        let path = "proofs/laws/$module$_decodes_in_range/Answers.antt";
+        self.add(page, path, answers)
     }
 
     /// The files that name the others.

@@ -23,7 +23,8 @@ pub(crate) struct Tree {
 /// `high`; the `local` of code that has the pair; its type `value` as contracts see it, and how a
 /// message `m` is seen so, its `view`, and the same field by field, `seen`; the `table`, and why a
 /// number is none of it, `unlike`; the `range` of values that are read back, why they are,
-/// `returned`, and why a number `h` that is one of it is none of others, `apart`.
+/// `returned`, why decoding gives such, `stays`, and why a number `h` that is one of it is none of
+/// others, `apart`.
 #[derive(Drop)]
 pub(crate) struct Node {
     pub first: usize,
@@ -76,7 +77,7 @@ impl Tree {
     }
 }
 
-const LEAF: [Template; 11] = [
+const LEAF: [Template; 12] = [
     ("low", "$number$"),
     ("high", "$number$"),
     ("local", "field_$number$"),
@@ -86,12 +87,13 @@ const LEAF: [Template; 11] = [
     ("table", "$table$"),
     ("range", "$range$"),
     ("returned", "$returned$"),
+    ("stays", "$stays$"),
     ("apart", "$apart$"),
     ("maps", "$maps$"),
 ];
 
 // What is taken over from the right part of a pair.
-const RIGHT: [Template; 11] = [
+const RIGHT: [Template; 12] = [
     ("right_local", "local"),
     ("right_value", "value"),
     ("right_view", "view"),
@@ -100,12 +102,13 @@ const RIGHT: [Template; 11] = [
     ("right_unlike", "unlike"),
     ("right_range", "range"),
     ("right_returned", "returned"),
+    ("right_stays", "stays"),
     ("right_apart", "apart"),
     ("right_maps", "maps"),
     ("high", "high"),
 ];
 
-const PAIR: [Template; 10] = [
+const PAIR: [Template; 11] = [
     ("value", "($value$\n    × $right_value$)"),
     ("view", "(\n$view$,\n$right_view$,\n)"),
     ("seen", "(\n$seen$,\n$right_seen$,\n)"),
@@ -117,6 +120,7 @@ const PAIR: [Template; 10] = [
         "returned",
         "$both_returned$ g\n    ($returned$)\n    ($right_returned$)\n    (λ n p h. $right_apart$)",
     ),
+    ("stays", "two_stays g\n    ($stays$)\n    ($right_stays$)"),
     (
         "apart",
         "elim h [\n      | inl h ↦ $apart$\n      | inr h ↦ $right_in$\n    ]",
@@ -219,7 +223,14 @@ fn leaf(base: &Words, place: usize, field: &Words) -> Node {
     );
     words.copy(
         field,
-        &["range", "returned", "both_returned", "apart", "maps"],
+        &[
+            "range",
+            "returned",
+            "both_returned",
+            "stays",
+            "apart",
+            "maps",
+        ],
     );
     words.fill_all(&LEAF);
     let mut is_first = true;

@@ -234,13 +234,17 @@ fn variant_of(
 }
 
 // A field that leaves nothing to the unknown fields, as all but those of closed enums.
-const PLAIN: [Template; 8] = [
+const PLAIN: [Template; 9] = [
     ("own_range", "$range$"),
     ("range", "$module$-$field$-range"),
     (
         "returned",
         "known_returned g $number$ $module$-$field$-kind $module$-$field$-range\n    \
         (omega arith) (omega arith)\n    ($kind_returned$)",
+    ),
+    (
+        "stays",
+        "known_stays $number$ $module$-$field$-kind\n    ($kind_stays$)",
     ),
     ("apart", "rw h refl"),
     ("table", "known $number$ $module$-$field$-kind"),

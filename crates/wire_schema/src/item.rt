@@ -22,7 +22,8 @@ pub(crate) enum Sort {
 // `copy_option`, and of a `value`, `copy_value`; `closed`, where it is of an enum that is;
 // `order` and `order_numbers` as the key of a map; and lines of names that are brought in, of
 // `code`, of `definitions`, and `ghosts` of clauses.
-const STRING: [Template; 10] = [
+const STRING: [Template; 11] = [
+    ("item_stays", "string_stays"),
     ("held", "String"),
     ("kind", "Text"),
     ("before", "string_bytes "),
@@ -35,7 +36,8 @@ const STRING: [Template; 10] = [
     ("ghosts", "Rattle.std.specs.Prelude string_bytes\n"),
 ];
 
-const BYTES: [Template; 9] = [
+const BYTES: [Template; 10] = [
+    ("item_stays", "any_bytes_stay"),
     ("held", "Vec<u8>"),
     ("kind", "Blob"),
     ("before", ""),
@@ -97,7 +99,9 @@ const OF_NUMBER: [Template; 1] = [(
 )];
 
 // Of a number that is none of an enum.
-const RANGE: [Template; 6] = [
+const RANGE: [Template; 8] = [
+    ("number_stays", "$map$_stays"),
+    ("item_stays", "(numeric_stays $number_stays$)"),
     ("item_range", "$map$_range"),
     (
         "range_uses",
@@ -142,7 +146,17 @@ const CLOSED: [Template; 3] = [
     ),
 ];
 
-const ENUM: [Template; 10] = [
+const ENUM: [Template; 13] = [
+    (
+        "number_stays",
+        "(enum_stays $of_module$-number $of_module$-of\n    \
+        (first_numbered_keeps $of_module$-number $of_module$-values))",
+    ),
+    (
+        "stays_uses",
+        "Rattle.wire_codec.specs.EnumNumbers first_numbered_keeps\n$specs$ $of_module$-values\n",
+    ),
+    ("item_stays", "(numeric_stays $number_stays$)"),
     (
         "item_range",
         "($range_of$_range $of_module$-number $of_module$-of)",
@@ -187,7 +201,9 @@ const OF_ENUM: [Template; 5] = [
     ),
 ];
 
-const MESSAGE: [Template; 14] = [
+const MESSAGE: [Template; 16] = [
+    ("item_stays", "($of_module$-stays g)"),
+    ("stays_uses", "$specs$ $of_module$-stays\n"),
     ("scalar_uses", ""),
     ("item_range", "$of_module$-range"),
     ("item_back", "($of_module$-returned g)"),

@@ -21,12 +21,13 @@ struct Kind {
     back: Back,
 }
 
-/// Which values of a kind are read back, and why: templates of a range and of the proof, with names
-/// that are brought in. The lemma, and what it is of besides the wire types of the field, by which
+/// Which values of a kind are read back, and why: templates of a range, of the proof, with names that
+/// are brought in, and of the proof that decoding gives such. The lemma, and what it is of besides the wire types of the field, by which
 /// what is written has these.
 struct Back {
     range: &'static str,
     returned: &'static str,
+    stays: &'static str,
     uses: &'static str,
     typed: &'static str,
     typed_of: &'static str,
@@ -45,6 +46,7 @@ const IMPLICIT: Kind = Kind {
     back: Back {
         range: "$item_range$",
         returned: "implicit_returned g _ _ $item_back$",
+        stays: "implicit_stays $item_stays$",
         uses: "Rattle.wire_fields.specs.Returned implicit_returned\n$range_uses$$scalar_uses$",
         typed: "implicit_typed",
         typed_of: "g.plain $definition$ (λ v. refl)",
@@ -65,6 +67,7 @@ const OPTIONAL: Kind = Kind {
     back: Back {
         range: "optional_range $item_range$",
         returned: "optional_returned g _ _ $item_back$",
+        stays: "optional_stays $item_stays$",
         uses: "Rattle.wire_fields.specs.Returned optional_returned\n\
             Rattle.wire_fields.specs.Ranges optional_range\n$range_uses$$scalar_uses$",
         typed: "optional_typed",
@@ -86,6 +89,7 @@ const EMBEDDED: Kind = Kind {
     back: Back {
         range: "once_range $of_module$-shape $item_range$",
         returned: "embedded_once_returned g _ _ $item_back$",
+        stays: "embedded_once_stays g $item_stays$",
         uses: "Rattle.wire_fields.specs.Returned embedded_once_returned\n\
             Rattle.wire_fields.specs.Ranges once_range\n$range_uses$",
         typed: "once_typed",
@@ -107,6 +111,7 @@ const GROUP: Kind = Kind {
     back: Back {
         range: "once_range $of_module$-shape $item_range$",
         returned: "group_once_returned g _ _ $item_back$",
+        stays: "group_once_stays g $item_stays$",
         uses: "Rattle.wire_fields.specs.Returned group_once_returned\n\
             Rattle.wire_fields.specs.Ranges once_range\n$range_uses$",
         typed: "once_typed",
@@ -128,6 +133,7 @@ const EACH_EMBEDDED: Kind = Kind {
     back: Back {
         range: "each_range $size$ $of_module$-shape $item_range$",
         returned: "embedded_each_returned g _ _ $item_back$ $size$",
+        stays: "embedded_each_stays g $item_stays$ $size$",
         uses: "Rattle.wire_fields.specs.Returned embedded_each_returned\n\
             Rattle.wire_fields.specs.Ranges each_range\n$range_uses$",
         typed: "each_typed",
@@ -149,6 +155,7 @@ const EACH_GROUP: Kind = Kind {
     back: Back {
         range: "each_range $size$ $of_module$-shape $item_range$",
         returned: "group_each_returned g _ _ $item_back$ $size$",
+        stays: "group_each_stays g $item_stays$ $size$",
         uses: "Rattle.wire_fields.specs.Returned group_each_returned\n\
             Rattle.wire_fields.specs.Ranges each_range\n$range_uses$",
         typed: "each_typed",
@@ -169,6 +176,7 @@ const PACKED: Kind = Kind {
     back: Back {
         range: "packed_range $form$ $map$ $item_range$",
         returned: "packed_returned g _ _ $item_range$ $number_back$",
+        stays: "packed_stays _ _ _ $number_stays$",
         uses: "Rattle.wire_fields.specs.Returned packed_returned\n\
             Rattle.wire_fields.specs.Ranges packed_range\n$range_uses$$back_uses$",
         typed: "packed_typed",
@@ -189,6 +197,7 @@ const UNPACKED: Kind = Kind {
     back: Back {
         range: "unpacked_range $item_range$",
         returned: "unpacked_returned g _ _ $item_range$ $number_back$",
+        stays: "unpacked_stays _ _ _ $number_stays$",
         uses: "Rattle.wire_fields.specs.Returned unpacked_returned\n\
             Rattle.wire_fields.specs.Ranges unpacked_range\n$range_uses$$back_uses$",
         typed: "unpacked_typed",
@@ -209,6 +218,7 @@ const REPEATED: Kind = Kind {
     back: Back {
         range: "repeated_range $of_text$ $item_range$",
         returned: "repeated_returned g _ _ $item_back$ $of_text$",
+        stays: "repeated_stays g $item_stays$ $of_text$",
         uses: "Rattle.wire_fields.specs.Returned repeated_returned\n\
             Rattle.wire_fields.specs.Ranges repeated_range\n$range_uses$$scalar_uses$",
         typed: "repeated_typed",
@@ -230,6 +240,7 @@ const MAP: Kind = Kind {
     back: Back {
         range: "$key_order$_range $of_entry$$key_numbers$ ($always$ $plain$)\n    $key_range_there$$always_range$",
         returned: "map_returned g _ _ _ _ $key_range$\n    $always_range$ $key_back$\n    ($always_returned$)",
+        stays: "$key_order$_stays g $of_entry$ ($always$ $plain$) $key_stays$\n    ($always_stays$)",
         uses: "Rattle.wire_fields.specs.Returned map_returned\n\
             Rattle.wire_fields.specs.Ranges $key_order$_range\n$key_uses$$range_uses$$scalar_uses$$always_uses$",
         typed: "messages_typed",
@@ -277,6 +288,7 @@ pub(crate) fn set_key(words: &mut Words) {
         ("key_numbers", "$order_numbers$"),
         ("key_range", "$item_range$"),
         ("key_back", "$item_back$"),
+        ("key_stays", "$item_stays$"),
         ("key_uses", "$range_uses$$scalar_uses$"),
         ("key_definitions", "$definitions$"),
         ("key_range_there", ""),
@@ -294,21 +306,23 @@ pub(crate) fn set_map(sort: Sort, words: &mut Words) {
 }
 
 // What is read back of a value that is always written.
-const ALWAYS_SCALAR: [Template; 3] = [
+const ALWAYS_SCALAR: [Template; 4] = [
     ("always_range", "$item_range$"),
     ("always_returned", "always_returned g _ _ $item_back$"),
+    ("always_stays", "always_stays $item_stays$"),
     (
         "always_uses",
         "Rattle.wire_fields.specs.Returned always_returned\n",
     ),
 ];
 
-const ALWAYS_MESSAGE: [Template; 3] = [
+const ALWAYS_MESSAGE: [Template; 4] = [
     (
         "always_range",
         "(always_range $of_module$-shape $item_range$)",
     ),
     ("always_returned", "$always$_returned g _ _ $item_back$"),
+    ("always_stays", "$always$_stays g $item_stays$"),
     (
         "always_uses",
         "Rattle.wire_fields.specs.Ranges always_range\n\
@@ -346,6 +360,7 @@ fn put_kind(kind: &Kind, words: &mut Words) {
     words.append("returned_uses", kind.back.uses);
     words.fill("range", kind.back.range);
     words.fill("kind_returned", kind.back.returned);
+    words.fill("kind_stays", kind.back.stays);
     words.set("typed", kind.back.typed);
     words.fill("typed_of", kind.back.typed_of);
     words.set("typed_uses", kind.back.typed_uses);

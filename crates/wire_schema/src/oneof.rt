@@ -37,7 +37,10 @@ pub(crate) fn oneof_of(
         words.fill_all(&CHARGED_ONEOF);
     }
     let mut of = Words::like(base);
-    of.copy(&words, &["full", "name", "module", "place", "charged"]);
+    of.copy(
+        &words,
+        &["full", "name", "module", "place", "charged", "settled"],
+    );
     Ok(Field {
         words,
         oneof: Some(Oneof {
@@ -90,10 +93,12 @@ pub fn put_apart(words: &mut Words, is_first: bool) {
     );
 }
 
-const ONEOF: [Template; 16] = [
+const ONEOF: [Template; 18] = [
     ("shape", "$module$-shape"),
     ("range", "$module$-range"),
     ("returned", "$module$-returned g"),
+    ("stays", "$module$-stays g"),
+    ("stays_uses", "$specs$ $module$-stays\n"),
     (
         "returned_uses",
         "$specs$ $module$-range\n$specs$ $module$-returned\n",
@@ -130,7 +135,7 @@ const CHARGED_ONEOF: [Template; 4] = [
 fn oneof_words(base: &Words, message: &MessageType, index: i32) -> Result<Words, GenerateError> {
     let alloc = base.alloc();
     let mut words = Words::like(base);
-    words.copy(&message.words, &["full", "outer", "place"]);
+    words.copy(&message.words, &["full", "outer", "place", "settled"]);
     let place = usize::try_from(index).unwrap_or(usize::MAX);
     let Some(descriptor) = message.descriptor.oneof_decl.get(place) else {
         return Err(words.refused("$full$: a field of no oneof that is there"));

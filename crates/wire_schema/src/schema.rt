@@ -124,6 +124,7 @@ impl Schema {
         schema.find_families()?;
         schema.find_twins()?;
         schema.find_charged()?;
+        schema.find_settled(base)?;
         Ok(schema)
     }
 
