@@ -3,12 +3,14 @@
 
 ghost use Rattle.std.specs.Prelude.{◌≡◌, ◌≢◌, IfOk, IfErr};
 ghost use Rattle.wire_codec.specs.DecodeError.TheVariants.{OutOfMemory};
-ghost use Rattle.wire_codec.specs.Taking.{Decodes, NotDecoded};
-ghost use Rattle.wire_codec.specs.Limits.{counted, with_elements};
+ghost use Rattle.wire_fields.specs.Shape.{DecodesAs, NotDecodedAs};
 ghost use Rattle.wire_report.specs.ReportSample.{ReportSample-Value};
 ghost use Rattle.wire_report.specs.ReportSample.{report_sample-shape};
 ghost use Rattle.wire_report.specs.ReportSample.{count-of-report_sample};
 
+mod reports;
+
+pub use self::reports::stored;
 use std::alloc::Global;
 use std::io;
 use std::io::Read;
@@ -19,11 +21,10 @@ use wire_report::ReportSample;
 /// The count of the sample that these bytes are, where it has one.
 pub fn count_of(alloc: Global, bytes: &[u8]) -> Result<Option<i64>, DecodeError>
     ensures ok { IfOk result (λ count. (sample : ReportSample-Value)
-        × Decodes report_sample-shape.takes (with_elements (counted 100 1000000) 33554432)
-        report_sample-shape.default bytes.now sample
+        × DecodesAs report_sample-shape bytes.now sample
         × (count ≡ count-of-report_sample sample)) }
-    ensures err { IfErr result (λ e. e ≢ OutOfMemory → NotDecoded report_sample-shape.takes
-        (with_elements (counted 100 1000000) 33554432) report_sample-shape.default bytes.now) }
+    ensures err { IfErr result (λ e. e ≢ OutOfMemory
+        → NotDecodedAs report_sample-shape bytes.now) }
 {
     let sample = ReportSample::decode_from_slice(alloc, bytes)?;
     Ok(sample.count)

@@ -1,6 +1,7 @@
 -- A `Report` as contracts see it, and the table of its fields. Generated.
 use Rattle.std.proofs.Common.{arith, inl, inr, refl}
 use Rattle.std.specs.Prelude.{Bool, List, Option, map, option_map, string_bytes, ℕ, ℤ}
+use Rattle.wire_codec.specs.EnumNumbers.{first_numbered_keeps}
 use Rattle.wire_codec.specs.EnumValue.{EnumValue}
 use Rattle.wire_codec.specs.Field.{Fields}
 use Rattle.wire_codec.specs.ValueMap.{bool, fixed64, sint32, uint32}
@@ -25,16 +26,24 @@ use Rattle.wire_fields.specs.Returned.{implicit_returned, known_returned, map_re
 use Rattle.wire_fields.specs.Returned.{optional_returned, packed_returned, repeated_returned}
 use Rattle.wire_fields.specs.Returned.{two_returned, unpacked_returned, whole_returned}
 use Rattle.wire_fields.specs.Shape.{Lawful, Shape, known, two, unknown}
+use Rattle.wire_fields.specs.Stays.{Stays, known_stays, two_stays, whole_stays}
+use Rattle.wire_fields.specs.StaysKinds.{always_stays, any_bytes_stay, bool_stays, double_stays}
+use Rattle.wire_fields.specs.StaysKinds.{enum_stays, fixed64_stays, implicit_stays, numeric_stays}
+use Rattle.wire_fields.specs.StaysKinds.{optional_stays, packed_stays, repeated_stays, sint32_stays}
+use Rattle.wire_fields.specs.StaysKinds.{string_stays, uint32_stays, unpacked_stays}
+use Rattle.wire_fields.specs.StaysMaps.{signed_map_stays, text_map_stays}
+use Rattle.wire_fields.specs.StaysMessages.{embedded_always_stays, embedded_each_stays}
+use Rattle.wire_fields.specs.StaysMessages.{embedded_once_stays}
 use Rattle.wire_fields.specs.Texts.{any_bytes, string}
 use Rattle.wire_fields.specs.declared.floats.DoubleBits.{DoubleBits}
 use Rattle.wire_fields.specs.declared.form.Form.TheVariants.{Fixed64, Varint}
-use Rattle.wire_report.specs.ReportLevel.{report_level-number, report_level-of}
+use Rattle.wire_report.specs.ReportLevel.{report_level-number, report_level-of, report_level-values}
 use Rattle.wire_report.specs.ReportOrigin.{ReportOrigin-Value, report_origin-of}
 use Rattle.wire_report.specs.ReportOrigin.{report_origin-range, report_origin-returned}
-use Rattle.wire_report.specs.ReportOrigin.{report_origin-shape}
+use Rattle.wire_report.specs.ReportOrigin.{report_origin-shape, report_origin-stays}
 use Rattle.wire_report.specs.ReportSample.{ReportSample-Value, report_sample-range}
 use Rattle.wire_report.specs.ReportSample.{report_sample-returned, report_sample-shape}
-use Rattle.wire_report.specs.ReportSample.{report_sample-value}
+use Rattle.wire_report.specs.ReportSample.{report_sample-stays, report_sample-value}
 use Rattle.wire_report.specs.declared.report.Report.{Report}
 use Rattle.wire_report.specs.declared.report_level.ReportLevel.{ReportLevel}
 
@@ -420,3 +429,50 @@ report-returned g =
         | inr h ↦ rw h refl
       ]
     ]))
+
+pub report-stays : Grounds → Stays report-shape report-range
+report-stays g =
+    whole_stays g
+    (two_stays g
+    (two_stays g
+    (two_stays g
+    (two_stays g
+    (known_stays 1 report-host-kind
+    (implicit_stays string_stays))
+    (known_stays 2 report-sent_at-kind
+    (implicit_stays (numeric_stays fixed64_stays))))
+    (two_stays g
+    (known_stays 3 report-level-kind
+    (implicit_stays (numeric_stays (enum_stays report_level-number report_level-of
+    (first_numbered_keeps report_level-number report_level-values)))))
+    (known_stays 4 report-samples-kind
+    (embedded_each_stays g (report_sample-stays g) 80))))
+    (two_stays g
+    (two_stays g
+    (known_stays 5 report-labels-kind
+    (text_map_stays g 64 (always string) string_stays
+    (always_stays string_stays)))
+    (known_stays 6 report-last-kind
+    (signed_map_stays g 64 (embedded_always report_sample-shape) (numeric_stays sint32_stays)
+    (embedded_always_stays g (report_sample-stays g)))))
+    (two_stays g
+    (known_stays 7 report-load-kind
+    (optional_stays (numeric_stays double_stays)))
+    (known_stays 8 report-offsets-kind
+    (packed_stays _ _ _ sint32_stays)))))
+    (two_stays g
+    (two_stays g
+    (two_stays g
+    (known_stays 9 report-ports-kind
+    (unpacked_stays _ _ _ uint32_stays))
+    (known_stays 10 report-notes-kind
+    (repeated_stays g string_stays 24)))
+    (two_stays g
+    (known_stays 11 report-signature-kind
+    (implicit_stays any_bytes_stay))
+    (known_stays 12 report-worst-kind
+    (embedded_once_stays g (report_sample-stays g)))))
+    (two_stays g
+    (report_origin-stays g)
+    (known_stays 15 report-type_-kind
+    (implicit_stays (numeric_stays bool_stays))))))

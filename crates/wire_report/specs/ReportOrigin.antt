@@ -1,13 +1,13 @@
 -- A `ReportOrigin` as contracts see it, and the table of its fields. Generated.
 use Rattle.std.proofs.Common.{arith, inl, inr, refl, ◌≡◌}
-use Rattle.std.specs.Prelude.{List, None, Option, Some, string_bytes, ℕ, ◌⊎◌}
+use Rattle.std.specs.Prelude.{List, None, Option, Some, string_bytes, ℕ, ◌≤◌, ◌⊎◌}
 use Rattle.wire_codec.specs.Folds.{Step}
 use Rattle.wire_codec.specs.Limits.{Charge, no_charge}
-use Rattle.wire_codec.specs.Records.{Records, none, plain}
+use Rattle.wire_codec.specs.Records.{Records, none, plain, text_size}
 use Rattle.wire_codec.specs.ValueMap.{uint64}
 use Rattle.wire_fields.specs.Back.{AllAre, FoldsBack}
 use Rattle.wire_fields.specs.Grounds.{Grounds, numeric_back, string_back, uint64_back}
-use Rattle.wire_fields.specs.Messages.{embedded_always}
+use Rattle.wire_fields.specs.Messages.{embedded_always, or_else}
 use Rattle.wire_fields.specs.Numbers.{numeric}
 use Rattle.wire_fields.specs.Oneof.{Variants, either_of, oneof, variant}
 use Rattle.wire_fields.specs.OneofBack.{variant_back, variant_has}
@@ -15,11 +15,15 @@ use Rattle.wire_fields.specs.Presence.{always}
 use Rattle.wire_fields.specs.Ranges.{Range, always_range, string_range, uint64_range}
 use Rattle.wire_fields.specs.Returned.{Returned, always_returned, embedded_always_returned}
 use Rattle.wire_fields.specs.Shape.{FieldKind, Shape}
+use Rattle.wire_fields.specs.Stays.{KindStays, Stays}
+use Rattle.wire_fields.specs.StaysKinds.{always_stays, numeric_stays, string_stays, uint64_stays}
+use Rattle.wire_fields.specs.StaysMessages.{either_stays, embedded_always_stays, oneof_stays}
+use Rattle.wire_fields.specs.StaysMessages.{variant_stays}
 use Rattle.wire_fields.specs.Texts.{string}
 use Rattle.wire_fields.specs.declared.form.Form.TheVariants.{Varint}
 use Rattle.wire_report.specs.ReportSample.{ReportSample-Value, report_sample-range}
 use Rattle.wire_report.specs.ReportSample.{report_sample-returned, report_sample-shape}
-use Rattle.wire_report.specs.ReportSample.{report_sample-value}
+use Rattle.wire_report.specs.ReportSample.{report_sample-stays, report_sample-value}
 use Rattle.wire_report.specs.declared.report_origin.ReportOrigin.{ReportOrigin}
 use Rattle.wire_report.specs.declared.report_origin.ReportOrigin.TheVariants.{Device, File, Sample}
 
@@ -189,3 +193,71 @@ report_origin-returned g = record {
     ];
   };
 }
+
+abbrev pub file-of-report_origin-stays : Grounds
+    → KindStays (always string).kind string_range
+file-of-report_origin-stays g =
+    always_stays string_stays
+
+abbrev pub device-of-report_origin-stays : Grounds
+    → KindStays (always (numeric Varint uint64)).kind uint64_range
+device-of-report_origin-stays g =
+    always_stays (numeric_stays uint64_stays)
+
+abbrev pub sample-of-report_origin-stays : Grounds
+    → KindStays (embedded_always report_sample-shape).kind (always_range report_sample-shape report_sample-range)
+sample-of-report_origin-stays g =
+    embedded_always_stays g (report_sample-stays g)
+
+abbrev pub report_origin-is : Grounds → ReportOrigin-Value → Type 0
+report_origin-is g None = Unit {0}
+report_origin-is g (Some (inl x)) = (file-of-report_origin-stays g).Is x
+report_origin-is g (Some (inr (inl x))) = (device-of-report_origin-stays g).Is x
+report_origin-is g (Some (inr (inr x))) = (sample-of-report_origin-stays g).Is x
+
+file-of-report_origin-there : (g : Grounds) (m : ReportOrigin-Value) → report_origin-is g m
+    → (file-of-report_origin-stays g).Is
+    (or_else file-of-report_origin-default (file-of-report_origin-as m))
+file-of-report_origin-there g None h = (file-of-report_origin-stays g).start
+file-of-report_origin-there g (Some (inl x)) h = h
+file-of-report_origin-there g (Some (inr other)) h = (file-of-report_origin-stays g).start
+
+device-of-report_origin-there : (g : Grounds) (m : ReportOrigin-Value) → report_origin-is g m
+    → (device-of-report_origin-stays g).Is
+    (or_else device-of-report_origin-default (device-of-report_origin-as m))
+device-of-report_origin-there g None h = (device-of-report_origin-stays g).start
+device-of-report_origin-there g (Some (inl other)) h = (device-of-report_origin-stays g).start
+device-of-report_origin-there g (Some (inr (inl x))) h = h
+device-of-report_origin-there g (Some (inr (inr other))) h = (device-of-report_origin-stays g).start
+
+sample-of-report_origin-there : (g : Grounds) (m : ReportOrigin-Value) → report_origin-is g m
+    → (sample-of-report_origin-stays g).Is
+    (or_else sample-of-report_origin-default (sample-of-report_origin-as m))
+sample-of-report_origin-there g None h = (sample-of-report_origin-stays g).start
+sample-of-report_origin-there g (Some (inl other)) h = (sample-of-report_origin-stays g).start
+sample-of-report_origin-there g (Some (inr (inl other))) h = (sample-of-report_origin-stays g).start
+sample-of-report_origin-there g (Some (inr (inr x))) h = h
+
+pub report_origin-in-range : (g : Grounds) (m : ReportOrigin-Value) → report_origin-is g m
+    → text_size (report_origin-records m) ≤ 2147483647 → report_origin-holds m
+report_origin-in-range g None h small = tt
+report_origin-in-range g (Some (inl x)) h small =
+    (file-of-report_origin-stays g).holds 13 x h small
+report_origin-in-range g (Some (inr (inl x))) h small =
+    (device-of-report_origin-stays g).holds 14 x h small
+report_origin-in-range g (Some (inr (inr x))) h small =
+    (sample-of-report_origin-stays g).holds 16 x h small
+
+pub report_origin-stays : Grounds → Stays report_origin-shape report_origin-range
+report_origin-stays g =
+    oneof_stays None report_origin-records _ (report_origin-is g) tt
+    (either_stays (either_stays (variant_stays 13 (always string) file-of-report_origin-as
+    (λ x. Some (inl x)) (report_origin-is g) (file-of-report_origin-stays g)
+    (file-of-report_origin-there g) (λ t h. h))
+    (variant_stays 14 (always (numeric Varint uint64)) device-of-report_origin-as
+    (λ x. Some (inr (inl x))) (report_origin-is g) (device-of-report_origin-stays g)
+    (device-of-report_origin-there g) (λ t h. h)))
+    (variant_stays 16 (embedded_always report_sample-shape) sample-of-report_origin-as
+    (λ x. Some (inr (inr x))) (report_origin-is g) (sample-of-report_origin-stays g)
+    (sample-of-report_origin-there g) (λ t h. h)))
+    (report_origin-in-range g)

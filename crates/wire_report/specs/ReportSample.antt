@@ -12,6 +12,9 @@ use Rattle.wire_fields.specs.Ranges.{pair_range, string_range}
 use Rattle.wire_fields.specs.Returned.{Returned, implicit_returned, known_returned}
 use Rattle.wire_fields.specs.Returned.{optional_returned, two_returned, whole_returned}
 use Rattle.wire_fields.specs.Shape.{Lawful, Shape, known, two, unknown}
+use Rattle.wire_fields.specs.Stays.{Stays, known_stays, two_stays, whole_stays}
+use Rattle.wire_fields.specs.StaysKinds.{double_stays, implicit_stays, int64_stays, numeric_stays}
+use Rattle.wire_fields.specs.StaysKinds.{optional_stays, string_stays}
 use Rattle.wire_fields.specs.Texts.{string}
 use Rattle.wire_fields.specs.declared.floats.DoubleBits.{DoubleBits}
 use Rattle.wire_fields.specs.declared.form.Form.TheVariants.{Fixed64, Varint}
@@ -101,3 +104,15 @@ report_sample-returned g =
     (omega arith) (omega arith)
     (optional_returned g _ _ (numeric_back (int64_back g))))
     (λ n p h. rw h refl))
+
+pub report_sample-stays : Grounds → Stays report_sample-shape report_sample-range
+report_sample-stays g =
+    whole_stays g
+    (two_stays g
+    (two_stays g
+    (known_stays 1 report_sample-name-kind
+    (implicit_stays string_stays))
+    (known_stays 2 report_sample-value-kind
+    (implicit_stays (numeric_stays double_stays))))
+    (known_stays 3 report_sample-count-kind
+    (optional_stays (numeric_stays int64_stays))))

@@ -1,5 +1,6 @@
 //! Laws of the message types: each function is a theorem, and does nothing. Generated.
 ghost use Rattle.wire_fields.specs.Returned.{ReadsBack};
+ghost use Rattle.wire_fields.specs.Stays.{DecodesInRange};
 ghost use Rattle.wire_report.specs.Report.{report-range};
 ghost use Rattle.wire_report.specs.Report.{report-shape};
 ghost use Rattle.wire_report.specs.ReportSample.{report_sample-range};
@@ -16,10 +17,26 @@ pub fn report_reads_back()
     text_decodes::<crate::Report>();
 }
 
+/// What bytes decode to a `Report` is in range, where its encoding takes at most 2,147,483,647
+/// bytes.
+pub fn report_decodes_in_range()
+    ensures { DecodesInRange report-shape report-range }
+{
+    grounds();
+}
+
 /// What is written of a `ReportSample` in range decodes to it, where the limits suffice.
 pub fn report_sample_reads_back()
     ensures { ReadsBack report_sample-shape report_sample-range }
 {
     grounds();
     text_decodes::<crate::ReportSample>();
+}
+
+/// What bytes decode to a `ReportSample` is in range, where its encoding takes at most 2,147,483,647
+/// bytes.
+pub fn report_sample_decodes_in_range()
+    ensures { DecodesInRange report_sample-shape report_sample-range }
+{
+    grounds();
 }
