@@ -100,6 +100,7 @@ impl LogReader {
         // Memory apart, it stops only where no frame of records stands.
         ensures only { IfErr result (λ e. e ≢ Stop.OutOfMemory → ¬ HoldsEntry
             self.old.decoder.framing self.old.decoder.limit (unread self.old.decoder)) }
+        ensures fed { self.new.fed ≡ self.old.fed }
         ensures framing { self.new.decoder.framing ≡ self.old.decoder.framing }
         ensures limit { self.new.decoder.limit ≡ self.old.decoder.limit }
     {

@@ -14,12 +14,13 @@ pub(crate) fn put_kept(
     out: &mut Vec<u8>,
     left_out: &mut Vec<Broken>,
 ) -> Result<(), Stop>
-    ensures ok { OnOk result (PutsKept log.old.decoder (unread log.new.decoder)
+    ensures ok { OnOk result (PutsKept log.old (unread log.new.decoder)
         out.old.items out.new.items left_out.old.items left_out.new.items) }
     ensures unfinished { OnOk result (IsUnfinished
         log.old.decoder.framing log.old.decoder.limit (unread log.new.decoder)) }
-    ensures stop { IfErr result (StopsKeeping log.old.decoder
+    ensures stop { IfErr result (StopsKeeping log.old
         out.old.items out.new.items left_out.old.items left_out.new.items) }
+    ensures fed { log.new.fed ≡ log.old.fed }
     ensures framing { log.new.decoder.framing ≡ log.old.decoder.framing }
     ensures limit { log.new.decoder.limit ≡ log.old.decoder.limit }
 {

@@ -22,14 +22,16 @@ pub loop-entry-preserved-in_ok-put_text-in-Ok-Some :
 loop-entry-preserved-in_ok-put_text-in-Ok-Some c =
     let taken = rw c.in-Ok-Some.field-0-is at c.in-Ok-Some.ensures.entry in
     let put = rw c.as_slice.ensures at c.in_ok-put_text-in-Ok-Some.ensures.ok in
-    entry_kept _ _ _ _ _ _ _ _ _ c.loop-entry.invariant taken put
+    entry_kept _ _ _ _ _ _ _ _ _ c.loop-entry.invariant taken
+    c.in-Ok-Some.ensures.fed put
 
 pub loop-entry-preserved-in_ok-put_text-in-Ok-Some-2 :
     goal.loop-entry-preserved-in_ok-put_text-in-Ok-Some-2
 loop-entry-preserved-in_ok-put_text-in-Ok-Some-2 c =
     let taken = rw c.in-Ok-Some.field-0-is at c.in-Ok-Some.ensures.entry in
     let put = rw c.as_slice.ensures at c.in_ok-put_text-in-Ok-Some.ensures.ok in
-    entry_kept _ _ _ _ _ _ _ _ _ c.loop-entry.invariant taken put
+    entry_kept _ _ _ _ _ _ _ _ _ c.loop-entry.invariant taken
+    c.in-Ok-Some.ensures.fed put
 
 pub returns-in-Ok-None-clause-unfinished : goal.returns-in-Ok-None-clause-unfinished
 returns-in-Ok-None-clause-unfinished c =
@@ -48,4 +50,4 @@ pub loop-entry-preserved : goal.loop-entry-preserved
 loop-entry-preserved c =
     let left_out = c.in-Err-Records.ensures.left_out _ c.in-Err-Records.field-0-is in
     entry_dropped _ _ _ _ _ _ _ _ _ c.loop-entry.invariant left_out
-    c.in_ok-tell-in-Err-Records.ensures.ok
+    c.in-Err-Records.ensures.fed c.in_ok-tell-in-Err-Records.ensures.ok

@@ -4,7 +4,7 @@ use Rattle.wire_log.proofs.Keeping.{HasKept}
 use Rattle.wire_log.proofs.kept.put_kept.Given as goal
 
 abbrev pub invariant-loop-entry : goal.invariant-loop-entry
-invariant-loop-entry l = HasKept l.fn.log.decoder l.log.decoder l.fn.out.items l.out.items
+invariant-loop-entry l = HasKept l.fn.log l.log l.fn.out.items l.out.items
     l.fn.left_out.items l.left_out.items
 
 abbrev pub decreases-loop-entry : goal.decreases-loop-entry
