@@ -27,9 +27,9 @@ def alike(name, found, wanted):
 
 
 class Browser:
-    """A session of chromedriver."""
+    """A session of chromedriver, with the scroll bars of a desktop where it is told so."""
 
-    def __init__(self, *words):
+    def __init__(self, *words, has_bars=False):
         with socket.socket() as free:
             free.bind(("127.0.0.1", 0))
             port = free.getsockname()[1]
@@ -42,7 +42,7 @@ class Browser:
             "--headless=new",
             "--no-sandbox",
             "--disable-gpu",
-            "--hide-scrollbars",
+            *([] if has_bars else ["--hide-scrollbars"]),
             "--disable-dev-shm-usage",
             "--allow-file-access-from-files",
             *words,

@@ -2,6 +2,9 @@
 'use strict';
 
 let width = 16;
+// How many digits a place has: four, or as many as the last one takes, an even number of them.
+const placeDigits = () =>
+  Math.max(4, 2 * Math.ceil(Math.max(0, bytes.length - 1).toString(16).length / 2));
 const isIn = (range, place) => range && place >= range[0] && place < range[1];
 
 function partOf(at, place) {
@@ -15,8 +18,7 @@ function partOf(at, place) {
 function drawBytes(row) {
   const node = make('div', 'row'), first = row * width;
   node.setAttribute('role', 'row');
-  const place =
-    make('span', 'place', first.toString(16).padStart(bytes.length > 65536 ? 6 : 4, '0'));
+  const place = make('span', 'place', first.toString(16).padStart(placeDigits(), '0'));
   place.setAttribute('role', 'rowheader');
   const digits = make('span', 'digits'), letters = make('span', 'letters');
   digits.setAttribute('role', 'presentation');
@@ -71,12 +73,18 @@ function goToByte(place) {
 }
 const hexRows = () => Math.ceil(
   (bytes.length + (root && root.isFault() && root.stop.place === bytes.length ? 1 : 0)) / width);
+// A row has sixteen bytes where the pane has room for them, and else eight.
 function fitWidth() {
-  const wide = id('hex').clientWidth < 520 ? 8 : 16;
-  if (wide !== width) {
-    width = wide;
-    if (root) hexPane.setRows(hexRows());
+  document.querySelector('.panes').style.setProperty('--places', placeDigits());
+  const was = width;
+  width = 16;
+  if (root && bytes.length) {
+    const probe = drawBytes(0);
+    hexPane.body.append(probe);
+    if (probe.offsetWidth > id('hex').clientWidth) width = 8;
+    probe.remove();
   }
+  if (root && width !== was) hexPane.setRows(hexRows());
 }
 
 // The panes are as high as what they show, up to what the style allows.

@@ -4,8 +4,27 @@
 let file = null, current = '';
 class Trouble extends Error {}
 
+// The places and digits of what `xxd` prints, lines as `00000000: 0a03 4164 61  .Ada`; none of any
+// other text.
+const XXD_LINE = /^([0-9a-f]{8,}): ((?:[0-9a-f]+ )*[0-9a-f]+)(?: {2}.*)?\s*$/i;
+function xxdLines(text) {
+  const lines = text.split('\n').filter((line) => line.trim()).map((line) => XXD_LINE.exec(line));
+  return lines.length && lines.every(Boolean)
+    ? lines.map(([, place, digits]) => [parseInt(place, 16), digits.replaceAll(' ', '')])
+    : null;
+}
+function fromXxd(lines) {
+  let next = lines[0][0];
+  for (const [place, digits] of lines) {
+    if (place !== next)
+      throw new Trouble(`Lines are lacking before the one at ${place.toString(16)}.`);
+    next += digits.length / 2;
+  }
+  return lines.map(([, digits]) => digits).join('');
+}
 function fromHex(text) {
-  const digits = text.replace(/\\x|0x|[\s,:;_"'{}[\]()<>]|\bb(?=["'])/gi, '');
+  const lines = xxdLines(text);
+  const digits = lines ? fromXxd(lines) : text.replace(/\\x|0x|[\s,:;_"'{}[\]()<>]|\bb(?=["'])/gi, '');
   const wrong = digits.match(/[^0-9a-f]/i);
   if (wrong) throw new Trouble(`This is no hexadecimal text: it has a “${wrong[0]}”.`);
   if (digits.length % 2)
@@ -56,6 +75,7 @@ const NAMES =
 
 function guess(text) {
   if (file) return 'raw';
+  if (xxdLines(text)) return 'hex';
   if (/\\/.test(text))
     return /^[\s"'b]*(\\x[0-9a-f]{2}[\s"',]*)+$/i.test(text) ? 'hex' : 'escaped';
   for (const kind of ['hex', 'base64']) {

@@ -156,7 +156,7 @@ def try_dumps(page):
             continue
         name, words, given, _, _, wanted = fields[:6]
         kind = {"-": "hex", "--hex": "hex", "--base64": "base64"}.get(words)
-        if kind is None or "~" in wanted[:1]:
+        if kind is None or wanted == "-" or "~" in wanted[:1]:
             continue
         data = printed("" if given == "-" else given)
         page.put(data.hex() if words == "-" else data.decode(), kind)
@@ -215,6 +215,9 @@ def try_texts(page):
         "CgNhYmMQlgE=",
         "CgNhYmMQlgE",
         "CgNh\nYmMQlgE=",
+        "00000000: 0a03 6162 6310 9601                      ..abc...\n",
+        "00000000: 0a 03 61 62  ..ab\n00000004: 63 10 96 01  c...\n",
+        "0000fff8: 0A03 6162  .\\ab\r\n0000fffc: 6310 9601  c...",
     ]
     for text in same:
         page.put(text)
@@ -232,6 +235,8 @@ def try_texts(page):
         ("EgP7+_8=", "base64", "both alphabets"),
         ("A", "base64", "cut short"),
         ("\\q", "escaped", "no escape"),
+        ("00000000: 0a03  ..\n00000004: 6310  c.", "hex", "Lines are lacking"),
+        ("00000000: 0a03 6  ..a", "hex", "Half a byte"),
     ]:
         page.put(text, kind)
         check(f"trouble of {text!r}", said in page.text("trouble"), page.text("trouble"))
