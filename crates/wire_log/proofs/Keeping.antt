@@ -8,8 +8,8 @@ use Rattle.wire_log.specs.declared.entry.Broken.{Broken}
 use Rattle.wire_log.specs.declared.entry.LogReader.{LogReader}
 use Rattle.wire_log.specs.declared.entry.Stop.{Stop}
 use Rattle.wire_log.specs.declared.entry.Stop.TheVariants as stops
-use Rattle.wire_log.specs.Entries.{TakesEntry, LeavesOut, StopsHere, no_memory}
-use Rattle.wire_log.specs.Kept.{Keeps, no_frame, kept, dropped, PutsKept, StopsKeeping}
+use Rattle.wire_log.specs.Entries.{TakesEntry, LeavesOut, no_memory}
+use Rattle.wire_log.specs.Kept.{no_frame, kept, dropped, PutsKept, StopsKeeping}
 use Rattle.wire_log.proofs.Fronts.{whole_read}
 use Rattle.wire_run.specs.declared.frame_place.FramePlace.{FramePlace}
 
@@ -92,7 +92,7 @@ pub keeping_wants : (was now : LogReader) (next : Stream) (old new out : List �
 keeping_wants was now next old new out told tells whole e h k is same =
     let frame = rw (h.framing, h.limit) at k.frame in
     let taken = whole_read was.decoder.framing was.decoder.limit whole (unread now.decoder)
-        (unread next) frame k.parts in
+    (unread next) frame k.parts in
     record {
       rest = unread now.decoder;
       front = subst (λ (t : List ℕ). PutsKept was (unread now.decoder) old t told tells)

@@ -18,7 +18,9 @@ use std::fs;
 use std::io::{Read, Write};
 use std::process::ExitCode;
 use wire_frames::FrameError;
-use wire_run::{RunError, Source, answer_words, open_error, read_error, report, words, write_error};
+use wire_run::{
+    RunError, Source, answer_words, open_error, read_error, report, words, write_error,
+};
 
 const NAME: &str = "wire_log";
 
@@ -139,7 +141,11 @@ fn repair(rt: &HostRuntime, source: Source<'_>, log: &mut LogReader) -> Result<(
 
 // Writes the frames whose payloads are records, as they stand, and tells of those that it leaves
 // out.
-fn drop_broken(rt: &HostRuntime, source: Source<'_>, log: &mut LogReader) -> Result<bool, RunError> {
+fn drop_broken(
+    rt: &HostRuntime,
+    source: Source<'_>,
+    log: &mut LogReader,
+) -> Result<bool, RunError> {
     let mut text = Vec::new(rt.alloc());
     let mut left_out = Vec::new(rt.alloc());
     let answer = put_kept(log, &mut text, &mut left_out);
