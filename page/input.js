@@ -24,7 +24,9 @@ function fromXxd(lines) {
 }
 function fromHex(text) {
   const lines = xxdLines(text);
-  const digits = lines ? fromXxd(lines) : text.replace(/\\x|0x|[\s,:;_"'{}[\]()<>]|\bb(?=["'])/gi, '');
+  const digits = lines
+    ? fromXxd(lines)
+    : text.replace(/\\x|0x|[\s,:;_"'{}[\]()<>]|\bb(?=["'])/gi, '');
   const wrong = digits.match(/[^0-9a-f]/i);
   if (wrong) throw new Trouble(`This is no hexadecimal text: it has a “${wrong[0]}”.`);
   if (digits.length % 2)

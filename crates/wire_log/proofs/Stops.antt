@@ -68,7 +68,8 @@ pub no_records_beside : NoListBesideFault → WholeInput → (payload : List ℕ
     → IsFault entry_limits payload fault → AreRecords payload → ⊥
 no_records_beside beside whole payload wrong is (fields, spelled) =
     beside entry_limits by_input payload [] wrong.error fields is.of_list
-    ((whole (charge fields) entry_limits fields payload []).1 (spelled.spelled, spelled.within, refl))
+    ((whole (charge fields) entry_limits fields payload []).1
+    (spelled.spelled, spelled.within, refl))
 
 pub none_at_fault : NoListBesideFault → WholeInput → (payload : List ℕ)
     (r : Result (Unit {0}) Fault) → IfErr r (IsFault entry_limits payload)

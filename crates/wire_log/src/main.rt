@@ -1,5 +1,5 @@
-//! Reads a log of messages, each behind its length, and prints a line a frame; or writes the longest
-//! front of it whose payloads are records, or all frames whose payloads are.
+//! Reads a log of messages, each behind its length, and prints a line a frame; or writes the
+//! longest front of it whose payloads are records, or all frames whose payloads are.
 #![tactic(auto)]
 
 mod entry;
