@@ -31,6 +31,7 @@ mod rows;
 mod runs;
 mod stays;
 mod tree;
+mod written;
 
 use std::io::{Read, Write};
 use std::process::ExitCode;

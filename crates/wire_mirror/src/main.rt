@@ -8,6 +8,10 @@ use std::io;
 use std::io::Read;
 use std::process::ExitCode;
 use wire_codec::{DecodeError, EncodeError, Message};
+use wire_kinds::{
+    Base, Call, Chain, Choice, Expression, Grants, Groups, Levels, Lists, Maps, MaybeVarints,
+    MaybeWidths, Rights, Team, Varints, Wide, Widths,
+};
 use wire_report::{Report, ReportSample};
 use wire_well_known::{
     Any, BoolValue, BytesValue, DoubleValue, Duration, Empty, FieldMask, FloatValue, Int32Value,
@@ -58,6 +62,23 @@ fn answer(alloc: Global, name: &str, digits: &str) -> Result<String, MirrorError
         "StringValue" => mirrored::<StringValue>(alloc, digits),
         "UInt32Value" => mirrored::<UInt32Value>(alloc, digits),
         "UInt64Value" => mirrored::<UInt64Value>(alloc, digits),
+        "kinds.Varints" => mirrored::<Varints>(alloc, digits),
+        "kinds.Widths" => mirrored::<Widths>(alloc, digits),
+        "kinds.MaybeVarints" => mirrored::<MaybeVarints>(alloc, digits),
+        "kinds.MaybeWidths" => mirrored::<MaybeWidths>(alloc, digits),
+        "kinds.Lists" => mirrored::<Lists>(alloc, digits),
+        "kinds.Maps" => mirrored::<Maps>(alloc, digits),
+        "kinds.Choice" => mirrored::<Choice>(alloc, digits),
+        "kinds.Chain" => mirrored::<Chain>(alloc, digits),
+        "kinds.Expression" => mirrored::<Expression>(alloc, digits),
+        "kinds.Call" => mirrored::<Call>(alloc, digits),
+        "kinds2.Levels" => mirrored::<Levels>(alloc, digits),
+        "kinds2.Grants" => mirrored::<Grants>(alloc, digits),
+        "kinds2.Rights" => mirrored::<Rights>(alloc, digits),
+        "kinds2.Team" => mirrored::<Team>(alloc, digits),
+        "kinds2.Groups" => mirrored::<Groups>(alloc, digits),
+        "kinds2.Wide" => mirrored::<Wide>(alloc, digits),
+        "kinds2.Base" => mirrored::<Base>(alloc, digits),
         _ => Err(MirrorError::NoType),
     }
 }

@@ -195,17 +195,20 @@ report_origin-returned g = record {
 }
 
 abbrev pub file-of-report_origin-stays : Grounds
-    → KindStays (always string).kind string_range
+    → KindStays (always string).kind
+    string_range
 file-of-report_origin-stays g =
     always_stays string_stays
 
 abbrev pub device-of-report_origin-stays : Grounds
-    → KindStays (always (numeric Varint uint64)).kind uint64_range
+    → KindStays (always (numeric Varint uint64)).kind
+    uint64_range
 device-of-report_origin-stays g =
     always_stays (numeric_stays uint64_stays)
 
 abbrev pub sample-of-report_origin-stays : Grounds
-    → KindStays (embedded_always report_sample-shape).kind (always_range report_sample-shape report_sample-range)
+    → KindStays (embedded_always report_sample-shape).kind
+    (always_range report_sample-shape report_sample-range)
 sample-of-report_origin-stays g =
     embedded_always_stays g (report_sample-stays g)
 
@@ -220,22 +223,27 @@ file-of-report_origin-there : (g : Grounds) (m : ReportOrigin-Value) → report_
     (or_else file-of-report_origin-default (file-of-report_origin-as m))
 file-of-report_origin-there g None h = (file-of-report_origin-stays g).start
 file-of-report_origin-there g (Some (inl x)) h = h
-file-of-report_origin-there g (Some (inr other)) h = (file-of-report_origin-stays g).start
+file-of-report_origin-there g (Some (inr other)) h =
+    (file-of-report_origin-stays g).start
 
 device-of-report_origin-there : (g : Grounds) (m : ReportOrigin-Value) → report_origin-is g m
     → (device-of-report_origin-stays g).Is
     (or_else device-of-report_origin-default (device-of-report_origin-as m))
 device-of-report_origin-there g None h = (device-of-report_origin-stays g).start
-device-of-report_origin-there g (Some (inl other)) h = (device-of-report_origin-stays g).start
+device-of-report_origin-there g (Some (inl other)) h =
+    (device-of-report_origin-stays g).start
 device-of-report_origin-there g (Some (inr (inl x))) h = h
-device-of-report_origin-there g (Some (inr (inr other))) h = (device-of-report_origin-stays g).start
+device-of-report_origin-there g (Some (inr (inr other))) h =
+    (device-of-report_origin-stays g).start
 
 sample-of-report_origin-there : (g : Grounds) (m : ReportOrigin-Value) → report_origin-is g m
     → (sample-of-report_origin-stays g).Is
     (or_else sample-of-report_origin-default (sample-of-report_origin-as m))
 sample-of-report_origin-there g None h = (sample-of-report_origin-stays g).start
-sample-of-report_origin-there g (Some (inl other)) h = (sample-of-report_origin-stays g).start
-sample-of-report_origin-there g (Some (inr (inl other))) h = (sample-of-report_origin-stays g).start
+sample-of-report_origin-there g (Some (inl other)) h =
+    (sample-of-report_origin-stays g).start
+sample-of-report_origin-there g (Some (inr (inl other))) h =
+    (sample-of-report_origin-stays g).start
 sample-of-report_origin-there g (Some (inr (inr x))) h = h
 
 pub report_origin-in-range : (g : Grounds) (m : ReportOrigin-Value) → report_origin-is g m

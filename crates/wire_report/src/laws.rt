@@ -17,8 +17,8 @@ pub fn report_reads_back()
     text_decodes::<crate::Report>();
 }
 
-/// What bytes decode to a `Report` is in range, where its encoding takes at most 2,147,483,647
-/// bytes.
+/// A `Report` that bytes decode to is in range, where its encoding takes at most
+/// 2,147,483,647 bytes.
 pub fn report_decodes_in_range()
     ensures { DecodesInRange report-shape report-range }
 {
@@ -33,8 +33,8 @@ pub fn report_sample_reads_back()
     text_decodes::<crate::ReportSample>();
 }
 
-/// What bytes decode to a `ReportSample` is in range, where its encoding takes at most 2,147,483,647
-/// bytes.
+/// A `ReportSample` that bytes decode to is in range, where its encoding takes at most
+/// 2,147,483,647 bytes.
 pub fn report_sample_decodes_in_range()
     ensures { DecodesInRange report_sample-shape report_sample-range }
 {

@@ -8,6 +8,8 @@ use Rattle.wire_fields.specs.Ranges.{Range, any_bytes_range, others_range, pair_
 use Rattle.wire_fields.specs.Returned.{Returned, implicit_returned, known_returned, two_returned}
 use Rattle.wire_fields.specs.Returned.{whole_returned}
 use Rattle.wire_fields.specs.Shape.{Lawful, Shape, known, two, unknown}
+use Rattle.wire_fields.specs.Stays.{Stays, known_stays, two_stays, whole_stays}
+use Rattle.wire_fields.specs.StaysKinds.{any_bytes_stay, implicit_stays, string_stays}
 use Rattle.wire_fields.specs.Texts.{any_bytes, string}
 use Rattle.wire_well_known.specs.declared.any.Any.{Any}
 
@@ -74,3 +76,12 @@ any-returned g =
     (omega arith) (omega arith)
     (implicit_returned g _ _ any_bytes_back))
     (λ n p h. rw h refl))
+
+pub any-stays : Grounds → Stays any-shape any-range
+any-stays g =
+    whole_stays g
+    (two_stays g
+    (known_stays 1 any-type_url-kind
+    (implicit_stays string_stays))
+    (known_stays 2 any-value-kind
+    (implicit_stays any_bytes_stay)))

@@ -9,6 +9,8 @@ use Rattle.wire_fields.specs.Presence.{implicit}
 use Rattle.wire_fields.specs.Ranges.{Range, bool_range, others_range, pair_range}
 use Rattle.wire_fields.specs.Returned.{Returned, implicit_returned, known_returned, whole_returned}
 use Rattle.wire_fields.specs.Shape.{Lawful, Shape, known, two, unknown}
+use Rattle.wire_fields.specs.Stays.{Stays, known_stays, whole_stays}
+use Rattle.wire_fields.specs.StaysKinds.{bool_stays, implicit_stays, numeric_stays}
 use Rattle.wire_fields.specs.declared.form.Form.TheVariants.{Varint}
 use Rattle.wire_well_known.specs.declared.bool_value.BoolValue.{BoolValue}
 
@@ -54,3 +56,9 @@ bool_value-returned g =
     (known_returned g 1 bool_value-value-kind bool_value-value-range
     (omega arith) (omega arith)
     (implicit_returned g _ _ (numeric_back (bool_back g))))
+
+pub bool_value-stays : Grounds → Stays bool_value-shape bool_value-range
+bool_value-stays g =
+    whole_stays g
+    (known_stays 1 bool_value-value-kind
+    (implicit_stays (numeric_stays bool_stays)))

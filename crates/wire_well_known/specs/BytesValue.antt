@@ -7,6 +7,8 @@ use Rattle.wire_fields.specs.Presence.{implicit}
 use Rattle.wire_fields.specs.Ranges.{Range, any_bytes_range, others_range, pair_range}
 use Rattle.wire_fields.specs.Returned.{Returned, implicit_returned, known_returned, whole_returned}
 use Rattle.wire_fields.specs.Shape.{Lawful, Shape, known, two, unknown}
+use Rattle.wire_fields.specs.Stays.{Stays, known_stays, whole_stays}
+use Rattle.wire_fields.specs.StaysKinds.{any_bytes_stay, implicit_stays}
 use Rattle.wire_fields.specs.Texts.{any_bytes}
 use Rattle.wire_well_known.specs.declared.bytes_value.BytesValue.{BytesValue}
 
@@ -52,3 +54,9 @@ bytes_value-returned g =
     (known_returned g 1 bytes_value-value-kind bytes_value-value-range
     (omega arith) (omega arith)
     (implicit_returned g _ _ any_bytes_back))
+
+pub bytes_value-stays : Grounds → Stays bytes_value-shape bytes_value-range
+bytes_value-stays g =
+    whole_stays g
+    (known_stays 1 bytes_value-value-kind
+    (implicit_stays any_bytes_stay))

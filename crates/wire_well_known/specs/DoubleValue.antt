@@ -8,6 +8,8 @@ use Rattle.wire_fields.specs.Presence.{implicit}
 use Rattle.wire_fields.specs.Ranges.{Range, double_range, others_range, pair_range}
 use Rattle.wire_fields.specs.Returned.{Returned, implicit_returned, known_returned, whole_returned}
 use Rattle.wire_fields.specs.Shape.{Lawful, Shape, known, two, unknown}
+use Rattle.wire_fields.specs.Stays.{Stays, known_stays, whole_stays}
+use Rattle.wire_fields.specs.StaysKinds.{double_stays, implicit_stays, numeric_stays}
 use Rattle.wire_fields.specs.declared.floats.DoubleBits.{DoubleBits}
 use Rattle.wire_fields.specs.declared.form.Form.TheVariants.{Fixed64}
 use Rattle.wire_well_known.specs.declared.double_value.DoubleValue.{DoubleValue}
@@ -54,3 +56,9 @@ double_value-returned g =
     (known_returned g 1 double_value-value-kind double_value-value-range
     (omega arith) (omega arith)
     (implicit_returned g _ _ (numeric_back (double_back g))))
+
+pub double_value-stays : Grounds → Stays double_value-shape double_value-range
+double_value-stays g =
+    whole_stays g
+    (known_stays 1 double_value-value-kind
+    (implicit_stays (numeric_stays double_stays)))

@@ -10,6 +10,8 @@ use Rattle.wire_fields.specs.Ranges.{Range, int32_range, int64_range, others_ran
 use Rattle.wire_fields.specs.Returned.{Returned, implicit_returned, known_returned, two_returned}
 use Rattle.wire_fields.specs.Returned.{whole_returned}
 use Rattle.wire_fields.specs.Shape.{Lawful, Shape, known, two, unknown}
+use Rattle.wire_fields.specs.Stays.{Stays, known_stays, two_stays, whole_stays}
+use Rattle.wire_fields.specs.StaysKinds.{implicit_stays, int32_stays, int64_stays, numeric_stays}
 use Rattle.wire_fields.specs.declared.form.Form.TheVariants.{Varint}
 use Rattle.wire_well_known.specs.declared.duration.Duration.{Duration}
 
@@ -76,3 +78,12 @@ duration-returned g =
     (omega arith) (omega arith)
     (implicit_returned g _ _ (numeric_back (int32_back g))))
     (λ n p h. rw h refl))
+
+pub duration-stays : Grounds → Stays duration-shape duration-range
+duration-stays g =
+    whole_stays g
+    (two_stays g
+    (known_stays 1 duration-seconds-kind
+    (implicit_stays (numeric_stays int64_stays)))
+    (known_stays 2 duration-nanos-kind
+    (implicit_stays (numeric_stays int32_stays))))

@@ -4,6 +4,7 @@ use Rattle.wire_fields.specs.Grounds.{Grounds}
 use Rattle.wire_fields.specs.Ranges.{Range, unknown_range}
 use Rattle.wire_fields.specs.Returned.{Returned, unknown_returned}
 use Rattle.wire_fields.specs.Shape.{Shape, unknown}
+use Rattle.wire_fields.specs.Stays.{Stays, unknown_stays}
 use Rattle.wire_well_known.specs.declared.empty.Empty.{Empty}
 
 abbrev pub Empty-Value : Type 0
@@ -23,3 +24,7 @@ empty-range =
 pub empty-returned : Grounds → Returned empty-shape empty-range
 empty-returned g =
     unknown_returned g
+
+pub empty-stays : Grounds → Stays empty-shape empty-range
+empty-stays g =
+    unknown_stays

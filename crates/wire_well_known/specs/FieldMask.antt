@@ -7,6 +7,8 @@ use Rattle.wire_fields.specs.Presence.{repeated}
 use Rattle.wire_fields.specs.Ranges.{Range, others_range, pair_range, repeated_range, string_range}
 use Rattle.wire_fields.specs.Returned.{Returned, known_returned, repeated_returned, whole_returned}
 use Rattle.wire_fields.specs.Shape.{Lawful, Shape, known, two, unknown}
+use Rattle.wire_fields.specs.Stays.{Stays, known_stays, whole_stays}
+use Rattle.wire_fields.specs.StaysKinds.{repeated_stays, string_stays}
 use Rattle.wire_fields.specs.Texts.{string}
 use Rattle.wire_well_known.specs.declared.field_mask.FieldMask.{FieldMask}
 
@@ -52,3 +54,9 @@ field_mask-returned g =
     (known_returned g 1 field_mask-paths-kind field_mask-paths-range
     (omega arith) (omega arith)
     (repeated_returned g _ _ string_back 24))
+
+pub field_mask-stays : Grounds → Stays field_mask-shape field_mask-range
+field_mask-stays g =
+    whole_stays g
+    (known_stays 1 field_mask-paths-kind
+    (repeated_stays g string_stays 24))

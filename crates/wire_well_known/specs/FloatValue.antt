@@ -8,6 +8,8 @@ use Rattle.wire_fields.specs.Presence.{implicit}
 use Rattle.wire_fields.specs.Ranges.{Range, float_range, others_range, pair_range}
 use Rattle.wire_fields.specs.Returned.{Returned, implicit_returned, known_returned, whole_returned}
 use Rattle.wire_fields.specs.Shape.{Lawful, Shape, known, two, unknown}
+use Rattle.wire_fields.specs.Stays.{Stays, known_stays, whole_stays}
+use Rattle.wire_fields.specs.StaysKinds.{float_stays, implicit_stays, numeric_stays}
 use Rattle.wire_fields.specs.declared.floats.FloatBits.{FloatBits}
 use Rattle.wire_fields.specs.declared.form.Form.TheVariants.{Fixed32}
 use Rattle.wire_well_known.specs.declared.float_value.FloatValue.{FloatValue}
@@ -54,3 +56,9 @@ float_value-returned g =
     (known_returned g 1 float_value-value-kind float_value-value-range
     (omega arith) (omega arith)
     (implicit_returned g _ _ (numeric_back (float_back g))))
+
+pub float_value-stays : Grounds → Stays float_value-shape float_value-range
+float_value-stays g =
+    whole_stays g
+    (known_stays 1 float_value-value-kind
+    (implicit_stays (numeric_stays float_stays)))

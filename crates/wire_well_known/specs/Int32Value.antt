@@ -9,6 +9,8 @@ use Rattle.wire_fields.specs.Presence.{implicit}
 use Rattle.wire_fields.specs.Ranges.{Range, int32_range, others_range, pair_range}
 use Rattle.wire_fields.specs.Returned.{Returned, implicit_returned, known_returned, whole_returned}
 use Rattle.wire_fields.specs.Shape.{Lawful, Shape, known, two, unknown}
+use Rattle.wire_fields.specs.Stays.{Stays, known_stays, whole_stays}
+use Rattle.wire_fields.specs.StaysKinds.{implicit_stays, int32_stays, numeric_stays}
 use Rattle.wire_fields.specs.declared.form.Form.TheVariants.{Varint}
 use Rattle.wire_well_known.specs.declared.int32_value.Int32Value.{Int32Value}
 
@@ -54,3 +56,9 @@ int32_value-returned g =
     (known_returned g 1 int32_value-value-kind int32_value-value-range
     (omega arith) (omega arith)
     (implicit_returned g _ _ (numeric_back (int32_back g))))
+
+pub int32_value-stays : Grounds → Stays int32_value-shape int32_value-range
+int32_value-stays g =
+    whole_stays g
+    (known_stays 1 int32_value-value-kind
+    (implicit_stays (numeric_stays int32_stays)))

@@ -9,6 +9,8 @@ use Rattle.wire_fields.specs.Presence.{implicit}
 use Rattle.wire_fields.specs.Ranges.{Range, int64_range, others_range, pair_range}
 use Rattle.wire_fields.specs.Returned.{Returned, implicit_returned, known_returned, whole_returned}
 use Rattle.wire_fields.specs.Shape.{Lawful, Shape, known, two, unknown}
+use Rattle.wire_fields.specs.Stays.{Stays, known_stays, whole_stays}
+use Rattle.wire_fields.specs.StaysKinds.{implicit_stays, int64_stays, numeric_stays}
 use Rattle.wire_fields.specs.declared.form.Form.TheVariants.{Varint}
 use Rattle.wire_well_known.specs.declared.int64_value.Int64Value.{Int64Value}
 
@@ -54,3 +56,9 @@ int64_value-returned g =
     (known_returned g 1 int64_value-value-kind int64_value-value-range
     (omega arith) (omega arith)
     (implicit_returned g _ _ (numeric_back (int64_back g))))
+
+pub int64_value-stays : Grounds → Stays int64_value-shape int64_value-range
+int64_value-stays g =
+    whole_stays g
+    (known_stays 1 int64_value-value-kind
+    (implicit_stays (numeric_stays int64_stays)))

@@ -8,8 +8,10 @@ use Rattle.wire_fields.specs.Ranges.{Range, each_range, others_range, pair_range
 use Rattle.wire_fields.specs.Returned.{Returned, embedded_each_returned, known_returned}
 use Rattle.wire_fields.specs.Returned.{whole_returned}
 use Rattle.wire_fields.specs.Shape.{Lawful, Shape, known, two, unknown}
+use Rattle.wire_fields.specs.Stays.{Stays, known_stays, whole_stays}
+use Rattle.wire_fields.specs.StaysMessages.{embedded_each_stays}
 use Rattle.wire_well_known.specs.Value.{Value-Value, value-range, value-returned, value-shape}
-use Rattle.wire_well_known.specs.Value.{value-value}
+use Rattle.wire_well_known.specs.Value.{value-stays, value-value}
 use Rattle.wire_well_known.specs.declared.list_value.ListValue.{ListValue}
 
 abbrev pub list_value-values-kind : Lawful (List Value-Value)
@@ -54,3 +56,9 @@ list_value-returned g =
     (known_returned g 1 list_value-values-kind list_value-values-range
     (omega arith) (omega arith)
     (embedded_each_returned g _ _ (value-returned g) 144))
+
+pub list_value-stays : Grounds → Stays list_value-shape list_value-range
+list_value-stays g =
+    whole_stays g
+    (known_stays 1 list_value-values-kind
+    (embedded_each_stays g (value-stays g) 144))

@@ -7,6 +7,8 @@ use Rattle.wire_fields.specs.Presence.{implicit}
 use Rattle.wire_fields.specs.Ranges.{Range, others_range, pair_range, string_range}
 use Rattle.wire_fields.specs.Returned.{Returned, implicit_returned, known_returned, whole_returned}
 use Rattle.wire_fields.specs.Shape.{Lawful, Shape, known, two, unknown}
+use Rattle.wire_fields.specs.Stays.{Stays, known_stays, whole_stays}
+use Rattle.wire_fields.specs.StaysKinds.{implicit_stays, string_stays}
 use Rattle.wire_fields.specs.Texts.{string}
 use Rattle.wire_well_known.specs.declared.string_value.StringValue.{StringValue}
 
@@ -52,3 +54,9 @@ string_value-returned g =
     (known_returned g 1 string_value-value-kind string_value-value-range
     (omega arith) (omega arith)
     (implicit_returned g _ _ string_back))
+
+pub string_value-stays : Grounds → Stays string_value-shape string_value-range
+string_value-stays g =
+    whole_stays g
+    (known_stays 1 string_value-value-kind
+    (implicit_stays string_stays))

@@ -10,9 +10,13 @@ use Rattle.wire_fields.specs.Ranges.{text_map_range}
 use Rattle.wire_fields.specs.Returned.{Returned, embedded_always_returned, known_returned}
 use Rattle.wire_fields.specs.Returned.{map_returned, whole_returned}
 use Rattle.wire_fields.specs.Shape.{Lawful, Shape, known, two, unknown}
+use Rattle.wire_fields.specs.Stays.{Stays, known_stays, whole_stays}
+use Rattle.wire_fields.specs.StaysKinds.{string_stays}
+use Rattle.wire_fields.specs.StaysMaps.{text_map_stays}
+use Rattle.wire_fields.specs.StaysMessages.{embedded_always_stays}
 use Rattle.wire_fields.specs.Texts.{string}
 use Rattle.wire_well_known.specs.Value.{Value-Value, value-range, value-returned, value-shape}
-use Rattle.wire_well_known.specs.Value.{value-value}
+use Rattle.wire_well_known.specs.Value.{value-stays, value-value}
 use Rattle.wire_well_known.specs.declared.struct_.Struct.{Struct}
 
 abbrev pub struct_-fields-kind : Lawful (List ((List ℕ) × Value-Value))
@@ -60,3 +64,10 @@ struct_-returned g =
     (map_returned g _ _ _ _ string_range
     (always_range value-shape value-range) string_back
     (embedded_always_returned g _ _ (value-returned g))))
+
+pub struct_-stays : Grounds → Stays struct_-shape struct_-range
+struct_-stays g =
+    whole_stays g
+    (known_stays 1 struct_-fields-kind
+    (text_map_stays g 64 (embedded_always value-shape) string_stays
+    (embedded_always_stays g (value-stays g))))

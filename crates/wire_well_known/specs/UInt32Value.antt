@@ -9,6 +9,8 @@ use Rattle.wire_fields.specs.Presence.{implicit}
 use Rattle.wire_fields.specs.Ranges.{Range, others_range, pair_range, uint32_range}
 use Rattle.wire_fields.specs.Returned.{Returned, implicit_returned, known_returned, whole_returned}
 use Rattle.wire_fields.specs.Shape.{Lawful, Shape, known, two, unknown}
+use Rattle.wire_fields.specs.Stays.{Stays, known_stays, whole_stays}
+use Rattle.wire_fields.specs.StaysKinds.{implicit_stays, numeric_stays, uint32_stays}
 use Rattle.wire_fields.specs.declared.form.Form.TheVariants.{Varint}
 use Rattle.wire_well_known.specs.declared.uint32_value.UInt32Value.{UInt32Value}
 
@@ -54,3 +56,9 @@ uint32_value-returned g =
     (known_returned g 1 uint32_value-value-kind uint32_value-value-range
     (omega arith) (omega arith)
     (implicit_returned g _ _ (numeric_back (uint32_back g))))
+
+pub uint32_value-stays : Grounds → Stays uint32_value-shape uint32_value-range
+uint32_value-stays g =
+    whole_stays g
+    (known_stays 1 uint32_value-value-kind
+    (implicit_stays (numeric_stays uint32_stays)))

@@ -9,6 +9,8 @@ use Rattle.wire_fields.specs.Presence.{implicit}
 use Rattle.wire_fields.specs.Ranges.{Range, others_range, pair_range, uint64_range}
 use Rattle.wire_fields.specs.Returned.{Returned, implicit_returned, known_returned, whole_returned}
 use Rattle.wire_fields.specs.Shape.{Lawful, Shape, known, two, unknown}
+use Rattle.wire_fields.specs.Stays.{Stays, known_stays, whole_stays}
+use Rattle.wire_fields.specs.StaysKinds.{implicit_stays, numeric_stays, uint64_stays}
 use Rattle.wire_fields.specs.declared.form.Form.TheVariants.{Varint}
 use Rattle.wire_well_known.specs.declared.uint64_value.UInt64Value.{UInt64Value}
 
@@ -54,3 +56,9 @@ uint64_value-returned g =
     (known_returned g 1 uint64_value-value-kind uint64_value-value-range
     (omega arith) (omega arith)
     (implicit_returned g _ _ (numeric_back (uint64_back g))))
+
+pub uint64_value-stays : Grounds → Stays uint64_value-shape uint64_value-range
+uint64_value-stays g =
+    whole_stays g
+    (known_stays 1 uint64_value-value-kind
+    (implicit_stays (numeric_stays uint64_stays)))

@@ -5,8 +5,9 @@ use Rattle.wire_fields.specs.Grounds.{Grounds}
 use Rattle.wire_fields.specs.Ranges.{Range, others_range, pair_range}
 use Rattle.wire_fields.specs.Returned.{Returned, whole_returned}
 use Rattle.wire_fields.specs.Shape.{Shape, two, unknown}
+use Rattle.wire_fields.specs.Stays.{Stays, whole_stays}
 use Rattle.wire_well_known.specs.ValueKind.{ValueKind-Value, value_kind-of, value_kind-range}
-use Rattle.wire_well_known.specs.ValueKind.{value_kind-returned, value_kind-shape}
+use Rattle.wire_well_known.specs.ValueKind.{value_kind-returned, value_kind-shape, value_kind-stays}
 use Rattle.wire_well_known.specs.declared.value.Value.{Value}
 
 abbrev pub Value-Known : Type 0
@@ -42,3 +43,8 @@ pub value-returned : Grounds → Returned value-shape value-range
 value-returned g =
     whole_returned g
     (value_kind-returned g)
+
+pub value-stays : Grounds → Stays value-shape value-range
+value-stays g =
+    whole_stays g
+    (value_kind-stays g)

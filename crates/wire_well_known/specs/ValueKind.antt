@@ -1,16 +1,19 @@
 -- A `ValueKind` as contracts see it, and the table of its fields. Generated.
 use Rattle.std.proofs.Common.{arith, inl, inr, refl, ◌≡◌}
-use Rattle.std.specs.Prelude.{Bool, List, None, Option, Some, string_bytes, ℕ, ◌⊎◌}
+use Rattle.std.specs.Prelude.{Bool, List, None, Option, Some, string_bytes, ℕ, ◌≤◌}
+use Rattle.std.specs.Prelude.{◌⊎◌}
+use Rattle.wire_codec.specs.EnumNumbers.{first_numbered_keeps}
 use Rattle.wire_codec.specs.EnumValue.{EnumValue}
 use Rattle.wire_codec.specs.Folds.{Step}
 use Rattle.wire_codec.specs.Limits.{Charge, no_charge}
-use Rattle.wire_codec.specs.Records.{Records, none, plain}
+use Rattle.wire_codec.specs.Records.{Records, none, plain, text_size}
 use Rattle.wire_codec.specs.ValueMap.{bool}
 use Rattle.wire_fields.specs.Back.{AllAre, FoldsBack}
 use Rattle.wire_fields.specs.Enums.{open_enum}
 use Rattle.wire_fields.specs.Floats.{double}
 use Rattle.wire_fields.specs.Grounds.{Grounds, any_bytes_back, bool_back, double_back, enum_back}
 use Rattle.wire_fields.specs.Grounds.{numeric_back, string_back}
+use Rattle.wire_fields.specs.Messages.{or_else}
 use Rattle.wire_fields.specs.Numbers.{numeric}
 use Rattle.wire_fields.specs.Oneof.{Variants, either_of, oneof, variant}
 use Rattle.wire_fields.specs.OneofBack.{variant_back, variant_has}
@@ -19,10 +22,14 @@ use Rattle.wire_fields.specs.Ranges.{Range, any_bytes_range, bool_range, double_
 use Rattle.wire_fields.specs.Ranges.{string_range}
 use Rattle.wire_fields.specs.Returned.{Returned, always_returned}
 use Rattle.wire_fields.specs.Shape.{FieldKind, Shape}
+use Rattle.wire_fields.specs.Stays.{KindStays, Stays}
+use Rattle.wire_fields.specs.StaysKinds.{always_stays, any_bytes_stay, bool_stays, double_stays}
+use Rattle.wire_fields.specs.StaysKinds.{enum_stays, numeric_stays, string_stays}
+use Rattle.wire_fields.specs.StaysMessages.{either_stays, oneof_stays, variant_stays}
 use Rattle.wire_fields.specs.Texts.{any_bytes, string}
 use Rattle.wire_fields.specs.declared.floats.DoubleBits.{DoubleBits}
 use Rattle.wire_fields.specs.declared.form.Form.TheVariants.{Fixed64, Varint}
-use Rattle.wire_well_known.specs.NullValue.{null_value-number, null_value-of}
+use Rattle.wire_well_known.specs.NullValue.{null_value-number, null_value-of, null_value-values}
 use Rattle.wire_well_known.specs.declared.null_value.NullValue.{NullValue}
 use Rattle.wire_well_known.specs.declared.value_kind.ValueKind.{ValueKind}
 use Rattle.wire_well_known.specs.declared.value_kind.ValueKind.TheVariants.{BoolValue, ListValue}
@@ -319,3 +326,164 @@ value_kind-returned g = record {
     ];
   };
 }
+
+abbrev pub null_value-of-value_kind-stays : Grounds
+    → KindStays (always (numeric Varint (open_enum null_value-number null_value-of))).kind
+    (enum_range null_value-number null_value-of)
+null_value-of-value_kind-stays g =
+    always_stays (numeric_stays (enum_stays null_value-number null_value-of
+    (first_numbered_keeps null_value-number null_value-values)))
+
+abbrev pub number_value-of-value_kind-stays : Grounds
+    → KindStays (always (numeric Fixed64 double)).kind
+    double_range
+number_value-of-value_kind-stays g =
+    always_stays (numeric_stays double_stays)
+
+abbrev pub string_value-of-value_kind-stays : Grounds
+    → KindStays (always string).kind
+    string_range
+string_value-of-value_kind-stays g =
+    always_stays string_stays
+
+abbrev pub bool_value-of-value_kind-stays : Grounds
+    → KindStays (always (numeric Varint bool)).kind
+    bool_range
+bool_value-of-value_kind-stays g =
+    always_stays (numeric_stays bool_stays)
+
+abbrev pub struct_value-of-value_kind-stays : Grounds
+    → KindStays (always any_bytes).kind
+    any_bytes_range
+struct_value-of-value_kind-stays g =
+    always_stays any_bytes_stay
+
+abbrev pub list_value-of-value_kind-stays : Grounds
+    → KindStays (always any_bytes).kind
+    any_bytes_range
+list_value-of-value_kind-stays g =
+    always_stays any_bytes_stay
+
+abbrev pub value_kind-is : Grounds → ValueKind-Value → Type 0
+value_kind-is g None = Unit {0}
+value_kind-is g (Some (inl x)) = (null_value-of-value_kind-stays g).Is x
+value_kind-is g (Some (inr (inl x))) = (number_value-of-value_kind-stays g).Is x
+value_kind-is g (Some (inr (inr (inl x)))) = (string_value-of-value_kind-stays g).Is x
+value_kind-is g (Some (inr (inr (inr (inl x))))) = (bool_value-of-value_kind-stays g).Is x
+value_kind-is g (Some (inr (inr (inr (inr (inl x)))))) = (struct_value-of-value_kind-stays g).Is x
+value_kind-is g (Some (inr (inr (inr (inr (inr x)))))) = (list_value-of-value_kind-stays g).Is x
+
+null_value-of-value_kind-there : (g : Grounds) (m : ValueKind-Value) → value_kind-is g m
+    → (null_value-of-value_kind-stays g).Is
+    (or_else null_value-of-value_kind-default (null_value-of-value_kind-as m))
+null_value-of-value_kind-there g None h = (null_value-of-value_kind-stays g).start
+null_value-of-value_kind-there g (Some (inl x)) h = h
+null_value-of-value_kind-there g (Some (inr other)) h =
+    (null_value-of-value_kind-stays g).start
+
+number_value-of-value_kind-there : (g : Grounds) (m : ValueKind-Value) → value_kind-is g m
+    → (number_value-of-value_kind-stays g).Is
+    (or_else number_value-of-value_kind-default (number_value-of-value_kind-as m))
+number_value-of-value_kind-there g None h = (number_value-of-value_kind-stays g).start
+number_value-of-value_kind-there g (Some (inl other)) h =
+    (number_value-of-value_kind-stays g).start
+number_value-of-value_kind-there g (Some (inr (inl x))) h = h
+number_value-of-value_kind-there g (Some (inr (inr other))) h =
+    (number_value-of-value_kind-stays g).start
+
+string_value-of-value_kind-there : (g : Grounds) (m : ValueKind-Value) → value_kind-is g m
+    → (string_value-of-value_kind-stays g).Is
+    (or_else string_value-of-value_kind-default (string_value-of-value_kind-as m))
+string_value-of-value_kind-there g None h = (string_value-of-value_kind-stays g).start
+string_value-of-value_kind-there g (Some (inl other)) h =
+    (string_value-of-value_kind-stays g).start
+string_value-of-value_kind-there g (Some (inr (inl other))) h =
+    (string_value-of-value_kind-stays g).start
+string_value-of-value_kind-there g (Some (inr (inr (inl x)))) h = h
+string_value-of-value_kind-there g (Some (inr (inr (inr other)))) h =
+    (string_value-of-value_kind-stays g).start
+
+bool_value-of-value_kind-there : (g : Grounds) (m : ValueKind-Value) → value_kind-is g m
+    → (bool_value-of-value_kind-stays g).Is
+    (or_else bool_value-of-value_kind-default (bool_value-of-value_kind-as m))
+bool_value-of-value_kind-there g None h = (bool_value-of-value_kind-stays g).start
+bool_value-of-value_kind-there g (Some (inl other)) h =
+    (bool_value-of-value_kind-stays g).start
+bool_value-of-value_kind-there g (Some (inr (inl other))) h =
+    (bool_value-of-value_kind-stays g).start
+bool_value-of-value_kind-there g (Some (inr (inr (inl other)))) h =
+    (bool_value-of-value_kind-stays g).start
+bool_value-of-value_kind-there g (Some (inr (inr (inr (inl x))))) h = h
+bool_value-of-value_kind-there g (Some (inr (inr (inr (inr other))))) h =
+    (bool_value-of-value_kind-stays g).start
+
+struct_value-of-value_kind-there : (g : Grounds) (m : ValueKind-Value) → value_kind-is g m
+    → (struct_value-of-value_kind-stays g).Is
+    (or_else struct_value-of-value_kind-default (struct_value-of-value_kind-as m))
+struct_value-of-value_kind-there g None h = (struct_value-of-value_kind-stays g).start
+struct_value-of-value_kind-there g (Some (inl other)) h =
+    (struct_value-of-value_kind-stays g).start
+struct_value-of-value_kind-there g (Some (inr (inl other))) h =
+    (struct_value-of-value_kind-stays g).start
+struct_value-of-value_kind-there g (Some (inr (inr (inl other)))) h =
+    (struct_value-of-value_kind-stays g).start
+struct_value-of-value_kind-there g (Some (inr (inr (inr (inl other))))) h =
+    (struct_value-of-value_kind-stays g).start
+struct_value-of-value_kind-there g (Some (inr (inr (inr (inr (inl x)))))) h = h
+struct_value-of-value_kind-there g (Some (inr (inr (inr (inr (inr other)))))) h =
+    (struct_value-of-value_kind-stays g).start
+
+list_value-of-value_kind-there : (g : Grounds) (m : ValueKind-Value) → value_kind-is g m
+    → (list_value-of-value_kind-stays g).Is
+    (or_else list_value-of-value_kind-default (list_value-of-value_kind-as m))
+list_value-of-value_kind-there g None h = (list_value-of-value_kind-stays g).start
+list_value-of-value_kind-there g (Some (inl other)) h =
+    (list_value-of-value_kind-stays g).start
+list_value-of-value_kind-there g (Some (inr (inl other))) h =
+    (list_value-of-value_kind-stays g).start
+list_value-of-value_kind-there g (Some (inr (inr (inl other)))) h =
+    (list_value-of-value_kind-stays g).start
+list_value-of-value_kind-there g (Some (inr (inr (inr (inl other))))) h =
+    (list_value-of-value_kind-stays g).start
+list_value-of-value_kind-there g (Some (inr (inr (inr (inr (inl other)))))) h =
+    (list_value-of-value_kind-stays g).start
+list_value-of-value_kind-there g (Some (inr (inr (inr (inr (inr x)))))) h = h
+
+pub value_kind-in-range : (g : Grounds) (m : ValueKind-Value) → value_kind-is g m
+    → text_size (value_kind-records m) ≤ 2147483647 → value_kind-holds m
+value_kind-in-range g None h small = tt
+value_kind-in-range g (Some (inl x)) h small =
+    (null_value-of-value_kind-stays g).holds 1 x h small
+value_kind-in-range g (Some (inr (inl x))) h small =
+    (number_value-of-value_kind-stays g).holds 2 x h small
+value_kind-in-range g (Some (inr (inr (inl x)))) h small =
+    (string_value-of-value_kind-stays g).holds 3 x h small
+value_kind-in-range g (Some (inr (inr (inr (inl x))))) h small =
+    (bool_value-of-value_kind-stays g).holds 4 x h small
+value_kind-in-range g (Some (inr (inr (inr (inr (inl x)))))) h small =
+    (struct_value-of-value_kind-stays g).holds 5 x h small
+value_kind-in-range g (Some (inr (inr (inr (inr (inr x)))))) h small =
+    (list_value-of-value_kind-stays g).holds 6 x h small
+
+pub value_kind-stays : Grounds → Stays value_kind-shape value_kind-range
+value_kind-stays g =
+    oneof_stays None value_kind-records _ (value_kind-is g) tt
+    (either_stays (either_stays (either_stays (either_stays (either_stays (variant_stays 1 (always (numeric Varint (open_enum null_value-number null_value-of))) null_value-of-value_kind-as
+    (λ x. Some (inl x)) (value_kind-is g) (null_value-of-value_kind-stays g)
+    (null_value-of-value_kind-there g) (λ t h. h))
+    (variant_stays 2 (always (numeric Fixed64 double)) number_value-of-value_kind-as
+    (λ x. Some (inr (inl x))) (value_kind-is g) (number_value-of-value_kind-stays g)
+    (number_value-of-value_kind-there g) (λ t h. h)))
+    (variant_stays 3 (always string) string_value-of-value_kind-as
+    (λ x. Some (inr (inr (inl x)))) (value_kind-is g) (string_value-of-value_kind-stays g)
+    (string_value-of-value_kind-there g) (λ t h. h)))
+    (variant_stays 4 (always (numeric Varint bool)) bool_value-of-value_kind-as
+    (λ x. Some (inr (inr (inr (inl x))))) (value_kind-is g) (bool_value-of-value_kind-stays g)
+    (bool_value-of-value_kind-there g) (λ t h. h)))
+    (variant_stays 5 (always any_bytes) struct_value-of-value_kind-as
+    (λ x. Some (inr (inr (inr (inr (inl x)))))) (value_kind-is g) (struct_value-of-value_kind-stays g)
+    (struct_value-of-value_kind-there g) (λ t h. h)))
+    (variant_stays 6 (always any_bytes) list_value-of-value_kind-as
+    (λ x. Some (inr (inr (inr (inr (inr x)))))) (value_kind-is g) (list_value-of-value_kind-stays g)
+    (list_value-of-value_kind-there g) (λ t h. h)))
+    (value_kind-in-range g)

@@ -1,0 +1,6 @@
+use Rattle.wire_well_known.specs.StringValue.{string_value-stays}
+use Rattle.wire_fields.specs.Stays.{decodes_in_range}
+use Rattle.wire_well_known.proofs.laws.string_value_decodes_in_range.Goals as goal
+
+pub returns : goal.returns
+returns c = decodes_in_range c.grounds.ensures (string_value-stays c.grounds.ensures)
