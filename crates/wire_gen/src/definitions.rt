@@ -151,9 +151,6 @@ pub(crate) fn definitions_of(
     }
     put_tree(&mut page, &tree.words);
     page.indent("tree_view");
-    if page.get("tree_table").contains("both_leaving") {
-        page.append("uses", "Rattle.wire_fields.specs.Leaving both_leaving\n");
-    }
     if is_read_back {
         put_range(&mut page, fields, tree);
     }
@@ -239,4 +236,7 @@ fn put_tree(page: &mut Words, tree: &Words) {
         ("tree_view", "$view$"),
         ("tree_table", "$table$"),
     ]);
+    if page.get("tree_table").contains("both_leaving") {
+        page.append("uses", "Rattle.wire_fields.specs.Leaving both_leaving\n");
+    }
 }

@@ -2,7 +2,8 @@
 use crate::comments::put_comment;
 use crate::imports::code_imports;
 use wire_schema::{
-    Extension, GenerateError, Schema, Words, features_of, set_field, started, type_name, word_name,
+    Extension, GenerateError, Schema, Words, features_of, set_field, started, variant_name,
+    word_name,
 };
 
 const HEAD: &str = "\
@@ -64,7 +65,7 @@ fn put_extension(
 
 // What the function of an extension is called, which no other is.
 fn name_function(page: &mut Words, words: &Words) -> Result<(), GenerateError> {
-    let function = type_name(words.alloc(), words.get("function"))?;
+    let function = variant_name(words.alloc(), words.get("function"))?;
     let function = word_name(words.alloc(), &function)?;
     page.set("function", &function);
     page.fill("called", "pub fn $function$()");

@@ -30,6 +30,7 @@ mod roots;
 mod rows;
 mod runs;
 mod tree;
+mod written;
 
 use std::io::{Read, Write};
 use std::process::ExitCode;

@@ -15,6 +15,7 @@ use crate::recursive::recursive_code;
 use crate::recursive_definitions::{recursive_definitions, row_answers, table_page};
 use crate::rows::{is_row, leaf_tree};
 use crate::tree::{Tree, tree_of};
+use crate::written::{FieldAnswers, written_answers};
 use std::alloc::Global;
 use wire_codec::{DecodeOptions, Message};
 use wire_descriptor::{CodeGeneratorRequest, CodeGeneratorResponse, CodeGeneratorResponseFile};
@@ -150,12 +151,46 @@ impl Package {
         self.add_type(&mut page, code, definitions)?;
         self.add_law(&mut page)?;
         self.add_oneofs(&fields, message)?;
+        self.add_written(&mut page, &fields, &tree)?;
         if fields.is_empty() {
             return Ok(());
         }
         let answers = answers_of(&page, &fields, &tree, false)?;
         let path = "proofs/$module$/$name$Message/merge_field/Answers.antt";
         self.add(&mut page, path, answers)
+    }
+
+    // The answers of what measures and writes the fields of a message, and those of its parts.
+    fn add_written(
+        &mut self,
+        page: &mut Words,
+        fields: &[Field],
+        tree: &Tree,
+    ) -> Result<(), GenerateError> {
+        let answers = written_answers(page, fields, tree, None)?;
+        self.add_measured(page, answers)?;
+        for part in &tree.parts {
+            let answers = written_answers(page, fields, tree, Some(part))?;
+            self.add_measured(page, answers)?;
+        }
+        Ok(())
+    }
+
+    fn add_measured(
+        &mut self,
+        page: &mut Words,
+        answers: Option<FieldAnswers>,
+    ) -> Result<(), GenerateError> {
+        let Some(FieldAnswers { measured, written }) = answers else {
+            return Ok(());
+        };
+        let path = "proofs/$module$/$type$/$measuring$/Answers.antt";
+        self.add(page, path, measured)?;
+        self.add(
+            page,
+            "proofs/$module$/$type$/$writing$/Answers.antt",
+            written,
+        )
     }
 
     // A message type that holds itself, or is of a family: some of these fields are rows.

@@ -3,10 +3,12 @@
 use wire_schema::{Field, GenerateError, Template, Words};
 
 // The fields of a part by itself, where there are more: a tuple of many kinds is not proved. Maps
-// count for more.
+// count for more, and those of closed enums for more still.
 const PART: usize = 8;
 
 const PART_OF_MAPS: usize = 4;
+
+const PART_OF_CLOSED_MAPS: usize = 2;
 
 /// The fields of a message as a tree. Its words are those of the root but for its numbers.
 #[derive(Drop)]
@@ -253,6 +255,16 @@ fn reach(left: &Node, right: &Node, fields: &mut [Field]) {
     }
 }
 
+// The most fields of a part with these maps.
+fn most_of(maps: &str) -> usize {
+    let is_closed = maps.contains('c');
+    match maps.len() {
+        0 | 1 => PART,
+        _ if is_closed => PART_OF_CLOSED_MAPS,
+        _ => PART_OF_MAPS,
+    }
+}
+
 impl Tree {
     // A pair of these, which is a part by itself where it has the fields of one and is not all.
     fn pair(&mut self, left: Node, mut right: Node, count: usize) -> Result<Node, GenerateError> {
@@ -280,8 +292,7 @@ impl Tree {
             behind,
             words: Words::like(&words),
         })?;
-        let maps = words.get("maps").len();
-        let most = if maps > 1 { PART_OF_MAPS } else { PART };
+        let most = most_of(words.get("maps"));
         let mut node = Node {
             first,
             behind,

@@ -140,6 +140,7 @@ pub(crate) fn set_closed(words: &mut Words) {
 }
 
 fn set_closed_map(words: &mut Words) {
+    words.set("maps", "c");
     words.fill_all(&IN_MAP);
     words.append_all(&OF_MAP);
     set_leaving(words);

@@ -27,6 +27,12 @@ const EXPANDED: i32 = 2;
 
 const VERIFY: i32 = 2;
 
+const NONE: i32 = 3;
+
+// (of proto2, where strings may be any bytes: they are taken as texts, or as bytes where that is
+// asked for)
+const UNTOLD: i32 = 1;
+
 const LENGTH_PREFIXED: i32 = 1;
 
 const DELIMITED: i32 = 2;
@@ -40,6 +46,7 @@ pub struct Features {
     enum_type: i32,
     repeated: i32,
     encoding: i32,
+    strings: i32,
 }
 
 impl Features {
@@ -49,7 +56,10 @@ impl Features {
         words: &mut Words,
     ) -> Result<Features, GenerateError> {
         let of_syntax = match file.syntax_.as_str() {
-            "" | "proto2" => Features::of(EXPLICIT, CLOSED, EXPANDED),
+            "" | "proto2" => Features {
+                strings: UNTOLD,
+                ..Features::of(EXPLICIT, CLOSED, EXPANDED)
+            },
             "proto3" => Features::of(IMPLICIT, OPEN, PACKED),
             "editions" if file.edition == EDITION_2023 => Features::of(EXPLICIT, OPEN, PACKED),
             _ => return Err(words.refused("$file$: no syntax or edition that is known")),
@@ -66,6 +76,7 @@ impl Features {
             enum_type,
             repeated,
             encoding: LENGTH_PREFIXED,
+            strings: VERIFY,
         }
     }
 
@@ -78,8 +89,8 @@ impl Features {
         let Some(set) = set else {
             return Ok(self);
         };
-        if !matches!(set.utf8_validation, 0 | VERIFY) {
-            return Err(words.refused("$full$: strings that are no UTF-8 are not generated"));
+        if !matches!(set.utf8_validation, 0 | VERIFY | NONE) {
+            return Err(words.refused("$full$: the feature utf8_validation is not known"));
         }
         if !matches!(set.json_format, 0 | ALLOW) {
             return Err(words.refused("$full$: the feature json_format is not known"));
@@ -89,6 +100,7 @@ impl Features {
             enum_type: or_else(set.enum_type, self.enum_type),
             repeated: or_else(set.repeated_field_encoding, self.repeated),
             encoding: or_else(set.message_encoding, self.encoding),
+            strings: or_else(set.utf8_validation, self.strings),
         })
     }
 
@@ -127,6 +139,16 @@ impl Features {
 
     pub(crate) fn is_delimited(self) -> bool {
         self.encoding == DELIMITED
+    }
+
+    /// Whether strings may be any bytes.
+    pub(crate) fn is_unchecked(self) -> bool {
+        self.strings != VERIFY
+    }
+
+    /// Whether it is told that they may.
+    pub(crate) fn is_told_unchecked(self) -> bool {
+        self.strings == NONE
     }
 }
 

@@ -5,7 +5,7 @@ use crate::features::Features;
 use crate::item::{Sort, set_item};
 use crate::keeping::{leave_others, set_keeping, set_types};
 use crate::kind::{set_always, set_key, set_kind, set_map};
-use crate::names::{type_name, word_name};
+use crate::names::{variant_name, word_name};
 use crate::oneof::{Oneof, add_variant, is_new, oneof_of};
 use crate::schema::{MessageType, Schema};
 use crate::words::{Template, Words};
@@ -178,7 +178,9 @@ pub fn set_field(
     };
     match entry {
         Some(entry) => {
+            words.set("entry_part", "key");
             set_part(schema, features, &entry.descriptor, 1, words)?;
+            words.set("entry_part", "value");
             set_key(words);
             let sort = set_part(schema, features, &entry.descriptor, 2, words)?;
             set_map(sort, words);
@@ -224,7 +226,7 @@ fn variant_of(
     stop_on_closed(&mut words)?;
     set_always(sort, &mut words);
     set_types(false, &mut words);
-    words.set("variant", &type_name(words.alloc(), &field.name)?);
+    words.set("variant", &variant_name(words.alloc(), &field.name)?);
     // (a clause has one name for one thing)
     if words.get("kind").starts_with("Enum<") && words.get("variant") == words.get("of_name") {
         words.append("variant", "_");

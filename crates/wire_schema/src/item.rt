@@ -223,7 +223,7 @@ pub(crate) fn set_item(
     words: &mut Words,
 ) -> Result<Sort, GenerateError> {
     let sort = match field.type_ {
-        9 => set_text(&STRING, words),
+        9 => set_string(features, words)?,
         12 => set_text(&BYTES, words),
         10 => set_message(schema, true, field, words)?,
         11 => set_message(schema, features.is_delimited(), field, words)?,
@@ -237,6 +237,16 @@ pub(crate) fn set_item(
 fn foreign(field: &FieldDescriptorProto, words: &mut Words) -> GenerateError {
     words.set("of", &field.type_name);
     words.refused("$full$.$proto$: $of$ is of a file of no crate that is named")
+}
+
+// A string, or bytes where it may be any and that is asked for. A key of a map is a string always.
+fn set_string(features: Features, words: &mut Words) -> Result<Sort, GenerateError> {
+    let is_asked_for = words.get("strings") == "bytes";
+    if features.is_told_unchecked() && !is_asked_for {
+        return Err(words.refused("$full$.$proto$: strings that are no UTF-8 want strings=bytes"));
+    }
+    let is_bytes = is_asked_for && features.is_unchecked() && words.get("entry_part") != "key";
+    Ok(set_text(if is_bytes { &BYTES } else { &STRING }, words))
 }
 
 fn set_text(text: &'static [Template], words: &mut Words) -> Sort {

@@ -5,6 +5,7 @@
 
 mod closed;
 mod closing;
+mod comment;
 mod error;
 mod features;
 mod field;
@@ -23,7 +24,7 @@ mod words;
 pub use error::GenerateError;
 pub use features::{FIRST_EDITION, Features, LAST_EDITION};
 pub use field::{Field, features_of, fields_of, set_field, started};
-pub use names::{constant_name, order_key, type_name, value_name, word_name};
+pub use names::{constant_name, order_key, value_name, variant_name, word_name};
 pub use oneof::{Oneof, put_apart};
 pub use parameters::set_crate;
 pub use schema::{EnumType, Extension, MessageType, Origin, Schema};

@@ -22,8 +22,18 @@ const TYPES: &str = "AllocError Always AlwaysEmbedded BTreeMap Blob Bool Box Buf
     Size SizeCache Some Step String Tag Text Twin Type Uint32 Uint64 UnknownFields Unpacked \
     Variants Vec";
 
-/// A name of capitals, `OuterInner` of `Outer.Inner` and of `outer_inner`.
-pub fn type_name(alloc: Global, name: &str) -> Result<String, GenerateError> {
+// Type parameters of what is written. A message, an enum or a oneof of such a name has an
+// underscore behind it.
+const PARAMETERS: &str = "B S";
+
+/// The name of a type, `OuterInner` of `Outer.Inner`.
+pub(crate) fn type_name(alloc: Global, name: &str) -> Result<String, GenerateError> {
+    escaped(variant_name(alloc, name)?, PARAMETERS)
+}
+
+/// A name of capitals, `OuterInner` of `Outer.Inner` and of `outer_inner`, as that of a field of a
+/// oneof.
+pub fn variant_name(alloc: Global, name: &str) -> Result<String, GenerateError> {
     let mut text = String::new(alloc);
     let mut begins = true;
     for letter in name.chars() {

@@ -10,10 +10,10 @@ use wire_descriptor::CodeGeneratorRequest;
 /// `import=PACKAGE=CRATE` names the crate that has another package, or file; `element=BYTES` is
 /// what an element of a list or a map is charged; `unknown=` whether fields that a schema lacks are
 /// kept; `mismatch=` whether records of other wire types are refused, or kept with these;
-/// `enums=open` takes closed enums as open ones, and `required=optional` required fields as
-/// optional ones; `services=skip` passes over services, `defaults=skip` over default values, and
-/// `laws=skip` writes no laws; and each `encoded=FIELD` names a field of messages that is held as
-/// the bytes of their encodings.
+/// `enums=open` takes closed enums as open ones, `strings=bytes` strings that need not be UTF-8 as
+/// bytes, and `required=optional` required fields as optional ones; `services=skip` passes over
+/// services, `defaults=skip` over default values, and `laws=skip` writes no laws; and each
+/// `encoded=FIELD` names a field of messages that is held as the bytes of their encodings.
 pub fn set_crate(base: &mut Words, request: &CodeGeneratorRequest) -> Result<(), GenerateError> {
     base.set("crate", first_name(request));
     base.fill_all(&DEFAULTS);
@@ -43,8 +43,8 @@ const DEFAULTS: [Template; 4] = [
 
 const PARAMETERS: &str = "\
     parameters are crate=NAME, import=PACKAGE=CRATE, element=BYTES, unknown=keep or drop, \
-    mismatch=refuse or keep, enums=open, required=optional, services=skip, defaults=skip, \
-    laws=skip, and encoded=FIELD: $option$";
+    mismatch=refuse or keep, enums=open, strings=bytes, required=optional, services=skip, \
+    defaults=skip, laws=skip, and encoded=FIELD: $option$";
 
 fn set_parameter(base: &mut Words, name: &str, choice: &str) -> Result<(), GenerateError> {
     match (name, choice) {
@@ -53,6 +53,7 @@ fn set_parameter(base: &mut Words, name: &str, choice: &str) -> Result<(), Gener
         ("unknown", "keep" | "drop") => base.set("unknown", choice),
         ("mismatch", "keep" | "refuse") => base.set("mismatch", choice),
         ("enums", "open") => base.set("enums", choice),
+        ("strings", "bytes") => base.set("strings", choice),
         ("required", "optional") => base.set("required", choice),
         ("services", "skip") => base.set("services", choice),
         ("defaults", "skip") => base.set("defaults", choice),

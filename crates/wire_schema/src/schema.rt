@@ -1,4 +1,5 @@
 //! The message types and enums of the files that are to be generated.
+use crate::comment::documentation;
 use crate::error::GenerateError;
 use crate::features::Features;
 use crate::origin::{home_of, inner, own_origin, stop_on_services};
@@ -283,7 +284,7 @@ impl Schema {
             words.ended()?;
             self.comments.push(Comment {
                 place: words.take("place"),
-                text: location.leading_comments.clone()?,
+                text: documentation(self.alloc, &location.leading_comments)?,
             })?;
         }
         Ok(())
