@@ -29,6 +29,7 @@ struct Row<'a> {
 }
 
 /// Why a row has no answer.
+#[derive(Drop)]
 enum RowError {
     NoCall,
     NoDigits,
@@ -100,7 +101,7 @@ fn strict(alloc: Global, row: Row<'_>) -> Result<String, RowError> {
 fn repeat(alloc: Global, row: Row<'_>) -> Result<String, RowError> {
     let times = row.other.parse().or(Err(RowError::NoDigits))?;
     let extra = false;
-    put_message::<Embedded<Repeat>>(alloc, row, 111, Repeat { times, extra })
+    put_message::<Embedded<Repeat>, Repeat>(alloc, row, 111, Repeat { times, extra })
 }
 
 // A group that has so many groups in one another.
@@ -115,7 +116,7 @@ fn deep(alloc: Global, row: Row<'_>) -> Result<String, RowError> {
     let mut context = DecodeContext::new(levels, 1_000_000);
     let unknown = UnknownFields::decode_from_slice_within(alloc, &bytes, &mut context);
     let unknown = unknown.map_err(RowError::Refused)?;
-    put_message::<Group<Counter>>(alloc, row, 106, Counter { count: 0, unknown })
+    put_message::<Group<Counter>, Counter>(alloc, row, 106, Counter { count: 0, unknown })
 }
 
 fn put_message<K: Kind<Held = Option<Box<M>>>, M: Message>(
