@@ -9,8 +9,10 @@ ghost use Rattle.wire_report.specs.ReportSample.{report_sample-shape};
 ghost use Rattle.wire_report.specs.ReportSample.{count-of-report_sample};
 
 mod reports;
+#[cfg(test)]
+mod tests;
 
-pub use self::reports::stored;
+pub use self::reports::{StoreError, stored};
 use std::alloc::Global;
 use std::io;
 use std::io::Read;
