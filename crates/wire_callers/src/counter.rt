@@ -1,4 +1,9 @@
 //! A message type from nothing: one `uint64` field, and all other fields passed over.
+ghost use Rattle.std.specs.Prelude.{◌≡◌};
+ghost use Rattle.wire_codec.specs.Records.{text_size};
+ghost use Rattle.wire_codec.specs.Sizes.{cut};
+ghost use Rattle.wire_callers.specs.Counter.{counter_records};
+
 use bytes::Buf;
 use std::alloc::Global;
 use wire_codec::{
@@ -36,10 +41,7 @@ impl Message for Counter {
 
     fn compute_size(&self, _cache: &mut SizeCache) -> Result<u32, EncodeError> {
         laws::flat_messages_have_no_sizes();
-        if self.value == 0 {
-            return Ok(0);
-        }
-        Ok(saturate_size(1u64.saturating_add(varint_len(self.value) as u64)))
+        Ok(self.record_size())
     }
 
     fn write_to<S: EncodeSink>(
@@ -75,5 +77,22 @@ impl Message for Counter {
 
     fn clear(&mut self) {
         self.value = 0;
+    }
+
+    // Without a cache: there is no message within whose size is kept.
+    fn encoded_len(&self, _alloc: Global) -> Result<u32, EncodeError> {
+        Ok(self.record_size())
+    }
+}
+
+impl Counter {
+    // The size of its record in bytes, cut at `u32::MAX`.
+    fn record_size(&self) -> u32
+        ensures { result ≡ cut (text_size (counter_records self.now)) }
+    {
+        if self.value == 0 {
+            return 0;
+        }
+        saturate_size(1u64.saturating_add(varint_len(self.value) as u64))
     }
 }

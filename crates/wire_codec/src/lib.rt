@@ -9,6 +9,7 @@
 mod decode_options;
 pub mod laws;
 mod message;
+mod message_fields;
 mod message_name;
 mod size;
 mod size_cache;
@@ -16,6 +17,7 @@ mod size_cache_pool;
 
 pub use decode_options::{DEFAULT_ELEMENT_MEMORY_LIMIT, DecodeOptions};
 pub use message::Message;
+pub use message_fields::MessageFields;
 pub use message_name::MessageName;
 pub use size::{MAX_MESSAGE_BYTES, checked_encode_size, saturate_size};
 pub use size_cache::SizeCache;

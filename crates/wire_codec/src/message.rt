@@ -34,6 +34,9 @@ use wire_base::{
 ///
 /// A value is measured in one pass, which records the sizes of the embedded messages, and written
 /// in a second one, which reads them.
+///
+/// A type writes the five calls without a body here, as its `MessageFields`, and has the others by
+/// that. It implements this trait itself where one of the others is to have a body of its own.
 pub trait Message: Clone + PartialEq + Drop {
     /// What contracts see of a value.
     ghost Value: { Type 0 };
@@ -104,7 +107,7 @@ pub trait Message: Clone + PartialEq + Drop {
     /// Writes the encoding with a cache of its own. The size is at most 2,147,483,647 bytes, as the
     /// condition asks. Refused where memory runs out or the sink refuses a put. See "Encoded Proto
     /// Size Limitations" of the encoding document.
-    final fn encode<S: EncodeSink>(&self, alloc: Global, sink: &mut S) -> Result<(), EncodeError>
+    fn encode<S: EncodeSink>(&self, alloc: Global, sink: &mut S) -> Result<(), EncodeError>
         requires { text_size (records (view self.now)) ≤ 2147483647 }
         ensures { Writes S.most (text (records (view self.now)))
             (S.bytes_of sink.old) (S.bytes_of sink.new) result }
@@ -113,7 +116,7 @@ pub trait Message: Clone + PartialEq + Drop {
     }
 
     /// Writes the encoding as `encode` does, with this cache, whose sizes are cleared first.
-    final fn encode_with_cache<S: EncodeSink>(
+    fn encode_with_cache<S: EncodeSink>(
         &self,
         cache: &mut SizeCache,
         sink: &mut S,
@@ -130,7 +133,7 @@ pub trait Message: Clone + PartialEq + Drop {
 
     /// The size of the encoding in bytes, at most 2,147,483,647, as the condition asks. Refused
     /// where memory runs out.
-    final fn encoded_len(&self, alloc: Global) -> Result<u32, EncodeError>
+    fn encoded_len(&self, alloc: Global) -> Result<u32, EncodeError>
         requires { text_size (records (view self.now)) ≤ 2147483647 }
         ensures ok { IfOk result (λ len. len ≡ text_size (records (view self.now))) }
         ensures err { IfErr result (λ e. e ≡ OutOfMemory) }
@@ -140,11 +143,7 @@ pub trait Message: Clone + PartialEq + Drop {
 
     /// Writes the encoding as `encode` does, or answers `MessageTooLarge`, before anything is
     /// written, where it has more than 2,147,483,647 bytes and memory lasts to measure it.
-    final fn try_encode<S: EncodeSink>(
-        &self,
-        alloc: Global,
-        sink: &mut S,
-    ) -> Result<(), EncodeError>
+    fn try_encode<S: EncodeSink>(&self, alloc: Global, sink: &mut S) -> Result<(), EncodeError>
         ensures { TriesToWrite (text_size (records (view self.now))) S.most
             (text (records (view self.now))) (S.bytes_of sink.old)
             (S.bytes_of sink.new) result }
@@ -153,7 +152,7 @@ pub trait Message: Clone + PartialEq + Drop {
     }
 
     /// Writes the encoding as `try_encode` does, with this cache, whose sizes are cleared first.
-    final fn try_encode_with_cache<S: EncodeSink>(
+    fn try_encode_with_cache<S: EncodeSink>(
         &self,
         cache: &mut SizeCache,
         sink: &mut S,
@@ -170,7 +169,7 @@ pub trait Message: Clone + PartialEq + Drop {
 
     /// The size of the encoding in bytes. Refused where memory runs out, and else with
     /// `MessageTooLarge` where it is above 2,147,483,647.
-    final fn try_encoded_len(&self, alloc: Global) -> Result<u32, EncodeError>
+    fn try_encoded_len(&self, alloc: Global) -> Result<u32, EncodeError>
         ensures { TriesToAnswer result (text_size (records (view self.now)))
             (λ len. len ≡ text_size (records (view self.now))) }
     {
@@ -180,7 +179,7 @@ pub trait Message: Clone + PartialEq + Drop {
     /// Writes the size of the encoding as a varint, and the encoding, of at most 2,147,483,647
     /// bytes, as the condition asks. Refused as `encode`. See "Length-Delimited Records" of the
     /// encoding document.
-    final fn encode_length_delimited<S: EncodeSink>(
+    fn encode_length_delimited<S: EncodeSink>(
         &self,
         alloc: Global,
         sink: &mut S,
@@ -197,7 +196,7 @@ pub trait Message: Clone + PartialEq + Drop {
     }
 
     /// Writes the size of the encoding as a varint, and the encoding. Refused as `try_encode`.
-    final fn try_encode_length_delimited<S: EncodeSink>(
+    fn try_encode_length_delimited<S: EncodeSink>(
         &self,
         alloc: Global,
         sink: &mut S,
@@ -216,7 +215,7 @@ pub trait Message: Clone + PartialEq + Drop {
 
     /// The encoding in a vector of just its length, at most 2,147,483,647 bytes, as the condition
     /// asks. Refused where memory runs out.
-    final fn encode_to_vec(&self, alloc: Global) -> Result<Vec<u8>, EncodeError>
+    fn encode_to_vec(&self, alloc: Global) -> Result<Vec<u8>, EncodeError>
         requires { text_size (records (view self.now)) ≤ 2147483647 }
         ensures ok { IfOk result (λ bytes. bytes.items ≡ text (records (view self.now))) }
         ensures err { IfErr result (λ e. e ≡ OutOfMemory) }
@@ -231,7 +230,7 @@ pub trait Message: Clone + PartialEq + Drop {
     /// The encoding in a vector of just its length. Refused where memory runs out, which comes
     /// first while it is measured, and with `MessageTooLarge` where it has more than 2,147,483,647
     /// bytes.
-    final fn try_encode_to_vec(&self, alloc: Global) -> Result<Vec<u8>, EncodeError>
+    fn try_encode_to_vec(&self, alloc: Global) -> Result<Vec<u8>, EncodeError>
         ensures { TriesToAnswer result (text_size (records (view self.now)))
             (λ bytes. bytes.items ≡ text (records (view self.now))) }
     {
@@ -244,7 +243,7 @@ pub trait Message: Clone + PartialEq + Drop {
 
     /// The encoding as shared bytes, at most 2,147,483,647, as the condition asks. Refused as
     /// `encode_to_vec`.
-    final fn encode_to_bytes(&self, alloc: Global) -> Result<Bytes, EncodeError>
+    fn encode_to_bytes(&self, alloc: Global) -> Result<Bytes, EncodeError>
         requires { text_size (records (view self.now)) ≤ 2147483647 }
         ensures ok { IfOk result (λ bytes. bytes ≡ text (records (view self.now))) }
         ensures err { IfErr result (λ e. e ≡ OutOfMemory) }
@@ -253,7 +252,7 @@ pub trait Message: Clone + PartialEq + Drop {
     }
 
     /// The encoding as shared bytes. Refused as `try_encode_to_vec`.
-    final fn try_encode_to_bytes(&self, alloc: Global) -> Result<Bytes, EncodeError>
+    fn try_encode_to_bytes(&self, alloc: Global) -> Result<Bytes, EncodeError>
         ensures { TriesToAnswer result (text_size (records (view self.now)))
             (λ bytes. bytes ≡ text (records (view self.now))) }
     {
@@ -264,7 +263,7 @@ pub trait Message: Clone + PartialEq + Drop {
     /// More than 2,147,483,647 are `MessageTooLarge`, and else more than `max_bytes` are
     /// `ExceedsBudget`, before anything is written. Refused else as `encode`; memory that runs out
     /// while it is measured comes first.
-    final fn try_encode_bounded<S: EncodeSink>(
+    fn try_encode_bounded<S: EncodeSink>(
         &self,
         alloc: Global,
         max_bytes: u32,
@@ -278,7 +277,7 @@ pub trait Message: Clone + PartialEq + Drop {
 
     /// Writes the encoding as `try_encode_bounded` does, with this cache, whose sizes are cleared
     /// first.
-    final fn try_encode_bounded_with_cache<S: EncodeSink>(
+    fn try_encode_bounded_with_cache<S: EncodeSink>(
         &self,
         max_bytes: u32,
         cache: &mut SizeCache,
@@ -299,7 +298,7 @@ pub trait Message: Clone + PartialEq + Drop {
 
     /// Takes the records of the whole buffer into the value, within the limits of the context.
     /// Refused as `merge_to_limit`.
-    final fn merge<B: Buf>(
+    fn merge<B: Buf>(
         &mut self,
         alloc: Global,
         buf: &mut B,
@@ -319,7 +318,7 @@ pub trait Message: Clone + PartialEq + Drop {
     /// Takes whole records into the value while more than `limit` bytes remain. The last of them
     /// may run past that place. Refused as `Tag::decode` and `merge_field`, at the first record
     /// that is not taken.
-    final fn merge_to_limit<B: Buf>(
+    fn merge_to_limit<B: Buf>(
         &mut self,
         alloc: Global,
         buf: &mut B,
@@ -346,7 +345,7 @@ pub trait Message: Clone + PartialEq + Drop {
     /// the context's own level. Refused as `decode_length`, as `merge_to_limit` at a record that
     /// begins in the payload, or with `UnexpectedEof` where one that was taken ends past it. See
     /// "Length-Delimited Records" of the encoding document.
-    final fn merge_delimited<B: Buf>(
+    fn merge_delimited<B: Buf>(
         &mut self,
         alloc: Global,
         buf: &mut B,
@@ -377,7 +376,7 @@ pub trait Message: Clone + PartialEq + Drop {
     /// Takes the records of an embedded message, a length and a payload of at most 2,147,483,647
     /// bytes, into the value, one level down. Refused with `RecursionLimitExceeded` where no level
     /// is left, and else as `merge_delimited`. See "Submessages" of the encoding document.
-    final fn merge_length_delimited<B: Buf>(
+    fn merge_length_delimited<B: Buf>(
         &mut self,
         alloc: Global,
         buf: &mut B,
@@ -406,7 +405,7 @@ pub trait Message: Clone + PartialEq + Drop {
     /// Takes the records of a group of this number into the value, up to its end tag, one level
     /// down. Refused with `RecursionLimitExceeded` where no level is left, and else as
     /// `Tag::decode_in_group` and `merge_field`. See "Groups" of the encoding document.
-    final fn merge_group<B: Buf>(
+    fn merge_group<B: Buf>(
         &mut self,
         alloc: Global,
         buf: &mut B,
@@ -435,10 +434,7 @@ pub trait Message: Clone + PartialEq + Drop {
 
     /// The value of a length-delimited payload of at most 2,147,483,647 bytes, within the limits of
     /// `decode`. Refused as `merge_delimited`.
-    final fn decode_length_delimited<B: Buf>(
-        alloc: Global,
-        buf: &mut B,
-    ) -> Result<Self, DecodeError>
+    fn decode_length_delimited<B: Buf>(alloc: Global, buf: &mut B) -> Result<Self, DecodeError>
         ensures ok { IfOk result (λ message. (c : Charge) × TakesDelimited takes
             default_limits 2147483647 default (B.unread buf.old) c (view message)
             (B.unread buf.new)) }
@@ -457,7 +453,7 @@ pub trait Message: Clone + PartialEq + Drop {
 
     /// The value of the records of the whole buffer, which may have any length, within 100 levels,
     /// 1,000,000 unknown fields and 33,554,432 bytes for elements. Refused as `merge`.
-    final fn decode<B: Buf>(alloc: Global, buf: &mut B) -> Result<Self, DecodeError>
+    fn decode<B: Buf>(alloc: Global, buf: &mut B) -> Result<Self, DecodeError>
         ensures ok { IfOk result (λ message. Decodes takes default_limits default
             (B.unread buf.old) (view message)) }
         ensures rest { OnOk result (B.unread buf.new ≡ []) }
@@ -471,7 +467,7 @@ pub trait Message: Clone + PartialEq + Drop {
     }
 
     /// The value of the records of all the bytes. Limits and refusals are those of `decode`.
-    final fn decode_from_slice(alloc: Global, bytes: &[u8]) -> Result<Self, DecodeError>
+    fn decode_from_slice(alloc: Global, bytes: &[u8]) -> Result<Self, DecodeError>
         ensures ok { IfOk result (λ message. Decodes takes default_limits default bytes.now
             (view message)) }
         ensures err { IfErr result (λ e. e ≢ errors.OutOfMemory → NotDecoded takes
@@ -483,7 +479,7 @@ pub trait Message: Clone + PartialEq + Drop {
 
     /// Takes the records of all the bytes into the value, within the limits of `decode`. Refused as
     /// `merge`.
-    final fn merge_from_slice(&mut self, alloc: Global, bytes: &[u8]) -> Result<(), DecodeError>
+    fn merge_from_slice(&mut self, alloc: Global, bytes: &[u8]) -> Result<(), DecodeError>
         ensures ok { OnOk result (Decodes takes default_limits
             (view self.old) bytes.now (view self.new)) }
         ensures err { IfErr result (λ e. e ≢ errors.OutOfMemory → NotDecoded takes

@@ -3,8 +3,8 @@ use crate::file_descriptor_proto::FileDescriptorProto;
 use bytes::Buf;
 use std::alloc::{AllocError, Global};
 use wire_codec::{
-    DecodeContext, DecodeError, EncodeError, EncodeSink, Message, MessageName, SizeCache, Tag,
-    UnknownFields,
+    DecodeContext, DecodeError, EncodeError, EncodeSink, MessageFields, MessageName, SizeCache,
+    Tag, UnknownFields,
 };
 use wire_fields::{
     EachEmbedded, Implicit, Kind, Known, Repeated, Rest, Text, Twin, copied_list, keep, measure,
@@ -58,7 +58,7 @@ impl Twin for CodeGeneratorRequest {
     ghost same = { λ m copy e. e };
 }
 
-impl Message for CodeGeneratorRequest {
+impl MessageFields for CodeGeneratorRequest {
     ghost use Rattle.wire_descriptor.specs.CodeGeneratorRequest.{CodeGeneratorRequest-Value};
     ghost use Rattle.wire_descriptor.specs.CodeGeneratorRequest.{code_generator_request-value};
     ghost use Rattle.wire_descriptor.specs.CodeGeneratorRequest.{code_generator_request-shape};

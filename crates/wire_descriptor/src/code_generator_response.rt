@@ -3,8 +3,8 @@ use crate::code_generator_response_file::CodeGeneratorResponseFile;
 use bytes::Buf;
 use std::alloc::{AllocError, Global};
 use wire_codec::{
-    DecodeContext, DecodeError, EncodeError, EncodeSink, Message, MessageName, SizeCache, Tag,
-    UnknownFields,
+    DecodeContext, DecodeError, EncodeError, EncodeSink, MessageFields, MessageName, SizeCache,
+    Tag, UnknownFields,
 };
 use wire_fields::{
     EachEmbedded, Implicit, Int32, Kind, Known, Rest, Text, Twin, Uint64, copied_list, keep,
@@ -62,7 +62,7 @@ impl Twin for CodeGeneratorResponse {
     ghost same = { λ m copy e. e };
 }
 
-impl Message for CodeGeneratorResponse {
+impl MessageFields for CodeGeneratorResponse {
     ghost use Rattle.wire_descriptor.specs.CodeGeneratorResponse.{CodeGeneratorResponse-Value};
     ghost use Rattle.wire_descriptor.specs.CodeGeneratorResponse.{code_generator_response-value};
     ghost use Rattle.wire_descriptor.specs.CodeGeneratorResponse.{code_generator_response-shape};

@@ -2,8 +2,8 @@
 use bytes::Buf;
 use std::alloc::{AllocError, Global};
 use wire_codec::{
-    DecodeContext, DecodeError, EncodeError, EncodeSink, Message, MessageName, SizeCache, Tag,
-    UnknownFields,
+    DecodeContext, DecodeError, EncodeError, EncodeSink, MessageFields, MessageName, SizeCache,
+    Tag, UnknownFields,
 };
 use wire_fields::{Implicit, Kind, Known, Rest, Text, Twin, keep, measure, write};
 
@@ -52,7 +52,7 @@ impl Twin for CodeGeneratorResponseFile {
     ghost same = { λ m copy e. e };
 }
 
-impl Message for CodeGeneratorResponseFile {
+impl MessageFields for CodeGeneratorResponseFile {
     ghost use Rattle.wire_descriptor.specs.CodeGeneratorResponseFile.{CodeGeneratorResponseFile-Value};
     ghost use Rattle.wire_descriptor.specs.CodeGeneratorResponseFile.{code_generator_response_file-value};
     ghost use Rattle.wire_descriptor.specs.CodeGeneratorResponseFile.{code_generator_response_file-shape};

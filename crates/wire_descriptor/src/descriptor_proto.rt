@@ -6,8 +6,8 @@ use crate::oneof_descriptor_proto::OneofDescriptorProto;
 use bytes::Buf;
 use std::alloc::{AllocError, Global};
 use wire_codec::{
-    DecodeContext, DecodeError, EncodeError, EncodeSink, Message, MessageName, SizeCache, Tag,
-    UnknownFields,
+    DecodeContext, DecodeError, EncodeError, EncodeSink, MessageFields, MessageName, SizeCache,
+    Tag, UnknownFields,
 };
 use wire_fields::{
     Blob, EachEmbedded, Embedded, Implicit, Kind, Known, Repeated, Rest, Text, Twin, copied_box,
@@ -72,7 +72,7 @@ impl Twin for DescriptorProto {
     ghost same = { λ m copy e. e };
 }
 
-impl Message for DescriptorProto {
+impl MessageFields for DescriptorProto {
     ghost use Rattle.wire_descriptor.specs.DescriptorProto.{DescriptorProto-Value};
     ghost use Rattle.wire_descriptor.specs.DescriptorProto.{descriptor_proto-value};
     ghost use Rattle.wire_descriptor.specs.DescriptorProto.{descriptor_proto-shape};

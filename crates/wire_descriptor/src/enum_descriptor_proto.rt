@@ -4,8 +4,8 @@ use crate::enum_value_descriptor_proto::EnumValueDescriptorProto;
 use bytes::Buf;
 use std::alloc::{AllocError, Global};
 use wire_codec::{
-    DecodeContext, DecodeError, EncodeError, EncodeSink, Message, MessageName, SizeCache, Tag,
-    UnknownFields,
+    DecodeContext, DecodeError, EncodeError, EncodeSink, MessageFields, MessageName, SizeCache,
+    Tag, UnknownFields,
 };
 use wire_fields::{
     EachEmbedded, Embedded, Implicit, Kind, Known, Rest, Text, Twin, copied_box, copied_list, keep,
@@ -59,7 +59,7 @@ impl Twin for EnumDescriptorProto {
     ghost same = { λ m copy e. e };
 }
 
-impl Message for EnumDescriptorProto {
+impl MessageFields for EnumDescriptorProto {
     ghost use Rattle.wire_descriptor.specs.EnumDescriptorProto.{EnumDescriptorProto-Value};
     ghost use Rattle.wire_descriptor.specs.EnumDescriptorProto.{enum_descriptor_proto-value};
     ghost use Rattle.wire_descriptor.specs.EnumDescriptorProto.{enum_descriptor_proto-shape};

@@ -2,8 +2,8 @@
 use bytes::Buf;
 use std::alloc::{AllocError, Global};
 use wire_codec::{
-    DecodeContext, DecodeError, EncodeError, EncodeSink, Message, MessageName, SizeCache, Tag,
-    UnknownFields,
+    DecodeContext, DecodeError, EncodeError, EncodeSink, MessageFields, MessageName, SizeCache,
+    Tag, UnknownFields,
 };
 use wire_fields::{Implicit, Int32, Kind, Known, Rest, Text, Twin, keep, measure, write};
 
@@ -52,7 +52,7 @@ impl Twin for EnumValueDescriptorProto {
     ghost same = { λ m copy e. e };
 }
 
-impl Message for EnumValueDescriptorProto {
+impl MessageFields for EnumValueDescriptorProto {
     ghost use Rattle.wire_descriptor.specs.EnumValueDescriptorProto.{EnumValueDescriptorProto-Value};
     ghost use Rattle.wire_descriptor.specs.EnumValueDescriptorProto.{enum_value_descriptor_proto-value};
     ghost use Rattle.wire_descriptor.specs.EnumValueDescriptorProto.{enum_value_descriptor_proto-shape};

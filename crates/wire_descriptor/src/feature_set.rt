@@ -2,8 +2,8 @@
 use bytes::Buf;
 use std::alloc::{AllocError, Global};
 use wire_codec::{
-    DecodeContext, DecodeError, EncodeError, EncodeSink, Message, MessageName, SizeCache, Tag,
-    UnknownFields,
+    DecodeContext, DecodeError, EncodeError, EncodeSink, MessageFields, MessageName, SizeCache,
+    Tag, UnknownFields,
 };
 use wire_fields::{Implicit, Int32, Kind, Known, Rest, Twin, keep, measure, write};
 
@@ -60,7 +60,7 @@ impl Twin for FeatureSet {
     ghost same = { λ m copy e. e };
 }
 
-impl Message for FeatureSet {
+impl MessageFields for FeatureSet {
     ghost use Rattle.wire_descriptor.specs.FeatureSet.{FeatureSet-Value};
     ghost use Rattle.wire_descriptor.specs.FeatureSet.{feature_set-value};
     ghost use Rattle.wire_descriptor.specs.FeatureSet.{feature_set-shape};

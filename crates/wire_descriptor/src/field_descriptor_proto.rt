@@ -3,8 +3,8 @@ use crate::field_options::FieldOptions;
 use bytes::Buf;
 use std::alloc::{AllocError, Global};
 use wire_codec::{
-    DecodeContext, DecodeError, EncodeError, EncodeSink, Message, MessageName, SizeCache, Tag,
-    UnknownFields,
+    DecodeContext, DecodeError, EncodeError, EncodeSink, MessageFields, MessageName, SizeCache,
+    Tag, UnknownFields,
 };
 use wire_fields::{
     Bool, Embedded, Implicit, Int32, Kind, Known, Optional, Parts, Rest, Text, Twin, copied_box,
@@ -73,7 +73,7 @@ impl Twin for FieldDescriptorProto {
     ghost same = { λ m copy e. e };
 }
 
-impl Message for FieldDescriptorProto {
+impl MessageFields for FieldDescriptorProto {
     ghost use Rattle.wire_descriptor.specs.FieldDescriptorProto.{FieldDescriptorProto-Value};
     ghost use Rattle.wire_descriptor.specs.FieldDescriptorProto.{field_descriptor_proto-value};
     ghost use Rattle.wire_descriptor.specs.FieldDescriptorProto.{field_descriptor_proto-shape};

@@ -3,8 +3,8 @@ use crate::feature_set::FeatureSet;
 use bytes::Buf;
 use std::alloc::{AllocError, Global};
 use wire_codec::{
-    DecodeContext, DecodeError, EncodeError, EncodeSink, Message, MessageName, SizeCache, Tag,
-    UnknownFields,
+    DecodeContext, DecodeError, EncodeError, EncodeSink, MessageFields, MessageName, SizeCache,
+    Tag, UnknownFields,
 };
 use wire_fields::{
     Bool, Embedded, Kind, Known, Optional, Rest, Twin, copied_box, keep, measure, write,
@@ -55,7 +55,7 @@ impl Twin for FieldOptions {
     ghost same = { λ m copy e. e };
 }
 
-impl Message for FieldOptions {
+impl MessageFields for FieldOptions {
     ghost use Rattle.wire_descriptor.specs.FieldOptions.{FieldOptions-Value};
     ghost use Rattle.wire_descriptor.specs.FieldOptions.{field_options-value};
     ghost use Rattle.wire_descriptor.specs.FieldOptions.{field_options-shape};

@@ -7,8 +7,8 @@ use crate::source_code_info::SourceCodeInfo;
 use bytes::Buf;
 use std::alloc::{AllocError, Global};
 use wire_codec::{
-    DecodeContext, DecodeError, EncodeError, EncodeSink, Message, MessageName, SizeCache, Tag,
-    UnknownFields,
+    DecodeContext, DecodeError, EncodeError, EncodeSink, MessageFields, MessageName, SizeCache,
+    Tag, UnknownFields,
 };
 use wire_fields::{
     Blob, EachEmbedded, Embedded, Implicit, Int32, Kind, Known, Parts, Repeated, Rest, Text, Twin,
@@ -79,7 +79,7 @@ impl Twin for FileDescriptorProto {
     ghost same = { λ m copy e. e };
 }
 
-impl Message for FileDescriptorProto {
+impl MessageFields for FileDescriptorProto {
     ghost use Rattle.wire_descriptor.specs.FileDescriptorProto.{FileDescriptorProto-Value};
     ghost use Rattle.wire_descriptor.specs.FileDescriptorProto.{file_descriptor_proto-value};
     ghost use Rattle.wire_descriptor.specs.FileDescriptorProto.{file_descriptor_proto-shape};

@@ -3,8 +3,8 @@ use crate::feature_set::FeatureSet;
 use bytes::Buf;
 use std::alloc::{AllocError, Global};
 use wire_codec::{
-    DecodeContext, DecodeError, EncodeError, EncodeSink, Message, MessageName, SizeCache, Tag,
-    UnknownFields,
+    DecodeContext, DecodeError, EncodeError, EncodeSink, MessageFields, MessageName, SizeCache,
+    Tag, UnknownFields,
 };
 use wire_fields::{Embedded, Kind, Known, Rest, Twin, copied_box, keep, measure, write};
 
@@ -51,7 +51,7 @@ impl Twin for FileOptions {
     ghost same = { λ m copy e. e };
 }
 
-impl Message for FileOptions {
+impl MessageFields for FileOptions {
     ghost use Rattle.wire_descriptor.specs.FileOptions.{FileOptions-Value};
     ghost use Rattle.wire_descriptor.specs.FileOptions.{file_options-value};
     ghost use Rattle.wire_descriptor.specs.FileOptions.{file_options-shape};

@@ -3,8 +3,8 @@ use crate::feature_set::FeatureSet;
 use bytes::Buf;
 use std::alloc::{AllocError, Global};
 use wire_codec::{
-    DecodeContext, DecodeError, EncodeError, EncodeSink, Message, MessageName, SizeCache, Tag,
-    UnknownFields,
+    DecodeContext, DecodeError, EncodeError, EncodeSink, MessageFields, MessageName, SizeCache,
+    Tag, UnknownFields,
 };
 use wire_fields::{
     Bool, Embedded, Implicit, Kind, Known, Rest, Twin, copied_box, keep, measure, write,
@@ -55,7 +55,7 @@ impl Twin for MessageOptions {
     ghost same = { λ m copy e. e };
 }
 
-impl Message for MessageOptions {
+impl MessageFields for MessageOptions {
     ghost use Rattle.wire_descriptor.specs.MessageOptions.{MessageOptions-Value};
     ghost use Rattle.wire_descriptor.specs.MessageOptions.{message_options-value};
     ghost use Rattle.wire_descriptor.specs.MessageOptions.{message_options-shape};

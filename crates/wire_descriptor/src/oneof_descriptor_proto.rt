@@ -2,8 +2,8 @@
 use bytes::Buf;
 use std::alloc::{AllocError, Global};
 use wire_codec::{
-    DecodeContext, DecodeError, EncodeError, EncodeSink, Message, MessageName, SizeCache, Tag,
-    UnknownFields,
+    DecodeContext, DecodeError, EncodeError, EncodeSink, MessageFields, MessageName, SizeCache,
+    Tag, UnknownFields,
 };
 use wire_fields::{Implicit, Kind, Known, Rest, Text, Twin, keep, measure, write};
 
@@ -50,7 +50,7 @@ impl Twin for OneofDescriptorProto {
     ghost same = { λ m copy e. e };
 }
 
-impl Message for OneofDescriptorProto {
+impl MessageFields for OneofDescriptorProto {
     ghost use Rattle.wire_descriptor.specs.OneofDescriptorProto.{OneofDescriptorProto-Value};
     ghost use Rattle.wire_descriptor.specs.OneofDescriptorProto.{oneof_descriptor_proto-value};
     ghost use Rattle.wire_descriptor.specs.OneofDescriptorProto.{oneof_descriptor_proto-shape};

@@ -3,8 +3,8 @@ use crate::source_code_info_location::SourceCodeInfoLocation;
 use bytes::Buf;
 use std::alloc::{AllocError, Global};
 use wire_codec::{
-    DecodeContext, DecodeError, EncodeError, EncodeSink, Message, MessageName, SizeCache, Tag,
-    UnknownFields,
+    DecodeContext, DecodeError, EncodeError, EncodeSink, MessageFields, MessageName, SizeCache,
+    Tag, UnknownFields,
 };
 use wire_fields::{EachEmbedded, Kind, Known, Rest, Twin, copied_list, keep, measure, write};
 
@@ -51,7 +51,7 @@ impl Twin for SourceCodeInfo {
     ghost same = { λ m copy e. e };
 }
 
-impl Message for SourceCodeInfo {
+impl MessageFields for SourceCodeInfo {
     ghost use Rattle.wire_descriptor.specs.SourceCodeInfo.{SourceCodeInfo-Value};
     ghost use Rattle.wire_descriptor.specs.SourceCodeInfo.{source_code_info-value};
     ghost use Rattle.wire_descriptor.specs.SourceCodeInfo.{source_code_info-shape};

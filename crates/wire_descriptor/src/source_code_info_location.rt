@@ -2,8 +2,8 @@
 use bytes::Buf;
 use std::alloc::{AllocError, Global};
 use wire_codec::{
-    DecodeContext, DecodeError, EncodeError, EncodeSink, Message, MessageName, SizeCache, Tag,
-    UnknownFields,
+    DecodeContext, DecodeError, EncodeError, EncodeSink, MessageFields, MessageName, SizeCache,
+    Tag, UnknownFields,
 };
 use wire_fields::{
     Implicit, Int32, Kind, Known, Packed, Rest, Text, Twin, copied_numbers, keep, measure, write,
@@ -55,7 +55,7 @@ impl Twin for SourceCodeInfoLocation {
     ghost same = { λ m copy e. e };
 }
 
-impl Message for SourceCodeInfoLocation {
+impl MessageFields for SourceCodeInfoLocation {
     ghost use Rattle.wire_descriptor.specs.SourceCodeInfoLocation.{SourceCodeInfoLocation-Value};
     ghost use Rattle.wire_descriptor.specs.SourceCodeInfoLocation.{source_code_info_location-value};
     ghost use Rattle.wire_descriptor.specs.SourceCodeInfoLocation.{source_code_info_location-shape};

@@ -26,8 +26,8 @@ use crate::text::delimited_len;
 use bytes::Buf;
 use std::alloc::Global;
 use wire_codec::{
-    DecodeContext, DecodeError, EncodeError, EncodeSink, Message, SizeCache, Tag, laws,
-    put_len_delimited_header,
+    DecodeContext, DecodeError, EncodeError, EncodeSink, Message, MessageFields, SizeCache, Tag,
+    laws, put_len_delimited_header,
 };
 
 /// A kind that a map may have for its values: `Always` of a scalar type, or `AlwaysEmbedded`.
@@ -56,7 +56,7 @@ pub(crate) struct Entry<K: Scalar, V: Kind> {
     pub(crate) value: V::Held,
 }
 
-impl<K: Scalar, V: EntryValue> Message for Entry<K, V>
+impl<K: Scalar, V: EntryValue> MessageFields for Entry<K, V>
 where
     K::Held: Clone + PartialEq,
     V::Held: Clone + PartialEq,
@@ -234,7 +234,7 @@ where
     laws::grammar::limits_add_up();
     laws::levels_and_counts();
     context.register_element_memory(place)?;
-    let mut entry = Entry::<K, V>::default_value(alloc);
+    let mut entry = <Entry<K, V> as MessageFields>::default_value(alloc);
     LengthPrefixed::merge::<Entry<K, V>, B>(alloc, tag, &mut entry, buf, context)?;
     Ok(entry)
 }

@@ -22,7 +22,7 @@ $imports$use Rattle.$crate$.proofs.$module$.$goals$.Goals as goal
 
 // Of a message, and of the leaf of one that holds itself.
 const OF_WHOLE: [Template; 5] = [
-    ("goals", "$name$Message.merge_field"),
+    ("goals", "$name$MessageFields.merge_field"),
     ("whole", "$module$-shape"),
     ("before", ""),
     ("behind", ""),

@@ -13,7 +13,7 @@ wire_codec DecodeContext
 wire_codec DecodeError
 wire_codec EncodeError
 wire_codec EncodeSink
-wire_codec Message
+wire_codec MessageFields
 wire_codec MessageName
 wire_codec SizeCache
 wire_codec Tag
@@ -42,7 +42,7 @@ impl MessageName for $name$ {
 ";
 
 const MESSAGE: &str = "
-impl Message for $name$ {
+impl MessageFields for $name$ {
     ghost use Rattle.$crate$.specs.$name$.{$name$-Value};
     ghost use Rattle.$crate$.specs.$name$.{$module$-value};
     ghost use Rattle.$crate$.specs.$name$.{$module$-shape};

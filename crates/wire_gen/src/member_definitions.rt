@@ -148,7 +148,7 @@ returns-in-$row$-$of_name$-clause-ok c =
 
 pub(crate) const MEMBER_MERGE: &str = "\
 use Rattle.std.proofs.Common.{sym}
-use Rattle.$crate$.proofs.$module$.$name$Message.merge_field.Goals as goal
+use Rattle.$crate$.proofs.$module$.$name$MessageFields.merge_field.Goals as goal
 
 pub returns-in-$name$-clause-err : goal.returns-in-$name$-clause-err
 returns-in-$name$-clause-err g c =

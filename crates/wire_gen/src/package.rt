@@ -159,7 +159,7 @@ impl Package {
             return Ok(());
         }
         let answers = answers_of(&page, &fields, &tree, false)?;
-        let path = "proofs/$module$/$name$Message/merge_field/Answers.antt";
+        let path = "proofs/$module$/$name$MessageFields/merge_field/Answers.antt";
         self.add(&mut page, path, answers)
     }
 
@@ -259,7 +259,7 @@ impl Package {
     fn add_member(&mut self, page: &mut Words) -> Result<(), GenerateError> {
         page.fill("answers", MEMBER_MERGE);
         let answers = page.finish("answers")?;
-        let path = "proofs/$module$/$name$Message/merge_field/Answers.antt";
+        let path = "proofs/$module$/$name$MessageFields/merge_field/Answers.antt";
         self.add(page, path, answers)
     }
 

@@ -81,7 +81,7 @@ pub(crate) fn written_answers(
     }))
 }
 
-const OF_MESSAGE: [Template; 2] = [("type", "$name$Message"), ("message", "")];
+const OF_MESSAGE: [Template; 2] = [("type", "$name$MessageFields"), ("message", "")];
 
 const OF_PART: [Template; 2] = [("type", "$part_type$Parts"), ("message", ".message.now")];
 

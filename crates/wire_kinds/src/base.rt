@@ -2,8 +2,8 @@
 use bytes::Buf;
 use std::alloc::{AllocError, Global};
 use wire_codec::{
-    DecodeContext, DecodeError, EncodeError, EncodeSink, Message, MessageName, SizeCache, Tag,
-    UnknownFields,
+    DecodeContext, DecodeError, EncodeError, EncodeSink, MessageFields, MessageName, SizeCache,
+    Tag, UnknownFields,
 };
 use wire_fields::{Blob, Kind, Known, Optional, Rest, Twin, copied_option, keep, measure, write};
 
@@ -50,7 +50,7 @@ impl Twin for Base {
     ghost same = { λ m copy e. e };
 }
 
-impl Message for Base {
+impl MessageFields for Base {
     ghost use Rattle.wire_kinds.specs.Base.{Base-Value};
     ghost use Rattle.wire_kinds.specs.Base.{base-value};
     ghost use Rattle.wire_kinds.specs.Base.{base-shape};

@@ -11,8 +11,8 @@ use std::alloc::Global;
 use std::mem::replace;
 use std::slice::from_ref;
 use wire_codec::{
-    DecodeContext, DecodeError, EncodeError, EncodeSink, Message, MessageName, SizeCache, Tag,
-    UnknownFields,
+    DecodeContext, DecodeError, EncodeError, EncodeSink, MessageFields, MessageName, SizeCache,
+    Tag, UnknownFields,
 };
 use wire_fields::{
     Implicit, Kind, Known, Parts, Place, RecursiveMember, Rest, Text, keep, merge_held,
@@ -187,7 +187,7 @@ impl Call {
     }
 }
 
-impl Message for Call {
+impl MessageFields for Call {
     ghost use Rattle.wire_kinds.specs.Call.{Call-Value};
     ghost use Rattle.wire_kinds.specs.Call.{call-shape};
 

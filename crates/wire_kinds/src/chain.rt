@@ -5,8 +5,8 @@ use bytes::Buf;
 use std::alloc::Global;
 use std::slice::from_ref;
 use wire_codec::{
-    DecodeContext, DecodeError, EncodeError, EncodeSink, Message, MessageName, SizeCache, Tag,
-    UnknownFields,
+    DecodeContext, DecodeError, EncodeError, EncodeSink, MessageFields, MessageName, SizeCache,
+    Tag, UnknownFields,
 };
 use wire_fields::{
     Implicit, Int32, Kind, Known, Parts, Place, Recursive, Rest, keep, merge_nest, nest_size,
@@ -177,7 +177,7 @@ impl Recursive for Chain {
     }
 }
 
-impl Message for Chain {
+impl MessageFields for Chain {
     ghost use Rattle.wire_kinds.specs.Chain.{Chain-Value};
     ghost use Rattle.wire_kinds.specs.Chain.{chain-shape};
 

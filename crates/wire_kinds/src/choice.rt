@@ -4,8 +4,8 @@ use crate::choice_only::{ChoiceOnly, ChoiceOnlyKind, copied_choice_only};
 use bytes::Buf;
 use std::alloc::{AllocError, Global};
 use wire_codec::{
-    DecodeContext, DecodeError, EncodeError, EncodeSink, Message, MessageName, SizeCache, Tag,
-    UnknownFields,
+    DecodeContext, DecodeError, EncodeError, EncodeSink, MessageFields, MessageName, SizeCache,
+    Tag, UnknownFields,
 };
 use wire_fields::{Kind, Known, Rest, Twin, keep, measure, write};
 
@@ -54,7 +54,7 @@ impl Twin for Choice {
     ghost same = { λ m copy e. e };
 }
 
-impl Message for Choice {
+impl MessageFields for Choice {
     ghost use Rattle.wire_kinds.specs.Choice.{Choice-Value};
     ghost use Rattle.wire_kinds.specs.Choice.{choice-value};
     ghost use Rattle.wire_kinds.specs.Choice.{choice-shape};

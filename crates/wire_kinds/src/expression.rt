@@ -11,8 +11,8 @@ use std::alloc::Global;
 use std::mem::replace;
 use std::slice::from_ref;
 use wire_codec::{
-    DecodeContext, DecodeError, EncodeError, EncodeSink, Message, MessageName, SizeCache, Tag,
-    UnknownFields,
+    DecodeContext, DecodeError, EncodeError, EncodeSink, MessageFields, MessageName, SizeCache,
+    Tag, UnknownFields,
 };
 use wire_fields::{
     Implicit, Kind, Known, Parts, Place, RecursiveMember, Rest, Sint64, keep, merge_held,
@@ -200,7 +200,7 @@ impl Expression {
     }
 }
 
-impl Message for Expression {
+impl MessageFields for Expression {
     ghost use Rattle.wire_kinds.specs.Expression.{Expression-Value};
     ghost use Rattle.wire_kinds.specs.Expression.{expression-shape};
 

@@ -4,7 +4,7 @@ use crate::turn::Turn;
 use bytes::Buf;
 use std::alloc::Global;
 use wire_codec::{
-    DecodeContext, DecodeError, EncodeError, EncodeSink, EnumValue, Message, MessageName,
+    DecodeContext, DecodeError, EncodeError, EncodeSink, EnumValue, MessageFields, MessageName,
     SizeCache, Tag, UnknownFields,
 };
 use wire_fields::{
@@ -36,7 +36,7 @@ impl MessageName for Features {
     const TYPE_URL: &'static str = "type.googleapis.com/kinds_2023.Features";
 }
 
-impl Message for Features {
+impl MessageFields for Features {
     ghost use Rattle.wire_kinds.specs.Features.{Features-Value};
     ghost use Rattle.wire_kinds.specs.Features.{features-value};
     ghost use Rattle.wire_kinds.specs.Features.{features-shape};

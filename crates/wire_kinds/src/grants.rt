@@ -4,7 +4,7 @@ use bytes::Buf;
 use std::alloc::{AllocError, Global};
 use std::collections::BTreeMap;
 use wire_codec::{
-    DecodeContext, DecodeError, EncodeError, EncodeSink, EnumValue, Message, MessageName,
+    DecodeContext, DecodeError, EncodeError, EncodeSink, EnumValue, MessageFields, MessageName,
     SizeCache, Tag, UnknownFields,
 };
 use wire_fields::{
@@ -57,7 +57,7 @@ impl Twin for Grants {
     ghost same = { λ m copy e. e };
 }
 
-impl Message for Grants {
+impl MessageFields for Grants {
     ghost use Rattle.wire_kinds.specs.Grants.{Grants-Value};
     ghost use Rattle.wire_kinds.specs.Grants.{grants-value};
     ghost use Rattle.wire_kinds.specs.Grants.{grants-shape};

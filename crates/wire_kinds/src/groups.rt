@@ -4,8 +4,8 @@ use crate::groups_one::GroupsOne;
 use bytes::Buf;
 use std::alloc::{AllocError, Global};
 use wire_codec::{
-    DecodeContext, DecodeError, EncodeError, EncodeSink, Message, MessageName, SizeCache, Tag,
-    UnknownFields,
+    DecodeContext, DecodeError, EncodeError, EncodeSink, MessageFields, MessageName, SizeCache,
+    Tag, UnknownFields,
 };
 use wire_fields::{
     EachGroup, Fixed32, Group, Kind, Known, Packed, Rest, Twin, Uint32, Unpacked, copied_box,
@@ -61,7 +61,7 @@ impl Twin for Groups {
     ghost same = { λ m copy e. e };
 }
 
-impl Message for Groups {
+impl MessageFields for Groups {
     ghost use Rattle.wire_kinds.specs.Groups.{Groups-Value};
     ghost use Rattle.wire_kinds.specs.Groups.{groups-value};
     ghost use Rattle.wire_kinds.specs.Groups.{groups-shape};

@@ -2,8 +2,8 @@
 use bytes::Buf;
 use std::alloc::{AllocError, Global};
 use wire_codec::{
-    DecodeContext, DecodeError, EncodeError, EncodeSink, Message, MessageName, SizeCache, Tag,
-    UnknownFields,
+    DecodeContext, DecodeError, EncodeError, EncodeSink, MessageFields, MessageName, SizeCache,
+    Tag, UnknownFields,
 };
 use wire_fields::{Kind, Known, Optional, Rest, Sfixed64, Twin, keep, measure, write};
 
@@ -50,7 +50,7 @@ impl Twin for GroupsEach {
     ghost same = { λ m copy e. e };
 }
 
-impl Message for GroupsEach {
+impl MessageFields for GroupsEach {
     ghost use Rattle.wire_kinds.specs.GroupsEach.{GroupsEach-Value};
     ghost use Rattle.wire_kinds.specs.GroupsEach.{groups_each-value};
     ghost use Rattle.wire_kinds.specs.GroupsEach.{groups_each-shape};

@@ -2,8 +2,8 @@
 use bytes::Buf;
 use std::alloc::{AllocError, Global};
 use wire_codec::{
-    DecodeContext, DecodeError, EncodeError, EncodeSink, Message, MessageName, SizeCache, Tag,
-    UnknownFields,
+    DecodeContext, DecodeError, EncodeError, EncodeSink, MessageFields, MessageName, SizeCache,
+    Tag, UnknownFields,
 };
 use wire_fields::{Kind, Known, Optional, Rest, Text, Twin, copied_option, keep, measure, write};
 
@@ -50,7 +50,7 @@ impl Twin for GroupsOne {
     ghost same = { λ m copy e. e };
 }
 
-impl Message for GroupsOne {
+impl MessageFields for GroupsOne {
     ghost use Rattle.wire_kinds.specs.GroupsOne.{GroupsOne-Value};
     ghost use Rattle.wire_kinds.specs.GroupsOne.{groups_one-value};
     ghost use Rattle.wire_kinds.specs.GroupsOne.{groups_one-shape};

@@ -4,7 +4,7 @@ use crate::shade::Shade;
 use bytes::Buf;
 use std::alloc::Global;
 use wire_codec::{
-    DecodeContext, DecodeError, EncodeError, EncodeSink, EnumValue, Message, MessageName,
+    DecodeContext, DecodeError, EncodeError, EncodeSink, EnumValue, MessageFields, MessageName,
     SizeCache, Tag, UnknownFields,
 };
 use wire_fields::{Embedded, Enum, Kind, Known, Optional, Rest, Unpacked, keep, measure, write};
@@ -29,7 +29,7 @@ impl MessageName for Imports {
     const TYPE_URL: &'static str = "type.googleapis.com/kinds2.Imports";
 }
 
-impl Message for Imports {
+impl MessageFields for Imports {
     ghost use Rattle.wire_kinds.specs.Imports.{Imports-Value};
     ghost use Rattle.wire_kinds.specs.Imports.{imports-value};
     ghost use Rattle.wire_kinds.specs.Imports.{imports-shape};

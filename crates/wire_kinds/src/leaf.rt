@@ -2,8 +2,8 @@
 use bytes::Buf;
 use std::alloc::{AllocError, Global};
 use wire_codec::{
-    DecodeContext, DecodeError, EncodeError, EncodeSink, Message, MessageName, SizeCache, Tag,
-    UnknownFields,
+    DecodeContext, DecodeError, EncodeError, EncodeSink, MessageFields, MessageName, SizeCache,
+    Tag, UnknownFields,
 };
 use wire_fields::{Int32, Kind, Known, Optional, Rest, Twin, keep, measure, write};
 
@@ -50,7 +50,7 @@ impl Twin for Leaf {
     ghost same = { λ m copy e. e };
 }
 
-impl Message for Leaf {
+impl MessageFields for Leaf {
     ghost use Rattle.wire_kinds.specs.Leaf.{Leaf-Value};
     ghost use Rattle.wire_kinds.specs.Leaf.{leaf-value};
     ghost use Rattle.wire_kinds.specs.Leaf.{leaf-shape};

@@ -5,7 +5,7 @@ use crate::levels_only::{LevelsOnly, LevelsOnlyKind, copied_levels_only, set_or_
 use bytes::Buf;
 use std::alloc::{AllocError, Global};
 use wire_codec::{
-    DecodeContext, DecodeError, EncodeError, EncodeSink, EnumValue, Message, MessageName,
+    DecodeContext, DecodeError, EncodeError, EncodeSink, EnumValue, MessageFields, MessageName,
     SizeCache, Tag, UnknownFields,
 };
 use wire_fields::{
@@ -64,7 +64,7 @@ impl Twin for Levels {
     ghost same = { λ m copy e. e };
 }
 
-impl Message for Levels {
+impl MessageFields for Levels {
     ghost use Rattle.wire_kinds.specs.Levels.{Levels-Value};
     ghost use Rattle.wire_kinds.specs.Levels.{levels-value};
     ghost use Rattle.wire_kinds.specs.Levels.{levels-shape};

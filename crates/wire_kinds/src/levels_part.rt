@@ -2,8 +2,8 @@
 use bytes::Buf;
 use std::alloc::{AllocError, Global};
 use wire_codec::{
-    DecodeContext, DecodeError, EncodeError, EncodeSink, Message, MessageName, SizeCache, Tag,
-    UnknownFields,
+    DecodeContext, DecodeError, EncodeError, EncodeSink, MessageFields, MessageName, SizeCache,
+    Tag, UnknownFields,
 };
 use wire_fields::{Float, FloatBits, Kind, Known, Optional, Rest, Twin, keep, measure, write};
 
@@ -50,7 +50,7 @@ impl Twin for LevelsPart {
     ghost same = { λ m copy e. e };
 }
 
-impl Message for LevelsPart {
+impl MessageFields for LevelsPart {
     ghost use Rattle.wire_kinds.specs.LevelsPart.{LevelsPart-Value};
     ghost use Rattle.wire_kinds.specs.LevelsPart.{levels_part-value};
     ghost use Rattle.wire_kinds.specs.LevelsPart.{levels_part-shape};

@@ -4,7 +4,7 @@ use crate::shade::Shade;
 use bytes::Buf;
 use std::alloc::Global;
 use wire_codec::{
-    DecodeContext, DecodeError, EncodeError, EncodeSink, EnumValue, Message, MessageName,
+    DecodeContext, DecodeError, EncodeError, EncodeSink, EnumValue, MessageFields, MessageName,
     SizeCache, Tag, UnknownFields,
 };
 use wire_fields::{
@@ -36,7 +36,7 @@ impl MessageName for Lists {
     const TYPE_URL: &'static str = "type.googleapis.com/kinds.Lists";
 }
 
-impl Message for Lists {
+impl MessageFields for Lists {
     ghost use Rattle.wire_kinds.specs.Lists.{Lists-Value};
     ghost use Rattle.wire_kinds.specs.Lists.{lists-value};
     ghost use Rattle.wire_kinds.specs.Lists.{lists-shape};

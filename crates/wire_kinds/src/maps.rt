@@ -5,7 +5,7 @@ use bytes::Buf;
 use std::alloc::{AllocError, Global};
 use std::collections::BTreeMap;
 use wire_codec::{
-    DecodeContext, DecodeError, EncodeError, EncodeSink, EnumValue, Message, MessageName,
+    DecodeContext, DecodeError, EncodeError, EncodeSink, EnumValue, MessageFields, MessageName,
     SizeCache, Tag, UnknownFields,
 };
 use wire_fields::{
@@ -62,7 +62,7 @@ impl Twin for Maps {
     ghost same = { λ m copy e. e };
 }
 
-impl Message for Maps {
+impl MessageFields for Maps {
     ghost use Rattle.wire_kinds.specs.Maps.{Maps-Value};
     ghost use Rattle.wire_kinds.specs.Maps.{maps-value};
     ghost use Rattle.wire_kinds.specs.Maps.{maps-shape};

@@ -3,7 +3,7 @@ use crate::shade::Shade;
 use bytes::Buf;
 use std::alloc::{AllocError, Global};
 use wire_codec::{
-    DecodeContext, DecodeError, EncodeError, EncodeSink, EnumValue, Message, MessageName,
+    DecodeContext, DecodeError, EncodeError, EncodeSink, EnumValue, MessageFields, MessageName,
     SizeCache, Tag, UnknownFields,
 };
 use wire_fields::{
@@ -68,7 +68,7 @@ impl Twin for MaybeVarints {
     ghost same = { λ m copy e. e };
 }
 
-impl Message for MaybeVarints {
+impl MessageFields for MaybeVarints {
     ghost use Rattle.wire_kinds.specs.MaybeVarints.{MaybeVarints-Value};
     ghost use Rattle.wire_kinds.specs.MaybeVarints.{maybe_varints-value};
     ghost use Rattle.wire_kinds.specs.MaybeVarints.{maybe_varints-shape};

@@ -2,8 +2,8 @@
 use bytes::Buf;
 use std::alloc::{AllocError, Global};
 use wire_codec::{
-    DecodeContext, DecodeError, EncodeError, EncodeSink, Message, MessageName, SizeCache, Tag,
-    UnknownFields,
+    DecodeContext, DecodeError, EncodeError, EncodeSink, MessageFields, MessageName, SizeCache,
+    Tag, UnknownFields,
 };
 use wire_fields::{
     Blob, Double, DoubleBits, Fixed32, Fixed64, Float, FloatBits, Kind, Known, Optional, Rest,
@@ -67,7 +67,7 @@ impl Twin for MaybeWidths {
     ghost same = { λ m copy e. e };
 }
 
-impl Message for MaybeWidths {
+impl MessageFields for MaybeWidths {
     ghost use Rattle.wire_kinds.specs.MaybeWidths.{MaybeWidths-Value};
     ghost use Rattle.wire_kinds.specs.MaybeWidths.{maybe_widths-value};
     ghost use Rattle.wire_kinds.specs.MaybeWidths.{maybe_widths-shape};

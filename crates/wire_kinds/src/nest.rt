@@ -5,8 +5,8 @@ use bytes::Buf;
 use std::alloc::Global;
 use std::slice::from_ref;
 use wire_codec::{
-    DecodeContext, DecodeError, EncodeError, EncodeSink, Message, MessageName, SizeCache, Tag,
-    UnknownFields,
+    DecodeContext, DecodeError, EncodeError, EncodeSink, MessageFields, MessageName, SizeCache,
+    Tag, UnknownFields,
 };
 use wire_fields::{
     Kind, Known, Optional, Parts, Place, Recursive, Rest, Sint64, keep, merge_nest, nest_size,
@@ -177,7 +177,7 @@ impl Recursive for Nest {
     }
 }
 
-impl Message for Nest {
+impl MessageFields for Nest {
     ghost use Rattle.wire_kinds.specs.Nest.{Nest-Value};
     ghost use Rattle.wire_kinds.specs.Nest.{nest-shape};
 

@@ -4,7 +4,7 @@ use bytes::Buf;
 use std::alloc::{AllocError, Global};
 use std::collections::BTreeMap;
 use wire_codec::{
-    DecodeContext, DecodeError, EncodeError, EncodeSink, EnumValue, Message, MessageName,
+    DecodeContext, DecodeError, EncodeError, EncodeSink, EnumValue, MessageFields, MessageName,
     SizeCache, Tag, UnknownFields,
 };
 use wire_fields::{
@@ -57,7 +57,7 @@ impl Twin for Rights {
     ghost same = { λ m copy e. e };
 }
 
-impl Message for Rights {
+impl MessageFields for Rights {
     ghost use Rattle.wire_kinds.specs.Rights.{Rights-Value};
     ghost use Rattle.wire_kinds.specs.Rights.{rights-value};
     ghost use Rattle.wire_kinds.specs.Rights.{rights-shape};

@@ -5,8 +5,8 @@ use bytes::Buf;
 use std::alloc::{AllocError, Global};
 use std::collections::BTreeMap;
 use wire_codec::{
-    DecodeContext, DecodeError, EncodeError, EncodeSink, Message, MessageName, SizeCache, Tag,
-    UnknownFields,
+    DecodeContext, DecodeError, EncodeError, EncodeSink, MessageFields, MessageName, SizeCache,
+    Tag, UnknownFields,
 };
 use wire_fields::{
     AlwaysEmbedded, EachEmbedded, Embedded, Int32, Kind, Known, Map, Rest, Twin, copied_box,
@@ -62,7 +62,7 @@ impl Twin for Team {
     ghost same = { λ m copy e. e };
 }
 
-impl Message for Team {
+impl MessageFields for Team {
     ghost use Rattle.wire_kinds.specs.Team.{Team-Value};
     ghost use Rattle.wire_kinds.specs.Team.{team-value};
     ghost use Rattle.wire_kinds.specs.Team.{team-shape};

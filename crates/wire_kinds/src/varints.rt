@@ -3,7 +3,7 @@ use crate::shade::Shade;
 use bytes::Buf;
 use std::alloc::{AllocError, Global};
 use wire_codec::{
-    DecodeContext, DecodeError, EncodeError, EncodeSink, EnumValue, Message, MessageName,
+    DecodeContext, DecodeError, EncodeError, EncodeSink, EnumValue, MessageFields, MessageName,
     SizeCache, Tag, UnknownFields,
 };
 use wire_fields::{
@@ -68,7 +68,7 @@ impl Twin for Varints {
     ghost same = { λ m copy e. e };
 }
 
-impl Message for Varints {
+impl MessageFields for Varints {
     ghost use Rattle.wire_kinds.specs.Varints.{Varints-Value};
     ghost use Rattle.wire_kinds.specs.Varints.{varints-value};
     ghost use Rattle.wire_kinds.specs.Varints.{varints-shape};

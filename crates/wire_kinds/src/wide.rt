@@ -4,7 +4,7 @@ use crate::level::Level;
 use bytes::Buf;
 use std::alloc::{AllocError, Global};
 use wire_codec::{
-    DecodeContext, DecodeError, EncodeError, EncodeSink, EnumValue, Message, MessageName,
+    DecodeContext, DecodeError, EncodeError, EncodeSink, EnumValue, MessageFields, MessageName,
     SizeCache, Tag, UnknownFields,
 };
 use wire_fields::{
@@ -71,7 +71,7 @@ impl Twin for Wide {
     ghost same = { λ m copy e. e };
 }
 
-impl Message for Wide {
+impl MessageFields for Wide {
     ghost use Rattle.wire_kinds.specs.Wide.{Wide-Value};
     ghost use Rattle.wire_kinds.specs.Wide.{wide-value};
     ghost use Rattle.wire_kinds.specs.Wide.{wide-shape};

@@ -2,8 +2,8 @@
 use bytes::Buf;
 use std::alloc::{AllocError, Global};
 use wire_codec::{
-    DecodeContext, DecodeError, EncodeError, EncodeSink, Message, MessageName, SizeCache, Tag,
-    UnknownFields,
+    DecodeContext, DecodeError, EncodeError, EncodeSink, MessageFields, MessageName, SizeCache,
+    Tag, UnknownFields,
 };
 use wire_fields::{
     Blob, Double, DoubleBits, Fixed32, Fixed64, Float, FloatBits, Implicit, Kind, Known, Rest,
@@ -67,7 +67,7 @@ impl Twin for Widths {
     ghost same = { λ m copy e. e };
 }
 
-impl Message for Widths {
+impl MessageFields for Widths {
     ghost use Rattle.wire_kinds.specs.Widths.{Widths-Value};
     ghost use Rattle.wire_kinds.specs.Widths.{widths-value};
     ghost use Rattle.wire_kinds.specs.Widths.{widths-shape};

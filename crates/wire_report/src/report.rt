@@ -6,7 +6,7 @@ use bytes::Buf;
 use std::alloc::{AllocError, Global};
 use std::collections::BTreeMap;
 use wire_codec::{
-    DecodeContext, DecodeError, EncodeError, EncodeSink, EnumValue, Message, MessageName,
+    DecodeContext, DecodeError, EncodeError, EncodeSink, EnumValue, MessageFields, MessageName,
     SizeCache, Tag, UnknownFields,
 };
 use wire_fields::{
@@ -86,7 +86,7 @@ impl Twin for Report {
     ghost same = { λ m copy e. e };
 }
 
-impl Message for Report {
+impl MessageFields for Report {
     ghost use Rattle.wire_report.specs.Report.{Report-Value};
     ghost use Rattle.wire_report.specs.Report.{report-value};
     ghost use Rattle.wire_report.specs.Report.{report-shape};

@@ -2,8 +2,8 @@
 use bytes::Buf;
 use std::alloc::{AllocError, Global};
 use wire_codec::{
-    DecodeContext, DecodeError, EncodeError, EncodeSink, Message, MessageName, SizeCache, Tag,
-    UnknownFields,
+    DecodeContext, DecodeError, EncodeError, EncodeSink, MessageFields, MessageName, SizeCache,
+    Tag, UnknownFields,
 };
 use wire_fields::{
     Double, DoubleBits, Implicit, Int64, Kind, Known, Optional, Rest, Text, Twin, keep, measure,
@@ -57,7 +57,7 @@ impl Twin for ReportSample {
     ghost same = { λ m copy e. e };
 }
 
-impl Message for ReportSample {
+impl MessageFields for ReportSample {
     ghost use Rattle.wire_report.specs.ReportSample.{ReportSample-Value};
     ghost use Rattle.wire_report.specs.ReportSample.{report_sample-value};
     ghost use Rattle.wire_report.specs.ReportSample.{report_sample-shape};

@@ -4,7 +4,7 @@ use crate::said::{Hex, Said};
 use bytes::{Buf, Bytes};
 use wire_callers::counter::Counter;
 use wire_callers::{first, log, messages as written, sinks};
-use wire_codec::{DecodeError, EncodeError, ProtoString, Rope, UnknownFields};
+use wire_codec::{DecodeError, EncodeError, Message, ProtoString, Rope, UnknownFields, laws};
 use wire_vectors::callers::texts::ShortText;
 use wire_vectors::callers::{messages, records, scalars, texts, views};
 
@@ -78,6 +78,12 @@ fn tell_written(row: &Row<'_>, said: &mut Said) -> bool {
         "attached" => {
             if let Some(bytes) = said.made(Bytes::copy_from_slice(alloc, row.bytes)) {
                 say_rope(records::attached(alloc, bytes), row, said)
+            }
+        }
+        "counter_len" => {
+            laws::sizes_fit();
+            if said.answered(counter.try_encoded_len(alloc)).is_some() {
+                said.show_answer(counter.encoded_len(alloc))
             }
         }
         "in_rope" => say_rope(sinks::in_rope(alloc, &counter), row, said),

@@ -6,8 +6,8 @@ use bytes::Buf;
 use std::alloc::Global;
 use std::slice;
 use wire_codec::{
-    DecodeContext, DecodeError, EncodeError, EncodeSink, Message, MessageName, SizeCache, Tag,
-    UnknownFields, laws,
+    DecodeContext, DecodeError, EncodeError, EncodeSink, MessageFields, MessageName, SizeCache,
+    Tag, UnknownFields, laws,
 };
 use wire_fields::{
     Implicit, Kind, Known, Parts, Place, Recursive, Rest, Sint64, keep, merge_nest, nest_size,
@@ -220,7 +220,7 @@ impl Recursive for Node {
     }
 }
 
-impl Message for Node {
+impl MessageFields for Node {
     ghost use Rattle.wire_samples.specs.Node.{NodeValue, node_value, node_records, default_node};
     ghost use Rattle.wire_samples.specs.NodeSteps.{NodeTakes};
     ghost use Rattle.wire_samples.specs.NodeSingle.{node_single};

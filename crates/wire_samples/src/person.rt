@@ -17,8 +17,8 @@ ghost use Rattle.wire_samples.specs.Person.{PersonTakes, person_records, person_
 use bytes::Buf;
 use std::alloc::Global;
 use wire_codec::{
-    DecodeContext, DecodeError, EncodeError, EncodeSink, Message, MessageName, SizeCache, Tag,
-    UnknownFields, WireType, wire_type_mismatch,
+    DecodeContext, DecodeError, EncodeError, EncodeSink, MessageFields, MessageName, SizeCache,
+    Tag, UnknownFields, WireType, wire_type_mismatch,
 };
 use wire_fields::{Implicit, Int32, Kind, Known, Packed, Rest, Text, keep, measure, write};
 
@@ -50,7 +50,7 @@ impl MessageName for Person {
     const TYPE_URL: &'static str = "type.googleapis.com/wire.samples.Person";
 }
 
-impl Message for Person {
+impl MessageFields for Person {
     ghost use Rattle.wire_samples.specs.Person.{PersonValue, person_value};
     ghost use Rattle.wire_samples.specs.Person.{person_records, default_person, PersonTakes};
     ghost use Rattle.wire_samples.specs.PersonSingle.{person_single};

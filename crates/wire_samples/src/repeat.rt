@@ -2,7 +2,7 @@
 use bytes::Buf;
 use std::alloc::Global;
 use wire_codec::{
-    DecodeContext, DecodeError, EncodeError, EncodeSink, Message, SizeCache, Tag, WireType,
+    DecodeContext, DecodeError, EncodeError, EncodeSink, MessageFields, SizeCache, Tag, WireType,
     decode_varint, laws, put_uint64_field, saturate_size,
 };
 
@@ -19,7 +19,7 @@ pub struct Repeat {
     pub extra: bool,
 }
 
-impl Message for Repeat {
+impl MessageFields for Repeat {
     ghost use Rattle.std.specs.Prelude.{false};
     ghost use Rattle.wire_samples.specs.declared.repeat.Repeat.{Repeat};
     ghost use Rattle.wire_samples.specs.Repeat.{repeat_records, RepeatTakes};

@@ -10,7 +10,8 @@ use bytes::Buf;
 use std::alloc::Global;
 use std::{mem, slice};
 use wire_codec::{
-    DecodeContext, DecodeError, EncodeError, EncodeSink, Message, SizeCache, Tag, UnknownFields,
+    DecodeContext, DecodeError, EncodeError, EncodeSink, MessageFields, SizeCache, Tag,
+    UnknownFields,
 };
 use wire_fields::{
     Implicit, Kind, Known, Parts, Place, RecursiveMember, Rest, Text, keep, merge_held,
@@ -192,7 +193,7 @@ impl Call {
     }
 }
 
-impl Message for Call {
+impl MessageFields for Call {
     ghost use Rattle.wire_tables.specs.Expression.{Value, family, a_call, call, takes_single};
     ghost use Rattle.wire_fields.specs.NestTable.{family_records, family_takes, empty_of};
 

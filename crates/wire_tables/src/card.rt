@@ -3,7 +3,8 @@ use crate::contact::{Contact, ContactKind};
 use bytes::Buf;
 use std::alloc::Global;
 use wire_codec::{
-    DecodeContext, DecodeError, EncodeError, EncodeSink, Message, SizeCache, Tag, UnknownFields,
+    DecodeContext, DecodeError, EncodeError, EncodeSink, MessageFields, SizeCache, Tag,
+    UnknownFields,
 };
 use wire_fields::{Implicit, Kind, Known, Rest, Text, keep, measure, write};
 
@@ -15,7 +16,7 @@ pub struct Card {
     pub unknown: UnknownFields,
 }
 
-impl Message for Card {
+impl MessageFields for Card {
     ghost use Rattle.wire_tables.specs.Card.{CardValue, card_value, card};
 
     ghost Value = { CardValue };

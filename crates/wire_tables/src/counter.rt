@@ -2,7 +2,8 @@
 use bytes::Buf;
 use std::alloc::Global;
 use wire_codec::{
-    DecodeContext, DecodeError, EncodeError, EncodeSink, Message, SizeCache, Tag, UnknownFields,
+    DecodeContext, DecodeError, EncodeError, EncodeSink, MessageFields, SizeCache, Tag,
+    UnknownFields,
 };
 use wire_fields::{Implicit, Kind, Known, Rest, Uint64, keep, measure, write};
 
@@ -13,7 +14,7 @@ pub struct Counter {
     pub unknown: UnknownFields,
 }
 
-impl Message for Counter {
+impl MessageFields for Counter {
     ghost use Rattle.wire_tables.specs.Counter.{CounterValue, counter_value, counter};
 
     ghost Value = { CounterValue };

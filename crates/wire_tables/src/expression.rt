@@ -10,7 +10,8 @@ use bytes::Buf;
 use std::alloc::Global;
 use std::{mem, slice};
 use wire_codec::{
-    DecodeContext, DecodeError, EncodeError, EncodeSink, Message, SizeCache, Tag, UnknownFields,
+    DecodeContext, DecodeError, EncodeError, EncodeSink, MessageFields, SizeCache, Tag,
+    UnknownFields,
 };
 use wire_fields::{
     Implicit, Kind, Known, Parts, Place, RecursiveMember, Rest, Sint64, keep, merge_held,
@@ -179,7 +180,7 @@ impl Expression {
     }
 }
 
-impl Message for Expression {
+impl MessageFields for Expression {
     ghost use Rattle.wire_tables.specs.Expression.{Value, family, an_expression, expression};
     ghost use Rattle.wire_tables.specs.Expression.{takes_single};
     ghost use Rattle.wire_fields.specs.NestTable.{family_records, family_takes, empty_of};

@@ -4,7 +4,8 @@ use bytes::Buf;
 use std::alloc::Global;
 use std::collections::BTreeMap;
 use wire_codec::{
-    DecodeContext, DecodeError, EncodeError, EncodeSink, Message, SizeCache, Tag, UnknownFields,
+    DecodeContext, DecodeError, EncodeError, EncodeSink, MessageFields, SizeCache, Tag,
+    UnknownFields,
 };
 use wire_fields::{
     Always, AlwaysEmbedded, Bool, Int64, Kind, Known, Map, Rest, Sint32, Text, keep, measure, write,
@@ -19,7 +20,7 @@ pub struct Ledger {
     pub unknown: UnknownFields,
 }
 
-impl Message for Ledger {
+impl MessageFields for Ledger {
     ghost use Rattle.wire_tables.specs.Ledger.{LedgerValue, ledger_value, ledger};
 
     ghost Value = { LedgerValue };

@@ -2,8 +2,8 @@
 use bytes::Buf;
 use std::alloc::Global;
 use wire_codec::{
-    DecodeContext, DecodeError, EncodeError, EncodeSink, Message, SizeCache, Tag, UnknownFields,
-    WireType,
+    DecodeContext, DecodeError, EncodeError, EncodeSink, MessageFields, SizeCache, Tag,
+    UnknownFields, WireType,
 };
 use wire_fields::{
     Implicit, Kind, Known, OwnTypes, Packed, Rest, Sint32, Uint64, keep, measure, merge_or_keep,
@@ -18,7 +18,7 @@ pub struct Meter {
     pub unknown: UnknownFields,
 }
 
-impl Message for Meter {
+impl MessageFields for Meter {
     ghost use Rattle.wire_tables.specs.Meter.{MeterValue, meter_value, meter};
 
     ghost Value = { MeterValue };

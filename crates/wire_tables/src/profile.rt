@@ -3,7 +3,8 @@ use crate::counter::Counter;
 use bytes::Buf;
 use std::alloc::Global;
 use wire_codec::{
-    DecodeContext, DecodeError, EncodeError, EncodeSink, Message, SizeCache, Tag, UnknownFields,
+    DecodeContext, DecodeError, EncodeError, EncodeSink, MessageFields, SizeCache, Tag,
+    UnknownFields,
 };
 use wire_fields::{
     Blob, EachEmbedded, Embedded, Fixed32, Implicit, Int32, Kind, Known, Optional, Rest, Text,
@@ -23,7 +24,7 @@ pub struct Profile {
     pub unknown: UnknownFields,
 }
 
-impl Message for Profile {
+impl MessageFields for Profile {
     ghost use Rattle.wire_tables.specs.Profile.{ProfileValue, profile_value, profile};
 
     ghost Value = { ProfileValue };

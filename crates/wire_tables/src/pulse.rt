@@ -1,7 +1,9 @@
 //! A pulse, which keeps no unknown fields.
 use bytes::Buf;
 use std::alloc::Global;
-use wire_codec::{DecodeContext, DecodeError, EncodeError, EncodeSink, Message, SizeCache, Tag};
+use wire_codec::{
+    DecodeContext, DecodeError, EncodeError, EncodeSink, MessageFields, SizeCache, Tag,
+};
 use wire_fields::{Dropped, Implicit, Kind, Known, Uint32, measure, pass_over, write};
 
 /// A pulse, which keeps no unknown fields.
@@ -10,7 +12,7 @@ pub struct Pulse {
     pub beats: u32,
 }
 
-impl Message for Pulse {
+impl MessageFields for Pulse {
     ghost use Rattle.wire_tables.specs.Pulse.{PulseValue, pulse_value, pulse};
 
     ghost Value = { PulseValue };

@@ -4,7 +4,7 @@ use crate::level::Level;
 use bytes::Buf;
 use std::alloc::Global;
 use wire_codec::{
-    DecodeContext, DecodeError, EncodeError, EncodeSink, EnumValue, Message, SizeCache, Tag,
+    DecodeContext, DecodeError, EncodeError, EncodeSink, EnumValue, MessageFields, SizeCache, Tag,
     UnknownFields,
 };
 use wire_fields::{
@@ -29,7 +29,7 @@ pub struct Reading {
     pub unknown: UnknownFields,
 }
 
-impl Message for Reading {
+impl MessageFields for Reading {
     ghost use Rattle.wire_tables.specs.Reading.{ReadingValue, reading_value, reading};
 
     ghost Value = { ReadingValue };

@@ -5,7 +5,8 @@ use bytes::Buf;
 use std::alloc::Global;
 use std::slice;
 use wire_codec::{
-    DecodeContext, DecodeError, EncodeError, EncodeSink, Message, SizeCache, Tag, UnknownFields,
+    DecodeContext, DecodeError, EncodeError, EncodeSink, MessageFields, SizeCache, Tag,
+    UnknownFields,
 };
 use wire_fields::{
     Always, Dropped, Implicit, Kind, Known, Parts, Place, Recursive, Rest, Text, Uint64, keep,
@@ -215,7 +216,7 @@ impl Recursive for Rule {
     }
 }
 
-impl Message for Rule {
+impl MessageFields for Rule {
     ghost use Rattle.wire_tables.specs.Rule.{RuleValue, rule, rule_single};
     ghost use Rattle.wire_fields.specs.NestTable.{nest_records, nest_takes, empty_of};
 

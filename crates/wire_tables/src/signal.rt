@@ -5,7 +5,7 @@ use bytes::Buf;
 use std::alloc::Global;
 use std::collections::BTreeMap;
 use wire_codec::{
-    DecodeContext, DecodeError, EncodeError, EncodeSink, EnumValue, Message, SizeCache, Tag,
+    DecodeContext, DecodeError, EncodeError, EncodeSink, EnumValue, MessageFields, SizeCache, Tag,
     UnknownFields,
 };
 use wire_fields::{
@@ -25,7 +25,7 @@ pub struct Signal {
     pub unknown: UnknownFields,
 }
 
-impl Message for Signal {
+impl MessageFields for Signal {
     ghost use Rattle.wire_tables.specs.Signal.{SignalValue, signal_value, signal};
 
     ghost Value = { SignalValue };

@@ -6,7 +6,8 @@ use bytes::Buf;
 use std::alloc::Global;
 use std::slice;
 use wire_codec::{
-    DecodeContext, DecodeError, EncodeError, EncodeSink, Message, SizeCache, Tag, UnknownFields,
+    DecodeContext, DecodeError, EncodeError, EncodeSink, MessageFields, SizeCache, Tag,
+    UnknownFields,
 };
 use wire_fields::{
     Embedded, Implicit, Kind, Known, Parts, Place, Recursive, Rest, Text, keep, merge_nest,
@@ -173,7 +174,7 @@ impl Recursive for Tree {
     }
 }
 
-impl Message for Tree {
+impl MessageFields for Tree {
     ghost use Rattle.wire_tables.specs.Tree.{TreeValue, tree, tree_single};
     ghost use Rattle.wire_fields.specs.NestTable.{nest_records, nest_takes, empty_of};
 

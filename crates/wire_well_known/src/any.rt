@@ -2,8 +2,8 @@
 use bytes::Buf;
 use std::alloc::{AllocError, Global};
 use wire_codec::{
-    DecodeContext, DecodeError, EncodeError, EncodeSink, Message, MessageName, SizeCache, Tag,
-    UnknownFields,
+    DecodeContext, DecodeError, EncodeError, EncodeSink, MessageFields, MessageName, SizeCache,
+    Tag, UnknownFields,
 };
 use wire_fields::{
     Blob, Implicit, Kind, Known, Rest, Text, Twin, copied_numbers, keep, measure, write,
@@ -56,7 +56,7 @@ impl Twin for Any {
     ghost same = { λ m copy e. e };
 }
 
-impl Message for Any {
+impl MessageFields for Any {
     ghost use Rattle.wire_well_known.specs.Any.{Any-Value};
     ghost use Rattle.wire_well_known.specs.Any.{any-value};
     ghost use Rattle.wire_well_known.specs.Any.{any-shape};

@@ -2,8 +2,8 @@
 use bytes::Buf;
 use std::alloc::{AllocError, Global};
 use wire_codec::{
-    DecodeContext, DecodeError, EncodeError, EncodeSink, Message, MessageName, SizeCache, Tag,
-    UnknownFields,
+    DecodeContext, DecodeError, EncodeError, EncodeSink, MessageFields, MessageName, SizeCache,
+    Tag, UnknownFields,
 };
 use wire_fields::{Bool, Implicit, Kind, Known, Rest, Twin, keep, measure, write};
 
@@ -50,7 +50,7 @@ impl Twin for BoolValue {
     ghost same = { λ m copy e. e };
 }
 
-impl Message for BoolValue {
+impl MessageFields for BoolValue {
     ghost use Rattle.wire_well_known.specs.BoolValue.{BoolValue-Value};
     ghost use Rattle.wire_well_known.specs.BoolValue.{bool_value-value};
     ghost use Rattle.wire_well_known.specs.BoolValue.{bool_value-shape};

@@ -2,8 +2,8 @@
 use bytes::Buf;
 use std::alloc::{AllocError, Global};
 use wire_codec::{
-    DecodeContext, DecodeError, EncodeError, EncodeSink, Message, MessageName, SizeCache, Tag,
-    UnknownFields,
+    DecodeContext, DecodeError, EncodeError, EncodeSink, MessageFields, MessageName, SizeCache,
+    Tag, UnknownFields,
 };
 use wire_fields::{Blob, Implicit, Kind, Known, Rest, Twin, copied_numbers, keep, measure, write};
 
@@ -50,7 +50,7 @@ impl Twin for BytesValue {
     ghost same = { λ m copy e. e };
 }
 
-impl Message for BytesValue {
+impl MessageFields for BytesValue {
     ghost use Rattle.wire_well_known.specs.BytesValue.{BytesValue-Value};
     ghost use Rattle.wire_well_known.specs.BytesValue.{bytes_value-value};
     ghost use Rattle.wire_well_known.specs.BytesValue.{bytes_value-shape};

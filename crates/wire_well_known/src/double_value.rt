@@ -2,8 +2,8 @@
 use bytes::Buf;
 use std::alloc::{AllocError, Global};
 use wire_codec::{
-    DecodeContext, DecodeError, EncodeError, EncodeSink, Message, MessageName, SizeCache, Tag,
-    UnknownFields,
+    DecodeContext, DecodeError, EncodeError, EncodeSink, MessageFields, MessageName, SizeCache,
+    Tag, UnknownFields,
 };
 use wire_fields::{Double, DoubleBits, Implicit, Kind, Known, Rest, Twin, keep, measure, write};
 
@@ -50,7 +50,7 @@ impl Twin for DoubleValue {
     ghost same = { λ m copy e. e };
 }
 
-impl Message for DoubleValue {
+impl MessageFields for DoubleValue {
     ghost use Rattle.wire_well_known.specs.DoubleValue.{DoubleValue-Value};
     ghost use Rattle.wire_well_known.specs.DoubleValue.{double_value-value};
     ghost use Rattle.wire_well_known.specs.DoubleValue.{double_value-shape};

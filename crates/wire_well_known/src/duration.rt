@@ -2,8 +2,8 @@
 use bytes::Buf;
 use std::alloc::{AllocError, Global};
 use wire_codec::{
-    DecodeContext, DecodeError, EncodeError, EncodeSink, Message, MessageName, SizeCache, Tag,
-    UnknownFields,
+    DecodeContext, DecodeError, EncodeError, EncodeSink, MessageFields, MessageName, SizeCache,
+    Tag, UnknownFields,
 };
 use wire_fields::{Implicit, Int32, Int64, Kind, Known, Rest, Twin, keep, measure, write};
 
@@ -53,7 +53,7 @@ impl Twin for Duration {
     ghost same = { λ m copy e. e };
 }
 
-impl Message for Duration {
+impl MessageFields for Duration {
     ghost use Rattle.wire_well_known.specs.Duration.{Duration-Value};
     ghost use Rattle.wire_well_known.specs.Duration.{duration-value};
     ghost use Rattle.wire_well_known.specs.Duration.{duration-shape};

@@ -2,8 +2,8 @@
 use bytes::Buf;
 use std::alloc::{AllocError, Global};
 use wire_codec::{
-    DecodeContext, DecodeError, EncodeError, EncodeSink, Message, MessageName, SizeCache, Tag,
-    UnknownFields,
+    DecodeContext, DecodeError, EncodeError, EncodeSink, MessageFields, MessageName, SizeCache,
+    Tag, UnknownFields,
 };
 use wire_fields::{Rest, Twin, keep, measure, write};
 
@@ -48,7 +48,7 @@ impl Twin for Empty {
     ghost same = { λ m copy e. e };
 }
 
-impl Message for Empty {
+impl MessageFields for Empty {
     ghost use Rattle.wire_well_known.specs.Empty.{Empty-Value};
     ghost use Rattle.wire_well_known.specs.Empty.{empty-value};
     ghost use Rattle.wire_well_known.specs.Empty.{empty-shape};

@@ -2,8 +2,8 @@
 use bytes::Buf;
 use std::alloc::{AllocError, Global};
 use wire_codec::{
-    DecodeContext, DecodeError, EncodeError, EncodeSink, Message, MessageName, SizeCache, Tag,
-    UnknownFields,
+    DecodeContext, DecodeError, EncodeError, EncodeSink, MessageFields, MessageName, SizeCache,
+    Tag, UnknownFields,
 };
 use wire_fields::{Kind, Known, Repeated, Rest, Text, Twin, copied_list, keep, measure, write};
 
@@ -51,7 +51,7 @@ impl Twin for FieldMask {
     ghost same = { λ m copy e. e };
 }
 
-impl Message for FieldMask {
+impl MessageFields for FieldMask {
     ghost use Rattle.wire_well_known.specs.FieldMask.{FieldMask-Value};
     ghost use Rattle.wire_well_known.specs.FieldMask.{field_mask-value};
     ghost use Rattle.wire_well_known.specs.FieldMask.{field_mask-shape};

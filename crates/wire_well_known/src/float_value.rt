@@ -2,8 +2,8 @@
 use bytes::Buf;
 use std::alloc::{AllocError, Global};
 use wire_codec::{
-    DecodeContext, DecodeError, EncodeError, EncodeSink, Message, MessageName, SizeCache, Tag,
-    UnknownFields,
+    DecodeContext, DecodeError, EncodeError, EncodeSink, MessageFields, MessageName, SizeCache,
+    Tag, UnknownFields,
 };
 use wire_fields::{Float, FloatBits, Implicit, Kind, Known, Rest, Twin, keep, measure, write};
 
@@ -50,7 +50,7 @@ impl Twin for FloatValue {
     ghost same = { λ m copy e. e };
 }
 
-impl Message for FloatValue {
+impl MessageFields for FloatValue {
     ghost use Rattle.wire_well_known.specs.FloatValue.{FloatValue-Value};
     ghost use Rattle.wire_well_known.specs.FloatValue.{float_value-value};
     ghost use Rattle.wire_well_known.specs.FloatValue.{float_value-shape};

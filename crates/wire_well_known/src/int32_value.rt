@@ -2,8 +2,8 @@
 use bytes::Buf;
 use std::alloc::{AllocError, Global};
 use wire_codec::{
-    DecodeContext, DecodeError, EncodeError, EncodeSink, Message, MessageName, SizeCache, Tag,
-    UnknownFields,
+    DecodeContext, DecodeError, EncodeError, EncodeSink, MessageFields, MessageName, SizeCache,
+    Tag, UnknownFields,
 };
 use wire_fields::{Implicit, Int32, Kind, Known, Rest, Twin, keep, measure, write};
 
@@ -50,7 +50,7 @@ impl Twin for Int32Value {
     ghost same = { λ m copy e. e };
 }
 
-impl Message for Int32Value {
+impl MessageFields for Int32Value {
     ghost use Rattle.wire_well_known.specs.Int32Value.{Int32Value-Value};
     ghost use Rattle.wire_well_known.specs.Int32Value.{int32_value-value};
     ghost use Rattle.wire_well_known.specs.Int32Value.{int32_value-shape};

@@ -3,8 +3,8 @@ use crate::value::Value;
 use bytes::Buf;
 use std::alloc::{AllocError, Global};
 use wire_codec::{
-    DecodeContext, DecodeError, EncodeError, EncodeSink, Message, MessageName, SizeCache, Tag,
-    UnknownFields,
+    DecodeContext, DecodeError, EncodeError, EncodeSink, MessageFields, MessageName, SizeCache,
+    Tag, UnknownFields,
 };
 use wire_fields::{EachEmbedded, Kind, Known, Rest, Twin, copied_list, keep, measure, write};
 
@@ -51,7 +51,7 @@ impl Twin for ListValue {
     ghost same = { λ m copy e. e };
 }
 
-impl Message for ListValue {
+impl MessageFields for ListValue {
     ghost use Rattle.wire_well_known.specs.ListValue.{ListValue-Value};
     ghost use Rattle.wire_well_known.specs.ListValue.{list_value-value};
     ghost use Rattle.wire_well_known.specs.ListValue.{list_value-shape};

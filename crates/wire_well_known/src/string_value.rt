@@ -2,8 +2,8 @@
 use bytes::Buf;
 use std::alloc::{AllocError, Global};
 use wire_codec::{
-    DecodeContext, DecodeError, EncodeError, EncodeSink, Message, MessageName, SizeCache, Tag,
-    UnknownFields,
+    DecodeContext, DecodeError, EncodeError, EncodeSink, MessageFields, MessageName, SizeCache,
+    Tag, UnknownFields,
 };
 use wire_fields::{Implicit, Kind, Known, Rest, Text, Twin, keep, measure, write};
 
@@ -50,7 +50,7 @@ impl Twin for StringValue {
     ghost same = { λ m copy e. e };
 }
 
-impl Message for StringValue {
+impl MessageFields for StringValue {
     ghost use Rattle.wire_well_known.specs.StringValue.{StringValue-Value};
     ghost use Rattle.wire_well_known.specs.StringValue.{string_value-value};
     ghost use Rattle.wire_well_known.specs.StringValue.{string_value-shape};

@@ -4,8 +4,8 @@ use bytes::Buf;
 use std::alloc::{AllocError, Global};
 use std::collections::BTreeMap;
 use wire_codec::{
-    DecodeContext, DecodeError, EncodeError, EncodeSink, Message, MessageName, SizeCache, Tag,
-    UnknownFields,
+    DecodeContext, DecodeError, EncodeError, EncodeSink, MessageFields, MessageName, SizeCache,
+    Tag, UnknownFields,
 };
 use wire_fields::{
     AlwaysEmbedded, Kind, Known, Map, Rest, Text, Twin, copied_map, keep, measure, write,
@@ -54,7 +54,7 @@ impl Twin for Struct {
     ghost same = { λ m copy e. e };
 }
 
-impl Message for Struct {
+impl MessageFields for Struct {
     ghost use Rattle.wire_well_known.specs.Struct.{Struct-Value};
     ghost use Rattle.wire_well_known.specs.Struct.{struct_-value};
     ghost use Rattle.wire_well_known.specs.Struct.{struct_-shape};

@@ -2,8 +2,8 @@
 use bytes::Buf;
 use std::alloc::{AllocError, Global};
 use wire_codec::{
-    DecodeContext, DecodeError, EncodeError, EncodeSink, Message, MessageName, SizeCache, Tag,
-    UnknownFields,
+    DecodeContext, DecodeError, EncodeError, EncodeSink, MessageFields, MessageName, SizeCache,
+    Tag, UnknownFields,
 };
 use wire_fields::{Implicit, Int32, Int64, Kind, Known, Rest, Twin, keep, measure, write};
 
@@ -54,7 +54,7 @@ impl Twin for Timestamp {
     ghost same = { λ m copy e. e };
 }
 
-impl Message for Timestamp {
+impl MessageFields for Timestamp {
     ghost use Rattle.wire_well_known.specs.Timestamp.{Timestamp-Value};
     ghost use Rattle.wire_well_known.specs.Timestamp.{timestamp-value};
     ghost use Rattle.wire_well_known.specs.Timestamp.{timestamp-shape};

@@ -2,8 +2,8 @@
 use bytes::Buf;
 use std::alloc::{AllocError, Global};
 use wire_codec::{
-    DecodeContext, DecodeError, EncodeError, EncodeSink, Message, MessageName, SizeCache, Tag,
-    UnknownFields,
+    DecodeContext, DecodeError, EncodeError, EncodeSink, MessageFields, MessageName, SizeCache,
+    Tag, UnknownFields,
 };
 use wire_fields::{Implicit, Kind, Known, Rest, Twin, Uint32, keep, measure, write};
 
@@ -50,7 +50,7 @@ impl Twin for UInt32Value {
     ghost same = { λ m copy e. e };
 }
 
-impl Message for UInt32Value {
+impl MessageFields for UInt32Value {
     ghost use Rattle.wire_well_known.specs.UInt32Value.{UInt32Value-Value};
     ghost use Rattle.wire_well_known.specs.UInt32Value.{uint32_value-value};
     ghost use Rattle.wire_well_known.specs.UInt32Value.{uint32_value-shape};

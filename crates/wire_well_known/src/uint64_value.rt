@@ -2,8 +2,8 @@
 use bytes::Buf;
 use std::alloc::{AllocError, Global};
 use wire_codec::{
-    DecodeContext, DecodeError, EncodeError, EncodeSink, Message, MessageName, SizeCache, Tag,
-    UnknownFields,
+    DecodeContext, DecodeError, EncodeError, EncodeSink, MessageFields, MessageName, SizeCache,
+    Tag, UnknownFields,
 };
 use wire_fields::{Implicit, Kind, Known, Rest, Twin, Uint64, keep, measure, write};
 
@@ -50,7 +50,7 @@ impl Twin for UInt64Value {
     ghost same = { λ m copy e. e };
 }
 
-impl Message for UInt64Value {
+impl MessageFields for UInt64Value {
     ghost use Rattle.wire_well_known.specs.UInt64Value.{UInt64Value-Value};
     ghost use Rattle.wire_well_known.specs.UInt64Value.{uint64_value-value};
     ghost use Rattle.wire_well_known.specs.UInt64Value.{uint64_value-shape};

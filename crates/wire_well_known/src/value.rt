@@ -3,8 +3,8 @@ use crate::value_kind::{ValueKind, ValueKindKind, copied_value_kind};
 use bytes::Buf;
 use std::alloc::{AllocError, Global};
 use wire_codec::{
-    DecodeContext, DecodeError, EncodeError, EncodeSink, Message, MessageName, SizeCache, Tag,
-    UnknownFields,
+    DecodeContext, DecodeError, EncodeError, EncodeSink, MessageFields, MessageName, SizeCache,
+    Tag, UnknownFields,
 };
 use wire_fields::{Kind, Known, Rest, Twin, keep, measure, write};
 
@@ -51,7 +51,7 @@ impl Twin for Value {
     ghost same = { λ m copy e. e };
 }
 
-impl Message for Value {
+impl MessageFields for Value {
     ghost use Rattle.wire_well_known.specs.Value.{Value-Value};
     ghost use Rattle.wire_well_known.specs.Value.{value-value};
     ghost use Rattle.wire_well_known.specs.Value.{value-shape};

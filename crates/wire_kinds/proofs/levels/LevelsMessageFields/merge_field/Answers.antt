@@ -1,0 +1,93 @@
+use Rattle.std.proofs.Common.{refl, rules, sym, ◌∙◌}
+use Rattle.wire_codec.specs.TagView.{tag_number}
+use Rattle.wire_fields.specs.Arms.{arm_err, from_last, neither, unlike}
+use Rattle.wire_fields.specs.Leaving.{keeps_beside}
+use Rattle.wire_fields.specs.Shape.{keeps}
+use Rattle.wire_kinds.specs.Levels.{levels-known, levels-once-kind, levels-packed-kind}
+use Rattle.wire_kinds.specs.Levels.{levels-shape, levels-unpacked-kind, levels-value}
+use Rattle.wire_kinds.specs.LevelsKind.{level-of-levels_kind-closed, levels_kind-shape}
+use Rattle.wire_kinds.specs.LevelsOnly.{single-of-levels_only-closed}
+use Rattle.wire_kinds.proofs.levels.LevelsMessageFields.merge_field.Goals as goal
+
+pub returns-in-1-clause-err : goal.returns-in-1-clause-err
+returns-in-1-clause-err g c =
+    arm_err levels-shape.takes levels-once-kind.takes 1 _
+    (sym c.field_number.ensures.number ∙ c.in-1.is) _ _
+    (λ charge z p h. ((z.0.0.0.0, z.1), h.0.0.0)) _ _ _
+    c.merge_closed.result c.merge_closed.ensures.err
+
+pub returns-in-2-clause-err : goal.returns-in-2-clause-err
+returns-in-2-clause-err g c =
+    arm_err levels-shape.takes levels-unpacked-kind.takes 2 _
+    (sym c.field_number.ensures.number ∙ c.in-2.is) _ _
+    (λ charge z p h. ((z.0.0.0.1, z.1), h.0.0.0)) _ _ _
+    c.merge_closed_each.result c.merge_closed_each.ensures.err
+
+pub returns-in-3-clause-err : goal.returns-in-3-clause-err
+returns-in-3-clause-err g c =
+    arm_err levels-shape.takes levels-packed-kind.takes 3 _
+    (sym c.field_number.ensures.number ∙ c.in-3.is) _ _
+    (λ charge z p h. ((z.0.0.1.0, z.1), h.0.0.0)) _ _ _
+    (c.merge_closed_each-in-3).result (c.merge_closed_each-in-3).ensures.err
+
+pub returns-in-4-clause-err : goal.returns-in-4-clause-err
+returns-in-4-clause-err g c =
+    arm_err levels-shape.takes levels_kind-shape.takes 4 _
+    (sym c.field_number.ensures.number ∙ c.in-4.is) _ _
+    (λ charge z p h. (z.0.0.1.1, h.0.0.0.0)) _ _ _
+    c.merge.result c.merge.ensures.err
+
+pub returns-in-5-clause-err : goal.returns-in-5-clause-err
+returns-in-5-clause-err g c =
+    arm_err levels-shape.takes levels_kind-shape.takes 5 _
+    (sym c.field_number.ensures.number ∙ c.in-5.is) _ _
+    (λ charge z p h. (z.0.0.1.1, h.0.0.0.0)) _ _ _
+    (c.merge-in-5).result (c.merge-in-5).ensures.err
+
+pub returns-in-6-clause-err : goal.returns-in-6-clause-err
+returns-in-6-clause-err g c =
+    arm_err levels-shape.takes levels_kind-shape.takes 6 _
+    (sym c.field_number.ensures.number ∙ c.in-6.is) _ _
+    (λ charge z p h. (z.0.0.1.1, h.0.0.0.0)) _ _ _
+    (c.merge-in-6).result (c.merge-in-6).ensures.err
+
+pub returns-in-7-clause-err : goal.returns-in-7-clause-err
+returns-in-7-clause-err g c =
+    arm_err levels-shape.takes level-of-levels_kind-closed 7 _
+    (sym c.field_number.ensures.number ∙ c.in-7.is) _ _
+    (λ charge z p h. ((z.0.0.1.1, z.1), h.0.0.0)) _ _ _
+    c.set_or_keep_level.result c.set_or_keep_level.ensures.err
+
+pub returns-in-8-clause-err : goal.returns-in-8-clause-err
+returns-in-8-clause-err g c =
+    arm_err levels-shape.takes levels_kind-shape.takes 8 _
+    (sym c.field_number.ensures.number ∙ c.in-8.is) _ _
+    (λ charge z p h. (z.0.0.1.1, h.0.0.0.0)) _ _ _
+    (c.merge-in-8).result (c.merge-in-8).ensures.err
+
+pub returns-in-9-clause-err : goal.returns-in-9-clause-err
+returns-in-9-clause-err g c =
+    arm_err levels-shape.takes single-of-levels_only-closed 9 _
+    (sym c.field_number.ensures.number ∙ c.in-9.is) _ _
+    (λ charge z p h. ((z.0.1, z.1), h.0)) _ _ _
+    c.set_or_keep_single.result c.set_or_keep_single.ensures.err
+
+pub returns-in_default-clause-err : goal.returns-in_default-clause-err
+returns-in_default-clause-err g c =
+    let n = tag_number c.args.tag in
+    arm_err levels-shape.takes keeps n n refl _ _
+    (λ charge z p h. (
+      z.1,
+      (from_last levels-known.owns levels-known.takes keeps_beside n
+          (λ p. neither _ _ (neither _ _ (neither _ _ (unlike n 1 (search rules))
+          (unlike n 2 (search rules)))
+          (neither _ _ (unlike n 3 (search rules))
+          (neither _ _ (neither _ _ (neither _ _ (neither _ _ (unlike n 4 (search rules))
+          (unlike n 5 (search rules)))
+          (unlike n 6 (search rules)))
+          (unlike n 7 (search rules)))
+          (unlike n 8 (search rules)))))
+          (unlike n 9 (search rules)))
+          (levels-value c.args.self.now) z charge p h).0,
+    ))
+    _ _ _ c.keep.result c.keep.ensures.err
