@@ -8,10 +8,10 @@ use crate::row::Row;
 use crate::said::Said;
 use bytes::Buf;
 use wire_codec::{DecodeContext, DecodeError, DecodeOptions, Message, Tag};
-use wire_samples::{Node, Person, Repeat};
-use wire_tables::{
-    Call, Card, Counter, Expression, Ledger, Meter, Profile, Pulse, Reading, Signal,
-};
+use wire_meter::Meter;
+use wire_pulse::Pulse;
+use wire_samples::{Gauge, Node, Person, Repeat};
+use wire_tables::{Call, Card, Counter, Expression, Ledger, Profile, Reading, Signal};
 
 // A row's call is `TYPE.CALL`, and `TYPE` alone where the type is decoded.
 fn call_of<'a>(row: &Row<'a>) -> (&'a str, &'a str) {
@@ -24,6 +24,7 @@ pub fn read<B: Buf>(row: &Row<'_>, buf: &mut B, said: &mut Said) -> bool {
         "Person" => read_as::<Person, B>(row, call, buf, said),
         "Node" => read_as::<Node, B>(row, call, buf, said),
         "Repeat" => read_as::<Repeat, B>(row, call, buf, said),
+        "Gauge" => read_as::<Gauge, B>(row, call, buf, said),
         "Call" => read_as::<Call, B>(row, call, buf, said),
         "Card" => read_as::<Card, B>(row, call, buf, said),
         "Counter" => read_as::<Counter, B>(row, call, buf, said),
@@ -44,6 +45,7 @@ pub fn tell(row: &Row<'_>, said: &mut Said) -> bool {
         "Person" => tell_as::<Person>(row, call, said),
         "Node" => tell_as::<Node>(row, call, said),
         "Repeat" => tell_as::<Repeat>(row, call, said),
+        "Gauge" => tell_as::<Gauge>(row, call, said),
         "Call" => tell_as::<Call>(row, call, said),
         "Card" => tell_as::<Card>(row, call, said),
         "Counter" => tell_as::<Counter>(row, call, said),

@@ -1,6 +1,7 @@
 //! Laws of the message types: each function is a theorem, and does nothing.
 ghost use Rattle.std.specs.Prelude.{false};
 ghost use Rattle.wire_codec.specs.Charge.{charge};
+ghost use Rattle.wire_fields.specs.Returned.{ReadsBack};
 ghost use Rattle.wire_samples.specs.Laws.{IsTable, NodesFoldBack, PersonsFoldBack, RepeatsFoldBack};
 ghost use Rattle.wire_samples.specs.Laws.{StaysInRange, DecodedFoldsBack};
 ghost use Rattle.wire_samples.specs.Node.{node_value, default_node, node_records, IsNode};
@@ -10,11 +11,15 @@ ghost use Rattle.wire_samples.specs.NodeSteps.{NodeTakes, NodesFoldByTheirStep};
 ghost use Rattle.wire_samples.specs.Person.{person_value, default_person};
 ghost use Rattle.wire_samples.specs.Person.{person_records, PersonTakes, IsPerson};
 ghost use Rattle.wire_samples.specs.Repeat.{repeat_records, RepeatTakes};
+ghost use Rattle.wire_samples.specs.Rule.{rule_shape};
+ghost use Rattle.wire_samples.specs.RuleBack.{rule_range};
 
 use crate::node::Node;
 use crate::person::Person;
 use crate::repeat::Repeat;
+use crate::rule::Rule;
 use wire_codec::{Message, laws};
+use wire_fields::laws::grounds;
 
 /// A `Person` takes and writes the records of its table, over its fields.
 pub fn person_is_as_its_table()
@@ -127,4 +132,12 @@ pub fn repeats_fold_back()
         ⟦<Repeat as Message>⟧.default }
 {
     laws::grammar::charges_add_up();
+}
+
+/// What is written of a `Rule` decodes to it, where the limits suffice.
+pub fn rules_read_back()
+    ensures { ReadsBack rule_shape rule_range }
+{
+    grounds();
+    laws::text_decodes::<Rule>();
 }

@@ -1,17 +1,18 @@
-//! A message that is held by what it holds.
-ghost use Rattle.std.specs.Prelude.{◌≡◌, ◌<◌};
+//! The message `tables.Call`. Generated.
+ghost use Rattle.std.specs.Prelude.{◌<◌, ◌≡◌};
 ghost use Rattle.wire_fields.specs.Nest.{row_at};
-ghost use Rattle.wire_tables.specs.Expression.{call_value, call, holds, a_call};
-ghost use Rattle.wire_tables.specs.Expressions.{slice_sort, slice_values};
+ghost use Rattle.wire_tables.specs.CallFamily.{Call-Sort, call-value, call-table};
+ghost use Rattle.wire_tables.specs.CallFamily.{family-holds, family-slice-sort, family-slice-values};
 
+use crate::call_family::{FamilyHeld, FamilySlice};
 use crate::expression::Expression;
-use crate::expressions::{Held, Slice};
 use bytes::Buf;
 use std::alloc::Global;
-use std::{mem, slice};
+use std::mem::replace;
+use std::slice::from_ref;
 use wire_codec::{
-    DecodeContext, DecodeError, EncodeError, EncodeSink, MessageFields, SizeCache, Tag,
-    UnknownFields,
+    DecodeContext, DecodeError, EncodeError, EncodeSink, MessageFields, MessageName, SizeCache,
+    Tag, UnknownFields,
 };
 use wire_fields::{
     Implicit, Kind, Known, Parts, Place, RecursiveMember, Rest, Text, keep, merge_held,
@@ -19,34 +20,49 @@ use wire_fields::{
 };
 
 /// A call of what has this name, with arguments, on a receiver.
-#[cycle(expression)]
+#[cycle(call_family)]
 #[derive(Clone, Debug, Drop, PartialEq)]
 pub struct Call {
     pub name: String,
     pub arguments: Vec<Expression>,
     pub receiver: Option<Box<Expression>>,
+    /// The fields that the schema lacks, as they came.
     pub unknown: UnknownFields,
 }
 
-impl RecursiveMember<Held> for Call {
-    ghost use Rattle.wire_tables.specs.Expressions.{held_sort, held_value};
-    ghost use Rattle.wire_tables.specs.Expression.{Sort, a_call, Leaves, family, call_counted};
+impl MessageName for Call {
+    const PACKAGE: &'static str = "tables";
 
-    ghost Sort = { Sort };
+    const NAME: &'static str = "Call";
 
-    ghost Leaf = { Leaves };
+    const FULL_NAME: &'static str = "tables.Call";
 
-    ghost sort = { a_call };
+    const TYPE_URL: &'static str = "type.googleapis.com/tables.Call";
+}
 
-    ghost view = { call_value };
+impl RecursiveMember<FamilyHeld> for Call {
+    ghost use Rattle.wire_tables.specs.CallFamily.{Family-Leaves};
+    ghost use Rattle.wire_tables.specs.CallFamily.{Family-Sorts};
+    ghost use Rattle.wire_tables.specs.CallFamily.{family-all};
+    ghost use Rattle.wire_tables.specs.CallFamily.{family-held-sort};
+    ghost use Rattle.wire_tables.specs.CallFamily.{family-held-value};
+    ghost use Rattle.wire_tables.specs.CallFamily.{call-counted};
 
-    ghost held_sort = { held_sort };
+    ghost Sort = { Family-Sorts };
 
-    ghost held_view = { held_value };
+    ghost Leaf = { Family-Leaves };
 
-    ghost family = { family };
+    ghost sort = { Call-Sort };
 
-    ghost counted = { call_counted };
+    ghost view = { call-value };
+
+    ghost held_sort = { family-held-sort };
+
+    ghost held_view = { family-held-value };
+
+    ghost family = { family-all };
+
+    ghost counted = { call-counted };
 
     fn empty(alloc: Global) -> Call {
         Call {
@@ -64,44 +80,47 @@ impl RecursiveMember<Held> for Call {
     fn number(row: usize) -> u32 {
         match row {
             0 => 2,
+            1 => 3,
             _ => 3,
         }
     }
 
-    fn is_grouped(_: usize) -> bool {
-        false
+    fn is_grouped(row: usize) -> bool {
+        match row {
+            _ => false,
+        }
     }
 
     fn place(number: u32) -> Place {
         match number {
-            2 => Place::Each(0, 40),
+            2 => Place::Each(0, 48),
             3 => Place::Once(1),
             _ => Place::Leaf,
         }
     }
 
-    fn new_in(alloc: Global, row: usize) -> Held {
+    fn new_in(alloc: Global, row: usize) -> FamilyHeld {
         match row {
-            0 => Held::Expression(Expression::empty(alloc)),
-            _ => Held::Call(Call::empty(alloc)),
+            0 => FamilyHeld::Expression(Expression::empty(alloc)),
+            _ => FamilyHeld::Call(Call::empty(alloc)),
         }
     }
 
-    fn take(&mut self, alloc: Global, row: usize) -> Held {
+    fn take(&mut self, alloc: Global, row: usize) -> FamilyHeld {
         match row {
             1 => {
                 match self.receiver.take() {
-                    Some(message) => Held::Expression(Box::into_inner(message)),
-                    None => Held::Expression(Expression::empty(alloc)),
+                    Some(message) => FamilyHeld::Expression(Box::into_inner(message)),
+                    None => FamilyHeld::Expression(Expression::empty(alloc)),
                 }
             }
-            _ => Held::Call(Call::empty(alloc)),
+            _ => FamilyHeld::Call(Call::empty(alloc)),
         }
     }
 
-    fn put(&mut self, alloc: Global, row: usize, message: Held) -> Result<(), DecodeError> {
+    fn put(&mut self, alloc: Global, row: usize, message: FamilyHeld) -> Result<(), DecodeError> {
         match (row, message) {
-            (1, Held::Expression(message)) => {
+            (1, FamilyHeld::Expression(message)) => {
                 self.receiver = Some(Box::new(alloc, message)?);
                 Ok(())
             }
@@ -109,9 +128,9 @@ impl RecursiveMember<Held> for Call {
         }
     }
 
-    fn push(&mut self, row: usize, message: Held) -> Result<(), DecodeError> {
+    fn push(&mut self, row: usize, message: FamilyHeld) -> Result<(), DecodeError> {
         match (row, message) {
-            (0, Held::Expression(message)) => push_message(&mut self.arguments, message),
+            (0, FamilyHeld::Expression(message)) => push_message(&mut self.arguments, message),
             _ => Ok(()),
         }
     }
@@ -119,11 +138,11 @@ impl RecursiveMember<Held> for Call {
     fn run_len(&self, run: usize, cache: &mut SizeCache) -> Result<u64, EncodeError> {
         match run {
             0 => {
-                let name: Known<Implicit<Text>> = Known {
+                let field_1: Known<Implicit<Text>> = Known {
                     number: 1,
                     held: &self.name,
                 };
-                name.len(cache)
+                field_1.len(cache)
             }
             1 => Ok(0),
             _ => {
@@ -143,11 +162,11 @@ impl RecursiveMember<Held> for Call {
     ) -> Result<(), EncodeError> {
         match run {
             0 => {
-                let name: Known<Implicit<Text>> = Known {
+                let field_1: Known<Implicit<Text>> = Known {
                     number: 1,
                     held: &self.name,
                 };
-                name.put(cache, sink)
+                field_1.put(cache, sink)
             }
             1 => Ok(()),
             _ => {
@@ -175,46 +194,46 @@ impl RecursiveMember<Held> for Call {
 
 impl Call {
     // The messages of a row.
-    pub(crate) fn row(&self, row: usize) -> Slice<'_>
-        requires { row < call.rows }
-        ensures messages { slice_values result ≡ row_at row (call_value self.now) }
-        ensures sort { slice_sort result ≡ holds a_call row }
+    pub(crate) fn row(&self, row: usize) -> FamilySlice<'_>
+        requires { row < call-table.rows }
+        ensures messages { family-slice-values result ≡ row_at row (call-value self.now) }
+        ensures sort { family-slice-sort result ≡ family-holds Call-Sort row }
     {
         match row {
-            0 => Slice::Expression(&self.arguments),
+            0 => FamilySlice::Expression(&self.arguments),
             1 => {
                 match &self.receiver {
-                    Some(message) => Slice::Expression(slice::from_ref(message)),
-                    None => Slice::Expression(&[]),
+                    Some(message) => FamilySlice::Expression(from_ref(message)),
+                    None => FamilySlice::Expression(&[]),
                 }
             }
-            _ => Slice::Call(&[]),
+            _ => FamilySlice::Call(&[]),
         }
     }
 }
 
 impl MessageFields for Call {
-    ghost use Rattle.wire_tables.specs.Expression.{Value, family, a_call, call, takes_single};
-    ghost use Rattle.wire_fields.specs.NestTable.{family_records, family_takes, empty_of};
+    ghost use Rattle.wire_tables.specs.Call.{Call-Value};
+    ghost use Rattle.wire_tables.specs.Call.{call-shape};
 
-    ghost Value = { Value };
+    ghost Value = { Call-Value };
 
-    ghost view = { call_value };
+    ghost view = { call-value };
 
-    ghost records = { family_records family a_call };
+    ghost records = { call-shape.records };
 
-    ghost default = { empty_of call };
+    ghost default = { call-shape.default };
 
-    ghost takes = { family_takes family a_call };
+    ghost takes = { call-shape.takes };
 
-    ghost single = { λ reading. takes_single reading a_call };
+    ghost single = { call-shape.single };
 
     fn default_value(alloc: Global) -> Call {
         Call::empty(alloc)
     }
 
     fn compute_size(&self, cache: &mut SizeCache) -> Result<u32, EncodeError> {
-        slice_size(Slice::Call(slice::from_ref(self)), 0, cache)
+        slice_size(FamilySlice::Call(from_ref(self)), 0, cache)
     }
 
     fn write_to<S: EncodeSink>(
@@ -222,7 +241,7 @@ impl MessageFields for Call {
         cache: &mut SizeCache,
         sink: &mut S,
     ) -> Result<(), EncodeError> {
-        write_slice(Slice::Call(slice::from_ref(self)), 0, cache, sink)
+        write_slice(FamilySlice::Call(from_ref(self)), 0, cache, sink)
     }
 
     fn merge_field<B: Buf>(
@@ -232,11 +251,11 @@ impl MessageFields for Call {
         buf: &mut B,
         context: &mut DecodeContext,
     ) -> Result<(), DecodeError> {
-        let mut held = Held::Call(mem::replace(self, Call::empty(alloc)));
+        let mut held = FamilyHeld::Call(replace(self, Call::empty(alloc)));
         let merged = merge_held(&mut held, alloc, tag, buf, context);
         match held {
-            Held::Call(message) => *self = message,
-            Held::Expression(_other) => {}
+            FamilyHeld::Call(message) => *self = message,
+            FamilyHeld::Expression(_other) => {}
         }
         merged
     }

@@ -1,52 +1,67 @@
-//! A message that holds another by which it is held.
-ghost use Rattle.std.specs.Prelude.{◌≡◌, ◌<◌};
+//! The message `tables.Expression`. Generated.
+ghost use Rattle.std.specs.Prelude.{◌<◌, ◌≡◌};
 ghost use Rattle.wire_fields.specs.Nest.{row_at};
-ghost use Rattle.wire_tables.specs.Expression.{expression_value, expression, holds, an_expression};
-ghost use Rattle.wire_tables.specs.Expressions.{slice_sort, slice_values};
+ghost use Rattle.wire_tables.specs.CallFamily.{Expression-Sort, expression-value, expression-table};
+ghost use Rattle.wire_tables.specs.CallFamily.{family-holds, family-slice-sort, family-slice-values};
 
 use crate::call::Call;
-use crate::expressions::{Held, Slice};
+use crate::call_family::{FamilyHeld, FamilySlice};
 use bytes::Buf;
 use std::alloc::Global;
-use std::{mem, slice};
+use std::mem::replace;
+use std::slice::from_ref;
 use wire_codec::{
-    DecodeContext, DecodeError, EncodeError, EncodeSink, MessageFields, SizeCache, Tag,
-    UnknownFields,
+    DecodeContext, DecodeError, EncodeError, EncodeSink, MessageFields, MessageName, SizeCache,
+    Tag, UnknownFields,
 };
 use wire_fields::{
     Implicit, Kind, Known, Parts, Place, RecursiveMember, Rest, Sint64, keep, merge_held,
     slice_size, write_slice,
 };
 
-/// A value, or what a call answers.
-#[cycle(expression)]
+/// An expression is a value, or what a call gives.
+#[cycle(call_family)]
 #[derive(Clone, Debug, Drop, PartialEq)]
 pub struct Expression {
     pub value: i64,
     pub call: Option<Box<Call>>,
+    /// The fields that the schema lacks, as they came.
     pub unknown: UnknownFields,
 }
 
-impl RecursiveMember<Held> for Expression {
-    ghost use Rattle.wire_tables.specs.Expressions.{held_sort, held_value};
-    ghost use Rattle.wire_tables.specs.Expression.{Sort, an_expression, Leaves, family};
-    ghost use Rattle.wire_tables.specs.Expression.{expression_counted};
+impl MessageName for Expression {
+    const PACKAGE: &'static str = "tables";
 
-    ghost Sort = { Sort };
+    const NAME: &'static str = "Expression";
 
-    ghost Leaf = { Leaves };
+    const FULL_NAME: &'static str = "tables.Expression";
 
-    ghost sort = { an_expression };
+    const TYPE_URL: &'static str = "type.googleapis.com/tables.Expression";
+}
 
-    ghost view = { expression_value };
+impl RecursiveMember<FamilyHeld> for Expression {
+    ghost use Rattle.wire_tables.specs.CallFamily.{Family-Leaves};
+    ghost use Rattle.wire_tables.specs.CallFamily.{Family-Sorts};
+    ghost use Rattle.wire_tables.specs.CallFamily.{family-all};
+    ghost use Rattle.wire_tables.specs.CallFamily.{family-held-sort};
+    ghost use Rattle.wire_tables.specs.CallFamily.{family-held-value};
+    ghost use Rattle.wire_tables.specs.CallFamily.{expression-counted};
 
-    ghost held_sort = { held_sort };
+    ghost Sort = { Family-Sorts };
 
-    ghost held_view = { held_value };
+    ghost Leaf = { Family-Leaves };
 
-    ghost family = { family };
+    ghost sort = { Expression-Sort };
 
-    ghost counted = { expression_counted };
+    ghost view = { expression-value };
+
+    ghost held_sort = { family-held-sort };
+
+    ghost held_view = { family-held-value };
+
+    ghost family = { family-all };
+
+    ghost counted = { expression-counted };
 
     fn empty(alloc: Global) -> Expression {
         Expression {
@@ -60,12 +75,14 @@ impl RecursiveMember<Held> for Expression {
         1
     }
 
-    fn number(_: usize) -> u32 {
+    fn number(_row: usize) -> u32 {
         2
     }
 
-    fn is_grouped(_: usize) -> bool {
-        false
+    fn is_grouped(row: usize) -> bool {
+        match row {
+            _ => false,
+        }
     }
 
     fn place(number: u32) -> Place {
@@ -75,26 +92,27 @@ impl RecursiveMember<Held> for Expression {
         }
     }
 
-    // (no row has many)
-    fn new_in(alloc: Global, _: usize) -> Held {
-        Held::Expression(Expression::empty(alloc))
-    }
-
-    fn take(&mut self, alloc: Global, row: usize) -> Held {
+    fn new_in(alloc: Global, row: usize) -> FamilyHeld {
         match row {
-            0 => {
-                match self.call.take() {
-                    Some(message) => Held::Call(Box::into_inner(message)),
-                    None => Held::Call(Call::empty(alloc)),
-                }
-            }
-            _ => Held::Expression(Expression::empty(alloc)),
+            _ => FamilyHeld::Expression(Expression::empty(alloc)),
         }
     }
 
-    fn put(&mut self, alloc: Global, row: usize, message: Held) -> Result<(), DecodeError> {
+    fn take(&mut self, alloc: Global, row: usize) -> FamilyHeld {
+        match row {
+            0 => {
+                match self.call.take() {
+                    Some(message) => FamilyHeld::Call(Box::into_inner(message)),
+                    None => FamilyHeld::Call(Call::empty(alloc)),
+                }
+            }
+            _ => FamilyHeld::Expression(Expression::empty(alloc)),
+        }
+    }
+
+    fn put(&mut self, alloc: Global, row: usize, message: FamilyHeld) -> Result<(), DecodeError> {
         match (row, message) {
-            (0, Held::Call(message)) => {
+            (0, FamilyHeld::Call(message)) => {
                 self.call = Some(Box::new(alloc, message)?);
                 Ok(())
             }
@@ -102,18 +120,20 @@ impl RecursiveMember<Held> for Expression {
         }
     }
 
-    fn push(&mut self, _: usize, _: Held) -> Result<(), DecodeError> {
-        Ok(())
+    fn push(&mut self, row: usize, message: FamilyHeld) -> Result<(), DecodeError> {
+        match (row, message) {
+            _ => Ok(()),
+        }
     }
 
     fn run_len(&self, run: usize, cache: &mut SizeCache) -> Result<u64, EncodeError> {
         match run {
             0 => {
-                let value: Known<Implicit<Sint64>> = Known {
+                let field_1: Known<Implicit<Sint64>> = Known {
                     number: 1,
                     held: &self.value,
                 };
-                value.len(cache)
+                field_1.len(cache)
             }
             _ => {
                 let rest = Rest {
@@ -132,11 +152,11 @@ impl RecursiveMember<Held> for Expression {
     ) -> Result<(), EncodeError> {
         match run {
             0 => {
-                let value: Known<Implicit<Sint64>> = Known {
+                let field_1: Known<Implicit<Sint64>> = Known {
                     number: 1,
                     held: &self.value,
                 };
-                value.put(cache, sink)
+                field_1.put(cache, sink)
             }
             _ => {
                 let rest = Rest {
@@ -163,46 +183,45 @@ impl RecursiveMember<Held> for Expression {
 
 impl Expression {
     // The messages of a row.
-    pub(crate) fn row(&self, row: usize) -> Slice<'_>
-        requires { row < expression.rows }
-        ensures messages { slice_values result ≡ row_at row (expression_value self.now) }
-        ensures sort { slice_sort result ≡ holds an_expression row }
+    pub(crate) fn row(&self, row: usize) -> FamilySlice<'_>
+        requires { row < expression-table.rows }
+        ensures messages { family-slice-values result ≡ row_at row (expression-value self.now) }
+        ensures sort { family-slice-sort result ≡ family-holds Expression-Sort row }
     {
         match row {
             0 => {
                 match &self.call {
-                    Some(message) => Slice::Call(slice::from_ref(message)),
-                    None => Slice::Call(&[]),
+                    Some(message) => FamilySlice::Call(from_ref(message)),
+                    None => FamilySlice::Call(&[]),
                 }
             }
-            _ => Slice::Expression(&[]),
+            _ => FamilySlice::Expression(&[]),
         }
     }
 }
 
 impl MessageFields for Expression {
-    ghost use Rattle.wire_tables.specs.Expression.{Value, family, an_expression, expression};
-    ghost use Rattle.wire_tables.specs.Expression.{takes_single};
-    ghost use Rattle.wire_fields.specs.NestTable.{family_records, family_takes, empty_of};
+    ghost use Rattle.wire_tables.specs.Expression.{Expression-Value};
+    ghost use Rattle.wire_tables.specs.Expression.{expression-shape};
 
-    ghost Value = { Value };
+    ghost Value = { Expression-Value };
 
-    ghost view = { expression_value };
+    ghost view = { expression-value };
 
-    ghost records = { family_records family an_expression };
+    ghost records = { expression-shape.records };
 
-    ghost default = { empty_of expression };
+    ghost default = { expression-shape.default };
 
-    ghost takes = { family_takes family an_expression };
+    ghost takes = { expression-shape.takes };
 
-    ghost single = { λ reading. takes_single reading an_expression };
+    ghost single = { expression-shape.single };
 
     fn default_value(alloc: Global) -> Expression {
         Expression::empty(alloc)
     }
 
     fn compute_size(&self, cache: &mut SizeCache) -> Result<u32, EncodeError> {
-        slice_size(Slice::Expression(slice::from_ref(self)), 0, cache)
+        slice_size(FamilySlice::Expression(from_ref(self)), 0, cache)
     }
 
     fn write_to<S: EncodeSink>(
@@ -210,7 +229,7 @@ impl MessageFields for Expression {
         cache: &mut SizeCache,
         sink: &mut S,
     ) -> Result<(), EncodeError> {
-        write_slice(Slice::Expression(slice::from_ref(self)), 0, cache, sink)
+        write_slice(FamilySlice::Expression(from_ref(self)), 0, cache, sink)
     }
 
     fn merge_field<B: Buf>(
@@ -220,11 +239,11 @@ impl MessageFields for Expression {
         buf: &mut B,
         context: &mut DecodeContext,
     ) -> Result<(), DecodeError> {
-        let mut held = Held::Expression(mem::replace(self, Expression::empty(alloc)));
+        let mut held = FamilyHeld::Expression(replace(self, Expression::empty(alloc)));
         let merged = merge_held(&mut held, alloc, tag, buf, context);
         match held {
-            Held::Expression(message) => *self = message,
-            Held::Call(_other) => {}
+            FamilyHeld::Expression(message) => *self = message,
+            FamilyHeld::Call(_other) => {}
         }
         merged
     }

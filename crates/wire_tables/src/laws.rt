@@ -1,90 +1,141 @@
-//! Laws of the message types: each function is a theorem, and does nothing.
-ghost use Rattle.std.specs.Prelude.{ℕ};
+//! Laws of the message types: each function is a theorem, and does nothing. Generated.
+ghost use Rattle.std.specs.Prelude.{ℕ, List};
 ghost use Rattle.wire_codec.specs.Field.{Payload};
 ghost use Rattle.wire_codec.specs.Limits.{Charge};
 ghost use Rattle.wire_fields.specs.Returned.{ReadsBack};
-ghost use Rattle.wire_tables.specs.CounterBack.{CountersFoldBack};
-ghost use Rattle.wire_tables.specs.Expression.{an_expression, a_call, shape_of};
-ghost use Rattle.wire_tables.specs.ExpressionBack.{range_of};
-ghost use Rattle.wire_tables.specs.Meter.{meter};
-ghost use Rattle.wire_tables.specs.MeterBack.{meter_range};
-ghost use Rattle.wire_tables.specs.ProfileBack.{ProfilesFoldBack};
-ghost use Rattle.wire_tables.specs.Rule.{rule_shape};
-ghost use Rattle.wire_tables.specs.RuleBack.{rule_range};
-ghost use Rattle.wire_tables.specs.Signal.{signal};
-ghost use Rattle.wire_tables.specs.SignalBack.{signal_range};
-ghost use Rattle.wire_tables.specs.Tree.{tree_shape};
-ghost use Rattle.wire_tables.specs.TreeBack.{tree_range};
+ghost use Rattle.wire_fields.specs.Stays.{DecodesInRange};
+ghost use Rattle.wire_tables.specs.Call.{call-range};
+ghost use Rattle.wire_tables.specs.Call.{call-shape};
+ghost use Rattle.wire_tables.specs.Card.{card-range};
+ghost use Rattle.wire_tables.specs.Card.{card-shape};
+ghost use Rattle.wire_tables.specs.Counter.{counter-range};
+ghost use Rattle.wire_tables.specs.Counter.{counter-shape};
+ghost use Rattle.wire_tables.specs.Expression.{expression-range};
+ghost use Rattle.wire_tables.specs.Expression.{expression-shape};
+ghost use Rattle.wire_tables.specs.Ledger.{ledger-range};
+ghost use Rattle.wire_tables.specs.Ledger.{ledger-shape};
+ghost use Rattle.wire_tables.specs.Profile.{profile-range};
+ghost use Rattle.wire_tables.specs.Profile.{profile-shape};
+ghost use Rattle.wire_tables.specs.Reading.{reading-range};
+ghost use Rattle.wire_tables.specs.Reading.{reading-shape};
+ghost use Rattle.wire_tables.specs.Signal.{signal-range};
+ghost use Rattle.wire_tables.specs.Signal.{signal-shape};
+ghost use Rattle.wire_tables.specs.Tree.{tree-range};
+ghost use Rattle.wire_tables.specs.Tree.{tree-shape};
 
-use crate::{Call, Expression, Meter, Rule, Signal, Tree};
-use wire_codec::laws;
+use wire_codec::laws::text_decodes;
 use wire_fields::laws::grounds;
 
-/// The records of a `Counter` are in range, and fold back to it.
-pub fn counters_fold_back()
-    ensures { CountersFoldBack }
-{
-    laws::fields_are_plain();
-    laws::grammar::charges_add_up();
-    laws::scalar::values_read_back();
-}
-
-/// The records of a `Profile` are in range, and fold back to it.
-pub fn profiles_fold_back()
-    ensures { ProfilesFoldBack }
-{
-    laws::fields_are_plain();
-    laws::grammar::charges_add_up();
-    laws::grammar::shortest_text_spells();
-    laws::scalar::values_read_back();
-}
-
-/// What is written of a `Signal` whose levels are ones that the enum has decodes to it, with its
-/// unknown fields, whatever each of them is charged, where the limits suffice.
-pub fn signals_read_back()
-    ensures { (charge_of : ℕ → Payload → Charge)
-        → ReadsBack signal (signal_range charge_of) }
+/// What is written of a `Call` in range decodes to it, where the limits suffice.
+pub fn call_reads_back()
+    ensures { ReadsBack call-shape call-range }
 {
     grounds();
-    laws::text_decodes::<Signal>();
+    text_decodes::<crate::Call>();
 }
 
-/// What is written of a `Meter` decodes to it, with what it has kept, where the limits suffice.
-pub fn meters_read_back()
-    ensures { ReadsBack meter meter_range }
+/// What is written of a `Expression` in range decodes to it, where the limits suffice.
+pub fn expression_reads_back()
+    ensures { ReadsBack expression-shape expression-range }
 {
     grounds();
-    laws::text_decodes::<Meter>();
+    text_decodes::<crate::Expression>();
 }
 
-/// What is written of a `Tree` decodes to it, where the limits suffice.
-pub fn trees_read_back()
-    ensures { ReadsBack tree_shape tree_range }
+/// What is written of a `Tree` in range decodes to it, where the limits suffice.
+pub fn tree_reads_back()
+    ensures { ReadsBack tree-shape tree-range }
 {
     grounds();
-    laws::text_decodes::<Tree>();
+    text_decodes::<crate::Tree>();
 }
 
-/// What is written of a `Rule` decodes to it, where the limits suffice.
-pub fn rules_read_back()
-    ensures { ReadsBack rule_shape rule_range }
+/// What is written of a `Ledger` in range decodes to it, where the limits suffice.
+pub fn ledger_reads_back()
+    ensures { ReadsBack ledger-shape ledger-range }
 {
     grounds();
-    laws::text_decodes::<Rule>();
+    text_decodes::<crate::Ledger>();
 }
 
-/// What is written of an `Expression` decodes to it, where the limits suffice.
-pub fn expressions_read_back()
-    ensures { ReadsBack (shape_of an_expression) (range_of an_expression) }
+/// A `Ledger` that bytes decode to is in range, where its encoding takes at most
+/// 2,147,483,647 bytes.
+pub fn ledger_decodes_in_range()
+    ensures { DecodesInRange ledger-shape ledger-range }
 {
     grounds();
-    laws::text_decodes::<Expression>();
 }
 
-/// What is written of a `Call` decodes to it, where the limits suffice.
-pub fn calls_read_back()
-    ensures { ReadsBack (shape_of a_call) (range_of a_call) }
+/// What is written of a `Card` in range decodes to it, where the limits suffice.
+pub fn card_reads_back()
+    ensures { ReadsBack card-shape card-range }
 {
     grounds();
-    laws::text_decodes::<Call>();
+    text_decodes::<crate::Card>();
+}
+
+/// A `Card` that bytes decode to is in range, where its encoding takes at most
+/// 2,147,483,647 bytes.
+pub fn card_decodes_in_range()
+    ensures { DecodesInRange card-shape card-range }
+{
+    grounds();
+}
+
+/// What is written of a `Profile` in range decodes to it, where the limits suffice.
+pub fn profile_reads_back()
+    ensures { ReadsBack profile-shape profile-range }
+{
+    grounds();
+    text_decodes::<crate::Profile>();
+}
+
+/// A `Profile` that bytes decode to is in range, where its encoding takes at most
+/// 2,147,483,647 bytes.
+pub fn profile_decodes_in_range()
+    ensures { DecodesInRange profile-shape profile-range }
+{
+    grounds();
+}
+
+/// What is written of a `Counter` in range decodes to it, where the limits suffice.
+pub fn counter_reads_back()
+    ensures { ReadsBack counter-shape counter-range }
+{
+    grounds();
+    text_decodes::<crate::Counter>();
+}
+
+/// A `Counter` that bytes decode to is in range, where its encoding takes at most
+/// 2,147,483,647 bytes.
+pub fn counter_decodes_in_range()
+    ensures { DecodesInRange counter-shape counter-range }
+{
+    grounds();
+}
+
+/// What is written of a `Signal` in range decodes to it, whatever each record is charged that a map
+/// of a closed enum left, where the limits suffice.
+pub fn signal_reads_back()
+    ensures { (charges : List ℕ → ℕ → Payload → Charge)
+        → ReadsBack signal-shape (signal-range charges) }
+{
+    grounds();
+    text_decodes::<crate::Signal>();
+}
+
+/// What is written of a `Reading` in range decodes to it, where the limits suffice.
+pub fn reading_reads_back()
+    ensures { ReadsBack reading-shape reading-range }
+{
+    grounds();
+    text_decodes::<crate::Reading>();
+}
+
+/// A `Reading` that bytes decode to is in range, where its encoding takes at most
+/// 2,147,483,647 bytes.
+pub fn reading_decodes_in_range()
+    ensures { DecodesInRange reading-shape reading-range }
+{
+    grounds();
 }

@@ -1,26 +1,34 @@
-//! An enum.
+//! The enum `tables2.Level`. Generated.
 use wire_codec::Enumeration;
+use wire_fields::Plain;
 
-/// How well a device works.
+/// A closed enum.
 #[derive(Clone, Copy, Debug, PartialEq, Eq, Hash)]
 pub enum Level {
     Low = 0,
     High = 1,
 }
 
+impl Plain for Level {
+    ghost equal = { λ value copy e. e };
+}
+
 impl Enumeration for Level {
     ghost use Rattle.std.specs.Prelude.{codes};
     ghost use Rattle.wire_codec.specs.EnumNumbers.{first_numbered_keeps};
-    ghost use Rattle.wire_tables.specs.declared.level.Level.TheVariants.{Low, High};
-    ghost use Rattle.wire_tables.specs.Level.{level_number, level_of, levels};
+    ghost use Rattle.wire_tables.specs.declared.level.Level.TheVariants.{Low};
+    ghost use Rattle.wire_tables.specs.declared.level.Level.TheVariants.{High};
+    ghost use Rattle.wire_tables.specs.Level.{level-number};
+    ghost use Rattle.wire_tables.specs.Level.{level-of};
+    ghost use Rattle.wire_tables.specs.Level.{level-values};
 
-    ghost number = { level_number };
+    ghost number = { level-number };
 
-    ghost of_number = { level_of };
+    ghost of_number = { level-of };
 
     ghost name = { elim [ Low ↦ codes "LOW" | High ↦ codes "HIGH" ] };
 
-    ghost keeps_number = { first_numbered_keeps level_number levels };
+    ghost keeps_number = { first_numbered_keeps level-number level-values };
 
     fn from_i32(value: i32) -> Option<Level> {
         match value {

@@ -1,36 +1,32 @@
-//! Message types as tables of their fields, as a compiler of schemas would write them.
+//! The messages of `wire_tables`. Generated.
 #![tactic(auto)]
 
 mod call;
+mod call_family;
 mod card;
-mod cause;
-mod contact;
+mod card_contact;
 mod counter;
 mod expression;
-mod expressions;
+mod grade;
 pub mod laws;
 mod ledger;
 mod level;
-mod meter;
 mod profile;
-mod pulse;
 mod reading;
-mod rule;
 mod signal;
+mod signal_cause;
 mod tree;
 
 pub use call::Call;
 pub use card::Card;
-pub use cause::{Cause, CauseKind};
-pub use contact::{Contact, ContactKind};
+pub use card_contact::CardContact;
 pub use counter::Counter;
 pub use expression::Expression;
+pub use grade::Grade;
 pub use ledger::Ledger;
 pub use level::Level;
-pub use meter::Meter;
 pub use profile::Profile;
-pub use pulse::Pulse;
 pub use reading::Reading;
-pub use rule::{Rule, RuleTest};
 pub use signal::Signal;
+pub use signal_cause::SignalCause;
 pub use tree::Tree;

@@ -1,18 +1,18 @@
-//! A message with fields of several kinds.
+//! The message `tables.Profile`. Generated.
 use crate::counter::Counter;
 use bytes::Buf;
-use std::alloc::Global;
+use std::alloc::{AllocError, Global};
 use wire_codec::{
-    DecodeContext, DecodeError, EncodeError, EncodeSink, MessageFields, SizeCache, Tag,
-    UnknownFields,
+    DecodeContext, DecodeError, EncodeError, EncodeSink, MessageFields, MessageName, SizeCache,
+    Tag, UnknownFields,
 };
 use wire_fields::{
     Blob, EachEmbedded, Embedded, Fixed32, Implicit, Int32, Kind, Known, Optional, Rest, Text,
-    keep, measure, write,
+    Twin, copied_box, copied_list, copied_numbers, copied_option, keep, measure, write,
 };
 
-/// A person's profile: who it is, how it is shown, and what was counted of it.
-#[derive(Clone, Debug, Drop, PartialEq)]
+/// Fields by themselves, where it is told whether they are there, and messages.
+#[derive(Debug, Drop, PartialEq)]
 pub struct Profile {
     pub id: i32,
     pub name: String,
@@ -21,23 +21,67 @@ pub struct Profile {
     pub motto: Option<String>,
     pub visits: Option<Box<Counter>>,
     pub counters: Vec<Counter>,
+    /// The fields that the schema lacks, as they came.
     pub unknown: UnknownFields,
 }
 
+impl MessageName for Profile {
+    const PACKAGE: &'static str = "tables";
+
+    const NAME: &'static str = "Profile";
+
+    const FULL_NAME: &'static str = "tables.Profile";
+
+    const TYPE_URL: &'static str = "type.googleapis.com/tables.Profile";
+}
+
+impl Clone for Profile {
+    ghost use Rattle.std.specs.Prelude.{◌≡◌};
+    ghost use Rattle.wire_tables.specs.Profile.{profile-value};
+
+    ghost is_clone = { λ m copy. profile-value copy ≡ profile-value m };
+
+    fn clone(&self) -> Result<Profile, AllocError> {
+        Ok(Profile {
+            id: self.id,
+            name: self.name.clone()?,
+            picture: copied_numbers(&self.picture)?,
+            color: self.color,
+            motto: copied_option(&self.motto)?,
+            visits: copied_box(&self.visits)?,
+            counters: copied_list(&self.counters)?,
+            unknown: self.unknown.clone()?,
+        })
+    }
+}
+
+impl Twin for Profile {
+    ghost use Rattle.wire_tables.specs.Profile.{Profile-Value};
+    ghost use Rattle.wire_tables.specs.Profile.{profile-value};
+
+    ghost Seen = { Profile-Value };
+
+    ghost seen = { profile-value };
+
+    ghost same = { λ m copy e. e };
+}
+
 impl MessageFields for Profile {
-    ghost use Rattle.wire_tables.specs.Profile.{ProfileValue, profile_value, profile};
+    ghost use Rattle.wire_tables.specs.Profile.{Profile-Value};
+    ghost use Rattle.wire_tables.specs.Profile.{profile-value};
+    ghost use Rattle.wire_tables.specs.Profile.{profile-shape};
 
-    ghost Value = { ProfileValue };
+    ghost Value = { Profile-Value };
 
-    ghost view = { profile_value };
+    ghost view = { profile-value };
 
-    ghost records = { profile.records };
+    ghost records = { profile-shape.records };
 
-    ghost default = { profile.default };
+    ghost default = { profile-shape.default };
 
-    ghost takes = { profile.takes };
+    ghost takes = { profile-shape.takes };
 
-    ghost single = { profile.single };
+    ghost single = { profile-shape.single };
 
     fn default_value(alloc: Global) -> Profile {
         Profile {
@@ -47,50 +91,50 @@ impl MessageFields for Profile {
             color: <Optional<Fixed32> as Kind>::empty(alloc),
             motto: <Optional<Text> as Kind>::empty(alloc),
             visits: <Embedded<Counter> as Kind>::empty(alloc),
-            counters: <EachEmbedded<Counter, 32> as Kind>::empty(alloc),
+            counters: <EachEmbedded<Counter, 40> as Kind>::empty(alloc),
             unknown: UnknownFields::new(alloc),
         }
     }
 
     fn compute_size(&self, cache: &mut SizeCache) -> Result<u32, EncodeError> {
-        let id: Known<Implicit<Int32>> = Known {
+        let field_1: Known<Implicit<Int32>> = Known {
             number: 1,
             held: &self.id,
         };
-        let name: Known<Implicit<Text>> = Known {
+        let field_2: Known<Implicit<Text>> = Known {
             number: 2,
             held: &self.name,
         };
-        let picture: Known<Implicit<Blob>> = Known {
+        let field_3: Known<Implicit<Blob>> = Known {
             number: 3,
             held: &self.picture,
         };
-        let color: Known<Optional<Fixed32>> = Known {
+        let field_4: Known<Optional<Fixed32>> = Known {
             number: 4,
             held: &self.color,
         };
-        let motto: Known<Optional<Text>> = Known {
+        let field_5: Known<Optional<Text>> = Known {
             number: 5,
             held: &self.motto,
         };
-        let visits: Known<Embedded<Counter>> = Known {
+        let field_6: Known<Embedded<Counter>> = Known {
             number: 6,
             held: &self.visits,
         };
-        let counters: Known<EachEmbedded<Counter, 32>> = Known {
+        let field_7: Known<EachEmbedded<Counter, 40>> = Known {
             number: 7,
             held: &self.counters,
         };
-        let known = (((id, name), (picture, color)), ((motto, visits), counters));
-        measure(
-            (
-                known,
-                Rest {
-                    fields: &self.unknown,
-                },
-            ),
-            cache,
-        )
+        let fields_1_to_2 = (field_1, field_2);
+        let fields_3_to_4 = (field_3, field_4);
+        let fields_5_to_6 = (field_5, field_6);
+        let fields_1_to_4 = (fields_1_to_2, fields_3_to_4);
+        let fields_5_to_7 = (fields_5_to_6, field_7);
+        let fields_1_to_7 = (fields_1_to_4, fields_5_to_7);
+        let rest = Rest {
+            fields: &self.unknown,
+        };
+        measure((fields_1_to_7, rest), cache)
     }
 
     fn write_to<S: EncodeSink>(
@@ -98,45 +142,44 @@ impl MessageFields for Profile {
         cache: &mut SizeCache,
         sink: &mut S,
     ) -> Result<(), EncodeError> {
-        let id: Known<Implicit<Int32>> = Known {
+        let field_1: Known<Implicit<Int32>> = Known {
             number: 1,
             held: &self.id,
         };
-        let name: Known<Implicit<Text>> = Known {
+        let field_2: Known<Implicit<Text>> = Known {
             number: 2,
             held: &self.name,
         };
-        let picture: Known<Implicit<Blob>> = Known {
+        let field_3: Known<Implicit<Blob>> = Known {
             number: 3,
             held: &self.picture,
         };
-        let color: Known<Optional<Fixed32>> = Known {
+        let field_4: Known<Optional<Fixed32>> = Known {
             number: 4,
             held: &self.color,
         };
-        let motto: Known<Optional<Text>> = Known {
+        let field_5: Known<Optional<Text>> = Known {
             number: 5,
             held: &self.motto,
         };
-        let visits: Known<Embedded<Counter>> = Known {
+        let field_6: Known<Embedded<Counter>> = Known {
             number: 6,
             held: &self.visits,
         };
-        let counters: Known<EachEmbedded<Counter, 32>> = Known {
+        let field_7: Known<EachEmbedded<Counter, 40>> = Known {
             number: 7,
             held: &self.counters,
         };
-        let known = (((id, name), (picture, color)), ((motto, visits), counters));
-        write(
-            (
-                known,
-                Rest {
-                    fields: &self.unknown,
-                },
-            ),
-            cache,
-            sink,
-        )
+        let fields_1_to_2 = (field_1, field_2);
+        let fields_3_to_4 = (field_3, field_4);
+        let fields_5_to_6 = (field_5, field_6);
+        let fields_1_to_4 = (fields_1_to_2, fields_3_to_4);
+        let fields_5_to_7 = (fields_5_to_6, field_7);
+        let fields_1_to_7 = (fields_1_to_4, fields_5_to_7);
+        let rest = Rest {
+            fields: &self.unknown,
+        };
+        write((fields_1_to_7, rest), cache, sink)
     }
 
     fn merge_field<B: Buf>(
@@ -153,15 +196,13 @@ impl MessageFields for Profile {
             4 => <Optional<Fixed32> as Kind>::merge(alloc, tag, &mut self.color, buf, context),
             5 => <Optional<Text> as Kind>::merge(alloc, tag, &mut self.motto, buf, context),
             6 => <Embedded<Counter> as Kind>::merge(alloc, tag, &mut self.visits, buf, context),
-            7 => {
-                <EachEmbedded<Counter, 32> as Kind>::merge(
-                    alloc,
-                    tag,
-                    &mut self.counters,
-                    buf,
-                    context,
-                )
-            }
+            7 => <EachEmbedded<Counter, 40> as Kind>::merge(
+                alloc,
+                tag,
+                &mut self.counters,
+                buf,
+                context,
+            ),
             _ => keep(alloc, tag, &mut self.unknown, buf, context),
         }
     }
@@ -173,7 +214,7 @@ impl MessageFields for Profile {
         <Optional<Fixed32> as Kind>::clear(&mut self.color);
         <Optional<Text> as Kind>::clear(&mut self.motto);
         <Embedded<Counter> as Kind>::clear(&mut self.visits);
-        <EachEmbedded<Counter, 32> as Kind>::clear(&mut self.counters);
+        <EachEmbedded<Counter, 40> as Kind>::clear(&mut self.counters);
         self.unknown.clear();
     }
 }

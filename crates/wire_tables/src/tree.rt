@@ -1,13 +1,13 @@
-//! A message that holds itself.
-ghost use Rattle.wire_tables.specs.Tree.{tree_value};
+//! The message `tables.Tree`. Generated.
+ghost use Rattle.wire_tables.specs.Tree.{tree-value};
 
 use crate::counter::Counter;
 use bytes::Buf;
 use std::alloc::Global;
-use std::slice;
+use std::slice::from_ref;
 use wire_codec::{
-    DecodeContext, DecodeError, EncodeError, EncodeSink, MessageFields, SizeCache, Tag,
-    UnknownFields,
+    DecodeContext, DecodeError, EncodeError, EncodeSink, MessageFields, MessageName, SizeCache,
+    Tag, UnknownFields,
 };
 use wire_fields::{
     Embedded, Implicit, Kind, Known, Parts, Place, Recursive, Rest, Text, keep, merge_nest,
@@ -21,21 +21,35 @@ pub struct Tree {
     pub children: Vec<Tree>,
     pub left: Option<Box<Tree>>,
     pub visits: Option<Box<Counter>>,
+    /// The fields that the schema lacks, as they came.
     pub unknown: UnknownFields,
 }
 
+impl MessageName for Tree {
+    const PACKAGE: &'static str = "tables";
+
+    const NAME: &'static str = "Tree";
+
+    const FULL_NAME: &'static str = "tables.Tree";
+
+    const TYPE_URL: &'static str = "type.googleapis.com/tables.Tree";
+}
+
 impl Recursive for Tree {
-    ghost use Rattle.wire_tables.specs.Tree.{TreeLeaf, tree, tree_leaf, tree_counted};
+    ghost use Rattle.wire_tables.specs.Tree.{Tree-Leaf};
+    ghost use Rattle.wire_tables.specs.Tree.{tree-counted};
+    ghost use Rattle.wire_tables.specs.Tree.{tree-leaf};
+    ghost use Rattle.wire_tables.specs.Tree.{tree-table};
 
-    ghost Leaf = { TreeLeaf };
+    ghost Leaf = { Tree-Leaf };
 
-    ghost view = { tree_value };
+    ghost view = { tree-value };
 
-    ghost table = { tree };
+    ghost table = { tree-table };
 
-    ghost counted = { tree_counted };
+    ghost counted = { tree-counted };
 
-    ghost single = { tree_leaf.single };
+    ghost single = { tree-leaf.single };
 
     fn empty(alloc: Global) -> Tree {
         Tree {
@@ -54,6 +68,7 @@ impl Recursive for Tree {
     fn number(row: usize) -> u32 {
         match row {
             0 => 2,
+            1 => 3,
             _ => 3,
         }
     }
@@ -71,7 +86,7 @@ impl Recursive for Tree {
             0 => &self.children,
             1 => {
                 match &self.left {
-                    Some(message) => slice::from_ref(message),
+                    Some(message) => from_ref(message),
                     None => &[],
                 }
             }
@@ -111,22 +126,22 @@ impl Recursive for Tree {
     fn run_len(&self, run: usize, cache: &mut SizeCache) -> Result<u64, EncodeError> {
         match run {
             0 => {
-                let name: Known<Implicit<Text>> = Known {
+                let field_1: Known<Implicit<Text>> = Known {
                     number: 1,
                     held: &self.name,
                 };
-                name.len(cache)
+                field_1.len(cache)
             }
             1 => Ok(0),
             _ => {
-                let visits: Known<Embedded<Counter>> = Known {
+                let field_4: Known<Embedded<Counter>> = Known {
                     number: 4,
                     held: &self.visits,
                 };
                 let rest = Rest {
                     fields: &self.unknown,
                 };
-                (visits, rest).len(cache)
+                (field_4, rest).len(cache)
             }
         }
     }
@@ -139,22 +154,22 @@ impl Recursive for Tree {
     ) -> Result<(), EncodeError> {
         match run {
             0 => {
-                let name: Known<Implicit<Text>> = Known {
+                let field_1: Known<Implicit<Text>> = Known {
                     number: 1,
                     held: &self.name,
                 };
-                name.put(cache, sink)
+                field_1.put(cache, sink)
             }
             1 => Ok(()),
             _ => {
-                let visits: Known<Embedded<Counter>> = Known {
+                let field_4: Known<Embedded<Counter>> = Known {
                     number: 4,
                     held: &self.visits,
                 };
                 let rest = Rest {
                     fields: &self.unknown,
                 };
-                (visits, rest).put(cache, sink)
+                (field_4, rest).put(cache, sink)
             }
         }
     }
@@ -175,20 +190,20 @@ impl Recursive for Tree {
 }
 
 impl MessageFields for Tree {
-    ghost use Rattle.wire_tables.specs.Tree.{TreeValue, tree, tree_single};
-    ghost use Rattle.wire_fields.specs.NestTable.{nest_records, nest_takes, empty_of};
+    ghost use Rattle.wire_tables.specs.Tree.{Tree-Value};
+    ghost use Rattle.wire_tables.specs.Tree.{tree-shape};
 
-    ghost Value = { TreeValue };
+    ghost Value = { Tree-Value };
 
-    ghost view = { tree_value };
+    ghost view = { tree-value };
 
-    ghost records = { nest_records tree };
+    ghost records = { tree-shape.records };
 
-    ghost default = { empty_of tree };
+    ghost default = { tree-shape.default };
 
-    ghost takes = { nest_takes tree };
+    ghost takes = { tree-shape.takes };
 
-    ghost single = { tree_single };
+    ghost single = { tree-shape.single };
 
     fn default_value(alloc: Global) -> Tree {
         Tree::empty(alloc)

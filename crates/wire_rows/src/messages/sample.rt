@@ -2,7 +2,7 @@
 use crate::row::Row;
 use crate::said::Said;
 use wire_codec::Message;
-use wire_samples::{Node, Person, Repeat};
+use wire_samples::{Gauge, Node, Person, Repeat};
 
 /// A message type of the rows.
 pub trait Sample: Message {
@@ -39,6 +39,13 @@ impl Sample for Node {
         said.also(" ", &self.children.len());
         said.also(" ", &self.group.is_some());
         said.also(" ", &self.unknown().len());
+    }
+}
+
+impl Sample for Gauge {
+    fn say(&self, said: &mut Said) {
+        said.show(&self.level);
+        said.also(" ", &self.unknown.len());
     }
 }
 

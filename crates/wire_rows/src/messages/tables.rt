@@ -1,8 +1,10 @@
 //! The messages that are tables of fields, and how each is shown.
 use super::sample::Sample;
 use crate::said::{Hex, Said};
+use wire_meter::Meter;
+use wire_pulse::Pulse;
 use wire_tables::{
-    Call, Card, Contact, Counter, Expression, Ledger, Meter, Profile, Pulse, Reading, Signal,
+    Call, Card, CardContact, Counter, Expression, Ledger, Profile, Reading, Signal,
 };
 
 impl Sample for Counter {
@@ -59,7 +61,7 @@ impl Sample for Card {
     fn say(&self, said: &mut Said) {
         said.show(&self.name);
         match &self.contact {
-            Some(Contact::Visits(visits)) => {
+            Some(CardContact::Visits(visits)) => {
                 said.also(" Some(Visits(", &visits.count);
                 said.also(", ", &visits.unknown.len());
                 said.word("))");

@@ -1,22 +1,27 @@
-use Rattle.std.proofs.Common.{rules, sym, ◌∙◌}
+use Rattle.std.proofs.Common.{refl, rules, sym, ◌∙◌}
 use Rattle.wire_codec.specs.TagView.{tag_number}
-use Rattle.wire_codec.specs.ValueMap.{uint64}
-use Rattle.wire_fields.specs.Arms.{arm_err, rest_err, unlike}
-use Rattle.wire_fields.specs.declared.form.Form.TheVariants.{Varint}
-use Rattle.wire_fields.specs.Numbers.{numeric}
-use Rattle.wire_fields.specs.Presence.{implicit}
+use Rattle.wire_fields.specs.Arms.{arm_err, arm_ok, rest_err, unlike}
 use Rattle.wire_fields.specs.Shape.{keeps}
-use Rattle.wire_tables.specs.Counter.{counter_known, counter}
+use Rattle.wire_tables.specs.Counter.{counter-count-kind, counter-known, counter-shape}
 use Rattle.wire_tables.proofs.counter.CounterMessageFields.merge_field.Goals as goal
 
 pub returns-in-1-clause-err : goal.returns-in-1-clause-err
 returns-in-1-clause-err g c =
-    arm_err counter.takes (implicit (numeric Varint uint64)).kind.takes 1 _
-    (sym c.field_number.ensures.number ∙ c.in-1.is) _ _ (λ charge z p h. (z.0, h.0)) _ _ _
+    arm_err counter-shape.takes counter-count-kind.kind.takes 1 _
+    (sym c.field_number.ensures.number ∙ c.in-1.is) _ _
+    (λ charge z p h. (z.0, h.0)) _ _ _
     c.merge.result c.merge.ensures.err
+
+pub returns-in-1-clause-ok : goal.returns-in-1-clause-ok
+returns-in-1-clause-ok g c =
+    arm_ok counter-shape.takes counter-count-kind.kind.takes 1 _
+    (sym c.field_number.ensures.number ∙ c.in-1.is) _ _ _ _
+    (λ charge p h. (h, refl)) _ _ _ _ _
+    c.merge.result c.merge.ensures.ok
 
 pub returns-in_default-clause-err : goal.returns-in_default-clause-err
 returns-in_default-clause-err g c =
-    rest_err counter_known.owns counter_known.takes keeps _
-    (λ p. unlike (tag_number c.args.tag) 1 (search rules)) _ _ _ _ c.keep.result
-    c.keep.ensures.err
+    let n = tag_number c.args.tag in
+    rest_err counter-known.owns counter-known.takes keeps _
+    (λ p. unlike n 1 (search rules))
+    _ _ _ _ c.keep.result c.keep.ensures.err

@@ -1,31 +1,58 @@
-use Rattle.std.proofs.Common.{rules, sym, ◌∙◌}
+use Rattle.std.proofs.Common.{refl, rules, sym, ◌∙◌}
 use Rattle.wire_codec.specs.TagView.{tag_number}
-use Rattle.wire_fields.specs.Arms.{arm_err, rest_err, neither, unlike}
+use Rattle.wire_fields.specs.Arms.{arm_err, arm_ok, neither, rest_err, unlike}
 use Rattle.wire_fields.specs.Shape.{keeps}
-use Rattle.wire_tables.specs.Ledger.{ledger_counts, ledger_names, ledger_visits, ledger_known, ledger}
+use Rattle.wire_tables.specs.Ledger.{ledger-counts-kind, ledger-known, ledger-names-kind}
+use Rattle.wire_tables.specs.Ledger.{ledger-shape, ledger-visits-kind}
 use Rattle.wire_tables.proofs.ledger.LedgerMessageFields.merge_field.Goals as goal
 
 pub returns-in-1-clause-err : goal.returns-in-1-clause-err
 returns-in-1-clause-err g c =
-    arm_err ledger.takes ledger_counts.kind.takes 1 _
-    (sym c.field_number.ensures.number ∙ c.in-1.is) _ _ (λ charge z p h. (z.0.0.0, h.0.0.0)) _ _ _
+    arm_err ledger-shape.takes ledger-counts-kind.kind.takes 1 _
+    (sym c.field_number.ensures.number ∙ c.in-1.is) _ _
+    (λ charge z p h. (z.0.0.0, h.0.0.0)) _ _ _
     c.merge.result c.merge.ensures.err
+
+pub returns-in-1-clause-ok : goal.returns-in-1-clause-ok
+returns-in-1-clause-ok g c =
+    arm_ok ledger-shape.takes ledger-counts-kind.kind.takes 1 _
+    (sym c.field_number.ensures.number ∙ c.in-1.is) _ _ _ _
+    (λ charge p h. (((h, refl), refl), refl)) _ _ _ _ _
+    c.merge.result c.merge.ensures.ok
 
 pub returns-in-2-clause-err : goal.returns-in-2-clause-err
 returns-in-2-clause-err g c =
-    arm_err ledger.takes ledger_names.kind.takes 2 _
-    (sym c.field_number.ensures.number ∙ c.in-2.is) _ _ (λ charge z p h. (z.0.0.1, h.0.0.0)) _ _ _
+    arm_err ledger-shape.takes ledger-names-kind.kind.takes 2 _
+    (sym c.field_number.ensures.number ∙ c.in-2.is) _ _
+    (λ charge z p h. (z.0.0.1, h.0.0.0)) _ _ _
     (c.merge-in-2).result (c.merge-in-2).ensures.err
+
+pub returns-in-2-clause-ok : goal.returns-in-2-clause-ok
+returns-in-2-clause-ok g c =
+    arm_ok ledger-shape.takes ledger-names-kind.kind.takes 2 _
+    (sym c.field_number.ensures.number ∙ c.in-2.is) _ _ _ _
+    (λ charge p h. (((h, refl), refl), refl)) _ _ _ _ _
+    (c.merge-in-2).result (c.merge-in-2).ensures.ok
 
 pub returns-in-3-clause-err : goal.returns-in-3-clause-err
 returns-in-3-clause-err g c =
-    arm_err ledger.takes ledger_visits.kind.takes 3 _
-    (sym c.field_number.ensures.number ∙ c.in-3.is) _ _ (λ charge z p h. (z.0.1, h.0.0)) _ _ _
+    arm_err ledger-shape.takes ledger-visits-kind.kind.takes 3 _
+    (sym c.field_number.ensures.number ∙ c.in-3.is) _ _
+    (λ charge z p h. (z.0.1, h.0.0)) _ _ _
     (c.merge-in-3).result (c.merge-in-3).ensures.err
+
+pub returns-in-3-clause-ok : goal.returns-in-3-clause-ok
+returns-in-3-clause-ok g c =
+    arm_ok ledger-shape.takes ledger-visits-kind.kind.takes 3 _
+    (sym c.field_number.ensures.number ∙ c.in-3.is) _ _ _ _
+    (λ charge p h. ((h, refl), refl)) _ _ _ _ _
+    (c.merge-in-3).result (c.merge-in-3).ensures.ok
 
 pub returns-in_default-clause-err : goal.returns-in_default-clause-err
 returns-in_default-clause-err g c =
     let n = tag_number c.args.tag in
-    rest_err ledger_known.owns ledger_known.takes keeps _ (λ p. neither _ _ (neither _ _
-    (unlike n 1 (search rules)) (unlike n 2 (search rules))) (unlike n 3 (search rules)))
+    rest_err ledger-known.owns ledger-known.takes keeps _
+    (λ p. neither _ _ (neither _ _ (unlike n 1 (search rules))
+    (unlike n 2 (search rules)))
+    (unlike n 3 (search rules)))
     _ _ _ _ c.keep.result c.keep.ensures.err

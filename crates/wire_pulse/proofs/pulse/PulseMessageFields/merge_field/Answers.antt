@@ -1,0 +1,29 @@
+use Rattle.std.proofs.Common.{refl, rules, sym, ◌∙◌}
+use Rattle.std.proofs.lemmas.Result.{IfErr-weaker}
+use Rattle.wire_codec.specs.TagView.{tag_number}
+use Rattle.wire_fields.specs.Arms.{arm_err, arm_ok, rest_err, unlike}
+use Rattle.wire_fields.specs.Dropped.{drops}
+use Rattle.wire_pulse.specs.Pulse.{pulse-beats-kind, pulse-known, pulse-shape}
+use Rattle.wire_pulse.proofs.pulse.PulseMessageFields.merge_field.Goals as goal
+
+pub returns-in-1-clause-err : goal.returns-in-1-clause-err
+returns-in-1-clause-err g c =
+    arm_err pulse-shape.takes pulse-beats-kind.kind.takes 1 _
+    (sym c.field_number.ensures.number ∙ c.in-1.is) _ _
+    (λ charge z p h. (z.0, h.0)) _ _ _
+    c.merge.result c.merge.ensures.err
+
+pub returns-in-1-clause-ok : goal.returns-in-1-clause-ok
+returns-in-1-clause-ok g c =
+    arm_ok pulse-shape.takes pulse-beats-kind.kind.takes 1 _
+    (sym c.field_number.ensures.number ∙ c.in-1.is) _ _ _ _
+    (λ charge p h. (h, refl)) _ _ _ _ _
+    c.merge.result c.merge.ensures.ok
+
+pub returns-in_default-clause-err : goal.returns-in_default-clause-err
+returns-in_default-clause-err g c =
+    let n = tag_number c.args.tag in
+    rest_err pulse-known.owns pulse-known.takes drops _
+    (λ p. unlike n 1 (search rules))
+    _ _ _ _ c.pass_over.result
+    (IfErr-weaker c.pass_over.result _ _ (λ e none other. none) c.pass_over.ensures.err)

@@ -1,0 +1,6 @@
+use Rattle.wire_tables.specs.Counter.{counter-stays}
+use Rattle.wire_fields.specs.Stays.{decodes_in_range}
+use Rattle.wire_tables.proofs.laws.counter_decodes_in_range.Goals as goal
+
+pub returns : goal.returns
+returns c = decodes_in_range c.grounds.ensures (counter-stays c.grounds.ensures)
