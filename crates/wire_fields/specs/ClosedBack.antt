@@ -8,10 +8,10 @@ use Rattle.std.specs.Prelude.{ℤ, FitsSigned, Option, Some, None, map, ◌==◌
 use Rattle.wire_codec.specs.EnumValue.{EnumValue}
 use Rattle.wire_codec.specs.Enumeration.{number_of, known_or}
 use Rattle.wire_codec.specs.Charge.{payload_charge}
-use Rattle.wire_codec.specs.Field.{Fields, none, field, push, varint}
+use Rattle.wire_codec.specs.Field.{Payload, Fields, none, field, push, varint}
 use Rattle.wire_codec.specs.FieldNumber.{IsFieldNumber}
 use Rattle.wire_codec.specs.Folds.{Folds}
-use Rattle.wire_codec.specs.Limits.{both, no_charge}
+use Rattle.wire_codec.specs.Limits.{Charge, both, no_charge}
 use Rattle.wire_codec.specs.Records.{Records, plain}
 use Rattle.wire_codec.specs.ValueMap.{int32}
 use Rattle.wire_fields.specs.declared.form.Form.TheVariants.{Varint}
@@ -23,7 +23,7 @@ use Rattle.wire_fields.specs.ClosedOneof.{becomes, closing}
 use Rattle.wire_fields.specs.Enums.{open_enum}
 use Rattle.wire_fields.specs.Grounds.{Grounds, NumberBack, enum_back, numeric_back}
 use Rattle.wire_fields.specs.Leaving.{Leaving}
-use Rattle.wire_fields.specs.LeavingBack.{beside_unknown, ReturnedBeside, Leaves}
+use Rattle.wire_fields.specs.LeavingBack.{beside_unknown, ReturnedBeside, Leaves, LeavesFor}
 use Rattle.wire_fields.specs.Numbers.{numeric}
 use Rattle.wire_fields.specs.Packed.{packed_records}
 use Rattle.wire_fields.specs.PackedBack.{AreNumbers, spelled}
@@ -322,3 +322,14 @@ module _ {E : Type 0} (number : E → ℤ) (of_number : ℤ → Option E) (n x :
           sym (ap (sorted (becomes set) n x (m, u)) lacks),
         );
   }
+
+-- and one of another number, where the others leave it
+pub closing_leaves_other : {E V : Type 0} {c : Charge} (of_number : ℤ → Option E) (n : ℕ)
+    (set : EnumValue E → V) (s : Leaving V) (k : ℕ) (q : Payload) → (k == n) ≡ false
+    → LeavesFor s c k q → LeavesFor (closing n of_number set s) c k q
+closing_leaves_other {c = c} of_number n set s k q other h = record {
+  own = h.own;
+  left = λ m u. subst (λ b. on b
+      (closes_by (becomes set) of_number (m, u) k q c (m, push u k q))
+      (s.takes (m, u) k q c (m, push u k q))) (sym other) (h.left m u);
+}

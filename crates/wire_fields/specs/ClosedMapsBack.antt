@@ -2,17 +2,19 @@
 -- the unknown fields, and the record of any other is left there once more.
 use Rattle.std.proofs.Common.{◌≡◌, ℕ, ◌^◌, ◌<◌, ◌≤◌, refl, sym, ap, ◌∙◌, subst, arith}
 use Rattle.std.specs.declared.cmp.Ordering.{Ordering}
-use Rattle.std.specs.Prelude.{ℤ, Bool, true, false, Option, Some, None, ◌==◌}
+use Rattle.std.specs.Prelude.{ℤ, Bool, Option, Some, None, ◌==◌}
 use Rattle.wire_codec.specs.Charge.{payload_charge}
 use Rattle.wire_codec.specs.EnumValue.{EnumValue}
 use Rattle.wire_codec.specs.EnumValue.TheVariants.{Unknown}
 use Rattle.wire_codec.specs.Field.{Payload, Fields, push}
 use Rattle.wire_codec.specs.Limits.{Charge, both, nested, no_charge, element_of}
 use Rattle.wire_codec.specs.Records.{plain_payload, embedded}
+use Rattle.wire_codec.specs.TakingLaws.{OneReading}
 use Rattle.wire_fields.specs.Back.{same_owned}
 use Rattle.wire_fields.specs.ClosedBack.{closed_back}
 use Rattle.wire_fields.specs.ClosedMaps.{closed_value, closed_map_of, closes_entry, entry_or_kept}
 use Rattle.wire_fields.specs.ClosedMaps.{kept_charge}
+use Rattle.wire_fields.specs.EntryLevels.{entry_levels, charge_where, reading_charge}
 use Rattle.wire_fields.specs.Grounds.{Grounds, numeric_back, enum_back}
 use Rattle.wire_fields.specs.LeavingBack.{beside_unknown, ReturnedBeside, LeavesFor}
 use Rattle.wire_fields.specs.Maps.{entry_records, entry_default, reads_entry}
@@ -26,29 +28,48 @@ use Rattle.wire_fields.specs.Shape.{FieldKind}
 
 -- ---- entries that are left
 
-abbrev pub charge_where : Bool → Charge → Charge → Charge
-charge_where true here there = here
-charge_where false here there = there
-
--- What the record of an entry that is left is charged: the place of an entry, a level, and as an
--- unknown field. Groups among the other fields of the entry would take more levels.
+-- what the record of an entry that is left is charged: the place of an entry, a level, with those of
+-- the groups among its other fields, and as an unknown field
 abbrev pub left_charge : ℕ → Payload → Charge
-left_charge place p = both (both (element_of place) (nested no_charge)) (payload_charge p)
+left_charge place p = both (both (element_of place) (nested (entry_levels p))) (payload_charge p)
 
 -- what each record is charged: one of number k as such an entry, any other as `others` says
 abbrev pub entries_left : ℕ → ℕ → (ℕ → Payload → Charge) → ℕ → Payload → Charge
 entries_left place k others n p = charge_where (n == k) (left_charge place p) (others n p)
 
--- The record of any entry whose value the enum does not have is left. It is charged for its
--- reading, and as an unknown field.
-pub closed_map_leaves : {K E : Type 0} (place : ℕ) (order : K → K → Ordering) (key : ScalarType K)
-    (number : E → ℤ) (of_number : ℤ → Option E) (n : ℕ) (p : Payload) (c : Charge) (k : K) (i : ℤ)
+-- what is charged in the message that a field leads to, or in others
+abbrev pub account_where : Bool → (ℕ → Payload → Charge) → (ℕ → Payload → Charge) → ℕ → Payload
+    → Charge
+account_where b here others n p = charge_where b (here n p) (others n p)
+
+-- the value of an entry is charged nothing
+pub value_uncharged : {E : Type 0} (number : E → ℤ) (of_number : ℤ → Option E) (n : ℕ)
+    (p : Payload) (c : Charge) (m z : EnumValue E)
+    → (closed_value number of_number).takes m n p c z → c ≡ no_charge
+value_uncharged number of_number n p c m z taken = taken.0
+
+-- the record of any entry whose value the enum does not have is left
+pub closed_map_leaves : {K E : Type 0} (reading : OneReading) (place : ℕ)
+    (order : K → K → Ordering) (key : ScalarType K) (number : E → ℤ) (of_number : ℤ → Option E)
+    (n : ℕ) (p : Payload) (c : Charge) (k : K) (i : ℤ)
     → reads_entry place key (closed_value number of_number)
     (entry_default key (closed_value number of_number)) n p c ((k, Unknown i), tt)
-    → LeavesFor (closed_map_of place order key number of_number n) (both c (payload_charge p)) n p
-closed_map_leaves place order key number of_number n p c k i read = record {
+    → LeavesFor (closed_map_of place order key number of_number n) (left_charge place p) n p
+closed_map_leaves reading place order key number of_number n p c k i read = record {
   own = same_owned n n refl;
-  left = λ m u. ((None, push u n p), (((k, Unknown i), tt), c, read, refl, refl), refl);
+  left = λ m u. (
+    (None, push u n p),
+    (
+      ((k, Unknown i), tt),
+      c,
+      read,
+      ap (λ x. both x (payload_charge p)) (sym
+          (reading_charge key (closed_value number of_number) (value_uncharged number of_number)
+          reading place n p c ((k, Unknown i), tt) read)),
+      refl,
+    ),
+    refl,
+  );
 }
 
 -- ---- what is written
@@ -104,7 +125,7 @@ module _ (g : Grounds) {K E : Type 0} (place : ℕ) (order : K → K → Orderin
       → let p = plain_payload (embedded (entry_records key value (k, Unknown i))) in
       LeavesFor (closed_map_of place order key number of_number n) (left_charge place p) n p
   written_entry_leaves n k i h =
-      closed_map_leaves place order key number of_number n
+      closed_map_leaves g.reading place order key number of_number n
       (plain_payload (embedded (entry_records key value (k, Unknown i))))
       (both (element_of place) (nested no_charge)) k i
       (entry_read key value r.Holds (enum_range number of_number).Holds

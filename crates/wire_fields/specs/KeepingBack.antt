@@ -2,8 +2,7 @@
 -- field's own.
 use Rattle.std.proofs.Common.{◌≡◌, ℕ, Bool, true, false, refl, sym, subst, List, [], ◌∷◌}
 use Rattle.std.specs.Prelude.{Some, None}
-use Rattle.wire_codec.specs.Charge.{payload_charge}
-use Rattle.wire_codec.specs.Field.{Payload, Fields, type_of, none, field, push}
+use Rattle.wire_codec.specs.Field.{Payload, Fields, type_of, none, field}
 use Rattle.wire_codec.specs.Laws.{FieldsArePlain}
 use Rattle.wire_codec.specs.Records.{Records, plain, plain_payload}
 use Rattle.wire_codec.specs.ValueMap.{ValueMap}
@@ -12,7 +11,7 @@ use Rattle.wire_fields.specs.declared.form.Form.{Form}
 use Rattle.wire_fields.specs.declared.leaving.OwnTypes.{OwnTypes}
 use Rattle.wire_fields.specs.Back.{AllHave, all_joined, plain_joined, same_owned}
 use Rattle.wire_fields.specs.Leaving.{has_type, of_types, leaving_types}
-use Rattle.wire_fields.specs.LeavingBack.{ReturnedBeside, Leaves, leaving_back}
+use Rattle.wire_fields.specs.LeavingBack.{ReturnedBeside, Leaves, leaving_back, other_leaves}
 use Rattle.wire_fields.specs.Messages.{Encoding, once_in, each_in, message_each}
 use Rattle.wire_fields.specs.Numbers.{number_payload, numeric}
 use Rattle.wire_fields.specs.Packed.{packed_kind, unpacked_kind}
@@ -21,7 +20,7 @@ use Rattle.wire_fields.specs.Presence.{each_record}
 use Rattle.wire_fields.specs.Ranges.{Range}
 use Rattle.wire_fields.specs.Returned.{Returned}
 use Rattle.wire_fields.specs.Scalar.{ScalarType, scalar_record}
-use Rattle.wire_fields.specs.Shape.{Owns, on, FieldKind, Lawful, Shape, known, keeps}
+use Rattle.wire_fields.specs.Shape.{Owns, FieldKind, Lawful, Shape, known}
 
 -- each record is the owner's
 abbrev pub AllOwn : Owns → Fields → Type 0
@@ -108,9 +107,5 @@ module _ {V : Type 0} (types : OwnTypes) (encoding : Encoding) (s : Shape V)
 -- of another wire type
 pub types_leaves : {V : Type 0} (types : OwnTypes) (n : ℕ) (f : Lawful V) (p : Payload)
     → has_type types (type_of p) ≡ false → Leaves (leaving_types types n f) n p
-types_leaves types n f p other = record {
-  own = same_owned n n refl;
-  left = λ m u. subst (λ b. on b
-      (f.kind.takes m n p (payload_charge p) m × (push u n p ≡ u))
-      (keeps u n p (payload_charge p) (push u n p) × (m ≡ m))) (sym other) ((refl, refl), refl);
-}
+types_leaves types n f p other =
+    other_leaves (of_types types) (known n f) n p (same_owned n n refl) other

@@ -153,6 +153,16 @@ leaves_left {V} {c} s n p h m u =
     subst (λ b. on b (s.takes (m, u) n p c (m, push u n p))
     (keeps_beside (m, u) n p c (m, push u n p))) (sym h.own) (h.left m u)
 
+-- one that has the number of fields, and is not their own
+pub other_leaves : {V : Type 0} (own : Owns) (s : Shape V) (n : ℕ) (p : Payload)
+    → s.owns n p ≡ true → own n p ≡ false → Leaves (leaving_other own s) n p
+other_leaves own s n p owned other = record {
+  own = owned;
+  left = λ m u. subst (λ b. on b
+      (s.takes m n p (payload_charge p) m × (push u n p ≡ u))
+      (keeps u n p (payload_charge p) (push u n p) × (m ≡ m))) (sym other) ((refl, refl), refl);
+}
+
 -- in a tree
 module _ {A B : Type 0} {c : Charge} (a : Leaving A) (b : Leaving B) (n : ℕ) (p : Payload) where
   pub leaves_first : LeavesFor a c n p → LeavesFor (both_leaving a b) c n p

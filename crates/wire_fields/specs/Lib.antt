@@ -6,6 +6,7 @@ pub mod ClosedMaps
 pub mod ClosedMapsBack
 pub mod ClosedOneof
 pub mod Dropped
+pub mod EntryLevels
 pub mod Enums
 pub mod Floats
 pub mod Grounds
@@ -36,11 +37,17 @@ pub mod Returned
 pub mod Scalar
 pub mod ScalarBack
 pub mod Shape
+pub mod Short
 pub mod Sound
 pub mod Stays
+pub mod StaysClosed
+pub mod StaysClosedMaps
 pub mod StaysKinds
+pub mod StaysLeaf
+pub mod StaysLeaving
 pub mod StaysMaps
 pub mod StaysMessages
+pub mod StaysNest
 pub mod Sums
 pub mod Texts
 pub mod Twins

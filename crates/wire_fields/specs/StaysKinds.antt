@@ -1,6 +1,5 @@
 -- What decoding leaves of each kind of field is in range.
-use Rattle.std.proofs.Common.{◌≡◌, inl, inr, ℕ, ◌^◌, ◌+◌, ◌-◌, ◌*◌, ◌/◌, ◌%◌, ◌<◌, ◌≤◌, Bool, true, false, if◌then◌else◌, nat_lt, refl, sym, ap, ◌∙◌, subst, arith, List, [], ◌∷◌, ◌++◌, length}
-use Rattle.std.proofs.lemmas.Bool.{eqb-true}
+use Rattle.std.proofs.Common.{◌≡◌, inl, inr, ℕ, ◌^◌, ◌+◌, ◌-◌, ◌*◌, ◌/◌, ◌%◌, ◌<◌, Bool, true, false, if◌then◌else◌, nat_lt, refl, sym, ap, ◌∙◌, subst, arith, List, [], ◌∷◌, ◌++◌, length}
 use Rattle.std.proofs.lemmas.Bool.Decides.{nat_tests}
 use Rattle.std.proofs.lemmas.Int.{ints}
 use Rattle.std.proofs.lemmas.Str.{IsUtf8-nil}
@@ -11,7 +10,6 @@ use Rattle.wire_codec.specs.Field.{Payload}
 use Rattle.wire_codec.specs.InRange.{IsPayloadFitting}
 use Rattle.wire_codec.specs.Limits.{Charge}
 use Rattle.wire_codec.specs.Packed.{SpellsEach}
-use Rattle.wire_codec.specs.Records.{text_size}
 use Rattle.wire_codec.specs.ValueMap as maps
 use Rattle.wire_codec.specs.ValueMap.{ValueMap}
 use Rattle.wire_codec.proofs.Fitting.{AreBytes, bytes_front, bytes_behind, fixed32_fits, fixed64_fits}
@@ -19,29 +17,25 @@ use Rattle.wire_fields.specs.declared.form.Form.{Form}
 use Rattle.wire_fields.specs.declared.form.Form.TheVariants.{Varint, Fixed64, Fixed32}
 use Rattle.wire_fields.specs.Enums.{open_enum}
 use Rattle.wire_fields.specs.Floats.{float, double}
-use Rattle.wire_fields.specs.Grounds.{Grounds}
 use Rattle.wire_fields.specs.Numbers.{number_payload, numeric}
 use Rattle.wire_fields.specs.Packed.{IsNumberText, packed_text, packed_records, packed_kind, unpacked_kind}
-use Rattle.wire_fields.specs.Presence.{implicit, optional, always, repeated, unless, each_record}
+use Rattle.wire_fields.specs.Presence.{implicit, optional, always, repeated}
 use Rattle.wire_fields.specs.Ranges as ranges
 use Rattle.wire_fields.specs.Ranges.{Range, uncharged, enum_range, packed_range, unpacked_range, optional_range}
 use Rattle.wire_fields.specs.Ranges.{repeated_range}
-use Rattle.wire_fields.specs.Scalar.{ScalarType, scalar_record}
+use Rattle.wire_fields.specs.Scalar.{ScalarType}
 use Rattle.wire_fields.specs.ScalarBack.{AllHold, IfThere, Lengthy}
 use Rattle.wire_fields.specs.Sound.{IsSound, HasBytes}
-use Rattle.wire_fields.specs.Stays.{KindStays, delimited_length, first_small, second_small}
+use Rattle.wire_fields.specs.Short.{AreShort}
+use Rattle.wire_fields.specs.Stays.{KindStays}
 use Rattle.wire_fields.specs.Texts as texts
 
 -- ---- scalar types
 
--- a value that a payload in range sets is as this says, and then in range, where it is left out or
--- its record takes no more bytes than a message may
-pub record ScalarStays {V : Type 0} (t : ScalarType V) (r : Range V) : Type 1 where
-  pub Is : V → Type 0
-  pub start : Is t.default
-  pub sets : (p : Payload) (v : V) → IsPayloadFitting p → t.Sets p v → Is v
-  pub holds : (n : ℕ) (v : V) → Is v → text_size (scalar_record t n v) ≤ 2147483647 → r.Holds v
-  pub left_out : (v : V) → Is v → t.is_default v ≡ true → r.Holds v
+-- a value that a payload in range sets is in range
+pub record ScalarStays {V : Type 0} (t : ScalarType V) (r : Range V) : Type 0 where
+  pub start : r.Holds t.default
+  pub sets : (p : Payload) (v : V) → IsPayloadFitting p → t.Sets p v → r.Holds v
 
 -- numbers of this form are read as values in range
 pub record NumberStays {V : Type 0} (form : Form) (values : ValueMap V) (r : Range V) : Type 0 where
@@ -55,27 +49,17 @@ zero_fits Fixed32 = omega arith
 pub numeric_stays : {V : Type 0} {form : Form} {values : ValueMap V} {r : Range V}
     → NumberStays form values r → ScalarStays (numeric form values) r
 numeric_stays {V} {form} {values} {r} h = record {
-  Is = r.Holds;
   start = h.made 0 (zero_fits form);
   sets = λ p v fits set. subst r.Holds (sym set.is)
       (h.made set.number (subst IsPayloadFitting set.has fits));
-  holds = λ n v is small. is;
-  left_out = λ v is zero. is;
 }
-
-text_short : (n : ℕ) (b : List ℕ)
-    → text_size (scalar_record texts.any_bytes n b) ≤ 2147483647 → length b < 2 ^ 64
-text_short n b small = omega (arith, small, delimited_length n b)
 
 bytes_stay : (IsText : List ℕ → Type 0) → IsText []
     → ScalarStays (texts.delimited IsText) (uncharged (Lengthy IsText))
 bytes_stay IsText empty = record {
-  Is = IsText;
-  start = empty;
-  sets = λ p v fits set. set.holds;
-  holds = λ n v is small. record { text = is; short = text_short n v small };
-  left_out = λ v is zero.
-      record { text = is; short = omega (arith, eqb-true (length v) 0 zero) };
+  start = record { text = empty; short = omega arith };
+  sets = λ p v fits set.
+      record { text = set.holds; short = subst IsPayloadFitting set.has fits };
 }
 
 pub string_stays : ScalarStays texts.string ranges.string_range
@@ -175,39 +159,29 @@ module _ {E : Type 0} (number : E → ℤ) (of_number : ℤ → Option E)
 -- ---- presence
 
 module _ {V : Type 0} {t : ScalarType V} {r : Range V} (s : ScalarStays t r) where
-  implicit_holds : (n : ℕ) (v : V) → s.Is v → (b : Bool) → t.is_default v ≡ b
-      → text_size (unless b (scalar_record t n v)) ≤ 2147483647 → r.Holds v
-  implicit_holds n v is true zero small = s.left_out v is zero
-  implicit_holds n v is false zero small = s.holds n v is small
-
   pub implicit_stays : KindStays (implicit t).kind r
   implicit_stays = record {
-    Is = s.Is;
+    Is = r.Holds;
     start = s.start;
     step = λ n p c m z sound h step. s.sets p z sound.fits step.1;
-    holds = λ n m is. implicit_holds n m is _ refl;
+    holds = λ n m is short. is;
   }
 
   pub always_stays : KindStays (always t).kind r
   always_stays = record {
-    Is = s.Is;
+    Is = r.Holds;
     start = s.start;
     step = λ n p c m z sound h step. s.sets p z sound.fits step.1;
-    holds = s.holds;
+    holds = λ n m is short. is;
   }
-
-  option_holds : (n : ℕ) (o : Option V) → IfThere s.Is o
-      → text_size ((optional t).kind.records n o) ≤ 2147483647 → (optional_range r).Holds o
-  option_holds n None is small = tt
-  option_holds n (Some v) is small = s.holds n v is small
 
   pub optional_stays : KindStays (optional t).kind (optional_range r)
   optional_stays = record {
-    Is = IfThere s.Is;
+    Is = IfThere r.Holds;
     start = tt;
     step = λ n p c m z sound h (charged, v, set, is).
-        subst (IfThere s.Is) (sym is) (s.sets p v sound.fits set);
-    holds = option_holds;
+        subst (IfThere r.Holds) (sym is) (s.sets p v sound.fits set);
+    holds = λ n m is short. is;
   }
 
 -- ---- many values
@@ -217,26 +191,22 @@ pub all_more : {V : Type 0} (Holds : V → Type 0) (vs ws : List V) → AllHold 
 all_more Holds [] ws h k = k
 all_more Holds (v ∷ vs) ws h k = (h.0, all_more Holds vs ws h.1 k)
 
-module _ (g : Grounds) {V : Type 0} {t : ScalarType V} {r : Range V} (s : ScalarStays t r) where
-  each_holds : (n : ℕ) (vs : List V) → AllHold s.Is vs
-      → text_size (each_record t n vs) ≤ 2147483647 → AllHold r.Holds vs
-  each_holds n [] h small = tt
-  each_holds n (v ∷ vs) h small =
-      let one = scalar_record t n v in
-      let more = each_record t n vs in (
-        s.holds n v h.0 (first_small g one more small),
-        each_holds n vs h.1 (second_small g one more small),
-      )
+pub repeated_stays : {V : Type 0} {t : ScalarType V} {r : Range V} → ScalarStays t r → (place : ℕ)
+    → KindStays (repeated place t).kind (repeated_range place r)
+repeated_stays {V} {t} {r} s place = record {
+  Is = AllHold r.Holds;
+  start = tt;
+  step = λ n p c m z sound h (charged, v, set, is).
+      subst (AllHold r.Holds) (sym is)
+      (all_more r.Holds m (v ∷ []) h (s.sets p v sound.fits set, tt));
+  holds = λ n m is short. is;
+}
 
-  pub repeated_stays : (place : ℕ) → KindStays (repeated place t).kind (repeated_range place r)
-  repeated_stays place = record {
-    Is = AllHold s.Is;
-    start = tt;
-    step = λ n p c m z sound h (charged, v, set, is).
-        subst (AllHold s.Is) (sym is)
-        (all_more s.Is m (v ∷ []) h (s.sets p v sound.fits set, tt));
-    holds = each_holds;
-  }
+-- the payload of a list of numbers is of a length that is written
+pub packed_short : {V : Type 0} (form : Form) (values : ValueMap V) (n : ℕ) (vs : List V)
+    → AreShort (packed_records form values n vs) → length (packed_text form values vs) < 2 ^ 64
+packed_short form values n [] short = omega arith
+packed_short form values n (v ∷ vs) short = omega (arith, short.0)
 
 module _ {V : Type 0} (form : Form) (values : ValueMap V) (r : Range V)
     (h : NumberStays form values r) where
@@ -270,18 +240,12 @@ module _ {V : Type 0} (form : Form) (values : ValueMap V) (r : Range V)
       (numbers_made more.appends.numbers more.payload (subst HasBytes more.is sound.of_bytes)
       more.appends.spelled))
 
-  packed_short : (n : ℕ) (vs : List V)
-      → text_size (packed_records form values n vs) ≤ 2147483647
-      → length (packed_text form values vs) < 2 ^ 64
-  packed_short n [] small = omega arith
-  packed_short n (v ∷ vs) small = text_short n (packed_text form values (v ∷ vs)) small
-
   pub packed_stays : KindStays (packed_kind form values) (packed_range form values r)
   packed_stays = record {
     Is = AllHold r.Holds;
     start = tt;
     step = numbers_stay;
-    holds = λ n vs all small. record { each = all; short = packed_short n vs small };
+    holds = λ n vs all short. record { each = all; short = packed_short form values n vs short };
   }
 
   pub unpacked_stays : KindStays (unpacked_kind form values) (unpacked_range r)
@@ -289,5 +253,5 @@ module _ {V : Type 0} (form : Form) (values : ValueMap V) (r : Range V)
     Is = AllHold r.Holds;
     start = tt;
     step = numbers_stay;
-    holds = λ n vs all small. all;
+    holds = λ n vs all short. all;
   }

@@ -1,5 +1,5 @@
 -- What decoding leaves of maps is in range: their keys ascend.
-use Rattle.std.proofs.Common.{◌≡◌, ℕ, ◌≤◌, Bool, true, false, refl, sym, ap, ◌∙◌, subst, arith, List, [], ◌∷◌}
+use Rattle.std.proofs.Common.{◌≡◌, ℕ, Bool, true, false, refl, sym, ap, ◌∙◌, subst, List, [], ◌∷◌}
 use Rattle.std.proofs.lemmas.Cmp.{nat_cmp_total, int_cmp_total, nat_list_cmp_total}
 use Rattle.std.specs.BTreeMap.{insert_entry}
 use Rattle.std.specs.Cmp.{IsTotalOrder, bool_cmp_total}
@@ -10,14 +10,13 @@ use Rattle.std.specs.declared.cmp.Ordering.TheVariants.{Less, Equal, Greater}
 use Rattle.wire_codec.specs.Field.{Payload}
 use Rattle.wire_codec.specs.Limits.{Charge}
 use Rattle.wire_codec.specs.ValueMap.{ValueMap, bool}
-use Rattle.wire_codec.specs.Records.{none, joined_records, text_size}
+use Rattle.wire_codec.specs.Records.{none, joined_records}
 use Rattle.wire_fields.specs.Dropped.{drops}
 use Rattle.wire_fields.specs.Grounds.{Grounds}
-use Rattle.wire_fields.specs.Maps.{EntryOf, entry_records, entry_takes, entry_default, each_entry, map_kind}
+use Rattle.wire_fields.specs.Maps.{EntryOf, entry_takes, entry_default, each_entry, map_kind}
 use Rattle.wire_fields.specs.Maps.{text_map, unsigned_map, signed_map, bool_map}
 use Rattle.wire_fields.specs.MapsBack.{AreAbove, Ascend, AreEntries}
-use Rattle.wire_fields.specs.Messages.{length_prefixed}
-use Rattle.wire_fields.specs.Messages.{message_record}
+use Rattle.wire_fields.specs.Messages.{length_prefixed, inside}
 use Rattle.wire_fields.specs.Numbers.{numeric}
 use Rattle.wire_fields.specs.declared.form.Form.{Form}
 use Rattle.wire_fields.specs.declared.form.Form.TheVariants.{Varint}
@@ -30,7 +29,8 @@ use Rattle.wire_fields.specs.ScalarBack.{AllHold}
 use Rattle.wire_fields.specs.Presence.{sets}
 use Rattle.wire_fields.specs.Shape.{on, either, FieldKind, Lawful}
 use Rattle.wire_fields.specs.Sound.{IsSound}
-use Rattle.wire_fields.specs.Stays.{KindStays, folds_stay, first_small, second_small}
+use Rattle.wire_fields.specs.Short.{AreShort, first_short, second_short}
+use Rattle.wire_fields.specs.Stays.{KindStays, folds_stay}
 use Rattle.wire_fields.specs.StaysKinds.{ScalarStays}
 use Rattle.wire_fields.specs.StaysMessages.{prefixed_stays}
 
@@ -81,12 +81,39 @@ module _ {K : Type 0} (order : K → K → Ordering) (total : IsTotalOrder order
         ascend_at k v e es (insert_entry order es k v) (order k e.0) refl h
         (above_more e.0 es k v h.0) (ascend_more es k v h.1)
 
-module _ (g : Grounds) {K V : Type 0} (place : ℕ) {order : K → K → Ordering}
-    (total : IsTotalOrder order) {key : ScalarType K} {value : FieldKind V} {r : Range K}
-    {q : Range V}
-    (k : ScalarStays key r) (v : KindStays value q) where
+-- ---- entries
+
+module _ {K V : Type 0} (order : K → K → Ordering) (IsKey : K → Type 0) (IsValue : V → Type 0) where
+  -- each entry, where all keys ascend
+  abbrev pub AreEntriesOf : List (K × V) → Type 0
+  AreEntriesOf es = AllHold (λ e. IsKey e.0 × IsValue e.1) es × Ascend order es
+
+  entry_at : (es more : List (K × V)) (e : K × V) (a : K) (b : V) (o : Ordering)
+      → AllHold (λ e. IsKey e.0 × IsValue e.1) (e ∷ es) → IsKey a → IsValue b
+      → AllHold (λ e. IsKey e.0 × IsValue e.1) more
+      → AllHold (λ e. IsKey e.0 × IsValue e.1)
+      (match_ordering o ((a, b) ∷ e ∷ es) ((e.0, b) ∷ es) (e ∷ more))
+  entry_at es more e a b Less h key value rest = ((key, value), h)
+  entry_at es more e a b Equal h key value rest = ((h.0.0, value), h.1)
+  entry_at es more e a b Greater h key value rest = (h.0, rest)
+
+  entry_more : (es : List (K × V)) (a : K) (b : V)
+      → AllHold (λ e. IsKey e.0 × IsValue e.1) es → IsKey a → IsValue b
+      → AllHold (λ e. IsKey e.0 × IsValue e.1) (insert_entry order es a b)
+  entry_more [] a b h key value = ((key, value), tt)
+  entry_more (e ∷ es) a b h key value =
+      entry_at es (insert_entry order es a b) e a b (order a e.0) h key value
+      (entry_more es a b h.1 key value)
+
+  pub entries_more : IsTotalOrder order → (es : List (K × V)) (a : K) (b : V) → AreEntriesOf es
+      → IsKey a → IsValue b → AreEntriesOf (insert_entry order es a b)
+  entries_more total es a b h key value =
+      (entry_more es a b h.0 key value, ascend_more order total es a b h.1)
+
+module _ (g : Grounds) {K V : Type 0} {key : ScalarType K} {value : FieldKind V} {r : Range K}
+    {q : Range V} (k : ScalarStays key r) (v : KindStays value q) where
   abbrev IsEntryOf : K × V → Type 0
-  IsEntryOf e = k.Is e.0 × v.Is e.1
+  IsEntryOf e = r.Holds e.0 × v.Is e.1
 
   value_or_key : (n : ℕ) (p : Payload) (c : Charge) (m z : K × V) → IsSound n p → IsEntryOf m
       → (b : Bool) → on b (sets key m.0 n p c z.0 × (z.1 ≡ m.1))
@@ -94,7 +121,7 @@ module _ (g : Grounds) {K V : Type 0} (place : ℕ) {order : K → K → Orderin
   value_or_key n p c m z sound h true taken =
       (k.sets p z.0 sound.fits taken.0.1, subst v.Is (sym taken.1) h.1)
   value_or_key n p c m z sound h false taken =
-      (subst k.Is (sym taken.1) h.0, v.step n p c m.1 z.1 sound h.1 taken.0)
+      (subst r.Holds (sym taken.1) h.0, v.step n p c m.1 z.1 sound h.1 taken.0)
 
   entry_or_other : (n : ℕ) (p : Payload) (c : Charge) (m z : EntryOf K V) → IsSound n p
       → IsEntryOf m.0 → (b : Bool)
@@ -104,80 +131,62 @@ module _ (g : Grounds) {K V : Type 0} (place : ℕ) {order : K → K → Orderin
       value_or_key n p c m.0 z.0 sound h (n == 1) taken.0
   entry_or_other n p c m z sound h false taken = subst IsEntryOf (sym taken.1) h
 
-  -- each entry, where all keys ascend
-  abbrev AreEntriesOf : List (K × V) → Type 0
-  AreEntriesOf es = AllHold IsEntryOf es × Ascend order es
-
-  entry_at : (es more : List (K × V)) (e : K × V) (a : K) (b : V) (o : Ordering)
-      → AllHold IsEntryOf (e ∷ es) → k.Is a → v.Is b → AllHold IsEntryOf more
-      → AllHold IsEntryOf (match_ordering o ((a, b) ∷ e ∷ es) ((e.0, b) ∷ es) (e ∷ more))
-  entry_at es more e a b Less h key value rest = ((key, value), h)
-  entry_at es more e a b Equal h key value rest = ((h.0.0, value), h.1)
-  entry_at es more e a b Greater h key value rest = (h.0, rest)
-
-  entry_more : (es : List (K × V)) (a : K) (b : V) → AllHold IsEntryOf es → k.Is a → v.Is b
-      → AllHold IsEntryOf (insert_entry order es a b)
-  entry_more [] a b h key value = ((key, value), tt)
-  entry_more (e ∷ es) a b h key value =
-      entry_at es (insert_entry order es a b) e a b (order a e.0) h key value
-      (entry_more es a b h.1 key value)
+  -- an entry that is read
+  pub read_entry_is : (n : ℕ) (p : Payload) (c : Charge) (e : EntryOf K V) → IsSound n p
+      → inside length_prefixed (entry_takes key value) (entry_default key value) n p c e
+      → r.Holds e.0.0 × v.Is e.0.1
+  read_entry_is n p c e sound (fs, within, has, folded, nested) =
+      folds_stay (entry_takes key value) (λ e. IsEntryOf e.0)
+      (λ n p c m z sound h. entry_or_other n p c m z sound h (n == 1 || n == 2))
+      fs (entry_default key value) e within ((prefixed_stays g).sound n p fs sound has)
+      (k.start, v.start) folded
 
   map_holds : (n : ℕ) (es : List (K × V)) → AllHold IsEntryOf es
-      → text_size (each_entry key value n es) ≤ 2147483647
+      → AreShort (each_entry key value n es)
       → AreEntries key value r.Holds q.Holds q.charge_of es
-  map_holds n [] h whole = tt
-  map_holds n (e ∷ es) h whole =
-      let rs = entry_records key value e in
-      let one = message_record length_prefixed n rs in
-      let more = each_entry key value n es in
-      let short : text_size rs ≤ 2147483647 =
-      omega (arith, (prefixed_stays g).size n rs, first_small g one more whole) in
-      let fields = first_small g
-      (joined_records (scalar_record key 1 e.0) (value.records 2 e.1)) none short in (
+  map_holds n [] h short = tt
+  map_holds n (e ∷ es) h short =
+      let fields = first_short (joined_records (scalar_record key 1 e.0) (value.records 2 e.1)) none
+      short.0.1 in (
         record {
-          key_held = k.holds 1 e.0 h.0.0
-              (first_small g (scalar_record key 1 e.0) (value.records 2 e.1) fields);
+          key_held = h.0.0;
           value_held = v.holds 2 e.1 h.0.1
-              (second_small g (scalar_record key 1 e.0) (value.records 2 e.1) fields);
-          short = short;
+              (second_short (scalar_record key 1 e.0) (value.records 2 e.1) fields);
+          short = short.0.0;
         },
-        map_holds n es h.1 (second_small g one more whole),
+        map_holds n es h.1 short.1,
       )
 
-  pub map_stays : KindStays (map_kind place order key value) (map_range place order key value r q)
-  map_stays = record {
-    Is = AreEntriesOf;
+  pub map_stays : (place : ℕ) {order : K → K → Ordering} → IsTotalOrder order
+      → KindStays (map_kind place order key value) (map_range place order key value r q)
+  map_stays place {order} total = record {
+    Is = AreEntriesOf order r.Holds v.Is;
     start = (tt, tt);
-    step = λ n p c m z sound h (after, one, (fs, within, has, folded, nested), charged, same).
-        let entry = folds_stay (entry_takes key value) (λ e. IsEntryOf e.0)
-        (λ n p c m z sound h. entry_or_other n p c m z sound h (n == 1 || n == 2))
-        fs (entry_default key value) after within ((prefixed_stays g).sound n p fs sound has)
-        (k.start, v.start) folded in
-        subst AreEntriesOf (sym same) (
-          entry_more m after.0.0 after.0.1 h.0 entry.0 entry.1,
-          ascend_more order total m after.0.0 after.0.1 h.1,
-        );
-    holds = λ n es h whole. (map_holds n es h.0 whole, h.1);
+    step = λ n p c m z sound h (after, one, read, charged, same).
+        let entry = read_entry_is n p one after sound read in
+        subst (AreEntriesOf order r.Holds v.Is) (sym same)
+        (entries_more order r.Holds v.Is total m after.0.0 after.0.1 h entry.0 entry.1);
+    holds = λ n es h short. (map_holds n es h.0 short, h.1);
   }
 
 -- by the type of their keys
 module _ (g : Grounds) {V : Type 0} (place : ℕ) (value : Lawful V) {q : Range V} where
   pub text_map_stays : ScalarStays string string_range → KindStays value.kind q
       → KindStays (text_map place value).kind (text_map_range place value q)
-  text_map_stays = map_stays g place nat_list_cmp_total
+  text_map_stays k v = map_stays g k v place nat_list_cmp_total
 
   pub unsigned_map_stays : {form : Form} {values : ValueMap ℕ} {r : Range ℕ}
       → ScalarStays (numeric form values) r → KindStays value.kind q
       → KindStays (unsigned_map place form values value).kind
       (unsigned_map_range place form values value r q)
-  unsigned_map_stays = map_stays g place nat_cmp_total
+  unsigned_map_stays k v = map_stays g k v place nat_cmp_total
 
   pub signed_map_stays : {form : Form} {values : ValueMap ℤ} {r : Range ℤ}
       → ScalarStays (numeric form values) r → KindStays value.kind q
       → KindStays (signed_map place form values value).kind
       (signed_map_range place form values value r q)
-  signed_map_stays = map_stays g place int_cmp_total
+  signed_map_stays k v = map_stays g k v place int_cmp_total
 
   pub bool_map_stays : ScalarStays (numeric Varint bool) bool_range → KindStays value.kind q
       → KindStays (bool_map place value).kind (bool_map_range place value q)
-  bool_map_stays = map_stays g place bool_cmp_total
+  bool_map_stays k v = map_stays g k v place bool_cmp_total

@@ -1,5 +1,6 @@
 //! What the laws of message types stand on: a function that is a theorem, and does nothing.
 ghost use Rattle.wire_fields.specs.Grounds.{Grounds};
+ghost use Rattle.wire_fields.specs.Short.{WholeIsShort};
 
 use wire_codec::laws;
 
@@ -17,4 +18,11 @@ pub fn grounds()
     laws::grammar::shortest_reads_back();
     laws::grammar::spelled_are_numbered();
     laws::scalar::values_read_back();
+}
+
+/// What takes no more bytes than a message may has no text, message or group in it that takes more.
+pub fn whole_is_short()
+    ensures { WholeIsShort }
+{
+    laws::joined_records_add_up();
 }
