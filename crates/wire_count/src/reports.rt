@@ -6,6 +6,7 @@ ghost use Rattle.wire_report.specs.Report.{report-shape, report-value};
 
 use std::alloc::Global;
 use wire_codec::{DecodeError, EncodeError, Message, laws};
+use wire_fields::laws::whole_is_short;
 use wire_report::Report;
 use wire_report::laws::{report_decodes_in_range, report_reads_back};
 
@@ -27,6 +28,7 @@ pub fn stored(alloc: Global, bytes: &[u8]) -> Result<(Report, Report), StoreErro
     ensures fault { IfErr result (StoreFault bytes.now) }
 {
     laws::slice_has_bytes(bytes);
+    whole_is_short();
     report_decodes_in_range();
     report_reads_back();
     laws::taken_in_one_way::<Report>();

@@ -27,6 +27,7 @@ mod parts;
 mod presence;
 mod recursive;
 mod repeated;
+mod rows;
 mod scalar;
 mod text;
 mod twin;

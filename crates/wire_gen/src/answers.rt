@@ -20,8 +20,9 @@ const HEAD: &str = "\
 $imports$use Rattle.$crate$.proofs.$module$.$goals$.Goals as goal
 ";
 
-// Of a message, and of the leaf of one that holds itself.
-const OF_WHOLE: [Template; 5] = [
+// Of a message, whose calls the rows make, and of the leaf of one that holds itself.
+const OF_WHOLE: [Template; 6] = [
+    ("of_call", "c.fields-"),
     ("goals", "$name$MessageFields.merge_field"),
     ("whole", "$module$-shape"),
     ("before", ""),
@@ -29,7 +30,8 @@ const OF_WHOLE: [Template; 5] = [
     ("whole_uses", ""),
 ];
 
-const OF_LEAF: [Template; 5] = [
+const OF_LEAF: [Template; 6] = [
+    ("of_call", "c."),
     ("goals", "$name$Recursive.merge_leaf"),
     ("whole", "$module$-leaf"),
     (
@@ -46,7 +48,8 @@ const OF_LEAF: [Template; 5] = [
 ];
 
 // Of that of a type of a family.
-const OF_MEMBER: [Template; 5] = [
+const OF_MEMBER: [Template; 6] = [
+    ("of_call", "c."),
     ("goals", "$name$RecursiveMemberFamilyHeld.merge_leaf"),
     ("whole", "$module$-leaf"),
     (
@@ -64,7 +67,7 @@ const REFUSED: &str = "
 pub returns-in-$number$-clause-err : goal.returns-in-$number$-clause-err
 returns-in-$number$-clause-err g c =
     $before$arm_err $whole$.takes $step$ $number$ _
-    (sym c.field_number.ensures.number ∙ c.in-$number$.is) _ _
+    (sym $of_call$field_number.ensures.number ∙ c.in-$number$.is) _ _
     (λ charge z p h. ($seen$)) _ _ _
     $call$.result $call$.ensures.err$behind$
 ";
@@ -73,7 +76,7 @@ const TAKEN: &str = "
 pub returns-in-$number$-clause-ok : goal.returns-in-$number$-clause-ok
 returns-in-$number$-clause-ok g c =
     arm_ok $whole$.takes $step$ $number$ _
-    (sym c.field_number.ensures.number ∙ c.in-$number$.is) _ _ _ _
+    (sym $of_call$field_number.ensures.number ∙ c.in-$number$.is) _ _ _ _
     (λ charge p h. $taken$) _ _ _ _ _
     $call$.result $call$.ensures.ok
 ";
@@ -84,7 +87,7 @@ returns-in_default-clause-err g c =
     let n = tag_number c.args.tag in
     $before$rest_err $module$-known.owns $module$-known.takes keeps _
     (λ p. $unlike$)
-    _ _ _ _ c.keep.result c.keep.ensures.err$behind$
+    _ _ _ _ $of_call$keep.result $of_call$keep.ensures.err$behind$
 ";
 
 // Of many fields the search does not find that what is kept is none of theirs.
@@ -98,7 +101,7 @@ returns-in_default-clause-ok g c =
     (λ charge p h. to_rest $module$-known.owns $module$-known.takes keeps n
     (λ p. $unlike$)
     _ charge _ p h)
-    _ _ _ _ _ c.keep.result c.keep.ensures.ok
+    _ _ _ _ _ $of_call$keep.result $of_call$keep.ensures.ok
 ";
 
 const USES_OF_REST_TAKEN: &str = "\
@@ -114,8 +117,8 @@ returns-in_default-clause-err g c =
     let n = tag_number c.args.tag in
     rest_err $module$-known.owns $module$-known.takes drops _
     (λ p. $unlike$)
-    _ _ _ _ c.pass_over.result
-    (IfErr-weaker c.pass_over.result _ _ (λ e none other. none) c.pass_over.ensures.err)
+    _ _ _ _ $of_call$pass_over.result
+    (IfErr-weaker $of_call$pass_over.result _ _ (λ e none other. none) $of_call$pass_over.ensures.err)
 ";
 
 // The same where a field may leave records to the unknown fields.
@@ -130,7 +133,7 @@ returns-in_default-clause-err g c =
           (λ p. $unlike$)
           ($module$-value c.args.self.now) z charge p h).0,
     ))
-    _ _ _ c.keep.result c.keep.ensures.err
+    _ _ _ $of_call$keep.result $of_call$keep.ensures.err
 ";
 
 const USES_OF_REST: &str = "\
@@ -309,9 +312,9 @@ fn put_arm(page: &mut Words) {
     page.fill(
         "call",
         if is_first {
-            "c.$call$"
+            "$of_call$$call$"
         } else {
-            "(c.$call$-in-$number$)"
+            "($of_call$$call$-in-$number$)"
         },
     );
     page.append("answers", REFUSED);

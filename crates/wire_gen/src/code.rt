@@ -1,9 +1,10 @@
 //! The code of a message type.
 use crate::arms::put_arm;
-use crate::comments::put_comment;
+use crate::comments::{put_comment, set_heading};
 use crate::copies::set_clone;
-use crate::imports::code_imports;
-use crate::tree::{Node, Tree};
+use crate::field_rows::put_rows;
+use crate::imports::{code_imports, ghost_imports};
+use crate::tree::Tree;
 use wire_schema::{Field, GenerateError, MessageType, Schema, Template, Words};
 
 const USES: &str = "\
@@ -41,12 +42,15 @@ impl MessageName for $name$ {
 }
 ";
 
+const GHOSTS: &str = "\
+Rattle.$crate$.specs.$name$ $name$-Value
+Rattle.$crate$.specs.$name$ $module$-shape
+Rattle.$crate$.specs.$name$ $module$-value
+";
+
 const MESSAGE: &str = "
 impl MessageFields for $name$ {
-    ghost use Rattle.$crate$.specs.$name$.{$name$-Value};
-    ghost use Rattle.$crate$.specs.$name$.{$module$-value};
-    ghost use Rattle.$crate$.specs.$name$.{$module$-shape};
-
+$ghost_imports$
     ghost Value = { $name$-Value };
 
     ghost view = { $module$-value };
@@ -60,11 +64,11 @@ impl MessageFields for $name$ {
     ghost single = { $module$-shape.single };
 
     fn default_value($alloc$: Global) -> $name$ {
-        $name$ {$emptied$}
+        $empty$
     }
 
     fn compute_size(&self, cache: &mut SizeCache) -> Result<u32, EncodeError> {
-$lets$        measure($whole$, cache)
+$rest_let$        measure($whole$, cache)
     }
 
     fn write_to<S: EncodeSink>(
@@ -72,7 +76,7 @@ $lets$        measure($whole$, cache)
         cache: &mut SizeCache,
         sink: &mut S,
     ) -> Result<(), EncodeError> {
-$lets$        write($whole$, cache, sink)
+$rest_let$        write($whole$, cache, sink)
     }
 
     fn merge_field<B: Buf>(
@@ -82,23 +86,16 @@ $lets$        write($whole$, cache, sink)
         buf: &mut B,
         context: &mut DecodeContext,
     ) -> Result<(), DecodeError> {
-$merge$    }
+        $merged$
+    }
 
     fn clear(&mut self) {$cleared$}
 }
 ";
 
-const KNOWN: &str = "        let field_$number$: Known<$kind$> = Known {
-            number: $number$,
-            held: &self.$message$$field$,
-        };
-";
-
-const PART_LET: &str = "        let $local$ = $part_type$ { message: self };\n";
-
-const INNER_LET: &str = "        let $local$ = $part_type$ {
-            message: self.message,
-        };
+const PART_GHOSTS: &str = "\
+Rattle.$crate$.specs.$name$ $part_words$
+Rattle.$crate$.specs.$name$ $part_words$-value
 ";
 
 // Some fields of a message of many.
@@ -110,38 +107,41 @@ struct $part_type$<'a> {
 }
 
 impl<'a> Parts for $part_type$<'a> {
-    ghost use Rattle.$crate$.specs.$name$.{$part_words$};
-    ghost use Rattle.$crate$.specs.$name$.{$part_words$-value};
-
+$ghost_imports$
     ghost records = { λ p. $part_words$.records ($part_words$-value p.message.now) };
 
     fn len(&self, cache: &mut SizeCache) -> Result<u64, EncodeError> {
-$lets$        $local$.len(cache)
+        rows_$low$_to_$high$!(parts(self.message)).len(cache)
     }
 
     fn put<S: EncodeSink>(&self, cache: &mut SizeCache, sink: &mut S) -> Result<(), EncodeError> {
-$lets$        $local$.put(cache, sink)
+        rows_$low$_to_$high$!(parts(self.message)).put(cache, sink)
     }
 }
 ";
 
-const OF_SOME: [Template; 3] = [
+// The calls of a message, of whose fields the rows stand above.
+const OF_SOME: [Template; 6] = [
     ("alloc", "alloc"),
-    ("whole", "($local$, $rest$)"),
-    (
-        "merge",
-        "        match tag.field_number() {\n$arms$            _ => $keep$,\n        }\n",
-    ),
+    ("empty", "rows!(empty($name$, alloc))"),
+    ("rest_let", ""),
+    ("whole", "rows!(parts(self))"),
+    ("merged", "rows!(merge(self, alloc, tag, buf, context))"),
+    ("cleared", "\n        rows!(clear(self));\n    "),
 ];
 
-const OF_NONE: [Template; 2] = [("whole", "$rest$"), ("merge", "        $keep$\n")];
+// Those of one without fields.
+const OF_NONE: [Template; 4] = [
+    ("empty", "$name$ {$emptied$}"),
+    ("rest_let", "$rest_held$"),
+    ("whole", "$rest$"),
+    ("merged", "$keep$"),
+];
 
 // What becomes of the records that the schema lacks.
-const KEPT: [Template; 6] = [
-    (
-        "uses",
-        "wire_codec UnknownFields\nwire_fields Rest\nwire_fields keep\n",
-    ),
+const KEPT: [Template; 9] = [
+    ("uses", "wire_codec UnknownFields\n"),
+    ("rest_uses", "wire_fields Rest\nwire_fields keep\n"),
     (
         "declared",
         "    /// The fields that the schema lacks, as they came.\n    pub unknown: UnknownFields,\n",
@@ -153,22 +153,28 @@ const KEPT: [Template; 6] = [
     ("cleared", "        self.unknown.clear();\n"),
     ("keep", "keep(alloc, tag, &mut self.unknown, buf, context)"),
     ("rest", "rest"),
+    (
+        "rest_held",
+        "        let rest = Rest {\n            fields: &self.unknown,\n        };\n",
+    ),
+    ("rest_row", "unknown"),
 ];
 
-const DROPPED: [Template; 3] = [
-    ("uses", "wire_fields Dropped\nwire_fields pass_over\n"),
+const DROPPED: [Template; 4] = [
+    ("rest_uses", "wire_fields Dropped\nwire_fields pass_over\n"),
     ("keep", "pass_over(tag, buf, context)"),
     ("rest", "Dropped"),
+    ("rest_row", "dropped"),
 ];
 
-const REST_LET: &str = "        let rest = Rest {
-            fields: &self.unknown,
-        };
-";
-
-const OF_FIELD: [Template; 4] = [
-    ("uses", "$code$wire_fields Kind\nwire_fields Known\n"),
+const OF_FIELD: [Template; 2] = [
+    ("uses", "$code$"),
     ("declared", "    pub $field$: $held$,\n"),
+];
+
+// Of a field of a leaf.
+const OF_LEAF: [Template; 3] = [
+    ("uses", "wire_fields Kind\nwire_fields Known\n"),
     (
         "emptied",
         "            $field$: <$kind$ as Kind>::empty(alloc),\n",
@@ -188,33 +194,38 @@ pub(crate) fn code_of(
     tree: &Tree,
 ) -> Result<String, GenerateError> {
     let mut page = Words::like(base);
-    page.copy(&tree.words, &["local"]);
     page.set("uses", USES);
     for field in fields {
-        page.copy(
-            &field.words,
-            &[
-                "field", "number", "kind", "held", "at", "code", "call", "of_name",
-            ],
-        );
-        put_field(&mut page, schema, &field.words);
+        page.copy(&field.words, &["field", "held", "at", "code"]);
+        put_field_comment(&mut page, schema);
+        page.append_all(&OF_FIELD);
+    }
+    set_rest(&mut page);
+    if fields.is_empty() {
+        page.append("uses", "$rest_uses$");
+        page.fill_all(&OF_NONE);
+    } else {
+        page.append("uses", "wire_fields fields\n");
+        page.fill_all(&OF_SOME);
     }
     if !tree.parts.is_empty() {
         page.append("uses", "wire_fields Parts\n");
     }
-    set_rest(&mut page, fields.is_empty());
     if message.is_twin {
         set_clone(&mut page, fields, tree);
     }
-    put_head(&mut page, schema, message);
-    put_lets(&mut page, fields, tree, None);
-    page.append_all(&[("code", "$clone$"), ("code", MESSAGE)]);
+    put_struct(&mut page, schema, message);
+    if !fields.is_empty() {
+        put_rows(&mut page, fields, tree);
+    }
+    page.append_all(&[("code", NAME), ("code", "$clone$")]);
+    page.fill("ghosts", GHOSTS);
+    ghost_imports(&mut page, "    ");
+    page.append("code", MESSAGE);
     for part in &tree.parts {
-        put_lets(&mut page, fields, tree, Some(part));
-        page.copy(
-            &part.words,
-            &["low", "high", "local", "part_type", "part_words"],
-        );
+        page.copy(&part.words, &["low", "high", "part_type", "part_words"]);
+        page.fill("ghosts", PART_GHOSTS);
+        ghost_imports(&mut page, "    ");
         page.append("code", PART);
     }
     page.append("code", "$copied_apart$");
@@ -222,26 +233,39 @@ pub(crate) fn code_of(
 }
 
 /// What becomes of the records that the schema lacks, and the words that stand on that.
-pub(crate) fn set_rest(page: &mut Words, is_empty: bool) {
+pub(crate) fn set_rest(page: &mut Words) {
     let is_kept = page.get("unknown") == "keep";
     page.append_all(if is_kept { &KEPT } else { &DROPPED });
     page.set("alloc", if is_kept { "alloc" } else { "_alloc" });
-    page.fill_all(if is_empty { &OF_NONE } else { &OF_SOME });
     for name in ["declared", "emptied", "cleared"] {
         put_in_braces(page, name);
     }
 }
 
+/// The same where some fields are a leaf, and the arms of these.
+pub(crate) fn set_leaf_rest(page: &mut Words) {
+    set_rest(page);
+    page.append("uses", "$rest_uses$");
+    page.fill(
+        "merge",
+        "        match tag.field_number() {\n$arms$            _ => $keep$,\n        }\n",
+    );
+}
+
 /// The head of the module of a message type: what it brings in, the struct, and its names.
 pub(crate) fn put_head(page: &mut Words, schema: &Schema, message: &MessageType) {
+    put_struct(page, schema, message);
+    page.append("code", NAME);
+}
+
+// What the module of a message type brings in, and the struct.
+fn put_struct(page: &mut Words, schema: &Schema, message: &MessageType) {
     code_imports(page);
     page.set("package", message.words.get("package"));
     page.set("own_name", message.words.get("outer").trim_end_matches('.'));
     page.set("full", message.words.get("full").trim_start_matches('.'));
-    page.fill(
-        "code",
-        "//! The message `$full$`. Generated.\n$head_ghosts$$imports$\n",
-    );
+    set_heading(page, "//!", "The message `$full$`.");
+    page.fill("code", "$heading$$head_ghosts$$imports$\n");
     match schema.comment(message.words.get("place")) {
         "" => page.append("code", "/// The message `$name$`.\n"),
         comment => put_comment(page, "code", "", comment),
@@ -249,7 +273,7 @@ pub(crate) fn put_head(page: &mut Words, schema: &Schema, message: &MessageType)
     page.set("derived", if message.is_twin { "" } else { "Clone, " });
     let is_member = !page.get("family_name").is_empty();
     page.append("code", if is_member { CYCLE } else { "" });
-    page.append_all(&[("code", STRUCT), ("code", NAME)]);
+    page.append("code", STRUCT);
 }
 
 /// Puts lines where they stand between braces: on lines of their own.
@@ -268,34 +292,6 @@ pub(crate) fn put_in_braces(page: &mut Words, name: &'static str) {
     }
 }
 
-// The lines that make the tuple of a part by itself, or without one that of all fields: first the
-// fields, and the parts within, and then the pairs of these.
-fn put_lets(page: &mut Words, fields: &[Field], tree: &Tree, part: Option<&Node>) {
-    page.set("lets", "");
-    page.set("message", if part.is_some() { "message." } else { "" });
-    for (place, field) in fields.iter().enumerate() {
-        if tree.has(part, place, place.saturating_add(1)) {
-            page.copy(&field.words, &["field", "number", "kind"]);
-            page.append("lets", KNOWN);
-        }
-        for inner in &tree.parts {
-            if inner.first == place && tree.has_part(part, inner) {
-                page.copy(&inner.words, &["local", "part_type"]);
-                page.append("lets", if part.is_some() { INNER_LET } else { PART_LET });
-            }
-        }
-    }
-    for pair in &tree.pairs {
-        if tree.has(part, pair.first, pair.behind) {
-            page.copy(&pair.words, &["pair"]);
-            page.append("lets", "$pair$");
-        }
-    }
-    if part.is_none() && page.get("rest") == "rest" {
-        page.append("lets", REST_LET);
-    }
-}
-
 /// Puts the comment of the field at this place before what is declared next.
 pub(crate) fn put_field_comment(page: &mut Words, schema: &Schema) {
     page.fill("at", "$place$.2.$at$");
@@ -303,24 +299,13 @@ pub(crate) fn put_field_comment(page: &mut Words, schema: &Schema) {
     put_comment(page, "declared", "    ", comment);
 }
 
-/// What there is for each field.
-pub(crate) fn put_field(page: &mut Words, schema: &Schema, field: &Words) {
+/// What there is for a field of a leaf.
+pub(crate) fn put_leaf_field(page: &mut Words, schema: &Schema, field: &Words) {
     put_field_comment(page, schema);
     page.append_all(&OF_FIELD);
-    let mut types = field.get("all_types").split(' ');
-    let mut calls = field.get("all_calls").split(' ');
+    page.append_all(&OF_LEAF);
     for number in field.get("numbers").split(' ') {
         page.set("number", number);
-        page.set("own_types", or_else(types.next(), field.get("own_types")));
-        page.set("call", or_else(calls.next(), field.get("call")));
         put_arm(page);
-    }
-}
-
-// The word of one number of a oneof, or that of the whole field.
-fn or_else<'a>(own: Option<&'a str>, field: &'a str) -> &'a str {
-    match own {
-        None | Some("") => field,
-        Some(own) => own,
     }
 }

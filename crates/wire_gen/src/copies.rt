@@ -1,5 +1,6 @@
 //! Copies of a message: a clone, which contracts see as they see its source.
 use crate::code::put_in_braces;
+use crate::imports::ghost_imports;
 use crate::tree::{Node, Tree};
 use wire_schema::{Field, Template, Words};
 
@@ -16,15 +17,18 @@ $copies$        Ok($name$ {$copied$})
 }
 
 impl Twin for $name$ {
-    ghost use Rattle.$crate$.specs.$name$.{$name$-Value};
-    ghost use Rattle.$crate$.specs.$name$.{$module$-value};
-
+$ghost_imports$
     ghost Seen = { $name$-Value };
 
     ghost seen = { $module$-value };
 
     ghost same = { λ m copy e. e };
 }
+";
+
+const GHOSTS: &str = "\
+Rattle.$crate$.specs.$name$ $name$-Value
+Rattle.$crate$.specs.$name$ $module$-value
 ";
 
 // Copies of some fields of a message of many.
@@ -99,6 +103,8 @@ pub(crate) fn set_clone(page: &mut Words, fields: &[Field], tree: &Tree) {
         page.append("copied", "            unknown: self.unknown.clone()?,\n");
     }
     close(page);
+    page.fill("ghosts", GHOSTS);
+    ghost_imports(page, "    ");
     page.fill("clone", CLONE);
 }
 

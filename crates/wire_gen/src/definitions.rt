@@ -1,9 +1,9 @@
 //! The definitions of a message type.
+use crate::comments::set_heading;
 use crate::copies::put_copies;
 use crate::imports::definition_imports;
 use crate::laws_pages::has_laws;
 use crate::returned::{put_range, put_range_page};
-use crate::stays::{is_settled, put_stays, put_stays_page};
 use crate::tree::Tree;
 use wire_schema::{Field, GenerateError, MessageType, Template, Words};
 
@@ -43,9 +43,11 @@ Rattle.wire_fields.specs.Leaving Leaving
 Rattle.wire_fields.specs.Leaving with_unknown
 ";
 
+/// What a page of definitions has.
+pub(crate) const TABLE: &str = "A `$name$` as contracts see it, and the table of its fields.";
+
 const HEAD: &str = "\
--- A `$name$` as contracts see it, and the table of its fields. Generated.
-$imports$
+$heading$$imports$
 $kinds$";
 
 const PART_VALUE: &str = "\
@@ -117,8 +119,7 @@ $module$-$field$-kind = $definition$
 // Which values of a field are read back.
 const FIELD_RANGE: &str = "\
 abbrev pub $module$-$field$-range : Range $bracketed$
-$module$-$field$-range =
-    $own_range$
+$module$-$field$-range =$break$$own_range$
 
 ";
 
@@ -155,17 +156,10 @@ pub(crate) fn definitions_of(
     if is_read_back {
         put_range(&mut page, fields, tree);
     }
-    let is_settled = is_read_back && is_settled(&page);
-    if is_settled {
-        put_stays(&mut page, fields, tree);
-    }
     definition_imports(&mut page);
     put_text(&mut page, fields);
     if is_read_back {
         put_range_page(&mut page, fields);
-    }
-    if is_settled {
-        put_stays_page(&mut page);
     }
     page.finish("text")
 }
@@ -215,6 +209,7 @@ fn put_whole(page: &mut Words, fields: &[Field]) {
 }
 
 fn put_text(page: &mut Words, fields: &[Field]) {
+    set_heading(page, "--", TABLE);
     page.fill("text", HEAD);
     page.append_all(if fields.is_empty() {
         &[("text", EMPTY)]
@@ -226,6 +221,9 @@ fn put_text(page: &mut Words, fields: &[Field]) {
 /// Puts which values of a field are read back among the kinds, or where it holds a message of which
 /// that follows from what is charged, among the ranges.
 pub(crate) fn put_field_range(page: &mut Words) {
+    page.fill("line", "$module$-$field$-range = $own_range$");
+    let is_short = page.get("line").len() <= 100 && !page.get("line").contains('\n');
+    page.set("break", if is_short { " " } else { "\n    " });
     if page.get("of_charged").is_empty() {
         page.append("kinds", FIELD_RANGE);
     } else {

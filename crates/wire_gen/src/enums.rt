@@ -1,5 +1,6 @@
 //! The code and the definitions of an enum.
-use crate::comments::put_comment;
+use crate::comments::{put_comment, set_heading};
+use crate::imports::ghost_imports;
 use crate::laws_pages::has_laws;
 use std::alloc::Global;
 use wire_schema::{EnumType, GenerateError, Schema, Template, Words, constant_name, value_name};
@@ -14,12 +15,7 @@ impl Plain for $name$ {
 }
 
 impl Enumeration for $name$ {
-    ghost use Rattle.std.specs.Prelude.{codes};
-    ghost use Rattle.wire_codec.specs.EnumNumbers.{first_numbered_keeps};
-$uses$    ghost use Rattle.$crate$.specs.$name$.{$module$-number};
-    ghost use Rattle.$crate$.specs.$name$.{$module$-of};
-    ghost use Rattle.$crate$.specs.$name$.{$module$-values};
-
+$ghost_imports$
     ghost number = { $module$-number };
 
     ghost of_number = { $module$-of };
@@ -45,9 +41,16 @@ $protos$        }
 }
 ";
 
+const GHOSTS: &str = "\
+Rattle.std.specs.Prelude codes
+Rattle.wire_codec.specs.EnumNumbers first_numbered_keeps
+Rattle.$crate$.specs.$name$ $module$-number
+Rattle.$crate$.specs.$name$ $module$-of
+Rattle.$crate$.specs.$name$ $module$-values
+";
+
 const DEFINITIONS: &str = "\
--- The numbers of a `$name$`. Generated.
-$uses_of_arith$use Rattle.std.specs.Prelude.{ℤ, pos$negsuc$, List, [], ◌∷◌, Option}
+$heading$$uses_of_arith$use Rattle.std.specs.Prelude.{ℤ, pos$negsuc$, List, [], ◌∷◌, Option}
 use Rattle.wire_codec.specs.EnumNumbers.{first_numbered}
 $uses_of_closed$use Rattle.$crate$.specs.declared.$module$.$name$.{$name$}
 use Rattle.$crate$.specs.declared.$module$.$name$.TheVariants.{$all$}
@@ -79,8 +82,8 @@ const OF_VALUE: [Template; 9] = [
     ),
     ("values", "    $value$ = $digits$,\n"),
     (
-        "uses",
-        "    ghost use Rattle.$crate$.specs.declared.$module$.$name$.TheVariants.{$value$};\n",
+        "ghosts",
+        "Rattle.$crate$.specs.declared.$module$.$name$.TheVariants $value$\n",
     ),
     ("names", "$bar$$value$ ↦ codes \"$proto$\""),
     ("from", "            $digits$ => Some($name$::$value$),\n"),
@@ -123,6 +126,7 @@ pub(crate) fn enum_files(
     if of_enum.origin.features.is_closed() && has_laws(base) {
         page.fill_all(&OF_CLOSED);
     }
+    set_heading(&mut page, "--", "The numbers of a `$name$`.");
     page.fill("text", DEFINITIONS);
     Ok((page.finish("code")?, page.finish("text")?))
 }
@@ -153,11 +157,14 @@ fn put_named(page: &mut Words, schema: &Schema, value: &Named) {
 
 fn put_code(page: &mut Words, schema: &Schema, of_enum: &EnumType) {
     page.set("full", of_enum.words.get("full").trim_start_matches('.'));
+    set_heading(page, "//!", "The enum `$full$`.");
     page.fill("code", HEAD);
     match schema.comment(of_enum.words.get("place")) {
         "" => page.append("code", "/// The enum `$name$`.\n"),
         comment => put_comment(page, "code", "", comment),
     }
+    page.append("ghosts", GHOSTS);
+    ghost_imports(page, "    ");
     page.append("code", ENUM);
     if !page.get("aliases").is_empty() {
         page.append("code", ALIASES);
@@ -165,8 +172,7 @@ fn put_code(page: &mut Words, schema: &Schema, of_enum: &EnumType) {
 }
 
 const HEAD: &str = "\
-//! The enum `$full$`. Generated.
-use wire_codec::Enumeration;
+$heading$use wire_codec::Enumeration;
 use wire_fields::Plain;
 
 ";

@@ -1,5 +1,5 @@
 //! Extensions: a function each, which is the extension's number and its kind.
-use crate::comments::put_comment;
+use crate::comments::{put_comment, set_heading};
 use crate::imports::code_imports;
 use wire_schema::{
     Extension, GenerateError, Schema, Words, features_of, set_field, started, variant_name,
@@ -7,8 +7,7 @@ use wire_schema::{
 };
 
 const HEAD: &str = "\
-//! The extensions of `$crate$`. Generated.
-ghost use Rattle.std.specs.Prelude.{◌≡◌};
+$heading$ghost use Rattle.std.specs.Prelude.{◌≡◌};
 
 $imports$$functions$";
 
@@ -35,6 +34,7 @@ pub(crate) fn extensions_of(base: &Words, schema: &Schema) -> Result<String, Gen
         return page.finish("functions");
     }
     code_imports(&mut page);
+    set_heading(&mut page, "//!", "The extensions of `$crate$`.");
     page.fill("text", HEAD);
     page.finish("text")
 }

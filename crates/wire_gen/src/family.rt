@@ -1,4 +1,5 @@
 //! The code of message types that hold one another: the enums of all of them pass on what is asked.
+use crate::comments::set_heading;
 use crate::imports::code_imports;
 use wire_schema::{GenerateError, Schema, Template, Words};
 
@@ -17,10 +18,10 @@ wire_fields RecursiveMember
 wire_fields RecursiveSlice
 ";
 
+const WHAT: &str = "Messages that hold one another, as one type: $listed$.";
+
 const FAMILY: &str = "\
-//! Messages that hold one another, as one type. Generated.
-//! They are $listed$.
-$imports$
+$heading$$imports$
 // One of them, moved out of a message or into it.
 #[derive(Drop)]
 pub(crate) enum FamilyHeld {
@@ -221,6 +222,7 @@ pub(crate) fn family_code(base: &Words, members: &[Words]) -> Result<String, Gen
         page.append_all(&OF_MEMBER);
     }
     code_imports(&mut page);
+    set_heading(&mut page, "//!", WHAT);
     page.fill("text", FAMILY);
     page.finish("text")
 }
@@ -242,7 +244,7 @@ const OF_ALL: [Template; 8] = [
 ];
 
 // What it is in the sum of all: the words of its leaf by itself, from which the sum's are made.
-const OF_LEAF: [Template; 11] = [
+const OF_LEAF: [Template; 12] = [
     ("sum_start", "$module$-leaf.default"),
     ("sum_takes", "$module$-leaf.takes"),
     ("sum_run", "($module$-run i)"),
@@ -250,6 +252,10 @@ const OF_LEAF: [Template; 11] = [
     ("sum_single", "($module$-leaf.single reading)"),
     ("sum_range", "$module$-range-of-leaf"),
     ("sum_back", "($module$-known-back g)"),
+    (
+        "sum_stay",
+        "(known_stay $module$-table ($module$-stays-of-known g))",
+    ),
     ("into_open", ""),
     ("into_close", ""),
     ("err_open", ""),
@@ -257,13 +263,14 @@ const OF_LEAF: [Template; 11] = [
 ];
 
 // Of the word `side`, `first` or `second`, and `into`, `inl` or `inr`: one sum more around it.
-const IN_SUM: [Template; 13] = [
+const IN_SUM: [Template; 14] = [
     ("sum_single", "($side$_single $sum_takes$ $sum_single$)"),
     (
         "sum_back",
         "($side$_back $sum_takes$ $sum_start$ $sum_records$ (GoesToLeaf $module$-table)\n    \
         $sum_range$ $sum_back$)",
     ),
+    ("sum_stay", "($side$_stay $sum_stay$)"),
     (
         "err_open",
         "$side$_err _ $sum_takes$ _ _ _ _ _ _\n    ($err_open$",

@@ -1,4 +1,6 @@
 //! The definitions of message types that hold one another, on a page of all of them.
+use crate::account::{FAMILY_ACCOUNT, MEMBER_ACCOUNT};
+use crate::comments::set_heading;
 use crate::imports::definition_imports;
 use crate::laws_pages::has_laws;
 use crate::recursive_definitions::ALIASES;
@@ -75,10 +77,11 @@ use Rattle.$crate$.specs.declared.$family_module$.FamilyHeld.TheVariants as held
 use Rattle.$crate$.specs.declared.$family_module$.FamilySlice.TheVariants as slices
 ";
 
+const WHAT: &str =
+    "Messages that hold one another, as contracts see them, and their tables: $listed$.";
+
 const TEXT: &str = "\
--- Messages that hold one another, as contracts see them, and their tables. Generated.
--- They are $listed$.
-$imports$$aliases$
+$heading$$imports$$aliases$
 -- which of them a message is
 pub data Family-Sorts : Type 0 where
 $sorts$
@@ -265,6 +268,7 @@ pub(crate) fn family_definitions(base: &Words, members: &[Words]) -> Result<Stri
     let is_read_back = has_laws(base);
     page.append("uses", if is_read_back { USES_OF_BACK } else { "" });
     let last = members.len().saturating_sub(1);
+    page.fill_all(&[("at", "zero"), ("at_least", "i")]);
     for member in members {
         put_member(&mut page, member, last);
     }
@@ -274,6 +278,7 @@ pub(crate) fn family_definitions(base: &Words, members: &[Words]) -> Result<Stri
     if is_read_back {
         put_back(&mut page);
     }
+    set_heading(&mut page, "--", WHAT);
     page.fill("text", TEXT);
     page.finish("text")
 }
@@ -284,7 +289,9 @@ fn put_member(page: &mut Words, member: &Words, last: usize) {
     own.fill("aliases", "");
     put_lines(page, &mut own, &OF_MEMBER);
     put_lines(page, &mut own, &OF_BACK);
-    page.copy(&own, &["name"]);
+    page.copy(&own, &["name", "left_within"]);
+    page.append("accounts", MEMBER_ACCOUNT);
+    page.fill_all(&[("at", "(suc $at$)"), ("at_least", "(suc $at_least$)")]);
     page.set("line", own.get("uses"));
     page.append("uses", "$line$");
     let is_first = page.get("listed").is_empty();
@@ -317,7 +324,11 @@ fn put_back(page: &mut Words) {
     let (_, ranges) = backs.split_once('\n').unwrap_or(("", ""));
     page.set("ranges", ranges);
     under_charges(page);
-    page.fill("backs", "\n$ranges$");
+    page.fill("backs", "");
+    if !page.get("charged").is_empty() {
+        page.fill("backs", FAMILY_ACCOUNT);
+    }
+    page.append("backs", "\n$ranges$");
 }
 
 const HELD_HEAD: &str = "\

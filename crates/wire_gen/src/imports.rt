@@ -5,18 +5,38 @@ use wire_schema::Words;
 /// hundred columns where a name leaves room.
 pub(crate) fn definition_imports(page: &mut Words) {
     let uses = page.take("uses");
-    page.fill_all(&[("imports", ""), ("last", ""), ("line", "")]);
-    for line in page.sorted(&uses) {
+    page.fill_all(&[("use", "use "), ("shut", "}\n")]);
+    put_imports(page, &uses);
+    page.fill("imports", "$grouped$");
+}
+
+/// Of the lines of the word `ghosts`, the word `ghost_imports`, as clauses bring names in, behind
+/// such a margin.
+pub(crate) fn ghost_imports(page: &mut Words, margin: &str) {
+    let ghosts = page.take("ghosts");
+    page.set("use", margin);
+    page.append("use", "ghost use ");
+    page.fill("shut", "};\n");
+    put_imports(page, &ghosts);
+    page.fill("ghost_imports", "$grouped$");
+}
+
+// The word `grouped` of such lines.
+fn put_imports(page: &mut Words, uses: &str) {
+    page.fill_all(&[("grouped", ""), ("last", ""), ("line", "")]);
+    for line in page.sorted(uses) {
         let (module, name) = line.split_once(' ').unwrap_or((line, ""));
         page.set("of", module);
         page.set("import", name);
         page.fill("more", "$line$, $import$");
+        page.fill("ended", "$more$$shut$");
         let is_same = page.get("last") == module;
-        if is_same && page.get("more").len() < 100 {
+        // (its line's end counted; a sign may take three bytes)
+        if is_same && page.get("ended").len() <= 101 {
             page.fill("line", "$more$");
         } else {
             end_import(page);
-            page.fill("line", "use $of$.{$import$");
+            page.fill("line", "$use$$of$.{$import$");
         }
         page.set("last", module);
     }
@@ -25,19 +45,7 @@ pub(crate) fn definition_imports(page: &mut Words) {
 
 fn end_import(page: &mut Words) {
     if !page.get("line").is_empty() {
-        page.append("imports", "$line$}\n");
-    }
-}
-
-/// Of the lines of the word `ghosts`, the word `ghost_imports`, as clauses bring names in.
-pub(crate) fn ghost_imports(page: &mut Words) {
-    let ghosts = page.take("ghosts");
-    page.set("ghost_imports", "");
-    for line in page.sorted(&ghosts) {
-        let (module, name) = line.split_once(' ').unwrap_or((line, ""));
-        page.set("of", module);
-        page.set("import", name);
-        page.append("ghost_imports", "ghost use $of$.{$import$};\n");
+        page.append("grouped", "$line$$shut$");
     }
 }
 

@@ -7,16 +7,16 @@ pub(crate) fn has_laws(base: &Words) -> bool {
 }
 
 pub(crate) const LAWS: &str = "\
-//! Laws of the message types: each function is a theorem, and does nothing. Generated.
-$charge_uses$ghost use Rattle.wire_fields.specs.Returned.{ReadsBack};
-$stay_uses$$law_uses$
+$heading$$charge_uses$ghost use Rattle.wire_fields.specs.Returned.{ReadsBack};
+ghost use Rattle.wire_fields.specs.Stays.{DecodesInRange};
+$ghost_imports$
 use wire_codec::laws::text_decodes;
 use wire_fields::laws::grounds;
 $laws$";
 
 pub(crate) const LAW_USES: &str = "\
-ghost use Rattle.$crate$.specs.$name$.{$module$-range};
-ghost use Rattle.$crate$.specs.$name$.{$module$-shape};
+Rattle.$crate$.specs.$name$ $module$-range
+Rattle.$crate$.specs.$name$ $module$-shape
 ";
 
 pub(crate) const LAW: &str = "
@@ -29,22 +29,18 @@ pub fn $module$_reads_back()
 }
 ";
 
-pub(crate) const STAY_USES: &str = "\
-ghost use Rattle.wire_fields.specs.Stays.{DecodesInRange};
-";
-
 pub(crate) const STAY_LAW: &str = "
-/// A `$name$` that bytes decode to is in range, where its encoding takes at most
-/// 2,147,483,647 bytes.
+/// A `$name$` that bytes decode to is in range, where each text, message and group within it takes
+/// at most 2,147,483,647 bytes.
 pub fn $module$_decodes_in_range()
-    ensures { DecodesInRange $module$-shape $module$-range }
+    ensures { DecodesInRange $module$-shape $settled_range$ }
 {
     grounds();
 }
 ";
 
 pub(crate) const STAY_LAW_ANSWERS: &str = "\
-use Rattle.$crate$.specs.$name$.{$module$-stays}
+use Rattle.$crate$.specs.$name$Stays.{$module$-stays}
 use Rattle.wire_fields.specs.Stays.{decodes_in_range}
 use Rattle.$crate$.proofs.laws.$module$_decodes_in_range.Goals as goal
 
@@ -63,6 +59,10 @@ pub fn $module$_reads_back()
     grounds();
     text_decodes::<crate::$name$>();
 }
+";
+
+pub(crate) const ACCOUNT_USE: &str = "\
+Rattle.$crate$.specs.$name$ $module$-account
 ";
 
 pub(crate) const CHARGE_USES: &str = "\

@@ -2,6 +2,7 @@
 //! a crate with the message types of the schemas.
 #![tactic(auto)]
 
+mod account;
 mod answers;
 mod arms;
 mod closing;
@@ -13,14 +14,19 @@ mod enums;
 mod extensions;
 mod family;
 mod family_definitions;
+mod field_rows;
 mod imports;
 mod keeping;
 mod laws_pages;
 mod member;
 mod member_definitions;
+mod mentioned;
+mod nest_stays;
+mod nests;
 mod oneof;
 mod oneof_definitions;
 mod oneof_proofs;
+mod oneof_stays;
 mod package;
 mod recursive;
 mod recursive_back;
@@ -29,6 +35,7 @@ mod returned;
 mod roots;
 mod rows;
 mod runs;
+mod spans;
 mod stays;
 mod tree;
 mod written;

@@ -1,4 +1,5 @@
 //! The definitions and the proofs of one of several message types that hold one another.
+use crate::comments::set_heading;
 use crate::imports::definition_imports;
 use crate::laws_pages::has_laws;
 use crate::returned::{under_charges, use_charges};
@@ -53,9 +54,10 @@ $module$-back g =
     (λ n rs. refl)
 ";
 
+const WHAT: &str = "A `$name$` as contracts see it, which is one of the types of `$family_name$`.";
+
 const FACE: &str = "\
--- A `$name$` as contracts see it, which is one of the types of `$family_name$`. Generated.
-$imports$use Rattle.$crate$.specs.$family_name$ as family
+$heading$$imports$use Rattle.$crate$.specs.$family_name$ as family
 
 abbrev pub $name$-Value : Type 0
 $name$-Value = family.Family-Tree
@@ -73,6 +75,12 @@ $module$-range = family.family-ranges$charges$ family.$name$-Sort
 
 pub $module$-returned : Grounds → Returned $module$-shape $module$-range
 $module$-returned g = family.family-returned$charges$ g family.$name$-Sort
+";
+
+const FACE_ACCOUNT: &str = "
+-- what each record is charged that is left
+abbrev pub $module$-account : List ℕ → ℕ → Payload → Charge
+$module$-account = family.family-account
 ";
 
 const FACE_USES: &str = "\
@@ -98,9 +106,11 @@ pub(crate) fn member_definitions(base: &Words) -> Result<String, GenerateError> 
         use_charges(&mut page);
         page.fill("ranges", FACE_OF_BACK);
         under_charges(&mut page);
-        page.fill("back", "\n$ranges$");
+        page.fill("back", if is_charged { FACE_ACCOUNT } else { "" });
+        page.append("back", "\n$ranges$");
     }
     definition_imports(&mut page);
+    set_heading(&mut page, "--", WHAT);
     page.fill("text", FACE);
     page.finish("text")
 }

@@ -1,5 +1,6 @@
 //! The code of a oneof.
 use crate::closing::OF_CLOSED_VARIANT;
+use crate::comments::set_heading;
 use crate::imports::{code_imports, ghost_imports};
 use wire_schema::{GenerateError, Oneof, Template, Words};
 
@@ -46,10 +47,7 @@ $copy$
 pub struct $name$Kind;
 
 impl Kind for $name$Kind {
-    ghost use Rattle.$crate$.specs.$name$.{$name$-Value};
-    ghost use Rattle.$crate$.specs.$name$.{$module$-of};
-    ghost use Rattle.$crate$.specs.$name$.{$module$-kind};
-
+$ghost_imports$
     type Held = Option<$name$>;
 
     ghost Value = { $name$-Value };
@@ -93,6 +91,12 @@ $merges$    }
         *held = None;
     }
 }
+";
+
+const KIND_GHOSTS: &str = "\
+Rattle.$crate$.specs.$name$ $name$-Value
+Rattle.$crate$.specs.$name$ $module$-kind
+Rattle.$crate$.specs.$name$ $module$-of
 ";
 
 const VARIANT: &str = "
@@ -220,12 +224,12 @@ pub(crate) fn oneof_code(
     if page.get("len_head").len() > WIDTH + 1 {
         page.fill("len_head", LONG_LEN);
     }
-    ghost_imports(&mut page);
+    ghost_imports(&mut page, "");
     code_imports(&mut page);
-    page.fill(
-        "text",
-        "//! The oneof `$name$`. Generated.\n$ghost_imports$\n$imports$",
-    );
+    set_heading(&mut page, "//!", "The oneof `$name$`.");
+    page.fill("text", "$heading$$ghost_imports$\n$imports$");
+    page.fill("ghosts", KIND_GHOSTS);
+    ghost_imports(&mut page, "    ");
     page.append_all(&[("text", ENUM), ("text", "$variants$")]);
     page.finish("text")
 }

@@ -1,10 +1,11 @@
 //! The definitions of a oneof.
 use crate::closing::{CLOSED_DEFINITIONS, put_apart_variants};
+use crate::comments::set_heading;
+use crate::definitions::TABLE;
 use crate::imports::definition_imports;
 use crate::keeping::put_owned;
 use crate::laws_pages::has_laws;
 use crate::returned::{under_charges, use_charges};
-use crate::stays::{is_settled, put_oneof_stays, put_variant_stays};
 use wire_schema::{GenerateError, Oneof, Template, Words, put_apart};
 
 const USES: &str = "\
@@ -30,8 +31,7 @@ Rattle.wire_fields.specs.Oneof either_of
 ";
 
 const HEAD: &str = "\
--- A `$name$` as contracts see it, and the table of its fields. Generated.
-$imports$";
+$heading$$imports$";
 
 const VALUE: &str = "
 abbrev pub $name$-Value : Type 0
@@ -238,7 +238,6 @@ pub(crate) fn oneof_definitions(base: &Words, oneof: &Oneof) -> Result<String, G
         put_numbers(&mut page, place, last);
         if is_read_back {
             page.append_all(&OF_RETURNED);
-            put_variant_stays(&mut page, variant, place);
         }
     }
     if is_read_back {
@@ -253,11 +252,8 @@ pub(crate) fn oneof_definitions(base: &Words, oneof: &Oneof) -> Result<String, G
         put_apart_variants(&mut page, &oneof.variants);
         put_owned(&mut page, &oneof.variants);
     }
-    let is_settled = is_read_back && is_settled(&page);
-    if is_settled {
-        put_oneof_stays(&mut page);
-    }
     definition_imports(&mut page);
+    set_heading(&mut page, "--", TABLE);
     page.append_all(&[("text", HEAD), ("text", VALUE)]);
     if last > 0 {
         page.append("text", FRONT);
@@ -268,9 +264,6 @@ pub(crate) fn oneof_definitions(base: &Words, oneof: &Oneof) -> Result<String, G
         page.append("ranges", "$apart_variants$$owned_variants$");
         under_charges(&mut page);
         page.append("text", "\n$ranges$");
-    }
-    if is_settled {
-        page.append("text", "$stays_of_oneof$");
     }
     page.finish("text")
 }

@@ -5,23 +5,20 @@ use crate::code::code_of;
 use crate::definitions::definitions_of;
 use crate::enums::enum_files;
 use crate::extensions::extensions_of;
-use crate::family::{family_code, set_family};
-use crate::family_definitions::{family_definitions, held_answers};
-use crate::member_definitions::{MEMBER_MERGE, member_definitions};
+use crate::laws_pages::has_laws;
 use crate::oneof::oneof_code;
 use crate::oneof_definitions::oneof_definitions;
 use crate::oneof_proofs::{merge_answers, variant_answers};
-use crate::recursive::recursive_code;
-use crate::recursive_definitions::{recursive_definitions, row_answers, table_page};
-use crate::rows::{is_row, leaf_tree};
+use crate::oneof_stays::oneof_stays;
+use crate::stays::stays_of;
 use crate::tree::{Tree, tree_of};
 use crate::written::{FieldAnswers, written_answers};
 use std::alloc::Global;
 use wire_codec::{DecodeOptions, Message};
 use wire_descriptor::{CodeGeneratorRequest, CodeGeneratorResponse, CodeGeneratorResponseFile};
 use wire_schema::{
-    EnumType, FIRST_EDITION, Field, GenerateError, LAST_EDITION, MessageType, Oneof, Schema,
-    Template, Words, fields_of, order_key, set_crate,
+    EnumType, FIRST_EDITION, Field, GenerateError, LAST_EDITION, MessageType, Oneof, Schema, Words,
+    fields_of, order_key, set_crate,
 };
 
 // The most fields of a message, of which it was seen that they are proved.
@@ -54,17 +51,6 @@ pub(crate) fn answer(alloc: Global, request: &[u8]) -> Result<Vec<u8>, GenerateE
         Err(error) => Err(GenerateError::Answer(error)),
     }
 }
-
-// Where the proofs of a message type that holds itself are, and of one of a family.
-const FOLDERS: [Template; 2] = [
-    ("folder", "proofs/$module$/$name$Recursive"),
-    ("row_folder", "$folder$"),
-];
-
-const MEMBER_FOLDERS: [Template; 2] = [
-    ("folder", "proofs/$module$/$name$RecursiveMemberFamilyHeld"),
-    ("row_folder", "proofs/$module$/$name$"),
-];
 
 fn files_of(
     alloc: Global,
@@ -114,12 +100,12 @@ impl Package {
         Ok(())
     }
 
-    // The words of the crate, and those of a type.
-    fn page(&self, of: &Words) -> Words {
+    /// The words of the crate, and those of a type.
+    pub(crate) fn page(&self, of: &Words) -> Words {
         let mut page = Words::like(&self.base);
         page.copy(
             of,
-            &["full", "name", "module", "place", "charged", "settled"],
+            &["full", "name", "module", "place", "schema", "charged"],
         );
         page
     }
@@ -153,6 +139,10 @@ impl Package {
         let definitions = definitions_of(&page, &fields, &tree, message)?;
         self.add_type(&mut page, code, definitions)?;
         self.add_law(&mut page)?;
+        if has_laws(&self.base) {
+            let proof = stays_of(&page, &fields, &tree)?;
+            self.add_stays(&mut page, proof)?;
+        }
         self.add_oneofs(&fields, message)?;
         self.add_written(&mut page, &fields, &tree)?;
         if fields.is_empty() {
@@ -196,129 +186,12 @@ impl Package {
         )
     }
 
-    // A message type that holds itself, or is of a family: some of these fields are rows.
-    fn add_recursive(
+    /// The oneofs among the fields of a message.
+    pub(crate) fn add_oneofs(
         &mut self,
-        schema: &Schema,
+        fields: &[Field],
         message: &MessageType,
-        fields: Vec<Field>,
     ) -> Result<(), GenerateError> {
-        let mut page = self.page(&message.words);
-        match message.family {
-            Some(first) => drop(set_family(&mut page, schema, first)?),
-            None => page.fill("family", " $name$ "),
-        }
-        let is_member = message.family.is_some();
-        page.fill_all(if is_member { &MEMBER_FOLDERS } else { &FOLDERS });
-        let (fields, tree) = leaf_tree(&mut page, fields)?;
-        let code = recursive_code(&page, schema, message, &fields)?;
-        let definitions = if is_member {
-            member_definitions(&page)?
-        } else {
-            recursive_definitions(&page, &fields, &tree)?
-        };
-        self.add_type(&mut page, code, definitions)?;
-        self.add_law(&mut page)?;
-        self.add_oneofs(&fields, message)?;
-        self.add_rows(&mut page, &fields)?;
-        self.add_leaf(&mut page, fields, &tree)?;
-        if is_member {
-            self.add_member(&mut page)?;
-        }
-        Ok(())
-    }
-
-    // The answers of the leaf of such a type.
-    fn add_leaf(
-        &mut self,
-        page: &mut Words,
-        fields: Vec<Field>,
-        tree: &Tree,
-    ) -> Result<(), GenerateError> {
-        let mut leaf = Vec::new(page.alloc());
-        for field in fields {
-            if !is_row(&field) {
-                leaf.push(field)?;
-            }
-        }
-        let answers = answers_of(page, &leaf, tree, true)?;
-        self.add(page, "$folder$/merge_leaf/Answers.antt", answers)
-    }
-
-    // Those of its rows, where a row has many messages.
-    fn add_rows(&mut self, page: &mut Words, fields: &[Field]) -> Result<(), GenerateError> {
-        let [of_row, of_push] = row_answers(page, fields)?;
-        if of_row.is_empty() {
-            return Ok(());
-        }
-        self.add(page, "$row_folder$/row/Answers.antt", of_row)?;
-        self.add(page, "$folder$/push/Answers.antt", of_push)
-    }
-
-    // Those of `merge_field` of one of a family.
-    fn add_member(&mut self, page: &mut Words) -> Result<(), GenerateError> {
-        page.fill("answers", MEMBER_MERGE);
-        let answers = page.finish("answers")?;
-        let path = "proofs/$module$/$name$MessageFields/merge_field/Answers.antt";
-        self.add(page, path, answers)
-    }
-
-    // What message types that hold one another have together; the first of them is at this place.
-    fn add_family(&mut self, schema: &Schema, first: usize) -> Result<(), GenerateError> {
-        let mut page = Words::like(&self.base);
-        let members = set_family(&mut page, schema, first)?;
-        if let Some(message) = schema.messages.get(first) {
-            page.copy(&message.words, &["charged"]);
-        }
-        let tables = self.tables_of(schema, first, &members)?;
-        let code = family_code(&page, &members)?;
-        let definitions = family_definitions(&page, &tables)?;
-        let answers = held_answers(&page, &members)?;
-        self.roots.copy(&page, &["family_name", "family_module"]);
-        self.roots.append_all(&[
-            ("modules", "mod $family_module$\n"),
-            ("definitions", "pub mod $family_name$\n"),
-        ]);
-        self.add(&mut page, "src/$family_module$.rt", code)?;
-        self.add(&mut page, "specs/$family_name$.antt", definitions)?;
-        let path = "proofs/$family_module$/FamilyHeldRecursiveHeld/merge_leaf/Answers.antt";
-        self.add(&mut page, path, answers)
-    }
-
-    // A page of the table of each of these members.
-    fn tables_of(
-        &self,
-        schema: &Schema,
-        first: usize,
-        members: &[Words],
-    ) -> Result<Vec<Words>, GenerateError> {
-        let mut tables = Vec::new(self.base.alloc());
-        for member in members {
-            for message in &schema.messages {
-                let is_named = message.words.get("name") == member.get("name");
-                if is_named && message.family == Some(first) {
-                    tables.push(self.table_of(schema, first, message)?)?;
-                }
-            }
-        }
-        Ok(tables)
-    }
-
-    fn table_of(
-        &self,
-        schema: &Schema,
-        first: usize,
-        message: &MessageType,
-    ) -> Result<Words, GenerateError> {
-        let mut page = self.page(&message.words);
-        set_family(&mut page, schema, first)?;
-        let fields = fields_of(&self.base, schema, message)?;
-        let (fields, tree) = leaf_tree(&mut page, fields)?;
-        Ok(table_page(&page, &fields, &tree))
-    }
-
-    // The oneofs among the fields of a message.
-    fn add_oneofs(&mut self, fields: &[Field], message: &MessageType) -> Result<(), GenerateError> {
         for field in fields {
             if let Some(oneof) = &field.oneof {
                 self.add_oneof(oneof, message)?;
@@ -330,9 +203,14 @@ impl Package {
     // A oneof of a message.
     fn add_oneof(&mut self, oneof: &Oneof, message: &MessageType) -> Result<(), GenerateError> {
         let mut page = self.page(&oneof.words);
+        page.copy(&oneof.words, &["holder", "holder_name"]);
         let code = oneof_code(&page, oneof, message.is_twin)?;
         let definitions = oneof_definitions(&page, oneof)?;
         self.add_type(&mut page, code, definitions)?;
+        if has_laws(&self.base) {
+            let proof = oneof_stays(&page, oneof)?;
+            self.add_stays(&mut page, proof)?;
+        }
         if oneof.variants.len() > 1 {
             let answers = merge_answers(&page, oneof)?;
             let path = "proofs/$module$/$name$KindKind/merge/Answers.antt";
@@ -362,8 +240,8 @@ impl Package {
         self.add_type(&mut page, code, definitions)
     }
 
-    // A module of code, and that of its definitions.
-    fn add_type(
+    /// A module of code, and that of its definitions.
+    pub(crate) fn add_type(
         &mut self,
         page: &mut Words,
         code: String,
@@ -372,6 +250,10 @@ impl Package {
         page.fill("line", "mod $module$\n");
         if self.roots.get("modules").contains(page.get("line")) {
             return Err(page.refused("$full$: another type is called $name$ too"));
+        }
+        page.fill("line", "pub mod $name$\n");
+        if self.roots.get("definitions").contains(page.get("line")) {
+            return Err(page.refused("$full$: $name$ is the name of a proof of another type"));
         }
         self.roots.copy(page, &["name", "module"]);
         let key = order_key(page.alloc(), page.get("module"))?;

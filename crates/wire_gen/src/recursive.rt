@@ -1,6 +1,6 @@
 //! The code of a message type that holds itself: its fields of its own type are rows, and all
 //! others its leaf, which is written in runs between the rows.
-use crate::code::{put_field, put_field_comment, put_head, set_rest};
+use crate::code::{put_field_comment, put_head, put_leaf_field, set_leaf_rest};
 use crate::member::{LONG_EACH, MEMBER, MEMBER_EACH, MEMBER_GHOSTS, MEMBER_ONCE, MEMBER_USES};
 use crate::rows::{is_row, once_place};
 use crate::runs::{put_field_in_run, put_run};
@@ -269,7 +269,7 @@ pub(crate) fn recursive_code(
     put_run(&mut page, true);
     page.index("count", count);
     put_rows(&mut page, count);
-    set_rest(&mut page, false);
+    set_leaf_rest(&mut page);
     page.fill(
         "head_ghosts",
         if is_member { MEMBER_GHOSTS } else { GHOSTS },
@@ -321,9 +321,9 @@ fn put_row(page: &mut Words, schema: &Schema, field: &Field) {
 fn put_leaf(page: &mut Words, schema: &Schema, field: &Field) {
     page.copy(
         &field.words,
-        &["field", "number", "kind", "held", "at", "code", "call"],
+        &["field", "number", "kind", "held", "at", "code"],
     );
-    put_field(page, schema, &field.words);
+    put_leaf_field(page, schema, &field.words);
     page.copy(&field.words, &["number"]);
     put_field_in_run(page);
 }

@@ -1,4 +1,5 @@
 //! What is read back of a message that holds itself.
+use crate::account::{ACCOUNT, put_account};
 use crate::member_definitions::MEMBER_RANGE;
 use crate::returned::{put_returned, under_charges};
 use crate::rows::is_row;
@@ -103,6 +104,11 @@ pub(crate) fn put_back(page: &mut Words, fields: &[Field], tree: &Tree) {
     end_run(page);
     page.append("run_pieces", "$run_ends$");
     put_returned(page, fields, tree);
+    put_account(page, fields);
+    if is_alone && !page.get("charged").is_empty() {
+        page.set("left_here", "λ n p. payload_charge p");
+        page.append("back", ACCOUNT);
+    }
     page.append("ranges", if is_alone { RANGE } else { MEMBER_RANGE });
     if is_alone {
         under_charges(page);

@@ -1,4 +1,5 @@
 //! The definitions and the proofs of a message type that holds itself.
+use crate::comments::set_heading;
 use crate::definitions::put_field_range;
 use crate::imports::definition_imports;
 use crate::laws_pages::has_laws;
@@ -63,10 +64,12 @@ $module$-$field$-kind = $definition$
 
 ";
 
+const WHAT: &str =
+    "A `$name$` as contracts see it, and its table: its leaf, and rows of messages of \
+                    its own type.";
+
 const TEXT: &str = "\
--- A `$name$` as contracts see it, and its table: its leaf, and rows of messages of its own type.
--- Generated.
-$imports$$aliases$
+$heading$$imports$$aliases$
 $kinds$abbrev pub $name$-Known : Type 0
 $name$-Known =
     $value$
@@ -144,6 +147,7 @@ pub(crate) fn recursive_definitions(
     let mut page = table_page(base, fields, tree);
     definition_imports(&mut page);
     page.set("aliases", ALIASES);
+    set_heading(&mut page, "--", WHAT);
     page.fill("text", TEXT);
     page.finish("text")
 }

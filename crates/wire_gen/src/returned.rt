@@ -1,4 +1,5 @@
 //! What is read back of a message type.
+use crate::account::{ACCOUNT, put_account};
 use crate::rows::is_row;
 use crate::tree::Tree;
 use wire_schema::{Field, Template, Words};
@@ -16,7 +17,7 @@ $module$-returned g =
 
 // Of a message that leaves entries itself.
 const LEFT_CHARGE: &str = "
--- what each record is charged that is left, an entry where it has a key, a value and no group
+-- what each record is charged that is left
 abbrev pub $module$-left-charge : ℕ → Payload → Charge
 $module$-left-charge = $left_charge$
 ";
@@ -145,6 +146,9 @@ pub(crate) fn put_range_page(page: &mut Words, fields: &[Field]) {
     if leaves_entries(fields) {
         page.append("text", LEFT_CHARGE);
     }
+    if !page.get("charged").is_empty() {
+        page.append("text", ACCOUNT);
+    }
     page.append("ranges", RANGE);
     under_charges(page);
     page.append("text", "\n$ranges$");
@@ -199,6 +203,16 @@ pub(crate) fn put_range(page: &mut Words, fields: &[Field], tree: &Tree) {
     let is_kept = page.get("unknown") == "keep";
     put_returned(page, fields, tree);
     put_left_charge(page, fields);
+    put_account(page, fields);
+    let leaves = leaves_entries(fields);
+    page.fill(
+        "left_here",
+        if leaves {
+            "$module$-left-charge"
+        } else {
+            "λ n p. payload_charge p"
+        },
+    );
     let is_leaving = page.get("part") == "Leaving";
     page.append_all(match (fields.is_empty(), is_kept) {
         _ if leaves_entries(fields) => &ENTRIES_RANGE,

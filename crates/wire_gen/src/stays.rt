@@ -1,186 +1,183 @@
-//! That what decoding gives of a message is in range.
+//! That what decoding leaves of a message is in range: a page of its own for each type.
+use crate::comments::set_heading;
+use crate::imports::definition_imports;
+use crate::mentioned::use_mentioned;
+use crate::rows::is_row;
 use crate::tree::Tree;
-use wire_schema::{Field, Template, Words};
+use wire_schema::{Field, GenerateError, Words};
 
-const STAYS: &str = "
-pub $module$-stays : Grounds → Stays $module$-shape $module$-range
+const TEXT: &str = "
+pub $module$-stays : Grounds → Stays $module$-shape $settled_range$
 $module$-stays g =
     $whole_stays$
 ";
 
-// What puts the proofs together, and where that stands.
-const OF_STAYS: [(&str, &str); 42] = [
-    ("dropping_stays", "Stays"),
-    ("known_stays", "Stays"),
-    ("nothing_stays", "Stays"),
-    ("two_stays", "Stays"),
-    ("unknown_stays", "Stays"),
-    ("whole_stays", "Stays"),
-    ("always_stays", "StaysKinds"),
-    ("any_bytes_stay", "StaysKinds"),
-    ("bool_stays", "StaysKinds"),
-    ("double_stays", "StaysKinds"),
-    ("enum_stays", "StaysKinds"),
-    ("fixed32_stays", "StaysKinds"),
-    ("fixed64_stays", "StaysKinds"),
-    ("float_stays", "StaysKinds"),
-    ("implicit_stays", "StaysKinds"),
-    ("int32_stays", "StaysKinds"),
-    ("int64_stays", "StaysKinds"),
-    ("numeric_stays", "StaysKinds"),
-    ("optional_stays", "StaysKinds"),
-    ("packed_stays", "StaysKinds"),
-    ("repeated_stays", "StaysKinds"),
-    ("sfixed32_stays", "StaysKinds"),
-    ("sfixed64_stays", "StaysKinds"),
-    ("sint32_stays", "StaysKinds"),
-    ("sint64_stays", "StaysKinds"),
-    ("string_stays", "StaysKinds"),
-    ("uint32_stays", "StaysKinds"),
-    ("uint64_stays", "StaysKinds"),
-    ("unpacked_stays", "StaysKinds"),
-    ("bool_map_stays", "StaysMaps"),
-    ("signed_map_stays", "StaysMaps"),
-    ("text_map_stays", "StaysMaps"),
-    ("unsigned_map_stays", "StaysMaps"),
-    ("either_stays", "StaysMessages"),
-    ("embedded_always_stays", "StaysMessages"),
-    ("embedded_each_stays", "StaysMessages"),
-    ("embedded_once_stays", "StaysMessages"),
-    ("group_always_stays", "StaysMessages"),
-    ("group_each_stays", "StaysMessages"),
-    ("group_once_stays", "StaysMessages"),
-    ("oneof_stays", "StaysMessages"),
-    ("variant_stays", "StaysMessages"),
-];
+const WHAT: &str = "What decoding leaves of a `$name$` is in range.";
 
-/// Whether it is proved of the type whose words these are.
-pub(crate) fn is_settled(page: &Words) -> bool {
-    !page.get("settled").is_empty()
+const HEAD: &str = "$heading$$imports$$text$";
+
+// What puts the proofs together.
+const NAMED: &str = "\
+Rattle.std.proofs.Common arith
+Rattle.std.proofs.Common refl
+Rattle.std.specs.Prelude None
+Rattle.std.specs.Prelude Some
+Rattle.std.proofs.Common inl
+Rattle.std.proofs.Common inr
+Rattle.std.specs.Prelude ◌∷◌
+Rattle.wire_fields.specs.Grounds Grounds
+Rattle.wire_fields.specs.Stays Stays
+Rattle.wire_fields.specs.Stays dropping_stays
+Rattle.wire_fields.specs.Stays known_stays
+Rattle.wire_fields.specs.Stays nothing_stays
+Rattle.wire_fields.specs.Stays two_stays
+Rattle.wire_fields.specs.Stays unknown_stays
+Rattle.wire_fields.specs.Stays whole_stays
+Rattle.wire_fields.specs.StaysClosed closed_once_stays
+Rattle.wire_fields.specs.StaysClosed closed_packed_stays
+Rattle.wire_fields.specs.StaysClosed closed_unpacked_stays
+Rattle.wire_fields.specs.StaysClosed closing_stays
+Rattle.wire_fields.specs.StaysClosedMaps closed_bool_map_stays
+Rattle.wire_fields.specs.StaysClosedMaps closed_signed_map_stays
+Rattle.wire_fields.specs.StaysClosedMaps closed_text_map_stays
+Rattle.wire_fields.specs.StaysClosedMaps closed_unsigned_map_stays
+Rattle.wire_fields.specs.StaysClosedMaps entries_others
+Rattle.wire_fields.specs.StaysKinds always_stays
+Rattle.wire_fields.specs.StaysKinds any_bytes_stay
+Rattle.wire_fields.specs.StaysKinds bool_stays
+Rattle.wire_fields.specs.StaysKinds double_stays
+Rattle.wire_fields.specs.StaysKinds enum_stays
+Rattle.wire_fields.specs.StaysKinds fixed32_stays
+Rattle.wire_fields.specs.StaysKinds fixed64_stays
+Rattle.wire_fields.specs.StaysKinds float_stays
+Rattle.wire_fields.specs.StaysKinds implicit_stays
+Rattle.wire_fields.specs.StaysKinds int32_stays
+Rattle.wire_fields.specs.StaysKinds int64_stays
+Rattle.wire_fields.specs.StaysKinds numeric_stays
+Rattle.wire_fields.specs.StaysKinds optional_stays
+Rattle.wire_fields.specs.StaysKinds packed_stays
+Rattle.wire_fields.specs.StaysKinds repeated_stays
+Rattle.wire_fields.specs.StaysKinds sfixed32_stays
+Rattle.wire_fields.specs.StaysKinds sfixed64_stays
+Rattle.wire_fields.specs.StaysKinds sint32_stays
+Rattle.wire_fields.specs.StaysKinds sint64_stays
+Rattle.wire_fields.specs.StaysKinds string_stays
+Rattle.wire_fields.specs.StaysKinds uint32_stays
+Rattle.wire_fields.specs.StaysKinds uint64_stays
+Rattle.wire_fields.specs.StaysKinds unpacked_stays
+Rattle.wire_fields.specs.StaysLeaving both_stay
+Rattle.wire_fields.specs.StaysLeaving charged_stays
+Rattle.wire_fields.specs.StaysLeaving none_stays
+Rattle.wire_fields.specs.StaysLeaving other_stays
+Rattle.wire_fields.specs.StaysLeaving types_stay
+Rattle.wire_fields.specs.StaysLeaving with_unknown_stays
+Rattle.wire_fields.specs.StaysMaps bool_map_stays
+Rattle.wire_fields.specs.StaysMaps signed_map_stays
+Rattle.wire_fields.specs.StaysMaps text_map_stays
+Rattle.wire_fields.specs.StaysMaps unsigned_map_stays
+Rattle.wire_fields.specs.StaysMessages embedded_always_stays
+Rattle.wire_fields.specs.StaysMessages embedded_each_stays
+Rattle.wire_fields.specs.StaysMessages embedded_once_stays
+Rattle.wire_fields.specs.StaysMessages group_always_stays
+Rattle.wire_fields.specs.StaysMessages group_each_stays
+Rattle.wire_fields.specs.StaysMessages group_once_stays
+";
+
+// What a message has of its own.
+const NAMED_OF_TYPE: &str = "\
+Rattle.$crate$.specs.$name$ $module$-account
+Rattle.$crate$.specs.$name$ $module$-known
+Rattle.$crate$.specs.$name$ $module$-range
+Rattle.$crate$.specs.$name$ $module$-shape
+";
+
+/// The module of the kinds of the fields.
+pub(crate) const HOME: &str = "Rattle.$crate$.specs.$name$";
+
+/// The page of a message that holds neither itself nor others that hold it.
+pub(crate) fn stays_of(
+    base: &Words,
+    fields: &[Field],
+    tree: &Tree,
+) -> Result<String, GenerateError> {
+    let mut page = Words::like(base);
+    page.fill("home_specs", HOME);
+    put_fields(&mut page, fields, tree);
+    put_settled_range(&mut page);
+    put_whole(&mut page, fields);
+    page.fill("text", TEXT);
+    stays_page(&mut page)
 }
 
-/// What the proof brings in.
-pub(crate) fn put_stays(page: &mut Words, fields: &[Field], tree: &Tree) {
+/// The names of the fields, and the proof of their tree, the word `stays`.
+pub(crate) fn put_fields(page: &mut Words, fields: &[Field], tree: &Tree) {
     page.copy(&tree.words, &["stays"]);
-    let is_kept = page.get("unknown") == "keep";
-    page.fill(
-        "whole_stays",
-        match (fields.is_empty(), is_kept) {
-            (false, true) => "whole_stays g\n    ($stays$)",
-            (false, false) => "dropping_stays g\n    ($stays$)",
-            (true, true) => "unknown_stays",
-            (true, false) => "nothing_stays",
-        },
-    );
     for field in fields {
-        page.copy(&field.words, &["stays_uses"]);
-        page.append("uses", "$stays_uses$");
-    }
-    page.append("uses", "Rattle.wire_fields.specs.Stays Stays\n");
-    use_proofs(page, "whole_stays");
-}
-
-/// Puts the proof behind the text of its page.
-pub(crate) fn put_stays_page(page: &mut Words) {
-    page.append("text", STAYS);
-}
-
-// Brings in what the word of this name puts together.
-fn use_proofs(page: &mut Words, name: &str) {
-    for (proof, module) in &OF_STAYS {
-        if mentions(page.get(name), proof) {
-            page.set("of", module);
-            page.set("import", proof);
-            page.append("uses", "Rattle.wire_fields.specs.$of$ $import$\n");
+        if !is_row(field) {
+            page.copy(&field.words, &["field", "definitions", "returned_uses"]);
+            page.copy(&field.words, &["stays_uses"]);
+            page.append("named", "$definitions$$returned_uses$$stays_uses$");
+            page.append(
+                "named",
+                "$home_specs$ $module$-$field$-kind\n$home_specs$ $module$-$field$-range\n",
+            );
         }
     }
 }
 
-// Whether a name stands in a text, and not as a part of another.
-fn mentions(text: &str, name: &str) -> bool {
-    text.lines().any(|line| {
-        let mut words = line.split(' ');
-        words.any(|word| word.trim_start_matches('(').trim_end_matches(')') == name)
-    })
+/// The range, for what the account says where one is asked for.
+pub(crate) fn put_settled_range(page: &mut Words) {
+    let is_charged = !page.get("charged").is_empty();
+    page.fill(
+        "settled_range",
+        if is_charged {
+            "($module$-range $module$-account)"
+        } else {
+            "$module$-range"
+        },
+    );
 }
 
-// ---- oneofs
-
-const ONEOF: &str = "
-$stays_of_variants$abbrev pub $module$-is : Grounds → $name$-Value → Type 0
-$module$-is g None = Unit {0}
-$ises$
-$theres$pub $module$-in-range : (g : Grounds) (m : $name$-Value) → $module$-is g m
-    → text_size ($module$-records m) ≤ 2147483647 → $module$-holds m
-$module$-in-range g None h small = tt
-$in_ranges$
-pub $module$-stays : Grounds → Stays $module$-shape $module$-range
-$module$-stays g =
-    oneof_stays None $module$-records _ ($module$-is g) tt
-    $all_stay$
-    ($module$-in-range g)
-";
-
-const OF_VARIANT: [Template; 5] = [
-    (
-        "stays_of_variants",
-        "abbrev pub $word$-of-$module$-stays : Grounds
-    → KindStays $definition$.kind
-    $always_range$
-$word$-of-$module$-stays g =
-    $always_stays$
-
-",
-    ),
-    (
-        "ises",
-        "$module$-is g (Some $one$) = ($word$-of-$module$-stays g).Is x\n",
-    ),
-    (
-        "theres",
-        "$word$-of-$module$-there : (g : Grounds) (m : $name$-Value) → $module$-is g m
-    → ($word$-of-$module$-stays g).Is
-    (or_else $word$-of-$module$-default ($word$-of-$module$-as m))
-$word$-of-$module$-there g None h = ($word$-of-$module$-stays g).start
-$befores_there$$word$-of-$module$-there g (Some $one$) h = h
-$behinds_there$
-",
-    ),
-    (
-        "in_ranges",
-        "$module$-in-range g (Some $one$) h small =
-    ($word$-of-$module$-stays g).holds $digits$ x h small
-",
-    ),
-    ("uses", "$stays_uses$"),
-];
-
-const ONE: &str = "(variant_stays $digits$ $definition$ $word$-of-$module$-as
-    (λ x. Some $one$) ($module$-is g) ($word$-of-$module$-stays g)
-    ($word$-of-$module$-there g) (λ t h. h))";
-
-const MORE: &str = "(either_stays $all_stay$
-    $one_stays$)";
-
-const USES: &str = "\
-Rattle.std.specs.Prelude ◌≤◌
-Rattle.wire_codec.specs.Records text_size
-Rattle.wire_fields.specs.Messages or_else
-Rattle.wire_fields.specs.Stays KindStays
-Rattle.wire_fields.specs.Stays Stays
-";
-
-/// A variant more, whose words the page has.
-pub(crate) fn put_variant_stays(page: &mut Words, variant: &Words, place: usize) {
-    page.copy(variant, &["always_stays", "stays_uses"]);
-    page.append_all(&OF_VARIANT);
-    page.fill("one_stays", ONE);
-    page.fill("all_stay", if place == 0 { ONE } else { MORE });
+// The fields with the unknown ones.
+fn put_whole(page: &mut Words, fields: &[Field]) {
+    let is_kept = page.get("unknown") == "keep";
+    let mut leaves = false;
+    let mut leaves_entries = false;
+    page.set("others_stay", "λ n p other. refl");
+    for field in fields {
+        leaves |= field.words.get("both") == "both_leaving";
+        page.copy(&field.words, &["left_others"]);
+        if !page.get("left_others").is_empty() {
+            leaves_entries = true;
+            page.fill("others_stay", "$left_others$\n    ($others_stay$)");
+        }
+    }
+    page.fill(
+        "whole_stays",
+        match (fields.is_empty(), is_kept) {
+            _ if leaves_entries => "charged_stays\n    ($others_stay$)\n    ($stays$)",
+            _ if leaves => "with_unknown_stays\n    ($stays$)",
+            (false, true) => "whole_stays\n    ($stays$)",
+            (false, false) => "dropping_stays\n    ($stays$)",
+            (true, true) => "unknown_stays",
+            (true, false) => "nothing_stays",
+        },
+    );
 }
 
-/// The proof of a oneof, behind the text of its page.
-pub(crate) fn put_oneof_stays(page: &mut Words) {
-    page.fill("stays_of_oneof", ONEOF);
-    page.append("uses", USES);
-    use_proofs(page, "stays_of_oneof");
+/// The page of the text of a type, with what it names.
+pub(crate) fn stays_page(page: &mut Words) -> Result<String, GenerateError> {
+    page.append("named", NAMED_OF_TYPE);
+    put_names(page);
+    definition_imports(page);
+    set_heading(page, "--", WHAT);
+    page.fill("text", HEAD);
+    page.finish("text")
+}
+
+/// Puts what the text names to the word `uses`.
+pub(crate) fn put_names(page: &mut Words) {
+    page.set("uses", "");
+    page.append("named", NAMED);
+    use_mentioned(page);
 }

@@ -1,29 +1,19 @@
 //! The fields of a message as a balanced tree of pairs, which its code, its definitions and its
 //! proofs have alike.
+use crate::spans::parts_of;
 use wire_schema::{Field, GenerateError, Template, Words};
-
-// The fields of a part by itself, where there are more: a tuple of many kinds is not proved. Maps
-// count for more, and those of closed enums for more still.
-const PART: usize = 8;
-
-const PART_OF_MAPS: usize = 4;
-
-const PART_OF_CLOSED_MAPS: usize = 2;
 
 /// The fields of a message as a tree. Its words are those of the root but for its numbers.
 #[derive(Drop)]
 pub(crate) struct Tree {
     pub words: Words,
-    /// The pairs, an inner one before the one that it is in; the word `pair` of each makes it.
-    pub pairs: Vec<Node>,
     /// Where there are many fields, those in a row that have a type of their own, an inner one
     /// before the one that it is in.
     pub parts: Vec<Node>,
 }
 
 /// Fields in a row, as one part of the tree. Its words are the first and the last number, `low` and
-/// `high`; the `local` of code that has the pair; its type `value` as contracts see it, and how a
-/// message `m` is seen so, its `view`, and the same field by field, `seen`; the `table`, and why a
+/// `high`; its type `value` as contracts see it, and how a message `m` is seen so, its `view`, and the same field by field, `seen`; the `table`, and why a
 /// number is none of it, `unlike`; the `range` of values that are read back, why they are,
 /// `returned`, why decoding gives such, `stays`, and why a number `h` that is one of it is none of
 /// others, `apart`.
@@ -38,10 +28,6 @@ impl Node {
     // Whether all these fields are in a row.
     fn has(&self, first: usize, behind: usize) -> bool {
         self.first <= first && behind <= self.behind
-    }
-
-    fn len(&self) -> usize {
-        self.behind.saturating_sub(self.first)
     }
 
     // Whether it is a part within another.
@@ -79,10 +65,9 @@ impl Tree {
     }
 }
 
-const LEAF: [Template; 12] = [
+const LEAF: [Template; 10] = [
     ("low", "$number$"),
     ("high", "$number$"),
-    ("local", "field_$number$"),
     ("value", "$bracketed$"),
     ("view", "$view$"),
     ("seen", "$view$"),
@@ -91,12 +76,13 @@ const LEAF: [Template; 12] = [
     ("returned", "$returned$"),
     ("stays", "$stays$"),
     ("apart", "$apart$"),
-    ("maps", "$maps$"),
 ];
 
+// The widest line of such a word that may stand in another: it has room for what is before it.
+const MOST_NESTED: usize = 72;
+
 // What is taken over from the right part of a pair.
-const RIGHT: [Template; 12] = [
-    ("right_local", "local"),
+const RIGHT: [Template; 10] = [
     ("right_value", "value"),
     ("right_view", "view"),
     ("right_seen", "seen"),
@@ -106,30 +92,30 @@ const RIGHT: [Template; 12] = [
     ("right_returned", "returned"),
     ("right_stays", "stays"),
     ("right_apart", "apart"),
-    ("right_maps", "maps"),
     ("high", "high"),
 ];
 
-const PAIR: [Template; 11] = [
+const PAIR: [Template; 9] = [
     ("value", "($value$\n    × $right_value$)"),
     ("view", "(\n$view$,\n$right_view$,\n)"),
     ("seen", "(\n$seen$,\n$right_seen$,\n)"),
     ("table", "$both$ ($table$)\n    ($right_table$)"),
-    ("unlike", "neither _ _ ($unlike$)\n$margin$($right_unlike$)"),
-    ("maps", "$maps$$right_maps$"),
-    ("range", "pair_range ($range$)\n    ($right_range$)"),
+    (
+        "unlike",
+        "neither _ _$unlike_gap$($unlike$)\n$margin$($right_unlike$)",
+    ),
+    (
+        "range",
+        "pair_range$range_gap$($range$)\n    ($right_range$)",
+    ),
     (
         "returned",
         "$both_returned$ g\n    ($returned$)\n    ($right_returned$)\n    (λ n p h. $right_apart$)",
     ),
-    ("stays", "two_stays g\n    ($stays$)\n    ($right_stays$)"),
+    ("stays", "$both_stays$\n    ($stays$)\n    ($right_stays$)"),
     (
         "apart",
         "elim h [\n      | inl h ↦ $apart$\n      | inr h ↦ $right_in$\n    ]",
-    ),
-    (
-        "pair",
-        "        let fields_$low$_to_$high$ = ($local$, $right_local$);\n",
     ),
 ];
 
@@ -163,26 +149,56 @@ const SECOND: [Template; 3] = [
     ("taken", "($taken$, refl)"),
 ];
 
-/// The tree of these fields, with parts by themselves where they may be. Each field is told its
-/// `path`.
+/// The tree of these fields, with parts by themselves where they may be: of each part, and of the
+/// whole, what stands there is paired with its neighbour, and so are the pairs. Each field is told
+/// its `path`.
 pub(crate) fn tree_of(
     base: &Words,
     fields: &mut [Field],
     has_parts: bool,
 ) -> Result<Tree, GenerateError> {
     let alloc = base.alloc();
-    let count = if has_parts { fields.len() } else { 0 };
-    let mut tree = Tree {
-        words: Words::new(alloc),
-        pairs: Vec::new(alloc),
-        parts: Vec::new(alloc),
-    };
-    let mut words = Words::new(alloc);
+    let mut parts = Vec::new(alloc);
     let mut nodes = Vec::new(alloc);
     for (place, field) in fields.iter_mut().enumerate() {
         field.words.fill("taken", "(h, refl)");
         nodes.push(leaf(base, place, &field.words))?;
     }
+    let spans = if has_parts {
+        parts_of(alloc, fields)?
+    } else {
+        Vec::new(alloc)
+    };
+    for span in spans {
+        let mut outer = Vec::new(alloc);
+        let mut inner = Vec::new(alloc);
+        for node in nodes {
+            if node.first < span.first || span.behind < node.behind {
+                outer.push(node)?;
+                continue;
+            }
+            let is_last = node.behind == span.behind;
+            inner.push(node)?;
+            if is_last {
+                let within = std::mem::replace(&mut inner, Vec::new(alloc));
+                if let Some(whole) = joined(within, fields)? {
+                    outer.push(named(whole, &mut parts)?)?;
+                }
+            }
+        }
+        nodes = outer;
+    }
+    let mut words = Words::new(alloc);
+    if let Some(root) = joined(nodes, fields)? {
+        words.set_all(&root.words);
+    }
+    words.ended()?;
+    Ok(Tree { words, parts })
+}
+
+// All of these as one, where there are any.
+fn joined(mut nodes: Vec<Node>, fields: &mut [Field]) -> Result<Option<Node>, GenerateError> {
+    let alloc = *nodes.allocator();
     // Each turn halves the number of nodes.
     for _ in 0..usize::BITS {
         if nodes.len() < 2 {
@@ -194,7 +210,7 @@ pub(crate) fn tree_of(
             match left.take() {
                 Some(first) => {
                     reach(&first, &node, fields);
-                    next.push(tree.pair(first, node, count)?)?;
+                    next.push(pair(first, node))?;
                 }
                 None => left = Some(node),
             }
@@ -204,16 +220,7 @@ pub(crate) fn tree_of(
         }
         nodes = next;
     }
-    if let Some(root) = nodes.pop() {
-        words.set_all(&root.words);
-    }
-    words.ended()?;
-    let Tree { pairs, parts, .. } = tree;
-    Ok(Tree {
-        words,
-        pairs,
-        parts,
-    })
+    Ok(nodes.pop())
 }
 
 fn leaf(base: &Words, place: usize, field: &Words) -> Node {
@@ -229,6 +236,7 @@ fn leaf(base: &Words, place: usize, field: &Words) -> Node {
             "range",
             "returned",
             "both_returned",
+            "both_stays",
             "stays",
             "apart",
             "maps",
@@ -266,69 +274,45 @@ fn reach(left: &Node, right: &Node, fields: &mut [Field]) {
     }
 }
 
-// The most fields of a part with these maps.
-fn most_of(maps: &str) -> usize {
-    let is_closed = maps.contains('c');
-    match maps.len() {
-        0 | 1 => PART,
-        _ if is_closed => PART_OF_CLOSED_MAPS,
-        _ => PART_OF_MAPS,
+fn pair(left: Node, right: Node) -> Node {
+    let mut words = left.words;
+    words.copy(&right.words, &[]);
+    for (name, of) in &RIGHT {
+        words.set(name, right.words.get(of));
+    }
+    for name in ["view", "right_view", "seen", "right_seen"] {
+        words.indent(name);
+    }
+    words.indent_rest("apart");
+    words.set("right_in", right.words.get("apart"));
+    words.indent_rest("right_in");
+    for (name, gap, margin) in [
+        ("range", "range_gap", "\n    "),
+        ("unlike", "unlike_gap", "\n$margin$"),
+    ] {
+        let (line, _) = words
+            .get(name)
+            .split_once('\n')
+            .unwrap_or((words.get(name), ""));
+        let is_wide = line.len() > MOST_NESTED;
+        words.fill(gap, if is_wide { margin } else { " " });
+    }
+    words.fill_all(&PAIR);
+    Node {
+        first: left.first,
+        behind: right.behind,
+        words,
     }
 }
 
-impl Tree {
-    // A pair of these, which is a part by itself where it has the fields of one and is not all.
-    fn pair(&mut self, left: Node, mut right: Node, count: usize) -> Result<Node, GenerateError> {
-        let (first, between, behind) = (left.first, left.behind, right.behind);
-        let mut words = left.words;
-        // (with a closed enum the search finds only what a part by itself has)
-        let is_leaving = words.get("both") == "both_leaving";
-        if is_leaving && between.saturating_sub(first) >= PART && right.len() < PART {
-            self.part(&mut right)?;
-        }
-        words.copy(&right.words, &[]);
-        for (name, of) in &RIGHT {
-            words.set(name, right.words.get(of));
-        }
-        for name in ["view", "right_view", "seen", "right_seen"] {
-            words.indent(name);
-        }
-        words.indent_rest("apart");
-        words.set("right_in", right.words.get("apart"));
-        words.indent_rest("right_in");
-        words.fill_all(&PAIR);
-        words.fill("local", "fields_$low$_to_$high$");
-        self.pairs.push(Node {
-            first,
-            behind,
-            words: Words::like(&words),
-        })?;
-        let most = most_of(words.get("maps"));
-        let mut node = Node {
-            first,
-            behind,
-            words,
-        };
-        let len = node.len();
-        if most < count && (len == most || len == PART) {
-            self.part(&mut node)?;
-        }
-        Ok(node)
-    }
-
-    // Makes a part by itself of fields in a row.
-    fn part(&mut self, node: &mut Node) -> Result<(), GenerateError> {
-        let mut parts = self.parts.iter();
-        if parts.any(|it| it.first == node.first && it.behind == node.behind) {
-            return Ok(());
-        }
-        node.words.fill_all(&NAMES);
-        self.parts.push(Node {
-            first: node.first,
-            behind: node.behind,
-            words: Words::like(&node.words),
-        })?;
-        node.words.fill_all(&NAMED);
-        Ok(())
-    }
+// Makes a node a part by itself, which is named where it stands.
+fn named(mut node: Node, parts: &mut Vec<Node>) -> Result<Node, GenerateError> {
+    node.words.fill_all(&NAMES);
+    parts.push(Node {
+        first: node.first,
+        behind: node.behind,
+        words: Words::like(&node.words),
+    })?;
+    node.words.fill_all(&NAMED);
+    Ok(node)
 }

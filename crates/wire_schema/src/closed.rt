@@ -1,7 +1,7 @@
 //! Fields of closed enums, of which a number that the enum does not have goes to the unknown fields.
 use crate::words::{Template, Words};
 
-const CLOSED: [Template; 4] = [
+const CLOSED: [Template; 5] = [
     (
         "definition",
         "$closed$ $of_module$-number $of_module$-of $number$",
@@ -17,15 +17,17 @@ const CLOSED: [Template; 4] = [
         Rattle.wire_fields.specs.ClosedBack $closed$_returned\n",
     ),
     (
+        "stays",
+        "$closed$_stays $of_module$-number $of_module$-of\n    \
+        (first_numbered_keeps $of_module$-number $of_module$-values) $number$ (λ x. refl)",
+    ),
+    (
         "definitions",
         "$of_specs$.declared.$of_module$.$of_name$ $of_name$\n",
     ),
 ];
 
-const OF_CLOSED: [Template; 2] = [
-    ("definitions", "Rattle.wire_fields.specs.Closed $closed$\n"),
-    ("code", "wire_fields $call$\n"),
-];
+const OF_CLOSED: [Template; 1] = [("definitions", "Rattle.wire_fields.specs.Closed $closed$\n")];
 
 // What such a field is in its message, whichever it is.
 const LEAVING: [Template; 3] = [
@@ -76,8 +78,12 @@ const IN_EACH: [Template; 3] = [
 ];
 
 // As values of a map. The record of an entry that is left is charged besides for its reading.
-const IN_MAP: [Template; 7] = [
+const IN_MAP: [Template; 9] = [
     ("left", "entries_left $of_entry$ $number$"),
+    (
+        "left_others",
+        "entries_others $module$-known $of_entry$ $number$ _ (λ p. refl)",
+    ),
     ("closed", "closed_$key_order$"),
     ("call", "merge_closed"),
     (
@@ -88,6 +94,12 @@ const IN_MAP: [Template; 7] = [
         "returned",
         "closed_map_returned g _ _ _ $of_module$-number $of_module$-of $key_range$\n    \
         $key_back$ $number$ (omega arith) (omega arith)",
+    ),
+    (
+        "stays",
+        "$closed$_stays g $of_entry$ $of_module$-number $of_module$-of\n    \
+        (first_numbered_keeps $of_module$-number $of_module$-values) $number$ (λ p. refl)\n    \
+        $key_stays$",
     ),
     (
         "returned_uses",
@@ -105,13 +117,12 @@ const IN_MAP: [Template; 7] = [
     ),
 ];
 
-const OF_MAP: [Template; 3] = [
+const OF_MAP: [Template; 2] = [
     (
         "definitions",
         "Rattle.wire_fields.specs.ClosedMaps $closed$\n",
     ),
     ("definitions", "Rattle.std.specs.Prelude List\n"),
-    ("code", "wire_fields ClosedMap\n"),
 ];
 
 /// Makes the words of a field of a closed enum, of those of an open one.

@@ -1,7 +1,7 @@
 //! Closed enums in a oneof: a number that the enum does not have goes to the unknown fields.
 use crate::words::{Template, Words};
 
-const CLOSING: [Template; 5] = [
+const CLOSING: [Template; 6] = [
     (
         "definition",
         "closing $next$ $of_module$-of\n    $word$-of-$module$-from\n    ($definition$)",
@@ -11,12 +11,18 @@ const CLOSING: [Template; 5] = [
         "closing_returned g $of_module$-number $of_module$-of $next$\n    \
         $word$-of-$module$-from _ _\n    ($returned$)\n    ($word$-of-$module$-apart$charges$ g)",
     ),
+    (
+        "stays",
+        "closing_stays $of_module$-number $of_module$-of\n    \
+        (first_numbered_keeps $of_module$-number $of_module$-values) $next$ (λ x. refl)\n    \
+        $word$-of-$module$-from\n    ($stays$) (λ v h. h)",
+    ),
     ("table", "$holder$-$field$-kind"),
     ("step", "$holder$-$field$-kind.takes"),
     ("sort", "Leaving"),
 ];
 
-const OF_CLOSING: [Template; 6] = [
+const OF_CLOSING: [Template; 7] = [
     (
         "definitions",
         "$specs$ $word$-of-$module$-from\nRattle.wire_fields.specs.ClosedOneof closing\n\
@@ -31,6 +37,11 @@ const OF_CLOSING: [Template; 6] = [
         "$specs$ $word$-of-$module$-apart\n$of_specs$.$of_name$ $of_module$-number\n\
         Rattle.wire_fields.specs.ClosedBack closing_returned\n",
     ),
+    (
+        "stays_uses",
+        "Rattle.wire_codec.specs.EnumNumbers first_numbered_keeps\n\
+        $of_specs$.$of_name$ $of_module$-values\n",
+    ),
     ("code", "crate::$module$ set_or_keep_$word$\n"),
     ("all_calls", "set_or_keep_$word$ "),
     ("all_steps", "$word$-of-$module$-closed "),
@@ -44,6 +55,7 @@ pub(crate) fn set_closing(words: &mut Words, variant: &Words) {
         words.fill_all(&[
             ("definition", "leaving_none $definition$"),
             ("returned", "none_returned ($returned$)"),
+            ("stays", "$module$-stays g _"),
         ]);
     }
     words.fill_all(&CLOSING);

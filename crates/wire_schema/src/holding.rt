@@ -161,27 +161,6 @@ impl Schema {
         Ok(())
     }
 
-    /// Of which types it is proved that what decoding gives is in range: those that do not leave
-    /// records of their fields to the unknown ones, and hold neither themselves nor one another nor
-    /// such a type.
-    pub(crate) fn find_settled(&mut self, base: &Words) -> Result<(), GenerateError> {
-        let leaves = base.get("mismatch") == "keep";
-        let mut flags = Vec::new(self.alloc);
-        for message in &self.messages {
-            let is_nested = message.is_recursive || message.family.is_some();
-            let mut fields = message.descriptor.field.iter();
-            let is_closed = fields.any(|it| self.is_of_closed_enum(it));
-            flags.push(!is_nested && !leaves && !is_closed)?;
-        }
-        self.spread(&mut flags)?;
-        for (message, is_settled) in self.messages.iter_mut().zip(flags) {
-            if is_settled {
-                message.words.set("settled", "settled");
-            }
-        }
-        Ok(())
-    }
-
     // Whether the values of a field, those of a map too, are of a closed enum.
     fn is_of_closed_enum(&self, field: &FieldDescriptorProto) -> bool {
         match self.enum_of(self.held(field)) {

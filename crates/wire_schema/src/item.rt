@@ -1,6 +1,7 @@
 //! What one value of a field is.
 use crate::error::GenerateError;
 use crate::features::Features;
+use crate::kind::bracket;
 use crate::scalar::{Scalar, number_type};
 use crate::schema::Schema;
 use crate::words::{Template, Words};
@@ -203,7 +204,7 @@ const OF_ENUM: [Template; 5] = [
 
 const MESSAGE: [Template; 16] = [
     ("item_stays", "($of_module$-stays g)"),
-    ("stays_uses", "$specs$ $of_module$-stays\n"),
+    ("stays_uses", "$specs$Stays $of_module$-stays\n"),
     ("scalar_uses", ""),
     ("item_range", "$of_module$-range"),
     ("item_back", "($of_module$-returned g)"),
@@ -333,7 +334,7 @@ fn set_enum(
 }
 
 // Of a message of which what is read back follows from what its records are charged.
-const CHARGED: [Template; 3] = [
+const CHARGED: [Template; 4] = [
     (
         "item_range",
         "($of_module$-range (λ path. charges ($member$$number$ ∷ path)))",
@@ -343,6 +344,7 @@ const CHARGED: [Template; 3] = [
         "($of_module$-returned (λ path. charges ($member$$number$ ∷ path)) g)",
     ),
     ("range_uses", "$range_uses$Rattle.std.specs.Prelude ◌∷◌\n"),
+    ("account_uses", "$specs$ $of_module$-account\n"),
 ];
 
 fn set_message(
@@ -395,10 +397,4 @@ fn set_names(
         ("specs", "$of_specs$.$of_name$"),
     ]);
     Ok(())
-}
-
-/// Makes the value's type in brackets, where it has several words, the word `bracketed`.
-pub(crate) fn bracket(words: &mut Words) {
-    let is_one = !words.get("value").contains(' ');
-    words.fill("bracketed", if is_one { "$value$" } else { "($value$)" });
 }

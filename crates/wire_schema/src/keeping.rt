@@ -4,7 +4,7 @@ use crate::field::Field;
 use crate::oneof::put_apart;
 use crate::words::{Template, Words};
 
-const KEEPING: [Template; 7] = [
+const KEEPING: [Template; 8] = [
     ("lawful", "($definition$)"),
     (
         "returned",
@@ -12,6 +12,10 @@ const KEEPING: [Template; 7] = [
     (known_returned g $number$ $lawful$ $module$-$field$-range
     (omega arith) (omega arith)\n    ($kind_returned$))
     ($typed$ $types$ $typed_of$)",
+    ),
+    (
+        "stays",
+        "types_stay $types$ $number$ $lawful$\n    ($kind_stays$)",
     ),
     (
         "definition",
@@ -34,10 +38,7 @@ const OF_KEEPING: [Template; 4] = [
         "definitions",
         "Rattle.wire_fields.specs.Leaving leaving_types\n",
     ),
-    (
-        "code",
-        "wire_codec WireType\nwire_fields OwnTypes\nwire_fields merge_or_keep\n",
-    ),
+    ("code", "wire_codec WireType\nwire_fields OwnTypes\n"),
 ];
 
 /// Sets the wire types of a field, `types` in definitions and `own_types` in code. A list of
@@ -105,18 +106,16 @@ const OF_KEEPING_ONEOF: [Template; 4] = [
         "Rattle.wire_fields.specs.Leaving leaving_other\nRattle.wire_fields.specs.Leaving own_at\n\
         Rattle.wire_fields.specs.Leaving own_none\n",
     ),
-    (
-        "code",
-        "wire_codec WireType\nwire_fields OwnTypes\nwire_fields merge_or_keep\n",
-    ),
+    ("code", "wire_codec WireType\nwire_fields OwnTypes\n"),
 ];
 
-const KEEPING_ONEOF: [Template; 6] = [
+const KEEPING_ONEOF: [Template; 7] = [
     (
         "returned",
         "leaving_back ($own$) $module$-shape ($range$)\n    \
         ($module$-returned$charges$ g) ($module$-owned$charges$ g)",
     ),
+    ("stays", "other_stays ($own$) ($module$-stays g)"),
     ("definition", "leaving_other ($own$) $module$-shape"),
     ("table", "$holder$-$field$-kind"),
     ("step", "$holder$-$field$-kind.takes"),
@@ -124,20 +123,23 @@ const KEEPING_ONEOF: [Template; 6] = [
     ("call", "merge_or_keep"),
 ];
 
-const LEAVING_NONE: [Template; 2] = [
+const LEAVING_NONE: [Template; 3] = [
     ("table", "leaving_none ($table$)"),
     ("returned", "none_returned\n    ($returned$)"),
+    ("stays", "none_stays\n    ($stays$)"),
 ];
 
-const PAIRED: [Template; 3] = [
+const PAIRED: [Template; 4] = [
     ("both", "two"),
     ("both_returned", "two_returned"),
+    ("both_stays", "two_stays"),
     ("margin", "    "),
 ];
 
-const PAIRED_LEAVING: [Template; 3] = [
+const PAIRED_LEAVING: [Template; 4] = [
     ("both", "both_leaving"),
     ("both_returned", "both_returned"),
+    ("both_stays", "both_stay"),
     ("margin", "          "),
 ];
 

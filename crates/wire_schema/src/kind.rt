@@ -1,6 +1,6 @@
 //! The kinds of fields.
 use crate::features::Features;
-use crate::item::{Sort, bracket};
+use crate::item::Sort;
 use crate::words::{Template, Words};
 use wire_descriptor::FieldDescriptorProto;
 
@@ -218,7 +218,7 @@ const REPEATED: Kind = Kind {
     back: Back {
         range: "repeated_range $of_text$ $item_range$",
         returned: "repeated_returned g _ _ $item_back$ $of_text$",
-        stays: "repeated_stays g $item_stays$ $of_text$",
+        stays: "repeated_stays $item_stays$ $of_text$",
         uses: "Rattle.wire_fields.specs.Returned repeated_returned\n\
             Rattle.wire_fields.specs.Ranges repeated_range\n$range_uses$$scalar_uses$",
         typed: "repeated_typed",
@@ -373,4 +373,10 @@ fn put_kind(kind: &Kind, words: &mut Words) {
     words.fill("definition", kind.definition);
     words.fill("copy", kind.copy);
     bracket(words);
+}
+
+/// Makes the value's type in brackets, where it has several words, the word `bracketed`.
+pub(crate) fn bracket(words: &mut Words) {
+    let is_one = !words.get("value").contains(' ');
+    words.fill("bracketed", if is_one { "$value$" } else { "($value$)" });
 }

@@ -39,7 +39,16 @@ pub(crate) fn oneof_of(
     let mut of = Words::like(base);
     of.copy(
         &words,
-        &["full", "name", "module", "place", "charged", "settled"],
+        &[
+            "full",
+            "name",
+            "module",
+            "place",
+            "schema",
+            "holder",
+            "holder_name",
+            "charged",
+        ],
     );
     Ok(Field {
         words,
@@ -98,7 +107,7 @@ const ONEOF: [Template; 18] = [
     ("range", "$module$-range"),
     ("returned", "$module$-returned g"),
     ("stays", "$module$-stays g"),
-    ("stays_uses", "$specs$ $module$-stays\n"),
+    ("stays_uses", "$specs$Stays $module$-stays\n"),
     (
         "returned_uses",
         "$specs$ $module$-range\n$specs$ $module$-returned\n",
@@ -135,7 +144,7 @@ const CHARGED_ONEOF: [Template; 4] = [
 fn oneof_words(base: &Words, message: &MessageType, index: i32) -> Result<Words, GenerateError> {
     let alloc = base.alloc();
     let mut words = Words::like(base);
-    words.copy(&message.words, &["full", "outer", "place", "settled"]);
+    words.copy(&message.words, &["full", "outer", "place", "schema"]);
     let place = usize::try_from(index).unwrap_or(usize::MAX);
     let Some(descriptor) = message.descriptor.oneof_decl.get(place) else {
         return Err(words.refused("$full$: a field of no oneof that is there"));
@@ -143,6 +152,7 @@ fn oneof_words(base: &Words, message: &MessageType, index: i32) -> Result<Words,
     words.set("field", &word_name(alloc, &descriptor.name)?);
     words.set("proto", &descriptor.name);
     words.set("holder", message.words.get("module"));
+    words.set("holder_name", message.words.get("name"));
     words.number("index", index);
     words.append_all(&[
         ("full", ".$proto$"),

@@ -17,8 +17,17 @@ use wire_descriptor::CodeGeneratorRequest;
 pub fn set_crate(base: &mut Words, request: &CodeGeneratorRequest) -> Result<(), GenerateError> {
     base.set("crate", first_name(request));
     base.fill_all(&DEFAULTS);
+    for file in &request.file_to_generate {
+        base.set("next", file);
+        let is_first = base.get("schema").is_empty();
+        base.append("schema", if is_first { "$next$" } else { ", $next$" });
+        base.append("command", " \\\n        $next$");
+    }
     for option in request.parameter.split(',') {
         base.set("option", option);
+        if !option.is_empty() {
+            base.append("options", "        --rattle_opt=$option$ \\\n");
+        }
         match option.split_once('=') {
             Some((name, choice)) => set_parameter(base, name, choice)?,
             None if option.is_empty() => {}

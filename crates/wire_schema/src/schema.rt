@@ -125,7 +125,6 @@ impl Schema {
         schema.find_families()?;
         schema.find_twins()?;
         schema.find_charged()?;
-        schema.find_settled(base)?;
         Ok(schema)
     }
 
@@ -147,6 +146,7 @@ impl Schema {
         words.set("home", home);
         words.set("file", &file.name);
         words.set("place", &file.name);
+        words.set("schema", &file.name);
         if !file.package.is_empty() {
             words.set("package", &file.package);
             words.fill("full", ".$package$");

@@ -3,9 +3,7 @@ use super::sample::Sample;
 use crate::said::{Hex, Said};
 use wire_meter::Meter;
 use wire_pulse::Pulse;
-use wire_tables::{
-    Call, Card, CardContact, Counter, Expression, Ledger, Profile, Reading, Signal,
-};
+use wire_tables::{Call, Card, CardContact, Counter, Expression, Ledger, Profile, Reading, Signal};
 
 impl Sample for Counter {
     fn say(&self, said: &mut Said) {

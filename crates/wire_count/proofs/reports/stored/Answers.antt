@@ -13,7 +13,8 @@ returns-in-Ok-decode_from_slice-clause-same c =
     rw made at c.try_encode_to_vec.ensures.within in
     let items = rw made at c.try_encode_to_vec.ensures.ok in
     let encoded = c.deref.ensures.value ∙ items in
-    let held = c.report_decodes_in_range.ensures _ _ report c.slice_has_bytes.ensures read within in
+    let short = c.whole_is_short.ensures (report-shape.records report) within in
+    let held = c.report_decodes_in_range.ensures _ _ report c.slice_has_bytes.ensures read short in
     let taken = report-range.charge_of report in
     let room : Limits = record {
       depth = taken.depth;

@@ -1,4 +1,4 @@
-use Rattle.wire_kinds.specs.Base.{base-stays}
+use Rattle.wire_kinds.specs.BaseStays.{base-stays}
 use Rattle.wire_fields.specs.Stays.{decodes_in_range}
 use Rattle.wire_kinds.proofs.laws.base_decodes_in_range.Goals as goal
 

@@ -1,4 +1,4 @@
-use Rattle.wire_kinds.specs.Choice.{choice-stays}
+use Rattle.wire_kinds.specs.ChoiceStays.{choice-stays}
 use Rattle.wire_fields.specs.Stays.{decodes_in_range}
 use Rattle.wire_kinds.proofs.laws.choice_decodes_in_range.Goals as goal
 

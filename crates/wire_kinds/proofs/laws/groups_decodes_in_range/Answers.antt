@@ -1,4 +1,4 @@
-use Rattle.wire_kinds.specs.Groups.{groups-stays}
+use Rattle.wire_kinds.specs.GroupsStays.{groups-stays}
 use Rattle.wire_fields.specs.Stays.{decodes_in_range}
 use Rattle.wire_kinds.proofs.laws.groups_decodes_in_range.Goals as goal
 

@@ -1,4 +1,4 @@
-use Rattle.wire_kinds.specs.GroupsOne.{groups_one-stays}
+use Rattle.wire_kinds.specs.GroupsOneStays.{groups_one-stays}
 use Rattle.wire_fields.specs.Stays.{decodes_in_range}
 use Rattle.wire_kinds.proofs.laws.groups_one_decodes_in_range.Goals as goal
 

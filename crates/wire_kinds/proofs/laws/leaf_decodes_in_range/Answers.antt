@@ -1,4 +1,4 @@
-use Rattle.wire_kinds.specs.Leaf.{leaf-stays}
+use Rattle.wire_kinds.specs.LeafStays.{leaf-stays}
 use Rattle.wire_fields.specs.Stays.{decodes_in_range}
 use Rattle.wire_kinds.proofs.laws.leaf_decodes_in_range.Goals as goal
 

@@ -1,4 +1,4 @@
-use Rattle.wire_kinds.specs.Maps.{maps-stays}
+use Rattle.wire_kinds.specs.MapsStays.{maps-stays}
 use Rattle.wire_fields.specs.Stays.{decodes_in_range}
 use Rattle.wire_kinds.proofs.laws.maps_decodes_in_range.Goals as goal
 

@@ -1,4 +1,4 @@
-use Rattle.wire_kinds.specs.MaybeWidths.{maybe_widths-stays}
+use Rattle.wire_kinds.specs.MaybeWidthsStays.{maybe_widths-stays}
 use Rattle.wire_fields.specs.Stays.{decodes_in_range}
 use Rattle.wire_kinds.proofs.laws.maybe_widths_decodes_in_range.Goals as goal
 

@@ -1,4 +1,4 @@
-use Rattle.wire_kinds.specs.Varints.{varints-stays}
+use Rattle.wire_kinds.specs.VarintsStays.{varints-stays}
 use Rattle.wire_fields.specs.Stays.{decodes_in_range}
 use Rattle.wire_kinds.proofs.laws.varints_decodes_in_range.Goals as goal
 

@@ -1,4 +1,4 @@
-use Rattle.wire_pulse.specs.Pulse.{pulse-stays}
+use Rattle.wire_pulse.specs.PulseStays.{pulse-stays}
 use Rattle.wire_fields.specs.Stays.{decodes_in_range}
 use Rattle.wire_pulse.proofs.laws.pulse_decodes_in_range.Goals as goal
 

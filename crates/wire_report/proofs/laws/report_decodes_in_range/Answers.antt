@@ -1,4 +1,4 @@
-use Rattle.wire_report.specs.Report.{report-stays}
+use Rattle.wire_report.specs.ReportStays.{report-stays}
 use Rattle.wire_fields.specs.Stays.{decodes_in_range}
 use Rattle.wire_report.proofs.laws.report_decodes_in_range.Goals as goal
 

@@ -1,4 +1,4 @@
-use Rattle.wire_report.specs.ReportSample.{report_sample-stays}
+use Rattle.wire_report.specs.ReportSampleStays.{report_sample-stays}
 use Rattle.wire_fields.specs.Stays.{decodes_in_range}
 use Rattle.wire_report.proofs.laws.report_sample_decodes_in_range.Goals as goal
 

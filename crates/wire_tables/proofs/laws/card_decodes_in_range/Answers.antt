@@ -1,4 +1,4 @@
-use Rattle.wire_tables.specs.Card.{card-stays}
+use Rattle.wire_tables.specs.CardStays.{card-stays}
 use Rattle.wire_fields.specs.Stays.{decodes_in_range}
 use Rattle.wire_tables.proofs.laws.card_decodes_in_range.Goals as goal
 

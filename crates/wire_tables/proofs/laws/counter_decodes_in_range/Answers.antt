@@ -1,4 +1,4 @@
-use Rattle.wire_tables.specs.Counter.{counter-stays}
+use Rattle.wire_tables.specs.CounterStays.{counter-stays}
 use Rattle.wire_fields.specs.Stays.{decodes_in_range}
 use Rattle.wire_tables.proofs.laws.counter_decodes_in_range.Goals as goal
 

@@ -1,4 +1,4 @@
-use Rattle.wire_tables.specs.Reading.{reading-stays}
+use Rattle.wire_tables.specs.ReadingStays.{reading-stays}
 use Rattle.wire_fields.specs.Stays.{decodes_in_range}
 use Rattle.wire_tables.proofs.laws.reading_decodes_in_range.Goals as goal
 

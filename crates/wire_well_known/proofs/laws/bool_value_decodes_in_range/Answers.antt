@@ -1,4 +1,4 @@
-use Rattle.wire_well_known.specs.BoolValue.{bool_value-stays}
+use Rattle.wire_well_known.specs.BoolValueStays.{bool_value-stays}
 use Rattle.wire_fields.specs.Stays.{decodes_in_range}
 use Rattle.wire_well_known.proofs.laws.bool_value_decodes_in_range.Goals as goal
 

@@ -1,4 +1,4 @@
-use Rattle.wire_well_known.specs.BytesValue.{bytes_value-stays}
+use Rattle.wire_well_known.specs.BytesValueStays.{bytes_value-stays}
 use Rattle.wire_fields.specs.Stays.{decodes_in_range}
 use Rattle.wire_well_known.proofs.laws.bytes_value_decodes_in_range.Goals as goal
 

@@ -1,4 +1,4 @@
-use Rattle.wire_well_known.specs.Empty.{empty-stays}
+use Rattle.wire_well_known.specs.EmptyStays.{empty-stays}
 use Rattle.wire_fields.specs.Stays.{decodes_in_range}
 use Rattle.wire_well_known.proofs.laws.empty_decodes_in_range.Goals as goal
 

@@ -1,4 +1,4 @@
-use Rattle.wire_well_known.specs.FieldMask.{field_mask-stays}
+use Rattle.wire_well_known.specs.FieldMaskStays.{field_mask-stays}
 use Rattle.wire_fields.specs.Stays.{decodes_in_range}
 use Rattle.wire_well_known.proofs.laws.field_mask_decodes_in_range.Goals as goal
 

@@ -1,4 +1,4 @@
-use Rattle.wire_well_known.specs.FloatValue.{float_value-stays}
+use Rattle.wire_well_known.specs.FloatValueStays.{float_value-stays}
 use Rattle.wire_fields.specs.Stays.{decodes_in_range}
 use Rattle.wire_well_known.proofs.laws.float_value_decodes_in_range.Goals as goal
 

@@ -1,4 +1,4 @@
-use Rattle.wire_well_known.specs.Int32Value.{int32_value-stays}
+use Rattle.wire_well_known.specs.Int32ValueStays.{int32_value-stays}
 use Rattle.wire_fields.specs.Stays.{decodes_in_range}
 use Rattle.wire_well_known.proofs.laws.int32_value_decodes_in_range.Goals as goal
 

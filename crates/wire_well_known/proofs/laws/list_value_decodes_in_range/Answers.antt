@@ -1,4 +1,4 @@
-use Rattle.wire_well_known.specs.ListValue.{list_value-stays}
+use Rattle.wire_well_known.specs.ListValueStays.{list_value-stays}
 use Rattle.wire_fields.specs.Stays.{decodes_in_range}
 use Rattle.wire_well_known.proofs.laws.list_value_decodes_in_range.Goals as goal
 

@@ -1,4 +1,4 @@
-use Rattle.wire_well_known.specs.UInt64Value.{uint64_value-stays}
+use Rattle.wire_well_known.specs.UInt64ValueStays.{uint64_value-stays}
 use Rattle.wire_fields.specs.Stays.{decodes_in_range}
 use Rattle.wire_well_known.proofs.laws.uint64_value_decodes_in_range.Goals as goal
 

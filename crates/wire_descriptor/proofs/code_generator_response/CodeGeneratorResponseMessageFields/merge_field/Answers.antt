@@ -14,72 +14,72 @@ use Rattle.wire_descriptor.proofs.code_generator_response.CodeGeneratorResponseM
 pub returns-in-1-clause-err : goal.returns-in-1-clause-err
 returns-in-1-clause-err g c =
     arm_err code_generator_response-shape.takes code_generator_response-error-kind.kind.takes 1 _
-    (sym c.field_number.ensures.number ∙ c.in-1.is) _ _
+    (sym c.fields-field_number.ensures.number ∙ c.in-1.is) _ _
     (λ charge z p h. (z.0.0.0.0, h.0.0.0.0)) _ _ _
-    c.merge.result c.merge.ensures.err
+    c.fields-merge.result c.fields-merge.ensures.err
 
 pub returns-in-1-clause-ok : goal.returns-in-1-clause-ok
 returns-in-1-clause-ok g c =
     arm_ok code_generator_response-shape.takes code_generator_response-error-kind.kind.takes 1 _
-    (sym c.field_number.ensures.number ∙ c.in-1.is) _ _ _ _
+    (sym c.fields-field_number.ensures.number ∙ c.in-1.is) _ _ _ _
     (λ charge p h. ((((h, refl), refl), refl), refl)) _ _ _ _ _
-    c.merge.result c.merge.ensures.ok
+    c.fields-merge.result c.fields-merge.ensures.ok
 
 pub returns-in-2-clause-err : goal.returns-in-2-clause-err
 returns-in-2-clause-err g c =
     arm_err code_generator_response-shape.takes code_generator_response-supported_features-kind.kind.takes 2 _
-    (sym c.field_number.ensures.number ∙ c.in-2.is) _ _
+    (sym c.fields-field_number.ensures.number ∙ c.in-2.is) _ _
     (λ charge z p h. (z.0.0.0.1, h.0.0.0.0)) _ _ _
-    (c.merge-in-2).result (c.merge-in-2).ensures.err
+    (c.fields-merge-in-2).result (c.fields-merge-in-2).ensures.err
 
 pub returns-in-2-clause-ok : goal.returns-in-2-clause-ok
 returns-in-2-clause-ok g c =
     arm_ok code_generator_response-shape.takes code_generator_response-supported_features-kind.kind.takes 2 _
-    (sym c.field_number.ensures.number ∙ c.in-2.is) _ _ _ _
+    (sym c.fields-field_number.ensures.number ∙ c.in-2.is) _ _ _ _
     (λ charge p h. ((((h, refl), refl), refl), refl)) _ _ _ _ _
-    (c.merge-in-2).result (c.merge-in-2).ensures.ok
+    (c.fields-merge-in-2).result (c.fields-merge-in-2).ensures.ok
 
 pub returns-in-3-clause-err : goal.returns-in-3-clause-err
 returns-in-3-clause-err g c =
     arm_err code_generator_response-shape.takes code_generator_response-minimum_edition-kind.kind.takes 3 _
-    (sym c.field_number.ensures.number ∙ c.in-3.is) _ _
+    (sym c.fields-field_number.ensures.number ∙ c.in-3.is) _ _
     (λ charge z p h. (z.0.0.1.0, h.0.0.0.0)) _ _ _
-    (c.merge-in-3).result (c.merge-in-3).ensures.err
+    (c.fields-merge-in-3).result (c.fields-merge-in-3).ensures.err
 
 pub returns-in-3-clause-ok : goal.returns-in-3-clause-ok
 returns-in-3-clause-ok g c =
     arm_ok code_generator_response-shape.takes code_generator_response-minimum_edition-kind.kind.takes 3 _
-    (sym c.field_number.ensures.number ∙ c.in-3.is) _ _ _ _
+    (sym c.fields-field_number.ensures.number ∙ c.in-3.is) _ _ _ _
     (λ charge p h. ((((h, refl), refl), refl), refl)) _ _ _ _ _
-    (c.merge-in-3).result (c.merge-in-3).ensures.ok
+    (c.fields-merge-in-3).result (c.fields-merge-in-3).ensures.ok
 
 pub returns-in-4-clause-err : goal.returns-in-4-clause-err
 returns-in-4-clause-err g c =
     arm_err code_generator_response-shape.takes code_generator_response-maximum_edition-kind.kind.takes 4 _
-    (sym c.field_number.ensures.number ∙ c.in-4.is) _ _
+    (sym c.fields-field_number.ensures.number ∙ c.in-4.is) _ _
     (λ charge z p h. (z.0.0.1.1, h.0.0.0.0)) _ _ _
-    (c.merge-in-4).result (c.merge-in-4).ensures.err
+    (c.fields-merge-in-4).result (c.fields-merge-in-4).ensures.err
 
 pub returns-in-4-clause-ok : goal.returns-in-4-clause-ok
 returns-in-4-clause-ok g c =
     arm_ok code_generator_response-shape.takes code_generator_response-maximum_edition-kind.kind.takes 4 _
-    (sym c.field_number.ensures.number ∙ c.in-4.is) _ _ _ _
+    (sym c.fields-field_number.ensures.number ∙ c.in-4.is) _ _ _ _
     (λ charge p h. ((((h, refl), refl), refl), refl)) _ _ _ _ _
-    (c.merge-in-4).result (c.merge-in-4).ensures.ok
+    (c.fields-merge-in-4).result (c.fields-merge-in-4).ensures.ok
 
 pub returns-in-15-clause-err : goal.returns-in-15-clause-err
 returns-in-15-clause-err g c =
     arm_err code_generator_response-shape.takes code_generator_response-file-kind.kind.takes 15 _
-    (sym c.field_number.ensures.number ∙ c.in-15.is) _ _
+    (sym c.fields-field_number.ensures.number ∙ c.in-15.is) _ _
     (λ charge z p h. (z.0.1, h.0.0)) _ _ _
-    (c.merge-in-15).result (c.merge-in-15).ensures.err
+    (c.fields-merge-in-15).result (c.fields-merge-in-15).ensures.err
 
 pub returns-in-15-clause-ok : goal.returns-in-15-clause-ok
 returns-in-15-clause-ok g c =
     arm_ok code_generator_response-shape.takes code_generator_response-file-kind.kind.takes 15 _
-    (sym c.field_number.ensures.number ∙ c.in-15.is) _ _ _ _
+    (sym c.fields-field_number.ensures.number ∙ c.in-15.is) _ _ _ _
     (λ charge p h. ((h, refl), refl)) _ _ _ _ _
-    (c.merge-in-15).result (c.merge-in-15).ensures.ok
+    (c.fields-merge-in-15).result (c.fields-merge-in-15).ensures.ok
 
 pub returns-in_default-clause-err : goal.returns-in_default-clause-err
 returns-in_default-clause-err g c =
@@ -90,4 +90,4 @@ returns-in_default-clause-err g c =
     (neither _ _ (unlike n 3 (search rules))
     (unlike n 4 (search rules))))
     (unlike n 15 (search rules)))
-    _ _ _ _ c.keep.result c.keep.ensures.err
+    _ _ _ _ c.fields-keep.result c.fields-keep.ensures.err

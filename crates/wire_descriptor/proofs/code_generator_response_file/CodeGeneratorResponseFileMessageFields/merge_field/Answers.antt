@@ -11,30 +11,30 @@ use Rattle.wire_descriptor.proofs.code_generator_response_file.CodeGeneratorResp
 pub returns-in-1-clause-err : goal.returns-in-1-clause-err
 returns-in-1-clause-err g c =
     arm_err code_generator_response_file-shape.takes code_generator_response_file-name-kind.kind.takes 1 _
-    (sym c.field_number.ensures.number ∙ c.in-1.is) _ _
+    (sym c.fields-field_number.ensures.number ∙ c.in-1.is) _ _
     (λ charge z p h. (z.0.0, h.0.0)) _ _ _
-    c.merge.result c.merge.ensures.err
+    c.fields-merge.result c.fields-merge.ensures.err
 
 pub returns-in-1-clause-ok : goal.returns-in-1-clause-ok
 returns-in-1-clause-ok g c =
     arm_ok code_generator_response_file-shape.takes code_generator_response_file-name-kind.kind.takes 1 _
-    (sym c.field_number.ensures.number ∙ c.in-1.is) _ _ _ _
+    (sym c.fields-field_number.ensures.number ∙ c.in-1.is) _ _ _ _
     (λ charge p h. ((h, refl), refl)) _ _ _ _ _
-    c.merge.result c.merge.ensures.ok
+    c.fields-merge.result c.fields-merge.ensures.ok
 
 pub returns-in-15-clause-err : goal.returns-in-15-clause-err
 returns-in-15-clause-err g c =
     arm_err code_generator_response_file-shape.takes code_generator_response_file-content-kind.kind.takes 15 _
-    (sym c.field_number.ensures.number ∙ c.in-15.is) _ _
+    (sym c.fields-field_number.ensures.number ∙ c.in-15.is) _ _
     (λ charge z p h. (z.0.1, h.0.0)) _ _ _
-    (c.merge-in-15).result (c.merge-in-15).ensures.err
+    (c.fields-merge-in-15).result (c.fields-merge-in-15).ensures.err
 
 pub returns-in-15-clause-ok : goal.returns-in-15-clause-ok
 returns-in-15-clause-ok g c =
     arm_ok code_generator_response_file-shape.takes code_generator_response_file-content-kind.kind.takes 15 _
-    (sym c.field_number.ensures.number ∙ c.in-15.is) _ _ _ _
+    (sym c.fields-field_number.ensures.number ∙ c.in-15.is) _ _ _ _
     (λ charge p h. ((h, refl), refl)) _ _ _ _ _
-    (c.merge-in-15).result (c.merge-in-15).ensures.ok
+    (c.fields-merge-in-15).result (c.fields-merge-in-15).ensures.ok
 
 pub returns-in_default-clause-err : goal.returns-in_default-clause-err
 returns-in_default-clause-err g c =
@@ -42,4 +42,4 @@ returns-in_default-clause-err g c =
     rest_err code_generator_response_file-known.owns code_generator_response_file-known.takes keeps _
     (λ p. neither _ _ (unlike n 1 (search rules))
     (unlike n 15 (search rules)))
-    _ _ _ _ c.keep.result c.keep.ensures.err
+    _ _ _ _ c.fields-keep.result c.fields-keep.ensures.err

@@ -9,30 +9,30 @@ use Rattle.wire_descriptor.proofs.field_options.FieldOptionsMessageFields.merge_
 pub returns-in-2-clause-err : goal.returns-in-2-clause-err
 returns-in-2-clause-err g c =
     arm_err field_options-shape.takes field_options-packed-kind.kind.takes 2 _
-    (sym c.field_number.ensures.number ∙ c.in-2.is) _ _
+    (sym c.fields-field_number.ensures.number ∙ c.in-2.is) _ _
     (λ charge z p h. (z.0.0, h.0.0)) _ _ _
-    c.merge.result c.merge.ensures.err
+    c.fields-merge.result c.fields-merge.ensures.err
 
 pub returns-in-2-clause-ok : goal.returns-in-2-clause-ok
 returns-in-2-clause-ok g c =
     arm_ok field_options-shape.takes field_options-packed-kind.kind.takes 2 _
-    (sym c.field_number.ensures.number ∙ c.in-2.is) _ _ _ _
+    (sym c.fields-field_number.ensures.number ∙ c.in-2.is) _ _ _ _
     (λ charge p h. ((h, refl), refl)) _ _ _ _ _
-    c.merge.result c.merge.ensures.ok
+    c.fields-merge.result c.fields-merge.ensures.ok
 
 pub returns-in-21-clause-err : goal.returns-in-21-clause-err
 returns-in-21-clause-err g c =
     arm_err field_options-shape.takes field_options-features-kind.kind.takes 21 _
-    (sym c.field_number.ensures.number ∙ c.in-21.is) _ _
+    (sym c.fields-field_number.ensures.number ∙ c.in-21.is) _ _
     (λ charge z p h. (z.0.1, h.0.0)) _ _ _
-    (c.merge-in-21).result (c.merge-in-21).ensures.err
+    (c.fields-merge-in-21).result (c.fields-merge-in-21).ensures.err
 
 pub returns-in-21-clause-ok : goal.returns-in-21-clause-ok
 returns-in-21-clause-ok g c =
     arm_ok field_options-shape.takes field_options-features-kind.kind.takes 21 _
-    (sym c.field_number.ensures.number ∙ c.in-21.is) _ _ _ _
+    (sym c.fields-field_number.ensures.number ∙ c.in-21.is) _ _ _ _
     (λ charge p h. ((h, refl), refl)) _ _ _ _ _
-    (c.merge-in-21).result (c.merge-in-21).ensures.ok
+    (c.fields-merge-in-21).result (c.fields-merge-in-21).ensures.ok
 
 pub returns-in_default-clause-err : goal.returns-in_default-clause-err
 returns-in_default-clause-err g c =
@@ -40,4 +40,4 @@ returns-in_default-clause-err g c =
     rest_err field_options-known.owns field_options-known.takes keeps _
     (λ p. neither _ _ (unlike n 2 (search rules))
     (unlike n 21 (search rules)))
-    _ _ _ _ c.keep.result c.keep.ensures.err
+    _ _ _ _ c.fields-keep.result c.fields-keep.ensures.err

@@ -9,20 +9,20 @@ use Rattle.wire_descriptor.proofs.file_options.FileOptionsMessageFields.merge_fi
 pub returns-in-50-clause-err : goal.returns-in-50-clause-err
 returns-in-50-clause-err g c =
     arm_err file_options-shape.takes file_options-features-kind.kind.takes 50 _
-    (sym c.field_number.ensures.number ∙ c.in-50.is) _ _
+    (sym c.fields-field_number.ensures.number ∙ c.in-50.is) _ _
     (λ charge z p h. (z.0, h.0)) _ _ _
-    c.merge.result c.merge.ensures.err
+    c.fields-merge.result c.fields-merge.ensures.err
 
 pub returns-in-50-clause-ok : goal.returns-in-50-clause-ok
 returns-in-50-clause-ok g c =
     arm_ok file_options-shape.takes file_options-features-kind.kind.takes 50 _
-    (sym c.field_number.ensures.number ∙ c.in-50.is) _ _ _ _
+    (sym c.fields-field_number.ensures.number ∙ c.in-50.is) _ _ _ _
     (λ charge p h. (h, refl)) _ _ _ _ _
-    c.merge.result c.merge.ensures.ok
+    c.fields-merge.result c.fields-merge.ensures.ok
 
 pub returns-in_default-clause-err : goal.returns-in_default-clause-err
 returns-in_default-clause-err g c =
     let n = tag_number c.args.tag in
     rest_err file_options-known.owns file_options-known.takes keeps _
     (λ p. unlike n 50 (search rules))
-    _ _ _ _ c.keep.result c.keep.ensures.err
+    _ _ _ _ c.fields-keep.result c.fields-keep.ensures.err

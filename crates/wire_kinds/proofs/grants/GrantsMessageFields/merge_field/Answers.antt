@@ -10,16 +10,16 @@ use Rattle.wire_kinds.proofs.grants.GrantsMessageFields.merge_field.Goals as goa
 pub returns-in-1-clause-err : goal.returns-in-1-clause-err
 returns-in-1-clause-err g c =
     arm_err grants-shape.takes grants-by_text-kind.takes 1 _
-    (sym c.field_number.ensures.number ∙ c.in-1.is) _ _
+    (sym c.fields-field_number.ensures.number ∙ c.in-1.is) _ _
     (λ charge z p h. ((z.0.0, z.1), h.0)) _ _ _
-    c.merge_closed.result c.merge_closed.ensures.err
+    c.fields-merge_closed.result c.fields-merge_closed.ensures.err
 
 pub returns-in-2-clause-err : goal.returns-in-2-clause-err
 returns-in-2-clause-err g c =
     arm_err grants-shape.takes grants-by_signed-kind.takes 2 _
-    (sym c.field_number.ensures.number ∙ c.in-2.is) _ _
+    (sym c.fields-field_number.ensures.number ∙ c.in-2.is) _ _
     (λ charge z p h. ((z.0.1, z.1), h.0)) _ _ _
-    (c.merge_closed-in-2).result (c.merge_closed-in-2).ensures.err
+    (c.fields-merge_closed-in-2).result (c.fields-merge_closed-in-2).ensures.err
 
 pub returns-in_default-clause-err : goal.returns-in_default-clause-err
 returns-in_default-clause-err g c =
@@ -32,4 +32,4 @@ returns-in_default-clause-err g c =
           (unlike n 2 (search rules)))
           (grants-value c.args.self.now) z charge p h).0,
     ))
-    _ _ _ c.keep.result c.keep.ensures.err
+    _ _ _ c.fields-keep.result c.fields-keep.ensures.err

@@ -12,65 +12,65 @@ use Rattle.wire_kinds.proofs.levels.LevelsMessageFields.merge_field.Goals as goa
 pub returns-in-1-clause-err : goal.returns-in-1-clause-err
 returns-in-1-clause-err g c =
     arm_err levels-shape.takes levels-once-kind.takes 1 _
-    (sym c.field_number.ensures.number ∙ c.in-1.is) _ _
+    (sym c.fields-field_number.ensures.number ∙ c.in-1.is) _ _
     (λ charge z p h. ((z.0.0.0.0, z.1), h.0.0.0)) _ _ _
-    c.merge_closed.result c.merge_closed.ensures.err
+    c.fields-merge_closed.result c.fields-merge_closed.ensures.err
 
 pub returns-in-2-clause-err : goal.returns-in-2-clause-err
 returns-in-2-clause-err g c =
     arm_err levels-shape.takes levels-unpacked-kind.takes 2 _
-    (sym c.field_number.ensures.number ∙ c.in-2.is) _ _
+    (sym c.fields-field_number.ensures.number ∙ c.in-2.is) _ _
     (λ charge z p h. ((z.0.0.0.1, z.1), h.0.0.0)) _ _ _
-    c.merge_closed_each.result c.merge_closed_each.ensures.err
+    c.fields-merge_closed_each.result c.fields-merge_closed_each.ensures.err
 
 pub returns-in-3-clause-err : goal.returns-in-3-clause-err
 returns-in-3-clause-err g c =
     arm_err levels-shape.takes levels-packed-kind.takes 3 _
-    (sym c.field_number.ensures.number ∙ c.in-3.is) _ _
+    (sym c.fields-field_number.ensures.number ∙ c.in-3.is) _ _
     (λ charge z p h. ((z.0.0.1.0, z.1), h.0.0.0)) _ _ _
-    (c.merge_closed_each-in-3).result (c.merge_closed_each-in-3).ensures.err
+    (c.fields-merge_closed_each-in-3).result (c.fields-merge_closed_each-in-3).ensures.err
 
 pub returns-in-4-clause-err : goal.returns-in-4-clause-err
 returns-in-4-clause-err g c =
     arm_err levels-shape.takes levels_kind-shape.takes 4 _
-    (sym c.field_number.ensures.number ∙ c.in-4.is) _ _
+    (sym c.fields-field_number.ensures.number ∙ c.in-4.is) _ _
     (λ charge z p h. (z.0.0.1.1, h.0.0.0.0)) _ _ _
-    c.merge.result c.merge.ensures.err
+    c.fields-merge.result c.fields-merge.ensures.err
 
 pub returns-in-5-clause-err : goal.returns-in-5-clause-err
 returns-in-5-clause-err g c =
     arm_err levels-shape.takes levels_kind-shape.takes 5 _
-    (sym c.field_number.ensures.number ∙ c.in-5.is) _ _
+    (sym c.fields-field_number.ensures.number ∙ c.in-5.is) _ _
     (λ charge z p h. (z.0.0.1.1, h.0.0.0.0)) _ _ _
-    (c.merge-in-5).result (c.merge-in-5).ensures.err
+    (c.fields-merge-in-5).result (c.fields-merge-in-5).ensures.err
 
 pub returns-in-6-clause-err : goal.returns-in-6-clause-err
 returns-in-6-clause-err g c =
     arm_err levels-shape.takes levels_kind-shape.takes 6 _
-    (sym c.field_number.ensures.number ∙ c.in-6.is) _ _
+    (sym c.fields-field_number.ensures.number ∙ c.in-6.is) _ _
     (λ charge z p h. (z.0.0.1.1, h.0.0.0.0)) _ _ _
-    (c.merge-in-6).result (c.merge-in-6).ensures.err
+    (c.fields-merge-in-6).result (c.fields-merge-in-6).ensures.err
 
 pub returns-in-7-clause-err : goal.returns-in-7-clause-err
 returns-in-7-clause-err g c =
     arm_err levels-shape.takes level-of-levels_kind-closed 7 _
-    (sym c.field_number.ensures.number ∙ c.in-7.is) _ _
+    (sym c.fields-field_number.ensures.number ∙ c.in-7.is) _ _
     (λ charge z p h. ((z.0.0.1.1, z.1), h.0.0.0)) _ _ _
-    c.set_or_keep_level.result c.set_or_keep_level.ensures.err
+    c.fields-set_or_keep_level.result c.fields-set_or_keep_level.ensures.err
 
 pub returns-in-8-clause-err : goal.returns-in-8-clause-err
 returns-in-8-clause-err g c =
     arm_err levels-shape.takes levels_kind-shape.takes 8 _
-    (sym c.field_number.ensures.number ∙ c.in-8.is) _ _
+    (sym c.fields-field_number.ensures.number ∙ c.in-8.is) _ _
     (λ charge z p h. (z.0.0.1.1, h.0.0.0.0)) _ _ _
-    (c.merge-in-8).result (c.merge-in-8).ensures.err
+    (c.fields-merge-in-8).result (c.fields-merge-in-8).ensures.err
 
 pub returns-in-9-clause-err : goal.returns-in-9-clause-err
 returns-in-9-clause-err g c =
     arm_err levels-shape.takes single-of-levels_only-closed 9 _
-    (sym c.field_number.ensures.number ∙ c.in-9.is) _ _
+    (sym c.fields-field_number.ensures.number ∙ c.in-9.is) _ _
     (λ charge z p h. ((z.0.1, z.1), h.0)) _ _ _
-    c.set_or_keep_single.result c.set_or_keep_single.ensures.err
+    c.fields-set_or_keep_single.result c.fields-set_or_keep_single.ensures.err
 
 pub returns-in_default-clause-err : goal.returns-in_default-clause-err
 returns-in_default-clause-err g c =
@@ -90,4 +90,4 @@ returns-in_default-clause-err g c =
           (unlike n 9 (search rules)))
           (levels-value c.args.self.now) z charge p h).0,
     ))
-    _ _ _ c.keep.result c.keep.ensures.err
+    _ _ _ c.fields-keep.result c.fields-keep.ensures.err

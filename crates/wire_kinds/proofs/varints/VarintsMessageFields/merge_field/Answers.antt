@@ -11,114 +11,114 @@ use Rattle.wire_kinds.proofs.varints.VarintsMessageFields.merge_field.Goals as g
 pub returns-in-1-clause-err : goal.returns-in-1-clause-err
 returns-in-1-clause-err g c =
     arm_err varints-shape.takes varints-one-kind.kind.takes 1 _
-    (sym c.field_number.ensures.number ∙ c.in-1.is) _ _
+    (sym c.fields-field_number.ensures.number ∙ c.in-1.is) _ _
     (λ charge z p h. (z.0.0.0.0, h.0.0.0.0)) _ _ _
-    c.merge.result c.merge.ensures.err
+    c.fields-merge.result c.fields-merge.ensures.err
 
 pub returns-in-1-clause-ok : goal.returns-in-1-clause-ok
 returns-in-1-clause-ok g c =
     arm_ok varints-shape.takes varints-one-kind.kind.takes 1 _
-    (sym c.field_number.ensures.number ∙ c.in-1.is) _ _ _ _
+    (sym c.fields-field_number.ensures.number ∙ c.in-1.is) _ _ _ _
     (λ charge p h. ((((h, refl), refl), refl), refl)) _ _ _ _ _
-    c.merge.result c.merge.ensures.ok
+    c.fields-merge.result c.fields-merge.ensures.ok
 
 pub returns-in-2-clause-err : goal.returns-in-2-clause-err
 returns-in-2-clause-err g c =
     arm_err varints-shape.takes varints-two-kind.kind.takes 2 _
-    (sym c.field_number.ensures.number ∙ c.in-2.is) _ _
+    (sym c.fields-field_number.ensures.number ∙ c.in-2.is) _ _
     (λ charge z p h. (z.0.0.0.1, h.0.0.0.0)) _ _ _
-    (c.merge-in-2).result (c.merge-in-2).ensures.err
+    (c.fields-merge-in-2).result (c.fields-merge-in-2).ensures.err
 
 pub returns-in-2-clause-ok : goal.returns-in-2-clause-ok
 returns-in-2-clause-ok g c =
     arm_ok varints-shape.takes varints-two-kind.kind.takes 2 _
-    (sym c.field_number.ensures.number ∙ c.in-2.is) _ _ _ _
+    (sym c.fields-field_number.ensures.number ∙ c.in-2.is) _ _ _ _
     (λ charge p h. ((((h, refl), refl), refl), refl)) _ _ _ _ _
-    (c.merge-in-2).result (c.merge-in-2).ensures.ok
+    (c.fields-merge-in-2).result (c.fields-merge-in-2).ensures.ok
 
 pub returns-in-3-clause-err : goal.returns-in-3-clause-err
 returns-in-3-clause-err g c =
     arm_err varints-shape.takes varints-three-kind.kind.takes 3 _
-    (sym c.field_number.ensures.number ∙ c.in-3.is) _ _
+    (sym c.fields-field_number.ensures.number ∙ c.in-3.is) _ _
     (λ charge z p h. (z.0.0.1.0, h.0.0.0.0)) _ _ _
-    (c.merge-in-3).result (c.merge-in-3).ensures.err
+    (c.fields-merge-in-3).result (c.fields-merge-in-3).ensures.err
 
 pub returns-in-3-clause-ok : goal.returns-in-3-clause-ok
 returns-in-3-clause-ok g c =
     arm_ok varints-shape.takes varints-three-kind.kind.takes 3 _
-    (sym c.field_number.ensures.number ∙ c.in-3.is) _ _ _ _
+    (sym c.fields-field_number.ensures.number ∙ c.in-3.is) _ _ _ _
     (λ charge p h. ((((h, refl), refl), refl), refl)) _ _ _ _ _
-    (c.merge-in-3).result (c.merge-in-3).ensures.ok
+    (c.fields-merge-in-3).result (c.fields-merge-in-3).ensures.ok
 
 pub returns-in-4-clause-err : goal.returns-in-4-clause-err
 returns-in-4-clause-err g c =
     arm_err varints-shape.takes varints-four-kind.kind.takes 4 _
-    (sym c.field_number.ensures.number ∙ c.in-4.is) _ _
+    (sym c.fields-field_number.ensures.number ∙ c.in-4.is) _ _
     (λ charge z p h. (z.0.0.1.1, h.0.0.0.0)) _ _ _
-    (c.merge-in-4).result (c.merge-in-4).ensures.err
+    (c.fields-merge-in-4).result (c.fields-merge-in-4).ensures.err
 
 pub returns-in-4-clause-ok : goal.returns-in-4-clause-ok
 returns-in-4-clause-ok g c =
     arm_ok varints-shape.takes varints-four-kind.kind.takes 4 _
-    (sym c.field_number.ensures.number ∙ c.in-4.is) _ _ _ _
+    (sym c.fields-field_number.ensures.number ∙ c.in-4.is) _ _ _ _
     (λ charge p h. ((((h, refl), refl), refl), refl)) _ _ _ _ _
-    (c.merge-in-4).result (c.merge-in-4).ensures.ok
+    (c.fields-merge-in-4).result (c.fields-merge-in-4).ensures.ok
 
 pub returns-in-5-clause-err : goal.returns-in-5-clause-err
 returns-in-5-clause-err g c =
     arm_err varints-shape.takes varints-five-kind.kind.takes 5 _
-    (sym c.field_number.ensures.number ∙ c.in-5.is) _ _
+    (sym c.fields-field_number.ensures.number ∙ c.in-5.is) _ _
     (λ charge z p h. (z.0.1.0.0, h.0.0.0.0)) _ _ _
-    (c.merge-in-5).result (c.merge-in-5).ensures.err
+    (c.fields-merge-in-5).result (c.fields-merge-in-5).ensures.err
 
 pub returns-in-5-clause-ok : goal.returns-in-5-clause-ok
 returns-in-5-clause-ok g c =
     arm_ok varints-shape.takes varints-five-kind.kind.takes 5 _
-    (sym c.field_number.ensures.number ∙ c.in-5.is) _ _ _ _
+    (sym c.fields-field_number.ensures.number ∙ c.in-5.is) _ _ _ _
     (λ charge p h. ((((h, refl), refl), refl), refl)) _ _ _ _ _
-    (c.merge-in-5).result (c.merge-in-5).ensures.ok
+    (c.fields-merge-in-5).result (c.fields-merge-in-5).ensures.ok
 
 pub returns-in-6-clause-err : goal.returns-in-6-clause-err
 returns-in-6-clause-err g c =
     arm_err varints-shape.takes varints-six-kind.kind.takes 6 _
-    (sym c.field_number.ensures.number ∙ c.in-6.is) _ _
+    (sym c.fields-field_number.ensures.number ∙ c.in-6.is) _ _
     (λ charge z p h. (z.0.1.0.1, h.0.0.0.0)) _ _ _
-    (c.merge-in-6).result (c.merge-in-6).ensures.err
+    (c.fields-merge-in-6).result (c.fields-merge-in-6).ensures.err
 
 pub returns-in-6-clause-ok : goal.returns-in-6-clause-ok
 returns-in-6-clause-ok g c =
     arm_ok varints-shape.takes varints-six-kind.kind.takes 6 _
-    (sym c.field_number.ensures.number ∙ c.in-6.is) _ _ _ _
+    (sym c.fields-field_number.ensures.number ∙ c.in-6.is) _ _ _ _
     (λ charge p h. ((((h, refl), refl), refl), refl)) _ _ _ _ _
-    (c.merge-in-6).result (c.merge-in-6).ensures.ok
+    (c.fields-merge-in-6).result (c.fields-merge-in-6).ensures.ok
 
 pub returns-in-7-clause-err : goal.returns-in-7-clause-err
 returns-in-7-clause-err g c =
     arm_err varints-shape.takes varints-seven-kind.kind.takes 7 _
-    (sym c.field_number.ensures.number ∙ c.in-7.is) _ _
+    (sym c.fields-field_number.ensures.number ∙ c.in-7.is) _ _
     (λ charge z p h. (z.0.1.1.0, h.0.0.0.0)) _ _ _
-    (c.merge-in-7).result (c.merge-in-7).ensures.err
+    (c.fields-merge-in-7).result (c.fields-merge-in-7).ensures.err
 
 pub returns-in-7-clause-ok : goal.returns-in-7-clause-ok
 returns-in-7-clause-ok g c =
     arm_ok varints-shape.takes varints-seven-kind.kind.takes 7 _
-    (sym c.field_number.ensures.number ∙ c.in-7.is) _ _ _ _
+    (sym c.fields-field_number.ensures.number ∙ c.in-7.is) _ _ _ _
     (λ charge p h. ((((h, refl), refl), refl), refl)) _ _ _ _ _
-    (c.merge-in-7).result (c.merge-in-7).ensures.ok
+    (c.fields-merge-in-7).result (c.fields-merge-in-7).ensures.ok
 
 pub returns-in-8-clause-err : goal.returns-in-8-clause-err
 returns-in-8-clause-err g c =
     arm_err varints-shape.takes varints-eight-kind.kind.takes 8 _
-    (sym c.field_number.ensures.number ∙ c.in-8.is) _ _
+    (sym c.fields-field_number.ensures.number ∙ c.in-8.is) _ _
     (λ charge z p h. (z.0.1.1.1, h.0.0.0.0)) _ _ _
-    (c.merge-in-8).result (c.merge-in-8).ensures.err
+    (c.fields-merge-in-8).result (c.fields-merge-in-8).ensures.err
 
 pub returns-in-8-clause-ok : goal.returns-in-8-clause-ok
 returns-in-8-clause-ok g c =
     arm_ok varints-shape.takes varints-eight-kind.kind.takes 8 _
-    (sym c.field_number.ensures.number ∙ c.in-8.is) _ _ _ _
+    (sym c.fields-field_number.ensures.number ∙ c.in-8.is) _ _ _ _
     (λ charge p h. ((((h, refl), refl), refl), refl)) _ _ _ _ _
-    (c.merge-in-8).result (c.merge-in-8).ensures.ok
+    (c.fields-merge-in-8).result (c.fields-merge-in-8).ensures.ok
 
 pub returns-in_default-clause-err : goal.returns-in_default-clause-err
 returns-in_default-clause-err g c =
@@ -132,4 +132,4 @@ returns-in_default-clause-err g c =
     (unlike n 6 (search rules)))
     (neither _ _ (unlike n 7 (search rules))
     (unlike n 8 (search rules)))))
-    _ _ _ _ c.keep.result c.keep.ensures.err
+    _ _ _ _ c.fields-keep.result c.fields-keep.ensures.err

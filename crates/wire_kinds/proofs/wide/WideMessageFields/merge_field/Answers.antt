@@ -11,107 +11,107 @@ use Rattle.wire_kinds.proofs.wide.WideMessageFields.merge_field.Goals as goal
 pub returns-in-1-clause-err : goal.returns-in-1-clause-err
 returns-in-1-clause-err g c =
     arm_err wide-shape.takes wide-one-kind.kind.takes 1 _
-    (sym c.field_number.ensures.number ∙ c.in-1.is) _ _
+    (sym c.fields-field_number.ensures.number ∙ c.in-1.is) _ _
     (λ charge z p h. (z.0.0.0.0.0, h.0.0.0.0.0)) _ _ _
-    c.merge.result c.merge.ensures.err
+    c.fields-merge.result c.fields-merge.ensures.err
 
 pub returns-in-1-clause-ok : goal.returns-in-1-clause-ok
 returns-in-1-clause-ok g c =
     arm_ok wide-shape.takes wide-one-kind.kind.takes 1 _
-    (sym c.field_number.ensures.number ∙ c.in-1.is) _ _ _ _
+    (sym c.fields-field_number.ensures.number ∙ c.in-1.is) _ _ _ _
     (λ charge p h. (((((h, refl), refl), refl), refl), refl)) _ _ _ _ _
-    c.merge.result c.merge.ensures.ok
+    c.fields-merge.result c.fields-merge.ensures.ok
 
 pub returns-in-2-clause-err : goal.returns-in-2-clause-err
 returns-in-2-clause-err g c =
     arm_err wide-shape.takes wide-two-kind.kind.takes 2 _
-    (sym c.field_number.ensures.number ∙ c.in-2.is) _ _
+    (sym c.fields-field_number.ensures.number ∙ c.in-2.is) _ _
     (λ charge z p h. (z.0.0.0.0.1, h.0.0.0.0.0)) _ _ _
-    (c.merge-in-2).result (c.merge-in-2).ensures.err
+    (c.fields-merge-in-2).result (c.fields-merge-in-2).ensures.err
 
 pub returns-in-2-clause-ok : goal.returns-in-2-clause-ok
 returns-in-2-clause-ok g c =
     arm_ok wide-shape.takes wide-two-kind.kind.takes 2 _
-    (sym c.field_number.ensures.number ∙ c.in-2.is) _ _ _ _
+    (sym c.fields-field_number.ensures.number ∙ c.in-2.is) _ _ _ _
     (λ charge p h. (((((h, refl), refl), refl), refl), refl)) _ _ _ _ _
-    (c.merge-in-2).result (c.merge-in-2).ensures.ok
+    (c.fields-merge-in-2).result (c.fields-merge-in-2).ensures.ok
 
 pub returns-in-3-clause-err : goal.returns-in-3-clause-err
 returns-in-3-clause-err g c =
     arm_err wide-shape.takes wide-three-kind.kind.takes 3 _
-    (sym c.field_number.ensures.number ∙ c.in-3.is) _ _
+    (sym c.fields-field_number.ensures.number ∙ c.in-3.is) _ _
     (λ charge z p h. (z.0.0.0.1.0, h.0.0.0.0.0)) _ _ _
-    (c.merge-in-3).result (c.merge-in-3).ensures.err
+    (c.fields-merge-in-3).result (c.fields-merge-in-3).ensures.err
 
 pub returns-in-3-clause-ok : goal.returns-in-3-clause-ok
 returns-in-3-clause-ok g c =
     arm_ok wide-shape.takes wide-three-kind.kind.takes 3 _
-    (sym c.field_number.ensures.number ∙ c.in-3.is) _ _ _ _
+    (sym c.fields-field_number.ensures.number ∙ c.in-3.is) _ _ _ _
     (λ charge p h. (((((h, refl), refl), refl), refl), refl)) _ _ _ _ _
-    (c.merge-in-3).result (c.merge-in-3).ensures.ok
+    (c.fields-merge-in-3).result (c.fields-merge-in-3).ensures.ok
 
 pub returns-in-4-clause-err : goal.returns-in-4-clause-err
 returns-in-4-clause-err g c =
     arm_err wide-shape.takes wide-four-kind.takes 4 _
-    (sym c.field_number.ensures.number ∙ c.in-4.is) _ _
+    (sym c.fields-field_number.ensures.number ∙ c.in-4.is) _ _
     (λ charge z p h. ((z.0.0.0.1.1, z.1), h.0.0.0.0)) _ _ _
-    c.merge_closed.result c.merge_closed.ensures.err
+    c.fields-merge_closed.result c.fields-merge_closed.ensures.err
 
 pub returns-in-5-clause-err : goal.returns-in-5-clause-err
 returns-in-5-clause-err g c =
     arm_err wide-shape.takes wide-five-kind.takes 5 _
-    (sym c.field_number.ensures.number ∙ c.in-5.is) _ _
+    (sym c.fields-field_number.ensures.number ∙ c.in-5.is) _ _
     (λ charge z p h. ((z.0.0.1.0.0, z.1), h.0.0.0.0)) _ _ _
-    (c.merge_closed-in-5).result (c.merge_closed-in-5).ensures.err
+    (c.fields-merge_closed-in-5).result (c.fields-merge_closed-in-5).ensures.err
 
 pub returns-in-6-clause-err : goal.returns-in-6-clause-err
 returns-in-6-clause-err g c =
     arm_err wide-shape.takes wide-six-kind.takes 6 _
-    (sym c.field_number.ensures.number ∙ c.in-6.is) _ _
+    (sym c.fields-field_number.ensures.number ∙ c.in-6.is) _ _
     (λ charge z p h. ((z.0.0.1.0.1, z.1), h.0.0.0.0)) _ _ _
-    (c.merge_closed-in-6).result (c.merge_closed-in-6).ensures.err
+    (c.fields-merge_closed-in-6).result (c.fields-merge_closed-in-6).ensures.err
 
 pub returns-in-7-clause-err : goal.returns-in-7-clause-err
 returns-in-7-clause-err g c =
     arm_err wide-shape.takes wide-seven-kind.kind.takes 7 _
-    (sym c.field_number.ensures.number ∙ c.in-7.is) _ _
+    (sym c.fields-field_number.ensures.number ∙ c.in-7.is) _ _
     (λ charge z p h. (z.0.0.1.1.0, h.0.0.0.0.0)) _ _ _
-    (c.merge-in-7).result (c.merge-in-7).ensures.err
+    (c.fields-merge-in-7).result (c.fields-merge-in-7).ensures.err
 
 pub returns-in-7-clause-ok : goal.returns-in-7-clause-ok
 returns-in-7-clause-ok g c =
     arm_ok wide-shape.takes wide-seven-kind.kind.takes 7 _
-    (sym c.field_number.ensures.number ∙ c.in-7.is) _ _ _ _
+    (sym c.fields-field_number.ensures.number ∙ c.in-7.is) _ _ _ _
     (λ charge p h. (((((h, refl), refl), refl), refl), refl)) _ _ _ _ _
-    (c.merge-in-7).result (c.merge-in-7).ensures.ok
+    (c.fields-merge-in-7).result (c.fields-merge-in-7).ensures.ok
 
 pub returns-in-8-clause-err : goal.returns-in-8-clause-err
 returns-in-8-clause-err g c =
     arm_err wide-shape.takes wide-eight-kind.kind.takes 8 _
-    (sym c.field_number.ensures.number ∙ c.in-8.is) _ _
+    (sym c.fields-field_number.ensures.number ∙ c.in-8.is) _ _
     (λ charge z p h. (z.0.0.1.1.1, h.0.0.0.0.0)) _ _ _
-    (c.merge-in-8).result (c.merge-in-8).ensures.err
+    (c.fields-merge-in-8).result (c.fields-merge-in-8).ensures.err
 
 pub returns-in-8-clause-ok : goal.returns-in-8-clause-ok
 returns-in-8-clause-ok g c =
     arm_ok wide-shape.takes wide-eight-kind.kind.takes 8 _
-    (sym c.field_number.ensures.number ∙ c.in-8.is) _ _ _ _
+    (sym c.fields-field_number.ensures.number ∙ c.in-8.is) _ _ _ _
     (λ charge p h. (((((h, refl), refl), refl), refl), refl)) _ _ _ _ _
-    (c.merge-in-8).result (c.merge-in-8).ensures.ok
+    (c.fields-merge-in-8).result (c.fields-merge-in-8).ensures.ok
 
 pub returns-in-9-clause-err : goal.returns-in-9-clause-err
 returns-in-9-clause-err g c =
     arm_err wide-shape.takes wide-nine-kind.kind.takes 9 _
-    (sym c.field_number.ensures.number ∙ c.in-9.is) _ _
+    (sym c.fields-field_number.ensures.number ∙ c.in-9.is) _ _
     (λ charge z p h. (z.0.1, h.0.0)) _ _ _
-    (c.merge-in-9).result (c.merge-in-9).ensures.err
+    (c.fields-merge-in-9).result (c.fields-merge-in-9).ensures.err
 
 pub returns-in-9-clause-ok : goal.returns-in-9-clause-ok
 returns-in-9-clause-ok g c =
     arm_ok wide-shape.takes wide-nine-kind.kind.takes 9 _
-    (sym c.field_number.ensures.number ∙ c.in-9.is) _ _ _ _
+    (sym c.fields-field_number.ensures.number ∙ c.in-9.is) _ _ _ _
     (λ charge p h. ((h, refl), refl)) _ _ _ _ _
-    (c.merge-in-9).result (c.merge-in-9).ensures.ok
+    (c.fields-merge-in-9).result (c.fields-merge-in-9).ensures.ok
 
 pub returns-in_default-clause-err : goal.returns-in_default-clause-err
 returns-in_default-clause-err g c =
@@ -131,4 +131,4 @@ returns-in_default-clause-err g c =
           (unlike n 9 (search rules)))
           (wide-value c.args.self.now) z charge p h).0,
     ))
-    _ _ _ c.keep.result c.keep.ensures.err
+    _ _ _ c.fields-keep.result c.fields-keep.ensures.err

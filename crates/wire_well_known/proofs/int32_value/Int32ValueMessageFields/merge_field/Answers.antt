@@ -9,20 +9,20 @@ use Rattle.wire_well_known.proofs.int32_value.Int32ValueMessageFields.merge_fiel
 pub returns-in-1-clause-err : goal.returns-in-1-clause-err
 returns-in-1-clause-err g c =
     arm_err int32_value-shape.takes int32_value-value-kind.kind.takes 1 _
-    (sym c.field_number.ensures.number ∙ c.in-1.is) _ _
+    (sym c.fields-field_number.ensures.number ∙ c.in-1.is) _ _
     (λ charge z p h. (z.0, h.0)) _ _ _
-    c.merge.result c.merge.ensures.err
+    c.fields-merge.result c.fields-merge.ensures.err
 
 pub returns-in-1-clause-ok : goal.returns-in-1-clause-ok
 returns-in-1-clause-ok g c =
     arm_ok int32_value-shape.takes int32_value-value-kind.kind.takes 1 _
-    (sym c.field_number.ensures.number ∙ c.in-1.is) _ _ _ _
+    (sym c.fields-field_number.ensures.number ∙ c.in-1.is) _ _ _ _
     (λ charge p h. (h, refl)) _ _ _ _ _
-    c.merge.result c.merge.ensures.ok
+    c.fields-merge.result c.fields-merge.ensures.ok
 
 pub returns-in_default-clause-err : goal.returns-in_default-clause-err
 returns-in_default-clause-err g c =
     let n = tag_number c.args.tag in
     rest_err int32_value-known.owns int32_value-known.takes keeps _
     (λ p. unlike n 1 (search rules))
-    _ _ _ _ c.keep.result c.keep.ensures.err
+    _ _ _ _ c.fields-keep.result c.fields-keep.ensures.err

@@ -1,0 +1,168 @@
+//! The files of message types that hold themselves or one another.
+use crate::answers::answers_of;
+use crate::family::{family_code, set_family};
+use crate::family_definitions::{family_definitions, held_answers};
+use crate::laws_pages::has_laws;
+use crate::member_definitions::{MEMBER_MERGE, member_definitions};
+use crate::nest_stays::{family_stays, member_stays, nest_stays, put_leaf_stays};
+use crate::package::Package;
+use crate::recursive::recursive_code;
+use crate::recursive_definitions::{recursive_definitions, row_answers, table_page};
+use crate::rows::{is_row, leaf_tree};
+use crate::tree::Tree;
+use wire_schema::{Field, GenerateError, MessageType, Schema, Template, Words, fields_of};
+
+// Where the proofs of a message type that holds itself are, and of one of a family.
+const FOLDERS: [Template; 2] = [
+    ("folder", "proofs/$module$/$name$Recursive"),
+    ("row_folder", "$folder$"),
+];
+
+const MEMBER_FOLDERS: [Template; 2] = [
+    ("folder", "proofs/$module$/$name$RecursiveMemberFamilyHeld"),
+    ("row_folder", "proofs/$module$/$name$"),
+];
+
+impl Package {
+    /// A message type that holds itself, or is of a family: some of these fields are rows.
+    pub(crate) fn add_recursive(
+        &mut self,
+        schema: &Schema,
+        message: &MessageType,
+        fields: Vec<Field>,
+    ) -> Result<(), GenerateError> {
+        let mut page = self.page(&message.words);
+        match message.family {
+            Some(first) => drop(set_family(&mut page, schema, first)?),
+            None => page.fill("family", " $name$ "),
+        }
+        let is_member = message.family.is_some();
+        page.fill_all(if is_member { &MEMBER_FOLDERS } else { &FOLDERS });
+        let (fields, tree) = leaf_tree(&mut page, fields)?;
+        let code = recursive_code(&page, schema, message, &fields)?;
+        let definitions = if is_member {
+            member_definitions(&page)?
+        } else {
+            recursive_definitions(&page, &fields, &tree)?
+        };
+        self.add_type(&mut page, code, definitions)?;
+        self.add_law(&mut page)?;
+        if has_laws(&self.base) {
+            let proof = if is_member {
+                member_stays(&page)?
+            } else {
+                nest_stays(&page, &fields, &tree)?
+            };
+            self.add_stays(&mut page, proof)?;
+        }
+        self.add_oneofs(&fields, message)?;
+        self.add_rows(&mut page, &fields)?;
+        self.add_leaf(&mut page, fields, &tree)?;
+        if is_member {
+            self.add_member(&mut page)?;
+        }
+        Ok(())
+    }
+
+    // The answers of the leaf of such a type.
+    fn add_leaf(
+        &mut self,
+        page: &mut Words,
+        fields: Vec<Field>,
+        tree: &Tree,
+    ) -> Result<(), GenerateError> {
+        let mut leaf = Vec::new(page.alloc());
+        for field in fields {
+            if !is_row(&field) {
+                leaf.push(field)?;
+            }
+        }
+        let answers = answers_of(page, &leaf, tree, true)?;
+        self.add(page, "$folder$/merge_leaf/Answers.antt", answers)
+    }
+
+    // Those of its rows, where a row has many messages.
+    fn add_rows(&mut self, page: &mut Words, fields: &[Field]) -> Result<(), GenerateError> {
+        let [of_row, of_push] = row_answers(page, fields)?;
+        if of_row.is_empty() {
+            return Ok(());
+        }
+        self.add(page, "$row_folder$/row/Answers.antt", of_row)?;
+        self.add(page, "$folder$/push/Answers.antt", of_push)
+    }
+
+    // Those of `merge_field` of one of a family.
+    fn add_member(&mut self, page: &mut Words) -> Result<(), GenerateError> {
+        page.fill("answers", MEMBER_MERGE);
+        let answers = page.finish("answers")?;
+        let path = "proofs/$module$/$name$MessageFields/merge_field/Answers.antt";
+        self.add(page, path, answers)
+    }
+
+    /// What message types that hold one another have together; the first of them is at this place.
+    pub(crate) fn add_family(
+        &mut self,
+        schema: &Schema,
+        first: usize,
+    ) -> Result<(), GenerateError> {
+        let mut page = Words::like(&self.base);
+        let members = set_family(&mut page, schema, first)?;
+        if let Some(message) = schema.messages.get(first) {
+            page.copy(&message.words, &["charged", "schema"]);
+        }
+        let tables = self.tables_of(schema, first, &members)?;
+        let code = family_code(&page, &members)?;
+        let definitions = family_definitions(&page, &tables)?;
+        let answers = held_answers(&page, &members)?;
+        self.roots.copy(&page, &["family_name", "family_module"]);
+        self.roots.append_all(&[
+            ("modules", "mod $family_module$\n"),
+            ("definitions", "pub mod $family_name$\n"),
+        ]);
+        self.add(&mut page, "src/$family_module$.rt", code)?;
+        self.add(&mut page, "specs/$family_name$.antt", definitions)?;
+        if has_laws(&self.base) {
+            let proof = family_stays(&page, &tables)?;
+            page.fill("name", "$family_name$");
+            self.add_stays(&mut page, proof)?;
+        }
+        let path = "proofs/$family_module$/FamilyHeldRecursiveHeld/merge_leaf/Answers.antt";
+        self.add(&mut page, path, answers)
+    }
+
+    // A page of the table of each of these members.
+    fn tables_of(
+        &self,
+        schema: &Schema,
+        first: usize,
+        members: &[Words],
+    ) -> Result<Vec<Words>, GenerateError> {
+        let mut tables = Vec::new(self.base.alloc());
+        for member in members {
+            for message in &schema.messages {
+                let is_named = message.words.get("name") == member.get("name");
+                if is_named && message.family == Some(first) {
+                    tables.push(self.table_of(schema, first, message)?)?;
+                }
+            }
+        }
+        Ok(tables)
+    }
+
+    fn table_of(
+        &self,
+        schema: &Schema,
+        first: usize,
+        message: &MessageType,
+    ) -> Result<Words, GenerateError> {
+        let mut page = self.page(&message.words);
+        set_family(&mut page, schema, first)?;
+        let fields = fields_of(&self.base, schema, message)?;
+        let (fields, tree) = leaf_tree(&mut page, fields)?;
+        let mut table = table_page(&page, &fields, &tree);
+        if has_laws(&self.base) {
+            put_leaf_stays(&mut table, &fields, &tree);
+        }
+        Ok(table)
+    }
+}

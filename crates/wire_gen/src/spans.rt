@@ -1,0 +1,105 @@
+//! Which fields of a message of many are parts by themselves.
+use std::alloc::Global;
+use wire_schema::{Field, GenerateError};
+
+// The fields of a part by itself, where there are more: a tuple of many kinds is not proved. Maps
+// count for more, and those of closed enums for more still.
+const PART: usize = 8;
+
+const PART_OF_MAPS: usize = 4;
+
+const PART_OF_CLOSED_MAPS: usize = 2;
+
+/// Fields in a row, and how many of them are maps.
+#[derive(Clone, Copy)]
+pub(crate) struct Span {
+    pub first: usize,
+    pub behind: usize,
+    maps: usize,
+    has_closed: bool,
+}
+
+impl Span {
+    fn of(place: usize, field: &Field) -> Span {
+        let maps = field.words.get("maps");
+        Span {
+            first: place,
+            behind: place.saturating_add(1),
+            maps: maps.len(),
+            has_closed: maps == "c",
+        }
+    }
+
+    fn with(self, next: Span) -> Span {
+        Span {
+            first: self.first,
+            behind: next.behind,
+            maps: self.maps.saturating_add(next.maps),
+            has_closed: self.has_closed || next.has_closed,
+        }
+    }
+
+    fn len(self) -> usize {
+        self.behind.saturating_sub(self.first)
+    }
+
+    // The most fields of a part with these maps.
+    fn most(self) -> usize {
+        match self.maps {
+            0 | 1 => PART,
+            _ if self.has_closed => PART_OF_CLOSED_MAPS,
+            _ => PART_OF_MAPS,
+        }
+    }
+}
+
+/// The parts by themselves, an inner one before the one that it is in.
+pub(crate) fn parts_of(alloc: Global, fields: &[Field]) -> Result<Vec<Span>, GenerateError> {
+    let mut parts = Vec::new(alloc);
+    let mut spans = Vec::new(alloc);
+    let mut is_leaving = false;
+    for (place, field) in fields.iter().enumerate() {
+        spans.push(Span::of(place, field))?;
+        is_leaving |= field.words.get("both") == "both_leaving";
+    }
+    // Each turn halves the number of spans.
+    for _ in 0..usize::BITS {
+        if spans.len() < 2 {
+            break;
+        }
+        let mut next = Vec::new(alloc);
+        let mut left: Option<Span> = None;
+        for span in spans {
+            let Some(first) = left.take() else {
+                left = Some(span);
+                continue;
+            };
+            // (with a closed enum the search finds only what a part by itself has)
+            if is_leaving && first.len() >= PART && span.len() < PART {
+                put_part(span, &mut parts)?;
+            }
+            let both = first.with(span);
+            let is_part = both.len() == both.most() || both.len() == PART;
+            if is_part && both.most() < fields.len() {
+                put_part(both, &mut parts)?;
+            }
+            next.push(both)?;
+        }
+        if let Some(last) = left {
+            next.push(last)?;
+        }
+        spans = next;
+    }
+    Ok(parts)
+}
+
+// Puts a part behind those that are there, once.
+fn put_part(span: Span, parts: &mut Vec<Span>) -> Result<(), GenerateError> {
+    let is_there = parts
+        .iter()
+        .any(|it| it.first == span.first && it.behind == span.behind);
+    if !is_there {
+        parts.push(span)?;
+    }
+    Ok(())
+}

@@ -1,0 +1,6 @@
+use Rattle.wire_kinds.specs.WideStays.{wide-stays}
+use Rattle.wire_fields.specs.Stays.{decodes_in_range}
+use Rattle.wire_kinds.proofs.laws.wide_decodes_in_range.Goals as goal
+
+pub returns : goal.returns
+returns c = decodes_in_range c.grounds.ensures (wide-stays c.grounds.ensures)

@@ -1,0 +1,6 @@
+use Rattle.wire_tables.specs.SignalStays.{signal-stays}
+use Rattle.wire_fields.specs.Stays.{decodes_in_range}
+use Rattle.wire_tables.proofs.laws.signal_decodes_in_range.Goals as goal
+
+pub returns : goal.returns
+returns c = decodes_in_range c.grounds.ensures (signal-stays c.grounds.ensures)
