@@ -26,7 +26,8 @@ abbrev pub records_found : {b : List ℕ} → ListOrFault (uncounted (length b))
 records_found (inl found) = found.0
 records_found (inr fault) = none
 
--- the records that all of the bytes spell; none where they spell none
+-- the records that all of the bytes spell, of which there is one list at most (`found_is`); none
+-- where they spell none
 abbrev pub spelled_by : List ℕ → Fields
 spelled_by b = records_found (list_or_fault_lemma (uncounted (length b)) by_input b)
 
@@ -78,7 +79,7 @@ mutual
 
 -- ---- the reader finds what the bytes spell
 
-found_is : OneReading → (fs : Fields) (b : List ℕ) → Spells fs b
+pub found_is : OneReading → (fs : Fields) (b : List ℕ) → Spells fs b
     → (o : ListOrFault (uncounted (length b)) by_input b) → records_found o ≡ fs
 found_is reading fs b spelled (inl (gs, new, h)) =
     reading.records gs fs b

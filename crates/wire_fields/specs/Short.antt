@@ -1,5 +1,6 @@
--- Values in which each text, each message and each group takes no more bytes than a message may.
-use Rattle.std.proofs.Common.{◌≡◌, ℕ, ◌+◌, ◌≤◌, ap, arith, ◌∙◌, List, [], ◌++◌, length, length-append}
+-- Values in which each message and each group takes no more bytes than a message may, and what else
+-- stands behind a length, a text or a packed list, has a length that can be written.
+use Rattle.std.proofs.Common.{◌≡◌, ℕ, ◌+◌, ◌^◌, ◌<◌, ◌≤◌, ap, arith, ◌∙◌, List, [], ◌++◌, length, length-append}
 use Rattle.wire_codec.specs.Field as grammar
 use Rattle.wire_codec.specs.Laws.{JoinedAddsUp}
 use Rattle.wire_codec.specs.Records.{ValuePayload, varint, fixed64, fixed32, bytes, group, embedded}
@@ -14,7 +15,7 @@ abbrev mutual
   IsShort (varint v) = Unit {0}
   IsShort (fixed64 v) = Unit {0}
   IsShort (fixed32 v) = Unit {0}
-  IsShort (bytes b) = length b ≤ 2147483647
+  IsShort (bytes b) = length b < 2 ^ 64
   IsShort (group rs) = (text_size rs ≤ 2147483647) × AreShort rs
   IsShort (embedded rs) = (text_size rs ≤ 2147483647) × AreShort rs
 

@@ -17,8 +17,8 @@ use Rattle.wire_fields.specs.Short.{AreShort, first_short, second_short}
 use Rattle.wire_fields.specs.Sound.{IsSound, AreSound, first_is_sound, others_are_sound}
 use Rattle.wire_fields.specs.Sound.{spelled_are_sound, fitting_more, numbered_more}
 
--- A value that some bytes decode to is in range, where each text, message and group within it takes
--- no more bytes than a message may.
+-- A value that some bytes decode to is in range, where each message and group within it takes no more
+-- bytes than a message may, and any other payload has a length that can be written.
 abbrev pub DecodesInRange : {V : Type 0} → Shape V → Range V → Type 0
 DecodesInRange {V} s r =
     (l : Limits) (bytes : List ℕ) (m : V) → All (λ b. b < 256) bytes

@@ -41,7 +41,8 @@ pub record LeavingStays {V : Type 0} (s : Leaving V) (r : Range V) (charge_of : 
 -- ---- fields that leave the records that are not their own
 
 module _ {V : Type 0} {s : Shape V} {r : Range V} (own : Owns) (x : FieldsStay s r)
-    (Left : ℕ → Payload → Type 0) (n : ℕ) (p : Payload) (c : Charge) (m z : V × Fields) (sound : IsSound n p) (owned : s.owns n p ≡ true) where
+    (Left : ℕ → Payload → Type 0) (n : ℕ) (p : Payload) (c : Charge) (m z : V × Fields)
+    (sound : IsSound n p) (owned : s.owns n p ≡ true) where
   pub own_or_left : (b : Bool) → (b ≡ false → Left n p) → StandsBeside x.Is Left m
       → on b (s.takes m.0 n p c z.0 × (z.1 ≡ m.1)) (keeps m.1 n p c z.1 × (z.0 ≡ m.0))
       → StandsBeside x.Is Left z

@@ -1,4 +1,4 @@
-//! What the laws of message types stand on: a function that is a theorem, and does nothing.
+//! What the laws of message types stand on: each function is a theorem, and does nothing.
 ghost use Rattle.wire_fields.specs.Grounds.{Grounds};
 ghost use Rattle.wire_fields.specs.Short.{WholeIsShort};
 
@@ -20,7 +20,7 @@ pub fn grounds()
     laws::scalar::values_read_back();
 }
 
-/// What takes no more bytes than a message may has no text, message or group in it that takes more.
+/// What takes no more bytes than a message may has nothing in it that takes more.
 pub fn whole_is_short()
     ensures { WholeIsShort }
 {

@@ -2,7 +2,10 @@
 
 /// What is asked of the fields of a message type: `parts`, `empty`, `merge` or `clear`. Behind the
 /// call stand the rows, which a macro of the type's module puts there: each has the numbers of a
-/// field, its name and its kind, and the last says what becomes of all other numbers.
+/// field, its name and its kind, and the last says what becomes of all other numbers. A number is
+/// followed in brackets by the way its records are taken, where that is not the kind's own; a row
+/// `..Part(rows)` stands for the rows of a part, which are put between. What is handed in are names
+/// and places, which stand in what is made more than once.
 #[macro_export]
 macro_rules! fields {
     // All fields, as `measure` and `write` take them.
@@ -89,7 +92,8 @@ macro_rules! parts {
 }
 
 /// How the record of one number is taken: into its field, in the way that the row says behind the
-/// number, or as all other numbers.
+/// number, or as all other numbers. A way of another name than those here is a function of the
+/// type's module.
 #[macro_export]
 macro_rules! merged {
     ([unknown] ($message:expr, $alloc:expr, $tag:expr, $buf:expr, $context:expr)) => {

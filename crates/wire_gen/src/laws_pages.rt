@@ -30,10 +30,10 @@ pub fn $module$_reads_back()
 ";
 
 pub(crate) const STAY_LAW: &str = "
-/// A `$name$` that bytes decode to is in range, where each text, message and group within it takes
-/// at most 2,147,483,647 bytes.
+/// What bytes decode to as a `$name$` is in range, where each message and group
+/// within it takes at most 2,147,483,647 bytes and any other payload less than 2^64.
 pub fn $module$_decodes_in_range()
-    ensures { DecodesInRange $module$-shape $settled_range$ }
+    ensures { DecodesInRange $module$-shape $accounted_range$ }
 {
     grounds();
 }

@@ -2,7 +2,7 @@
 use crate::comments::set_heading;
 use crate::imports::definition_imports;
 use crate::rows::is_row;
-use crate::stays::{HOME, put_fields, put_names, put_settled_range, stays_page};
+use crate::stays::{HOME, put_accounted_range, put_fields, put_names, stays_page};
 use crate::tree::Tree;
 use wire_schema::{Field, GenerateError, Template, Words};
 
@@ -17,7 +17,7 @@ $module$-stays-of-known g =
 ";
 
 const ALONE: &str = "$of_leaf$
-pub $module$-stays : Grounds → Stays $module$-shape $settled_range$
+pub $module$-stays : Grounds → Stays $module$-shape $accounted_range$
 $module$-stays g =
     nest_stays g $module$-table (leaf_range $module$-table $module$-known $known_range$)
     (table_stays $module$-table (known_stay $module$-table ($module$-stays-of-known g))
@@ -54,7 +54,7 @@ there_where $module$-table (n == $number$) _ _ (omega arith, refl)
     ($theres$)";
 
 const FACE: &str = "
-pub $module$-stays : Grounds → Stays $module$-shape $settled_range$
+pub $module$-stays : Grounds → Stays $module$-shape $accounted_range$
 $module$-stays g = family-stays g $name$-Sort
 ";
 
@@ -109,7 +109,7 @@ pub(crate) fn nest_stays(
     page.fill("home_specs", HOME);
     put_account_of(&mut page, "$module$-account");
     put_leaf(&mut page, fields, tree);
-    put_settled_range(&mut page);
+    put_accounted_range(&mut page);
     page.fill("text", ALONE);
     stays_page(&mut page)
 }
@@ -155,7 +155,7 @@ const OF_MEMBER: [Template; 3] = [
 /// The page of one of them.
 pub(crate) fn member_stays(base: &Words) -> Result<String, GenerateError> {
     let mut page = Words::like(base);
-    put_settled_range(&mut page);
+    put_accounted_range(&mut page);
     page.append("named", NAMED_OF_FACE);
     page.fill("text", FACE);
     stays_page(&mut page)

@@ -1,6 +1,6 @@
 //! That what decoding leaves of a oneof is in range.
 use crate::oneof_definitions::put_values;
-use crate::stays::{put_settled_range, stays_page};
+use crate::stays::{put_accounted_range, stays_page};
 use wire_schema::{GenerateError, Oneof, Template, Words};
 
 const TEXT: &str = "
@@ -14,7 +14,7 @@ $in_ranges$
 $stays$";
 
 const PLAIN: &str = "\
-pub $module$-stays : Grounds → FieldsStay $module$-shape $settled_range$
+pub $module$-stays : Grounds → FieldsStay $module$-shape $accounted_range$
 $module$-stays g =
     oneof_stays None $module$-records _ ($module$-is g) tt
     $all_stay$
@@ -24,7 +24,7 @@ $module$-stays g =
 // Where some variants are of closed enums: at the numbers of the others.
 const CLOSING: &str = "\
 abbrev pub $module$-stays : Grounds → (charge_of : ℕ → Payload → Charge)
-    → LeavingStays (leaving_none $module$-shape) $settled_range$ charge_of
+    → LeavingStays (leaving_none $module$-shape) $accounted_range$ charge_of
     ($here$)
 $module$-stays g charge_of =
     closing_variants None $module$-records _ ($module$-is g) tt
@@ -191,11 +191,11 @@ fn put_variant(page: &mut Words, variant: &Words, place: usize, last: usize) {
 // The range of the oneof, for what the account of its message says where one is asked for.
 fn put_range(page: &mut Words) {
     if page.get("charged").is_empty() {
-        put_settled_range(page);
+        put_accounted_range(page);
         return page.fill("settled_holds", "$module$-holds");
     }
     page.fill_all(&[
-        ("settled_range", "($module$-range $holder$-account)"),
+        ("accounted_range", "($module$-range $holder$-account)"),
         ("settled_holds", "$module$-holds $holder$-account"),
     ]);
 }

@@ -1,7 +1,7 @@
 //! What is read back of a message that holds itself.
 use crate::account::{ACCOUNT, put_account};
 use crate::member_definitions::MEMBER_RANGE;
-use crate::returned::{put_returned, under_charges};
+use crate::returned::{put_returned, put_sides, under_charges};
 use crate::rows::is_row;
 use crate::tree::Tree;
 use wire_schema::{Field, Template, Words};
@@ -104,6 +104,9 @@ pub(crate) fn put_back(page: &mut Words, fields: &[Field], tree: &Tree) {
     end_run(page);
     page.append("run_pieces", "$run_ends$");
     put_returned(page, fields, tree);
+    if is_alone {
+        put_sides(page, "apart");
+    }
     put_account(page, fields);
     if is_alone && !page.get("charged").is_empty() {
         page.set("left_here", "λ n p. payload_charge p");

@@ -190,7 +190,12 @@ pub(crate) fn put_returned(page: &mut Words, fields: &[Field], tree: &Tree) {
             page.append("uses", "Rattle.wire_fields.specs.$of$ $import$\n");
         }
     }
-    if page.get("returned").contains("elim h") {
+    put_sides(page, "returned");
+}
+
+/// Brings in the sides of a sum, where the word of this name tells them apart.
+pub(crate) fn put_sides(page: &mut Words, name: &str) {
+    if page.get(name).contains("elim h") {
         page.append(
             "uses",
             "Rattle.std.proofs.Common inl\nRattle.std.proofs.Common inr\n",

@@ -6,7 +6,7 @@ use crate::laws_pages::{
     STAY_LAW, STAY_LAW_ANSWERS, has_laws,
 };
 use crate::package::Package;
-use crate::stays::put_settled_range;
+use crate::stays::put_accounted_range;
 use wire_schema::{GenerateError, Words};
 
 const README: &str = "\
@@ -66,8 +66,8 @@ impl Package {
 
     // That what is decoded is in range.
     fn add_stay_law(&mut self, page: &mut Words) -> Result<(), GenerateError> {
-        put_settled_range(page);
-        self.roots.copy(page, &["settled_range"]);
+        put_accounted_range(page);
+        self.roots.copy(page, &["accounted_range"]);
         self.roots.append("laws", STAY_LAW);
         page.fill("answers", STAY_LAW_ANSWERS);
         let answers = page.finish("answers")?;

@@ -7,7 +7,7 @@ use crate::tree::Tree;
 use wire_schema::{Field, GenerateError, Words};
 
 const TEXT: &str = "
-pub $module$-stays : Grounds → Stays $module$-shape $settled_range$
+pub $module$-stays : Grounds → Stays $module$-shape $accounted_range$
 $module$-stays g =
     $whole_stays$
 ";
@@ -103,7 +103,7 @@ pub(crate) fn stays_of(
     let mut page = Words::like(base);
     page.fill("home_specs", HOME);
     put_fields(&mut page, fields, tree);
-    put_settled_range(&mut page);
+    put_accounted_range(&mut page);
     put_whole(&mut page, fields);
     page.fill("text", TEXT);
     stays_page(&mut page)
@@ -126,10 +126,10 @@ pub(crate) fn put_fields(page: &mut Words, fields: &[Field], tree: &Tree) {
 }
 
 /// The range, for what the account says where one is asked for.
-pub(crate) fn put_settled_range(page: &mut Words) {
+pub(crate) fn put_accounted_range(page: &mut Words) {
     let is_charged = !page.get("charged").is_empty();
     page.fill(
-        "settled_range",
+        "accounted_range",
         if is_charged {
             "($module$-range $module$-account)"
         } else {

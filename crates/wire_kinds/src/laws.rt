@@ -41,8 +41,8 @@ pub fn call_reads_back()
     text_decodes::<crate::Call>();
 }
 
-/// A `Call` that bytes decode to is in range, where each text, message and group within it takes
-/// at most 2,147,483,647 bytes.
+/// What bytes decode to as a `Call` is in range, where each message and group
+/// within it takes at most 2,147,483,647 bytes and any other payload less than 2^64.
 pub fn call_decodes_in_range()
     ensures { DecodesInRange call-shape call-range }
 {
@@ -57,8 +57,8 @@ pub fn expression_reads_back()
     text_decodes::<crate::Expression>();
 }
 
-/// A `Expression` that bytes decode to is in range, where each text, message and group within it takes
-/// at most 2,147,483,647 bytes.
+/// What bytes decode to as a `Expression` is in range, where each message and group
+/// within it takes at most 2,147,483,647 bytes and any other payload less than 2^64.
 pub fn expression_decodes_in_range()
     ensures { DecodesInRange expression-shape expression-range }
 {
@@ -73,8 +73,8 @@ pub fn chain_reads_back()
     text_decodes::<crate::Chain>();
 }
 
-/// A `Chain` that bytes decode to is in range, where each text, message and group within it takes
-/// at most 2,147,483,647 bytes.
+/// What bytes decode to as a `Chain` is in range, where each message and group
+/// within it takes at most 2,147,483,647 bytes and any other payload less than 2^64.
 pub fn chain_decodes_in_range()
     ensures { DecodesInRange chain-shape chain-range }
 {
@@ -89,8 +89,8 @@ pub fn choice_reads_back()
     text_decodes::<crate::Choice>();
 }
 
-/// A `Choice` that bytes decode to is in range, where each text, message and group within it takes
-/// at most 2,147,483,647 bytes.
+/// What bytes decode to as a `Choice` is in range, where each message and group
+/// within it takes at most 2,147,483,647 bytes and any other payload less than 2^64.
 pub fn choice_decodes_in_range()
     ensures { DecodesInRange choice-shape choice-range }
 {
@@ -105,8 +105,8 @@ pub fn maps_reads_back()
     text_decodes::<crate::Maps>();
 }
 
-/// A `Maps` that bytes decode to is in range, where each text, message and group within it takes
-/// at most 2,147,483,647 bytes.
+/// What bytes decode to as a `Maps` is in range, where each message and group
+/// within it takes at most 2,147,483,647 bytes and any other payload less than 2^64.
 pub fn maps_decodes_in_range()
     ensures { DecodesInRange maps-shape maps-range }
 {
@@ -121,8 +121,8 @@ pub fn lists_reads_back()
     text_decodes::<crate::Lists>();
 }
 
-/// A `Lists` that bytes decode to is in range, where each text, message and group within it takes
-/// at most 2,147,483,647 bytes.
+/// What bytes decode to as a `Lists` is in range, where each message and group
+/// within it takes at most 2,147,483,647 bytes and any other payload less than 2^64.
 pub fn lists_decodes_in_range()
     ensures { DecodesInRange lists-shape lists-range }
 {
@@ -137,8 +137,8 @@ pub fn maybe_widths_reads_back()
     text_decodes::<crate::MaybeWidths>();
 }
 
-/// A `MaybeWidths` that bytes decode to is in range, where each text, message and group within it takes
-/// at most 2,147,483,647 bytes.
+/// What bytes decode to as a `MaybeWidths` is in range, where each message and group
+/// within it takes at most 2,147,483,647 bytes and any other payload less than 2^64.
 pub fn maybe_widths_decodes_in_range()
     ensures { DecodesInRange maybe_widths-shape maybe_widths-range }
 {
@@ -153,8 +153,8 @@ pub fn maybe_varints_reads_back()
     text_decodes::<crate::MaybeVarints>();
 }
 
-/// A `MaybeVarints` that bytes decode to is in range, where each text, message and group within it takes
-/// at most 2,147,483,647 bytes.
+/// What bytes decode to as a `MaybeVarints` is in range, where each message and group
+/// within it takes at most 2,147,483,647 bytes and any other payload less than 2^64.
 pub fn maybe_varints_decodes_in_range()
     ensures { DecodesInRange maybe_varints-shape maybe_varints-range }
 {
@@ -169,8 +169,8 @@ pub fn widths_reads_back()
     text_decodes::<crate::Widths>();
 }
 
-/// A `Widths` that bytes decode to is in range, where each text, message and group within it takes
-/// at most 2,147,483,647 bytes.
+/// What bytes decode to as a `Widths` is in range, where each message and group
+/// within it takes at most 2,147,483,647 bytes and any other payload less than 2^64.
 pub fn widths_decodes_in_range()
     ensures { DecodesInRange widths-shape widths-range }
 {
@@ -185,8 +185,8 @@ pub fn varints_reads_back()
     text_decodes::<crate::Varints>();
 }
 
-/// A `Varints` that bytes decode to is in range, where each text, message and group within it takes
-/// at most 2,147,483,647 bytes.
+/// What bytes decode to as a `Varints` is in range, where each message and group
+/// within it takes at most 2,147,483,647 bytes and any other payload less than 2^64.
 pub fn varints_decodes_in_range()
     ensures { DecodesInRange varints-shape varints-range }
 {
@@ -201,8 +201,8 @@ pub fn base_reads_back()
     text_decodes::<crate::Base>();
 }
 
-/// A `Base` that bytes decode to is in range, where each text, message and group within it takes
-/// at most 2,147,483,647 bytes.
+/// What bytes decode to as a `Base` is in range, where each message and group
+/// within it takes at most 2,147,483,647 bytes and any other payload less than 2^64.
 pub fn base_decodes_in_range()
     ensures { DecodesInRange base-shape base-range }
 {
@@ -217,8 +217,8 @@ pub fn wide_reads_back()
     text_decodes::<crate::Wide>();
 }
 
-/// A `Wide` that bytes decode to is in range, where each text, message and group within it takes
-/// at most 2,147,483,647 bytes.
+/// What bytes decode to as a `Wide` is in range, where each message and group
+/// within it takes at most 2,147,483,647 bytes and any other payload less than 2^64.
 pub fn wide_decodes_in_range()
     ensures { DecodesInRange wide-shape wide-range }
 {
@@ -233,8 +233,8 @@ pub fn imports_reads_back()
     text_decodes::<crate::Imports>();
 }
 
-/// A `Imports` that bytes decode to is in range, where each text, message and group within it takes
-/// at most 2,147,483,647 bytes.
+/// What bytes decode to as a `Imports` is in range, where each message and group
+/// within it takes at most 2,147,483,647 bytes and any other payload less than 2^64.
 pub fn imports_decodes_in_range()
     ensures { DecodesInRange imports-shape imports-range }
 {
@@ -249,8 +249,8 @@ pub fn groups_reads_back()
     text_decodes::<crate::Groups>();
 }
 
-/// A `Groups` that bytes decode to is in range, where each text, message and group within it takes
-/// at most 2,147,483,647 bytes.
+/// What bytes decode to as a `Groups` is in range, where each message and group
+/// within it takes at most 2,147,483,647 bytes and any other payload less than 2^64.
 pub fn groups_decodes_in_range()
     ensures { DecodesInRange groups-shape groups-range }
 {
@@ -265,8 +265,8 @@ pub fn groups_each_reads_back()
     text_decodes::<crate::GroupsEach>();
 }
 
-/// A `GroupsEach` that bytes decode to is in range, where each text, message and group within it takes
-/// at most 2,147,483,647 bytes.
+/// What bytes decode to as a `GroupsEach` is in range, where each message and group
+/// within it takes at most 2,147,483,647 bytes and any other payload less than 2^64.
 pub fn groups_each_decodes_in_range()
     ensures { DecodesInRange groups_each-shape groups_each-range }
 {
@@ -281,8 +281,8 @@ pub fn groups_one_reads_back()
     text_decodes::<crate::GroupsOne>();
 }
 
-/// A `GroupsOne` that bytes decode to is in range, where each text, message and group within it takes
-/// at most 2,147,483,647 bytes.
+/// What bytes decode to as a `GroupsOne` is in range, where each message and group
+/// within it takes at most 2,147,483,647 bytes and any other payload less than 2^64.
 pub fn groups_one_decodes_in_range()
     ensures { DecodesInRange groups_one-shape groups_one-range }
 {
@@ -299,8 +299,8 @@ pub fn team_reads_back()
     text_decodes::<crate::Team>();
 }
 
-/// A `Team` that bytes decode to is in range, where each text, message and group within it takes
-/// at most 2,147,483,647 bytes.
+/// What bytes decode to as a `Team` is in range, where each message and group
+/// within it takes at most 2,147,483,647 bytes and any other payload less than 2^64.
 pub fn team_decodes_in_range()
     ensures { DecodesInRange team-shape (team-range team-account) }
 {
@@ -317,8 +317,8 @@ pub fn rights_reads_back()
     text_decodes::<crate::Rights>();
 }
 
-/// A `Rights` that bytes decode to is in range, where each text, message and group within it takes
-/// at most 2,147,483,647 bytes.
+/// What bytes decode to as a `Rights` is in range, where each message and group
+/// within it takes at most 2,147,483,647 bytes and any other payload less than 2^64.
 pub fn rights_decodes_in_range()
     ensures { DecodesInRange rights-shape (rights-range rights-account) }
 {
@@ -335,8 +335,8 @@ pub fn grants_reads_back()
     text_decodes::<crate::Grants>();
 }
 
-/// A `Grants` that bytes decode to is in range, where each text, message and group within it takes
-/// at most 2,147,483,647 bytes.
+/// What bytes decode to as a `Grants` is in range, where each message and group
+/// within it takes at most 2,147,483,647 bytes and any other payload less than 2^64.
 pub fn grants_decodes_in_range()
     ensures { DecodesInRange grants-shape (grants-range grants-account) }
 {
@@ -351,8 +351,8 @@ pub fn levels_reads_back()
     text_decodes::<crate::Levels>();
 }
 
-/// A `Levels` that bytes decode to is in range, where each text, message and group within it takes
-/// at most 2,147,483,647 bytes.
+/// What bytes decode to as a `Levels` is in range, where each message and group
+/// within it takes at most 2,147,483,647 bytes and any other payload less than 2^64.
 pub fn levels_decodes_in_range()
     ensures { DecodesInRange levels-shape levels-range }
 {
@@ -367,8 +367,8 @@ pub fn levels_part_reads_back()
     text_decodes::<crate::LevelsPart>();
 }
 
-/// A `LevelsPart` that bytes decode to is in range, where each text, message and group within it takes
-/// at most 2,147,483,647 bytes.
+/// What bytes decode to as a `LevelsPart` is in range, where each message and group
+/// within it takes at most 2,147,483,647 bytes and any other payload less than 2^64.
 pub fn levels_part_decodes_in_range()
     ensures { DecodesInRange levels_part-shape levels_part-range }
 {
@@ -383,8 +383,8 @@ pub fn leaf_reads_back()
     text_decodes::<crate::Leaf>();
 }
 
-/// A `Leaf` that bytes decode to is in range, where each text, message and group within it takes
-/// at most 2,147,483,647 bytes.
+/// What bytes decode to as a `Leaf` is in range, where each message and group
+/// within it takes at most 2,147,483,647 bytes and any other payload less than 2^64.
 pub fn leaf_decodes_in_range()
     ensures { DecodesInRange leaf-shape leaf-range }
 {
@@ -399,8 +399,8 @@ pub fn nest_reads_back()
     text_decodes::<crate::Nest>();
 }
 
-/// A `Nest` that bytes decode to is in range, where each text, message and group within it takes
-/// at most 2,147,483,647 bytes.
+/// What bytes decode to as a `Nest` is in range, where each message and group
+/// within it takes at most 2,147,483,647 bytes and any other payload less than 2^64.
 pub fn nest_decodes_in_range()
     ensures { DecodesInRange nest-shape nest-range }
 {
@@ -415,8 +415,8 @@ pub fn features_reads_back()
     text_decodes::<crate::Features>();
 }
 
-/// A `Features` that bytes decode to is in range, where each text, message and group within it takes
-/// at most 2,147,483,647 bytes.
+/// What bytes decode to as a `Features` is in range, where each message and group
+/// within it takes at most 2,147,483,647 bytes and any other payload less than 2^64.
 pub fn features_decodes_in_range()
     ensures { DecodesInRange features-shape features-range }
 {

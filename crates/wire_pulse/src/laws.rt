@@ -15,8 +15,8 @@ pub fn pulse_reads_back()
     text_decodes::<crate::Pulse>();
 }
 
-/// A `Pulse` that bytes decode to is in range, where each text, message and group within it takes
-/// at most 2,147,483,647 bytes.
+/// What bytes decode to as a `Pulse` is in range, where each message and group
+/// within it takes at most 2,147,483,647 bytes and any other payload less than 2^64.
 pub fn pulse_decodes_in_range()
     ensures { DecodesInRange pulse-shape pulse-range }
 {

@@ -16,8 +16,8 @@ pub fn report_reads_back()
     text_decodes::<crate::Report>();
 }
 
-/// A `Report` that bytes decode to is in range, where each text, message and group within it takes
-/// at most 2,147,483,647 bytes.
+/// What bytes decode to as a `Report` is in range, where each message and group
+/// within it takes at most 2,147,483,647 bytes and any other payload less than 2^64.
 pub fn report_decodes_in_range()
     ensures { DecodesInRange report-shape report-range }
 {
@@ -32,8 +32,8 @@ pub fn report_sample_reads_back()
     text_decodes::<crate::ReportSample>();
 }
 
-/// A `ReportSample` that bytes decode to is in range, where each text, message and group within it takes
-/// at most 2,147,483,647 bytes.
+/// What bytes decode to as a `ReportSample` is in range, where each message and group
+/// within it takes at most 2,147,483,647 bytes and any other payload less than 2^64.
 pub fn report_sample_decodes_in_range()
     ensures { DecodesInRange report_sample-shape report_sample-range }
 {

@@ -2,6 +2,7 @@
 use crate::row::Row;
 use crate::said::{Hex, Said};
 use bytes::{Buf, Bytes};
+use std::alloc::Global;
 use wire_callers::counter::Counter;
 use wire_callers::{first, log, messages as written, sinks};
 use wire_codec::{DecodeError, EncodeError, Message, ProtoString, Rope, UnknownFields, laws};
@@ -80,12 +81,7 @@ fn tell_written(row: &Row<'_>, said: &mut Said) -> bool {
                 say_rope(records::attached(alloc, bytes), row, said)
             }
         }
-        "counter_len" => {
-            laws::sizes_fit();
-            if said.answered(counter.try_encoded_len(alloc)).is_some() {
-                said.show_answer(counter.encoded_len(alloc))
-            }
-        }
+        "counter_len" => said.show_answer(counter_len(alloc, &counter)),
         "in_rope" => say_rope(sinks::in_rope(alloc, &counter), row, said),
         "pair" => {
             let mut sink = Vec::new(alloc);
@@ -100,6 +96,13 @@ fn tell_written(row: &Row<'_>, said: &mut Said) -> bool {
         _ => return false,
     }
     true
+}
+
+// The size that a counter measures itself, once it was tested.
+fn counter_len(alloc: Global, counter: &Counter) -> Result<u32, EncodeError> {
+    laws::sizes_fit();
+    counter.try_encoded_len(alloc)?;
+    counter.encoded_len(alloc)
 }
 
 fn say_bytes(answer: Result<Vec<u8>, DecodeError>, given: &[u8], said: &mut Said) {

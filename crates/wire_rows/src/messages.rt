@@ -62,7 +62,12 @@ pub fn tell(row: &Row<'_>, said: &mut Said) -> bool {
 
 // ---- from a buffer
 
-fn read_as<M: Sample, B: Buf>(row: &Row<'_>, call: &str, buf: &mut B, said: &mut Said) -> bool {
+fn read_as<M: Sample + Message, B: Buf>(
+    row: &Row<'_>,
+    call: &str,
+    buf: &mut B,
+    said: &mut Said,
+) -> bool {
     let alloc = said.alloc;
     let answer = match (call, row.options()) {
         ("decode", Some(options)) => options.decode::<M, B>(alloc, buf),
@@ -80,7 +85,7 @@ fn read_as<M: Sample, B: Buf>(row: &Row<'_>, call: &str, buf: &mut B, said: &mut
     true
 }
 
-fn say_message<M: Sample>(message: &M, given: &[u8], said: &mut Said) {
+fn say_message<M: Sample + Message>(message: &M, given: &[u8], said: &mut Said) {
     message.say(said);
     said.word("; ");
     if let Some(text) = said.answered(message.try_encode_to_vec(said.alloc)) {
@@ -90,7 +95,12 @@ fn say_message<M: Sample>(message: &M, given: &[u8], said: &mut Said) {
 
 // A message is merged into the one that the row names, under a context or under options. What a
 // refused call leaves is told where a contract says it.
-fn merge_as<M: Sample, B: Buf>(row: &Row<'_>, call: &str, buf: &mut B, said: &mut Said) -> bool {
+fn merge_as<M: Sample + Message, B: Buf>(
+    row: &Row<'_>,
+    call: &str,
+    buf: &mut B,
+    said: &mut Said,
+) -> bool {
     let onto = row.onto(said);
     let Some(mut message) = said.answered(M::decode_from_slice(said.alloc, &onto)) else {
         return true;
@@ -119,7 +129,7 @@ fn merge_as<M: Sample, B: Buf>(row: &Row<'_>, call: &str, buf: &mut B, said: &mu
 }
 
 // What a merging call answers; nothing where none has this name.
-fn merge<M: Sample, B: Buf>(
+fn merge<M: Sample + Message, B: Buf>(
     message: &mut M,
     row: &Row<'_>,
     call: &str,
@@ -161,7 +171,7 @@ fn is_a_value<M: Message>(message: &M, said: &mut Said) {
 
 // ---- from a slice, and all else
 
-fn tell_as<M: Sample>(row: &Row<'_>, call: &str, said: &mut Said) -> bool {
+fn tell_as<M: Sample + Message>(row: &Row<'_>, call: &str, said: &mut Said) -> bool {
     match call {
         "decode_from_slice" => decode_slice::<M>(row, said),
         "merge_from_slice" => merge_slices::<M>(row, said),
@@ -171,7 +181,7 @@ fn tell_as<M: Sample>(row: &Row<'_>, call: &str, said: &mut Said) -> bool {
     true
 }
 
-fn decode_slice<M: Sample>(row: &Row<'_>, said: &mut Said) {
+fn decode_slice<M: Sample + Message>(row: &Row<'_>, said: &mut Said) {
     let answer = match row.options() {
         Some(options) => options.decode_from_slice::<M>(said.alloc, row.bytes),
         None => M::decode_from_slice(said.alloc, row.bytes),
@@ -182,7 +192,7 @@ fn decode_slice<M: Sample>(row: &Row<'_>, said: &mut Said) {
 }
 
 // Each span is merged by a call of its own, and the first refusal ends the row.
-fn merge_slices<M: Sample>(row: &Row<'_>, said: &mut Said) {
+fn merge_slices<M: Sample + Message>(row: &Row<'_>, said: &mut Said) {
     let (alloc, onto) = (said.alloc, row.onto(said));
     let Some(mut message) = given::<M>(row, &onto, said) else {
         return;
@@ -199,7 +209,7 @@ fn merge_slices<M: Sample>(row: &Row<'_>, said: &mut Said) {
     say_message(&message, row.bytes, said);
 }
 
-fn say_refused<M: Sample>(message: &M, error: DecodeError, said: &mut Said) {
+fn say_refused<M: Sample + Message>(message: &M, error: DecodeError, said: &mut Said) {
     if error == DecodeError::OutOfMemory {
         is_a_value(message, said);
     }
@@ -209,7 +219,7 @@ fn say_refused<M: Sample>(message: &M, error: DecodeError, said: &mut Said) {
 }
 
 // A cleared message is a default one, and another than it was.
-fn clear<M: Sample>(row: &Row<'_>, said: &mut Said) {
+fn clear<M: Sample + Message>(row: &Row<'_>, said: &mut Said) {
     let Some(mut message) = given::<M>(row, row.bytes, said) else {
         return;
     };

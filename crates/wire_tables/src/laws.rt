@@ -26,8 +26,8 @@ pub fn call_reads_back()
     text_decodes::<crate::Call>();
 }
 
-/// A `Call` that bytes decode to is in range, where each text, message and group within it takes
-/// at most 2,147,483,647 bytes.
+/// What bytes decode to as a `Call` is in range, where each message and group
+/// within it takes at most 2,147,483,647 bytes and any other payload less than 2^64.
 pub fn call_decodes_in_range()
     ensures { DecodesInRange call-shape call-range }
 {
@@ -42,8 +42,8 @@ pub fn expression_reads_back()
     text_decodes::<crate::Expression>();
 }
 
-/// A `Expression` that bytes decode to is in range, where each text, message and group within it takes
-/// at most 2,147,483,647 bytes.
+/// What bytes decode to as a `Expression` is in range, where each message and group
+/// within it takes at most 2,147,483,647 bytes and any other payload less than 2^64.
 pub fn expression_decodes_in_range()
     ensures { DecodesInRange expression-shape expression-range }
 {
@@ -58,8 +58,8 @@ pub fn tree_reads_back()
     text_decodes::<crate::Tree>();
 }
 
-/// A `Tree` that bytes decode to is in range, where each text, message and group within it takes
-/// at most 2,147,483,647 bytes.
+/// What bytes decode to as a `Tree` is in range, where each message and group
+/// within it takes at most 2,147,483,647 bytes and any other payload less than 2^64.
 pub fn tree_decodes_in_range()
     ensures { DecodesInRange tree-shape tree-range }
 {
@@ -74,8 +74,8 @@ pub fn ledger_reads_back()
     text_decodes::<crate::Ledger>();
 }
 
-/// A `Ledger` that bytes decode to is in range, where each text, message and group within it takes
-/// at most 2,147,483,647 bytes.
+/// What bytes decode to as a `Ledger` is in range, where each message and group
+/// within it takes at most 2,147,483,647 bytes and any other payload less than 2^64.
 pub fn ledger_decodes_in_range()
     ensures { DecodesInRange ledger-shape ledger-range }
 {
@@ -90,8 +90,8 @@ pub fn card_reads_back()
     text_decodes::<crate::Card>();
 }
 
-/// A `Card` that bytes decode to is in range, where each text, message and group within it takes
-/// at most 2,147,483,647 bytes.
+/// What bytes decode to as a `Card` is in range, where each message and group
+/// within it takes at most 2,147,483,647 bytes and any other payload less than 2^64.
 pub fn card_decodes_in_range()
     ensures { DecodesInRange card-shape card-range }
 {
@@ -106,8 +106,8 @@ pub fn profile_reads_back()
     text_decodes::<crate::Profile>();
 }
 
-/// A `Profile` that bytes decode to is in range, where each text, message and group within it takes
-/// at most 2,147,483,647 bytes.
+/// What bytes decode to as a `Profile` is in range, where each message and group
+/// within it takes at most 2,147,483,647 bytes and any other payload less than 2^64.
 pub fn profile_decodes_in_range()
     ensures { DecodesInRange profile-shape profile-range }
 {
@@ -122,8 +122,8 @@ pub fn counter_reads_back()
     text_decodes::<crate::Counter>();
 }
 
-/// A `Counter` that bytes decode to is in range, where each text, message and group within it takes
-/// at most 2,147,483,647 bytes.
+/// What bytes decode to as a `Counter` is in range, where each message and group
+/// within it takes at most 2,147,483,647 bytes and any other payload less than 2^64.
 pub fn counter_decodes_in_range()
     ensures { DecodesInRange counter-shape counter-range }
 {
@@ -140,8 +140,8 @@ pub fn signal_reads_back()
     text_decodes::<crate::Signal>();
 }
 
-/// A `Signal` that bytes decode to is in range, where each text, message and group within it takes
-/// at most 2,147,483,647 bytes.
+/// What bytes decode to as a `Signal` is in range, where each message and group
+/// within it takes at most 2,147,483,647 bytes and any other payload less than 2^64.
 pub fn signal_decodes_in_range()
     ensures { DecodesInRange signal-shape (signal-range signal-account) }
 {
@@ -156,8 +156,8 @@ pub fn reading_reads_back()
     text_decodes::<crate::Reading>();
 }
 
-/// A `Reading` that bytes decode to is in range, where each text, message and group within it takes
-/// at most 2,147,483,647 bytes.
+/// What bytes decode to as a `Reading` is in range, where each message and group
+/// within it takes at most 2,147,483,647 bytes and any other payload less than 2^64.
 pub fn reading_decodes_in_range()
     ensures { DecodesInRange reading-shape reading-range }
 {

@@ -33,8 +33,8 @@ pub fn any_reads_back()
     text_decodes::<crate::Any>();
 }
 
-/// A `Any` that bytes decode to is in range, where each text, message and group within it takes
-/// at most 2,147,483,647 bytes.
+/// What bytes decode to as a `Any` is in range, where each message and group
+/// within it takes at most 2,147,483,647 bytes and any other payload less than 2^64.
 pub fn any_decodes_in_range()
     ensures { DecodesInRange any-shape any-range }
 {
@@ -49,8 +49,8 @@ pub fn duration_reads_back()
     text_decodes::<crate::Duration>();
 }
 
-/// A `Duration` that bytes decode to is in range, where each text, message and group within it takes
-/// at most 2,147,483,647 bytes.
+/// What bytes decode to as a `Duration` is in range, where each message and group
+/// within it takes at most 2,147,483,647 bytes and any other payload less than 2^64.
 pub fn duration_decodes_in_range()
     ensures { DecodesInRange duration-shape duration-range }
 {
@@ -65,8 +65,8 @@ pub fn empty_reads_back()
     text_decodes::<crate::Empty>();
 }
 
-/// A `Empty` that bytes decode to is in range, where each text, message and group within it takes
-/// at most 2,147,483,647 bytes.
+/// What bytes decode to as a `Empty` is in range, where each message and group
+/// within it takes at most 2,147,483,647 bytes and any other payload less than 2^64.
 pub fn empty_decodes_in_range()
     ensures { DecodesInRange empty-shape empty-range }
 {
@@ -81,8 +81,8 @@ pub fn field_mask_reads_back()
     text_decodes::<crate::FieldMask>();
 }
 
-/// A `FieldMask` that bytes decode to is in range, where each text, message and group within it takes
-/// at most 2,147,483,647 bytes.
+/// What bytes decode to as a `FieldMask` is in range, where each message and group
+/// within it takes at most 2,147,483,647 bytes and any other payload less than 2^64.
 pub fn field_mask_decodes_in_range()
     ensures { DecodesInRange field_mask-shape field_mask-range }
 {
@@ -97,8 +97,8 @@ pub fn list_value_reads_back()
     text_decodes::<crate::ListValue>();
 }
 
-/// A `ListValue` that bytes decode to is in range, where each text, message and group within it takes
-/// at most 2,147,483,647 bytes.
+/// What bytes decode to as a `ListValue` is in range, where each message and group
+/// within it takes at most 2,147,483,647 bytes and any other payload less than 2^64.
 pub fn list_value_decodes_in_range()
     ensures { DecodesInRange list_value-shape list_value-range }
 {
@@ -113,8 +113,8 @@ pub fn value_reads_back()
     text_decodes::<crate::Value>();
 }
 
-/// A `Value` that bytes decode to is in range, where each text, message and group within it takes
-/// at most 2,147,483,647 bytes.
+/// What bytes decode to as a `Value` is in range, where each message and group
+/// within it takes at most 2,147,483,647 bytes and any other payload less than 2^64.
 pub fn value_decodes_in_range()
     ensures { DecodesInRange value-shape value-range }
 {
@@ -129,8 +129,8 @@ pub fn struct__reads_back()
     text_decodes::<crate::Struct>();
 }
 
-/// A `Struct` that bytes decode to is in range, where each text, message and group within it takes
-/// at most 2,147,483,647 bytes.
+/// What bytes decode to as a `Struct` is in range, where each message and group
+/// within it takes at most 2,147,483,647 bytes and any other payload less than 2^64.
 pub fn struct__decodes_in_range()
     ensures { DecodesInRange struct_-shape struct_-range }
 {
@@ -145,8 +145,8 @@ pub fn timestamp_reads_back()
     text_decodes::<crate::Timestamp>();
 }
 
-/// A `Timestamp` that bytes decode to is in range, where each text, message and group within it takes
-/// at most 2,147,483,647 bytes.
+/// What bytes decode to as a `Timestamp` is in range, where each message and group
+/// within it takes at most 2,147,483,647 bytes and any other payload less than 2^64.
 pub fn timestamp_decodes_in_range()
     ensures { DecodesInRange timestamp-shape timestamp-range }
 {
@@ -161,8 +161,8 @@ pub fn bytes_value_reads_back()
     text_decodes::<crate::BytesValue>();
 }
 
-/// A `BytesValue` that bytes decode to is in range, where each text, message and group within it takes
-/// at most 2,147,483,647 bytes.
+/// What bytes decode to as a `BytesValue` is in range, where each message and group
+/// within it takes at most 2,147,483,647 bytes and any other payload less than 2^64.
 pub fn bytes_value_decodes_in_range()
     ensures { DecodesInRange bytes_value-shape bytes_value-range }
 {
@@ -177,8 +177,8 @@ pub fn string_value_reads_back()
     text_decodes::<crate::StringValue>();
 }
 
-/// A `StringValue` that bytes decode to is in range, where each text, message and group within it takes
-/// at most 2,147,483,647 bytes.
+/// What bytes decode to as a `StringValue` is in range, where each message and group
+/// within it takes at most 2,147,483,647 bytes and any other payload less than 2^64.
 pub fn string_value_decodes_in_range()
     ensures { DecodesInRange string_value-shape string_value-range }
 {
@@ -193,8 +193,8 @@ pub fn bool_value_reads_back()
     text_decodes::<crate::BoolValue>();
 }
 
-/// A `BoolValue` that bytes decode to is in range, where each text, message and group within it takes
-/// at most 2,147,483,647 bytes.
+/// What bytes decode to as a `BoolValue` is in range, where each message and group
+/// within it takes at most 2,147,483,647 bytes and any other payload less than 2^64.
 pub fn bool_value_decodes_in_range()
     ensures { DecodesInRange bool_value-shape bool_value-range }
 {
@@ -209,8 +209,8 @@ pub fn uint32_value_reads_back()
     text_decodes::<crate::UInt32Value>();
 }
 
-/// A `UInt32Value` that bytes decode to is in range, where each text, message and group within it takes
-/// at most 2,147,483,647 bytes.
+/// What bytes decode to as a `UInt32Value` is in range, where each message and group
+/// within it takes at most 2,147,483,647 bytes and any other payload less than 2^64.
 pub fn uint32_value_decodes_in_range()
     ensures { DecodesInRange uint32_value-shape uint32_value-range }
 {
@@ -225,8 +225,8 @@ pub fn int32_value_reads_back()
     text_decodes::<crate::Int32Value>();
 }
 
-/// A `Int32Value` that bytes decode to is in range, where each text, message and group within it takes
-/// at most 2,147,483,647 bytes.
+/// What bytes decode to as a `Int32Value` is in range, where each message and group
+/// within it takes at most 2,147,483,647 bytes and any other payload less than 2^64.
 pub fn int32_value_decodes_in_range()
     ensures { DecodesInRange int32_value-shape int32_value-range }
 {
@@ -241,8 +241,8 @@ pub fn uint64_value_reads_back()
     text_decodes::<crate::UInt64Value>();
 }
 
-/// A `UInt64Value` that bytes decode to is in range, where each text, message and group within it takes
-/// at most 2,147,483,647 bytes.
+/// What bytes decode to as a `UInt64Value` is in range, where each message and group
+/// within it takes at most 2,147,483,647 bytes and any other payload less than 2^64.
 pub fn uint64_value_decodes_in_range()
     ensures { DecodesInRange uint64_value-shape uint64_value-range }
 {
@@ -257,8 +257,8 @@ pub fn int64_value_reads_back()
     text_decodes::<crate::Int64Value>();
 }
 
-/// A `Int64Value` that bytes decode to is in range, where each text, message and group within it takes
-/// at most 2,147,483,647 bytes.
+/// What bytes decode to as a `Int64Value` is in range, where each message and group
+/// within it takes at most 2,147,483,647 bytes and any other payload less than 2^64.
 pub fn int64_value_decodes_in_range()
     ensures { DecodesInRange int64_value-shape int64_value-range }
 {
@@ -273,8 +273,8 @@ pub fn float_value_reads_back()
     text_decodes::<crate::FloatValue>();
 }
 
-/// A `FloatValue` that bytes decode to is in range, where each text, message and group within it takes
-/// at most 2,147,483,647 bytes.
+/// What bytes decode to as a `FloatValue` is in range, where each message and group
+/// within it takes at most 2,147,483,647 bytes and any other payload less than 2^64.
 pub fn float_value_decodes_in_range()
     ensures { DecodesInRange float_value-shape float_value-range }
 {
@@ -289,8 +289,8 @@ pub fn double_value_reads_back()
     text_decodes::<crate::DoubleValue>();
 }
 
-/// A `DoubleValue` that bytes decode to is in range, where each text, message and group within it takes
-/// at most 2,147,483,647 bytes.
+/// What bytes decode to as a `DoubleValue` is in range, where each message and group
+/// within it takes at most 2,147,483,647 bytes and any other payload less than 2^64.
 pub fn double_value_decodes_in_range()
     ensures { DecodesInRange double_value-shape double_value-range }
 {

@@ -4,8 +4,8 @@ use crate::said::Said;
 use wire_codec::Message;
 use wire_samples::{Gauge, Node, Person, Repeat};
 
-/// A message type of the rows.
-pub trait Sample: Message {
+/// How a message type of the rows is named and shown.
+pub trait Sample: Drop {
     /// The value that a row names by its words, where it does.
     fn named(_row: &Row<'_>) -> Option<Self> {
         None
@@ -16,7 +16,7 @@ pub trait Sample: Message {
 }
 
 /// The value that a row names, by its words or by an encoding.
-pub fn given<M: Sample>(row: &Row<'_>, bytes: &[u8], said: &mut Said) -> Option<M> {
+pub fn given<M: Sample + Message>(row: &Row<'_>, bytes: &[u8], said: &mut Said) -> Option<M> {
     match M::named(row) {
         Some(message) => Some(message),
         None => said.answered(M::decode_from_slice(said.alloc, bytes)),

@@ -9,7 +9,7 @@ use wire_codec::{EncodeError, Message, SizeCache, SizeCachePool, laws};
 type Answer = Result<Option<u32>, EncodeError>;
 
 /// Says what a call writes behind the byte 7, and the size that it answers.
-pub fn tell<M: Sample>(row: &Row<'_>, call: &str, said: &mut Said) -> bool {
+pub fn tell<M: Sample + Message>(row: &Row<'_>, call: &str, said: &mut Said) -> bool {
     match call {
         "sizes" => say_sizes::<M>(row, said),
         _ if call.contains("enc") || call == "write_to" => write::<M>(row, call, said),
@@ -18,7 +18,7 @@ pub fn tell<M: Sample>(row: &Row<'_>, call: &str, said: &mut Said) -> bool {
     true
 }
 
-fn write<M: Sample>(row: &Row<'_>, call: &str, said: &mut Said) {
+fn write<M: Sample + Message>(row: &Row<'_>, call: &str, said: &mut Said) {
     let Some(message) = given::<M>(row, row.bytes, said) else {
         return;
     };
@@ -192,7 +192,7 @@ fn by_pool<M: Message>(
 }
 
 // The sizes of the messages that the value holds, an outer one before its inner ones.
-fn say_sizes<M: Sample>(row: &Row<'_>, said: &mut Said) {
+fn say_sizes<M: Sample + Message>(row: &Row<'_>, said: &mut Said) {
     let Some(message) = given::<M>(row, row.bytes, said) else {
         return;
     };

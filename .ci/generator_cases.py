@@ -1,0 +1,118 @@
+"""Schemas that wire_gen is asked, for .ci/generated: which it refuses and with which words, and what
+it writes of others."""
+TYPE = "message A { int32 x = 1; }"
+# A schema, further parameters, and what is said of it on protoc's channel for errors.
+REFUSED = [
+    ("proto3", TYPE + "service S { rpc Get(A) returns (A); }", "",
+     "refused.proto: services want services=skip"),
+    ("proto2", "message A { required int32 x = 1; }", "",
+     ".A.x: required fields want required=optional"),
+    ("proto2", "message A { optional int32 x = 1 [default = 7]; }", "",
+     ".A.x: default values want defaults=skip"),
+    ("proto2", "enum E { B = 0; } message A { map<int32, E> x = 1; }", ",unknown=drop",
+     ".A.x: closed enums are not generated with unknown=drop or mismatch=keep"),
+    ("proto3", "message A { A x = 1; }", "", ".A: a message that holds itself, or what holds it, "
+     "has one to eight other fields, and neither closed enums, unknown=drop nor mismatch=keep"),
+    ("proto3", "message A { B x = 1; int32 y = 2; } message B { repeated A x = 1; }", "",
+     ".B: a message that holds itself, or what holds it, has one to eight other fields, and "
+     "neither closed enums, unknown=drop nor mismatch=keep"),
+    ("proto3", "message A { map<int32, A> x = 1; int32 y = 2; }", "",
+     ".A: messages that hold themselves or one another by a map, a oneof or groups want "
+     "encoded=FIELD"),
+    ("proto3", "message A { map<int32, B> x = 1; int32 y = 2; } "
+     "message B { repeated A x = 1; int32 y = 2; }", "",
+     ".A: messages that hold themselves or one another by a map, a oneof or groups want "
+     "encoded=FIELD"),
+    ("proto3", "message A { B x = 1; } message B { A x = 1; }", ",encoded=A.y",
+     ".A.y: encoded= wants a field of messages behind their length"),
+    ("proto2", "message A { optional group B = 1 { optional A x = 1; } }", ",encoded=A.b",
+     ".A.b: encoded= wants a field of messages behind their length"),
+    ("proto2", "message A { extensions 4; } extend A { optional int32 x = 4; }", ",unknown=drop",
+     ".x: extensions are not generated with unknown=drop"),
+    ("proto3", "message A {" + "".join(f"int32 x{it} = {it};" for it in range(1, 82)) + "}", "",
+     ".A: more than 80 fields"),
+    ("proto2", "enum E { FOO_BAR = 0; foo_bar = 1; }", "",
+     ".E: two values have the name of foo_bar"),
+    ("proto3", "enum E { option allow_alias = true; A0 = 0; B1 = 1; b1 = 1; }" + TYPE, "",
+     ".E: two values have the name of b1"),
+    ("proto2", "message A { optional int32 fooBar = 1; optional int32 foo_bar = 2; }", "",
+     ".A: two fields are called foo_bar"),
+    ("proto3", "message A { message B { int32 x = 1; } } message AB { int32 x = 1; }", "",
+     ".A.B: another type is called AB too"),
+    ("proto3", 'import "google/protobuf/timestamp.proto";'
+     "message A { google.protobuf.Timestamp x = 1; }", "",
+     ".A.x: .google.protobuf.Timestamp is of a file of no crate that is named"),
+    ("proto3", TYPE, ",import=google.protobuf", "an import is import=PACKAGE=CRATE: "
+     "import=google.protobuf"),
+    ("proto3", TYPE, ",element=many", "parameters are crate=NAME, import=PACKAGE=CRATE, "
+     "element=BYTES, unknown=keep or drop, mismatch=refuse or keep, enums=open, strings=bytes, "
+     "required=optional, services=skip, defaults=skip, laws=skip, and encoded=FIELD: "
+     "element=many"),
+    ("proto2", TYPE.replace("int32", "optional string"), ",strings=texts",
+     "parameters are crate=NAME, import=PACKAGE=CRATE, "
+     "element=BYTES, unknown=keep or drop, mismatch=refuse or keep, enums=open, strings=bytes, "
+     "required=optional, services=skip, defaults=skip, laws=skip, and encoded=FIELD: "
+     "strings=texts"),
+    ("proto3", TYPE, ",unknown=drop,mismatch=keep", "mismatch=keep wants unknown=keep"),
+    ("proto2", "enum E { B = 0; } message A { optional E x = 1; }", ",unknown=drop",
+     ".A.x: closed enums are not generated with unknown=drop or mismatch=keep"),
+]
+# A field of edition 2023 with its features, and what the code or the error has for it; and one
+# with a parameter.
+INT, MESSAGE, STRING = "type: 5", 'type: 11 type_name: ".A"', "type: 9"
+EDITIONS = [
+    (1000, INT, "", "Optional<Int32>"),
+    (1000, INT, "field_presence: 2", "Implicit<Int32>"),
+    (1000, INT, "field_presence: 3", ".C.x: required fields want required=optional"),
+    (1000, INT, "field_presence: 3", "Optional<Int32>", "required=optional"),
+    (1000, STRING, "", "Optional<Text>"),
+    (1000, STRING, "utf8_validation: 2", "Optional<Text>", "strings=bytes"),
+    (1000, STRING, "utf8_validation: 3",
+     ".C.x: strings that are no UTF-8 want strings=bytes"),
+    (1000, STRING, "utf8_validation: 3", "Optional<Blob>", "strings=bytes"),
+    (1000, STRING, "utf8_validation: 1", ".C: the feature utf8_validation is not known"),
+    (1000, INT, "json_format: 2", ".C: the feature json_format is not known"),
+    (1000, INT + " label: 3", "", "Packed<Int32>"),
+    (1000, INT + " label: 3", "repeated_field_encoding: 2", "Unpacked<Int32>"),
+    (1000, MESSAGE, "", "Embedded<A>"),
+    (1000, MESSAGE, "message_encoding: 2", "Group<A>"),
+    (1000, 'type: 14 type_name: ".E"', "", "Optional<Enum<E>>"),
+    (1001, INT, "", "edition.proto: no syntax or edition that is known"),
+]
+# A schema, further parameters, and parts of the code that is written.
+CHOICES = [
+    ("proto3", TYPE + "service S { rpc Get(A) returns (A); }", ",services=skip",
+     ["1 => x: Implicit<Int32>,"]),
+    ("proto2", "message A { required int32 x = 1; optional bytes y = 2 [default = 'a']; }",
+     ",required=optional,defaults=skip,laws=skip",
+     ["1 => x: Optional<Int32>,", "2 => y: Optional<Blob>,"]),
+    ("proto3", "enum E { option allow_alias = true; LOW = 0; Least = 0; HIGH = 1; }" + TYPE, "",
+     ["pub enum E {\n    Low = 0,\n    High = 1,\n}", "pub const LEAST: E = E::Low;"]),
+    ("proto3", 'import "google/protobuf/duration.proto";'
+     "message A { google.protobuf.Duration x = 1; }",
+     ",import=google/protobuf/duration.proto=wire_well_known",
+     ["use wire_well_known::Duration;", "chosen: wire_codec wire_fields wire_well_known bytes"]),
+    ("proto3", TYPE + "message B { repeated A a = 1; repeated string b = 2; "
+     "map<string, string> c = 3; }", ",element=100",
+     ["EachEmbedded<A, 100>", "Repeated<Text, 100>", "Map<Text, Always<Text>, 100>"]),
+    ("proto2", "enum E { B = 0; } message A { oneof o { E x = 1; } map<int32, E> y = 2; }",
+     ",enums=open", ["X(EnumValue<E>)", "Map<Int32, Always<Enum<E>>, 64>"]),
+    ("proto2", "enum E { B = 0; } message A { oneof o { E x = 1; int32 y = 2; } }", "",
+     ["1 [set_or_keep_x] | 2 => o: AOKind,", "pub(crate) fn set_or_keep_x<"]),
+    ("proto3", "message A { map<int32, B> x = 1; B z = 2; } "
+     "message B { repeated A x = 1; A y = 2; }", ",encoded=A.x,encoded=A.z",
+     ["Map<Int32, Always<Blob>, 64>", "2 => z: Optional<Blob>,", "EachEmbedded<A", "Embedded<A>"]),
+    ("proto2", "message A { optional string a = 1; repeated string b = 2; "
+     "map<string, string> c = 3; oneof o { string d = 4; } }", ",strings=bytes",
+     ["Optional<Blob>", "Repeated<Blob, 24>", "Map<Text, Always<Blob>, 64>", "D(Vec<u8>)"]),
+    ("proto2", "message A { optional string a = 1; }", "", ["Optional<Text>"]),
+    ("proto3", "message A { string a = 1; }", ",strings=bytes", ["Implicit<Text>"]),
+    # Names that the code has for type parameters, and comments with what documentation can't have.
+    ("proto2", "enum B { LOW = 0; } message S { optional B b = 1; } "
+     "message A { optional S s = 1; }", "",
+     ["pub enum B_ {", "pub struct S_ {", "pub b: Option<EnumValue<B_>>,", "Embedded<S_>"]),
+    ("proto3", "message A { oneof o { int32 b = 1; string s = 2; } }", "",
+     ["    B(i32),\n    S(String),\n"]),
+    ("proto3", "\n\n// a\tb\u2028c\u202ed\u200f\x01e\r\n// f\t\r\n" + TYPE, "",
+     ["/// a    b cde\n/// f\n#[derive"]),
+]
