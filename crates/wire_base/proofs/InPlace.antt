@@ -8,8 +8,8 @@ use Rattle.std.proofs.Common.{add-one, drop-cons, take, take-append-drop}
 use Rattle.wire_base.proofs.ReadLaws.{Reads-inside}
 use Rattle.wire_base.specs.InPlace.{HoldsVarint}
 use Rattle.wire_base.specs.declared.error.DecodeError.{DecodeError}
-use Rattle.wire_base.specs.declared.error.DecodeError.TheVariants.{UnexpectedEof, VarintTooLong}
-use Rattle.wire_base.specs.Varint.{AllContinue, IsSpelling, VarintFault, cut_short, too_long}
+use Rattle.wire_base.specs.declared.error.DecodeError.TheVariants.{VarintTooLong}
+use Rattle.wire_base.specs.Varint.{AllContinue, IsSpelling, VarintFault, too_long}
 use Rattle.wire_base.specs.Read.{Reads}
 use Rattle.wire_base.proofs.Varints.{ReadSoFar, ReadSoFar-none, ReadSoFar-more, ReadSoFar-ends, ReadSoFar-fits}
 use Rattle.wire_base.proofs.Varints.{digit_below, varint_value-below, ReadSoFar-tenth}
@@ -222,26 +222,3 @@ two_bytes chunk a b there first second high low = record {
 no_more : (bytes : List ℕ) → length bytes ≤ 0 → bytes ≡ []
 no_more [] few = refl
 no_more (b ∷ bytes) few = absurd (omega (arith, few))
-
-pub fault_in_whole : (chunk unread : List ℕ) (e : DecodeError)
-    → take (length chunk) unread ≡ chunk → length unread ≤ length chunk
-    → VarintFault chunk e → VarintFault unread e
-fault_in_whole chunk unread e front all fault =
-    let parts = chunk_first chunk unread front in
-    let rest = no_more (drop (length chunk) unread)
-    (omega (arith, all, ap length parts, length-append chunk (drop (length chunk) unread))) in
-    subst (λ (t : List ℕ). VarintFault t e)
-    (sym (parts ∙ ap (λ (t : List ℕ). chunk ++ t) rest ∙ append-nil chunk)) fault
-
--- fewer than ten bytes that begin with no varint are cut short, and others are too long
-pub cut_if_few : (bytes : List ℕ) (e : DecodeError) → VarintFault bytes e → length bytes < 10
-    → VarintFault bytes UnexpectedEof
-cut_if_few bytes e (cut_short all short) few = cut_short all short
-cut_if_few bytes e (too_long front tenth rest parts all nine big) few =
-    absurd (omega (arith, ap length parts, length-append front (tenth ∷ rest), nine, few))
-
-pub long_if_many : (bytes : List ℕ) (e : DecodeError) → VarintFault bytes e → 10 ≤ length bytes
-    → VarintFault bytes VarintTooLong
-long_if_many bytes e (cut_short all short) many = absurd (omega (arith, short, many))
-long_if_many bytes e (too_long front tenth rest parts all nine big) many =
-    too_long front tenth rest parts all nine big

@@ -6,13 +6,13 @@ use Rattle.std.proofs.Math.Seq.{set-append_seam}
 use Rattle.std.specs.Prelude.{slice_set, true, false, ◌==◌}
 use Rattle.std.proofs.lemmas.Bool.Decides.{eqb_tells}
 use Rattle.wire_codec.specs.Laws.{JoinedAddsUp}
-use Rattle.wire_codec.specs.Records.{Records, none, field, embedded, group, joined_records}
+use Rattle.wire_codec.specs.Records.{Records, none, field, embedded, joined_records}
 use Rattle.wire_codec.specs.Records.{text_size, text}
 use Rattle.wire_codec.specs.Sizes.{sizes, cut, cut_sizes}
 use Rattle.wire_codec.specs.Tag.{tag_text}
 use Rattle.wire_codec.specs.Tape.{Tape, recorded}
 use Rattle.wire_codec.specs.Varint.{shortest_varint}
-use Rattle.wire_codec.specs.WireType.TheVariants.{LengthDelimited, StartGroup, EndGroup}
+use Rattle.wire_codec.specs.WireType.TheVariants.{LengthDelimited}
 use Rattle.wire_fields.specs.Messages.{Encoding, message_each}
 use Rattle.wire_fields.specs.Numbers.{in_64_bits, delimited_size}
 use Rattle.wire_fields.specs.Measuring.{Measures}
@@ -92,15 +92,6 @@ no_messages encoding records view n (m ∷ ms) empty = elim (eqb_tells (length (
     true_false : true ≡ false → ⊥
     true_false e = cc
 
-pub no_messages_measured : {T V : Type 0} (encoding : Encoding) (records : V → Records)
-    (view : T → V) (n : ℕ) (ms : List T) (t : Tape) → (length ms == 0) ≡ true
-    → Measures (message_each encoding records n (map view ms)) t t 0
-no_messages_measured encoding records view n ms t empty =
-    rw (no_messages encoding records view n ms empty) (record {
-      size = refl;
-      sizes = nothing_recorded t;
-    })
-
 -- the slot is set after the sizes inside are recorded
 slot_set : (t : Tape) (slot len : ℕ) (inner : List ℕ) → slot ≡ length t.sizes
     → slice_set (recorded (recorded t (0 ∷ [])) inner).sizes slot len ≡ t.sizes ++ len ∷ inner
@@ -146,27 +137,3 @@ embedded_measured n slot len wide total rs t reserved inside set is_slot is_rese
           (ap (λ (k : ℕ). k ∷ cut_sizes rs) cuts
           ∙ ap (λ (ns : List ℕ). cut (text_size rs) ∷ map cut ns) (sym (append-nil (sizes rs)))));
     }
-
--- each of the tags takes one byte
-group_text_size : (rs : Records) → text_size (field 4 (group rs) none) ≡ text_size rs + 2
-unfolding shortest_varint
-group_text_size rs =
-    let first : length (tag_text 4 StartGroup) ≡ 1 = refl in
-    let end : length (tag_text 4 EndGroup) ≡ 1 = refl in
-    omega (
-      arith,
-      first,
-      end,
-      length-append (tag_text 4 StartGroup) ((text rs ++ tag_text 4 EndGroup) ++ []),
-      length-append (text rs ++ tag_text 4 EndGroup) [],
-      length-append (text rs) (tag_text 4 EndGroup),
-    )
-
-pub group_measured : (len total : ℕ) (rs : Records) (t inside : Tape) → len ≡ cut (text_size rs)
-    → inside ≡ recorded t (cut_sizes rs) → total ≡ len + 2
-    → Measures (field 4 (group rs) none) t inside total
-group_measured len total rs t inside cuts is_inside is_total = record {
-  size = omega (arith, cuts, is_total, group_text_size rs);
-  sizes = is_inside
-      ∙ ap (λ (ns : List ℕ). recorded t (map cut ns)) (sym (append-nil (sizes rs)));
-}

@@ -1,15 +1,12 @@
 -- Texts of numbers, one after another: as they are written, and as they are read.
 use Rattle.std.proofs.Common.{◌≡◌, ℕ, suc, zero, ◌+◌, ◌-◌, ◌^◌, ◌<◌, ◌≤◌, min, List, [], ◌∷◌, ◌++◌, take, length, get_or, drop, refl, sym, ap, ◌∙◌, subst, append_assoc, add-one, arith, drop-cons, length-append}
 use Rattle.std.proofs.lemmas.List.{append-nil, drop_all, map-append}
-use Rattle.std.specs.Int.{w32, w64}
 use Rattle.std.specs.Prelude.{false, ◌==◌, map}
-use Rattle.wire_codec.specs.Fixed.{IsFixed}
 use Rattle.wire_codec.specs.Packed.{SpellsEach, Appends}
 use Rattle.wire_codec.specs.Read.{Reads}
-use Rattle.wire_codec.specs.Reading.{ReadsValue}
 use Rattle.wire_codec.specs.Records.{text, text_size}
 use Rattle.wire_codec.specs.Tag.{tag_text}
-use Rattle.wire_codec.specs.ValueMap.{ValueMap, fixed32, fixed64}
+use Rattle.wire_codec.specs.ValueMap.{ValueMap}
 use Rattle.wire_codec.specs.Varint.{shortest_varint}
 use Rattle.wire_codec.specs.WireType.TheVariants.{LengthDelimited}
 use Rattle.wire_fields.specs.declared.form.Form.{Form}
@@ -107,24 +104,6 @@ module _ {T : Type 0} (form : Form) (values : ValueMap T) where
       some_parts n len v vs (omega (arith, is, small, within_field n (v ∷ vs)))
 
 -- ---- read
-
-pub fixed64_text : (old new : List ℕ) (x : ℕ) → ReadsValue (IsFixed w64) fixed64 old x new
-    → Reads old (IsFixed w64 x) new
-fixed64_text old new x h = rw h.is h.read
-
-pub fixed32_text : (old new : List ℕ) (x : ℕ) → ReadsValue (IsFixed w32) fixed32 old x new
-    → Reads old (IsFixed w32 x) new
-fixed32_text old new x h = rw h.is h.read
-
-pub no_fixed64 : (old : List ℕ) → length old < 8 → (x : ℕ) (new : List ℕ)
-    → Reads old (IsFixed w64 x) new → ⊥
-no_fixed64 old short x new h =
-    omega (arith, ap length h.parts, length-append h.text new, h.spelled.0, short)
-
-pub no_fixed32 : (old : List ℕ) → length old < 4 → (x : ℕ) (new : List ℕ)
-    → Reads old (IsFixed w32 x) new → ⊥
-no_fixed32 old short x new h =
-    omega (arith, ap length h.parts, length-append h.text new, h.spelled.0, short)
 
 -- the same form by another name
 pub in_form : {old new : List ℕ} {f k : Form} (x : ℕ) → f ≡ k → Reads old (IsNumberText f x) new

@@ -121,27 +121,6 @@ module _ (n len : ℕ) (rs : Records) (t u : Tape)
   pub read_size : len ≡ text_size rs
   read_size = let e = both in cc
 
-  pub inner_next : NextAre (sizes rs) u
-  inner_next =
-      let e = both in
-      let behind : unread_of u ≡ (sizes rs ++ []) ++ next.rest = cc in
-      record {
-        rest = next.rest;
-        parts = behind ∙ ap (λ (ns : List ℕ). ns ++ next.rest) (append-nil (sizes rs));
-      }
-
-pub inner_small : (n : ℕ) (rs : Records) → text_size (field n (embedded rs) none) ≤ 2147483647
-    → text_size rs ≤ 2147483647
-inner_small n rs small =
-    let tag = tag_text n LengthDelimited in
-    let len = shortest_varint (text_size rs) in
-    omega (
-      arith,
-      length-append tag ((len ++ text rs) ++ []),
-      length-append (len ++ text rs) [],
-      length-append len (text rs),
-    )
-
 pub group_parts : (n : ℕ) (rs : Records) → text (field n (group rs) none)
     ≡ tag_text n StartGroup ++ (text rs ++ tag_text n EndGroup)
 group_parts n rs =

@@ -35,11 +35,6 @@ long_behind bytes more e (too_long front tenth rest parts all nine last) is =
     too_long front tenth (rest ++ more)
     (ap (λ (t : List ℕ). t ++ more) parts ∙ append_assoc front (tenth ∷ rest) more) all nine last
 
-cut_is_short : (bytes : List ℕ) (e : DecodeError) → VarintFault bytes e → e ≡ UnexpectedEof
-    → length bytes < 10
-cut_is_short bytes e (cut_short all few) is = few
-cut_is_short bytes e (too_long front tenth rest parts all nine last) is = absurd cc
-
 -- ---- flags
 
 flag_is_small : (c : Bool) → flag_of c ≤ 1
@@ -236,10 +231,6 @@ pub prefix_is_some : (form : Framing) (c : Bool) (len : ℕ) (text : List ℕ)
 prefix_is_some Delimited c len [] h = absurd h.1.ended
 prefix_is_some Delimited c len (b ∷ text) h = omega arith
 prefix_is_some Grpc c len text h = omega (arith, ap length h.parts)
-
-pub begun_is_short : (form : Framing) (bytes : List ℕ) → IsBegun form bytes → length bytes < 10
-begun_is_short Delimited bytes begun = cut_is_short bytes UnexpectedEof begun refl
-begun_is_short Grpc bytes begun = omega (arith, begun.0)
 
 pub nothing_is_begun : (form : Framing) → IsBegun form []
 nothing_is_begun Delimited = cut_short tt (omega arith)

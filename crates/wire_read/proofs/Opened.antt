@@ -163,11 +163,6 @@ items-more (g ∷ outside) fs n p =
     append_assoc (items_open outside g.before) (start g.number ∷ items_of fs) (payload_items n p)
     ∙ ap (λ is. items_open outside g.before ++ start g.number ∷ is) (sym (items_of-push fs n p))
 
-pub items-opened : (levels : List Group) (fs : Fields) (n : ℕ)
-    → items_open levels fs ++ start n ∷ []
-    ≡ items_open (record { before = fs; number = n } ∷ levels) none
-items-opened levels fs n = refl
-
 pub items-closed : (g : Group) (outside : List Group) (fs : Fields)
     → items_open (g ∷ outside) fs ++ end g.number ∷ []
     ≡ items_open outside (push g.before g.number (group fs))
