@@ -112,6 +112,48 @@ pub trait EncodeSink {
         self.put_slice(bytes)
     }
 
+    /// Appends the shortest varint of a number, as a tag, and four bytes, the lowest first: one put
+    /// where the varint is a byte. Refused where a byte of the varint is, or the four are, and then
+    /// leaves what stands before.
+    #[inline(always)]
+    fn put_fixed32(&mut self, first: u64, value: u32) -> Result<(), EncodeError>
+        ensures ok { OnOk result (bytes_of self.new
+            ≡ bytes_of self.old ++ (shortest_varint first ++ to_le_bytes w32 value)) }
+        ensures err { OnErr result (KeepsFront (bytes_of self.old)
+            (shortest_varint first ++ to_le_bytes w32 value) (bytes_of self.new)) }
+        ensures cause { WriteAnswers most (bytes_of self.old)
+            (shortest_varint first ++ to_le_bytes w32 value) result }
+    {
+        laws::two_parts();
+        laws::put_is_a_write();
+        if first < 0x80 {
+            return self.put_slice(&tagged_fixed32(first as u8, value));
+        }
+        self.put_varint(first)?;
+        self.put_u32_le(value)
+    }
+
+    /// Appends the shortest varint of a number, as a tag, and eight bytes, the lowest first: one
+    /// put where the varint is a byte. Refused where a byte of the varint is, or the eight are, and
+    /// then leaves what stands before.
+    #[inline(always)]
+    fn put_fixed64(&mut self, first: u64, value: u64) -> Result<(), EncodeError>
+        ensures ok { OnOk result (bytes_of self.new
+            ≡ bytes_of self.old ++ (shortest_varint first ++ to_le_bytes w64 value)) }
+        ensures err { OnErr result (KeepsFront (bytes_of self.old)
+            (shortest_varint first ++ to_le_bytes w64 value) (bytes_of self.new)) }
+        ensures cause { WriteAnswers most (bytes_of self.old)
+            (shortest_varint first ++ to_le_bytes w64 value) result }
+    {
+        laws::two_parts();
+        laws::put_is_a_write();
+        if first < 0x80 {
+            return self.put_slice(&tagged_fixed64(first as u8, value));
+        }
+        self.put_varint(first)?;
+        self.put_u64_le(value)
+    }
+
     /// The bytes may be kept as they are, with no copy. They are given up where the put is refused.
     fn put_shared(&mut self, bytes: Bytes) -> Result<(), EncodeError>
         ensures { Puts most bytes (bytes_of self.old) (bytes_of self.new) result }
@@ -178,6 +220,26 @@ impl EncodeSink for Vec<u8> {
         push_delimited(first, bytes, self)?;
         Ok(())
     }
+}
+
+// A varint of one byte, and four bytes behind it, the lowest first.
+#[inline(always)]
+fn tagged_fixed32(tag: u8, value: u32) -> [u8; 5]
+    requires { tag < 128 }
+    ensures { result ≡ shortest_varint tag ++ to_le_bytes w32 value }
+{
+    let [a, b, c, d] = value.to_le_bytes();
+    [tag, a, b, c, d]
+}
+
+// A varint of one byte, and eight bytes behind it, the lowest first.
+#[inline(always)]
+fn tagged_fixed64(tag: u8, value: u64) -> [u8; 9]
+    requires { tag < 128 }
+    ensures { result ≡ shortest_varint tag ++ to_le_bytes w64 value }
+{
+    let [a, b, c, d, e, f, g, h] = value.to_le_bytes();
+    [tag, a, b, c, d, e, f, g, h]
 }
 
 // How many bytes a varint has at most.

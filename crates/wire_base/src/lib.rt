@@ -31,7 +31,7 @@ pub use rope::{DEFAULT_MIN_SEGMENT, Rope, RopeBuf};
 pub use skip::{skip_field, skip_field_depth};
 pub use tag::{
     FIRST_RESERVED_FIELD_NUMBER, LAST_RESERVED_FIELD_NUMBER, MAX_FIELD_NUMBER, Tag, WireType,
-    check_wire_type, wire_type_mismatch,
+    check_wire_type, tag_as_number, tag_len, wire_type_mismatch,
 };
 pub use unknown_fields::{UnknownField, UnknownFieldData, UnknownFields, decode_unknown_field};
 pub use unknown_fields_view::UnknownFieldsView;

@@ -11,7 +11,8 @@ mod check;
 mod put;
 
 pub use check::{check_wire_type, wire_type_mismatch};
-pub(crate) use put::{put_fixed32, put_fixed64, put_tag, tag_as_number, tag_len};
+pub(crate) use put::put_tag;
+pub use put::{tag_as_number, tag_len};
 
 /// The greatest field number.
 pub const MAX_FIELD_NUMBER: u32 = (1 << 29) - 1;

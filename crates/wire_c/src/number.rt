@@ -3,6 +3,8 @@ ghost use Rattle.std.specs.Prelude.{◌≡◌, length};
 ghost use Rattle.wire_base.specs.Varint.{shortest_varint};
 ghost use Rattle.wire_scalar.specs.ValueMap.{zigzag, unzigzag};
 
+use wire_codec::scalar::{Sint64, VarintScalar};
+
 /// The version of the calls: a change that breaks a caller changes it.
 #[unsafe(no_mangle)]
 pub extern "C" fn gtv_version() -> u32
@@ -24,11 +26,7 @@ pub extern "C" fn gtv_varint_len(value: u64) -> usize
 pub extern "C" fn gtv_zigzag(value: i64) -> u64
     ensures { result ≡ zigzag value }
 {
-    if value >= 0 {
-        2 * (value as u64)
-    } else {
-        2 * (value.unsigned_abs() - 1) + 1
-    }
+    Sint64::number_of(value)
 }
 
 /// The value of type `sint64` that a number stands for.
@@ -36,6 +34,5 @@ pub extern "C" fn gtv_zigzag(value: i64) -> u64
 pub extern "C" fn gtv_unzigzag(number: u64) -> i64
     ensures { result ≡ unzigzag number }
 {
-    let half = (number / 2) as i64;
-    if number % 2 == 0 { half } else { -half - 1 }
+    Sint64::value_of(number)
 }

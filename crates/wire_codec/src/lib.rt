@@ -30,10 +30,11 @@ pub use wire_base::{
     RECURSION_LIMIT, Rope, RopeBuf, Tag, UnknownField, UnknownFieldData, UnknownFields,
     UnknownFieldsView, UnknownSpanCharge, WireType, check_wire_type, copy_bytes, count_varints,
     decode_length, decode_unknown_field, decode_varint, encode_varint, register_unknown_record,
-    skip_field, skip_field_depth, take_bytes, varint_len, wire_type_mismatch,
+    skip_field, skip_field_depth, tag_as_number, tag_len, take_bytes, varint_len,
+    wire_type_mismatch,
 };
 
-// Scalars, packed lists of them, and borrowed groups.
+// Scalars, the numbers of the varint types, packed lists of them, and borrowed groups.
 pub use wire_scalar::{
     BOOL_ENCODED_LEN, FIXED32_ENCODED_LEN, FIXED64_ENCODED_LEN, borrow_group, decode_bool,
     decode_bool_packed, decode_fixed32, decode_fixed64, decode_int32, decode_int32_packed,
@@ -47,7 +48,7 @@ pub use wire_scalar::{
     int32_encoded_len, int64_encoded_len, put_bool_field, put_fixed32_field, put_fixed64_field,
     put_group_end, put_group_start, put_int32_field, put_int64_field, put_len_delimited_header,
     put_sfixed32_field, put_sfixed64_field, put_sint32_field, put_sint64_field, put_uint32_field,
-    put_uint64_field, sint32_encoded_len, sint64_encoded_len, uint32_encoded_len,
+    put_uint64_field, scalar, sint32_encoded_len, sint64_encoded_len, uint32_encoded_len,
     uint64_encoded_len,
 };
 

@@ -12,11 +12,11 @@ ghost use Rattle.wire_fields.specs.Closed.{sets_known, adds_known, closes, close
 use crate::form::Form;
 use crate::kind::Kind;
 use crate::number::get_number;
-use crate::numbers::low_bits;
 use crate::packed::Packed;
 use crate::types::Uint64;
 use bytes::Buf;
 use std::alloc::Global;
+use wire_codec::scalar::{Int32, VarintScalar};
 use wire_codec::{
     DecodeContext, DecodeError, EnumValue, Enumeration, Tag, UnknownField, UnknownFieldData,
     UnknownFields, laws,
@@ -45,7 +45,7 @@ pub fn merge_closed<E: Enumeration, B: Buf>(
 {
     laws::records_in_order();
     let x = get_number(tag, Form::Varint, buf)?;
-    match E::from_i32(low_bits(x).cast_signed()) {
+    match E::from_i32(Int32::value_of(x)) {
         Some(value) => {
             *held = Some(EnumValue::Known(value));
             Ok(())
@@ -128,7 +128,7 @@ fn sort_number<E: Enumeration>(
 {
     laws::grammar::limits_add_up();
     laws::levels_and_counts();
-    match E::from_i32(low_bits(x).cast_signed()) {
+    match E::from_i32(Int32::value_of(x)) {
         Some(value) => held
             .push(EnumValue::Known(value))
             .map_err(|_| DecodeError::OutOfMemory),

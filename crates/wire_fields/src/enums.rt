@@ -1,8 +1,8 @@
 //! Open enums. See "Bools and Enums" of the encoding document.
 use crate::form::Form;
 use crate::number::Number;
-use crate::numbers::low_bits;
 use std::marker::PhantomData;
+use wire_codec::scalar::{Int32, VarintScalar};
 use wire_codec::{EnumValue, Enumeration};
 
 /// An open enum as a number: a varint, as an `int32`. A number that the enum does not know is kept.
@@ -25,10 +25,10 @@ impl<E: Enumeration> Number for Open<E> {
     }
 
     fn number_of(value: EnumValue<E>) -> u64 {
-        i64::from(value.to_i32()).cast_unsigned()
+        Int32::number_of(value.to_i32())
     }
 
     fn value_of(number: u64) -> EnumValue<E> {
-        EnumValue::from(low_bits(number).cast_signed())
+        EnumValue::from(Int32::value_of(number))
     }
 }

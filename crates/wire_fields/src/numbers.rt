@@ -1,48 +1,22 @@
 //! The numbers of the format and `bool`. See "Base 128 Varints", "Bools and Enums", "Signed Integers"
 //! and "Non-varint Numbers" of the encoding document.
-ghost use Rattle.std.specs.Prelude.{◌≡◌, ◌%◌, ◌^◌};
-ghost use Rattle.wire_codec.specs.ValueMap.{zigzag, unzigzag};
 
 use crate::form::Form;
 use crate::number::Number;
+use std::marker::PhantomData;
+use wire_codec::scalar::VarintScalar;
 
-/// The type `int32`: a varint. A negative value takes ten bytes; a number of more than 32 bits is
-/// read by its low 32.
-pub struct Int32;
-
-impl Number for Int32 {
-    ghost use Rattle.wire_codec.specs.ValueMap.{int32};
-    ghost use Rattle.wire_fields.specs.declared.form.Form.TheVariants.{Varint};
-
-    type Value = i32;
-
-    ghost map = { int32 };
-
-    ghost form = { Varint };
-
-    fn form() -> Form {
-        Form::Varint
-    }
-
-    fn number_of(value: i32) -> u64 {
-        i64::from(value).cast_unsigned()
-    }
-
-    fn value_of(number: u64) -> i32 {
-        low_bits(number).cast_signed()
-    }
+/// A scalar type that stands on the wire as a varint, as a number.
+pub struct Varints<T: VarintScalar> {
+    values: PhantomData<T>,
 }
 
-/// The type `int64`: a varint. A negative value takes ten bytes.
-pub struct Int64;
-
-impl Number for Int64 {
-    ghost use Rattle.wire_codec.specs.ValueMap.{int64};
+impl<T: VarintScalar> Number for Varints<T> {
     ghost use Rattle.wire_fields.specs.declared.form.Form.TheVariants.{Varint};
 
-    type Value = i64;
+    type Value = T::Value;
 
-    ghost map = { int64 };
+    ghost map = { T.map };
 
     ghost form = { Varint };
 
@@ -50,142 +24,12 @@ impl Number for Int64 {
         Form::Varint
     }
 
-    fn number_of(value: i64) -> u64 {
-        value.cast_unsigned()
+    fn number_of(value: T::Value) -> u64 {
+        T::number_of(value)
     }
 
-    fn value_of(number: u64) -> i64 {
-        number.cast_signed()
-    }
-}
-
-/// The type `uint32`: a varint. A number of more than 32 bits is read by its low 32.
-pub struct Uint32;
-
-impl Number for Uint32 {
-    ghost use Rattle.wire_codec.specs.ValueMap.{uint32};
-    ghost use Rattle.wire_fields.specs.declared.form.Form.TheVariants.{Varint};
-
-    type Value = u32;
-
-    ghost map = { uint32 };
-
-    ghost form = { Varint };
-
-    fn form() -> Form {
-        Form::Varint
-    }
-
-    fn number_of(value: u32) -> u64 {
-        u64::from(value)
-    }
-
-    fn value_of(number: u64) -> u32 {
-        low_bits(number)
-    }
-}
-
-/// The type `uint64`: a varint.
-pub struct Uint64;
-
-impl Number for Uint64 {
-    ghost use Rattle.wire_codec.specs.ValueMap.{uint64};
-    ghost use Rattle.wire_fields.specs.declared.form.Form.TheVariants.{Varint};
-
-    type Value = u64;
-
-    ghost map = { uint64 };
-
-    ghost form = { Varint };
-
-    fn form() -> Form {
-        Form::Varint
-    }
-
-    fn number_of(value: u64) -> u64 {
-        value
-    }
-
-    fn value_of(number: u64) -> u64 {
-        number
-    }
-}
-
-/// The type `sint32`: a varint. A number of more than 32 bits is read by its low 32.
-pub struct Sint32;
-
-impl Number for Sint32 {
-    ghost use Rattle.wire_codec.specs.ValueMap.{sint32};
-    ghost use Rattle.wire_fields.specs.declared.form.Form.TheVariants.{Varint};
-
-    type Value = i32;
-
-    ghost map = { sint32 };
-
-    ghost form = { Varint };
-
-    fn form() -> Form {
-        Form::Varint
-    }
-
-    fn number_of(value: i32) -> u64 {
-        to_zigzag(i64::from(value))
-    }
-
-    fn value_of(number: u64) -> i32 {
-        from_zigzag(u64::from(low_bits(number))) as i32
-    }
-}
-
-/// The type `sint64`: a varint.
-pub struct Sint64;
-
-impl Number for Sint64 {
-    ghost use Rattle.wire_codec.specs.ValueMap.{sint64};
-    ghost use Rattle.wire_fields.specs.declared.form.Form.TheVariants.{Varint};
-
-    type Value = i64;
-
-    ghost map = { sint64 };
-
-    ghost form = { Varint };
-
-    fn form() -> Form {
-        Form::Varint
-    }
-
-    fn number_of(value: i64) -> u64 {
-        to_zigzag(value)
-    }
-
-    fn value_of(number: u64) -> i64 {
-        from_zigzag(number)
-    }
-}
-
-/// The type `bool`: a varint. Each number but 0 is read as true.
-pub struct Bool;
-
-impl Number for Bool {
-    ghost use Rattle.wire_codec.specs.ValueMap.{bool};
-    ghost use Rattle.wire_fields.specs.declared.form.Form.TheVariants.{Varint};
-
-    type Value = bool;
-
-    ghost map = { bool };
-
-    ghost form = { Varint };
-
-    fn form() -> Form {
-        Form::Varint
-    }
-
-    fn number_of(value: bool) -> u64 {
-        u64::from(value)
-    }
-
-    fn value_of(number: u64) -> bool {
-        number != 0
+    fn value_of(number: u64) -> T::Value {
+        T::value_of(number)
     }
 }
 
@@ -291,30 +135,4 @@ impl Number for Sfixed64 {
     fn value_of(number: u64) -> i64 {
         number.cast_signed()
     }
-}
-
-// The low 32 bits of a number.
-pub(crate) fn low_bits(number: u64) -> u32
-    ensures { result ≡ number % 2 ^ 32 }
-{
-    (number % (1 << 32)) as u32
-}
-
-// Numbers of small magnitude, of either sign, as small numbers: 0, -1, 1, -2, 2 ..
-fn to_zigzag(value: i64) -> u64
-    ensures { result ≡ zigzag value }
-{
-    if value >= 0 {
-        2 * (value as u64)
-    } else {
-        2 * (value.unsigned_abs() - 1) + 1
-    }
-}
-
-// The number that `to_zigzag` maps to this one.
-fn from_zigzag(number: u64) -> i64
-    ensures { result ≡ unzigzag number }
-{
-    let half = (number / 2) as i64;
-    if number % 2 == 0 { half } else { -half - 1 }
 }

@@ -3,4 +3,3 @@ pub mod Counting
 pub mod FixedTexts
 pub mod PackedLaws
 pub mod Packing
-pub mod Tagging

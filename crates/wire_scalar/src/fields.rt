@@ -1,18 +1,16 @@
 //! Fields written one by one: a tag and its payload.
-ghost use Rattle.std.specs.Prelude.{◌≡◌, ◌<◌, ◌++◌};
-ghost use Rattle.std.specs.Int.{w32, w64, to_le_bytes};
+ghost use Rattle.std.specs.Prelude.{◌++◌};
 ghost use Rattle.wire_base.specs.declared.tag.WireType.TheVariants.{LengthDelimited, StartGroup, EndGroup};
 ghost use Rattle.wire_base.specs.Field.{varint, fixed32 as four_bytes, fixed64 as eight_bytes};
 ghost use Rattle.wire_base.specs.FieldNumber.{IsFieldNumber};
 ghost use Rattle.wire_base.specs.Sink.{Writes};
-ghost use Rattle.wire_base.specs.Tag.{tag_text, tag_value};
+ghost use Rattle.wire_base.specs.Tag.{tag_text};
 ghost use Rattle.wire_base.specs.Text.{record_text};
 ghost use Rattle.wire_base.specs.Varint.{shortest_varint};
 ghost use Rattle.wire_scalar.specs.ValueMap.{int32, int64, uint32, uint64, sint32, sint64, bool, fixed32, fixed64, sfixed32, sfixed64};
 
-use crate::fixed::{encode_fixed32, encode_fixed64};
 use crate::scalar::{Bool, Int32, Int64, Sint32, Sint64, Uint32, Uint64, VarintScalar};
-use wire_base::{EncodeError, EncodeSink, Tag, WireType, laws};
+use wire_base::{EncodeError, EncodeSink, Tag, WireType, tag_as_number};
 
 /// Writes a field of type `int32`, of a number from 1 to `MAX_FIELD_NUMBER`: its tag, and the value
 /// as `encode_int32` does. Refused where the sink refuses a put.
@@ -131,14 +129,7 @@ pub fn put_fixed32_field<S: EncodeSink>(
     ensures { Writes S.most (record_text number (four_bytes (fixed32.enc value)))
         (S.bytes_of sink.old) (S.bytes_of sink.new) result }
 {
-    laws::two_parts();
-    laws::put_is_a_write();
-    let tag = tag_as_number(number, WireType::Fixed32);
-    if tag < 0x80 {
-        return sink.put_slice(&tagged_fixed32(tag as u8, value));
-    }
-    Tag::new(number, WireType::Fixed32).encode(sink)?;
-    encode_fixed32(value, sink)
+    sink.put_fixed32(tag_as_number(number, WireType::Fixed32), value)
 }
 
 /// Writes a field of type `fixed64`, of a number from 1 to `MAX_FIELD_NUMBER`: its tag, and the
@@ -153,14 +144,7 @@ pub fn put_fixed64_field<S: EncodeSink>(
     ensures { Writes S.most (record_text number (eight_bytes (fixed64.enc value)))
         (S.bytes_of sink.old) (S.bytes_of sink.new) result }
 {
-    laws::two_parts();
-    laws::put_is_a_write();
-    let tag = tag_as_number(number, WireType::Fixed64);
-    if tag < 0x80 {
-        return sink.put_slice(&tagged_fixed64(tag as u8, value));
-    }
-    Tag::new(number, WireType::Fixed64).encode(sink)?;
-    encode_fixed64(value, sink)
+    sink.put_fixed64(tag_as_number(number, WireType::Fixed64), value)
 }
 
 /// Writes a field of type `sfixed32`, of a number from 1 to `MAX_FIELD_NUMBER`: its tag, and the
@@ -244,32 +228,4 @@ fn put_varint<S: EncodeSink>(
         (S.bytes_of sink.old) (S.bytes_of sink.new) result }
 {
     sink.put_varints(tag_as_number(number, wire_type), value)
-}
-
-// A field number and a wire type as one number.
-#[inline(always)]
-fn tag_as_number(number: u32, wire_type: WireType) -> u64
-    ensures { result ≡ tag_value number wire_type }
-{
-    8 * u64::from(number) + wire_type as u64
-}
-
-// A tag of one byte, and four bytes behind it, the lowest first.
-#[inline(always)]
-fn tagged_fixed32(tag: u8, value: u32) -> [u8; 5]
-    requires { tag < 128 }
-    ensures { result ≡ shortest_varint tag ++ to_le_bytes w32 value }
-{
-    let [a, b, c, d] = value.to_le_bytes();
-    [tag, a, b, c, d]
-}
-
-// A tag of one byte, and eight bytes behind it, the lowest first.
-#[inline(always)]
-fn tagged_fixed64(tag: u8, value: u64) -> [u8; 9]
-    requires { tag < 128 }
-    ensures { result ≡ shortest_varint tag ++ to_le_bytes w64 value }
-{
-    let [a, b, c, d, e, f, g, h] = value.to_le_bytes();
-    [tag, a, b, c, d, e, f, g, h]
 }

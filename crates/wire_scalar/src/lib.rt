@@ -12,7 +12,7 @@ mod fixed;
 mod group;
 pub mod laws;
 mod packed;
-mod scalar;
+pub mod scalar;
 mod varints;
 
 pub use fields::{

@@ -1,11 +1,13 @@
-//! The scalar types that stand on the wire as varints.
+//! The scalar types that stand on the wire as varints, and the number of each of their values.
 ghost use Rattle.std.specs.Prelude.{◌≡◌, ◌%◌, ◌^◌};
 ghost use Rattle.wire_scalar.specs.ValueMap.{ValueMap, zigzag, unzigzag};
 
 /// How the values of a type stand on the wire as numbers.
-pub(crate) trait VarintScalar {
+pub trait VarintScalar {
+    /// What a program holds.
     type Value: Copy;
 
+    /// The number that is written for a value, and the value that is read from a number.
     ghost map: { ValueMap Self.Value };
 
     /// The number that is written for a value.
@@ -17,7 +19,8 @@ pub(crate) trait VarintScalar {
         ensures { result ≡ map.dec number };
 }
 
-pub(crate) struct Int32;
+/// The type `int32`. A negative value is a number of 64 bits; of a number the low 32 bits are read.
+pub struct Int32;
 
 impl VarintScalar for Int32 {
     ghost use Rattle.wire_scalar.specs.ValueMap.{int32};
@@ -35,7 +38,8 @@ impl VarintScalar for Int32 {
     }
 }
 
-pub(crate) struct Int64;
+/// The type `int64`. A negative value is its two's complement.
+pub struct Int64;
 
 impl VarintScalar for Int64 {
     ghost use Rattle.wire_scalar.specs.ValueMap.{int64};
@@ -53,7 +57,8 @@ impl VarintScalar for Int64 {
     }
 }
 
-pub(crate) struct Uint32;
+/// The type `uint32`. Of a number the low 32 bits are read.
+pub struct Uint32;
 
 impl VarintScalar for Uint32 {
     ghost use Rattle.wire_scalar.specs.ValueMap.{uint32};
@@ -71,7 +76,8 @@ impl VarintScalar for Uint32 {
     }
 }
 
-pub(crate) struct Uint64;
+/// The type `uint64`.
+pub struct Uint64;
 
 impl VarintScalar for Uint64 {
     ghost use Rattle.wire_scalar.specs.ValueMap.{uint64};
@@ -89,7 +95,8 @@ impl VarintScalar for Uint64 {
     }
 }
 
-pub(crate) struct Sint32;
+/// The type `sint32`, in zigzag order. Of a number the low 32 bits are read.
+pub struct Sint32;
 
 impl VarintScalar for Sint32 {
     ghost use Rattle.wire_scalar.specs.ValueMap.{sint32};
@@ -107,7 +114,8 @@ impl VarintScalar for Sint32 {
     }
 }
 
-pub(crate) struct Sint64;
+/// The type `sint64`, in zigzag order: 0, -1, 1, -2, 2 .. as 0, 1, 2, 3, 4 ..
+pub struct Sint64;
 
 impl VarintScalar for Sint64 {
     ghost use Rattle.wire_scalar.specs.ValueMap.{sint64};
@@ -125,7 +133,8 @@ impl VarintScalar for Sint64 {
     }
 }
 
-pub(crate) struct Bool;
+/// The type `bool`. Each number but 0 is read as true.
+pub struct Bool;
 
 impl VarintScalar for Bool {
     ghost use Rattle.wire_scalar.specs.ValueMap.{bool};

@@ -6,13 +6,12 @@ ghost use Rattle.wire_base.specs.Field.{varint, fixed32, fixed64, bytes};
 ghost use Rattle.wire_base.specs.FieldNumber.{IsFieldNumber};
 ghost use Rattle.wire_base.specs.Tag.{tag_text, tag_value};
 ghost use Rattle.wire_base.specs.Text.{record_text};
-ghost use Rattle.wire_scalar.specs.ValueMap.{sint64, zigzag};
+ghost use Rattle.wire_scalar.specs.ValueMap.{sint64};
 ghost use Rattle.wire_write.specs.Put.{HasPlace, Puts, PutFault};
 
-use crate::record::{
-    place_delimited, place_fixed32, place_fixed64, place_tag, place_varint, tag_len,
-};
-use wire_codec::{MAX_FIELD_NUMBER, WireType, varint_len};
+use crate::record::{place_delimited, place_fixed32, place_fixed64, place_tag, place_varint};
+use wire_codec::scalar::{Sint64, VarintScalar};
+use wire_codec::{MAX_FIELD_NUMBER, WireType, tag_len, varint_len};
 
 /// Why a record is not written.
 #[derive(Clone, Copy, Debug, PartialEq, Eq)]
@@ -46,7 +45,7 @@ pub fn put_sint(room: &mut [u8], place: usize, number: u32, value: i64) -> Resul
         place room.old) }
     ensures unchanged { OnErr result (room.new ≡ room.old) }
 {
-    put_varint(room, place, number, to_zigzag(value))
+    put_varint(room, place, number, Sint64::number_of(value))
 }
 
 /// Writes a record with four bytes, the lowest first, and answers the place behind it.
@@ -128,18 +127,6 @@ pub fn put_group_end(room: &mut [u8], place: usize, number: u32) -> Result<usize
 {
     check(number, tag_len(number, WireType::EndGroup), 0, place, room)?;
     Ok(place_tag(room, place, number, WireType::EndGroup))
-}
-
-// The number of a value of type `sint64`: 0, -1, 1, -2, 2 .. as 0, 1, 2, 3, 4 ..
-#[inline(always)]
-fn to_zigzag(value: i64) -> u64
-    ensures { result ≡ zigzag value }
-{
-    if value >= 0 {
-        2 * (value as u64)
-    } else {
-        2 * (value.unsigned_abs() - 1) + 1
-    }
 }
 
 // Whether a record of so many bytes and then so many may be written.

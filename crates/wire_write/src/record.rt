@@ -1,28 +1,12 @@
 //! Records at a place of a room that is large enough.
-ghost use Rattle.std.specs.Prelude.{◌≡◌, ◌+◌, ◌≤◌, length};
+ghost use Rattle.std.specs.Prelude.{◌+◌, ◌≤◌, length};
 ghost use Rattle.wire_base.specs.Field.{varint, fixed32, fixed64, bytes};
-ghost use Rattle.wire_base.specs.Tag.{tag_text, tag_value};
+ghost use Rattle.wire_base.specs.Tag.{tag_text};
 ghost use Rattle.wire_base.specs.Text.{record_text};
 ghost use Rattle.wire_write.specs.Put.{Puts};
 
 use crate::place::{place_bytes, place_number};
-use wire_codec::{WireType, varint_len};
-
-/// How many bytes the shortest text of a tag has.
-#[inline(always)]
-pub(crate) fn tag_len(number: u32, wire_type: WireType) -> usize
-    ensures { result ≡ length (tag_text number wire_type) }
-{
-    varint_len(tag_as_number(number, wire_type))
-}
-
-// A field number and a wire type as one number.
-#[inline(always)]
-fn tag_as_number(number: u32, wire_type: WireType) -> u64
-    ensures { result ≡ tag_value number wire_type }
-{
-    8 * u64::from(number) + wire_type as u64
-}
+use wire_codec::{WireType, tag_as_number};
 
 /// Writes a tag, and answers the place behind it.
 #[inline(always)]

@@ -8,10 +8,8 @@ ghost use Rattle.wire_read.specs.Reading.{item};
 ghost use Rattle.wire_write.specs.Put.{Puts};
 ghost use Rattle.wire_write.specs.Shortest.{Decodes, ShortestFault, item_text};
 
-use crate::record::{
-    place_delimited, place_fixed32, place_fixed64, place_tag, place_varint, tag_len,
-};
-use wire_codec::{DecodeContext, WireType, varint_len};
+use crate::record::{place_delimited, place_fixed32, place_fixed64, place_tag, place_varint};
+use wire_codec::{DecodeContext, WireType, tag_len, varint_len};
 use wire_read::{Fault, Reader, Value};
 
 /// Why a shortest encoding is not written.

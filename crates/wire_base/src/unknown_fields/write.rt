@@ -9,7 +9,7 @@ ghost use Rattle.wire_base.specs.UnknownFields.{one_record, payload_of};
 use super::{UnknownField, UnknownFieldData, UnknownFields};
 use crate::encode_sink::EncodeSink;
 use crate::error::EncodeError;
-use crate::tag::{WireType, put_fixed32, put_fixed64, put_tag, tag_as_number};
+use crate::tag::{WireType, put_tag, tag_as_number};
 
 impl UnknownFields {
     /// Writes the shortest text of the records. Padding that they came with is gone. Refused where
@@ -94,8 +94,12 @@ impl UnknownField {
             UnknownFieldData::Varint(value) => {
                 sink.put_varints(tag_as_number(number, WireType::Varint), *value)
             }
-            UnknownFieldData::Fixed64(value) => put_fixed64(number, *value, sink),
-            UnknownFieldData::Fixed32(value) => put_fixed32(number, *value, sink),
+            UnknownFieldData::Fixed64(value) => {
+                sink.put_fixed64(tag_as_number(number, WireType::Fixed64), *value)
+            }
+            UnknownFieldData::Fixed32(value) => {
+                sink.put_fixed32(tag_as_number(number, WireType::Fixed32), *value)
+            }
             UnknownFieldData::LengthDelimited(bytes) => {
                 sink.put_delimited(tag_as_number(number, WireType::LengthDelimited), bytes)
             }

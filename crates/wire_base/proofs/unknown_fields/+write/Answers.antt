@@ -38,27 +38,27 @@ UnknownFields::write_fields-returns-in_err-write_record-clause-err g t c =
 
 pub UnknownField::write_record-returns-in-Fixed64-clause-ok : goal.UnknownField::write_record-returns-in-Fixed64-clause-ok
 UnknownField::write_record-returns-in-Fixed64-clause-ok g t c =
-    rw c.in-Fixed64.is c.put_fixed64.ensures.ok
+    rw c.in-Fixed64.is (rw c.tag_as_number-in-Fixed64.ensures at c.put_fixed64.ensures.ok)
 
 pub UnknownField::write_record-returns-in-Fixed64-clause-err : goal.UnknownField::write_record-returns-in-Fixed64-clause-err
 UnknownField::write_record-returns-in-Fixed64-clause-err g t c =
-    rw c.in-Fixed64.is c.put_fixed64.ensures.err
+    rw c.in-Fixed64.is (rw c.tag_as_number-in-Fixed64.ensures at c.put_fixed64.ensures.err)
 
 pub UnknownField::write_record-returns-in-Fixed64-clause-cause : goal.UnknownField::write_record-returns-in-Fixed64-clause-cause
 UnknownField::write_record-returns-in-Fixed64-clause-cause g t c =
-    rw c.in-Fixed64.is c.put_fixed64.ensures.cause
+    rw c.in-Fixed64.is (rw c.tag_as_number-in-Fixed64.ensures at c.put_fixed64.ensures.cause)
 
 pub UnknownField::write_record-returns-in-Fixed32-clause-ok : goal.UnknownField::write_record-returns-in-Fixed32-clause-ok
 UnknownField::write_record-returns-in-Fixed32-clause-ok g t c =
-    rw c.in-Fixed32.is c.put_fixed32.ensures.ok
+    rw c.in-Fixed32.is (rw c.tag_as_number-in-Fixed32.ensures at c.put_fixed32.ensures.ok)
 
 pub UnknownField::write_record-returns-in-Fixed32-clause-err : goal.UnknownField::write_record-returns-in-Fixed32-clause-err
 UnknownField::write_record-returns-in-Fixed32-clause-err g t c =
-    rw c.in-Fixed32.is c.put_fixed32.ensures.err
+    rw c.in-Fixed32.is (rw c.tag_as_number-in-Fixed32.ensures at c.put_fixed32.ensures.err)
 
 pub UnknownField::write_record-returns-in-Fixed32-clause-cause : goal.UnknownField::write_record-returns-in-Fixed32-clause-cause
 UnknownField::write_record-returns-in-Fixed32-clause-cause g t c =
-    rw c.in-Fixed32.is c.put_fixed32.ensures.cause
+    rw c.in-Fixed32.is (rw c.tag_as_number-in-Fixed32.ensures at c.put_fixed32.ensures.cause)
 
 pub UnknownField::write_record-returns-in-Group-clause-ok : goal.UnknownField::write_record-returns-in-Group-clause-ok
 UnknownField::write_record-returns-in-Group-clause-ok g t c =

@@ -1,24 +1,23 @@
 use Rattle.std.proofs.lemmas.Result.{err_from_is_err_and, on_err_weaker}
-use Rattle.wire_base.proofs.tag.put.put_fixed32.Goals as goal
+use Rattle.wire_base.proofs.encode_sink.EncodeSink.put_fixed32.Goals as goal
 
 pub returns-in_err-put_varint-clause-err : goal.returns-in_err-put_varint-clause-err
 returns-in_err-put_varint-clause-err g c =
     let p = err_from_is_err_and c.from_residual.result c.from_residual.ensures.1 in
-    let refused = rw c.tag_as_number-tag.ensures at c.in_err-put_varint.ensures.err in
-    rw p.1 (c.two_parts.ensures.front _ _ _ _ refused)
+    rw p.1 (c.two_parts.ensures.front _ _ _ _ c.in_err-put_varint.ensures.err)
 
 pub returns-clause-err : goal.returns-clause-err
 returns-clause-err g c =
-    let tag = rw c.tag_as_number-tag.ensures at c.in_ok-put_varint.ensures.ok in
-    on_err_weaker c.put_u32_le.result (λ same. c.two_parts.ensures.behind _ _ _ _ _ tag
+    on_err_weaker c.put_u32_le.result
+    (λ same. c.two_parts.ensures.behind _ _ _ _ _ c.in_ok-put_varint.ensures.ok
     (c.put_is_a_write.ensures.front _ _ _ same)) c.put_u32_le.ensures.err
 
 pub returns-clause-cause : goal.returns-clause-cause
 returns-clause-cause g c =
-    let tag = rw c.tag_as_number-tag.ensures at c.in_ok-put_varint.ensures in
+    let tag = c.in_ok-put_varint.ensures in
     c.two_parts.ensures.answer _ _ _ _ _ tt _ tag.ok tag.cause
     (c.put_is_a_write.ensures.answer _ _ _ _ c.put_u32_le.ensures.cause)
 
-pub returns-then-tag-lt128-clause-err : goal.returns-then-tag-lt128-clause-err
-returns-then-tag-lt128-clause-err g c =
+pub returns-then-first-lt128-clause-err : goal.returns-then-first-lt128-clause-err
+returns-then-first-lt128-clause-err g c =
     on_err_weaker c.put_slice.result (c.put_is_a_write.ensures.front _ _ _) c.put_slice.ensures.err

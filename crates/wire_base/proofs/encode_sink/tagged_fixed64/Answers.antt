@@ -1,6 +1,6 @@
 use Rattle.std.proofs.Common.{rules}
 use Rattle.wire_base.proofs.Varints.{shortest_varint-last}
-use Rattle.wire_base.proofs.tag.put.tagged_fixed64.Goals as goal
+use Rattle.wire_base.proofs.encode_sink.tagged_fixed64.Goals as goal
 
 pub returns : goal.returns
 returns c = rw (shortest_varint-last c.args.tag c.requires) (search rules)
