@@ -18,6 +18,7 @@ pub mod ReadLaws
 pub mod RecordWalks
 pub mod Results
 pub mod RopeReads
+pub mod Rooms
 pub mod Ropes
 pub mod Sinks
 pub mod Skips

@@ -1,5 +1,6 @@
 //! Where encoded bytes go.
-ghost use Rattle.std.specs.Prelude.{◌≡◌, ℕ, ◌+◌, ◌<◌, ◌≤◌, List, [], ◌∷◌, ◌++◌, Option, None, OnOk, OnErr};
+ghost use Rattle.std.specs.Prelude.{◌≡◌, ℕ, ◌+◌, ◌<◌, ◌≤◌, List, [], ◌∷◌, ◌++◌, Option, None, ⊤, OnOk, OnErr, IfErr};
+ghost use Rattle.wire_base.specs.declared.error.EncodeError.TheVariants.{OutOfMemory};
 ghost use Rattle.std.specs.Int.{w32, w64, cast_unsigned, to_le_bytes};
 ghost use Rattle.std.specs.Vec.{vec_len, vec_capacity};
 ghost use Rattle.wire_base.specs.Delimited.{delimited_text};
@@ -8,9 +9,11 @@ ghost use Rattle.wire_base.specs.Varint.{shortest_varint};
 
 use crate::error::EncodeError;
 use crate::laws;
-use bytes::{BufMut, Bytes, BytesMut};
+use bytes::Bytes;
 use std::alloc::AllocError;
 use std::mem;
+
+mod bytes_mut;
 
 /// A growing list of bytes. A put appends all of its bytes or none: it answers `LengthOverflow`
 /// exactly where all bytes of the sink would then be more than it can count, and else `OutOfMemory`
@@ -22,52 +25,74 @@ pub trait EncodeSink {
     /// The most bytes that the sink can count, where it counts them; else memory alone bounds it.
     ghost most: { Option ℕ };
 
+    /// The name of the reference that the bytes are put through, where the sink has one.
+    ghost loan: { Self → ℕ } = { λ _. 0 };
+
+    /// What holds of a sink that grows, and so may want memory: nothing of one that has all of its
+    /// room.
+    ghost grows: { Type 0 } = { ⊤ };
+
     /// Whether the sink can keep a shared run of bytes as a segment of its own, so that a caller
     /// that has one saves the copy by `put_shared`.
     const IS_SEGMENTED: bool = false;
 
     /// Appends one byte.
     fn put_u8(&mut self, value: u8) -> Result<(), EncodeError>
-        ensures { Puts most (value ∷ []) (bytes_of self.old) (bytes_of self.new) result };
+        ensures put { Puts most (value ∷ []) (bytes_of self.old) (bytes_of self.new) result }
+        ensures loan { loan self.new ≡ loan self.old }
+        ensures memory { IfErr result (λ e. e ≡ OutOfMemory → grows) };
 
     /// Appends the bytes.
     fn put_slice(&mut self, bytes: &[u8]) -> Result<(), EncodeError>
-        ensures { Puts most bytes.now (bytes_of self.old) (bytes_of self.new) result };
+        ensures put { Puts most bytes.now (bytes_of self.old) (bytes_of self.new) result }
+        ensures loan { loan self.new ≡ loan self.old }
+        ensures memory { IfErr result (λ e. e ≡ OutOfMemory → grows) };
 
     /// Appends four bytes, the lowest first.
     fn put_u32_le(&mut self, value: u32) -> Result<(), EncodeError>
-        ensures { Puts most (to_le_bytes w32 value)
-            (bytes_of self.old) (bytes_of self.new) result };
+        ensures put { Puts most (to_le_bytes w32 value)
+            (bytes_of self.old) (bytes_of self.new) result }
+        ensures loan { loan self.new ≡ loan self.old }
+        ensures memory { IfErr result (λ e. e ≡ OutOfMemory → grows) };
 
     /// Appends eight bytes, the lowest first.
     fn put_u64_le(&mut self, value: u64) -> Result<(), EncodeError>
-        ensures { Puts most (to_le_bytes w64 value)
-            (bytes_of self.old) (bytes_of self.new) result };
+        ensures put { Puts most (to_le_bytes w64 value)
+            (bytes_of self.old) (bytes_of self.new) result }
+        ensures loan { loan self.new ≡ loan self.old }
+        ensures memory { IfErr result (λ e. e ≡ OutOfMemory → grows) };
 
     /// Appends the four bytes of the two's complement, the lowest first.
     fn put_i32_le(&mut self, value: i32) -> Result<(), EncodeError>
-        ensures { Puts most (to_le_bytes w32 (cast_unsigned w32 value))
+        ensures put { Puts most (to_le_bytes w32 (cast_unsigned w32 value))
             (bytes_of self.old) (bytes_of self.new) result }
+        ensures loan { loan self.new ≡ loan self.old }
+        ensures memory { IfErr result (λ e. e ≡ OutOfMemory → grows) }
     {
         self.put_u32_le(value.cast_unsigned())
     }
 
     /// Appends the eight bytes of the two's complement, the lowest first.
     fn put_i64_le(&mut self, value: i64) -> Result<(), EncodeError>
-        ensures { Puts most (to_le_bytes w64 (cast_unsigned w64 value))
+        ensures put { Puts most (to_le_bytes w64 (cast_unsigned w64 value))
             (bytes_of self.old) (bytes_of self.new) result }
+        ensures loan { loan self.new ≡ loan self.old }
+        ensures memory { IfErr result (λ e. e ≡ OutOfMemory → grows) }
     {
         self.put_u64_le(value.cast_unsigned())
     }
 
     /// Appends the shortest varint of a number, at most ten bytes. Refused where one of them is,
     /// and then leaves those before it.
+    #[inline(always)]
     fn put_varint(&mut self, value: u64) -> Result<(), EncodeError>
         ensures ok { OnOk result
             (bytes_of self.new ≡ bytes_of self.old ++ shortest_varint value) }
         ensures err { OnErr result (KeepsFront (bytes_of self.old)
             (shortest_varint value) (bytes_of self.new)) }
         ensures cause { WriteAnswers most (bytes_of self.old) (shortest_varint value) result }
+        ensures loan { loan self.new ≡ loan self.old }
+        ensures memory { IfErr result (λ e. e ≡ OutOfMemory → grows) }
     {
         let mut rest = value;
         while rest >= 0x80 {
@@ -87,6 +112,8 @@ pub trait EncodeSink {
             (shortest_varint first ++ shortest_varint second) (bytes_of self.new)) }
         ensures cause { WriteAnswers most (bytes_of self.old)
             (shortest_varint first ++ shortest_varint second) result }
+        ensures loan { loan self.new ≡ loan self.old }
+        ensures memory { IfErr result (λ e. e ≡ OutOfMemory → grows) }
     {
         laws::two_parts();
         self.put_varint(first)?;
@@ -104,6 +131,8 @@ pub trait EncodeSink {
             (shortest_varint first ++ delimited_text bytes.now) (bytes_of self.new)) }
         ensures cause { WriteAnswers most (bytes_of self.old)
             (shortest_varint first ++ delimited_text bytes.now) result }
+        ensures loan { loan self.new ≡ loan self.old }
+        ensures memory { IfErr result (λ e. e ≡ OutOfMemory → grows) }
     {
         laws::two_parts();
         laws::put_is_a_write();
@@ -123,6 +152,8 @@ pub trait EncodeSink {
             (shortest_varint first ++ to_le_bytes w32 value) (bytes_of self.new)) }
         ensures cause { WriteAnswers most (bytes_of self.old)
             (shortest_varint first ++ to_le_bytes w32 value) result }
+        ensures loan { loan self.new ≡ loan self.old }
+        ensures memory { IfErr result (λ e. e ≡ OutOfMemory → grows) }
     {
         laws::two_parts();
         laws::put_is_a_write();
@@ -144,6 +175,8 @@ pub trait EncodeSink {
             (shortest_varint first ++ to_le_bytes w64 value) (bytes_of self.new)) }
         ensures cause { WriteAnswers most (bytes_of self.old)
             (shortest_varint first ++ to_le_bytes w64 value) result }
+        ensures loan { loan self.new ≡ loan self.old }
+        ensures memory { IfErr result (λ e. e ≡ OutOfMemory → grows) }
     {
         laws::two_parts();
         laws::put_is_a_write();
@@ -156,7 +189,9 @@ pub trait EncodeSink {
 
     /// The bytes may be kept as they are, with no copy. They are given up where the put is refused.
     fn put_shared(&mut self, bytes: Bytes) -> Result<(), EncodeError>
-        ensures { Puts most bytes (bytes_of self.old) (bytes_of self.new) result }
+        ensures put { Puts most bytes (bytes_of self.old) (bytes_of self.new) result }
+        ensures loan { loan self.new ≡ loan self.old }
+        ensures memory { IfErr result (λ e. e ≡ OutOfMemory → grows) }
     {
         self.put_slice(bytes.as_slice())
     }
@@ -344,30 +379,4 @@ fn push_varint(value: u64, bytes: &mut Vec<u8>) -> Result<(), AllocError>
     }
     bytes.push(rest as u8)?;
     Ok(())
-}
-
-impl EncodeSink for BytesMut {
-    ghost bytes_of = { λ sink. sink.items };
-
-    ghost most = { None };
-
-    fn put_u8(&mut self, value: u8) -> Result<(), EncodeError> {
-        BufMut::put_u8(self, value)?;
-        Ok(())
-    }
-
-    fn put_slice(&mut self, bytes: &[u8]) -> Result<(), EncodeError> {
-        BufMut::put_slice(self, bytes)?;
-        Ok(())
-    }
-
-    fn put_u32_le(&mut self, value: u32) -> Result<(), EncodeError> {
-        BufMut::put_u32_le(self, value)?;
-        Ok(())
-    }
-
-    fn put_u64_le(&mut self, value: u64) -> Result<(), EncodeError> {
-        BufMut::put_u64_le(self, value)?;
-        Ok(())
-    }
 }

@@ -15,6 +15,7 @@ mod error;
 mod flat_walk;
 pub mod laws;
 mod payload;
+mod room;
 mod rope;
 mod skip;
 mod tag;
@@ -27,6 +28,7 @@ pub use encode_sink::EncodeSink;
 pub use error::{DecodeError, EncodeError};
 pub use flat_walk::{UnknownSpanCharge, register_unknown_record};
 pub use payload::{copy_bytes, decode_length, take_bytes};
+pub use room::{Loan, Room};
 pub use rope::{DEFAULT_MIN_SEGMENT, Rope, RopeBuf};
 pub use skip::{skip_field, skip_field_depth};
 pub use tag::{

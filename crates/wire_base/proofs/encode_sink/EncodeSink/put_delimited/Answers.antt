@@ -38,7 +38,7 @@ returns-clause-err g c =
     on_err_weaker c.put_slice.result
     (λ same. parts.behind _ _ _ _ _ c.in_ok-put_varint.ensures.ok
     (parts.behind _ _ _ _ _ c.in_ok-put_varint-2.ensures.ok
-    (c.put_is_a_write.ensures.front _ _ _ same))) c.put_slice.ensures.err
+    (c.put_is_a_write.ensures.front _ _ _ same))) c.put_slice.ensures.put.err
 
 pub returns-clause-cause : goal.returns-clause-cause
 returns-clause-cause g c =
@@ -47,4 +47,4 @@ returns-clause-cause g c =
     let second = c.in_ok-put_varint-2.ensures in
     parts.answer _ _ _ _ _ tt _ first.ok first.cause
     (parts.answer _ _ _ _ _ tt _ second.ok second.cause
-    (c.put_is_a_write.ensures.answer _ _ _ _ c.put_slice.ensures.cause))
+    (c.put_is_a_write.ensures.answer _ _ _ _ c.put_slice.ensures.put.cause))

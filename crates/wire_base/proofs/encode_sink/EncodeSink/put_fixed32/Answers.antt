@@ -10,14 +10,14 @@ pub returns-clause-err : goal.returns-clause-err
 returns-clause-err g c =
     on_err_weaker c.put_u32_le.result
     (λ same. c.two_parts.ensures.behind _ _ _ _ _ c.in_ok-put_varint.ensures.ok
-    (c.put_is_a_write.ensures.front _ _ _ same)) c.put_u32_le.ensures.err
+    (c.put_is_a_write.ensures.front _ _ _ same)) c.put_u32_le.ensures.put.err
 
 pub returns-clause-cause : goal.returns-clause-cause
 returns-clause-cause g c =
     let tag = c.in_ok-put_varint.ensures in
     c.two_parts.ensures.answer _ _ _ _ _ tt _ tag.ok tag.cause
-    (c.put_is_a_write.ensures.answer _ _ _ _ c.put_u32_le.ensures.cause)
+    (c.put_is_a_write.ensures.answer _ _ _ _ c.put_u32_le.ensures.put.cause)
 
 pub returns-then-first-lt128-clause-err : goal.returns-then-first-lt128-clause-err
 returns-then-first-lt128-clause-err g c =
-    on_err_weaker c.put_slice.result (c.put_is_a_write.ensures.front _ _ _) c.put_slice.ensures.err
+    on_err_weaker c.put_slice.result (c.put_is_a_write.ensures.front _ _ _) c.put_slice.ensures.put.err

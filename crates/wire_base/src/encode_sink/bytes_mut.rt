@@ -1,0 +1,32 @@
+//! A `BytesMut` as a sink.
+ghost use Rattle.std.specs.Prelude.{None};
+
+use super::EncodeSink;
+use crate::error::EncodeError;
+use bytes::{BufMut, BytesMut};
+
+impl EncodeSink for BytesMut {
+    ghost bytes_of = { λ sink. sink.items };
+
+    ghost most = { None };
+
+    fn put_u8(&mut self, value: u8) -> Result<(), EncodeError> {
+        BufMut::put_u8(self, value)?;
+        Ok(())
+    }
+
+    fn put_slice(&mut self, bytes: &[u8]) -> Result<(), EncodeError> {
+        BufMut::put_slice(self, bytes)?;
+        Ok(())
+    }
+
+    fn put_u32_le(&mut self, value: u32) -> Result<(), EncodeError> {
+        BufMut::put_u32_le(self, value)?;
+        Ok(())
+    }
+
+    fn put_u64_le(&mut self, value: u64) -> Result<(), EncodeError> {
+        BufMut::put_u64_le(self, value)?;
+        Ok(())
+    }
+}
