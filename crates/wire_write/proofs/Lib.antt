@@ -1,3 +1,2 @@
-pub mod Digits
 pub mod Items
-pub mod Splices
+pub mod Rooms

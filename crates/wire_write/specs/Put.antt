@@ -21,8 +21,3 @@ pub data PutFault : ℕ → List ℕ → ℕ → List ℕ → PutError → Type 
   no_room : {number place : ℕ} {text old : List ℕ} (wanted : ℕ) → IsFieldNumber number
       → length old < place + length text → wanted ≡ min (length text) (2 ^ 64 - 1)
       → PutFault number text place old (NoRoom wanted)
-
--- what is asked before a record of so many bytes is written
-pub record HasPlace (number len place room : ℕ) : Type 0 where
-  pub valid : IsFieldNumber number
-  pub fits : place + len ≤ room

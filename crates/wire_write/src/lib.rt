@@ -2,9 +2,8 @@
 //! calls.
 #![tactic(auto)]
 
-mod place;
+mod item;
 mod put;
-mod record;
 mod shortest;
 
 pub use put::{

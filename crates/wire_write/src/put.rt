@@ -7,11 +7,15 @@ ghost use Rattle.wire_base.specs.FieldNumber.{IsFieldNumber};
 ghost use Rattle.wire_base.specs.Tag.{tag_text, tag_value};
 ghost use Rattle.wire_base.specs.Text.{record_text};
 ghost use Rattle.wire_scalar.specs.ValueMap.{sint64};
-ghost use Rattle.wire_write.specs.Put.{HasPlace, Puts, PutFault};
+ghost use Rattle.wire_read.specs.Reading.{item};
+ghost use Rattle.wire_write.specs.Put.{Puts, PutFault};
+ghost use Rattle.wire_write.specs.Shortest.{item_text};
 
-use crate::record::{place_delimited, place_fixed32, place_fixed64, place_tag, place_varint};
+use crate::item::{fits, item_len, place_item};
+use std::marker::Brand;
+use wire_codec::MAX_FIELD_NUMBER;
 use wire_codec::scalar::{Sint64, VarintScalar};
-use wire_codec::{MAX_FIELD_NUMBER, WireType, tag_len, varint_len};
+use wire_read::Value;
 
 /// Why a record is not written.
 #[derive(Clone, Copy, Debug, PartialEq, Eq)]
@@ -31,9 +35,7 @@ pub fn put_varint(room: &mut [u8], place: usize, number: u32, value: u64) -> Res
         place room.old) }
     ensures unchanged { OnErr result (room.new ≡ room.old) }
 {
-    let tag = tag_len(number, WireType::Varint);
-    check(number, tag, varint_len(value), place, room)?;
-    Ok(place_varint(room, place, number, value))
+    put(room, place, number, Value::Varint(value))
 }
 
 /// Writes a record of type `sint64` or `sint32`, as `put_varint` does its zigzag number.
@@ -61,8 +63,7 @@ pub fn put_fixed32(
         place room.old) }
     ensures unchanged { OnErr result (room.new ≡ room.old) }
 {
-    check(number, tag_len(number, WireType::Fixed32), 4, place, room)?;
-    Ok(place_fixed32(room, place, number, value))
+    put(room, place, number, Value::Fixed32(value))
 }
 
 /// Writes a record with eight bytes, the lowest first, and answers the place behind it.
@@ -78,8 +79,7 @@ pub fn put_fixed64(
         place room.old) }
     ensures unchanged { OnErr result (room.new ≡ room.old) }
 {
-    check(number, tag_len(number, WireType::Fixed64), 8, place, room)?;
-    Ok(place_fixed64(room, place, number, value))
+    put(room, place, number, Value::Fixed64(value))
 }
 
 /// Writes a record with a payload behind its length, and answers the place behind it.
@@ -96,9 +96,7 @@ pub fn put_bytes(
         place room.old) }
     ensures unchanged { OnErr result (room.new ≡ room.old) }
 {
-    let head = tag_len(number, WireType::LengthDelimited) + varint_len(payload.len() as u64);
-    check(number, head, payload.len(), place, room)?;
-    Ok(place_delimited(room, place, number, payload))
+    put(room, place, number, Value::Bytes(payload))
 }
 
 /// Writes the start tag of a group, and answers the place behind it.
@@ -108,14 +106,7 @@ pub fn put_group_start(room: &mut [u8], place: usize, number: u32) -> Result<usi
     ensures err { IfErr result (PutFault number (tag_text number StartGroup) place room.old) }
     ensures unchanged { OnErr result (room.new ≡ room.old) }
 {
-    check(
-        number,
-        tag_len(number, WireType::StartGroup),
-        0,
-        place,
-        room,
-    )?;
-    Ok(place_tag(room, place, number, WireType::StartGroup))
+    put(room, place, number, Value::GroupStart)
 }
 
 /// Writes the end tag of a group, and answers the place behind it.
@@ -125,22 +116,24 @@ pub fn put_group_end(room: &mut [u8], place: usize, number: u32) -> Result<usize
     ensures err { IfErr result (PutFault number (tag_text number EndGroup) place room.old) }
     ensures unchanged { OnErr result (room.new ≡ room.old) }
 {
-    check(number, tag_len(number, WireType::EndGroup), 0, place, room)?;
-    Ok(place_tag(room, place, number, WireType::EndGroup))
+    put(room, place, number, Value::GroupEnd)
 }
 
-// Whether a record of so many bytes and then so many may be written.
+// Writes an item at a place of the room, and answers the place behind it.
 #[inline(always)]
-fn check(number: u32, len: usize, more: usize, place: usize, room: &[u8]) -> Result<(), PutError>
-    ensures ok { OnOk result (HasPlace number (len + more) place (length room.now)) }
-    ensures err { (text : List ℕ) → length text ≡ len + more
-        → IfErr result (PutFault number text place room.now) }
+fn put(room: &mut [u8], place: usize, number: u32, value: Value<'_>) -> Result<usize, PutError>
+    ensures ok { IfOk result (Puts (item_text (item number value.entry))
+        place room.old room.new) }
+    ensures number { OnOk result (IsFieldNumber number) }
+    ensures err { IfErr result (PutFault number (item_text (item number value.entry))
+        place room.old) }
+    ensures unchanged { OnErr result (room.new ≡ room.old) }
 {
     if number == 0 || number > MAX_FIELD_NUMBER {
         return Err(PutError::InvalidFieldNumber);
     }
-    if place > room.len() || len > room.len() - place || more > room.len() - place - len {
-        return Err(PutError::NoRoom(len.saturating_add(more)));
+    if place > room.len() || !fits(number, value, room.len() - place) {
+        return Err(PutError::NoRoom(item_len(number, value)));
     }
-    Ok(())
+    Ok(place_item::<Brand>(room, place, number, value))
 }
