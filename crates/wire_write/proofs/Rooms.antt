@@ -16,7 +16,8 @@ pub not_refused : (most : ℕ) (old text : List ℕ) (r : Result (Unit {0}) Enco
     → length old + length text ≤ most → WriteAnswers (Some most) old text r
     → IfErr r (λ e. e ≡ OutOfMemory → ⊥) → OnOk r P → P
 not_refused most old text (Ok u) fits why memory is = is
-not_refused most old text (Err LengthOverflow) fits why memory is = absurd (omega (arith, fits, why))
+not_refused most old text (Err LengthOverflow) fits why memory is =
+    absurd (omega (arith, fits, why))
 not_refused most old text (Err OutOfMemory) fits why memory is = absurd (memory refl)
 not_refused most old text (Err MessageTooLarge) fits why memory is = absurd why
 not_refused most old text (Err (ExceedsBudget len max_bytes)) fits why memory is = absurd why

@@ -8,7 +8,8 @@ ghost use Rattle.wire_write.specs.Shortest.{item_text};
 
 use std::marker::PhantomData;
 use wire_codec::{
-    EncodeError, EncodeSink, Loan, Room, WireType, tag_as_number, tag_len, varint_len,
+    EncodeError, EncodeSink, Loan, Room, WireType, put_fixed32, put_fixed64, tag_as_number,
+    tag_len, varint_len,
 };
 use wire_read::Value;
 
@@ -105,8 +106,8 @@ fn put<S: EncodeSink>(number: u32, value: Value<'_>, sink: &mut S) -> Result<(),
 {
     match value {
         Value::Varint(value) => sink.put_varints(tag_as_number(number, WireType::Varint), value),
-        Value::Fixed64(value) => sink.put_fixed64(tag_as_number(number, WireType::Fixed64), value),
-        Value::Fixed32(value) => sink.put_fixed32(tag_as_number(number, WireType::Fixed32), value),
+        Value::Fixed64(value) => put_fixed64(tag_as_number(number, WireType::Fixed64), value, sink),
+        Value::Fixed32(value) => put_fixed32(tag_as_number(number, WireType::Fixed32), value, sink),
         Value::Bytes(payload) => {
             sink.put_delimited(tag_as_number(number, WireType::LengthDelimited), payload)
         }
