@@ -3,12 +3,22 @@ it writes of others."""
 TYPE = "message A { int32 x = 1; }"
 # A schema, further parameters, and what is said of it on protoc's channel for errors.
 REFUSED = [
-    ("proto3", TYPE + "service S { rpc Get(A) returns (A); }", "",
-     "refused.proto: services want services=skip"),
+    ("proto3", 'import "google/protobuf/empty.proto";' + TYPE
+     + "service S { rpc Get(A) returns (google.protobuf.Empty); }", "",
+     "S.Get: .google.protobuf.Empty is of a file of no crate that is named, as "
+     "import=PACKAGE=CRATE does"),
+    ("proto3", TYPE + "service T { rpc GetA(A) returns (A); } service TGetA {}", "",
+     "TGetA: another service or method is called TGetA too"),
+    ("proto3", TYPE + "message Services { int32 x = 1; } service S { rpc Get(A) returns (A); }",
+     "", "a type and the services have the name services"),
     ("proto2", "message A { required int32 x = 1; }", "",
      ".A.x: required fields want required=optional"),
-    ("proto2", "message A { optional int32 x = 1 [default = 7]; }", "",
-     ".A.x: default values want defaults=skip"),
+    ("proto2", "message A { oneof o { int32 x = 1 [default = 7]; } }", "",
+     ".A.x: default values in oneofs and extensions want defaults=skip"),
+    ("proto2", "message A { extensions 4; } extend A { optional bool x = 4 [default = true]; }",
+     "", ".x: default values in oneofs and extensions want defaults=skip"),
+    ("proto2", r'message A { optional string x = 1 [default = "\377"]; }', "",
+     ".A.x: a default value that is no UTF-8"),
     ("proto2", "enum E { B = 0; } message A { map<int32, E> x = 1; }", ",unknown=drop",
      ".A.x: closed enums are not generated with unknown=drop or mismatch=keep"),
     ("proto3", "message A { A x = 1; }", "", ".A: a message that holds itself, or what holds it, "
@@ -31,17 +41,18 @@ REFUSED = [
      ".x: extensions are not generated with unknown=drop"),
     ("proto3", "message A {" + "".join(f"int32 x{it} = {it};" for it in range(1, 82)) + "}", "",
      ".A: more than 80 fields"),
-    ("proto2", "enum E { FOO_BAR = 0; foo_bar = 1; }", "",
-     ".E: two values have the name of foo_bar"),
-    ("proto3", "enum E { option allow_alias = true; A0 = 0; B1 = 1; b1 = 1; }" + TYPE, "",
-     ".E: two values have the name of b1"),
-    ("proto2", "message A { optional int32 fooBar = 1; optional int32 foo_bar = 2; }", "",
-     ".A: two fields are called foo_bar"),
     ("proto3", "message A { message B { int32 x = 1; } } message AB { int32 x = 1; }", "",
      ".A.B: another type is called AB too"),
     ("proto3", 'import "google/protobuf/timestamp.proto";'
      "message A { google.protobuf.Timestamp x = 1; }", "",
-     ".A.x: .google.protobuf.Timestamp is of a file of no crate that is named"),
+     ".A.x: .google.protobuf.Timestamp is of a file of no crate that is named, as "
+     "import=PACKAGE=CRATE does"),
+    ("proto3", TYPE, ",crate=shop-messages", "a crate is called by letters, digits and "
+     "underscores, no digit first, and by no word of the language: crate=shop-messages"),
+    ("proto3", TYPE, ",crate=1shop", "a crate is called by letters, digits and "
+     "underscores, no digit first, and by no word of the language: crate=1shop"),
+    ("proto3", TYPE, ",crate=std", "a crate is called by letters, digits and "
+     "underscores, no digit first, and by no word of the language: crate=std"),
     ("proto3", TYPE, ",import=google.protobuf", "an import is import=PACKAGE=CRATE: "
      "import=google.protobuf"),
     ("proto3", TYPE, ",element=many", "parameters are crate=NAME, import=PACKAGE=CRATE, "
@@ -81,17 +92,40 @@ EDITIONS = [
 ]
 # A schema, further parameters, and parts of the code that is written.
 CHOICES = [
-    ("proto3", TYPE + "service S { rpc Get(A) returns (A); }", ",services=skip",
-     ["1 => x: Implicit<Int32>,"]),
+    ("proto3", TYPE + "message Services { int32 x = 1; } service S { rpc Get(A) returns (A); }",
+     ",services=skip", ["1 => x: Implicit<Int32>,"]),
+    ("proto3", 'import "google/protobuf/empty.proto"; package p;' + TYPE
+     + "service T { rpc Name(A) returns (google.protobuf.Empty); rpc getA(stream A) returns (A); "
+     "rpc GetA(A) returns (stream A); }", ",import=google.protobuf=wire_well_known",
+     ['    pub const NAME: &\'static str = "p.T";', "    pub const NAME_0: wire_fields::Method",
+      '        path: "/p.T/getA",\n        request: "p.A",\n        response: "p.A",\n'
+      "        is_client_streaming: true,\n        is_server_streaming: false,\n",
+      "[wire_fields::Method; 3] = [T::NAME_0, T::GET_A, T::GET_A_2];", "pub struct TGetA2;",
+      "    type Response = wire_well_known::Empty;", "pub mod services;"]),
     ("proto2", "message A { required int32 x = 1; optional bytes y = 2 [default = 'a']; }",
      ",required=optional,defaults=skip,laws=skip",
      ["1 => x: Optional<Int32>,", "2 => y: Optional<Blob>,"]),
+    ("proto2", r"""enum E { option allow_alias = true; LOW = 0; e = 0; }
+     message A { optional E x = 1 [default = e]; optional float y = 2 [default = 1e-45];
+     optional double z = 3 [default = nan]; optional bytes b = 4 [default = "\1\'"];
+     repeated int32 c = 6; optional string s = 7 [default = "\377"]; }""",
+     ",strings=bytes",
+     ["    pub fn x_or_default(&self) -> EnumValue<E>\n"
+      "        ensures { result ≡ or_else (Known e.Low) self.now.x }",
+      "            None => EnumValue::Known(E::Low),", "FloatBits { bits: 1 }",
+      "bits: 9221120237041090560,", 'b"\\x01\'"', "(1 ∷ 39 ∷ [])", 'b"\\xff"',
+      "ensures { result.now ≡ or_else (255 ∷ []) (option_map (λ b. b.items) self.now.s) }"]),
     ("proto3", "enum E { option allow_alias = true; LOW = 0; Least = 0; HIGH = 1; }" + TYPE, "",
      ["pub enum E {\n    Low = 0,\n    High = 1,\n}", "pub const LEAST: E = E::Low;"]),
     ("proto3", 'import "google/protobuf/duration.proto";'
      "message A { google.protobuf.Duration x = 1; }",
      ",import=google/protobuf/duration.proto=wire_well_known",
      ["use wire_well_known::Duration;", "chosen: wire_codec wire_fields wire_well_known bytes"]),
+    ("proto3", 'import "google/protobuf/duration.proto"; import "google/protobuf/empty.proto";'
+     "message A { google.protobuf.Duration x = 1; google.protobuf.Empty y = 2; }",
+     ",import=google/protobuf/duration.proto=wire_well_known"
+     ",import=google/protobuf/empty.proto=wire_well_known",
+     ["chosen: wire_codec wire_fields wire_well_known bytes"]),
     ("proto3", TYPE + "message B { repeated A a = 1; repeated string b = 2; "
      "map<string, string> c = 3; }", ",element=100",
      ["EachEmbedded<A, 100>", "Repeated<Text, 100>", "Map<Text, Always<Text>, 100>"]),
@@ -113,6 +147,20 @@ CHOICES = [
      ["pub enum B_ {", "pub struct S_ {", "pub b: Option<EnumValue<B_>>,", "Embedded<S_>"]),
     ("proto3", "message A { oneof o { int32 b = 1; string s = 2; } }", "",
      ["    B(i32),\n    S(String),\n"]),
+    # Names that come together.
+    ("proto2", "enum E { option allow_alias = true; FOO_BAR = 0; foo_bar = 1; FooBar = 2; B1 = 3; "
+     "b1 = 3; } message A { optional int32 fooBar = 9; optional int32 foo_bar_2 = 1; "
+     "optional E foo_bar = 2 [default = foo_bar]; oneof o { bool Foo_Bar = 3; bool x_y = 4; "
+     "bool x__y = 5; } }", "",
+     ["    FooBar = 0,\n    FooBar_2 = 1,\n    Foobar = 2,\n    B1 = 3,\n", "pub const B1_2: E = E::B1;",
+      "    pub foo_bar_3: Option<EnumValue<E>>,", "    pub foo_bar: Option<i32>,",
+      "    pub foo_bar_2: Option<i32>,", "            None => EnumValue::Known(E::FooBar_2),",
+      "    FooBar4(bool),\n    XY(bool),\n    XY_5(bool),\n"]),
+    # Names that no letter begins.
+    ("proto2", "enum _ { _0 = 0; } message _1 { optional int32 _ = 1; optional _ __ = 2; "
+     "oneof _o { bool _2 = 3; } }", "",
+     ["pub enum X {\n    X0 = 0,\n}", "pub struct X1 {", "    pub x_: Option<i32>,",
+      "    pub x__: Option<EnumValue<X>>,", "X2(bool),"]),
     ("proto3", "\n\n// a\tb\u2028c\u202ed\u200f\x01e\r\n// f\t\r\n" + TYPE, "",
      ["/// a    b cde\n/// f\n#[derive"]),
 ]

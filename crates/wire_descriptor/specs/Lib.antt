@@ -11,6 +11,8 @@ pub mod FieldOptions
 pub mod FileDescriptorProto
 pub mod FileOptions
 pub mod MessageOptions
+pub mod MethodDescriptorProto
 pub mod OneofDescriptorProto
+pub mod ServiceDescriptorProto
 pub mod SourceCodeInfo
 pub mod SourceCodeInfoLocation

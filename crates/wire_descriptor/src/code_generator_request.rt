@@ -21,7 +21,7 @@ pub struct CodeGeneratorRequest {
     pub unknown: UnknownFields,
 }
 
-// The fields of a `CodeGeneratorRequest`: their numbers, names and kinds.
+// The fields of `CodeGeneratorRequest`: their numbers, names and kinds.
 macro_rules! rows {
     ($($call:tt)*) => {
         fields!(

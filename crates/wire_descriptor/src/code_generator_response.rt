@@ -23,7 +23,7 @@ pub struct CodeGeneratorResponse {
     pub unknown: UnknownFields,
 }
 
-// The fields of a `CodeGeneratorResponse`: their numbers, names and kinds.
+// The fields of `CodeGeneratorResponse`: their numbers, names and kinds.
 macro_rules! rows {
     ($($call:tt)*) => {
         fields!(

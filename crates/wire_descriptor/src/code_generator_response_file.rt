@@ -17,7 +17,7 @@ pub struct CodeGeneratorResponseFile {
     pub unknown: UnknownFields,
 }
 
-// The fields of a `CodeGeneratorResponseFile`: their numbers, names and kinds.
+// The fields of `CodeGeneratorResponseFile`: their numbers, names and kinds.
 macro_rules! rows {
     ($($call:tt)*) => {
         fields!(

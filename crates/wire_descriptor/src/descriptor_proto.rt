@@ -31,7 +31,7 @@ pub struct DescriptorProto {
     pub unknown: UnknownFields,
 }
 
-// The fields of a `DescriptorProto`: their numbers, names and kinds.
+// The fields of `DescriptorProto`: their numbers, names and kinds.
 macro_rules! rows {
     ($($call:tt)*) => {
         fields!(

@@ -22,7 +22,7 @@ pub struct EnumDescriptorProto {
     pub unknown: UnknownFields,
 }
 
-// The fields of a `EnumDescriptorProto`: their numbers, names and kinds.
+// The fields of `EnumDescriptorProto`: their numbers, names and kinds.
 macro_rules! rows {
     ($($call:tt)*) => {
         fields!(

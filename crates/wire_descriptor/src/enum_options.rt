@@ -16,7 +16,7 @@ pub struct EnumOptions {
     pub unknown: UnknownFields,
 }
 
-// The fields of a `EnumOptions`: their numbers, names and kinds.
+// The fields of `EnumOptions`: their numbers, names and kinds.
 macro_rules! rows {
     ($($call:tt)*) => {
         fields!(

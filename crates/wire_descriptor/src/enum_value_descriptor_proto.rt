@@ -17,7 +17,7 @@ pub struct EnumValueDescriptorProto {
     pub unknown: UnknownFields,
 }
 
-// The fields of a `EnumValueDescriptorProto`: their numbers, names and kinds.
+// The fields of `EnumValueDescriptorProto`: their numbers, names and kinds.
 macro_rules! rows {
     ($($call:tt)*) => {
         fields!(

@@ -20,7 +20,7 @@ pub struct FeatureSet {
     pub unknown: UnknownFields,
 }
 
-// The fields of a `FeatureSet`: their numbers, names and kinds.
+// The fields of `FeatureSet`: their numbers, names and kinds.
 macro_rules! rows {
     ($($call:tt)*) => {
         fields!(

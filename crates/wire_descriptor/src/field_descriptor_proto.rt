@@ -8,8 +8,8 @@ use wire_codec::{
     Tag, UnknownFields,
 };
 use wire_fields::{
-    Bool, Embedded, Implicit, Int32, Optional, Parts, Text, Twin, copied_box, fields, measure,
-    write,
+    Blob, Bool, Embedded, Implicit, Int32, Optional, Parts, Text, Twin, copied_box, copied_numbers,
+    fields, measure, write,
 };
 
 /// The message `FieldDescriptorProto`.
@@ -22,7 +22,8 @@ pub struct FieldDescriptorProto {
     pub label: i32,
     pub type_: i32,
     pub type_name: String,
-    pub default_value: String,
+    /// (of a string too, which may be no UTF-8)
+    pub default_value: Vec<u8>,
     pub options: Option<Box<FieldOptions>>,
     pub oneof_index: Option<i32>,
     pub proto3_optional: bool,
@@ -30,7 +31,7 @@ pub struct FieldDescriptorProto {
     pub unknown: UnknownFields,
 }
 
-// The fields of a `FieldDescriptorProto`: their numbers, names and kinds.
+// The fields of `FieldDescriptorProto`: their numbers, names and kinds.
 macro_rules! rows {
     ($($call:tt)*) => {
         fields!(
@@ -54,7 +55,7 @@ macro_rules! rows_1_to_8 {
             4 => label: Implicit<Int32>,
             5 => type_: Implicit<Int32>,
             6 => type_name: Implicit<Text>,
-            7 => default_value: Implicit<Text>,
+            7 => default_value: Implicit<Blob>,
             8 => options: Embedded<FieldOptions>,
         )
     };
@@ -84,7 +85,7 @@ impl Clone for FieldDescriptorProto {
             label: self.label,
             type_: self.type_,
             type_name: self.type_name.clone()?,
-            default_value: self.default_value.clone()?,
+            default_value: copied_numbers(&self.default_value)?,
             options: copied_box(&self.options)?,
             oneof_index: self.oneof_index,
             proto3_optional: self.proto3_optional,
@@ -152,7 +153,7 @@ impl MessageFields for FieldDescriptorProto {
     }
 }
 
-// The fields 1 to 8 of a `FieldDescriptorProto`.
+// The fields 1 to 8 of `FieldDescriptorProto`.
 #[derive(Drop)]
 struct FieldDescriptorProtoFields1To8<'a> {
     message: &'a FieldDescriptorProto,

@@ -18,7 +18,7 @@ pub struct FieldOptions {
     pub unknown: UnknownFields,
 }
 
-// The fields of a `FieldOptions`: their numbers, names and kinds.
+// The fields of `FieldOptions`: their numbers, names and kinds.
 macro_rules! rows {
     ($($call:tt)*) => {
         fields!(

@@ -4,6 +4,7 @@ use crate::descriptor_proto::DescriptorProto;
 use crate::enum_descriptor_proto::EnumDescriptorProto;
 use crate::field_descriptor_proto::FieldDescriptorProto;
 use crate::file_options::FileOptions;
+use crate::service_descriptor_proto::ServiceDescriptorProto;
 use crate::source_code_info::SourceCodeInfo;
 use bytes::Buf;
 use std::alloc::{AllocError, Global};
@@ -12,8 +13,8 @@ use wire_codec::{
     Tag, UnknownFields,
 };
 use wire_fields::{
-    Blob, EachEmbedded, Embedded, Implicit, Int32, Parts, Repeated, Text, Twin, copied_box,
-    copied_list, fields, measure, write,
+    EachEmbedded, Embedded, Implicit, Int32, Parts, Repeated, Text, Twin, copied_box, copied_list,
+    fields, measure, write,
 };
 
 /// The message `FileDescriptorProto`.
@@ -24,8 +25,7 @@ pub struct FileDescriptorProto {
     pub dependency: Vec<String>,
     pub message_type: Vec<DescriptorProto>,
     pub enum_type: Vec<EnumDescriptorProto>,
-    /// Not looked into: a file that has one is refused.
-    pub service: Vec<Vec<u8>>,
+    pub service: Vec<ServiceDescriptorProto>,
     pub extension: Vec<FieldDescriptorProto>,
     pub options: Option<Box<FileOptions>>,
     pub source_code_info: Option<Box<SourceCodeInfo>>,
@@ -35,7 +35,7 @@ pub struct FileDescriptorProto {
     pub unknown: UnknownFields,
 }
 
-// The fields of a `FileDescriptorProto`: their numbers, names and kinds.
+// The fields of `FileDescriptorProto`: their numbers, names and kinds.
 macro_rules! rows {
     ($($call:tt)*) => {
         fields!(
@@ -59,7 +59,7 @@ macro_rules! rows_1_to_8 {
             3 => dependency: Repeated<Text, 24>,
             4 => message_type: EachEmbedded<DescriptorProto, 200>,
             5 => enum_type: EachEmbedded<EnumDescriptorProto, 80>,
-            6 => service: Repeated<Blob, 24>,
+            6 => service: EachEmbedded<ServiceDescriptorProto, 72>,
             7 => extension: EachEmbedded<FieldDescriptorProto, 208>,
             8 => options: Embedded<FileOptions>,
         )
@@ -159,7 +159,7 @@ impl MessageFields for FileDescriptorProto {
     }
 }
 
-// The fields 1 to 8 of a `FileDescriptorProto`.
+// The fields 1 to 8 of `FileDescriptorProto`.
 #[derive(Drop)]
 struct FileDescriptorProtoFields1To8<'a> {
     message: &'a FileDescriptorProto,

@@ -16,7 +16,7 @@ pub struct FileOptions {
     pub unknown: UnknownFields,
 }
 
-// The fields of a `FileOptions`: their numbers, names and kinds.
+// The fields of `FileOptions`: their numbers, names and kinds.
 macro_rules! rows {
     ($($call:tt)*) => {
         fields!(

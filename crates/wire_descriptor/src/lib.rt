@@ -15,7 +15,9 @@ mod field_options;
 mod file_descriptor_proto;
 mod file_options;
 mod message_options;
+mod method_descriptor_proto;
 mod oneof_descriptor_proto;
+mod service_descriptor_proto;
 mod source_code_info;
 mod source_code_info_location;
 
@@ -32,6 +34,8 @@ pub use field_options::FieldOptions;
 pub use file_descriptor_proto::FileDescriptorProto;
 pub use file_options::FileOptions;
 pub use message_options::MessageOptions;
+pub use method_descriptor_proto::MethodDescriptorProto;
 pub use oneof_descriptor_proto::OneofDescriptorProto;
+pub use service_descriptor_proto::ServiceDescriptorProto;
 pub use source_code_info::SourceCodeInfo;
 pub use source_code_info_location::SourceCodeInfoLocation;

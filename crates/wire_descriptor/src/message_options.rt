@@ -18,7 +18,7 @@ pub struct MessageOptions {
     pub unknown: UnknownFields,
 }
 
-// The fields of a `MessageOptions`: their numbers, names and kinds.
+// The fields of `MessageOptions`: their numbers, names and kinds.
 macro_rules! rows {
     ($($call:tt)*) => {
         fields!(

@@ -16,7 +16,7 @@ pub struct OneofDescriptorProto {
     pub unknown: UnknownFields,
 }
 
-// The fields of a `OneofDescriptorProto`: their numbers, names and kinds.
+// The fields of `OneofDescriptorProto`: their numbers, names and kinds.
 macro_rules! rows {
     ($($call:tt)*) => {
         fields!(

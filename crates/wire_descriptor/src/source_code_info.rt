@@ -17,7 +17,7 @@ pub struct SourceCodeInfo {
     pub unknown: UnknownFields,
 }
 
-// The fields of a `SourceCodeInfo`: their numbers, names and kinds.
+// The fields of `SourceCodeInfo`: their numbers, names and kinds.
 macro_rules! rows {
     ($($call:tt)*) => {
         fields!(

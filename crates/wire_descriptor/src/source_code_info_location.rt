@@ -18,7 +18,7 @@ pub struct SourceCodeInfoLocation {
     pub unknown: UnknownFields,
 }
 
-// The fields of a `SourceCodeInfoLocation`: their numbers, names and kinds.
+// The fields of `SourceCodeInfoLocation`: their numbers, names and kinds.
 macro_rules! rows {
     ($($call:tt)*) => {
         fields!(

@@ -4,7 +4,7 @@
 -- for the last one.
 use Rattle.std.proofs.Common.{◌≡◌, ◌≢◌, ℕ, List, refl, sym, subst, Bool, true, false, inl, inr}
 use Rattle.std.proofs.lemmas.Bool.Decides.{eqb_tells}
-use Rattle.std.specs.Prelude.{Result, Ok, Err, OnOk, IfErr, ◌==◌, ◌||◌}
+use Rattle.std.specs.Prelude.{Option, Result, Ok, Err, OnOk, IfErr, ◌==◌, ◌||◌}
 use Rattle.wire_codec.specs.DecodeError.{DecodeError}
 use Rattle.wire_codec.specs.DecodeError.TheVariants.{OutOfMemory}
 use Rattle.wire_codec.specs.Field.{Payload}
@@ -12,8 +12,9 @@ use Rattle.wire_codec.specs.Folds.{Step}
 use Rattle.wire_codec.specs.Limits.{Limits, Charge}
 use Rattle.wire_codec.specs.Taking.{TakesRecord, IsCharged, NotTaken}
 use Rattle.wire_codec.specs.WireType.{WireType}
-use Rattle.wire_fields.specs.Oneof.{choice}
-use Rattle.wire_fields.specs.Shape.{Owns, on, either}
+use Rattle.wire_fields.specs.Messages.{or_else}
+use Rattle.wire_fields.specs.Oneof.{choice, within}
+use Rattle.wire_fields.specs.Shape.{FieldKind, Owns, on, either}
 
 -- a record of field number k, which the message gives to this step of the field's value t
 module _ {V T : Type 0} (takes : Step V) (step : Step T) (k n : ℕ) (is : n ≡ k) (m : V) (t : T)
@@ -90,6 +91,18 @@ unlike n k h = elim (eqb_tells n k) [ inl e ↦ absurd (h e.1) | inr e ↦ e.0 ]
 
 -- ---- variants of a oneof
 
+-- where this variant does not stand, it refuses what its kind refuses of a value of no records
+pub anew_untaken : {V T : Type 0} (takes : Step V) (f : FieldKind T) (get : V → Option T)
+    (set : T → V) (k n : ℕ) → n ≡ k → (m : V) → or_else f.default (get m) ≡ f.default
+    → ((c : Charge) (z : V) (p : Payload) → takes m k p c z
+    → within f.default get set f.takes m k p c z)
+    → (l : Limits) (w : WireType) (old : List ℕ)
+    → NotTaken (TakesRecord f.takes l n w f.default old) → NotTaken (TakesRecord takes l n w m old)
+anew_untaken takes f get set k n is m none own =
+    untaken takes f.takes k n is m f.default (λ c z p h.
+    let inside = own c z p h in
+    (inside.0, subst (λ t. f.takes t k p c inside.0) none inside.1))
+
 -- a record that the first variants do not own is one for the last
 module _ {V : Type 0} (owns : Owns) (one other : Step V) (n : ℕ)
     (is : (p : Payload) → owns n p ≡ false) (m z : V) (c : Charge) (p : Payload) where
@@ -98,3 +111,14 @@ module _ {V : Type 0} (owns : Owns) (one other : Step V) (n : ℕ)
 
   pub from_last : choice owns one other m n p c z → other m n p c z
   from_last h = subst (λ b. on b (one m n p c z) (other m n p c z)) (is p) h
+
+-- a record that the first variants do not own is refused where the last refuses it
+pub last_err : {V T R : Type 0} (owns : Owns) (one other : Step V) (n : ℕ)
+    → ((p : Payload) → owns n p ≡ false) → (step : Step T) (m : V) (t : T)
+    → ((c : Charge) (z : V) (p : Payload) → other m n p c z → (u : T) × step t n p c u)
+    → (l : Limits) (w : WireType) (old : List ℕ) (r : Result R DecodeError)
+    → IfErr r (λ e. e ≢ OutOfMemory → NotTaken (TakesRecord step l n w t old))
+    → IfErr r (λ e. e ≢ OutOfMemory → NotTaken (TakesRecord (choice owns one other) l n w m old))
+last_err owns one other n is step m t back =
+    arm_err (choice owns one other) step n n refl m t (λ c z p h.
+    back c z p (from_last owns one other n is m z c p h))

@@ -29,10 +29,12 @@ mod recursive;
 mod repeated;
 mod rows;
 mod scalar;
+mod service;
 mod text;
 mod twin;
 mod types;
 mod unknown;
+mod variants;
 
 pub use closed::{merge_closed, merge_closed_each};
 pub use closed_map::ClosedMap;
@@ -53,15 +55,19 @@ pub use packed::{Packed, Unpacked};
 pub use parts::{Known, Parts, Rest, measure, write};
 pub use presence::{Always, Implicit, Optional};
 pub use recursive::{
-    Place, Recursive, RecursiveHeld, RecursiveMember, RecursiveSlice, merge_held, merge_nest,
+    Place, RecursiveAlone, RecursiveHeld, RecursiveMember, RecursiveSlice, merge_held, merge_nest,
     nest_size, push_message, slice_size, write_nest, write_slice,
 };
 pub use repeated::Repeated;
 pub use scalar::{Numeric, Scalar};
+pub use service::{Method, ServiceMethod};
 pub use text::{Blob, Text};
-pub use twin::{Plain, Twin, copied_box, copied_list, copied_map, copied_numbers, copied_option};
+pub use twin::{
+    Plain, Twin, copied, copied_box, copied_list, copied_map, copied_numbers, copied_option,
+};
 pub use types::{
     Bool, Double, Enum, Fixed32, Fixed64, Float, Int32, Int64, Sfixed32, Sfixed64, Sint32, Sint64,
     Uint32, Uint64,
 };
 pub use unknown::keep;
+pub use variants::merge_new;

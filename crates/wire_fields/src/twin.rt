@@ -173,8 +173,8 @@ pub fn copied_map<K: Twin + Ord, V: Twin>(
     map.clone()
 }
 
-// A copy of a value.
-fn copied<T: Twin>(value: &T) -> Result<T, AllocError>
+/// A copy of a value. Refused where memory runs out.
+pub fn copied<T: Twin>(value: &T) -> Result<T, AllocError>
     ensures { IfOk result (λ copy. T.seen copy ≡ T.seen value.now) }
 {
     value.clone()

@@ -32,7 +32,7 @@ const OF_WHOLE: [Template; 6] = [
 
 const OF_LEAF: [Template; 6] = [
     ("of_call", "c."),
-    ("goals", "$name$Recursive.merge_leaf"),
+    ("goals", "$name$RecursiveMember.merge_leaf"),
     ("whole", "$module$-leaf"),
     (
         "before",

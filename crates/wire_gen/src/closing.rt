@@ -36,14 +36,28 @@ pub(crate) fn set_or_keep_$word$<B: Buf>(
 }
 ";
 
+const GHOSTS: &str = "\
+Rattle.std.specs.Prelude IfErr
+Rattle.std.specs.Prelude OnErr
+Rattle.std.specs.Prelude OnOk
+Rattle.std.specs.Prelude ◌≡◌
+Rattle.std.specs.Prelude ◌≢◌
+Rattle.wire_codec.specs.DecodeError.TheVariants OutOfMemory
+Rattle.wire_codec.specs.Limits NoCountGrew
+Rattle.wire_codec.specs.TagView tag_number
+Rattle.wire_codec.specs.TagView tag_type
+Rattle.wire_codec.specs.Taking IsCharged
+Rattle.wire_codec.specs.Taking NotTaken
+Rattle.wire_codec.specs.Taking TakesRecord
+Rattle.$crate$.specs.$name$ $module$-of
+Rattle.$crate$.specs.$name$ $word$-of-$module$-closed
+";
+
 /// What that function brings in.
 pub(crate) const OF_CLOSED_VARIANT: [Template; 3] = [
     ("variants", CLOSED_VARIANT),
     ("uses", "wire_codec UnknownFields\n"),
-    (
-        "ghosts",
-        "Rattle.$crate$.specs.$name$ $word$-of-$module$-closed\n",
-    ),
+    ("ghosts", GHOSTS),
 ];
 
 /// What such a variant is, beside what any is.
@@ -61,8 +75,8 @@ $word$-of-$module$-closed = closes_by (becomes $word$-of-$module$-from) $of_modu
     ),
     (
         "uses",
-        "Rattle.wire_codec.specs.Field Fields\nRattle.wire_fields.specs.Closed closes_by\n\
-        Rattle.wire_fields.specs.ClosedOneof becomes\n",
+        "Rattle.wire_codec.specs.Field Fields\nRattle.wire_codec.specs.Folds Step\n\
+        Rattle.wire_fields.specs.Closed closes_by\nRattle.wire_fields.specs.ClosedOneof becomes\n",
     ),
 ];
 

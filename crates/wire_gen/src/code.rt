@@ -2,6 +2,7 @@
 use crate::arms::put_arm;
 use crate::comments::{put_comment, set_heading};
 use crate::copies::set_clone;
+use crate::defaults::put_defaults;
 use crate::field_rows::put_rows;
 use crate::imports::{code_imports, ghost_imports};
 use crate::tree::Tree;
@@ -100,7 +101,7 @@ Rattle.$crate$.specs.$name$ $part_words$-value
 
 // Some fields of a message of many.
 const PART: &str = "
-// The fields $low$ to $high$ of a `$name$`.
+// The fields $low$ to $high$ of `$name$`.
 #[derive(Drop)]
 struct $part_type$<'a> {
     message: &'a $name$,
@@ -218,7 +219,9 @@ pub(crate) fn code_of(
     if !fields.is_empty() {
         put_rows(&mut page, fields, tree);
     }
-    page.append_all(&[("code", NAME), ("code", "$clone$")]);
+    page.append("code", NAME);
+    put_defaults(&mut page, fields, false);
+    page.append("code", "$clone$");
     page.fill("ghosts", GHOSTS);
     ghost_imports(&mut page, "    ");
     page.append("code", MESSAGE);

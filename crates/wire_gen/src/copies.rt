@@ -33,7 +33,7 @@ Rattle.$crate$.specs.$name$ $module$-value
 
 // Copies of some fields of a message of many.
 const COPIES: &str = "
-// Copies of the fields $low$ to $high$ of a `$name$`.
+// Copies of the fields $low$ to $high$ of `$name$`.
 #[derive(Drop)]
 struct $copies_type$ {
 $held_copies$}
@@ -124,15 +124,7 @@ fn put_use(page: &mut Words, field: &Field) {
     let (call, _) = field.words.get("copy").split_once('(').unwrap_or(("", ""));
     if call.starts_with("copied_") {
         page.set("call", call);
-        page.set("of_oneof", field.words.get("module"));
-        page.append(
-            "uses",
-            if field.oneof.is_some() {
-                "crate::$of_oneof$ $call$\n"
-            } else {
-                "wire_fields $call$\n"
-            },
-        );
+        page.append("uses", "wire_fields $call$\n");
     }
 }
 

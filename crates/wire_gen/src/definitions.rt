@@ -44,7 +44,7 @@ Rattle.wire_fields.specs.Leaving with_unknown
 ";
 
 /// What a page of definitions has.
-pub(crate) const TABLE: &str = "A `$name$` as contracts see it, and the table of its fields.";
+pub(crate) const TABLE: &str = "`$name$` as contracts see it, and the table of its fields.";
 
 const HEAD: &str = "\
 $heading$$imports$

@@ -2,8 +2,7 @@
 use crate::comments::{put_comment, set_heading};
 use crate::imports::ghost_imports;
 use crate::laws_pages::has_laws;
-use std::alloc::Global;
-use wire_schema::{EnumType, GenerateError, Schema, Template, Words, constant_name, value_name};
+use wire_schema::{EnumType, GenerateError, NamedValue, Schema, Template, Words, values_of};
 
 const ENUM: &str = "\
 #[derive(Clone, Copy, Debug, PartialEq, Eq, Hash)]
@@ -99,14 +98,6 @@ impl $name$ {
 $aliases$}
 ";
 
-// A value of an enum, or a further name of one.
-#[derive(Drop)]
-struct Named {
-    name: String,
-    number: i32,
-    is_alias: bool,
-}
-
 /// The module of an enum, whose words the base has, and its definitions.
 pub(crate) fn enum_files(
     base: &Words,
@@ -114,7 +105,7 @@ pub(crate) fn enum_files(
     of_enum: &EnumType,
 ) -> Result<(String, String), GenerateError> {
     let mut page = Words::like(base);
-    let values = values_of(base.alloc(), &mut page, of_enum)?;
+    let values = values_of(base.alloc(), page.get("name"), &of_enum.descriptor)?;
     let descriptors = of_enum.descriptor.value.iter();
     for (index, (value, descriptor)) in values.iter().zip(descriptors).enumerate() {
         page.index("index", index);
@@ -126,7 +117,7 @@ pub(crate) fn enum_files(
     if of_enum.origin.features.is_closed() && has_laws(base) {
         page.fill_all(&OF_CLOSED);
     }
-    set_heading(&mut page, "--", "The numbers of a `$name$`.");
+    set_heading(&mut page, "--", "The numbers of `$name$`.");
     page.fill("text", DEFINITIONS);
     Ok((page.finish("code")?, page.finish("text")?))
 }
@@ -141,7 +132,7 @@ const OF_CLOSED: [Template; 3] = [
 ];
 
 // A value, or a further name of the first one of its number.
-fn put_named(page: &mut Words, schema: &Schema, value: &Named) {
+fn put_named(page: &mut Words, schema: &Schema, value: &NamedValue) {
     page.set("value", &value.name);
     page.number("digits", value.number);
     page.number("below", value.number.saturating_add(1).saturating_neg());
@@ -177,40 +168,8 @@ use wire_fields::Plain;
 
 ";
 
-// The values, of which no two have one name. Where one has the number of another before it, it is
-// a constant.
-fn values_of(
-    alloc: Global,
-    page: &mut Words,
-    of_enum: &EnumType,
-) -> Result<Vec<Named>, GenerateError> {
-    let mut values: Vec<Named> = Vec::new(alloc);
-    for value in &of_enum.descriptor.value {
-        let is_alias = values.iter().any(|it| it.number == value.number);
-        let mut name = if is_alias {
-            constant_name(alloc, &value.name)?
-        } else {
-            value_name(alloc, &value.name)?
-        };
-        // (a clause has one name for one thing)
-        if name.as_str() == page.get("name") {
-            name.push('_')?;
-        }
-        if values.iter().any(|it| it.name == name) {
-            page.set("proto", &value.name);
-            return Err(page.refused("$full$: two values have the name of $proto$"));
-        }
-        values.push(Named {
-            name,
-            number: value.number,
-            is_alias,
-        })?;
-    }
-    Ok(values)
-}
-
 // The name of the first value of this number.
-fn first_of(values: &[Named], number: i32) -> &str {
+fn first_of(values: &[NamedValue], number: i32) -> &str {
     match values.iter().find(|it| it.number == number) {
         Some(value) => &value.name,
         None => "",

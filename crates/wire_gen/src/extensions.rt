@@ -2,8 +2,8 @@
 use crate::comments::{put_comment, set_heading};
 use crate::imports::code_imports;
 use wire_schema::{
-    Extension, GenerateError, Schema, Words, features_of, set_field, started, variant_name,
-    word_name,
+    Extension, GenerateError, Schema, Words, features_of, set_field, started, stop_on_default,
+    variant_name, word_name,
 };
 
 const HEAD: &str = "\
@@ -46,6 +46,7 @@ fn put_extension(
 ) -> Result<(), GenerateError> {
     let mut words = started(page, &extension.words, &extension.descriptor)?;
     let features = features_of(extension.origin.features, &extension.descriptor, &mut words)?;
+    stop_on_default(&extension.descriptor, &mut words)?;
     if words.get("unknown") == "drop" {
         return Err(words.refused("$full$.$proto$: extensions are not generated with unknown=drop"));
     }

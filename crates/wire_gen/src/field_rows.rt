@@ -3,7 +3,7 @@ use crate::tree::{Node, Tree};
 use wire_schema::{Field, Words};
 
 const ROWS: &str = "
-// The fields of a `$name$`: their numbers, names and kinds.
+// The fields of `$name$`: their numbers, names and kinds.
 macro_rules! rows {
     ($given$) => {
         fields!(

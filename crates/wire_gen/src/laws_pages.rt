@@ -20,7 +20,7 @@ Rattle.$crate$.specs.$name$ $module$-shape
 ";
 
 pub(crate) const LAW: &str = "
-/// What is written of a `$name$` in range decodes to it, where the limits suffice.
+/// What is written of each `$name$` in range decodes to it, where the limits suffice.
 pub fn $module$_reads_back()
     ensures { ReadsBack $module$-shape $module$-range }
 {
@@ -30,7 +30,7 @@ pub fn $module$_reads_back()
 ";
 
 pub(crate) const STAY_LAW: &str = "
-/// What bytes decode to as a `$name$` is in range, where each message and group
+/// What bytes decode to as `$name$` is in range, where each message and group
 /// within it takes at most 2,147,483,647 bytes and any other payload less than 2^64.
 pub fn $module$_decodes_in_range()
     ensures { DecodesInRange $module$-shape $accounted_range$ }
@@ -50,7 +50,7 @@ returns c = decodes_in_range c.grounds.ensures ($module$-stays c.grounds.ensures
 
 /// The same where it follows from what records are charged that are left.
 pub(crate) const CHARGED_LAW: &str = "
-/// What is written of a `$name$` in range decodes to it, whatever each record is charged that a map
+/// What is written of each `$name$` in range decodes to it, whatever each record is charged that a map
 /// of a closed enum left, where the limits suffice.
 pub fn $module$_reads_back()
     ensures { (charges : List ℕ → ℕ → Payload → Charge)

@@ -1,41 +1,115 @@
-//! The code of one of several message types that hold one another: its rows and its leaf.
+//! The code of a message type that holds itself, alone or as one of several that hold one another:
+//! what a message moved out of it is, and how it is measured, written and merged.
 use wire_schema::Template;
 
-/// What the module of one of them brings in.
-pub(crate) const MEMBER_USES: &str = "\
-bytes Buf
-crate::$family_module$ FamilyHeld
+/// What a type that holds itself alone has of its own: a message moved out of it is of the type
+/// itself.
+pub(crate) const ALONE: [Template; 13] = [
+    (
+        "own_uses",
+        "wire_fields RecursiveAlone
+wire_fields merge_nest
+wire_fields nest_size
+wire_fields write_nest
+",
+    ),
+    (
+        "head_ghosts",
+        "ghost use Rattle.$crate$.specs.$name$.{$module$-value};\n\n",
+    ),
+    ("moved", "$name$"),
+    ("own_moved", "$name$::empty(alloc)"),
+    ("own_slice", "&[]"),
+    ("matched", "row"),
+    ("member_ghosts", ALONE_GHOSTS),
+    ("row_head", ALONE_ROW),
+    ("size_call", "nest_size(self, cache)"),
+    ("write_call", "write_nest(self, cache, sink)"),
+    (
+        "merge_held",
+        "        merge_nest(self, alloc, tag, buf, context)\n",
+    ),
+    ("others", ""),
+    ("moved_shut", ""),
+];
+
+const ALONE_GHOSTS: &str = "    ghost use Rattle.wire_fields.specs.NestTable.{alone};
+    ghost use Rattle.$crate$.specs.$name$.{$name$-Leaf};
+    ghost use Rattle.$crate$.specs.$name$.{$module$-counted};
+    ghost use Rattle.$crate$.specs.$name$.{$module$-table};
+
+    ghost Sort = { Unit {0} };
+
+    ghost Leaf = { $name$-Leaf };
+
+    ghost sort = { tt };
+
+    ghost view = { $module$-value };
+
+    ghost held_sort = { λ m. tt };
+
+    ghost held_view = { $module$-value };
+
+    ghost family = { alone $module$-table };
+";
+
+const ALONE_ROW: &str = "impl RecursiveAlone for $name$ {
+    ghost use Rattle.std.proofs.Common.{refl};
+    ghost use Rattle.$crate$.specs.$name$.{$module$-leaf};
+
+    ghost same_view = { λ m. refl };
+
+    ghost same_sort = { λ m. refl };
+
+    ghost holds_itself = { λ row. refl };
+
+    ghost single = { λ reading s. $module$-leaf.single reading };
+
+    fn row(&self, row: usize) -> &[$name$] {
+";
+
+/// What one of several that hold one another has of its own: a message moved out of it is one of an
+/// enum of all of them.
+pub(crate) const MEMBER: [Template; 12] = [
+    (
+        "own_uses",
+        "crate::$family_module$ FamilyHeld
 crate::$family_module$ FamilySlice
-std::alloc Global
 std::mem replace
 std::slice from_ref
-wire_codec DecodeContext
-wire_codec DecodeError
-wire_codec EncodeError
-wire_codec EncodeSink
-wire_codec MessageFields
-wire_codec MessageName
-wire_codec SizeCache
-wire_codec Tag
-wire_fields Parts
-wire_fields Place
-wire_fields RecursiveMember
 wire_fields merge_held
 wire_fields slice_size
 wire_fields write_slice
-";
-
-pub(crate) const MEMBER_GHOSTS: &str = "\
-ghost use Rattle.std.specs.Prelude.{◌<◌, ◌≡◌};
+",
+    ),
+    (
+        "head_ghosts",
+        "ghost use Rattle.std.specs.Prelude.{◌<◌, ◌≡◌};
 ghost use Rattle.wire_fields.specs.Nest.{row_at};
 ghost use Rattle.$crate$.specs.$family_name$.{$name$-Sort, $module$-value, $module$-table};
 ghost use Rattle.$crate$.specs.$family_name$.{family-holds, family-slice-sort, family-slice-values};
 
-";
+",
+    ),
+    ("moved", "FamilyHeld"),
+    ("own_moved", "FamilyHeld::$name$($name$::empty(alloc))"),
+    ("own_slice", "FamilySlice::$name$(&[])"),
+    ("matched", "(row, message)"),
+    ("member_ghosts", MEMBER_GHOSTS),
+    ("row_head", MEMBER_ROW),
+    (
+        "size_call",
+        "slice_size(FamilySlice::$name$(from_ref(self)), 0, cache)",
+    ),
+    (
+        "write_call",
+        "write_slice(FamilySlice::$name$(from_ref(self)), 0, cache, sink)",
+    ),
+    ("merge_held", MERGE_HELD),
+    ("moved_shut", ")"),
+];
 
-pub(crate) const MEMBER: &str = "
-impl RecursiveMember<FamilyHeld> for $name$ {
-    ghost use Rattle.$crate$.specs.$family_name$.{Family-Leaves};
+const MEMBER_GHOSTS: &str = "    ghost use Rattle.$crate$.specs.$family_name$.{Family-Leaves};
     ghost use Rattle.$crate$.specs.$family_name$.{Family-Sorts};
     ghost use Rattle.$crate$.specs.$family_name$.{family-all};
     ghost use Rattle.$crate$.specs.$family_name$.{family-held-sort};
@@ -55,146 +129,42 @@ impl RecursiveMember<FamilyHeld> for $name$ {
     ghost held_view = { family-held-value };
 
     ghost family = { family-all };
+";
 
-    ghost counted = { $module$-counted };
-
-    fn empty(alloc: Global) -> $name$ {
-        $name$ {$emptied$}
-    }
-
-    fn rows() -> usize {
-        $count$
-    }
-
-    fn number($row_of_number$: usize) -> u32 {
-$numbers_of_rows$    }
-
-    fn is_grouped(row: usize) -> bool {
-        match row {
-$grouped$            _ => false,
-        }
-    }
-
-    fn place(number: u32) -> Place {
-        match number {
-$places$            _ => Place::Leaf,
-        }
-    }
-
-    fn new_in(alloc: Global, row: usize) -> FamilyHeld {
-        match row {
-$news$            _ => FamilyHeld::$name$($name$::empty(alloc)),
-        }
-    }
-
-    fn take(&mut self, alloc: Global, row: usize) -> FamilyHeld {
-        match row {
-$takes$            _ => FamilyHeld::$name$($name$::empty(alloc)),
-        }
-    }
-
-    fn put(&mut self, alloc: Global, row: usize, message: FamilyHeld) -> Result<(), DecodeError> {
-        match (row, message) {
-$onces$            _ => Ok(()),
-        }
-    }
-
-    fn push(&mut self, row: usize, message: FamilyHeld) -> Result<(), DecodeError> {
-        match (row, message) {
-$eaches$            _ => Ok(()),
-        }
-    }
-
-    fn run_len(&self, run: usize, cache: &mut SizeCache) -> Result<u64, EncodeError> {
-        match run {
-$lens$        }
-    }
-
-    fn put_run<S: EncodeSink>(
-        &self,
-        run: usize,
-        cache: &mut SizeCache,
-        sink: &mut S,
-    ) -> Result<(), EncodeError> {
-        match run {
-$puts$        }
-    }
-
-    fn merge_leaf<B: Buf>(
-        &mut self,
-        alloc: Global,
-        tag: Tag,
-        buf: &mut B,
-        context: &mut DecodeContext,
-    ) -> Result<(), DecodeError> {
-$merge$    }
-}
-
-impl $name$ {
+const MEMBER_ROW: &str = "impl $name$ {
     // The messages of a row.
     pub(crate) fn row(&self, row: usize) -> FamilySlice<'_>
         requires { row < $module$-table.rows }
         ensures messages { family-slice-values result ≡ row_at row ($module$-value self.now) }
         ensures sort { family-slice-sort result ≡ family-holds $name$-Sort row }
     {
-        match row {
-$rows$            _ => FamilySlice::$name$(&[]),
-        }
-    }
-}
+";
 
-impl MessageFields for $name$ {
-    ghost use Rattle.$crate$.specs.$name$.{$name$-Value};
-    ghost use Rattle.$crate$.specs.$name$.{$module$-shape};
-
-    ghost Value = { $name$-Value };
-
-    ghost view = { $module$-value };
-
-    ghost records = { $module$-shape.records };
-
-    ghost default = { $module$-shape.default };
-
-    ghost takes = { $module$-shape.takes };
-
-    ghost single = { $module$-shape.single };
-
-    fn default_value(alloc: Global) -> $name$ {
-        $name$::empty(alloc)
-    }
-
-    fn compute_size(&self, cache: &mut SizeCache) -> Result<u32, EncodeError> {
-        slice_size(FamilySlice::$name$(from_ref(self)), 0, cache)
-    }
-
-    fn write_to<S: EncodeSink>(
-        &self,
-        cache: &mut SizeCache,
-        sink: &mut S,
-    ) -> Result<(), EncodeError> {
-        write_slice(FamilySlice::$name$(from_ref(self)), 0, cache, sink)
-    }
-
-    fn merge_field<B: Buf>(
-        &mut self,
-        alloc: Global,
-        tag: Tag,
-        buf: &mut B,
-        context: &mut DecodeContext,
-    ) -> Result<(), DecodeError> {
-        let mut held = FamilyHeld::$name$(replace(self, $name$::empty(alloc)));
+const MERGE_HELD: &str =
+    "        let mut held = FamilyHeld::$name$(replace(self, $name$::empty(alloc)));
         let merged = merge_held(&mut held, alloc, tag, buf, context);
         match held {
             FamilyHeld::$name$(message) => *self = message,
 $others$        }
         merged
-    }
-
-    fn clear(&mut self) {$cleared$}
-}
 ";
 
-pub(crate) const MEMBER_ONCE: [Template; 7] = [
+/// What a row is, of a type that holds itself alone.
+pub(crate) const ALONE_OF: [Template; 3] = [
+    ("moved_open", ""),
+    ("slice_open", ""),
+    ("arm", "            $row$"),
+];
+
+/// What a row is by the type of its messages, of one of several that hold one another.
+pub(crate) const MEMBER_OF: [Template; 3] = [
+    ("moved_open", "FamilyHeld::$of_name$("),
+    ("slice_open", "FamilySlice::$of_name$("),
+    ("arm", "            ($row$, FamilyHeld::$of_name$(message))"),
+];
+
+/// A row that has one message at most.
+pub(crate) const ONCE: [Template; 7] = [
     ("declared", "    pub $field$: Option<Box<$of_name$>>,\n"),
     ("emptied", "            $field$: None,\n"),
     ("cleared", "        self.$field$ = None;\n"),
@@ -203,8 +173,8 @@ pub(crate) const MEMBER_ONCE: [Template; 7] = [
         "rows",
         "            $row$ => {
                 match &self.$field$ {
-                    Some(message) => FamilySlice::$of_name$(from_ref(message)),
-                    None => FamilySlice::$of_name$(&[]),
+                    Some(message) => $slice_open$from_ref(message)$moved_shut$,
+                    None => $slice_open$&[]$moved_shut$,
                 }
             }
 ",
@@ -213,15 +183,15 @@ pub(crate) const MEMBER_ONCE: [Template; 7] = [
         "takes",
         "            $row$ => {
                 match self.$field$.take() {
-                    Some(message) => FamilyHeld::$of_name$(Box::into_inner(message)),
-                    None => FamilyHeld::$of_name$($of_name$::empty(alloc)),
+                    Some(message) => $moved_open$Box::into_inner(message)$moved_shut$,
+                    None => $moved_open$$of_name$::empty(alloc)$moved_shut$,
                 }
             }
 ",
     ),
     (
         "onces",
-        "            ($row$, FamilyHeld::$of_name$(message)) => {
+        "$arm$ => {
                 self.$field$ = Some(Box::new(alloc, message)?);
                 Ok(())
             }
@@ -229,7 +199,8 @@ pub(crate) const MEMBER_ONCE: [Template; 7] = [
     ),
 ];
 
-pub(crate) const MEMBER_EACH: [Template; 7] = [
+/// A row that has many.
+pub(crate) const EACH: [Template; 5] = [
     ("declared", "    pub $field$: Vec<$of_name$>,\n"),
     ("emptied", "            $field$: Vec::new(alloc),\n"),
     ("cleared", "        self.$field$.clear();\n"),
@@ -239,19 +210,6 @@ pub(crate) const MEMBER_EACH: [Template; 7] = [
     ),
     (
         "rows",
-        "            $row$ => FamilySlice::$of_name$(&self.$field$),\n",
-    ),
-    (
-        "news",
-        "            $row$ => FamilyHeld::$of_name$($of_name$::empty(alloc)),\n",
-    ),
-    (
-        "each_line",
-        "            ($row$, FamilyHeld::$of_name$(message)) => push_message(&mut self.$field$, message),",
+        "            $row$ => $slice_open$&self.$field$$moved_shut$,\n",
     ),
 ];
-
-/// What puts one more into a list, where it is longer than a line.
-pub(crate) const LONG_EACH: &str = "            ($row$, FamilyHeld::$of_name$(message)) => {
-                push_message(&mut self.$field$, message)
-            }";

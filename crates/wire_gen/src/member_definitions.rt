@@ -54,7 +54,7 @@ $module$-back g =
     (λ n rs. refl)
 ";
 
-const WHAT: &str = "A `$name$` as contracts see it, which is one of the types of `$family_name$`.";
+const WHAT: &str = "`$name$` as contracts see it, which is one of the types of `$family_name$`.";
 
 const FACE: &str = "\
 $heading$$imports$use Rattle.$crate$.specs.$family_name$ as family

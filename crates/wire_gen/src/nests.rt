@@ -14,8 +14,8 @@ use wire_schema::{Field, GenerateError, MessageType, Schema, Template, Words, fi
 
 // Where the proofs of a message type that holds itself are, and of one of a family.
 const FOLDERS: [Template; 2] = [
-    ("folder", "proofs/$module$/$name$Recursive"),
-    ("row_folder", "$folder$"),
+    ("folder", "proofs/$module$/$name$RecursiveMember"),
+    ("row_folder", "proofs/$module$/$name$RecursiveAlone"),
 ];
 
 const MEMBER_FOLDERS: [Template; 2] = [

@@ -12,7 +12,7 @@ const USES: &str = "\
 Rattle.std.specs.Prelude None
 Rattle.std.specs.Prelude Option
 Rattle.std.specs.Prelude Some
-Rattle.wire_codec.specs.Folds Step
+Rattle.std.specs.Prelude option_map
 Rattle.wire_codec.specs.Records Records
 Rattle.wire_codec.specs.Records none
 Rattle.wire_fields.specs.Oneof Variants
@@ -34,12 +34,18 @@ const HEAD: &str = "\
 $heading$$imports$";
 
 const VALUE: &str = "
+-- the one that stands
+abbrev pub $name$-One : Type 0
+$name$-One = $sum$
+
+abbrev pub $module$-one : $name$ → $name$-One
+$ones$
 abbrev pub $name$-Value : Type 0
-$name$-Value = Option $sum$
+$name$-Value = Option $name$-One
 
 abbrev pub $module$-of : Option $name$ → $name$-Value
-$module$-of None = None
-$ofs$
+$module$-of = option_map $module$-one
+
 $variants$abbrev pub $module$-records : $name$-Value → Records
 $module$-records None = none
 $records$";
@@ -153,11 +159,8 @@ abbrev pub $word$-of-$module$-as : $name$-Value → Option $bracketed$
 $word$-of-$module$-as None = None
 $befores$$word$-of-$module$-as (Some $one$) = Some x
 $behinds$
-abbrev pub $word$-of-$module$-default : $value$
-$word$-of-$module$-default = $definition$.kind.default
-
-abbrev pub $word$-of-$module$-step : Step $bracketed$
-$word$-of-$module$-step = $definition$.kind.takes
+abbrev pub $word$-of-$module$-kind : FieldKind $bracketed$
+$word$-of-$module$-kind = $definition$.kind
 
 abbrev pub $word$-of-$module$ : Variants $name$-Value
 $word$-of-$module$ =
@@ -172,7 +175,7 @@ const OTHER_THERE: &str =
     "$word$-of-$module$-there g (Some $injected$) h =\n    ($word$-of-$module$-stays g).start\n";
 
 const OF_VARIANT: [Template; 5] = [
-    ("ofs", "$module$-of (Some ($variant$ x)) = Some $seen$\n"),
+    ("ones", "$module$-one ($variant$ x) = $seen$\n"),
     (
         "records",
         "$module$-records (Some $one$) = $definition$.kind.records $digits$ x\n",

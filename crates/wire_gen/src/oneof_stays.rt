@@ -51,7 +51,7 @@ $word$-of-$module$-stays g =
         "theres",
         "pub $word$-of-$module$-there : (g : Grounds) (m : $name$-Value) → $module$-is g m
     → ($word$-of-$module$-stays g).Is
-    (or_else $word$-of-$module$-default ($word$-of-$module$-as m))
+    (or_else $word$-of-$module$-kind.default ($word$-of-$module$-as m))
 $word$-of-$module$-there g None h = ($word$-of-$module$-stays g).start
 $befores_there$$word$-of-$module$-there g (Some $one$) h = h
 $behinds_there$
@@ -110,7 +110,7 @@ const NAMED_OF_VARIANT: &str = "\
 $of_always$ $always$
 $definitions$$numeric$$range_uses$$scalar_uses$$always_uses$$stays_uses$\
 Rattle.$crate$.specs.$name$ $word$-of-$module$-as
-Rattle.$crate$.specs.$name$ $word$-of-$module$-default
+Rattle.$crate$.specs.$name$ $word$-of-$module$-kind
 ";
 
 /// The page of a oneof.

@@ -8,8 +8,9 @@ use crate::extensions::extensions_of;
 use crate::laws_pages::has_laws;
 use crate::oneof::oneof_code;
 use crate::oneof_definitions::oneof_definitions;
-use crate::oneof_proofs::{merge_answers, variant_answers};
+use crate::oneof_proofs::merge_answers;
 use crate::oneof_stays::oneof_stays;
+use crate::services::services_of;
 use crate::stays::stays_of;
 use crate::tree::{Tree, tree_of};
 use crate::written::{FieldAnswers, written_answers};
@@ -85,6 +86,7 @@ impl Package {
             }
         }
         self.add_extensions(schema)?;
+        self.add_services(schema)?;
         self.add_roots()
     }
 
@@ -211,25 +213,21 @@ impl Package {
             let proof = oneof_stays(&page, oneof)?;
             self.add_stays(&mut page, proof)?;
         }
-        if oneof.variants.len() > 1 {
-            let answers = merge_answers(&page, oneof)?;
-            let path = "proofs/$module$/$name$KindKind/merge/Answers.antt";
-            self.add(&mut page, path, answers)?;
-        }
+        let answers = merge_answers(&page, oneof)?;
+        let path = "proofs/$module$/$name$KindKind/merge/Answers.antt";
+        self.add(&mut page, path, answers)?;
         for variant in &oneof.variants {
-            self.add_variant(&mut page, variant)?;
+            if !variant.get("closed").is_empty() {
+                self.add_closed(&mut page, variant)?;
+            }
         }
         Ok(())
     }
 
-    fn add_variant(&mut self, page: &mut Words, variant: &Words) -> Result<(), GenerateError> {
-        let answers = variant_answers(page, variant)?;
-        page.copy(variant, &["word"]);
-        self.add(page, "proofs/$module$/merge_$word$/Answers.antt", answers)?;
-        if variant.get("closed").is_empty() {
-            return Ok(());
-        }
+    // The answers of a variant of a closed enum.
+    fn add_closed(&mut self, page: &mut Words, variant: &Words) -> Result<(), GenerateError> {
         let answers = closed_answers(page, variant)?;
+        page.copy(variant, &["word"]);
         let path = "proofs/$module$/set_or_keep_$word$/Answers.antt";
         self.add(page, path, answers)
     }
@@ -278,5 +276,18 @@ impl Package {
         ]);
         let mut page = Words::like(&self.base);
         self.add(&mut page, "src/extensions.rt", code)
+    }
+
+    fn add_services(&mut self, schema: &Schema) -> Result<(), GenerateError> {
+        let code = services_of(&self.base, schema)?;
+        if code.is_empty() {
+            return Ok(());
+        }
+        let mut page = Words::like(&self.base);
+        if self.roots.get("modules").contains("mod services\n") {
+            return Err(page.refused("a type and the services have the name services"));
+        }
+        self.roots.append("modules", "mod services\n");
+        self.add(&mut page, "src/services.rt", code)
     }
 }

@@ -1,10 +1,11 @@
-//! The code of a message type that holds itself: its fields of its own type are rows, and all
-//! others its leaf, which is written in runs between the rows.
+//! The code of a message type that holds itself: its fields of its own type, or of those that hold
+//! it, are rows, and all others its leaf, which is written in runs between the rows.
 use crate::code::{put_field_comment, put_head, put_leaf_field, set_leaf_rest};
-use crate::member::{LONG_EACH, MEMBER, MEMBER_EACH, MEMBER_GHOSTS, MEMBER_ONCE, MEMBER_USES};
+use crate::defaults::put_defaults;
+use crate::member::{ALONE, ALONE_OF, EACH, MEMBER, MEMBER_OF, ONCE};
 use crate::rows::{is_row, once_place};
 use crate::runs::{put_field_in_run, put_run};
-use wire_schema::{Field, GenerateError, MessageType, Schema, Template, Words};
+use wire_schema::{Field, GenerateError, MessageType, Schema, Words};
 
 const USES: &str = "\
 bytes Buf
@@ -19,30 +20,13 @@ wire_codec SizeCache
 wire_codec Tag
 wire_fields Parts
 wire_fields Place
-wire_fields Recursive
-wire_fields merge_nest
-wire_fields nest_size
-wire_fields write_nest
-";
+wire_fields RecursiveMember
+$own_uses$";
 
-const GHOSTS: &str = "ghost use Rattle.$crate$.specs.$name$.{$module$-value};\n\n";
-
-const RECURSIVE: &str = "
-impl Recursive for $name$ {
-    ghost use Rattle.$crate$.specs.$name$.{$name$-Leaf};
-    ghost use Rattle.$crate$.specs.$name$.{$module$-counted};
-    ghost use Rattle.$crate$.specs.$name$.{$module$-leaf};
-    ghost use Rattle.$crate$.specs.$name$.{$module$-table};
-
-    ghost Leaf = { $name$-Leaf };
-
-    ghost view = { $module$-value };
-
-    ghost table = { $module$-table };
-
+const CODE: &str = "
+impl RecursiveMember<$moved$> for $name$ {
+$member_ghosts$
     ghost counted = { $module$-counted };
-
-    ghost single = { $module$-leaf.single };
 
     fn empty(alloc: Global) -> $name$ {
         $name$ {$emptied$}
@@ -61,12 +45,7 @@ $places$            _ => Place::Leaf,
         }
     }
 
-    fn row(&self, row: usize) -> &[$name$] {
-        match row {
-$rows$            _ => &[],
-        }
-    }
-
+$new_in$
 $take$
 $put$
 $push$
@@ -95,6 +74,12 @@ $puts$        }
 $merge$    }
 }
 
+$row_head$        match row {
+$rows$            _ => $own_slice$,
+        }
+    }
+}
+
 impl MessageFields for $name$ {
     ghost use Rattle.$crate$.specs.$name$.{$name$-Value};
     ghost use Rattle.$crate$.specs.$name$.{$module$-shape};
@@ -116,7 +101,7 @@ impl MessageFields for $name$ {
     }
 
     fn compute_size(&self, cache: &mut SizeCache) -> Result<u32, EncodeError> {
-        nest_size(self, cache)
+        $size_call$
     }
 
     fn write_to<S: EncodeSink>(
@@ -124,7 +109,7 @@ impl MessageFields for $name$ {
         cache: &mut SizeCache,
         sink: &mut S,
     ) -> Result<(), EncodeError> {
-        write_nest(self, cache, sink)
+        $write_call$
     }
 
     fn merge_field<B: Buf>(
@@ -134,114 +119,96 @@ impl MessageFields for $name$ {
         buf: &mut B,
         context: &mut DecodeContext,
     ) -> Result<(), DecodeError> {
-        merge_nest(self, alloc, tag, buf, context)
-    }
+$merge_held$    }
 
     fn clear(&mut self) {$cleared$}
 }
 ";
 
-const OF_ONCE: [Template; 7] = [
-    ("declared", "    pub $field$: Option<Box<$name$>>,\n"),
-    ("emptied", "            $field$: None,\n"),
-    ("cleared", "        self.$field$ = None;\n"),
-    ("places", "            $number$ => Place::$once$($row$),\n"),
-    (
-        "rows",
-        "            $row$ => {
-                match &self.$field$ {
-                    Some(message) => from_ref(message),
-                    None => &[],
-                }
-            }
-",
-    ),
-    (
-        "takes",
-        "            $row$ => {
-                match self.$field$.take() {
-                    Some(message) => Box::into_inner(message),
-                    None => $name$::empty(alloc),
-                }
-            }
-",
-    ),
-    (
-        "onces",
-        "            $row$ => {
-                self.$field$ = Some(Box::new(alloc, message)?);
-                Ok(())
-            }
-",
-    ),
-];
-
-const OF_EACH: [Template; 6] = [
-    ("declared", "    pub $field$: Vec<$name$>,\n"),
-    ("emptied", "            $field$: Vec::new(alloc),\n"),
-    ("cleared", "        self.$field$.clear();\n"),
-    (
-        "places",
-        "            $number$ => Place::Each($row$, $size$),\n",
-    ),
-    ("rows", "            $row$ => &self.$field$,\n"),
-    (
-        "eaches",
-        "            $row$ => push_message(&mut self.$field$, message),\n",
-    ),
-];
-
-const TAKE: &str = "    fn take(&mut self, alloc: Global, row: usize) -> $name$ {
+const NEW_IN: &str = "    fn new_in(alloc: Global, row: usize) -> $moved$ {
         match row {
-$takes$            _ => $name$::empty(alloc),
+$news$            _ => $own_moved$,
         }
     }
 ";
 
-const NO_TAKE: &str = "    fn take(&mut self, alloc: Global, _row: usize) -> $name$ {
-        $name$::empty(alloc)
+const NO_NEW_IN: &str = "    fn new_in(alloc: Global, _row: usize) -> $moved$ {
+        $own_moved$
     }
 ";
 
-const PUT: &str =
-    "    fn put(&mut self, alloc: Global, row: usize, message: $name$) -> Result<(), DecodeError> {
+const TAKE: &str = "    fn take(&mut self, alloc: Global, row: usize) -> $moved$ {
         match row {
-$onces$            _ => Ok(()),
+$takes$            _ => $own_moved$,
         }
     }
 ";
 
-const NO_PUT: &str =
-    "    fn put(&mut self, _alloc: Global, _row: usize, _message: $name$) -> Result<(), DecodeError> {
-        Ok(())
+const NO_TAKE: &str = "    fn take(&mut self, alloc: Global, _row: usize) -> $moved$ {
+        $own_moved$
     }
 ";
 
-const LONG_NO_PUT: &str = "    fn put(
+// The heads of a put and of a push, of some rows and of none, in a line and where it is longer.
+const PUT: [&str; 2] = [
+    "    fn put(&mut self, alloc: Global, row: usize, message: $moved$) \
+     -> Result<(), DecodeError> {",
+    "    fn put(
+        &mut self,
+        alloc: Global,
+        row: usize,
+        message: $moved$,
+    ) -> Result<(), DecodeError> {",
+];
+
+const NO_PUT: [&str; 2] = [
+    "    fn put(&mut self, _alloc: Global, _row: usize, _message: $moved$) \
+     -> Result<(), DecodeError> {",
+    "    fn put(
         &mut self,
         _alloc: Global,
         _row: usize,
-        _message: $name$,
-    ) -> Result<(), DecodeError> {
-        Ok(())
-    }
-";
+        _message: $moved$,
+    ) -> Result<(), DecodeError> {",
+];
 
-// The longest name with which the first stands in one line.
-const SHORT_NAME: usize = 9;
+const PUSH: [&str; 2] = [
+    "    fn push(&mut self, row: usize, message: $moved$) -> Result<(), DecodeError> {",
+    "    fn push(
+        &mut self,
+        row: usize,
+        message: $moved$,
+    ) -> Result<(), DecodeError> {",
+];
 
-const PUSH: &str = "    fn push(&mut self, row: usize, message: $name$) -> Result<(), DecodeError> {
-        match row {
-$eaches$            _ => Ok(()),
+const NO_PUSH: [&str; 2] = [
+    "    fn push(&mut self, _row: usize, _message: $moved$) -> Result<(), DecodeError> {",
+    "    fn push(
+        &mut self,
+        _row: usize,
+        _message: $moved$,
+    ) -> Result<(), DecodeError> {",
+];
+
+const ARMS: &str = "
+        match $matched$ {
+$arms_of_call$            _ => Ok(()),
         }
     }
 ";
 
-const NO_PUSH: &str =
-    "    fn push(&mut self, _row: usize, _message: $name$) -> Result<(), DecodeError> {
+const NO_ARMS: &str = "
         Ok(())
     }
 ";
+
+// How one more is put into a list, in a line and where it is longer.
+const PUSHED: [&str; 2] = [
+    "$arm$ => push_message(&mut self.$field$, message),",
+    "$arm$ => {
+                push_message(&mut self.$field$, message)
+            }",
+];
 
 /// The module of a message type that holds itself, or is of a family, whose words the base has.
 pub(crate) fn recursive_code(
@@ -251,8 +218,12 @@ pub(crate) fn recursive_code(
     fields: &[Field],
 ) -> Result<String, GenerateError> {
     let mut page = Words::like(base);
-    let is_member = !page.get("family_name").is_empty();
-    page.fill("uses", if is_member { MEMBER_USES } else { USES });
+    if is_member(&page) {
+        page.fill_all(&MEMBER);
+    } else {
+        page.fill_all(&ALONE);
+    }
+    page.fill("uses", USES);
     let mut count: usize = 0;
     for field in fields {
         if is_row(field) {
@@ -268,53 +239,56 @@ pub(crate) fn recursive_code(
     }
     put_run(&mut page, true);
     page.index("count", count);
-    put_rows(&mut page, count);
+    put_numbers(&mut page, count);
+    put_calls(&mut page);
     set_leaf_rest(&mut page);
-    page.fill(
-        "head_ghosts",
-        if is_member { MEMBER_GHOSTS } else { GHOSTS },
-    );
     put_head(&mut page, schema, message);
-    page.append("code", if is_member { MEMBER } else { RECURSIVE });
+    put_defaults(&mut page, fields, true);
+    page.append("code", CODE);
     page.finish("code")
+}
+
+// Whether the type is one of several that hold one another.
+fn is_member(page: &Words) -> bool {
+    !page.get("family_name").is_empty()
 }
 
 fn put_row(page: &mut Words, schema: &Schema, field: &Field) {
     put_field_comment(page, schema);
-    let is_member = !page.get("family_name").is_empty();
-    let is_other = is_member && page.get("of_name") != page.get("name");
-    page.append(
-        "uses",
-        if is_other {
-            "$of_path$ $of_name$\n"
-        } else {
-            ""
-        },
-    );
+    page.fill_all(if is_member(page) {
+        &MEMBER_OF
+    } else {
+        &ALONE_OF
+    });
+    if page.get("of_name") != page.get("name") {
+        page.append("uses", "$of_path$ $of_name$\n");
+    }
     if field.words.get("kind").starts_with("Each") {
-        page.append_all(if is_member { &MEMBER_EACH } else { &OF_EACH });
-        if page.get("each_line").chars().count() > 100 {
-            page.fill("each_line", LONG_EACH);
+        page.append_all(&EACH);
+        if is_member(page) {
+            page.append(
+                "news",
+                "            $row$ => $moved_open$$of_name$::empty(alloc)$moved_shut$,\n",
+            );
         }
-        page.append("eaches", if is_member { "$each_line$\n" } else { "" });
-        page.set("each_line", "");
+        fill_line(page, &PUSHED);
+        page.append("eaches", "$line$\n");
         page.append("uses", "wire_fields push_message\n");
     } else {
         page.set("once", once_place(field));
-        page.append_all(if is_member { &MEMBER_ONCE } else { &OF_ONCE });
+        page.append_all(&ONCE);
         page.append("uses", "std::slice from_ref\n");
-        let is_group = page.get("once") == "Grouped";
-        page.append(
-            "grouped",
-            if is_group {
-                "            $row$ => true,\n"
-            } else {
-                ""
-            },
-        );
     }
     page.fill("last_number", "$number$");
     page.append("numbered", "            $row$ => $number$,\n");
+}
+
+// Makes the first of two templates the word `line`, or the second where it is longer than a line.
+fn fill_line(page: &mut Words, forms: &'static [&'static str; 2]) {
+    page.fill("line", forms[0]);
+    if page.get("line").chars().count() > 100 {
+        page.fill("line", forms[1]);
+    }
 }
 
 // A field of the leaf: one of its run, and an arm.
@@ -328,8 +302,8 @@ fn put_leaf(page: &mut Words, schema: &Schema, field: &Field) {
     put_field_in_run(page);
 }
 
-// The calls of rows, of which some may be for no row.
-fn put_rows(page: &mut Words, count: usize) {
+// The field numbers of the rows.
+fn put_numbers(page: &mut Words, count: usize) {
     page.set("row_of_number", if count > 1 { "row" } else { "_row" });
     page.fill(
         "numbers_of_rows",
@@ -339,19 +313,28 @@ fn put_rows(page: &mut Words, count: usize) {
             "        $last_number$\n"
         },
     );
+}
+
+// The calls of rows, of which some may be for no row.
+fn put_calls(page: &mut Words) {
+    let has_new = !page.get("news").is_empty();
+    page.fill("new_in", if has_new { NEW_IN } else { NO_NEW_IN });
     let has_once = !page.get("onces").is_empty();
     page.fill("take", if has_once { TAKE } else { NO_TAKE });
-    let is_short = page.get("name").len() <= SHORT_NAME;
-    page.fill(
-        "put",
-        if has_once {
-            PUT
-        } else if is_short {
-            NO_PUT
-        } else {
-            LONG_NO_PUT
-        },
-    );
-    let has_each = !page.get("eaches").is_empty();
-    page.fill("push", if has_each { PUSH } else { NO_PUSH });
+    put_call(page, "put", "$onces$", [&PUT, &NO_PUT]);
+    put_call(page, "push", "$eaches$", [&PUSH, &NO_PUSH]);
+}
+
+// A call with an arm for each row, of the heads for some rows and for none.
+fn put_call(
+    page: &mut Words,
+    call: &'static str,
+    arms: &str,
+    heads: [&'static [&'static str; 2]; 2],
+) {
+    page.fill("arms_of_call", arms);
+    let is_none = page.get("arms_of_call").is_empty();
+    fill_line(page, heads[usize::from(is_none)]);
+    page.fill(call, "$line$");
+    page.append(call, if is_none { NO_ARMS } else { ARMS });
 }

@@ -64,8 +64,7 @@ $module$-$field$-kind = $definition$
 
 ";
 
-const WHAT: &str =
-    "A `$name$` as contracts see it, and its table: its leaf, and rows of messages of \
+const WHAT: &str = "`$name$` as contracts see it, and its table: its leaf, and rows of messages of \
                     its own type.";
 
 const TEXT: &str = "\
@@ -279,7 +278,7 @@ use Rattle.std.proofs.Common.{◌∙◌, ap, map, sym}
 use Rattle.wire_fields.specs.Nest.{listed_row}
 use Rattle.$crate$.specs.$name$.{$name$-Value, $module$-one, $module$-value}
 use Rattle.$crate$.specs.declared.$module$.$name$.{fold_out-$name$}
-use Rattle.$crate$.proofs.$module$.$name$Recursive.row.Goals as goal
+use Rattle.$crate$.proofs.$module$.$name$RecursiveAlone.row.Goals as goal
 ";
 
 const ROW: &str = "
@@ -296,13 +295,13 @@ use Rattle.wire_fields.specs.Nest.{listed_row, row_pushed}
 use Rattle.$crate$.specs.$name$.{$name$-Value, $module$-one, $module$-value}
 use Rattle.$crate$.specs.declared.$module$.$name$.{$name$, out-$name$, fold_out-$name$}
 use Rattle.$crate$.specs.declared.$module$.$name$.TheFolds.{fold-roll-$name$, map-$name$}
-use Rattle.$crate$.proofs.$module$.$name$Recursive.push.Goals as goal
+use Rattle.$crate$.proofs.$module$.$name$RecursiveMember.push.Goals as goal
 ";
 
 const PUSH: &str = "
 pub returns-in-$row$-clause-ok : goal.returns-in-$row$-clause-ok
 returns-in-$row$-clause-ok c =
-    λ here many. on_ok_weaker $call$.result (λ pushed. rw (
+    λ here many kind. on_ok_weaker $call$.result (λ pushed. rw (
       c.in-$row$.is,
       fold_out-$name$ $name$-Value $module$-one c.args.self.now,
     ) (fold-roll-$name$ $name$-Value $module$-one _

@@ -127,7 +127,7 @@ fn sort_lines(roots: &mut Words, name: &'static str) {
         roots.append(
             name,
             match (name, line) {
-                ("modules", "mod extensions" | "mod laws") => "pub $line$;\n",
+                ("modules", "mod extensions" | "mod laws" | "mod services") => "pub $line$;\n",
                 ("modules", _) => "$line$;\n",
                 _ => "$line$\n",
             },

@@ -12,7 +12,7 @@ $module$-stays g =
     $whole_stays$
 ";
 
-const WHAT: &str = "What decoding leaves of a `$name$` is in range.";
+const WHAT: &str = "What decoding leaves of `$name$` is in range.";
 
 const HEAD: &str = "$heading$$imports$$text$";
 

@@ -47,6 +47,8 @@ pub mod MaybeWidths
 pub mod MaybeWidthsStays
 pub mod Nest
 pub mod NestStays
+pub mod Presets
+pub mod PresetsStays
 pub mod Rights
 pub mod RightsStays
 pub mod Shade

@@ -15,7 +15,7 @@ pub struct Base {
     pub unknown: UnknownFields,
 }
 
-// The fields of a `Base`: their numbers, names and kinds.
+// The fields of `Base`: their numbers, names and kinds.
 macro_rules! rows {
     ($($call:tt)*) => {
         fields!(

@@ -79,12 +79,6 @@ impl RecursiveMember<FamilyHeld> for Call {
         2
     }
 
-    fn is_grouped(row: usize) -> bool {
-        match row {
-            _ => false,
-        }
-    }
-
     fn place(number: u32) -> Place {
         match number {
             2 => Place::Each(0, 48),
@@ -99,16 +93,17 @@ impl RecursiveMember<FamilyHeld> for Call {
         }
     }
 
-    fn take(&mut self, alloc: Global, row: usize) -> FamilyHeld {
-        match row {
-            _ => FamilyHeld::Call(Call::empty(alloc)),
-        }
+    fn take(&mut self, alloc: Global, _row: usize) -> FamilyHeld {
+        FamilyHeld::Call(Call::empty(alloc))
     }
 
-    fn put(&mut self, alloc: Global, row: usize, message: FamilyHeld) -> Result<(), DecodeError> {
-        match (row, message) {
-            _ => Ok(()),
-        }
+    fn put(
+        &mut self,
+        _alloc: Global,
+        _row: usize,
+        _message: FamilyHeld,
+    ) -> Result<(), DecodeError> {
+        Ok(())
     }
 
     fn push(&mut self, row: usize, message: FamilyHeld) -> Result<(), DecodeError> {

@@ -9,8 +9,8 @@ use wire_codec::{
     Tag, UnknownFields,
 };
 use wire_fields::{
-    Implicit, Int32, Kind, Known, Parts, Place, Recursive, Rest, keep, merge_nest, nest_size,
-    push_message, write_nest,
+    Implicit, Int32, Kind, Known, Parts, Place, RecursiveAlone, RecursiveMember, Rest, keep,
+    merge_nest, nest_size, push_message, write_nest,
 };
 
 /// It holds itself.
@@ -33,21 +33,27 @@ impl MessageName for Chain {
     const TYPE_URL: &'static str = "type.googleapis.com/kinds.Chain";
 }
 
-impl Recursive for Chain {
+impl RecursiveMember<Chain> for Chain {
+    ghost use Rattle.wire_fields.specs.NestTable.{alone};
     ghost use Rattle.wire_kinds.specs.Chain.{Chain-Leaf};
     ghost use Rattle.wire_kinds.specs.Chain.{chain-counted};
-    ghost use Rattle.wire_kinds.specs.Chain.{chain-leaf};
     ghost use Rattle.wire_kinds.specs.Chain.{chain-table};
+
+    ghost Sort = { Unit {0} };
 
     ghost Leaf = { Chain-Leaf };
 
+    ghost sort = { tt };
+
     ghost view = { chain-value };
 
-    ghost table = { chain-table };
+    ghost held_sort = { λ m. tt };
+
+    ghost held_view = { chain-value };
+
+    ghost family = { alone chain-table };
 
     ghost counted = { chain-counted };
-
-    ghost single = { chain-leaf.single };
 
     fn empty(alloc: Global) -> Chain {
         Chain {
@@ -78,17 +84,8 @@ impl Recursive for Chain {
         }
     }
 
-    fn row(&self, row: usize) -> &[Chain] {
-        match row {
-            0 => {
-                match &self.next {
-                    Some(message) => from_ref(message),
-                    None => &[],
-                }
-            }
-            1 => &self.beside,
-            _ => &[],
-        }
+    fn new_in(alloc: Global, _row: usize) -> Chain {
+        Chain::empty(alloc)
     }
 
     fn take(&mut self, alloc: Global, row: usize) -> Chain {
@@ -173,6 +170,32 @@ impl Recursive for Chain {
         match tag.field_number() {
             1 => <Implicit<Int32> as Kind>::merge(alloc, tag, &mut self.weight, buf, context),
             _ => keep(alloc, tag, &mut self.unknown, buf, context),
+        }
+    }
+}
+
+impl RecursiveAlone for Chain {
+    ghost use Rattle.std.proofs.Common.{refl};
+    ghost use Rattle.wire_kinds.specs.Chain.{chain-leaf};
+
+    ghost same_view = { λ m. refl };
+
+    ghost same_sort = { λ m. refl };
+
+    ghost holds_itself = { λ row. refl };
+
+    ghost single = { λ reading s. chain-leaf.single reading };
+
+    fn row(&self, row: usize) -> &[Chain] {
+        match row {
+            0 => {
+                match &self.next {
+                    Some(message) => from_ref(message),
+                    None => &[],
+                }
+            }
+            1 => &self.beside,
+            _ => &[],
         }
     }
 }

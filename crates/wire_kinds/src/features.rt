@@ -27,7 +27,7 @@ pub struct Features {
     pub unknown: UnknownFields,
 }
 
-// The fields of a `Features`: their numbers, names and kinds.
+// The fields of `Features`: their numbers, names and kinds.
 macro_rules! rows {
     ($($call:tt)*) => {
         fields!(

@@ -18,7 +18,7 @@ pub struct Grants {
     pub unknown: UnknownFields,
 }
 
-// The fields of a `Grants`: their numbers, names and kinds.
+// The fields of `Grants`: their numbers, names and kinds.
 macro_rules! rows {
     ($($call:tt)*) => {
         fields!(

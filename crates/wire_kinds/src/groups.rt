@@ -23,7 +23,7 @@ pub struct Groups {
     pub unknown: UnknownFields,
 }
 
-// The fields of a `Groups`: their numbers, names and kinds.
+// The fields of `Groups`: their numbers, names and kinds.
 macro_rules! rows {
     ($($call:tt)*) => {
         fields!(

@@ -15,7 +15,7 @@ pub struct GroupsEach {
     pub unknown: UnknownFields,
 }
 
-// The fields of a `GroupsEach`: their numbers, names and kinds.
+// The fields of `GroupsEach`: their numbers, names and kinds.
 macro_rules! rows {
     ($($call:tt)*) => {
         fields!(

@@ -15,7 +15,7 @@ pub struct GroupsOne {
     pub unknown: UnknownFields,
 }
 
-// The fields of a `GroupsOne`: their numbers, names and kinds.
+// The fields of `GroupsOne`: their numbers, names and kinds.
 macro_rules! rows {
     ($($call:tt)*) => {
         fields!(

@@ -19,7 +19,7 @@ pub struct Imports {
     pub unknown: UnknownFields,
 }
 
-// The fields of a `Imports`: their numbers, names and kinds.
+// The fields of `Imports`: their numbers, names and kinds.
 macro_rules! rows {
     ($($call:tt)*) => {
         fields!(

@@ -24,6 +24,7 @@ ghost use Rattle.wire_kinds.specs.Maps.{maps-range, maps-shape};
 ghost use Rattle.wire_kinds.specs.MaybeVarints.{maybe_varints-range, maybe_varints-shape};
 ghost use Rattle.wire_kinds.specs.MaybeWidths.{maybe_widths-range, maybe_widths-shape};
 ghost use Rattle.wire_kinds.specs.Nest.{nest-range, nest-shape};
+ghost use Rattle.wire_kinds.specs.Presets.{presets-range, presets-shape};
 ghost use Rattle.wire_kinds.specs.Rights.{rights-account, rights-range, rights-shape};
 ghost use Rattle.wire_kinds.specs.Team.{team-account, team-range, team-shape};
 ghost use Rattle.wire_kinds.specs.Varints.{varints-range, varints-shape};
@@ -33,7 +34,7 @@ ghost use Rattle.wire_kinds.specs.Widths.{widths-range, widths-shape};
 use wire_codec::laws::text_decodes;
 use wire_fields::laws::grounds;
 
-/// What is written of a `Call` in range decodes to it, where the limits suffice.
+/// What is written of each `Call` in range decodes to it, where the limits suffice.
 pub fn call_reads_back()
     ensures { ReadsBack call-shape call-range }
 {
@@ -41,7 +42,7 @@ pub fn call_reads_back()
     text_decodes::<crate::Call>();
 }
 
-/// What bytes decode to as a `Call` is in range, where each message and group
+/// What bytes decode to as `Call` is in range, where each message and group
 /// within it takes at most 2,147,483,647 bytes and any other payload less than 2^64.
 pub fn call_decodes_in_range()
     ensures { DecodesInRange call-shape call-range }
@@ -49,7 +50,7 @@ pub fn call_decodes_in_range()
     grounds();
 }
 
-/// What is written of a `Expression` in range decodes to it, where the limits suffice.
+/// What is written of each `Expression` in range decodes to it, where the limits suffice.
 pub fn expression_reads_back()
     ensures { ReadsBack expression-shape expression-range }
 {
@@ -57,7 +58,7 @@ pub fn expression_reads_back()
     text_decodes::<crate::Expression>();
 }
 
-/// What bytes decode to as a `Expression` is in range, where each message and group
+/// What bytes decode to as `Expression` is in range, where each message and group
 /// within it takes at most 2,147,483,647 bytes and any other payload less than 2^64.
 pub fn expression_decodes_in_range()
     ensures { DecodesInRange expression-shape expression-range }
@@ -65,7 +66,7 @@ pub fn expression_decodes_in_range()
     grounds();
 }
 
-/// What is written of a `Chain` in range decodes to it, where the limits suffice.
+/// What is written of each `Chain` in range decodes to it, where the limits suffice.
 pub fn chain_reads_back()
     ensures { ReadsBack chain-shape chain-range }
 {
@@ -73,7 +74,7 @@ pub fn chain_reads_back()
     text_decodes::<crate::Chain>();
 }
 
-/// What bytes decode to as a `Chain` is in range, where each message and group
+/// What bytes decode to as `Chain` is in range, where each message and group
 /// within it takes at most 2,147,483,647 bytes and any other payload less than 2^64.
 pub fn chain_decodes_in_range()
     ensures { DecodesInRange chain-shape chain-range }
@@ -81,7 +82,7 @@ pub fn chain_decodes_in_range()
     grounds();
 }
 
-/// What is written of a `Choice` in range decodes to it, where the limits suffice.
+/// What is written of each `Choice` in range decodes to it, where the limits suffice.
 pub fn choice_reads_back()
     ensures { ReadsBack choice-shape choice-range }
 {
@@ -89,7 +90,7 @@ pub fn choice_reads_back()
     text_decodes::<crate::Choice>();
 }
 
-/// What bytes decode to as a `Choice` is in range, where each message and group
+/// What bytes decode to as `Choice` is in range, where each message and group
 /// within it takes at most 2,147,483,647 bytes and any other payload less than 2^64.
 pub fn choice_decodes_in_range()
     ensures { DecodesInRange choice-shape choice-range }
@@ -97,7 +98,7 @@ pub fn choice_decodes_in_range()
     grounds();
 }
 
-/// What is written of a `Maps` in range decodes to it, where the limits suffice.
+/// What is written of each `Maps` in range decodes to it, where the limits suffice.
 pub fn maps_reads_back()
     ensures { ReadsBack maps-shape maps-range }
 {
@@ -105,7 +106,7 @@ pub fn maps_reads_back()
     text_decodes::<crate::Maps>();
 }
 
-/// What bytes decode to as a `Maps` is in range, where each message and group
+/// What bytes decode to as `Maps` is in range, where each message and group
 /// within it takes at most 2,147,483,647 bytes and any other payload less than 2^64.
 pub fn maps_decodes_in_range()
     ensures { DecodesInRange maps-shape maps-range }
@@ -113,7 +114,7 @@ pub fn maps_decodes_in_range()
     grounds();
 }
 
-/// What is written of a `Lists` in range decodes to it, where the limits suffice.
+/// What is written of each `Lists` in range decodes to it, where the limits suffice.
 pub fn lists_reads_back()
     ensures { ReadsBack lists-shape lists-range }
 {
@@ -121,7 +122,7 @@ pub fn lists_reads_back()
     text_decodes::<crate::Lists>();
 }
 
-/// What bytes decode to as a `Lists` is in range, where each message and group
+/// What bytes decode to as `Lists` is in range, where each message and group
 /// within it takes at most 2,147,483,647 bytes and any other payload less than 2^64.
 pub fn lists_decodes_in_range()
     ensures { DecodesInRange lists-shape lists-range }
@@ -129,7 +130,7 @@ pub fn lists_decodes_in_range()
     grounds();
 }
 
-/// What is written of a `MaybeWidths` in range decodes to it, where the limits suffice.
+/// What is written of each `MaybeWidths` in range decodes to it, where the limits suffice.
 pub fn maybe_widths_reads_back()
     ensures { ReadsBack maybe_widths-shape maybe_widths-range }
 {
@@ -137,7 +138,7 @@ pub fn maybe_widths_reads_back()
     text_decodes::<crate::MaybeWidths>();
 }
 
-/// What bytes decode to as a `MaybeWidths` is in range, where each message and group
+/// What bytes decode to as `MaybeWidths` is in range, where each message and group
 /// within it takes at most 2,147,483,647 bytes and any other payload less than 2^64.
 pub fn maybe_widths_decodes_in_range()
     ensures { DecodesInRange maybe_widths-shape maybe_widths-range }
@@ -145,7 +146,7 @@ pub fn maybe_widths_decodes_in_range()
     grounds();
 }
 
-/// What is written of a `MaybeVarints` in range decodes to it, where the limits suffice.
+/// What is written of each `MaybeVarints` in range decodes to it, where the limits suffice.
 pub fn maybe_varints_reads_back()
     ensures { ReadsBack maybe_varints-shape maybe_varints-range }
 {
@@ -153,7 +154,7 @@ pub fn maybe_varints_reads_back()
     text_decodes::<crate::MaybeVarints>();
 }
 
-/// What bytes decode to as a `MaybeVarints` is in range, where each message and group
+/// What bytes decode to as `MaybeVarints` is in range, where each message and group
 /// within it takes at most 2,147,483,647 bytes and any other payload less than 2^64.
 pub fn maybe_varints_decodes_in_range()
     ensures { DecodesInRange maybe_varints-shape maybe_varints-range }
@@ -161,7 +162,7 @@ pub fn maybe_varints_decodes_in_range()
     grounds();
 }
 
-/// What is written of a `Widths` in range decodes to it, where the limits suffice.
+/// What is written of each `Widths` in range decodes to it, where the limits suffice.
 pub fn widths_reads_back()
     ensures { ReadsBack widths-shape widths-range }
 {
@@ -169,7 +170,7 @@ pub fn widths_reads_back()
     text_decodes::<crate::Widths>();
 }
 
-/// What bytes decode to as a `Widths` is in range, where each message and group
+/// What bytes decode to as `Widths` is in range, where each message and group
 /// within it takes at most 2,147,483,647 bytes and any other payload less than 2^64.
 pub fn widths_decodes_in_range()
     ensures { DecodesInRange widths-shape widths-range }
@@ -177,7 +178,7 @@ pub fn widths_decodes_in_range()
     grounds();
 }
 
-/// What is written of a `Varints` in range decodes to it, where the limits suffice.
+/// What is written of each `Varints` in range decodes to it, where the limits suffice.
 pub fn varints_reads_back()
     ensures { ReadsBack varints-shape varints-range }
 {
@@ -185,7 +186,7 @@ pub fn varints_reads_back()
     text_decodes::<crate::Varints>();
 }
 
-/// What bytes decode to as a `Varints` is in range, where each message and group
+/// What bytes decode to as `Varints` is in range, where each message and group
 /// within it takes at most 2,147,483,647 bytes and any other payload less than 2^64.
 pub fn varints_decodes_in_range()
     ensures { DecodesInRange varints-shape varints-range }
@@ -193,7 +194,7 @@ pub fn varints_decodes_in_range()
     grounds();
 }
 
-/// What is written of a `Base` in range decodes to it, where the limits suffice.
+/// What is written of each `Base` in range decodes to it, where the limits suffice.
 pub fn base_reads_back()
     ensures { ReadsBack base-shape base-range }
 {
@@ -201,7 +202,7 @@ pub fn base_reads_back()
     text_decodes::<crate::Base>();
 }
 
-/// What bytes decode to as a `Base` is in range, where each message and group
+/// What bytes decode to as `Base` is in range, where each message and group
 /// within it takes at most 2,147,483,647 bytes and any other payload less than 2^64.
 pub fn base_decodes_in_range()
     ensures { DecodesInRange base-shape base-range }
@@ -209,7 +210,23 @@ pub fn base_decodes_in_range()
     grounds();
 }
 
-/// What is written of a `Wide` in range decodes to it, where the limits suffice.
+/// What is written of each `Presets` in range decodes to it, where the limits suffice.
+pub fn presets_reads_back()
+    ensures { ReadsBack presets-shape presets-range }
+{
+    grounds();
+    text_decodes::<crate::Presets>();
+}
+
+/// What bytes decode to as `Presets` is in range, where each message and group
+/// within it takes at most 2,147,483,647 bytes and any other payload less than 2^64.
+pub fn presets_decodes_in_range()
+    ensures { DecodesInRange presets-shape presets-range }
+{
+    grounds();
+}
+
+/// What is written of each `Wide` in range decodes to it, where the limits suffice.
 pub fn wide_reads_back()
     ensures { ReadsBack wide-shape wide-range }
 {
@@ -217,7 +234,7 @@ pub fn wide_reads_back()
     text_decodes::<crate::Wide>();
 }
 
-/// What bytes decode to as a `Wide` is in range, where each message and group
+/// What bytes decode to as `Wide` is in range, where each message and group
 /// within it takes at most 2,147,483,647 bytes and any other payload less than 2^64.
 pub fn wide_decodes_in_range()
     ensures { DecodesInRange wide-shape wide-range }
@@ -225,7 +242,7 @@ pub fn wide_decodes_in_range()
     grounds();
 }
 
-/// What is written of a `Imports` in range decodes to it, where the limits suffice.
+/// What is written of each `Imports` in range decodes to it, where the limits suffice.
 pub fn imports_reads_back()
     ensures { ReadsBack imports-shape imports-range }
 {
@@ -233,7 +250,7 @@ pub fn imports_reads_back()
     text_decodes::<crate::Imports>();
 }
 
-/// What bytes decode to as a `Imports` is in range, where each message and group
+/// What bytes decode to as `Imports` is in range, where each message and group
 /// within it takes at most 2,147,483,647 bytes and any other payload less than 2^64.
 pub fn imports_decodes_in_range()
     ensures { DecodesInRange imports-shape imports-range }
@@ -241,7 +258,7 @@ pub fn imports_decodes_in_range()
     grounds();
 }
 
-/// What is written of a `Groups` in range decodes to it, where the limits suffice.
+/// What is written of each `Groups` in range decodes to it, where the limits suffice.
 pub fn groups_reads_back()
     ensures { ReadsBack groups-shape groups-range }
 {
@@ -249,7 +266,7 @@ pub fn groups_reads_back()
     text_decodes::<crate::Groups>();
 }
 
-/// What bytes decode to as a `Groups` is in range, where each message and group
+/// What bytes decode to as `Groups` is in range, where each message and group
 /// within it takes at most 2,147,483,647 bytes and any other payload less than 2^64.
 pub fn groups_decodes_in_range()
     ensures { DecodesInRange groups-shape groups-range }
@@ -257,7 +274,7 @@ pub fn groups_decodes_in_range()
     grounds();
 }
 
-/// What is written of a `GroupsEach` in range decodes to it, where the limits suffice.
+/// What is written of each `GroupsEach` in range decodes to it, where the limits suffice.
 pub fn groups_each_reads_back()
     ensures { ReadsBack groups_each-shape groups_each-range }
 {
@@ -265,7 +282,7 @@ pub fn groups_each_reads_back()
     text_decodes::<crate::GroupsEach>();
 }
 
-/// What bytes decode to as a `GroupsEach` is in range, where each message and group
+/// What bytes decode to as `GroupsEach` is in range, where each message and group
 /// within it takes at most 2,147,483,647 bytes and any other payload less than 2^64.
 pub fn groups_each_decodes_in_range()
     ensures { DecodesInRange groups_each-shape groups_each-range }
@@ -273,7 +290,7 @@ pub fn groups_each_decodes_in_range()
     grounds();
 }
 
-/// What is written of a `GroupsOne` in range decodes to it, where the limits suffice.
+/// What is written of each `GroupsOne` in range decodes to it, where the limits suffice.
 pub fn groups_one_reads_back()
     ensures { ReadsBack groups_one-shape groups_one-range }
 {
@@ -281,7 +298,7 @@ pub fn groups_one_reads_back()
     text_decodes::<crate::GroupsOne>();
 }
 
-/// What bytes decode to as a `GroupsOne` is in range, where each message and group
+/// What bytes decode to as `GroupsOne` is in range, where each message and group
 /// within it takes at most 2,147,483,647 bytes and any other payload less than 2^64.
 pub fn groups_one_decodes_in_range()
     ensures { DecodesInRange groups_one-shape groups_one-range }
@@ -289,7 +306,7 @@ pub fn groups_one_decodes_in_range()
     grounds();
 }
 
-/// What is written of a `Team` in range decodes to it, whatever each record is charged that a map
+/// What is written of each `Team` in range decodes to it, whatever each record is charged that a map
 /// of a closed enum left, where the limits suffice.
 pub fn team_reads_back()
     ensures { (charges : List ℕ → ℕ → Payload → Charge)
@@ -299,7 +316,7 @@ pub fn team_reads_back()
     text_decodes::<crate::Team>();
 }
 
-/// What bytes decode to as a `Team` is in range, where each message and group
+/// What bytes decode to as `Team` is in range, where each message and group
 /// within it takes at most 2,147,483,647 bytes and any other payload less than 2^64.
 pub fn team_decodes_in_range()
     ensures { DecodesInRange team-shape (team-range team-account) }
@@ -307,7 +324,7 @@ pub fn team_decodes_in_range()
     grounds();
 }
 
-/// What is written of a `Rights` in range decodes to it, whatever each record is charged that a map
+/// What is written of each `Rights` in range decodes to it, whatever each record is charged that a map
 /// of a closed enum left, where the limits suffice.
 pub fn rights_reads_back()
     ensures { (charges : List ℕ → ℕ → Payload → Charge)
@@ -317,7 +334,7 @@ pub fn rights_reads_back()
     text_decodes::<crate::Rights>();
 }
 
-/// What bytes decode to as a `Rights` is in range, where each message and group
+/// What bytes decode to as `Rights` is in range, where each message and group
 /// within it takes at most 2,147,483,647 bytes and any other payload less than 2^64.
 pub fn rights_decodes_in_range()
     ensures { DecodesInRange rights-shape (rights-range rights-account) }
@@ -325,7 +342,7 @@ pub fn rights_decodes_in_range()
     grounds();
 }
 
-/// What is written of a `Grants` in range decodes to it, whatever each record is charged that a map
+/// What is written of each `Grants` in range decodes to it, whatever each record is charged that a map
 /// of a closed enum left, where the limits suffice.
 pub fn grants_reads_back()
     ensures { (charges : List ℕ → ℕ → Payload → Charge)
@@ -335,7 +352,7 @@ pub fn grants_reads_back()
     text_decodes::<crate::Grants>();
 }
 
-/// What bytes decode to as a `Grants` is in range, where each message and group
+/// What bytes decode to as `Grants` is in range, where each message and group
 /// within it takes at most 2,147,483,647 bytes and any other payload less than 2^64.
 pub fn grants_decodes_in_range()
     ensures { DecodesInRange grants-shape (grants-range grants-account) }
@@ -343,7 +360,7 @@ pub fn grants_decodes_in_range()
     grounds();
 }
 
-/// What is written of a `Levels` in range decodes to it, where the limits suffice.
+/// What is written of each `Levels` in range decodes to it, where the limits suffice.
 pub fn levels_reads_back()
     ensures { ReadsBack levels-shape levels-range }
 {
@@ -351,7 +368,7 @@ pub fn levels_reads_back()
     text_decodes::<crate::Levels>();
 }
 
-/// What bytes decode to as a `Levels` is in range, where each message and group
+/// What bytes decode to as `Levels` is in range, where each message and group
 /// within it takes at most 2,147,483,647 bytes and any other payload less than 2^64.
 pub fn levels_decodes_in_range()
     ensures { DecodesInRange levels-shape levels-range }
@@ -359,7 +376,7 @@ pub fn levels_decodes_in_range()
     grounds();
 }
 
-/// What is written of a `LevelsPart` in range decodes to it, where the limits suffice.
+/// What is written of each `LevelsPart` in range decodes to it, where the limits suffice.
 pub fn levels_part_reads_back()
     ensures { ReadsBack levels_part-shape levels_part-range }
 {
@@ -367,7 +384,7 @@ pub fn levels_part_reads_back()
     text_decodes::<crate::LevelsPart>();
 }
 
-/// What bytes decode to as a `LevelsPart` is in range, where each message and group
+/// What bytes decode to as `LevelsPart` is in range, where each message and group
 /// within it takes at most 2,147,483,647 bytes and any other payload less than 2^64.
 pub fn levels_part_decodes_in_range()
     ensures { DecodesInRange levels_part-shape levels_part-range }
@@ -375,7 +392,7 @@ pub fn levels_part_decodes_in_range()
     grounds();
 }
 
-/// What is written of a `Leaf` in range decodes to it, where the limits suffice.
+/// What is written of each `Leaf` in range decodes to it, where the limits suffice.
 pub fn leaf_reads_back()
     ensures { ReadsBack leaf-shape leaf-range }
 {
@@ -383,7 +400,7 @@ pub fn leaf_reads_back()
     text_decodes::<crate::Leaf>();
 }
 
-/// What bytes decode to as a `Leaf` is in range, where each message and group
+/// What bytes decode to as `Leaf` is in range, where each message and group
 /// within it takes at most 2,147,483,647 bytes and any other payload less than 2^64.
 pub fn leaf_decodes_in_range()
     ensures { DecodesInRange leaf-shape leaf-range }
@@ -391,7 +408,7 @@ pub fn leaf_decodes_in_range()
     grounds();
 }
 
-/// What is written of a `Nest` in range decodes to it, where the limits suffice.
+/// What is written of each `Nest` in range decodes to it, where the limits suffice.
 pub fn nest_reads_back()
     ensures { ReadsBack nest-shape nest-range }
 {
@@ -399,7 +416,7 @@ pub fn nest_reads_back()
     text_decodes::<crate::Nest>();
 }
 
-/// What bytes decode to as a `Nest` is in range, where each message and group
+/// What bytes decode to as `Nest` is in range, where each message and group
 /// within it takes at most 2,147,483,647 bytes and any other payload less than 2^64.
 pub fn nest_decodes_in_range()
     ensures { DecodesInRange nest-shape nest-range }
@@ -407,7 +424,7 @@ pub fn nest_decodes_in_range()
     grounds();
 }
 
-/// What is written of a `Features` in range decodes to it, where the limits suffice.
+/// What is written of each `Features` in range decodes to it, where the limits suffice.
 pub fn features_reads_back()
     ensures { ReadsBack features-shape features-range }
 {
@@ -415,7 +432,7 @@ pub fn features_reads_back()
     text_decodes::<crate::Features>();
 }
 
-/// What bytes decode to as a `Features` is in range, where each message and group
+/// What bytes decode to as `Features` is in range, where each message and group
 /// within it takes at most 2,147,483,647 bytes and any other payload less than 2^64.
 pub fn features_decodes_in_range()
     ensures { DecodesInRange features-shape features-range }

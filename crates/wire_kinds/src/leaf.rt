@@ -15,7 +15,7 @@ pub struct Leaf {
     pub unknown: UnknownFields,
 }
 
-// The fields of a `Leaf`: their numbers, names and kinds.
+// The fields of `Leaf`: their numbers, names and kinds.
 macro_rules! rows {
     ($($call:tt)*) => {
         fields!(

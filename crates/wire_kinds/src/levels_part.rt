@@ -15,7 +15,7 @@ pub struct LevelsPart {
     pub unknown: UnknownFields,
 }
 
-// The fields of a `LevelsPart`: their numbers, names and kinds.
+// The fields of `LevelsPart`: their numbers, names and kinds.
 macro_rules! rows {
     ($($call:tt)*) => {
         fields!(

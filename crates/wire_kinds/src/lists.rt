@@ -26,7 +26,7 @@ pub struct Lists {
     pub unknown: UnknownFields,
 }
 
-// The fields of a `Lists`: their numbers, names and kinds.
+// The fields of `Lists`: their numbers, names and kinds.
 macro_rules! rows {
     ($($call:tt)*) => {
         fields!(

@@ -24,7 +24,7 @@ pub struct Maps {
     pub unknown: UnknownFields,
 }
 
-// The fields of a `Maps`: their numbers, names and kinds.
+// The fields of `Maps`: their numbers, names and kinds.
 macro_rules! rows {
     ($($call:tt)*) => {
         fields!(

@@ -26,7 +26,7 @@ pub struct MaybeVarints {
     pub unknown: UnknownFields,
 }
 
-// The fields of a `MaybeVarints`: their numbers, names and kinds.
+// The fields of `MaybeVarints`: their numbers, names and kinds.
 macro_rules! rows {
     ($($call:tt)*) => {
         fields!(

@@ -25,7 +25,7 @@ pub struct MaybeWidths {
     pub unknown: UnknownFields,
 }
 
-// The fields of a `MaybeWidths`: their numbers, names and kinds.
+// The fields of `MaybeWidths`: their numbers, names and kinds.
 macro_rules! rows {
     ($($call:tt)*) => {
         fields!(

@@ -9,8 +9,8 @@ use wire_codec::{
     Tag, UnknownFields,
 };
 use wire_fields::{
-    Kind, Known, Optional, Parts, Place, Recursive, Rest, Sint64, keep, merge_nest, nest_size,
-    push_message, write_nest,
+    Kind, Known, Optional, Parts, Place, RecursiveAlone, RecursiveMember, Rest, Sint64, keep,
+    merge_nest, nest_size, push_message, write_nest,
 };
 
 /// The message `Nest`.
@@ -33,21 +33,43 @@ impl MessageName for Nest {
     const TYPE_URL: &'static str = "type.googleapis.com/kinds_2023.Nest";
 }
 
-impl Recursive for Nest {
+impl Nest {
+    ghost use Rattle.std.specs.Prelude.{negsuc, ◌≡◌};
+    ghost use Rattle.wire_fields.specs.Messages.{or_else};
+    ghost use Rattle.wire_kinds.specs.declared.nest.Nest.{out-Nest};
+
+    /// `weight`, or the schema's default value where it is not there.
+    pub fn weight_or_default(&self) -> i64
+        ensures { result ≡ or_else (negsuc 2) (out-Nest self.now).weight }
+    {
+        match self.weight {
+            Some(value) => value,
+            None => -3,
+        }
+    }
+}
+
+impl RecursiveMember<Nest> for Nest {
+    ghost use Rattle.wire_fields.specs.NestTable.{alone};
     ghost use Rattle.wire_kinds.specs.Nest.{Nest-Leaf};
     ghost use Rattle.wire_kinds.specs.Nest.{nest-counted};
-    ghost use Rattle.wire_kinds.specs.Nest.{nest-leaf};
     ghost use Rattle.wire_kinds.specs.Nest.{nest-table};
+
+    ghost Sort = { Unit {0} };
 
     ghost Leaf = { Nest-Leaf };
 
+    ghost sort = { tt };
+
     ghost view = { nest-value };
 
-    ghost table = { nest-table };
+    ghost held_sort = { λ m. tt };
+
+    ghost held_view = { nest-value };
+
+    ghost family = { alone nest-table };
 
     ghost counted = { nest-counted };
-
-    ghost single = { nest-leaf.single };
 
     fn empty(alloc: Global) -> Nest {
         Nest {
@@ -78,17 +100,8 @@ impl Recursive for Nest {
         }
     }
 
-    fn row(&self, row: usize) -> &[Nest] {
-        match row {
-            0 => {
-                match &self.inner {
-                    Some(message) => from_ref(message),
-                    None => &[],
-                }
-            }
-            1 => &self.nests,
-            _ => &[],
-        }
+    fn new_in(alloc: Global, _row: usize) -> Nest {
+        Nest::empty(alloc)
     }
 
     fn take(&mut self, alloc: Global, row: usize) -> Nest {
@@ -173,6 +186,32 @@ impl Recursive for Nest {
         match tag.field_number() {
             1 => <Optional<Sint64> as Kind>::merge(alloc, tag, &mut self.weight, buf, context),
             _ => keep(alloc, tag, &mut self.unknown, buf, context),
+        }
+    }
+}
+
+impl RecursiveAlone for Nest {
+    ghost use Rattle.std.proofs.Common.{refl};
+    ghost use Rattle.wire_kinds.specs.Nest.{nest-leaf};
+
+    ghost same_view = { λ m. refl };
+
+    ghost same_sort = { λ m. refl };
+
+    ghost holds_itself = { λ row. refl };
+
+    ghost single = { λ reading s. nest-leaf.single reading };
+
+    fn row(&self, row: usize) -> &[Nest] {
+        match row {
+            0 => {
+                match &self.inner {
+                    Some(message) => from_ref(message),
+                    None => &[],
+                }
+            }
+            1 => &self.nests,
+            _ => &[],
         }
     }
 }

@@ -18,7 +18,7 @@ pub struct Rights {
     pub unknown: UnknownFields,
 }
 
-// The fields of a `Rights`: their numbers, names and kinds.
+// The fields of `Rights`: their numbers, names and kinds.
 macro_rules! rows {
     ($($call:tt)*) => {
         fields!(

@@ -24,7 +24,7 @@ pub struct Team {
     pub unknown: UnknownFields,
 }
 
-// The fields of a `Team`: their numbers, names and kinds.
+// The fields of `Team`: their numbers, names and kinds.
 macro_rules! rows {
     ($($call:tt)*) => {
         fields!(

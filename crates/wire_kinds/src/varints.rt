@@ -26,7 +26,7 @@ pub struct Varints {
     pub unknown: UnknownFields,
 }
 
-// The fields of a `Varints`: their numbers, names and kinds.
+// The fields of `Varints`: their numbers, names and kinds.
 macro_rules! rows {
     ($($call:tt)*) => {
         fields!(

@@ -28,7 +28,7 @@ pub struct Wide {
     pub unknown: UnknownFields,
 }
 
-// The fields of a `Wide`: their numbers, names and kinds.
+// The fields of `Wide`: their numbers, names and kinds.
 macro_rules! rows {
     ($($call:tt)*) => {
         fields!(
@@ -155,7 +155,7 @@ impl MessageFields for Wide {
     }
 }
 
-// The fields 1 to 8 of a `Wide`.
+// The fields 1 to 8 of `Wide`.
 #[derive(Drop)]
 struct WideFields1To8<'a> {
     message: &'a Wide,
@@ -175,7 +175,7 @@ impl<'a> Parts for WideFields1To8<'a> {
     }
 }
 
-// The fields 9 to 9 of a `Wide`.
+// The fields 9 to 9 of `Wide`.
 #[derive(Drop)]
 struct WideFields9To9<'a> {
     message: &'a Wide,

@@ -25,7 +25,7 @@ pub struct Widths {
     pub unknown: UnknownFields,
 }
 
-// The fields of a `Widths`: their numbers, names and kinds.
+// The fields of `Widths`: their numbers, names and kinds.
 macro_rules! rows {
     ($($call:tt)*) => {
         fields!(

@@ -7,7 +7,7 @@ ghost use Rattle.wire_meter.specs.Meter.{meter-range, meter-shape};
 use wire_codec::laws::text_decodes;
 use wire_fields::laws::grounds;
 
-/// What is written of a `Meter` in range decodes to it, where the limits suffice.
+/// What is written of each `Meter` in range decodes to it, where the limits suffice.
 pub fn meter_reads_back()
     ensures { ReadsBack meter-shape meter-range }
 {
@@ -15,7 +15,7 @@ pub fn meter_reads_back()
     text_decodes::<crate::Meter>();
 }
 
-/// What bytes decode to as a `Meter` is in range, where each message and group
+/// What bytes decode to as `Meter` is in range, where each message and group
 /// within it takes at most 2,147,483,647 bytes and any other payload less than 2^64.
 pub fn meter_decodes_in_range()
     ensures { DecodesInRange meter-shape meter-range }

@@ -18,7 +18,7 @@ pub struct Meter {
     pub unknown: UnknownFields,
 }
 
-// The fields of a `Meter`: their numbers, names and kinds.
+// The fields of `Meter`: their numbers, names and kinds.
 macro_rules! rows {
     ($($call:tt)*) => {
         fields!(

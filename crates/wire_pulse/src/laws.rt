@@ -7,7 +7,7 @@ ghost use Rattle.wire_pulse.specs.Pulse.{pulse-range, pulse-shape};
 use wire_codec::laws::text_decodes;
 use wire_fields::laws::grounds;
 
-/// What is written of a `Pulse` in range decodes to it, where the limits suffice.
+/// What is written of each `Pulse` in range decodes to it, where the limits suffice.
 pub fn pulse_reads_back()
     ensures { ReadsBack pulse-shape pulse-range }
 {
@@ -15,7 +15,7 @@ pub fn pulse_reads_back()
     text_decodes::<crate::Pulse>();
 }
 
-/// What bytes decode to as a `Pulse` is in range, where each message and group
+/// What bytes decode to as `Pulse` is in range, where each message and group
 /// within it takes at most 2,147,483,647 bytes and any other payload less than 2^64.
 pub fn pulse_decodes_in_range()
     ensures { DecodesInRange pulse-shape pulse-range }

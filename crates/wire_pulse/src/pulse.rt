@@ -12,7 +12,7 @@ pub struct Pulse {
     pub beats: u32,
 }
 
-// The fields of a `Pulse`: their numbers, names and kinds.
+// The fields of `Pulse`: their numbers, names and kinds.
 macro_rules! rows {
     ($($call:tt)*) => {
         fields!(

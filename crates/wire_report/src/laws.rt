@@ -8,7 +8,7 @@ ghost use Rattle.wire_report.specs.ReportSample.{report_sample-range, report_sam
 use wire_codec::laws::text_decodes;
 use wire_fields::laws::grounds;
 
-/// What is written of a `Report` in range decodes to it, where the limits suffice.
+/// What is written of each `Report` in range decodes to it, where the limits suffice.
 pub fn report_reads_back()
     ensures { ReadsBack report-shape report-range }
 {
@@ -16,7 +16,7 @@ pub fn report_reads_back()
     text_decodes::<crate::Report>();
 }
 
-/// What bytes decode to as a `Report` is in range, where each message and group
+/// What bytes decode to as `Report` is in range, where each message and group
 /// within it takes at most 2,147,483,647 bytes and any other payload less than 2^64.
 pub fn report_decodes_in_range()
     ensures { DecodesInRange report-shape report-range }
@@ -24,7 +24,7 @@ pub fn report_decodes_in_range()
     grounds();
 }
 
-/// What is written of a `ReportSample` in range decodes to it, where the limits suffice.
+/// What is written of each `ReportSample` in range decodes to it, where the limits suffice.
 pub fn report_sample_reads_back()
     ensures { ReadsBack report_sample-shape report_sample-range }
 {
@@ -32,7 +32,7 @@ pub fn report_sample_reads_back()
     text_decodes::<crate::ReportSample>();
 }
 
-/// What bytes decode to as a `ReportSample` is in range, where each message and group
+/// What bytes decode to as `ReportSample` is in range, where each message and group
 /// within it takes at most 2,147,483,647 bytes and any other payload less than 2^64.
 pub fn report_sample_decodes_in_range()
     ensures { DecodesInRange report_sample-shape report_sample-range }

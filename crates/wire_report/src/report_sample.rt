@@ -19,7 +19,7 @@ pub struct ReportSample {
     pub unknown: UnknownFields,
 }
 
-// The fields of a `ReportSample`: their numbers, names and kinds.
+// The fields of `ReportSample`: their numbers, names and kinds.
 macro_rules! rows {
     ($($call:tt)*) => {
         fields!(

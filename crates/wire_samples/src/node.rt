@@ -10,8 +10,8 @@ use wire_codec::{
     Tag, UnknownFields, laws,
 };
 use wire_fields::{
-    Implicit, Kind, Known, Parts, Place, Recursive, Rest, Sint64, keep, merge_nest, nest_size,
-    push_message, write_nest,
+    Implicit, Kind, Known, Parts, Place, RecursiveAlone, RecursiveMember, Rest, Sint64, keep,
+    merge_nest, nest_size, push_message, write_nest,
 };
 
 // How many bytes of element memory each of the children takes.
@@ -47,19 +47,25 @@ impl MessageName for Node {
     const TYPE_URL: &'static str = "type.googleapis.com/wire.samples.Node";
 }
 
-impl Recursive for Node {
-    ghost use Rattle.wire_samples.specs.NodeTable.{NodeLeaf, node_nest, node_table, node_leaf};
-    ghost use Rattle.wire_samples.specs.NodeTable.{node_counted};
+impl RecursiveMember<Node> for Node {
+    ghost use Rattle.wire_fields.specs.NestTable.{alone};
+    ghost use Rattle.wire_samples.specs.NodeTable.{NodeLeaf, node_nest, node_table, node_counted};
+
+    ghost Sort = { Unit {0} };
 
     ghost Leaf = { NodeLeaf };
 
+    ghost sort = { tt };
+
     ghost view = { node_nest };
 
-    ghost table = { node_table };
+    ghost held_sort = { λ m. tt };
+
+    ghost held_view = { node_nest };
+
+    ghost family = { alone node_table };
 
     ghost counted = { node_counted };
-
-    ghost single = { node_leaf.single };
 
     #[inline(always)]
     fn empty(alloc: Global) -> Node {
@@ -97,23 +103,8 @@ impl Recursive for Node {
     }
 
     #[inline(always)]
-    fn row(&self, row: usize) -> &[Node] {
-        match row {
-            0 => {
-                match &self.child {
-                    Some(message) => slice::from_ref(message),
-                    None => &[],
-                }
-            }
-            1 => &self.children,
-            2 => {
-                match &self.group {
-                    Some(message) => slice::from_ref(message),
-                    None => &[],
-                }
-            }
-            _ => &[],
-        }
+    fn new_in(alloc: Global, _row: usize) -> Node {
+        Node::empty(alloc)
     }
 
     #[inline(always)]
@@ -220,6 +211,39 @@ impl Recursive for Node {
     }
 }
 
+impl RecursiveAlone for Node {
+    ghost use Rattle.std.proofs.Common.{refl};
+    ghost use Rattle.wire_samples.specs.NodeTable.{node_leaf};
+
+    ghost same_view = { λ m. refl };
+
+    ghost same_sort = { λ m. refl };
+
+    ghost holds_itself = { λ row. refl };
+
+    ghost single = { λ reading s. node_leaf.single reading };
+
+    #[inline(always)]
+    fn row(&self, row: usize) -> &[Node] {
+        match row {
+            0 => {
+                match &self.child {
+                    Some(message) => slice::from_ref(message),
+                    None => &[],
+                }
+            }
+            1 => &self.children,
+            2 => {
+                match &self.group {
+                    Some(message) => slice::from_ref(message),
+                    None => &[],
+                }
+            }
+            _ => &[],
+        }
+    }
+}
+
 impl MessageFields for Node {
     ghost use Rattle.wire_samples.specs.Node.{NodeValue, node_value, node_records, default_node};
     ghost use Rattle.wire_samples.specs.NodeSteps.{NodeTakes};
@@ -238,7 +262,7 @@ impl MessageFields for Node {
     ghost single = { node_single };
 
     fn default_value(alloc: Global) -> Node {
-        <Node as Recursive>::empty(alloc)
+        <Node as RecursiveMember<Node>>::empty(alloc)
     }
 
     fn compute_size(&self, cache: &mut SizeCache) -> Result<u32, EncodeError> {

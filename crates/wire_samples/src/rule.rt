@@ -9,8 +9,8 @@ use wire_codec::{
     UnknownFields,
 };
 use wire_fields::{
-    Always, Dropped, Implicit, Kind, Known, Parts, Place, Recursive, Rest, Text, Uint64, keep,
-    merge_nest, nest_size, push_message, write_nest,
+    Always, Dropped, Implicit, Kind, Known, Parts, Place, RecursiveAlone, RecursiveMember, Rest,
+    Text, Uint64, keep, merge_nest, nest_size, push_message, write_nest,
 };
 
 /// A rule: its test, and others that hold besides.
@@ -32,18 +32,25 @@ pub enum RuleTest {
     Count(u64),
 }
 
-impl Recursive for Rule {
-    ghost use Rattle.wire_samples.specs.Rule.{RuleLeaf, rule, rule_leaf, rule_counted};
+impl RecursiveMember<Rule> for Rule {
+    ghost use Rattle.wire_fields.specs.NestTable.{alone};
+    ghost use Rattle.wire_samples.specs.Rule.{RuleLeaf, rule, rule_counted};
+
+    ghost Sort = { Unit {0} };
 
     ghost Leaf = { RuleLeaf };
 
+    ghost sort = { tt };
+
     ghost view = { rule_value };
 
-    ghost table = { rule };
+    ghost held_sort = { λ m. tt };
+
+    ghost held_view = { rule_value };
+
+    ghost family = { alone rule };
 
     ghost counted = { rule_counted };
-
-    ghost single = { rule_leaf.single };
 
     fn empty(alloc: Global) -> Rule {
         Rule {
@@ -73,17 +80,8 @@ impl Recursive for Rule {
         }
     }
 
-    fn row(&self, row: usize) -> &[Rule] {
-        match row {
-            0 => {
-                match &self.test {
-                    Some(RuleTest::Not(message)) => slice::from_ref(message),
-                    _ => &[],
-                }
-            }
-            1 => &self.all,
-            _ => &[],
-        }
+    fn new_in(alloc: Global, _row: usize) -> Rule {
+        Rule::empty(alloc)
     }
 
     fn take(&mut self, alloc: Global, row: usize) -> Rule {
@@ -212,6 +210,32 @@ impl Recursive for Rule {
                 Ok(())
             }
             _ => keep(alloc, tag, &mut self.unknown, buf, context),
+        }
+    }
+}
+
+impl RecursiveAlone for Rule {
+    ghost use Rattle.std.proofs.Common.{refl};
+    ghost use Rattle.wire_samples.specs.Rule.{rule_leaf};
+
+    ghost same_view = { λ m. refl };
+
+    ghost same_sort = { λ m. refl };
+
+    ghost holds_itself = { λ row. refl };
+
+    ghost single = { λ reading s. rule_leaf.single reading };
+
+    fn row(&self, row: usize) -> &[Rule] {
+        match row {
+            0 => {
+                match &self.test {
+                    Some(RuleTest::Not(message)) => slice::from_ref(message),
+                    _ => &[],
+                }
+            }
+            1 => &self.all,
+            _ => &[],
         }
     }
 }

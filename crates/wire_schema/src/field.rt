@@ -1,11 +1,12 @@
 //! Fields of a message type, each with its kind.
 use crate::closed::set_closed;
+use crate::default::{set_default, stop_on_default};
 use crate::error::GenerateError;
 use crate::features::Features;
 use crate::item::{Sort, set_item};
 use crate::keeping::{leave_others, set_keeping, set_types};
 use crate::kind::{set_always, set_key, set_kind, set_map};
-use crate::names::{variant_name, word_name};
+use crate::names::{apart, variant_name, word_name};
 use crate::oneof::{Oneof, add_variant, is_new, oneof_of};
 use crate::schema::{MessageType, Schema};
 use crate::words::{Template, Words};
@@ -38,10 +39,12 @@ pub fn fields_of(
         order.push((field.number, place))?;
     }
     order.sort()?;
+    let names = names_of(alloc, &message.descriptor)?;
     let mut fields = Vec::new(alloc);
     for (_, place) in order {
-        if let Some(field) = message.descriptor.field.get(place) {
+        if let (Some(field), Some(name)) = (message.descriptor.field.get(place), names.get(place)) {
             let mut words = started(base, &message.words, field)?;
+            words.set("field", name);
             words.index("at", place);
             add_field(base, words, schema, message, field, &mut fields)?;
         }
@@ -49,6 +52,16 @@ pub fn fields_of(
     names_differ(alloc, &mut fields)?;
     leave_others(&mut fields);
     Ok(fields)
+}
+
+// The names of the fields in the order of the schema, in which no two are one.
+fn names_of(alloc: Global, message: &DescriptorProto) -> Result<Vec<String>, GenerateError> {
+    let mut names = Vec::new(alloc);
+    for field in &message.field {
+        let name = apart(alloc, word_name(alloc, &field.name)?, &names)?;
+        names.push(name)?;
+    }
+    Ok(names)
 }
 
 // Puts a field behind others, or into its oneof.
@@ -142,9 +155,6 @@ pub fn started(
     words.set("field", &word_name(base.alloc(), &field.name)?);
     words.number("number", field.number);
     words.fill("numbers", "$number$");
-    if !field.default_value.is_empty() && words.get("defaults") != "skip" {
-        return Err(words.refused("$full$.$proto$: default values want defaults=skip"));
-    }
     Ok(words)
 }
 
@@ -189,6 +199,7 @@ pub fn set_field(
         }
         None => {
             let sort = set_item(schema, features, field, words)?;
+            set_default(schema, field, words)?;
             words.number("size", element_size(schema, field));
             if !words.get("element").is_empty() {
                 words.fill("size", "$element$");
@@ -222,11 +233,19 @@ fn variant_of(
     features: Features,
     field: &FieldDescriptorProto,
 ) -> Result<Words, GenerateError> {
+    stop_on_default(field, &mut words)?;
     let sort = set_item(schema, features, field, &mut words)?;
     stop_on_closed(&mut words)?;
     set_always(sort, &mut words);
     set_types(false, &mut words);
-    words.set("variant", &variant_name(words.alloc(), &field.name)?);
+    let alloc = words.alloc();
+    let is_own = words.get("field") == word_name(alloc, &field.name)?.as_str();
+    let variant = if is_own {
+        variant_name(alloc, &field.name)?
+    } else {
+        variant_name(alloc, words.get("field"))?
+    };
+    words.set("variant", &variant);
     // (a clause has one name for one thing)
     if words.get("kind").starts_with("Enum<") && words.get("variant") == words.get("of_name") {
         words.append("variant", "_");

@@ -20,10 +20,10 @@ pub(crate) enum Sort {
 // contracts see it, its type `value`, what stands `before` and `behind` one in code, and the same
 // as a function, `view`; its `definition`; the `form` and the `map` of a number, and `numeric`
 // where it is one; the `wire_type` of its records; copies of a field, `copy_once` and
-// `copy_option`, and of a `value`, `copy_value`; `closed`, where it is of an enum that is;
-// `order` and `order_numbers` as the key of a map; and lines of names that are brought in, of
-// `code`, of `definitions`, and `ghosts` of clauses.
-const STRING: [Template; 11] = [
+// `copy_option`; `closed`, where it is of an enum that is; `order` and `order_numbers` as the key
+// of a map; and lines of names that are brought in, of `code`, of `definitions`, and `ghosts` of
+// clauses.
+const STRING: [Template; 10] = [
     ("item_stays", "string_stays"),
     ("held", "String"),
     ("kind", "Text"),
@@ -33,11 +33,10 @@ const STRING: [Template; 11] = [
     ("definition", "string"),
     ("order", "text_map"),
     ("copy_once", "self.$field$.clone()?"),
-    ("copy_value", "value.clone()?"),
     ("ghosts", "Rattle.std.specs.Prelude string_bytes\n"),
 ];
 
-const BYTES: [Template; 10] = [
+const BYTES: [Template; 9] = [
     ("item_stays", "any_bytes_stay"),
     ("held", "Vec<u8>"),
     ("kind", "Blob"),
@@ -46,7 +45,6 @@ const BYTES: [Template; 10] = [
     ("view", "(λ b. b.items)"),
     ("definition", "any_bytes"),
     ("copy_once", "copied_numbers(&self.$field$)?"),
-    ("copy_value", "copied_numbers(value)?"),
     ("ghosts", ""),
 ];
 
@@ -81,7 +79,7 @@ const OF_TEXT: [Template; 3] = [
     ),
 ];
 
-const NUMBER: [Template; 10] = [
+const NUMBER: [Template; 9] = [
     ("wire_type", "$form$"),
     ("before", ""),
     ("behind", ""),
@@ -90,7 +88,6 @@ const NUMBER: [Template; 10] = [
     ("numeric", "Rattle.wire_fields.specs.Numbers numeric\n"),
     ("copy_once", "self.$field$"),
     ("copy_option", "self.$field$"),
-    ("copy_value", "*value"),
     ("ghosts", ""),
 ];
 
@@ -202,7 +199,7 @@ const OF_ENUM: [Template; 5] = [
     ),
 ];
 
-const MESSAGE: [Template; 16] = [
+const MESSAGE: [Template; 15] = [
     ("item_stays", "($of_module$-stays g)"),
     ("stays_uses", "$specs$Stays $of_module$-stays\n"),
     ("scalar_uses", ""),
@@ -219,7 +216,6 @@ const MESSAGE: [Template; 16] = [
     ("behind", ""),
     ("view", "$of_module$-value"),
     ("definition", "$of_module$-shape"),
-    ("copy_value", "value.clone()?"),
     ("numeric", ""),
     ("ghosts", "$specs$ $of_module$-value\n"),
 ];
@@ -253,7 +249,9 @@ pub(crate) fn set_item(
 
 fn foreign(field: &FieldDescriptorProto, words: &mut Words) -> GenerateError {
     words.set("of", &field.type_name);
-    words.refused("$full$.$proto$: $of$ is of a file of no crate that is named")
+    words.refused(
+        "$full$.$proto$: $of$ is of a file of no crate that is named, as import=PACKAGE=CRATE does",
+    )
 }
 
 // A string, or bytes where it may be any and that is asked for. A key of a map is a string always.

@@ -6,6 +6,9 @@
 mod closed;
 mod closing;
 mod comment;
+mod default;
+mod default_text;
+mod enum_values;
 mod error;
 mod features;
 mod field;
@@ -21,11 +24,13 @@ mod scalar;
 mod schema;
 mod words;
 
+pub use default::stop_on_default;
+pub use enum_values::{NamedValue, values_of};
 pub use error::GenerateError;
 pub use features::{FIRST_EDITION, Features, LAST_EDITION};
 pub use field::{Field, features_of, fields_of, set_field, started};
-pub use names::{constant_name, order_key, value_name, variant_name, word_name};
+pub use names::{constant_name, order_key, variant_name, word_name};
 pub use oneof::{Oneof, put_apart};
 pub use parameters::set_crate;
-pub use schema::{EnumType, Extension, MessageType, Origin, Schema};
+pub use schema::{EnumType, Extension, MessageType, Origin, Schema, ServiceType};
 pub use words::{Template, Words};

@@ -26,6 +26,15 @@ const TYPES: &str = "AllocError Always AlwaysEmbedded BTreeMap Blob Bool Box Buf
 // underscore behind it.
 const PARAMETERS: &str = "B S";
 
+/// Whether a crate can have this name.
+pub(crate) fn is_crate_name(name: &str) -> bool {
+    let has_digit_first = name.starts_with(|it: char| it.is_ascii_digit());
+    let are_signs = name
+        .chars()
+        .all(|it| it.is_ascii_alphanumeric() || it == '_');
+    are_signs && !has_digit_first && !WORDS.split(' ').any(|it| it == name)
+}
+
 /// The name of a type, `OuterInner` of `Outer.Inner`.
 pub(crate) fn type_name(alloc: Global, name: &str) -> Result<String, GenerateError> {
     escaped(variant_name(alloc, name)?, PARAMETERS)
@@ -46,11 +55,11 @@ pub fn variant_name(alloc: Global, name: &str) -> Result<String, GenerateError> 
             text.push(letter)?;
         }
     }
-    escaped(text, TYPES)
+    escaped(begun(alloc, text)?, TYPES)
 }
 
 /// The name of a value of an enum, `VeryHigh` of `VERY_HIGH`.
-pub fn value_name(alloc: Global, name: &str) -> Result<String, GenerateError> {
+pub(crate) fn value_name(alloc: Global, name: &str) -> Result<String, GenerateError> {
     let mut text = String::new(alloc);
     let mut begins = true;
     for letter in name.chars() {
@@ -63,7 +72,7 @@ pub fn value_name(alloc: Global, name: &str) -> Result<String, GenerateError> {
             text.push(letter.to_ascii_lowercase())?;
         }
     }
-    escaped(text, TYPES)
+    escaped(begun(alloc, text)?, TYPES)
 }
 
 /// The name of a constant, `VERY_HIGH` of `very_high`.
@@ -75,9 +84,13 @@ pub fn constant_name(alloc: Global, name: &str) -> Result<String, GenerateError>
     Ok(text)
 }
 
-/// A name of small letters, `outer_inner` of `OuterInner`.
+/// A name of small letters, `outer_inner` of `OuterInner`; one of underscores alone has an `x` before
+/// them.
 pub fn word_name(alloc: Global, name: &str) -> Result<String, GenerateError> {
     let mut text = String::new(alloc);
+    if name.chars().all(|it| it == '_') {
+        text.push('x')?;
+    }
     let mut was_small = false;
     for letter in name.chars() {
         if letter.is_ascii_uppercase() && was_small {
@@ -89,6 +102,38 @@ pub fn word_name(alloc: Global, name: &str) -> Result<String, GenerateError> {
     escaped(text, WORDS)
 }
 
+/// The name, or where others have it, with an underscore and a number behind it: the first that none
+/// of them has, from 2 on.
+pub(crate) fn apart(
+    alloc: Global,
+    name: String,
+    others: &[String],
+) -> Result<String, GenerateError> {
+    if !others.contains(&name) {
+        return Ok(name);
+    }
+    for number in 2..others.len().saturating_add(3) {
+        let mut further = name.clone()?;
+        further.push('_')?;
+        further.push_str(&number.to_string(alloc)?)?;
+        if !others.contains(&further) {
+            return Ok(further);
+        }
+    }
+    Ok(name)
+}
+
+// A name of capitals that no letter begins has an `X` before it.
+fn begun(alloc: Global, text: String) -> Result<String, GenerateError> {
+    if text.starts_with(|it: char| it.is_ascii_alphabetic()) {
+        return Ok(text);
+    }
+    let mut name = String::from_str(alloc, "X")?;
+    name.push_str(&text)?;
+    Ok(name)
+}
+
+// A name that is taken has an underscore behind it.
 fn escaped(mut name: String, taken: &str) -> Result<String, GenerateError> {
     if taken.split(' ').any(|it| it == name.as_str()) {
         name.push('_')?;

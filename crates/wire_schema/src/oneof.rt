@@ -69,7 +69,7 @@ pub(crate) fn add_variant(
     for field in fields {
         if let Some(oneof) = &mut field.oneof {
             if oneof.index == index {
-                tell_apart(&mut variant, &oneof.words);
+                tell_apart(&mut variant, oneof);
                 if oneof.variants.is_empty() {
                     field.words.set("number", variant.get("number"));
                 }
@@ -82,10 +82,14 @@ pub(crate) fn add_variant(
     Ok(())
 }
 
-// In a clause a variant is not called as its oneof.
-fn tell_apart(variant: &mut Words, oneof: &Words) {
-    if variant.get("variant") == oneof.get("name") {
+// In a clause a variant is not called as its oneof, and in code not as another.
+fn tell_apart(variant: &mut Words, oneof: &Oneof) {
+    if variant.get("variant") == oneof.words.get("name") {
         variant.append("variant", "_");
+    }
+    let name = variant.get("variant");
+    if oneof.variants.iter().any(|it| it.get("variant") == name) {
+        variant.append("variant", "_$number$");
     }
 }
 
@@ -121,7 +125,7 @@ const ONEOF: [Template; 18] = [
     ("table", "$module$-shape"),
     ("step", "$module$-shape.takes"),
     ("call", "merge"),
-    ("copy", "copied_$module$(&self.$field$)?"),
+    ("copy", "copied_option(&self.$field$)?"),
     (
         "code",
         "crate::$module$ $name$\ncrate::$module$ $name$Kind\n",

@@ -52,16 +52,3 @@ pub(crate) fn own_origin(message: &MessageType) -> Result<Origin, GenerateError>
         is_own: message.origin.is_own,
     })
 }
-
-/// Services are passed over where the parameter says so.
-pub(crate) fn stop_on_services(
-    base: &Words,
-    file: &FileDescriptorProto,
-) -> Result<(), GenerateError> {
-    if file.service.is_empty() || base.get("services") == "skip" {
-        return Ok(());
-    }
-    let mut words = Words::like(base);
-    words.set("file", &file.name);
-    Err(words.refused("$file$: services want services=skip"))
-}

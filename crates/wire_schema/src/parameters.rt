@@ -1,6 +1,7 @@
 //! What the parameter of a request says.
 use crate::error::GenerateError;
 use crate::field::features_of;
+use crate::names::is_crate_name;
 use crate::schema::{MessageType, Schema};
 use crate::words::{Template, Words};
 use std::alloc::Global;
@@ -37,6 +38,9 @@ pub fn set_crate(base: &mut Words, request: &CodeGeneratorRequest) -> Result<(),
     if base.get("crate").is_empty() {
         return Err(base.refused("no file is to be generated"));
     }
+    if !is_crate_name(base.get("crate")) {
+        return Err(base.refused(NO_NAME));
+    }
     if base.get("unknown") == "drop" && base.get("mismatch") == "keep" {
         return Err(base.refused("mismatch=keep wants unknown=keep"));
     }
@@ -49,6 +53,10 @@ const DEFAULTS: [Template; 4] = [
     ("unknown", "keep"),
     ("mismatch", "refuse"),
 ];
+
+const NO_NAME: &str = "\
+    a crate is called by letters, digits and underscores, no digit first, and by no word of the \
+    language: crate=$crate$";
 
 const PARAMETERS: &str = "\
     parameters are crate=NAME, import=PACKAGE=CRATE, element=BYTES, unknown=keep or drop, \
@@ -86,7 +94,10 @@ fn set_import(base: &mut Words, import: &str) -> Result<(), GenerateError> {
     };
     base.set("package", package);
     base.set("home", home);
-    base.append_all(&[("imported", "$package$ $home$\n"), ("needs", " $home$")]);
+    base.append("imported", "$package$ $home$\n");
+    if !base.get("needs").split(' ').any(|it| it == home) {
+        base.append("needs", " $home$");
+    }
     Ok(())
 }
 

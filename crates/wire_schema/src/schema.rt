@@ -2,14 +2,14 @@
 use crate::comment::documentation;
 use crate::error::GenerateError;
 use crate::features::Features;
-use crate::origin::{home_of, inner, own_origin, stop_on_services};
+use crate::origin::{home_of, inner, own_origin};
 use crate::parameters::adapt;
 use crate::words::Words;
 use std::alloc::Global;
 use wire_codec::Message;
 use wire_descriptor::{
     CodeGeneratorRequest, DescriptorProto, EnumDescriptorProto, FieldDescriptorProto,
-    FileDescriptorProto,
+    FileDescriptorProto, ServiceDescriptorProto,
 };
 
 // The most message types of one file.
@@ -78,6 +78,13 @@ pub struct Extension {
     pub descriptor: FieldDescriptorProto,
 }
 
+/// A service, with the words of a message type.
+#[derive(Drop)]
+pub struct ServiceType {
+    pub words: Words,
+    pub descriptor: ServiceDescriptorProto,
+}
+
 // What stands before a part of a file.
 #[derive(Drop)]
 struct Comment {
@@ -93,6 +100,8 @@ pub struct Schema {
     pub entries: Vec<MessageType>,
     pub enums: Vec<EnumType>,
     pub extensions: Vec<Extension>,
+    /// Those of the files that are to be generated.
+    pub services: Vec<ServiceType>,
     comments: Vec<Comment>,
 }
 
@@ -107,13 +116,16 @@ impl Schema {
             entries: Vec::new(alloc),
             enums: Vec::new(alloc),
             extensions: Vec::new(alloc),
+            services: Vec::new(alloc),
             comments: Vec::new(alloc),
         };
         for file in &request.proto_file {
             let is_own = request.file_to_generate.contains(&file.name);
             if is_own {
-                stop_on_services(base, file)?;
                 schema.add_file(file, is_own, base.get("crate"))?;
+                if base.get("services") != "skip" {
+                    schema.add_services(file)?;
+                }
                 continue;
             }
             match home_of(file, base.get("imported")) {
@@ -262,6 +274,23 @@ impl Schema {
             self.extensions.push(Extension {
                 words,
                 origin,
+                descriptor: descriptor.clone()?,
+            })?;
+        }
+        Ok(())
+    }
+
+    // The services of a file that is to be generated.
+    fn add_services(&mut self, file: &FileDescriptorProto) -> Result<(), GenerateError> {
+        let mut outer = Words::new(self.alloc);
+        outer.set("place", &file.name);
+        if !file.package.is_empty() {
+            outer.set("package", &file.package);
+            outer.fill("full", ".$package$");
+        }
+        for (index, descriptor) in file.service.iter().enumerate() {
+            self.services.push(ServiceType {
+                words: inner(&outer, &descriptor.name, "$place$.6.$index$", index)?,
                 descriptor: descriptor.clone()?,
             })?;
         }

@@ -85,12 +85,6 @@ impl RecursiveMember<FamilyHeld> for Call {
         }
     }
 
-    fn is_grouped(row: usize) -> bool {
-        match row {
-            _ => false,
-        }
-    }
-
     fn place(number: u32) -> Place {
         match number {
             2 => Place::Each(0, 48),

@@ -15,7 +15,7 @@ pub struct Counter {
     pub unknown: UnknownFields,
 }
 
-// The fields of a `Counter`: their numbers, names and kinds.
+// The fields of `Counter`: their numbers, names and kinds.
 macro_rules! rows {
     ($($call:tt)*) => {
         fields!(

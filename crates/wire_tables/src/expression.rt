@@ -79,12 +79,6 @@ impl RecursiveMember<FamilyHeld> for Expression {
         2
     }
 
-    fn is_grouped(row: usize) -> bool {
-        match row {
-            _ => false,
-        }
-    }
-
     fn place(number: u32) -> Place {
         match number {
             2 => Place::Once(0),
@@ -92,10 +86,8 @@ impl RecursiveMember<FamilyHeld> for Expression {
         }
     }
 
-    fn new_in(alloc: Global, row: usize) -> FamilyHeld {
-        match row {
-            _ => FamilyHeld::Expression(Expression::empty(alloc)),
-        }
+    fn new_in(alloc: Global, _row: usize) -> FamilyHeld {
+        FamilyHeld::Expression(Expression::empty(alloc))
     }
 
     fn take(&mut self, alloc: Global, row: usize) -> FamilyHeld {
@@ -120,10 +112,8 @@ impl RecursiveMember<FamilyHeld> for Expression {
         }
     }
 
-    fn push(&mut self, row: usize, message: FamilyHeld) -> Result<(), DecodeError> {
-        match (row, message) {
-            _ => Ok(()),
-        }
+    fn push(&mut self, _row: usize, _message: FamilyHeld) -> Result<(), DecodeError> {
+        Ok(())
     }
 
     fn run_len(&self, run: usize, cache: &mut SizeCache) -> Result<u64, EncodeError> {

@@ -18,7 +18,7 @@ ghost use Rattle.wire_tables.specs.Tree.{tree-range, tree-shape};
 use wire_codec::laws::text_decodes;
 use wire_fields::laws::grounds;
 
-/// What is written of a `Call` in range decodes to it, where the limits suffice.
+/// What is written of each `Call` in range decodes to it, where the limits suffice.
 pub fn call_reads_back()
     ensures { ReadsBack call-shape call-range }
 {
@@ -26,7 +26,7 @@ pub fn call_reads_back()
     text_decodes::<crate::Call>();
 }
 
-/// What bytes decode to as a `Call` is in range, where each message and group
+/// What bytes decode to as `Call` is in range, where each message and group
 /// within it takes at most 2,147,483,647 bytes and any other payload less than 2^64.
 pub fn call_decodes_in_range()
     ensures { DecodesInRange call-shape call-range }
@@ -34,7 +34,7 @@ pub fn call_decodes_in_range()
     grounds();
 }
 
-/// What is written of a `Expression` in range decodes to it, where the limits suffice.
+/// What is written of each `Expression` in range decodes to it, where the limits suffice.
 pub fn expression_reads_back()
     ensures { ReadsBack expression-shape expression-range }
 {
@@ -42,7 +42,7 @@ pub fn expression_reads_back()
     text_decodes::<crate::Expression>();
 }
 
-/// What bytes decode to as a `Expression` is in range, where each message and group
+/// What bytes decode to as `Expression` is in range, where each message and group
 /// within it takes at most 2,147,483,647 bytes and any other payload less than 2^64.
 pub fn expression_decodes_in_range()
     ensures { DecodesInRange expression-shape expression-range }
@@ -50,7 +50,7 @@ pub fn expression_decodes_in_range()
     grounds();
 }
 
-/// What is written of a `Tree` in range decodes to it, where the limits suffice.
+/// What is written of each `Tree` in range decodes to it, where the limits suffice.
 pub fn tree_reads_back()
     ensures { ReadsBack tree-shape tree-range }
 {
@@ -58,7 +58,7 @@ pub fn tree_reads_back()
     text_decodes::<crate::Tree>();
 }
 
-/// What bytes decode to as a `Tree` is in range, where each message and group
+/// What bytes decode to as `Tree` is in range, where each message and group
 /// within it takes at most 2,147,483,647 bytes and any other payload less than 2^64.
 pub fn tree_decodes_in_range()
     ensures { DecodesInRange tree-shape tree-range }
@@ -66,7 +66,7 @@ pub fn tree_decodes_in_range()
     grounds();
 }
 
-/// What is written of a `Ledger` in range decodes to it, where the limits suffice.
+/// What is written of each `Ledger` in range decodes to it, where the limits suffice.
 pub fn ledger_reads_back()
     ensures { ReadsBack ledger-shape ledger-range }
 {
@@ -74,7 +74,7 @@ pub fn ledger_reads_back()
     text_decodes::<crate::Ledger>();
 }
 
-/// What bytes decode to as a `Ledger` is in range, where each message and group
+/// What bytes decode to as `Ledger` is in range, where each message and group
 /// within it takes at most 2,147,483,647 bytes and any other payload less than 2^64.
 pub fn ledger_decodes_in_range()
     ensures { DecodesInRange ledger-shape ledger-range }
@@ -82,7 +82,7 @@ pub fn ledger_decodes_in_range()
     grounds();
 }
 
-/// What is written of a `Card` in range decodes to it, where the limits suffice.
+/// What is written of each `Card` in range decodes to it, where the limits suffice.
 pub fn card_reads_back()
     ensures { ReadsBack card-shape card-range }
 {
@@ -90,7 +90,7 @@ pub fn card_reads_back()
     text_decodes::<crate::Card>();
 }
 
-/// What bytes decode to as a `Card` is in range, where each message and group
+/// What bytes decode to as `Card` is in range, where each message and group
 /// within it takes at most 2,147,483,647 bytes and any other payload less than 2^64.
 pub fn card_decodes_in_range()
     ensures { DecodesInRange card-shape card-range }
@@ -98,7 +98,7 @@ pub fn card_decodes_in_range()
     grounds();
 }
 
-/// What is written of a `Profile` in range decodes to it, where the limits suffice.
+/// What is written of each `Profile` in range decodes to it, where the limits suffice.
 pub fn profile_reads_back()
     ensures { ReadsBack profile-shape profile-range }
 {
@@ -106,7 +106,7 @@ pub fn profile_reads_back()
     text_decodes::<crate::Profile>();
 }
 
-/// What bytes decode to as a `Profile` is in range, where each message and group
+/// What bytes decode to as `Profile` is in range, where each message and group
 /// within it takes at most 2,147,483,647 bytes and any other payload less than 2^64.
 pub fn profile_decodes_in_range()
     ensures { DecodesInRange profile-shape profile-range }
@@ -114,7 +114,7 @@ pub fn profile_decodes_in_range()
     grounds();
 }
 
-/// What is written of a `Counter` in range decodes to it, where the limits suffice.
+/// What is written of each `Counter` in range decodes to it, where the limits suffice.
 pub fn counter_reads_back()
     ensures { ReadsBack counter-shape counter-range }
 {
@@ -122,7 +122,7 @@ pub fn counter_reads_back()
     text_decodes::<crate::Counter>();
 }
 
-/// What bytes decode to as a `Counter` is in range, where each message and group
+/// What bytes decode to as `Counter` is in range, where each message and group
 /// within it takes at most 2,147,483,647 bytes and any other payload less than 2^64.
 pub fn counter_decodes_in_range()
     ensures { DecodesInRange counter-shape counter-range }
@@ -130,7 +130,7 @@ pub fn counter_decodes_in_range()
     grounds();
 }
 
-/// What is written of a `Signal` in range decodes to it, whatever each record is charged that a map
+/// What is written of each `Signal` in range decodes to it, whatever each record is charged that a map
 /// of a closed enum left, where the limits suffice.
 pub fn signal_reads_back()
     ensures { (charges : List ℕ → ℕ → Payload → Charge)
@@ -140,7 +140,7 @@ pub fn signal_reads_back()
     text_decodes::<crate::Signal>();
 }
 
-/// What bytes decode to as a `Signal` is in range, where each message and group
+/// What bytes decode to as `Signal` is in range, where each message and group
 /// within it takes at most 2,147,483,647 bytes and any other payload less than 2^64.
 pub fn signal_decodes_in_range()
     ensures { DecodesInRange signal-shape (signal-range signal-account) }
@@ -148,7 +148,7 @@ pub fn signal_decodes_in_range()
     grounds();
 }
 
-/// What is written of a `Reading` in range decodes to it, where the limits suffice.
+/// What is written of each `Reading` in range decodes to it, where the limits suffice.
 pub fn reading_reads_back()
     ensures { ReadsBack reading-shape reading-range }
 {
@@ -156,7 +156,7 @@ pub fn reading_reads_back()
     text_decodes::<crate::Reading>();
 }
 
-/// What bytes decode to as a `Reading` is in range, where each message and group
+/// What bytes decode to as `Reading` is in range, where each message and group
 /// within it takes at most 2,147,483,647 bytes and any other payload less than 2^64.
 pub fn reading_decodes_in_range()
     ensures { DecodesInRange reading-shape reading-range }

@@ -22,7 +22,7 @@ pub struct Ledger {
     pub unknown: UnknownFields,
 }
 
-// The fields of a `Ledger`: their numbers, names and kinds.
+// The fields of `Ledger`: their numbers, names and kinds.
 macro_rules! rows {
     ($($call:tt)*) => {
         fields!(

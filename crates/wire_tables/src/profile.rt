@@ -25,7 +25,7 @@ pub struct Profile {
     pub unknown: UnknownFields,
 }
 
-// The fields of a `Profile`: their numbers, names and kinds.
+// The fields of `Profile`: their numbers, names and kinds.
 macro_rules! rows {
     ($($call:tt)*) => {
         fields!(

@@ -31,7 +31,7 @@ pub struct Reading {
     pub unknown: UnknownFields,
 }
 
-// The fields of a `Reading`: their numbers, names and kinds.
+// The fields of `Reading`: their numbers, names and kinds.
 macro_rules! rows {
     ($($call:tt)*) => {
         fields!(
@@ -150,7 +150,7 @@ impl MessageFields for Reading {
     }
 }
 
-// The fields 1 to 8 of a `Reading`.
+// The fields 1 to 8 of `Reading`.
 #[derive(Drop)]
 struct ReadingFields1To8<'a> {
     message: &'a Reading,

@@ -10,8 +10,8 @@ use wire_codec::{
     Tag, UnknownFields,
 };
 use wire_fields::{
-    Embedded, Implicit, Kind, Known, Parts, Place, Recursive, Rest, Text, keep, merge_nest,
-    nest_size, push_message, write_nest,
+    Embedded, Implicit, Kind, Known, Parts, Place, RecursiveAlone, RecursiveMember, Rest, Text,
+    keep, merge_nest, nest_size, push_message, write_nest,
 };
 
 /// A tree, with a name and counters.
@@ -35,21 +35,27 @@ impl MessageName for Tree {
     const TYPE_URL: &'static str = "type.googleapis.com/tables.Tree";
 }
 
-impl Recursive for Tree {
+impl RecursiveMember<Tree> for Tree {
+    ghost use Rattle.wire_fields.specs.NestTable.{alone};
     ghost use Rattle.wire_tables.specs.Tree.{Tree-Leaf};
     ghost use Rattle.wire_tables.specs.Tree.{tree-counted};
-    ghost use Rattle.wire_tables.specs.Tree.{tree-leaf};
     ghost use Rattle.wire_tables.specs.Tree.{tree-table};
+
+    ghost Sort = { Unit {0} };
 
     ghost Leaf = { Tree-Leaf };
 
+    ghost sort = { tt };
+
     ghost view = { tree-value };
 
-    ghost table = { tree-table };
+    ghost held_sort = { λ m. tt };
+
+    ghost held_view = { tree-value };
+
+    ghost family = { alone tree-table };
 
     ghost counted = { tree-counted };
-
-    ghost single = { tree-leaf.single };
 
     fn empty(alloc: Global) -> Tree {
         Tree {
@@ -81,17 +87,8 @@ impl Recursive for Tree {
         }
     }
 
-    fn row(&self, row: usize) -> &[Tree] {
-        match row {
-            0 => &self.children,
-            1 => {
-                match &self.left {
-                    Some(message) => from_ref(message),
-                    None => &[],
-                }
-            }
-            _ => &[],
-        }
+    fn new_in(alloc: Global, _row: usize) -> Tree {
+        Tree::empty(alloc)
     }
 
     fn take(&mut self, alloc: Global, row: usize) -> Tree {
@@ -185,6 +182,32 @@ impl Recursive for Tree {
             1 => <Implicit<Text> as Kind>::merge(alloc, tag, &mut self.name, buf, context),
             4 => <Embedded<Counter> as Kind>::merge(alloc, tag, &mut self.visits, buf, context),
             _ => keep(alloc, tag, &mut self.unknown, buf, context),
+        }
+    }
+}
+
+impl RecursiveAlone for Tree {
+    ghost use Rattle.std.proofs.Common.{refl};
+    ghost use Rattle.wire_tables.specs.Tree.{tree-leaf};
+
+    ghost same_view = { λ m. refl };
+
+    ghost same_sort = { λ m. refl };
+
+    ghost holds_itself = { λ row. refl };
+
+    ghost single = { λ reading s. tree-leaf.single reading };
+
+    fn row(&self, row: usize) -> &[Tree] {
+        match row {
+            0 => &self.children,
+            1 => {
+                match &self.left {
+                    Some(message) => from_ref(message),
+                    None => &[],
+                }
+            }
+            _ => &[],
         }
     }
 }

@@ -19,7 +19,7 @@ pub struct Any {
     pub unknown: UnknownFields,
 }
 
-// The fields of a `Any`: their numbers, names and kinds.
+// The fields of `Any`: their numbers, names and kinds.
 macro_rules! rows {
     ($($call:tt)*) => {
         fields!(

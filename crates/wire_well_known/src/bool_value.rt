@@ -16,7 +16,7 @@ pub struct BoolValue {
     pub unknown: UnknownFields,
 }
 
-// The fields of a `BoolValue`: their numbers, names and kinds.
+// The fields of `BoolValue`: their numbers, names and kinds.
 macro_rules! rows {
     ($($call:tt)*) => {
         fields!(

@@ -16,7 +16,7 @@ pub struct BytesValue {
     pub unknown: UnknownFields,
 }
 
-// The fields of a `BytesValue`: their numbers, names and kinds.
+// The fields of `BytesValue`: their numbers, names and kinds.
 macro_rules! rows {
     ($($call:tt)*) => {
         fields!(

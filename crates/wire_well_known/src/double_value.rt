@@ -16,7 +16,7 @@ pub struct DoubleValue {
     pub unknown: UnknownFields,
 }
 
-// The fields of a `DoubleValue`: their numbers, names and kinds.
+// The fields of `DoubleValue`: their numbers, names and kinds.
 macro_rules! rows {
     ($($call:tt)*) => {
         fields!(

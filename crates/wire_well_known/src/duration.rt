@@ -18,7 +18,7 @@ pub struct Duration {
     pub unknown: UnknownFields,
 }
 
-// The fields of a `Duration`: their numbers, names and kinds.
+// The fields of `Duration`: their numbers, names and kinds.
 macro_rules! rows {
     ($($call:tt)*) => {
         fields!(

@@ -17,7 +17,7 @@ pub struct FieldMask {
     pub unknown: UnknownFields,
 }
 
-// The fields of a `FieldMask`: their numbers, names and kinds.
+// The fields of `FieldMask`: their numbers, names and kinds.
 macro_rules! rows {
     ($($call:tt)*) => {
         fields!(

@@ -16,7 +16,7 @@ pub struct FloatValue {
     pub unknown: UnknownFields,
 }
 
-// The fields of a `FloatValue`: their numbers, names and kinds.
+// The fields of `FloatValue`: their numbers, names and kinds.
 macro_rules! rows {
     ($($call:tt)*) => {
         fields!(

@@ -16,7 +16,7 @@ pub struct Int32Value {
     pub unknown: UnknownFields,
 }
 
-// The fields of a `Int32Value`: their numbers, names and kinds.
+// The fields of `Int32Value`: their numbers, names and kinds.
 macro_rules! rows {
     ($($call:tt)*) => {
         fields!(

@@ -16,7 +16,7 @@ pub struct Int64Value {
     pub unknown: UnknownFields,
 }
 
-// The fields of a `Int64Value`: their numbers, names and kinds.
+// The fields of `Int64Value`: their numbers, names and kinds.
 macro_rules! rows {
     ($($call:tt)*) => {
         fields!(

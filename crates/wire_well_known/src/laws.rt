@@ -25,7 +25,7 @@ ghost use Rattle.wire_well_known.specs.Value.{value-range, value-shape};
 use wire_codec::laws::text_decodes;
 use wire_fields::laws::grounds;
 
-/// What is written of a `Any` in range decodes to it, where the limits suffice.
+/// What is written of each `Any` in range decodes to it, where the limits suffice.
 pub fn any_reads_back()
     ensures { ReadsBack any-shape any-range }
 {
@@ -33,7 +33,7 @@ pub fn any_reads_back()
     text_decodes::<crate::Any>();
 }
 
-/// What bytes decode to as a `Any` is in range, where each message and group
+/// What bytes decode to as `Any` is in range, where each message and group
 /// within it takes at most 2,147,483,647 bytes and any other payload less than 2^64.
 pub fn any_decodes_in_range()
     ensures { DecodesInRange any-shape any-range }
@@ -41,7 +41,7 @@ pub fn any_decodes_in_range()
     grounds();
 }
 
-/// What is written of a `Duration` in range decodes to it, where the limits suffice.
+/// What is written of each `Duration` in range decodes to it, where the limits suffice.
 pub fn duration_reads_back()
     ensures { ReadsBack duration-shape duration-range }
 {
@@ -49,7 +49,7 @@ pub fn duration_reads_back()
     text_decodes::<crate::Duration>();
 }
 
-/// What bytes decode to as a `Duration` is in range, where each message and group
+/// What bytes decode to as `Duration` is in range, where each message and group
 /// within it takes at most 2,147,483,647 bytes and any other payload less than 2^64.
 pub fn duration_decodes_in_range()
     ensures { DecodesInRange duration-shape duration-range }
@@ -57,7 +57,7 @@ pub fn duration_decodes_in_range()
     grounds();
 }
 
-/// What is written of a `Empty` in range decodes to it, where the limits suffice.
+/// What is written of each `Empty` in range decodes to it, where the limits suffice.
 pub fn empty_reads_back()
     ensures { ReadsBack empty-shape empty-range }
 {
@@ -65,7 +65,7 @@ pub fn empty_reads_back()
     text_decodes::<crate::Empty>();
 }
 
-/// What bytes decode to as a `Empty` is in range, where each message and group
+/// What bytes decode to as `Empty` is in range, where each message and group
 /// within it takes at most 2,147,483,647 bytes and any other payload less than 2^64.
 pub fn empty_decodes_in_range()
     ensures { DecodesInRange empty-shape empty-range }
@@ -73,7 +73,7 @@ pub fn empty_decodes_in_range()
     grounds();
 }
 
-/// What is written of a `FieldMask` in range decodes to it, where the limits suffice.
+/// What is written of each `FieldMask` in range decodes to it, where the limits suffice.
 pub fn field_mask_reads_back()
     ensures { ReadsBack field_mask-shape field_mask-range }
 {
@@ -81,7 +81,7 @@ pub fn field_mask_reads_back()
     text_decodes::<crate::FieldMask>();
 }
 
-/// What bytes decode to as a `FieldMask` is in range, where each message and group
+/// What bytes decode to as `FieldMask` is in range, where each message and group
 /// within it takes at most 2,147,483,647 bytes and any other payload less than 2^64.
 pub fn field_mask_decodes_in_range()
     ensures { DecodesInRange field_mask-shape field_mask-range }
@@ -89,7 +89,7 @@ pub fn field_mask_decodes_in_range()
     grounds();
 }
 
-/// What is written of a `ListValue` in range decodes to it, where the limits suffice.
+/// What is written of each `ListValue` in range decodes to it, where the limits suffice.
 pub fn list_value_reads_back()
     ensures { ReadsBack list_value-shape list_value-range }
 {
@@ -97,7 +97,7 @@ pub fn list_value_reads_back()
     text_decodes::<crate::ListValue>();
 }
 
-/// What bytes decode to as a `ListValue` is in range, where each message and group
+/// What bytes decode to as `ListValue` is in range, where each message and group
 /// within it takes at most 2,147,483,647 bytes and any other payload less than 2^64.
 pub fn list_value_decodes_in_range()
     ensures { DecodesInRange list_value-shape list_value-range }
@@ -105,7 +105,7 @@ pub fn list_value_decodes_in_range()
     grounds();
 }
 
-/// What is written of a `Value` in range decodes to it, where the limits suffice.
+/// What is written of each `Value` in range decodes to it, where the limits suffice.
 pub fn value_reads_back()
     ensures { ReadsBack value-shape value-range }
 {
@@ -113,7 +113,7 @@ pub fn value_reads_back()
     text_decodes::<crate::Value>();
 }
 
-/// What bytes decode to as a `Value` is in range, where each message and group
+/// What bytes decode to as `Value` is in range, where each message and group
 /// within it takes at most 2,147,483,647 bytes and any other payload less than 2^64.
 pub fn value_decodes_in_range()
     ensures { DecodesInRange value-shape value-range }
@@ -121,7 +121,7 @@ pub fn value_decodes_in_range()
     grounds();
 }
 
-/// What is written of a `Struct` in range decodes to it, where the limits suffice.
+/// What is written of each `Struct` in range decodes to it, where the limits suffice.
 pub fn struct__reads_back()
     ensures { ReadsBack struct_-shape struct_-range }
 {
@@ -129,7 +129,7 @@ pub fn struct__reads_back()
     text_decodes::<crate::Struct>();
 }
 
-/// What bytes decode to as a `Struct` is in range, where each message and group
+/// What bytes decode to as `Struct` is in range, where each message and group
 /// within it takes at most 2,147,483,647 bytes and any other payload less than 2^64.
 pub fn struct__decodes_in_range()
     ensures { DecodesInRange struct_-shape struct_-range }
@@ -137,7 +137,7 @@ pub fn struct__decodes_in_range()
     grounds();
 }
 
-/// What is written of a `Timestamp` in range decodes to it, where the limits suffice.
+/// What is written of each `Timestamp` in range decodes to it, where the limits suffice.
 pub fn timestamp_reads_back()
     ensures { ReadsBack timestamp-shape timestamp-range }
 {
@@ -145,7 +145,7 @@ pub fn timestamp_reads_back()
     text_decodes::<crate::Timestamp>();
 }
 
-/// What bytes decode to as a `Timestamp` is in range, where each message and group
+/// What bytes decode to as `Timestamp` is in range, where each message and group
 /// within it takes at most 2,147,483,647 bytes and any other payload less than 2^64.
 pub fn timestamp_decodes_in_range()
     ensures { DecodesInRange timestamp-shape timestamp-range }
@@ -153,7 +153,7 @@ pub fn timestamp_decodes_in_range()
     grounds();
 }
 
-/// What is written of a `BytesValue` in range decodes to it, where the limits suffice.
+/// What is written of each `BytesValue` in range decodes to it, where the limits suffice.
 pub fn bytes_value_reads_back()
     ensures { ReadsBack bytes_value-shape bytes_value-range }
 {
@@ -161,7 +161,7 @@ pub fn bytes_value_reads_back()
     text_decodes::<crate::BytesValue>();
 }
 
-/// What bytes decode to as a `BytesValue` is in range, where each message and group
+/// What bytes decode to as `BytesValue` is in range, where each message and group
 /// within it takes at most 2,147,483,647 bytes and any other payload less than 2^64.
 pub fn bytes_value_decodes_in_range()
     ensures { DecodesInRange bytes_value-shape bytes_value-range }
@@ -169,7 +169,7 @@ pub fn bytes_value_decodes_in_range()
     grounds();
 }
 
-/// What is written of a `StringValue` in range decodes to it, where the limits suffice.
+/// What is written of each `StringValue` in range decodes to it, where the limits suffice.
 pub fn string_value_reads_back()
     ensures { ReadsBack string_value-shape string_value-range }
 {
@@ -177,7 +177,7 @@ pub fn string_value_reads_back()
     text_decodes::<crate::StringValue>();
 }
 
-/// What bytes decode to as a `StringValue` is in range, where each message and group
+/// What bytes decode to as `StringValue` is in range, where each message and group
 /// within it takes at most 2,147,483,647 bytes and any other payload less than 2^64.
 pub fn string_value_decodes_in_range()
     ensures { DecodesInRange string_value-shape string_value-range }
@@ -185,7 +185,7 @@ pub fn string_value_decodes_in_range()
     grounds();
 }
 
-/// What is written of a `BoolValue` in range decodes to it, where the limits suffice.
+/// What is written of each `BoolValue` in range decodes to it, where the limits suffice.
 pub fn bool_value_reads_back()
     ensures { ReadsBack bool_value-shape bool_value-range }
 {
@@ -193,7 +193,7 @@ pub fn bool_value_reads_back()
     text_decodes::<crate::BoolValue>();
 }
 
-/// What bytes decode to as a `BoolValue` is in range, where each message and group
+/// What bytes decode to as `BoolValue` is in range, where each message and group
 /// within it takes at most 2,147,483,647 bytes and any other payload less than 2^64.
 pub fn bool_value_decodes_in_range()
     ensures { DecodesInRange bool_value-shape bool_value-range }
@@ -201,7 +201,7 @@ pub fn bool_value_decodes_in_range()
     grounds();
 }
 
-/// What is written of a `UInt32Value` in range decodes to it, where the limits suffice.
+/// What is written of each `UInt32Value` in range decodes to it, where the limits suffice.
 pub fn uint32_value_reads_back()
     ensures { ReadsBack uint32_value-shape uint32_value-range }
 {
@@ -209,7 +209,7 @@ pub fn uint32_value_reads_back()
     text_decodes::<crate::UInt32Value>();
 }
 
-/// What bytes decode to as a `UInt32Value` is in range, where each message and group
+/// What bytes decode to as `UInt32Value` is in range, where each message and group
 /// within it takes at most 2,147,483,647 bytes and any other payload less than 2^64.
 pub fn uint32_value_decodes_in_range()
     ensures { DecodesInRange uint32_value-shape uint32_value-range }
@@ -217,7 +217,7 @@ pub fn uint32_value_decodes_in_range()
     grounds();
 }
 
-/// What is written of a `Int32Value` in range decodes to it, where the limits suffice.
+/// What is written of each `Int32Value` in range decodes to it, where the limits suffice.
 pub fn int32_value_reads_back()
     ensures { ReadsBack int32_value-shape int32_value-range }
 {
@@ -225,7 +225,7 @@ pub fn int32_value_reads_back()
     text_decodes::<crate::Int32Value>();
 }
 
-/// What bytes decode to as a `Int32Value` is in range, where each message and group
+/// What bytes decode to as `Int32Value` is in range, where each message and group
 /// within it takes at most 2,147,483,647 bytes and any other payload less than 2^64.
 pub fn int32_value_decodes_in_range()
     ensures { DecodesInRange int32_value-shape int32_value-range }
@@ -233,7 +233,7 @@ pub fn int32_value_decodes_in_range()
     grounds();
 }
 
-/// What is written of a `UInt64Value` in range decodes to it, where the limits suffice.
+/// What is written of each `UInt64Value` in range decodes to it, where the limits suffice.
 pub fn uint64_value_reads_back()
     ensures { ReadsBack uint64_value-shape uint64_value-range }
 {
@@ -241,7 +241,7 @@ pub fn uint64_value_reads_back()
     text_decodes::<crate::UInt64Value>();
 }
 
-/// What bytes decode to as a `UInt64Value` is in range, where each message and group
+/// What bytes decode to as `UInt64Value` is in range, where each message and group
 /// within it takes at most 2,147,483,647 bytes and any other payload less than 2^64.
 pub fn uint64_value_decodes_in_range()
     ensures { DecodesInRange uint64_value-shape uint64_value-range }
@@ -249,7 +249,7 @@ pub fn uint64_value_decodes_in_range()
     grounds();
 }
 
-/// What is written of a `Int64Value` in range decodes to it, where the limits suffice.
+/// What is written of each `Int64Value` in range decodes to it, where the limits suffice.
 pub fn int64_value_reads_back()
     ensures { ReadsBack int64_value-shape int64_value-range }
 {
@@ -257,7 +257,7 @@ pub fn int64_value_reads_back()
     text_decodes::<crate::Int64Value>();
 }
 
-/// What bytes decode to as a `Int64Value` is in range, where each message and group
+/// What bytes decode to as `Int64Value` is in range, where each message and group
 /// within it takes at most 2,147,483,647 bytes and any other payload less than 2^64.
 pub fn int64_value_decodes_in_range()
     ensures { DecodesInRange int64_value-shape int64_value-range }
@@ -265,7 +265,7 @@ pub fn int64_value_decodes_in_range()
     grounds();
 }
 
-/// What is written of a `FloatValue` in range decodes to it, where the limits suffice.
+/// What is written of each `FloatValue` in range decodes to it, where the limits suffice.
 pub fn float_value_reads_back()
     ensures { ReadsBack float_value-shape float_value-range }
 {
@@ -273,7 +273,7 @@ pub fn float_value_reads_back()
     text_decodes::<crate::FloatValue>();
 }
 
-/// What bytes decode to as a `FloatValue` is in range, where each message and group
+/// What bytes decode to as `FloatValue` is in range, where each message and group
 /// within it takes at most 2,147,483,647 bytes and any other payload less than 2^64.
 pub fn float_value_decodes_in_range()
     ensures { DecodesInRange float_value-shape float_value-range }
@@ -281,7 +281,7 @@ pub fn float_value_decodes_in_range()
     grounds();
 }
 
-/// What is written of a `DoubleValue` in range decodes to it, where the limits suffice.
+/// What is written of each `DoubleValue` in range decodes to it, where the limits suffice.
 pub fn double_value_reads_back()
     ensures { ReadsBack double_value-shape double_value-range }
 {
@@ -289,7 +289,7 @@ pub fn double_value_reads_back()
     text_decodes::<crate::DoubleValue>();
 }
 
-/// What bytes decode to as a `DoubleValue` is in range, where each message and group
+/// What bytes decode to as `DoubleValue` is in range, where each message and group
 /// within it takes at most 2,147,483,647 bytes and any other payload less than 2^64.
 pub fn double_value_decodes_in_range()
     ensures { DecodesInRange double_value-shape double_value-range }

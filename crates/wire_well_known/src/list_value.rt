@@ -17,7 +17,7 @@ pub struct ListValue {
     pub unknown: UnknownFields,
 }
 
-// The fields of a `ListValue`: their numbers, names and kinds.
+// The fields of `ListValue`: their numbers, names and kinds.
 macro_rules! rows {
     ($($call:tt)*) => {
         fields!(

@@ -16,7 +16,7 @@ pub struct StringValue {
     pub unknown: UnknownFields,
 }
 
-// The fields of a `StringValue`: their numbers, names and kinds.
+// The fields of `StringValue`: their numbers, names and kinds.
 macro_rules! rows {
     ($($call:tt)*) => {
         fields!(

@@ -18,7 +18,7 @@ pub struct Struct {
     pub unknown: UnknownFields,
 }
 
-// The fields of a `Struct`: their numbers, names and kinds.
+// The fields of `Struct`: their numbers, names and kinds.
 macro_rules! rows {
     ($($call:tt)*) => {
         fields!(

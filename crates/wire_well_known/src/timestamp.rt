@@ -19,7 +19,7 @@ pub struct Timestamp {
     pub unknown: UnknownFields,
 }
 
-// The fields of a `Timestamp`: their numbers, names and kinds.
+// The fields of `Timestamp`: their numbers, names and kinds.
 macro_rules! rows {
     ($($call:tt)*) => {
         fields!(

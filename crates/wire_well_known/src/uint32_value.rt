@@ -16,7 +16,7 @@ pub struct UInt32Value {
     pub unknown: UnknownFields,
 }
 
-// The fields of a `UInt32Value`: their numbers, names and kinds.
+// The fields of `UInt32Value`: their numbers, names and kinds.
 macro_rules! rows {
     ($($call:tt)*) => {
         fields!(

@@ -16,7 +16,7 @@ pub struct UInt64Value {
     pub unknown: UnknownFields,
 }
 
-// The fields of a `UInt64Value`: their numbers, names and kinds.
+// The fields of `UInt64Value`: their numbers, names and kinds.
 macro_rules! rows {
     ($($call:tt)*) => {
         fields!(

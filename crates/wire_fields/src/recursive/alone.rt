@@ -1,60 +1,83 @@
 //! A message type that holds itself alone, as a family of one.
-ghost use Rattle.std.specs.Prelude.{◌≡◌, ◌≢◌, ◌≤◌, ◌∷◌, [], length, map, OnOk, OnErr, IfOk, IfErr};
+ghost use Rattle.std.specs.Prelude.{◌≡◌, ◌≢◌, ◌≤◌, ◌<◌, ◌∷◌, [], ℕ, length, map, OnOk, OnErr, IfOk, IfErr};
 ghost use Rattle.wire_codec.specs.DecodeError.TheVariants as errors;
 ghost use Rattle.wire_codec.specs.EncodeError.TheVariants.{OutOfMemory};
+ghost use Rattle.wire_codec.specs.Folds.{IsSingle};
 ghost use Rattle.wire_codec.specs.Limits.{NoCountGrew};
 ghost use Rattle.wire_codec.specs.Records.{text, text_size};
 ghost use Rattle.wire_codec.specs.Sizes.{sizes, cut, cut_sizes};
 ghost use Rattle.wire_codec.specs.TagView.{tag_number, tag_type};
 ghost use Rattle.wire_codec.specs.Taking.{TakesRecord, IsCharged, NotTaken};
+ghost use Rattle.wire_codec.specs.TakingLaws.{OneReading};
 ghost use Rattle.wire_codec.specs.Tape.{NextAre, advanced, recorded};
 ghost use Rattle.wire_codec.specs.Writes.{Writes};
-ghost use Rattle.wire_fields.specs.NestTable.{nest_records, nest_takes};
+ghost use Rattle.wire_fields.specs.Nest.{row_at};
+ghost use Rattle.wire_fields.specs.NestTable.{family_records, family_takes};
 
-use super::{Place, Recursive, RecursiveHeld, RecursiveSlice, merge_held, slice_size, write_slice};
+use super::{
+    Place, RecursiveHeld, RecursiveMember, RecursiveSlice, merge_held, slice_size, write_slice,
+};
 use bytes::Buf;
 use std::alloc::Global;
 use std::{mem, slice};
 use wire_codec::{DecodeContext, DecodeError, EncodeError, EncodeSink, SizeCache, Tag};
 
-impl<T: Recursive> RecursiveHeld for T {
-    ghost use Rattle.wire_fields.specs.NestTable.{alone};
+/// A message type that holds itself, and no other that holds it: the one member of its family, with
+/// itself in the place of the enum of all members.
+pub trait RecursiveAlone: RecursiveMember<Self> {
+    /// The messages of a row.
+    fn row(&self, row: usize) -> &[Self]
+        requires { row < (Self.family.table Self.sort).rows }
+        ensures { map Self.view result.now ≡ row_at row (Self.view self.now) };
 
-    ghost Sort = { Unit {0} };
+    /// As a member and as one of all members it is seen alike.
+    ghost same_view: { (m : Self) → Self.held_view m ≡ Self.view m };
+
+    ghost same_sort: { (m : Self) → Self.held_sort m ≡ Self.sort };
+
+    /// The messages of a row are of the type itself.
+    ghost holds_itself: { (row : ℕ) → Self.family.holds Self.sort row ≡ Self.sort };
+
+    /// A record has one charge, and one outcome for each leaf, since bytes are read in one way.
+    ghost single: { OneReading → (s : Self.Sort) → IsSingle (Self.family.table s).takes };
+}
+
+impl<T: RecursiveAlone> RecursiveHeld for T {
+    ghost Sort = { T.Sort };
 
     ghost Leaf = { T.Leaf };
 
-    ghost sort = { λ m. tt };
+    ghost sort = { λ m. T.sort };
 
     ghost view = { T.view };
 
-    ghost family = { alone T.table };
+    ghost family = { T.family };
 
-    ghost single = { λ reading s. T.single reading };
+    ghost single = { T.single };
 
     #[inline(always)]
     fn place(&self, number: u32) -> Place {
-        <T as Recursive>::place(number)
+        <T as RecursiveMember<T>>::place(number)
     }
 
     #[inline(always)]
-    fn new_in(&self, alloc: Global, _: usize) -> T {
-        <T as Recursive>::empty(alloc)
+    fn new_in(&self, alloc: Global, row: usize) -> T {
+        <T as RecursiveMember<T>>::new_in(alloc, row)
     }
 
     #[inline(always)]
     fn take(&mut self, alloc: Global, row: usize) -> T {
-        <T as Recursive>::take(self, alloc, row)
+        <T as RecursiveMember<T>>::take(self, alloc, row)
     }
 
     #[inline(always)]
     fn put(&mut self, alloc: Global, row: usize, message: T) -> Result<(), DecodeError> {
-        <T as Recursive>::put(self, alloc, row, message)
+        <T as RecursiveMember<T>>::put(self, alloc, row, message)
     }
 
     #[inline(always)]
     fn push(&mut self, row: usize, message: T) -> Result<(), DecodeError> {
-        <T as Recursive>::push(self, row, message)
+        <T as RecursiveMember<T>>::push(self, row, message)
     }
 
     #[inline(always)]
@@ -65,7 +88,7 @@ impl<T: Recursive> RecursiveHeld for T {
         buf: &mut B,
         context: &mut DecodeContext,
     ) -> Result<(), DecodeError> {
-        <T as Recursive>::merge_leaf(self, alloc, tag, buf, context)
+        <T as RecursiveMember<T>>::merge_leaf(self, alloc, tag, buf, context)
     }
 }
 
@@ -73,20 +96,21 @@ impl<T: Recursive> RecursiveHeld for T {
 #[derive_where(Clone, Copy)]
 struct Alone<'a, T>(&'a [T]);
 
-impl<'a, T: Recursive> RecursiveSlice for Alone<'a, T> {
-    ghost use Rattle.wire_fields.specs.NestTable.{alone, all_counted};
+impl<'a, T: RecursiveAlone> RecursiveSlice for Alone<'a, T> {
+    ghost use Rattle.wire_fields.specs.NestTable.{all_counted};
 
-    ghost Sort = { Unit {0} };
+    ghost Sort = { T.Sort };
 
     ghost Leaf = { T.Leaf };
 
-    ghost sort = { λ messages. tt };
+    ghost sort = { λ messages. T.sort };
 
     ghost views = { λ messages. map T.view messages.0.now };
 
-    ghost family = { alone T.table };
+    ghost family = { T.family };
 
-    ghost counted = { λ messages. all_counted T.table T.view T.counted messages.0.now };
+    ghost counted = { λ messages.
+        all_counted (T.family.table T.sort) T.view T.counted messages.0.now };
 
     #[inline(always)]
     fn count(self) -> usize {
@@ -95,17 +119,17 @@ impl<'a, T: Recursive> RecursiveSlice for Alone<'a, T> {
 
     #[inline(always)]
     fn rows(self) -> usize {
-        T::rows()
+        <T as RecursiveMember<T>>::rows()
     }
 
     #[inline(always)]
     fn number(self, row: usize) -> u32 {
-        T::number(row)
+        <T as RecursiveMember<T>>::number(row)
     }
 
     #[inline(always)]
     fn is_grouped(self, row: usize) -> bool {
-        <T as Recursive>::place(T::number(row)).is_grouped()
+        <T as RecursiveMember<T>>::is_grouped(row)
     }
 
     #[inline(always)]
@@ -115,7 +139,7 @@ impl<'a, T: Recursive> RecursiveSlice for Alone<'a, T> {
 
     #[inline(always)]
     fn run_len(self, index: usize, run: usize, cache: &mut SizeCache) -> Result<u64, EncodeError> {
-        self.0[index].run_len(run, cache)
+        <T as RecursiveMember<T>>::run_len(&self.0[index], run, cache)
     }
 
     #[inline(always)]
@@ -126,7 +150,7 @@ impl<'a, T: Recursive> RecursiveSlice for Alone<'a, T> {
         cache: &mut SizeCache,
         sink: &mut S,
     ) -> Result<(), EncodeError> {
-        self.0[index].put_run(run, cache, sink)
+        <T as RecursiveMember<T>>::put_run(&self.0[index], run, cache, sink)
     }
 }
 
@@ -146,11 +170,11 @@ fn slice_of<T>(message: &T) -> Result<&[T], EncodeError>
 
 /// What `compute_size` of a message that holds itself answers.
 #[inline(always)]
-pub fn nest_size<T: Recursive>(message: &T, cache: &mut SizeCache) -> Result<u32, EncodeError>
+pub fn nest_size<T: RecursiveAlone>(message: &T, cache: &mut SizeCache) -> Result<u32, EncodeError>
     ensures size { IfOk result (λ answer. answer
-        ≡ cut (text_size (nest_records T.table (T.view message.now)))) }
+        ≡ cut (text_size (family_records T.family T.sort (T.view message.now)))) }
     ensures sizes { OnOk result (cache.new
-        ≡ recorded cache.old (cut_sizes (nest_records T.table (T.view message.now)))) }
+        ≡ recorded cache.old (cut_sizes (family_records T.family T.sort (T.view message.now)))) }
     ensures err { IfErr result (λ e. e ≡ OutOfMemory) }
 {
     slice_size(Alone(slice_of(message)?), 0, cache)
@@ -158,24 +182,25 @@ pub fn nest_size<T: Recursive>(message: &T, cache: &mut SizeCache) -> Result<u32
 
 /// What `write_to` of a message that holds itself does.
 #[inline(always)]
-pub fn write_nest<T: Recursive, S: EncodeSink>(
+pub fn write_nest<T: RecursiveAlone, S: EncodeSink>(
     message: &T,
     cache: &mut SizeCache,
     sink: &mut S,
 ) -> Result<(), EncodeError>
-    requires sizes { NextAre (sizes (nest_records T.table (T.view message.now))) cache.old }
-    requires size { text_size (nest_records T.table (T.view message.now)) ≤ 2147483647 }
-    ensures written { Writes S.most (text (nest_records T.table (T.view message.now)))
+    requires sizes { NextAre (sizes (family_records T.family T.sort (T.view message.now)))
+        cache.old }
+    requires size { text_size (family_records T.family T.sort (T.view message.now)) ≤ 2147483647 }
+    ensures written { Writes S.most (text (family_records T.family T.sort (T.view message.now)))
         (S.bytes_of sink.old) (S.bytes_of sink.new) result }
     ensures read { OnOk result (cache.new ≡ advanced cache.old
-        (length (sizes (nest_records T.table (T.view message.now))))) }
+        (length (sizes (family_records T.family T.sort (T.view message.now))))) }
 {
     write_slice(Alone(slice_of(message)?), 0, cache, sink)
 }
 
 /// What `merge_field` of a message that holds itself does.
 #[inline(always)]
-pub fn merge_nest<T: Recursive, B: Buf>(
+pub fn merge_nest<T: RecursiveAlone, B: Buf>(
     message: &mut T,
     alloc: Global,
     tag: Tag,
@@ -183,10 +208,10 @@ pub fn merge_nest<T: Recursive, B: Buf>(
     context: &mut DecodeContext,
 ) -> Result<(), DecodeError>
     ensures ok { OnOk result (IsCharged context.old context.new (λ c.
-        TakesRecord (nest_takes T.table) context.old (tag_number tag) (tag_type tag)
+        TakesRecord (family_takes T.family T.sort) context.old (tag_number tag) (tag_type tag)
         (T.view message.old) (B.unread buf.old) c (T.view message.new) (B.unread buf.new))) }
     ensures err { IfErr result (λ e. e ≢ errors.OutOfMemory → NotTaken
-        (TakesRecord (nest_takes T.table) context.old (tag_number tag) (tag_type tag)
+        (TakesRecord (family_takes T.family T.sort) context.old (tag_number tag) (tag_type tag)
         (T.view message.old) (B.unread buf.old))) }
     ensures counts { OnErr result (NoCountGrew context.old context.new) }
     ensures kept { B.kept buf.new ≡ B.kept buf.old }

@@ -20,9 +20,9 @@ use bytes::Buf;
 use std::alloc::Global;
 use wire_codec::{DecodeContext, DecodeError, EncodeError, EncodeSink, SizeCache, Tag};
 
-/// One of several message types that hold one another: its rows and its leaf. The enum of all of
-/// them, `H`, and that of their slices pass these calls on, for `RecursiveHeld` and
-/// `RecursiveSlice`.
+/// A message type of those that hold one another: its rows and its leaf. The enum of all of them,
+/// `H`, and that of their slices pass these calls on, for `RecursiveHeld` and `RecursiveSlice`. A
+/// type that holds itself alone is in the place of both (`RecursiveAlone`).
 pub trait RecursiveMember<H: Drop>: Drop {
     ghost Sort: { Type 0 };
 
@@ -57,7 +57,10 @@ pub trait RecursiveMember<H: Drop>: Drop {
     fn is_grouped(row: usize) -> bool
         requires { row < (family.table sort).rows }
         ensures { result
-            ≡ is_grouped ((family.table sort).place ((family.table sort).number row)) };
+            ≡ is_grouped ((family.table sort).place ((family.table sort).number row)) }
+    {
+        Self::place(Self::number(row)).is_grouped()
+    }
 
     /// Where the records of a field number go.
     fn place(number: u32) -> Place

@@ -1,36 +1,57 @@
 use Rattle.std.proofs.Common.{refl, rules, sym, ◌∙◌}
+use Rattle.std.proofs.lemmas.Result.{err_from_is_err_and}
 use Rattle.wire_codec.specs.TagView.{tag_number}
-use Rattle.wire_fields.specs.Arms.{arm_err, arm_ok, from_last, to_last, unlike}
-use Rattle.wire_tables.specs.SignalCause.{note-of-signal_cause, signal_cause-front}
-use Rattle.wire_tables.specs.SignalCause.{signal_cause-kind, signal_cause-of}
-use Rattle.wire_tables.specs.SignalCause.{trigger-of-signal_cause}
+use Rattle.wire_fields.specs.Arms.{anew_untaken, arm_err, from_last, last_err, unlike}
+use Rattle.wire_tables.specs.SignalCause.{note-of-signal_cause-as, note-of-signal_cause-kind}
+use Rattle.wire_tables.specs.SignalCause.{signal_cause-front, signal_cause-kind, signal_cause-of}
+use Rattle.wire_tables.specs.SignalCause.{trigger-of-signal_cause, trigger-of-signal_cause-as}
+use Rattle.wire_tables.specs.SignalCause.{trigger-of-signal_cause-kind}
 use Rattle.wire_tables.proofs.signal_cause.SignalCauseKindKind.merge.Goals as goal
+
+pub returns-in-Some-Note-variants-clause-err :
+    goal.returns-in-Some-Note-variants-clause-err
+returns-in-Some-Note-variants-clause-err g c =
+    let n = tag_number c.args.tag in
+    let one = c.in-Some-Note-variants in
+    rw (one.is, one.field-0-is) (arm_err signal_cause-kind.takes
+    note-of-signal_cause-kind.takes 4 n
+    (sym c.variants-field_number.ensures.number ∙ c.in-4.is) _ _
+    (λ charge z p h. (h.0, h.1)) _ _ _
+    c.variants-merge.result c.variants-merge.ensures.err)
 
 pub returns-in-4-clause-err : goal.returns-in-4-clause-err
 returns-in-4-clause-err g c =
-    arm_err signal_cause-kind.takes note-of-signal_cause.takes 4 _
-    (sym c.field_number.ensures.number ∙ c.in-4.is) _ _
-    (λ charge z p h. (z, h)) _ _ _
-    c.merge_note.result c.merge_note.ensures.err
-
-pub returns-in_default-clause-ok : goal.returns-in_default-clause-ok
-returns-in_default-clause-ok g c =
     let n = tag_number c.args.tag in
-    arm_ok signal_cause-kind.takes trigger-of-signal_cause.takes n n refl _ _ _ _
-    (to_last signal_cause-front.owns signal_cause-front.takes trigger-of-signal_cause.takes n
+    let m = signal_cause-of c.args.held.now in
+    let r = c.variants-from_residual in
+    let p = err_from_is_err_and r.result r.ensures.1 in
+    rw (p.1, p.2) (λ other. anew_untaken signal_cause-kind.takes
+    note-of-signal_cause-kind note-of-signal_cause-as _ 4 n
+    (sym c.variants-field_number.ensures.number ∙ c.in-4.is) m (search rules)
+    (λ charge z p h. h) _ _ _ ((c.in_Break-variants-variants-in-4).ensures.err other))
+
+pub returns-in-Some-Trigger-variants-clause-err :
+    goal.returns-in-Some-Trigger-variants-clause-err
+returns-in-Some-Trigger-variants-clause-err g c =
+    let n = tag_number c.args.tag in
+    let one = c.in-Some-Trigger-variants in
+    rw (one.is, one.field-0-is) (last_err signal_cause-front.owns signal_cause-front.takes
+    trigger-of-signal_cause.takes n
     (λ p. unlike n 4 (search rules))
-    (signal_cause-of c.args.held.now) _)
-    _ _ _ _ _
-    c.merge_trigger.result c.merge_trigger.ensures.ok
+    trigger-of-signal_cause-kind.takes _ _
+    (λ charge z p h. (h.0, h.1)) _ _ _
+    c.variants-merge-2.result c.variants-merge-2.ensures.err)
 
-pub returns-in_default-clause-err : goal.returns-in_default-clause-err
-returns-in_default-clause-err g c =
+pub returns-clause-err : goal.returns-clause-err
+returns-clause-err g c =
     let n = tag_number c.args.tag in
-    arm_err signal_cause-kind.takes trigger-of-signal_cause.takes n n refl _ _
-    (λ charge z p h. (
-      z,
-      from_last signal_cause-front.owns signal_cause-front.takes trigger-of-signal_cause.takes n
-          (λ p. unlike n 4 (search rules))
-          (signal_cause-of c.args.held.now) z charge p h,
-    ))
-    _ _ _ c.merge_trigger.result c.merge_trigger.ensures.err
+    let m = signal_cause-of c.args.held.now in
+    let r = c.variants-from_residual-2 in
+    let p = err_from_is_err_and r.result r.ensures.1 in
+    rw (p.1, p.2) (λ other. anew_untaken signal_cause-kind.takes
+    trigger-of-signal_cause-kind trigger-of-signal_cause-as _ n n
+    refl m (search rules)
+    (λ charge z p h. from_last signal_cause-front.owns signal_cause-front.takes
+    trigger-of-signal_cause.takes n
+    (λ p. unlike n 4 (search rules))
+    m z charge p h) _ _ _ (c.in_Break-variants-variants.ensures.err other))
