@@ -10,7 +10,7 @@ use bytes::Buf;
 use wire_codec::{DecodeContext, DecodeError, DecodeOptions, Message, Tag};
 use wire_meter::Meter;
 use wire_pulse::Pulse;
-use wire_samples::{Gauge, Node, Person, Repeat};
+use wire_samples::{Gauge, Node, Person, Repeat, Rule};
 use wire_tables::{Call, Card, Counter, Expression, Ledger, Profile, Reading, Signal};
 
 // A row's call is `TYPE.CALL`, and `TYPE` alone where the type is decoded.
@@ -25,6 +25,7 @@ pub fn read<B: Buf>(row: &Row<'_>, buf: &mut B, said: &mut Said) -> bool {
         "Node" => read_as::<Node, B>(row, call, buf, said),
         "Repeat" => read_as::<Repeat, B>(row, call, buf, said),
         "Gauge" => read_as::<Gauge, B>(row, call, buf, said),
+        "Rule" => read_as::<Rule, B>(row, call, buf, said),
         "Call" => read_as::<Call, B>(row, call, buf, said),
         "Card" => read_as::<Card, B>(row, call, buf, said),
         "Counter" => read_as::<Counter, B>(row, call, buf, said),
@@ -46,6 +47,7 @@ pub fn tell(row: &Row<'_>, said: &mut Said) -> bool {
         "Node" => tell_as::<Node>(row, call, said),
         "Repeat" => tell_as::<Repeat>(row, call, said),
         "Gauge" => tell_as::<Gauge>(row, call, said),
+        "Rule" => tell_as::<Rule>(row, call, said),
         "Call" => tell_as::<Call>(row, call, said),
         "Card" => tell_as::<Card>(row, call, said),
         "Counter" => tell_as::<Counter>(row, call, said),

@@ -144,7 +144,7 @@ module _ (m z : RuleLeaf) (n : ℕ) (p : Payload) (c : Charge) (other : is_plain
       let rest : At false = subst At (ap (λ x. x || is_plain n) e ∙ other) h in
       ap (λ (x : RuleKnown). x.1) rest.1
 
-  test_stays : z.0.1 ≡ m.0.1
+  pub test_stays : z.0.1 ≡ m.0.1
   test_stays = stays_at (n == 1) refl
 
 -- an empty row, emptied, is as it was
@@ -200,7 +200,7 @@ rule_row_places (suc zero) low = (refl, refl)
 rule_row_places (suc (suc i)) low = absurd (omega (arith, low))
 
 -- the runs, one behind another, are the records of the leaf
-rule_runs_in_order : (l : RuleLeaf) → all_runs rule l ≡ rule_leaf.records l
+pub rule_runs_in_order : (l : RuleLeaf) → all_runs rule l ≡ rule_leaf.records l
 rule_runs_in_order l =
     let fields = piece (rule_known.records l.0) in
     let others = piece (unknown.records l.1) in

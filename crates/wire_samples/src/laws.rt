@@ -2,6 +2,7 @@
 ghost use Rattle.std.specs.Prelude.{false};
 ghost use Rattle.wire_codec.specs.Charge.{charge};
 ghost use Rattle.wire_fields.specs.Returned.{ReadsBack};
+ghost use Rattle.wire_fields.specs.Stays.{DecodesInRange};
 ghost use Rattle.wire_samples.specs.Laws.{IsTable, NodesFoldBack, PersonsFoldBack, RepeatsFoldBack};
 ghost use Rattle.wire_samples.specs.Laws.{StaysInRange, DecodedFoldsBack};
 ghost use Rattle.wire_samples.specs.Node.{node_value, default_node, node_records, IsNode};
@@ -140,4 +141,12 @@ pub fn rules_read_back()
 {
     grounds();
     laws::text_decodes::<Rule>();
+}
+
+/// What bytes decode to as `Rule` is in range, where each rule within it takes at most 2,147,483,647
+/// bytes and any other payload less than 2^64.
+pub fn rules_decode_in_range()
+    ensures { DecodesInRange rule_shape rule_range }
+{
+    grounds();
 }

@@ -2,7 +2,7 @@
 use crate::row::Row;
 use crate::said::Said;
 use wire_codec::Message;
-use wire_samples::{Gauge, Node, Person, Repeat};
+use wire_samples::{Gauge, Node, Person, Repeat, Rule, RuleTest};
 
 /// How a message type of the rows is named and shown.
 pub trait Sample: Drop {
@@ -45,6 +45,20 @@ impl Sample for Node {
 impl Sample for Gauge {
     fn say(&self, said: &mut Said) {
         said.show(&self.level);
+        said.also(" ", &self.unknown.len());
+    }
+}
+
+impl Sample for Rule {
+    fn say(&self, said: &mut Said) {
+        said.show(&self.name);
+        match &self.test {
+            Some(RuleTest::Word(word)) => said.also(" ", word),
+            Some(RuleTest::Not(rule)) => said.also(" not ", &rule.name),
+            Some(RuleTest::Count(count)) => said.also(" ", count),
+            None => said.word(" -"),
+        }
+        said.also(" ", &self.all.len());
         said.also(" ", &self.unknown.len());
     }
 }
