@@ -33,4 +33,3 @@ pub mod VarintLaws
 pub mod Varints
 pub mod WalkLaws
 pub mod Walks
-pub mod Writes

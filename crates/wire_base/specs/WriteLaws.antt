@@ -1,23 +1,50 @@
 -- What holds of writes. Each statement is proved as the contract of a law of src/laws.rt.
-use Rattle.std.specs.Prelude.{◌≡◌, ℕ, ◌+◌, List, ◌++◌, length, Option, Result, Ok, Err}
+use Rattle.std.specs.Prelude.{◌≡◌, List, [], ◌++◌, ℕ, ◌+◌, ◌≤◌, length, take, drop, Result, Ok, Err}
 use Rattle.wire_base.specs.declared.error.EncodeError.{EncodeError}
-use Rattle.wire_base.specs.Sink.{PutAnswers, WriteAnswers, KeepsFront}
+use Rattle.wire_base.specs.Sink.{Held, Puts, Writes, IsWrittenTo, followed_by, in_slice}
 
 -- a text in two parts, of which the second is written once the first is
 pub record TwoParts : Type 0 where
-  pub front : (old first second new : List ℕ)
-      → KeepsFront old first new → KeepsFront old (first ++ second) new
-  pub behind : (old first second mid new : List ℕ)
-      → mid ≡ old ++ first → KeepsFront mid second new → KeepsFront old (first ++ second) new
-  pub refused : (most : Option ℕ) (old first second : List ℕ) (e : EncodeError)
-      → WriteAnswers most old first (Err e) → WriteAnswers most old (first ++ second) (Err e)
-  pub answer : (most : Option ℕ) (old first second mid : List ℕ) (done : Unit {0})
+  pub joined : (first second : List ℕ) (held : Held)
+      → followed_by (followed_by held first) second ≡ followed_by held (first ++ second)
+  pub refused : (first second : List ℕ) (old new : Held) (e : EncodeError)
+      → Writes first old new (Err e) → Writes (first ++ second) old new (Err e)
+  pub behind : (first second : List ℕ) (old mid new : Held) (done : Unit {0})
       (r : Result (Unit {0}) EncodeError)
-      → mid ≡ old ++ first → WriteAnswers most old first (Ok done) → WriteAnswers most mid second r
-      → WriteAnswers most old (first ++ second) r
+      → Writes first old mid (Ok done) → Writes second mid new r
+      → Writes (first ++ second) old new r
 
 -- a put of a text, which is written whole or not at all
-pub record PutIsWrite : Type 0 where
-  pub front : (old text new : List ℕ) → new ≡ old → KeepsFront old text new
-  pub answer : (most : Option ℕ) (old text : List ℕ) (r : Result (Unit {0}) EncodeError)
-      → PutAnswers most (length old + length text) r → WriteAnswers most old text r
+abbrev pub PutIsWrite : Type 0
+PutIsWrite = (text : List ℕ) (old new : Held) (r : Result (Unit {0}) EncodeError)
+    → Puts text old new r → Writes text old new r
+
+-- a text that is written piece by piece: at the start, after a piece, where a piece is refused,
+-- with the last piece, and where nothing is left
+pub record PieceByPiece : Type 0 where
+  pub start : (whole : List ℕ) (old : Held) → IsWrittenTo whole old old whole
+  pub more : (whole : List ℕ) (old now next : Held) (left piece after : List ℕ) (done : Unit {0})
+      → IsWrittenTo whole old now left → left ≡ piece ++ after
+      → Writes piece now next (Ok done) → IsWrittenTo whole old next after
+  pub refused : (whole : List ℕ) (old now new : Held) (left piece after : List ℕ) (e : EncodeError)
+      → IsWrittenTo whole old now left → left ≡ piece ++ after
+      → Writes piece now new (Err e) → Writes whole old new (Err e)
+  pub last : (whole : List ℕ) (old now new : Held) (left : List ℕ)
+      (r : Result (Unit {0}) EncodeError)
+      → IsWrittenTo whole old now left → Writes left now new r → Writes whole old new r
+  pub done : (whole : List ℕ) (old now : Held) → IsWrittenTo whole old now []
+      → Writes whole old now (Ok tt)
+
+-- the text stands in the slice at the place, behind is the place behind it, all else is as it was,
+-- and it is the same slice
+pub record FillsSlice (text old new : List ℕ) (name same place behind : ℕ) : Type 0 where
+  pub written : new ≡ take place old ++ text ++ drop (place + length text) old
+  pub moved : behind ≡ place + length text
+  pub same_slice : same ≡ name
+
+-- a text for which there is room in a slice is written
+abbrev pub WhatFitsIsWritten : Type 0
+WhatFitsIsWritten = (text old new : List ℕ) (name same place behind : ℕ)
+    (r : Result (Unit {0}) EncodeError) → place + length text ≤ length old → behind ≤ length new
+    → Writes text (in_slice name old place) (in_slice same new behind) r
+    → FillsSlice text old new name same place behind

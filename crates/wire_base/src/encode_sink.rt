@@ -1,10 +1,9 @@
 //! Where encoded bytes go.
-ghost use Rattle.std.specs.Prelude.{◌≡◌, ℕ, ◌+◌, ◌<◌, ◌≤◌, List, [], ◌∷◌, ◌++◌, Option, None, ⊤, OnOk, OnErr, IfErr};
-ghost use Rattle.wire_base.specs.declared.error.EncodeError.TheVariants.{OutOfMemory};
+ghost use Rattle.std.specs.Prelude.{◌≡◌, ◌+◌, ◌<◌, ◌≤◌, [], ◌∷◌, ◌++◌, OnOk, OnErr};
 ghost use Rattle.std.specs.Int.{w32, w64, cast_unsigned, to_le_bytes};
 ghost use Rattle.std.specs.Vec.{vec_len, vec_capacity};
 ghost use Rattle.wire_base.specs.Delimited.{delimited_text};
-ghost use Rattle.wire_base.specs.Sink.{KeepsFront, Puts, WriteAnswers};
+ghost use Rattle.wire_base.specs.Sink.{Held, KeepsFront, Puts, Writes, in_memory};
 ghost use Rattle.wire_base.specs.Varint.{shortest_varint};
 
 use crate::error::EncodeError;
@@ -19,18 +18,9 @@ mod bytes_mut;
 /// exactly where all bytes of the sink would then be more than it can count, and else `OutOfMemory`
 /// where it finds no room. A call of several puts leaves those before the refused one.
 pub trait EncodeSink {
-    /// The bytes that were put, in order.
-    ghost bytes_of: { Self → List ℕ };
-
-    /// The most bytes that the sink can count, where it counts them; else memory alone bounds it.
-    ghost most: { Option ℕ };
-
-    /// The name of the reference that the bytes are put through, where the sink has one.
-    ghost loan: { Self → ℕ } = { λ _. 0 };
-
-    /// What holds of a sink that grows, and so may want memory: nothing of one that has all of its
-    /// room.
-    ghost grows: { Type 0 } = { ⊤ };
+    /// The bytes that were put, in order; the most that the sink can count, where it counts them,
+    /// else memory alone bounds it; and the slice that they are put into, where it has one.
+    ghost held: { Self → Held };
 
     /// Whether the sink can keep a shared run of bytes as a segment of its own, so that a caller
     /// that has one saves the copy by `put_shared`.
@@ -38,46 +28,32 @@ pub trait EncodeSink {
 
     /// Appends one byte.
     fn put_u8(&mut self, value: u8) -> Result<(), EncodeError>
-        ensures put { Puts most (value ∷ []) (bytes_of self.old) (bytes_of self.new) result }
-        ensures loan { loan self.new ≡ loan self.old }
-        ensures memory { IfErr result (λ e. e ≡ OutOfMemory → grows) };
+        ensures { Puts (value ∷ []) (held self.old) (held self.new) result };
 
     /// Appends the bytes.
     fn put_slice(&mut self, bytes: &[u8]) -> Result<(), EncodeError>
-        ensures put { Puts most bytes.now (bytes_of self.old) (bytes_of self.new) result }
-        ensures loan { loan self.new ≡ loan self.old }
-        ensures memory { IfErr result (λ e. e ≡ OutOfMemory → grows) };
+        ensures { Puts bytes.now (held self.old) (held self.new) result };
 
     /// Appends four bytes, the lowest first.
     fn put_u32_le(&mut self, value: u32) -> Result<(), EncodeError>
-        ensures put { Puts most (to_le_bytes w32 value)
-            (bytes_of self.old) (bytes_of self.new) result }
-        ensures loan { loan self.new ≡ loan self.old }
-        ensures memory { IfErr result (λ e. e ≡ OutOfMemory → grows) };
+        ensures { Puts (to_le_bytes w32 value) (held self.old) (held self.new) result };
 
     /// Appends eight bytes, the lowest first.
     fn put_u64_le(&mut self, value: u64) -> Result<(), EncodeError>
-        ensures put { Puts most (to_le_bytes w64 value)
-            (bytes_of self.old) (bytes_of self.new) result }
-        ensures loan { loan self.new ≡ loan self.old }
-        ensures memory { IfErr result (λ e. e ≡ OutOfMemory → grows) };
+        ensures { Puts (to_le_bytes w64 value) (held self.old) (held self.new) result };
 
     /// Appends the four bytes of the two's complement, the lowest first.
     fn put_i32_le(&mut self, value: i32) -> Result<(), EncodeError>
-        ensures put { Puts most (to_le_bytes w32 (cast_unsigned w32 value))
-            (bytes_of self.old) (bytes_of self.new) result }
-        ensures loan { loan self.new ≡ loan self.old }
-        ensures memory { IfErr result (λ e. e ≡ OutOfMemory → grows) }
+        ensures { Puts (to_le_bytes w32 (cast_unsigned w32 value))
+            (held self.old) (held self.new) result }
     {
         self.put_u32_le(value.cast_unsigned())
     }
 
     /// Appends the eight bytes of the two's complement, the lowest first.
     fn put_i64_le(&mut self, value: i64) -> Result<(), EncodeError>
-        ensures put { Puts most (to_le_bytes w64 (cast_unsigned w64 value))
-            (bytes_of self.old) (bytes_of self.new) result }
-        ensures loan { loan self.new ≡ loan self.old }
-        ensures memory { IfErr result (λ e. e ≡ OutOfMemory → grows) }
+        ensures { Puts (to_le_bytes w64 (cast_unsigned w64 value))
+            (held self.old) (held self.new) result }
     {
         self.put_u64_le(value.cast_unsigned())
     }
@@ -86,13 +62,7 @@ pub trait EncodeSink {
     /// and then leaves those before it.
     #[inline(always)]
     fn put_varint(&mut self, value: u64) -> Result<(), EncodeError>
-        ensures ok { OnOk result
-            (bytes_of self.new ≡ bytes_of self.old ++ shortest_varint value) }
-        ensures err { OnErr result (KeepsFront (bytes_of self.old)
-            (shortest_varint value) (bytes_of self.new)) }
-        ensures cause { WriteAnswers most (bytes_of self.old) (shortest_varint value) result }
-        ensures loan { loan self.new ≡ loan self.old }
-        ensures memory { IfErr result (λ e. e ≡ OutOfMemory → grows) }
+        ensures { Writes (shortest_varint value) (held self.old) (held self.new) result }
     {
         let mut rest = value;
         while rest >= 0x80 {
@@ -106,14 +76,8 @@ pub trait EncodeSink {
     /// where one of their bytes is, and then leaves those before it.
     #[inline(always)]
     fn put_varints(&mut self, first: u64, second: u64) -> Result<(), EncodeError>
-        ensures ok { OnOk result (bytes_of self.new
-            ≡ bytes_of self.old ++ (shortest_varint first ++ shortest_varint second)) }
-        ensures err { OnErr result (KeepsFront (bytes_of self.old)
-            (shortest_varint first ++ shortest_varint second) (bytes_of self.new)) }
-        ensures cause { WriteAnswers most (bytes_of self.old)
-            (shortest_varint first ++ shortest_varint second) result }
-        ensures loan { loan self.new ≡ loan self.old }
-        ensures memory { IfErr result (λ e. e ≡ OutOfMemory → grows) }
+        ensures { Writes (shortest_varint first ++ shortest_varint second)
+            (held self.old) (held self.new) result }
     {
         laws::two_parts();
         self.put_varint(first)?;
@@ -125,14 +89,8 @@ pub trait EncodeSink {
     /// before.
     #[inline(always)]
     fn put_delimited(&mut self, first: u64, bytes: &[u8]) -> Result<(), EncodeError>
-        ensures ok { OnOk result (bytes_of self.new
-            ≡ bytes_of self.old ++ (shortest_varint first ++ delimited_text bytes.now)) }
-        ensures err { OnErr result (KeepsFront (bytes_of self.old)
-            (shortest_varint first ++ delimited_text bytes.now) (bytes_of self.new)) }
-        ensures cause { WriteAnswers most (bytes_of self.old)
-            (shortest_varint first ++ delimited_text bytes.now) result }
-        ensures loan { loan self.new ≡ loan self.old }
-        ensures memory { IfErr result (λ e. e ≡ OutOfMemory → grows) }
+        ensures { Writes (shortest_varint first ++ delimited_text bytes.now)
+            (held self.old) (held self.new) result }
     {
         laws::two_parts();
         laws::put_is_a_write();
@@ -143,18 +101,14 @@ pub trait EncodeSink {
 
     /// The bytes may be kept as they are, with no copy. They are given up where the put is refused.
     fn put_shared(&mut self, bytes: Bytes) -> Result<(), EncodeError>
-        ensures put { Puts most bytes (bytes_of self.old) (bytes_of self.new) result }
-        ensures loan { loan self.new ≡ loan self.old }
-        ensures memory { IfErr result (λ e. e ≡ OutOfMemory → grows) }
+        ensures { Puts bytes (held self.old) (held self.new) result }
     {
         self.put_slice(bytes.as_slice())
     }
 }
 
 impl EncodeSink for Vec<u8> {
-    ghost bytes_of = { λ sink. sink.items };
-
-    ghost most = { None };
+    ghost held = { λ sink. in_memory sink.items };
 
     fn put_u8(&mut self, value: u8) -> Result<(), EncodeError> {
         self.push(value)?;
@@ -216,14 +170,8 @@ impl EncodeSink for Vec<u8> {
 /// leaves what stands before.
 #[inline(always)]
 pub fn put_fixed32<S: EncodeSink>(first: u64, value: u32, sink: &mut S) -> Result<(), EncodeError>
-    ensures ok { OnOk result (S.bytes_of sink.new
-        ≡ S.bytes_of sink.old ++ (shortest_varint first ++ to_le_bytes w32 value)) }
-    ensures err { OnErr result (KeepsFront (S.bytes_of sink.old)
-        (shortest_varint first ++ to_le_bytes w32 value) (S.bytes_of sink.new)) }
-    ensures cause { WriteAnswers S.most (S.bytes_of sink.old)
-        (shortest_varint first ++ to_le_bytes w32 value) result }
-    ensures loan { S.loan sink.new ≡ S.loan sink.old }
-    ensures memory { IfErr result (λ e. e ≡ OutOfMemory → S.grows) }
+    ensures { Writes (shortest_varint first ++ to_le_bytes w32 value)
+        (S.held sink.old) (S.held sink.new) result }
 {
     laws::two_parts();
     laws::put_is_a_write();
@@ -239,14 +187,8 @@ pub fn put_fixed32<S: EncodeSink>(first: u64, value: u32, sink: &mut S) -> Resul
 /// leaves what stands before.
 #[inline(always)]
 pub fn put_fixed64<S: EncodeSink>(first: u64, value: u64, sink: &mut S) -> Result<(), EncodeError>
-    ensures ok { OnOk result (S.bytes_of sink.new
-        ≡ S.bytes_of sink.old ++ (shortest_varint first ++ to_le_bytes w64 value)) }
-    ensures err { OnErr result (KeepsFront (S.bytes_of sink.old)
-        (shortest_varint first ++ to_le_bytes w64 value) (S.bytes_of sink.new)) }
-    ensures cause { WriteAnswers S.most (S.bytes_of sink.old)
-        (shortest_varint first ++ to_le_bytes w64 value) result }
-    ensures loan { S.loan sink.new ≡ S.loan sink.old }
-    ensures memory { IfErr result (λ e. e ≡ OutOfMemory → S.grows) }
+    ensures { Writes (shortest_varint first ++ to_le_bytes w64 value)
+        (S.held sink.old) (S.held sink.new) result }
 {
     laws::two_parts();
     laws::put_is_a_write();
@@ -302,8 +244,8 @@ fn push_digits(value: u64, bytes: &mut Vec<u8>)
 fn push_two(first: u64, second: u64, bytes: &mut Vec<u8>) -> Result<(), AllocError>
     ensures ok { OnOk result (bytes.new.items
         ≡ bytes.old.items ++ shortest_varint first ++ shortest_varint second) }
-    ensures err { OnErr result (KeepsFront bytes.old.items
-        (shortest_varint first ++ shortest_varint second) bytes.new.items) }
+    ensures err { OnErr result (KeepsFront (in_memory bytes.old.items)
+        (shortest_varint first ++ shortest_varint second) (in_memory bytes.new.items)) }
 {
     if bytes.len() + 2 * MOST_DIGITS > bytes.capacity() {
         laws::two_parts();
@@ -357,8 +299,8 @@ fn push_growing(more: &[u8], bytes: &mut Vec<u8>) -> Result<(), AllocError>
 fn push_delimited(first: u64, more: &[u8], bytes: &mut Vec<u8>) -> Result<(), AllocError>
     ensures ok { OnOk result (bytes.new.items
         ≡ bytes.old.items ++ (shortest_varint first ++ delimited_text more.now)) }
-    ensures err { OnErr result (KeepsFront bytes.old.items
-        (shortest_varint first ++ delimited_text more.now) bytes.new.items) }
+    ensures err { OnErr result (KeepsFront (in_memory bytes.old.items)
+        (shortest_varint first ++ delimited_text more.now) (in_memory bytes.new.items)) }
 {
     push_two(first, more.len() as u64, bytes)?;
     bytes.extend_from_slice(more)?;
@@ -369,8 +311,8 @@ fn push_delimited(first: u64, more: &[u8], bytes: &mut Vec<u8>) -> Result<(), Al
 #[inline(never)]
 fn push_varint(value: u64, bytes: &mut Vec<u8>) -> Result<(), AllocError>
     ensures ok { OnOk result (bytes.new.items ≡ bytes.old.items ++ shortest_varint value) }
-    ensures err { OnErr result (KeepsFront bytes.old.items
-        (shortest_varint value) bytes.new.items) }
+    ensures err { OnErr result (KeepsFront (in_memory bytes.old.items)
+        (shortest_varint value) (in_memory bytes.new.items)) }
 {
     let mut rest = value;
     while rest >= 0x80 {

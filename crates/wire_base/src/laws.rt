@@ -7,7 +7,7 @@ ghost use Rattle.wire_base.specs.FaultLaws.{NoPayloadBesideFault, NoListBesideFa
 ghost use Rattle.wire_base.specs.AgreementLaws.{SkippedWhereDecoded, RefusedAlike, RoomSuffices, BodyWhereDecoded, FaultsStay, CutIsShort};
 ghost use Rattle.wire_base.specs.ItemLaws.{RecordsAreItems, OneWalk, NoWalkBesideFault, OneSpanFault, PayloadsInside};
 ghost use Rattle.wire_base.specs.SpanLaws.{OneSpansCharge, SpansChargeRecords, JoinedSpansSpell};
-ghost use Rattle.wire_base.specs.WriteLaws.{TwoParts, PutIsWrite};
+ghost use Rattle.wire_base.specs.WriteLaws.{TwoParts, PutIsWrite, PieceByPiece, WhatFitsIsWritten};
 
 /// The shortest varint of a number reads back as that number, whatever follows it.
 pub fn shortest_reads_back()
@@ -316,4 +316,15 @@ pub fn two_parts()
 /// A put is a write of its bytes.
 pub fn put_is_a_write()
     ensures { PutIsWrite }
+{}
+
+/// An encoding may be written piece by piece.
+pub fn piece_by_piece()
+    ensures { PieceByPiece }
+{}
+
+/// A text for which a slice has room is written into it, whatever wrote it, and all else of the
+/// slice stays.
+pub fn what_fits_is_written()
+    ensures { WhatFitsIsWritten }
 {}

@@ -28,7 +28,7 @@ pub use encode_sink::{EncodeSink, put_fixed32, put_fixed64};
 pub use error::{DecodeError, EncodeError};
 pub use flat_walk::{UnknownSpanCharge, register_unknown_record};
 pub use payload::{copy_bytes, decode_length, take_bytes};
-pub use room::{Loan, Room};
+pub use room::Room;
 pub use rope::{DEFAULT_MIN_SEGMENT, Rope, RopeBuf};
 pub use skip::{skip_field, skip_field_depth};
 pub use tag::{

@@ -70,7 +70,7 @@ impl Tag {
     ghost use Rattle.wire_base.specs.Ending.{by_tag, Ends};
     ghost use Rattle.wire_base.specs.Fault.{NextTagFault};
     ghost use Rattle.wire_base.specs.Read.{Reads};
-    ghost use Rattle.wire_base.specs.Sink.{KeepsFront, WriteAnswers};
+    ghost use Rattle.wire_base.specs.Sink.{Writes};
     ghost use Rattle.wire_base.specs.Tag.{IsTagSpelling, TagFault, tag_text};
     ghost use Rattle.wire_base.specs.TagView.{tag_number, tag_type};
 
@@ -104,12 +104,8 @@ impl Tag {
     /// Writes the shortest text of the tag. Refused where the sink refuses a byte.
     #[inline(always)]
     pub fn encode<S: EncodeSink>(&self, sink: &mut S) -> Result<(), EncodeError>
-        ensures ok { OnOk result (S.bytes_of sink.new
-            ≡ S.bytes_of sink.old ++ tag_text (tag_number self.now) (tag_type self.now)) }
-        ensures err { OnErr result (KeepsFront (S.bytes_of sink.old)
-            (tag_text (tag_number self.now) (tag_type self.now)) (S.bytes_of sink.new)) }
-        ensures cause { WriteAnswers S.most (S.bytes_of sink.old)
-            (tag_text (tag_number self.now) (tag_type self.now)) result }
+        ensures { Writes (tag_text (tag_number self.now) (tag_type self.now))
+            (S.held sink.old) (S.held sink.new) result }
     {
         put_tag(self.field_number, self.wire_type, sink)
     }

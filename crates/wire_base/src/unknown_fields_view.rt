@@ -10,7 +10,7 @@ ghost use Rattle.wire_base.specs.Field.{Fields};
 ghost use Rattle.wire_base.specs.InRange.{AreFitting, AreNumbered};
 ghost use Rattle.wire_base.specs.Items.{Item, TakesItems, flat_charge};
 ghost use Rattle.wire_base.specs.Limits.{Charge, Fits, HasRoom, HaveRoom, NoCountGrew, left_after};
-ghost use Rattle.wire_base.specs.Sink.{KeepsFront, WriteAnswers};
+ghost use Rattle.wire_base.specs.Sink.{Writes};
 ghost use Rattle.wire_base.specs.Spans.{AreCharged, PushRefusal, SpellEach, SpansRefusal, TooMany, exact_limits};
 ghost use Rattle.wire_base.specs.Spells.{Spells};
 
@@ -178,10 +178,7 @@ impl<'a> UnknownFieldsView<'a> {
     /// Writes the spans as they came, one put for each. Nothing is shortened. Refused where the
     /// sink refuses a put.
     pub fn write_to<S: EncodeSink>(&self, sink: &mut S) -> Result<(), EncodeError>
-        ensures ok { OnOk result (S.bytes_of sink.new ≡ S.bytes_of sink.old ++ concat self.now) }
-        ensures err { OnErr result (KeepsFront (S.bytes_of sink.old)
-            (concat self.now) (S.bytes_of sink.new)) }
-        ensures cause { WriteAnswers S.most (S.bytes_of sink.old) (concat self.now) result }
+        ensures { Writes (concat self.now) (S.held sink.old) (S.held sink.new) result }
     {
         for span in &self.spans {
             sink.put_slice(span)?;

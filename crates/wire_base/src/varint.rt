@@ -2,7 +2,7 @@
 ghost use Rattle.std.specs.Prelude.{◌≡◌, [], ◌∷◌, ◌++◌, length, ◌^◌, ◌<◌, ◌≤◌, drop, count_by, nat_lt, OnOk, OnErr, IfOk, IfErr};
 ghost use Rattle.wire_base.specs.declared.error.DecodeError.TheVariants.{UnexpectedEof, VarintTooLong};
 ghost use Rattle.wire_base.specs.Read.{Reads};
-ghost use Rattle.wire_base.specs.Sink.{KeepsFront, WriteAnswers};
+ghost use Rattle.wire_base.specs.Sink.{Writes};
 ghost use Rattle.wire_base.specs.Varint.{IsSpelling, VarintFault, shortest_varint};
 
 mod in_place;
@@ -23,10 +23,7 @@ pub fn varint_len(value: u64) -> usize
 /// where the sink refuses a byte.
 #[inline(always)]
 pub fn encode_varint<S: EncodeSink>(value: u64, sink: &mut S) -> Result<(), EncodeError>
-    ensures ok { OnOk result (S.bytes_of sink.new ≡ S.bytes_of sink.old ++ shortest_varint value) }
-    ensures err { OnErr result (KeepsFront (S.bytes_of sink.old)
-        (shortest_varint value) (S.bytes_of sink.new)) }
-    ensures cause { WriteAnswers S.most (S.bytes_of sink.old) (shortest_varint value) result }
+    ensures { Writes (shortest_varint value) (S.held sink.old) (S.held sink.new) result }
 {
     sink.put_varint(value)
 }

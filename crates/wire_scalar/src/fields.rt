@@ -21,8 +21,8 @@ pub fn put_int32_field<S: EncodeSink>(
     sink: &mut S,
 ) -> Result<(), EncodeError>
     requires { IsFieldNumber number }
-    ensures { Writes S.most (record_text number (varint (int32.enc value)))
-        (S.bytes_of sink.old) (S.bytes_of sink.new) result }
+    ensures { Writes (record_text number (varint (int32.enc value)))
+        (S.held sink.old) (S.held sink.new) result }
 {
     put_varint(number, WireType::Varint, Int32::number_of(value), sink)
 }
@@ -36,8 +36,8 @@ pub fn put_int64_field<S: EncodeSink>(
     sink: &mut S,
 ) -> Result<(), EncodeError>
     requires { IsFieldNumber number }
-    ensures { Writes S.most (record_text number (varint (int64.enc value)))
-        (S.bytes_of sink.old) (S.bytes_of sink.new) result }
+    ensures { Writes (record_text number (varint (int64.enc value)))
+        (S.held sink.old) (S.held sink.new) result }
 {
     put_varint(number, WireType::Varint, Int64::number_of(value), sink)
 }
@@ -51,8 +51,8 @@ pub fn put_uint32_field<S: EncodeSink>(
     sink: &mut S,
 ) -> Result<(), EncodeError>
     requires { IsFieldNumber number }
-    ensures { Writes S.most (record_text number (varint (uint32.enc value)))
-        (S.bytes_of sink.old) (S.bytes_of sink.new) result }
+    ensures { Writes (record_text number (varint (uint32.enc value)))
+        (S.held sink.old) (S.held sink.new) result }
 {
     put_varint(number, WireType::Varint, Uint32::number_of(value), sink)
 }
@@ -66,8 +66,8 @@ pub fn put_uint64_field<S: EncodeSink>(
     sink: &mut S,
 ) -> Result<(), EncodeError>
     requires { IsFieldNumber number }
-    ensures { Writes S.most (record_text number (varint (uint64.enc value)))
-        (S.bytes_of sink.old) (S.bytes_of sink.new) result }
+    ensures { Writes (record_text number (varint (uint64.enc value)))
+        (S.held sink.old) (S.held sink.new) result }
 {
     put_varint(number, WireType::Varint, Uint64::number_of(value), sink)
 }
@@ -81,8 +81,8 @@ pub fn put_sint32_field<S: EncodeSink>(
     sink: &mut S,
 ) -> Result<(), EncodeError>
     requires { IsFieldNumber number }
-    ensures { Writes S.most (record_text number (varint (sint32.enc value)))
-        (S.bytes_of sink.old) (S.bytes_of sink.new) result }
+    ensures { Writes (record_text number (varint (sint32.enc value)))
+        (S.held sink.old) (S.held sink.new) result }
 {
     put_varint(number, WireType::Varint, Sint32::number_of(value), sink)
 }
@@ -96,8 +96,8 @@ pub fn put_sint64_field<S: EncodeSink>(
     sink: &mut S,
 ) -> Result<(), EncodeError>
     requires { IsFieldNumber number }
-    ensures { Writes S.most (record_text number (varint (sint64.enc value)))
-        (S.bytes_of sink.old) (S.bytes_of sink.new) result }
+    ensures { Writes (record_text number (varint (sint64.enc value)))
+        (S.held sink.old) (S.held sink.new) result }
 {
     put_varint(number, WireType::Varint, Sint64::number_of(value), sink)
 }
@@ -111,8 +111,8 @@ pub fn put_bool_field<S: EncodeSink>(
     sink: &mut S,
 ) -> Result<(), EncodeError>
     requires { IsFieldNumber number }
-    ensures { Writes S.most (record_text number (varint (bool.enc value)))
-        (S.bytes_of sink.old) (S.bytes_of sink.new) result }
+    ensures { Writes (record_text number (varint (bool.enc value)))
+        (S.held sink.old) (S.held sink.new) result }
 {
     put_varint(number, WireType::Varint, Bool::number_of(value), sink)
 }
@@ -126,8 +126,8 @@ pub fn put_fixed32_field<S: EncodeSink>(
     sink: &mut S,
 ) -> Result<(), EncodeError>
     requires { IsFieldNumber number }
-    ensures { Writes S.most (record_text number (four_bytes (fixed32.enc value)))
-        (S.bytes_of sink.old) (S.bytes_of sink.new) result }
+    ensures { Writes (record_text number (four_bytes (fixed32.enc value)))
+        (S.held sink.old) (S.held sink.new) result }
 {
     put_fixed32(tag_as_number(number, WireType::Fixed32), value, sink)
 }
@@ -141,8 +141,8 @@ pub fn put_fixed64_field<S: EncodeSink>(
     sink: &mut S,
 ) -> Result<(), EncodeError>
     requires { IsFieldNumber number }
-    ensures { Writes S.most (record_text number (eight_bytes (fixed64.enc value)))
-        (S.bytes_of sink.old) (S.bytes_of sink.new) result }
+    ensures { Writes (record_text number (eight_bytes (fixed64.enc value)))
+        (S.held sink.old) (S.held sink.new) result }
 {
     put_fixed64(tag_as_number(number, WireType::Fixed64), value, sink)
 }
@@ -156,8 +156,8 @@ pub fn put_sfixed32_field<S: EncodeSink>(
     sink: &mut S,
 ) -> Result<(), EncodeError>
     requires { IsFieldNumber number }
-    ensures { Writes S.most (record_text number (four_bytes (sfixed32.enc value)))
-        (S.bytes_of sink.old) (S.bytes_of sink.new) result }
+    ensures { Writes (record_text number (four_bytes (sfixed32.enc value)))
+        (S.held sink.old) (S.held sink.new) result }
 {
     put_fixed32_field(number, value.cast_unsigned(), sink)
 }
@@ -171,8 +171,8 @@ pub fn put_sfixed64_field<S: EncodeSink>(
     sink: &mut S,
 ) -> Result<(), EncodeError>
     requires { IsFieldNumber number }
-    ensures { Writes S.most (record_text number (eight_bytes (sfixed64.enc value)))
-        (S.bytes_of sink.old) (S.bytes_of sink.new) result }
+    ensures { Writes (record_text number (eight_bytes (sfixed64.enc value)))
+        (S.held sink.old) (S.held sink.new) result }
 {
     put_fixed64_field(number, value.cast_unsigned(), sink)
 }
@@ -187,8 +187,8 @@ pub fn put_len_delimited_header<S: EncodeSink>(
     sink: &mut S,
 ) -> Result<(), EncodeError>
     requires { IsFieldNumber number }
-    ensures { Writes S.most (tag_text number LengthDelimited ++ shortest_varint len)
-        (S.bytes_of sink.old) (S.bytes_of sink.new) result }
+    ensures { Writes (tag_text number LengthDelimited ++ shortest_varint len)
+        (S.held sink.old) (S.held sink.new) result }
 {
     put_varint(number, WireType::LengthDelimited, len, sink)
 }
@@ -198,8 +198,8 @@ pub fn put_len_delimited_header<S: EncodeSink>(
 #[inline(always)]
 pub fn put_group_start<S: EncodeSink>(number: u32, sink: &mut S) -> Result<(), EncodeError>
     requires { IsFieldNumber number }
-    ensures { Writes S.most (tag_text number StartGroup)
-        (S.bytes_of sink.old) (S.bytes_of sink.new) result }
+    ensures { Writes (tag_text number StartGroup)
+        (S.held sink.old) (S.held sink.new) result }
 {
     Tag::new(number, WireType::StartGroup).encode(sink)
 }
@@ -209,8 +209,8 @@ pub fn put_group_start<S: EncodeSink>(number: u32, sink: &mut S) -> Result<(), E
 #[inline(always)]
 pub fn put_group_end<S: EncodeSink>(number: u32, sink: &mut S) -> Result<(), EncodeError>
     requires { IsFieldNumber number }
-    ensures { Writes S.most (tag_text number EndGroup)
-        (S.bytes_of sink.old) (S.bytes_of sink.new) result }
+    ensures { Writes (tag_text number EndGroup)
+        (S.held sink.old) (S.held sink.new) result }
 {
     Tag::new(number, WireType::EndGroup).encode(sink)
 }
@@ -224,8 +224,8 @@ fn put_varint<S: EncodeSink>(
     sink: &mut S,
 ) -> Result<(), EncodeError>
     requires { IsFieldNumber number }
-    ensures { Writes S.most (tag_text number wire_type ++ shortest_varint value)
-        (S.bytes_of sink.old) (S.bytes_of sink.new) result }
+    ensures { Writes (tag_text number wire_type ++ shortest_varint value)
+        (S.held sink.old) (S.held sink.new) result }
 {
     sink.put_varints(tag_as_number(number, wire_type), value)
 }

@@ -19,8 +19,8 @@ pub const FIXED64_ENCODED_LEN: usize = 8;
 /// Writes a `fixed32`: four bytes, the lowest first. See "Non-varint Numbers" of the encoding
 /// document. One put, all or nothing, refused where the sink refuses it.
 pub fn encode_fixed32<S: EncodeSink>(value: u32, sink: &mut S) -> Result<(), EncodeError>
-    ensures { Puts S.most (to_le_bytes w32 (fixed32.enc value))
-        (S.bytes_of sink.old) (S.bytes_of sink.new) result }
+    ensures { Puts (to_le_bytes w32 (fixed32.enc value))
+        (S.held sink.old) (S.held sink.new) result }
 {
     sink.put_u32_le(value)
 }
@@ -39,8 +39,8 @@ pub fn decode_fixed32<B: Buf>(buf: &mut B) -> Result<u32, DecodeError>
 /// Writes a `fixed64`: eight bytes, the lowest first. See "Non-varint Numbers" of the encoding
 /// document. One put, all or nothing, refused where the sink refuses it.
 pub fn encode_fixed64<S: EncodeSink>(value: u64, sink: &mut S) -> Result<(), EncodeError>
-    ensures { Puts S.most (to_le_bytes w64 (fixed64.enc value))
-        (S.bytes_of sink.old) (S.bytes_of sink.new) result }
+    ensures { Puts (to_le_bytes w64 (fixed64.enc value))
+        (S.held sink.old) (S.held sink.new) result }
 {
     sink.put_u64_le(value)
 }
@@ -59,8 +59,8 @@ pub fn decode_fixed64<B: Buf>(buf: &mut B) -> Result<u64, DecodeError>
 /// Writes a `sfixed32`: the two's complement in four bytes, the lowest first. See "Non-varint
 /// Numbers" of the encoding document. One put, all or nothing, refused where the sink refuses it.
 pub fn encode_sfixed32<S: EncodeSink>(value: i32, sink: &mut S) -> Result<(), EncodeError>
-    ensures { Puts S.most (to_le_bytes w32 (sfixed32.enc value))
-        (S.bytes_of sink.old) (S.bytes_of sink.new) result }
+    ensures { Puts (to_le_bytes w32 (sfixed32.enc value))
+        (S.held sink.old) (S.held sink.new) result }
 {
     sink.put_i32_le(value)
 }
@@ -79,8 +79,8 @@ pub fn decode_sfixed32<B: Buf>(buf: &mut B) -> Result<i32, DecodeError>
 /// Writes a `sfixed64`: the two's complement in eight bytes, the lowest first. See "Non-varint
 /// Numbers" of the encoding document. One put, all or nothing, refused where the sink refuses it.
 pub fn encode_sfixed64<S: EncodeSink>(value: i64, sink: &mut S) -> Result<(), EncodeError>
-    ensures { Puts S.most (to_le_bytes w64 (sfixed64.enc value))
-        (S.bytes_of sink.old) (S.bytes_of sink.new) result }
+    ensures { Puts (to_le_bytes w64 (sfixed64.enc value))
+        (S.held sink.old) (S.held sink.new) result }
 {
     sink.put_i64_le(value)
 }

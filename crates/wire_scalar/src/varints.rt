@@ -27,8 +27,8 @@ pub(crate) fn decode_as<T: VarintScalar, B: Buf>(buf: &mut B) -> Result<T::Value
 /// in ten bytes. Refused where the sink refuses a byte. See "Signed Integers" of the encoding
 /// document.
 pub fn encode_int32<S: EncodeSink>(value: i32, sink: &mut S) -> Result<(), EncodeError>
-    ensures { Writes S.most (shortest_varint (int32.enc value))
-        (S.bytes_of sink.old) (S.bytes_of sink.new) result }
+    ensures { Writes (shortest_varint (int32.enc value))
+        (S.held sink.old) (S.held sink.new) result }
 {
     encode_varint(Int32::number_of(value), sink)
 }
@@ -66,8 +66,8 @@ pub fn int32_encoded_len(value: i32) -> usize
 /// in ten bytes. Refused where the sink refuses a byte. See "Signed Integers" of the encoding
 /// document.
 pub fn encode_int64<S: EncodeSink>(value: i64, sink: &mut S) -> Result<(), EncodeError>
-    ensures { Writes S.most (shortest_varint (int64.enc value))
-        (S.bytes_of sink.old) (S.bytes_of sink.new) result }
+    ensures { Writes (shortest_varint (int64.enc value))
+        (S.held sink.old) (S.held sink.new) result }
 {
     encode_varint(Int64::number_of(value), sink)
 }
@@ -104,8 +104,8 @@ pub fn int64_encoded_len(value: i64) -> usize
 /// Writes a `uint32` as its shortest varint. See "Base 128 Varints" of the encoding document.
 /// Refused where the sink refuses a byte.
 pub fn encode_uint32<S: EncodeSink>(value: u32, sink: &mut S) -> Result<(), EncodeError>
-    ensures { Writes S.most (shortest_varint (uint32.enc value))
-        (S.bytes_of sink.old) (S.bytes_of sink.new) result }
+    ensures { Writes (shortest_varint (uint32.enc value))
+        (S.held sink.old) (S.held sink.new) result }
 {
     encode_varint(Uint32::number_of(value), sink)
 }
@@ -142,8 +142,8 @@ pub fn uint32_encoded_len(value: u32) -> usize
 /// Writes a `uint64` as its shortest varint. See "Base 128 Varints" of the encoding document.
 /// Refused where the sink refuses a byte.
 pub fn encode_uint64<S: EncodeSink>(value: u64, sink: &mut S) -> Result<(), EncodeError>
-    ensures { Writes S.most (shortest_varint (uint64.enc value))
-        (S.bytes_of sink.old) (S.bytes_of sink.new) result }
+    ensures { Writes (shortest_varint (uint64.enc value))
+        (S.held sink.old) (S.held sink.new) result }
 {
     encode_varint(Uint64::number_of(value), sink)
 }
@@ -180,8 +180,8 @@ pub fn uint64_encoded_len(value: u64) -> usize
 /// Writes a `sint32` as its shortest varint, in zigzag order, in which numbers near zero are short.
 /// See "Signed Integers" of the encoding document. Refused where the sink refuses a byte.
 pub fn encode_sint32<S: EncodeSink>(value: i32, sink: &mut S) -> Result<(), EncodeError>
-    ensures { Writes S.most (shortest_varint (sint32.enc value))
-        (S.bytes_of sink.old) (S.bytes_of sink.new) result }
+    ensures { Writes (shortest_varint (sint32.enc value))
+        (S.held sink.old) (S.held sink.new) result }
 {
     encode_varint(Sint32::number_of(value), sink)
 }
@@ -218,8 +218,8 @@ pub fn sint32_encoded_len(value: i32) -> usize
 /// Writes a `sint64` as its shortest varint, in zigzag order, in which numbers near zero are short.
 /// See "Signed Integers" of the encoding document. Refused where the sink refuses a byte.
 pub fn encode_sint64<S: EncodeSink>(value: i64, sink: &mut S) -> Result<(), EncodeError>
-    ensures { Writes S.most (shortest_varint (sint64.enc value))
-        (S.bytes_of sink.old) (S.bytes_of sink.new) result }
+    ensures { Writes (shortest_varint (sint64.enc value))
+        (S.held sink.old) (S.held sink.new) result }
 {
     encode_varint(Sint64::number_of(value), sink)
 }
@@ -256,8 +256,8 @@ pub fn sint64_encoded_len(value: i64) -> usize
 /// Writes a `bool` as one byte, 00 or 01. See "Bools and Enums" of the encoding document. Refused
 /// where the sink refuses a byte.
 pub fn encode_bool<S: EncodeSink>(value: bool, sink: &mut S) -> Result<(), EncodeError>
-    ensures { Writes S.most (shortest_varint (bool.enc value))
-        (S.bytes_of sink.old) (S.bytes_of sink.new) result }
+    ensures { Writes (shortest_varint (bool.enc value))
+        (S.held sink.old) (S.held sink.new) result }
 {
     encode_varint(Bool::number_of(value), sink)
 }

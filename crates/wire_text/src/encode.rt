@@ -4,7 +4,7 @@ ghost use Rattle.wire_base.specs.declared.error.EncodeError.TheVariants.{LengthO
 ghost use Rattle.wire_base.specs.Delimited.{delimited_text};
 ghost use Rattle.wire_base.specs.Field.{bytes};
 ghost use Rattle.wire_base.specs.FieldNumber.{IsFieldNumber};
-ghost use Rattle.wire_base.specs.Sink.{KeepsFront, WriteAnswers};
+ghost use Rattle.wire_base.specs.Sink.{Writes};
 ghost use Rattle.wire_base.specs.Text.{record_text};
 
 use wire_base::{EncodeError, EncodeSink, WireType, encode_varint, laws, varint_len};
@@ -35,11 +35,7 @@ pub fn bytes_encoded_len(value: &[u8]) -> Result<usize, EncodeError>
 /// "Length-Delimited Records" of the encoding document.
 #[inline(always)]
 pub fn encode_string<S: EncodeSink>(value: &str, sink: &mut S) -> Result<(), EncodeError>
-    ensures ok { OnOk result (S.bytes_of sink.new
-        ≡ S.bytes_of sink.old ++ delimited_text value.now) }
-    ensures err { OnErr result (KeepsFront (S.bytes_of sink.old)
-        (delimited_text value.now) (S.bytes_of sink.new)) }
-    ensures cause { WriteAnswers S.most (S.bytes_of sink.old) (delimited_text value.now) result }
+    ensures { Writes (delimited_text value.now) (S.held sink.old) (S.held sink.new) result }
 {
     encode_bytes(value.as_bytes(), sink)
 }
@@ -48,11 +44,7 @@ pub fn encode_string<S: EncodeSink>(value: &str, sink: &mut S) -> Result<(), Enc
 /// "Length-Delimited Records" of the encoding document.
 #[inline(always)]
 pub fn encode_bytes<S: EncodeSink>(value: &[u8], sink: &mut S) -> Result<(), EncodeError>
-    ensures ok { OnOk result (S.bytes_of sink.new
-        ≡ S.bytes_of sink.old ++ delimited_text value.now) }
-    ensures err { OnErr result (KeepsFront (S.bytes_of sink.old)
-        (delimited_text value.now) (S.bytes_of sink.new)) }
-    ensures cause { WriteAnswers S.most (S.bytes_of sink.old) (delimited_text value.now) result }
+    ensures { Writes (delimited_text value.now) (S.held sink.old) (S.held sink.new) result }
 {
     laws::two_parts();
     laws::put_is_a_write();
@@ -70,12 +62,8 @@ pub fn put_string_field<S: EncodeSink>(
     sink: &mut S,
 ) -> Result<(), EncodeError>
     requires { IsFieldNumber number }
-    ensures ok { OnOk result (S.bytes_of sink.new
-        ≡ S.bytes_of sink.old ++ record_text number (bytes value.now)) }
-    ensures err { OnErr result (KeepsFront (S.bytes_of sink.old)
-        (record_text number (bytes value.now)) (S.bytes_of sink.new)) }
-    ensures cause { WriteAnswers S.most (S.bytes_of sink.old)
-        (record_text number (bytes value.now)) result }
+    ensures { Writes (record_text number (bytes value.now))
+        (S.held sink.old) (S.held sink.new) result }
 {
     put_bytes_field(number, value.as_bytes(), sink)
 }
@@ -90,12 +78,8 @@ pub fn put_bytes_field<S: EncodeSink>(
     sink: &mut S,
 ) -> Result<(), EncodeError>
     requires { IsFieldNumber number }
-    ensures ok { OnOk result (S.bytes_of sink.new
-        ≡ S.bytes_of sink.old ++ record_text number (bytes value.now)) }
-    ensures err { OnErr result (KeepsFront (S.bytes_of sink.old)
-        (record_text number (bytes value.now)) (S.bytes_of sink.new)) }
-    ensures cause { WriteAnswers S.most (S.bytes_of sink.old)
-        (record_text number (bytes value.now)) result }
+    ensures { Writes (record_text number (bytes value.now))
+        (S.held sink.old) (S.held sink.new) result }
 {
     sink.put_delimited(
         8 * u64::from(number) + WireType::LengthDelimited as u64,

@@ -1,14 +1,12 @@
 //! A `BytesMut` as a sink.
-ghost use Rattle.std.specs.Prelude.{None};
+ghost use Rattle.wire_base.specs.Sink.{in_memory};
 
 use super::EncodeSink;
 use crate::error::EncodeError;
 use bytes::{BufMut, BytesMut};
 
 impl EncodeSink for BytesMut {
-    ghost bytes_of = { λ sink. sink.items };
-
-    ghost most = { None };
+    ghost held = { λ sink. in_memory sink.items };
 
     fn put_u8(&mut self, value: u8) -> Result<(), EncodeError> {
         BufMut::put_u8(self, value)?;

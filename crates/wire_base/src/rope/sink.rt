@@ -1,5 +1,5 @@
 // Puts into a rope.
-ghost use Rattle.std.specs.Prelude.{◌≡◌, ◌+◌, ◌-◌, ◌^◌, ◌<◌, [], ◌∷◌, ◌++◌, length, Some, MatchResult, OnOk, OnErr};
+ghost use Rattle.std.specs.Prelude.{◌≡◌, ◌+◌, ◌-◌, ◌^◌, ◌<◌, [], ◌∷◌, ◌++◌, length, Some, None, MatchResult, OnOk, OnErr};
 ghost use Rattle.std.specs.Int.{w32, w64, cast_unsigned, to_le_bytes};
 ghost use Rattle.wire_base.specs.declared.error.EncodeError.TheVariants.{LengthOverflow};
 ghost use Rattle.wire_base.specs.Rope.{rope_bytes, with_bytes, with_segment, with_shared};
@@ -52,9 +52,11 @@ impl Rope {
 }
 
 impl EncodeSink for Rope {
-    ghost bytes_of = { rope_bytes };
-
-    ghost most = { Some (2 ^ 64 - 1) };
+    ghost held = { λ rope. record {
+      bytes = rope_bytes rope;
+      most = Some (2 ^ 64 - 1);
+      lent = None;
+    } };
 
     const IS_SEGMENTED: bool = true;
 

@@ -1,6 +1,6 @@
 //! Tags as bytes.
 ghost use Rattle.std.specs.Prelude.{◌≡◌, ◌++◌, length, OnOk, OnErr};
-ghost use Rattle.wire_base.specs.Sink.{KeepsFront, WriteAnswers};
+ghost use Rattle.wire_base.specs.Sink.{Writes};
 ghost use Rattle.wire_base.specs.Tag.{wire_number, tag_text, tag_value};
 
 use super::WireType;
@@ -15,11 +15,7 @@ pub(crate) fn put_tag<S: EncodeSink>(
     wire_type: WireType,
     sink: &mut S,
 ) -> Result<(), EncodeError>
-    ensures ok { OnOk result (S.bytes_of sink.new
-        ≡ S.bytes_of sink.old ++ tag_text number wire_type) }
-    ensures err { OnErr result (KeepsFront (S.bytes_of sink.old)
-        (tag_text number wire_type) (S.bytes_of sink.new)) }
-    ensures cause { WriteAnswers S.most (S.bytes_of sink.old) (tag_text number wire_type) result }
+    ensures { Writes (tag_text number wire_type) (S.held sink.old) (S.held sink.new) result }
 {
     sink.put_varint(tag_as_number(number, wire_type))
 }

@@ -1,6 +1,6 @@
 //! Unknown fields as bytes.
 ghost use Rattle.std.specs.Prelude.{◌≡◌, ◌++◌, OnOk, OnErr};
-ghost use Rattle.wire_base.specs.Sink.{KeepsFront, WriteAnswers};
+ghost use Rattle.wire_base.specs.Sink.{Writes};
 ghost use Rattle.wire_base.specs.Field.{group, type_of};
 ghost use Rattle.wire_base.specs.Shortest.{WritesShortest};
 ghost use Rattle.wire_base.specs.Text.{text_of, record_text};
@@ -16,12 +16,9 @@ impl UnknownFields {
     /// the sink refuses a put.
     #[inline(always)]
     pub fn write_to<S: EncodeSink>(&self, sink: &mut S) -> Result<(), EncodeError>
-        ensures ok { OnOk result (S.bytes_of sink.new ≡ S.bytes_of sink.old ++ text_of self.now) }
-        ensures err { OnErr result (KeepsFront (S.bytes_of sink.old)
-            (text_of self.now) (S.bytes_of sink.new)) }
-        ensures cause { WriteAnswers S.most (S.bytes_of sink.old) (text_of self.now) result }
+        ensures written { Writes (text_of self.now) (S.held sink.old) (S.held sink.new) result }
         ensures shortest { OnOk result
-            (WritesShortest self.now (S.bytes_of sink.old) (S.bytes_of sink.new)) }
+            (WritesShortest self.now (S.held sink.old).bytes (S.held sink.new).bytes) }
     {
         if self.is_empty() {
             return Ok(());
@@ -33,10 +30,7 @@ impl UnknownFields {
     #[cycle(write)]
     #[inline(never)]
     fn write_fields<S: EncodeSink>(&self, sink: &mut S) -> Result<(), EncodeError>
-        ensures ok { OnOk result (S.bytes_of sink.new ≡ S.bytes_of sink.old ++ text_of self.now) }
-        ensures err { OnErr result (KeepsFront (S.bytes_of sink.old)
-            (text_of self.now) (S.bytes_of sink.new)) }
-        ensures cause { WriteAnswers S.most (S.bytes_of sink.old) (text_of self.now) result }
+        ensures { Writes (text_of self.now) (S.held sink.old) (S.held sink.new) result }
     {
         for field in &self.fields {
             field.write_record(sink)?;
@@ -49,12 +43,8 @@ impl UnknownFields {
     #[cycle(write)]
     #[inline(always)]
     fn write_group<S: EncodeSink>(&self, number: u32, sink: &mut S) -> Result<(), EncodeError>
-        ensures ok { OnOk result (S.bytes_of sink.new
-            ≡ S.bytes_of sink.old ++ record_text number (group self.now)) }
-        ensures err { OnErr result (KeepsFront (S.bytes_of sink.old)
-            (record_text number (group self.now)) (S.bytes_of sink.new)) }
-        ensures cause { WriteAnswers S.most (S.bytes_of sink.old)
-            (record_text number (group self.now)) result }
+        ensures { Writes (record_text number (group self.now))
+            (S.held sink.old) (S.held sink.new) result }
     {
         put_tag(number, WireType::StartGroup, sink)?;
         self.write_fields(sink)?;
@@ -66,14 +56,10 @@ impl UnknownField {
     /// Writes the shortest text of the record. Its number may be one that decoding refuses. Refused
     /// where the sink refuses a put.
     pub fn write_to<S: EncodeSink>(&self, sink: &mut S) -> Result<(), EncodeError>
-        ensures ok { OnOk result (S.bytes_of sink.new
-            ≡ S.bytes_of sink.old ++ record_text self.now.number (payload_of self.now.value)) }
-        ensures err { OnErr result (KeepsFront (S.bytes_of sink.old)
-            (record_text self.now.number (payload_of self.now.value)) (S.bytes_of sink.new)) }
-        ensures cause { WriteAnswers S.most (S.bytes_of sink.old)
-            (record_text self.now.number (payload_of self.now.value)) result }
+        ensures written { Writes (record_text self.now.number (payload_of self.now.value))
+            (S.held sink.old) (S.held sink.new) result }
         ensures shortest { OnOk result
-            (WritesShortest (one_record self.now) (S.bytes_of sink.old) (S.bytes_of sink.new)) }
+            (WritesShortest (one_record self.now) (S.held sink.old).bytes (S.held sink.new).bytes) }
     {
         self.write_record(sink)
     }
@@ -82,12 +68,8 @@ impl UnknownField {
     #[cycle(write)]
     #[inline(always)]
     fn write_record<S: EncodeSink>(&self, sink: &mut S) -> Result<(), EncodeError>
-        ensures ok { OnOk result (S.bytes_of sink.new
-            ≡ S.bytes_of sink.old ++ record_text self.now.number (payload_of self.now.value)) }
-        ensures err { OnErr result (KeepsFront (S.bytes_of sink.old)
-            (record_text self.now.number (payload_of self.now.value)) (S.bytes_of sink.new)) }
-        ensures cause { WriteAnswers S.most (S.bytes_of sink.old)
-            (record_text self.now.number (payload_of self.now.value)) result }
+        ensures { Writes (record_text self.now.number (payload_of self.now.value))
+            (S.held sink.old) (S.held sink.new) result }
     {
         let number = self.number;
         match &self.value {

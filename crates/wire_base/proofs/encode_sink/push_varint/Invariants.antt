@@ -1,13 +1,13 @@
-use Rattle.std.proofs.Common.{◌^◌, ◌<◌, None}
-use Rattle.wire_base.proofs.Sinks.{Written}
+use Rattle.std.proofs.Common.{◌^◌, ◌<◌}
+use Rattle.wire_base.specs.Sink.{IsWrittenTo, in_memory}
 use Rattle.wire_base.specs.Varint.{shortest_varint}
 use Rattle.wire_base.proofs.encode_sink.push_varint.Given as goal
 
 abbrev pub invariant-loop-rest : goal.invariant-loop-rest
 invariant-loop-rest l = record {
   fits : l.rest < 2 ^ 64;
-  written : Written None l.fn.bytes.items (shortest_varint l.fn.value) l.bytes.items
-      (shortest_varint l.rest);
+  written : IsWrittenTo (shortest_varint l.fn.value) (in_memory l.fn.bytes.items)
+      (in_memory l.bytes.items) (shortest_varint l.rest);
 }
 
 abbrev pub decreases-loop-rest : goal.decreases-loop-rest

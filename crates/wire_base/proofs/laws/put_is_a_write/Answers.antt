@@ -1,4 +1,4 @@
-use Rattle.wire_base.proofs.Writes.{put_is_a_write}
+use Rattle.wire_base.proofs.Sinks.{put_is_a_write}
 use Rattle.wire_base.proofs.laws.put_is_a_write.Goals as goal
 
 pub returns : goal.returns

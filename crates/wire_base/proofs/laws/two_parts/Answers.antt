@@ -1,4 +1,4 @@
-use Rattle.wire_base.proofs.Writes.{two_parts}
+use Rattle.wire_base.proofs.Sinks.{two_parts}
 use Rattle.wire_base.proofs.laws.two_parts.Goals as goal
 
 pub returns : goal.returns

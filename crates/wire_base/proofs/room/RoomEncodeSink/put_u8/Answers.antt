@@ -1,20 +1,24 @@
-use Rattle.std.proofs.Common.{◌≡◌, ◌+◌, length-set, ◌∙◌, arith}
-use Rattle.std.proofs.lemmas.List.{drop-set-lt}
-use Rattle.wire_base.proofs.Rooms.{behind_later}
+use Rattle.std.proofs.Common.{◌+◌, ◌<◌, length, length-set, refl, sym, arith}
+use Rattle.std.proofs.lemmas.List.{drop-set-lt, drop-drop, length-take-le, take_more_set}
 use Rattle.wire_base.proofs.room.RoomEncodeSink.put_u8.Goals as goal
 
-pub invariant_of-self-clause-behind : goal.invariant_of-self-clause-behind
-invariant_of-self-clause-behind g c =
+pub returns : goal.returns
+returns c =
     let sink = c.args.self.now in
-    behind_later sink.place 1 sink.room.now g.L.Loan.held sink.behind
-
-pub invariant_of-self-2-clause-within : goal.invariant_of-self-2-clause-within
-invariant_of-self-2-clause-within g c =
-    let sink = c.args.self.now in
-    omega (arith, length-set sink.room.now sink.place c.args.value, sink.within, c.if-from-self.false)
-
-pub invariant_of-self-2-clause-behind : goal.invariant_of-self-2-clause-behind
-invariant_of-self-2-clause-behind g c =
-    let sink = c.args.self.now in
-    drop-set-lt (sink.place + 1) sink.room.now sink.place c.args.value (omega arith)
-    ∙ behind_later sink.place 1 sink.room.now g.L.Loan.held sink.behind
+    let fits : sink.place < length sink.room.now = omega (arith, sink.within, c.if-from-self.false) in
+    rw (
+      take_more_set sink.room.now sink.place c.args.value fits,
+      length-set sink.room.now sink.place c.args.value,
+      drop-set-lt (sink.place + 1) sink.room.now sink.place c.args.value (omega arith),
+      sym (drop-drop 1 sink.place sink.room.now),
+    ) (record {
+      ok = refl;
+      err = tt;
+      cause = λ beyond. omega (
+        arith,
+        length-take-le sink.place sink.room.now sink.within,
+        fits,
+        beyond,
+      );
+      memory = tt;
+    })

@@ -3,6 +3,7 @@ use Rattle.wire_base.specs.Field.{type_of}
 use Rattle.wire_base.specs.Tag.{tag_text}
 use Rattle.wire_base.specs.Text.{payload_text}
 use Rattle.wire_base.specs.UnknownFields.{payload_of}
+use Rattle.wire_base.proofs.Sinks.{bytes_written}
 use Rattle.wire_base.proofs.TextLaws.{writes_shortest}
 use Rattle.wire_base.proofs.unknown_fields.UnknownField.write_to.Goals as goal
 
@@ -12,4 +13,4 @@ returns-clause-shortest g c =
     let p = payload_of c.args.self.now.value in
     writes_shortest _ _ _ _ c.write_record.result
     (ap (λ t. tag_text n (type_of p) ++ t) (sym (append-nil (payload_text n p))))
-    c.write_record.ensures.ok
+    (bytes_written _ _ _ c.write_record.result c.write_record.ensures)

@@ -1,10 +1,10 @@
 use Rattle.std.proofs.Common.{drop}
 use Rattle.std.specs.List.{concat}
-use Rattle.wire_base.proofs.Sinks.{Written}
+use Rattle.wire_base.specs.Sink.{IsWrittenTo}
 use Rattle.wire_base.proofs.SpanLists.{spans_of}
 use Rattle.wire_base.proofs.unknown_fields_view.UnknownFieldsView.write_to.Given as goal
 
 abbrev pub invariant-loop-span : goal.invariant-loop-span
 invariant-loop-span g l =
-    Written g.S.EncodeSink.most (g.S.EncodeSink.bytes_of l.fn.sink) (concat l.fn.self)
-    (g.S.EncodeSink.bytes_of l.sink) (concat (spans_of (drop l.span-index l.span-items)))
+    IsWrittenTo (concat l.fn.self) (g.S.EncodeSink.held l.fn.sink) (g.S.EncodeSink.held l.sink)
+    (concat (spans_of (drop l.span-index l.span-items)))
