@@ -3,7 +3,6 @@ pub mod Delimiting
 pub mod Fitting
 pub mod Lists
 pub mod Measured
-pub mod Pieces
 pub mod RecordsLaws
 pub mod SizesLaws
 pub mod Slots

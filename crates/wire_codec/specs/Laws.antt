@@ -1,15 +1,13 @@
 -- What holds of the definitions themselves. Each statement is proved as the contract of a law of
 -- src/laws.rt.
-use Rattle.std.specs.Prelude.{◌≡◌, ℕ, ◌^◌, ◌<◌, ◌≤◌, List, [], ◌++◌, length, Option, Result, Ok}
-use Rattle.std.specs.Prelude.{Err, All}
-use Rattle.wire_base.specs.declared.error.EncodeError.{EncodeError}
+use Rattle.std.specs.Prelude.{◌≡◌, ℕ, ◌^◌, ◌<◌, ◌≤◌, List, [], ◌++◌, length, All}
 use Rattle.wire_base.specs.Field.{Fields}
 use Rattle.wire_base.specs.InRange.{AreFitting}
 use Rattle.wire_base.specs.Spells.{Spells}
 use Rattle.wire_codec.specs.Records.{Records, plain, text, text_size, joined_records, of_fields}
 use Rattle.wire_codec.specs.Sizes.{sizes, cut_sizes}
 use Rattle.wire_codec.specs.Tape.{Tape, NextAre, blank, recorded, advanced}
-use Rattle.wire_codec.specs.Writes.{Writes, IsWrittenTo}
+pub use Rattle.wire_base.specs.WriteLaws.{PieceByPiece}
 
 abbrev pub NoSizeIsAboveTheWhole : Type 0
 NoSizeIsAboveTheWhole = (rs : Records) → All (λ n. n ≤ text_size rs) (sizes rs)
@@ -41,19 +39,3 @@ SpelledAreFitting =
 pub record FlatKeepsTheTape : Type 0 where
   pub measured : (rs : Records) (t : Tape) → sizes rs ≡ [] → t ≡ recorded t (cut_sizes rs)
   pub written : (rs : Records) (t : Tape) → sizes rs ≡ [] → t ≡ advanced t (length (sizes rs))
-
--- a text that is written piece by piece: at the start, after a piece, where a piece is refused,
--- with the last piece, and where nothing is left
-pub record PieceByPiece : Type 0 where
-  pub start : (most : Option ℕ) (whole old : List ℕ) → IsWrittenTo most whole old old whole
-  pub more : (most : Option ℕ) (whole old now next left piece after : List ℕ) (done : Unit {0})
-      → IsWrittenTo most whole old now left → left ≡ piece ++ after
-      → Writes most piece now next (Ok done) → IsWrittenTo most whole old next after
-  pub refused : (most : Option ℕ) (whole old now new left piece after : List ℕ) (e : EncodeError)
-      → IsWrittenTo most whole old now left → left ≡ piece ++ after
-      → Writes most piece now new (Err e) → Writes most whole old new (Err e)
-  pub last : (most : Option ℕ) (whole old now new left : List ℕ) (r : Result (Unit {0}) EncodeError)
-      → IsWrittenTo most whole old now left → Writes most left now new r
-      → Writes most whole old new r
-  pub done : (most : Option ℕ) (whole old now : List ℕ) → IsWrittenTo most whole old now []
-      → Writes most whole old now (Ok tt)

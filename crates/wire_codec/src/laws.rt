@@ -3,7 +3,7 @@
 ghost use Rattle.wire_codec.specs.Laws.{NoSizeIsAboveTheWhole, SmallSizesAreUncut, MeasuredAreNext};
 ghost use Rattle.std.specs.Prelude.{◌<◌, All};
 ghost use Rattle.wire_codec.specs.Laws.{JoinedAddsUp, FieldsArePlain, SpelledAreFitting};
-ghost use Rattle.wire_codec.specs.Laws.{FlatKeepsTheTape, PieceByPiece};
+ghost use Rattle.wire_codec.specs.Laws.{FlatKeepsTheTape};
 ghost use Rattle.wire_codec.specs.TakingLaws.{OneReading, RecordsInOrder, AllIsSpelled};
 ghost use Rattle.wire_codec.specs.TakingLaws.{DelimitedIsRead, LevelsAndCounts};
 ghost use Rattle.wire_codec.specs.TakingLaws.{TakenInOneWay, JoinedInputsAreTaken};
@@ -17,7 +17,7 @@ use wire_base::laws::{
     one_payload, one_spelled, one_tag, one_varint, records_from_the_front, shortest_text_spells,
     whole_input,
 };
-pub use wire_base::laws::{put_is_a_write, two_parts};
+pub use wire_base::laws::{piece_by_piece, put_is_a_write, two_parts};
 pub use wire_scalar::laws as scalar;
 use wire_scalar::laws::one_packed_list;
 pub use wire_text::laws as text;
@@ -59,13 +59,6 @@ pub fn slice_has_bytes(bytes: &[u8])
 pub fn flat_messages_have_no_sizes()
     ensures { FlatKeepsTheTape }
 {}
-
-/// An encoding may be written piece by piece.
-pub fn piece_by_piece()
-    ensures { PieceByPiece }
-{
-    two_parts();
-}
 
 /// The same bytes are read in one way.
 pub fn one_reading()

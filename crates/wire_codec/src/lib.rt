@@ -26,7 +26,7 @@ pub use size_cache_pool::SizeCachePool;
 // The format: varints, tags, records, unknown fields, and sinks.
 pub use wire_base::{
     DEFAULT_MIN_SEGMENT, DEFAULT_UNKNOWN_FIELD_LIMIT, DecodeContext, DecodeError, EncodeError,
-    EncodeSink, FIRST_RESERVED_FIELD_NUMBER, LAST_RESERVED_FIELD_NUMBER, Loan, MAX_FIELD_NUMBER,
+    EncodeSink, FIRST_RESERVED_FIELD_NUMBER, LAST_RESERVED_FIELD_NUMBER, MAX_FIELD_NUMBER,
     RECURSION_LIMIT, Room, Rope, RopeBuf, Tag, UnknownField, UnknownFieldData, UnknownFields,
     UnknownFieldsView, UnknownSpanCharge, WireType, check_wire_type, copy_bytes, count_varints,
     decode_length, decode_unknown_field, decode_varint, encode_varint, put_fixed32, put_fixed64,

@@ -9,7 +9,7 @@ ghost use Rattle.wire_base.specs.TagView.{tag_number, tag_type};
 ghost use Rattle.wire_codec.specs.Folds.{Step, IsSingle};
 ghost use Rattle.wire_codec.specs.Taking.{TakesRecord, TakesList, TakesAll, Decodes};
 ghost use Rattle.wire_codec.specs.Taking.{IsCharged, NotTaken, NotDecoded};
-ghost use Rattle.wire_codec.specs.Encoding.{TriesToAnswer, TriesToWrite, WritesWithin, read_tape};
+ghost use Rattle.wire_codec.specs.Encoding.{Encodes, TriesToAnswer, TriesToWrite, WritesWithin, read_tape};
 ghost use Rattle.wire_codec.specs.Nested.{TakesDelimited, TakesEmbedded, TakesGroup};
 ghost use Rattle.wire_codec.specs.Options.{default_limits};
 ghost use Rattle.wire_codec.specs.Records.{Records, text, text_size};
@@ -73,8 +73,8 @@ pub trait Message: Clone + PartialEq + Drop {
     ) -> Result<(), EncodeError>
         requires sizes { NextAre (sizes (records (view self.now))) cache.old }
         requires size { text_size (records (view self.now)) ≤ 2147483647 }
-        ensures written { Writes S.most (text (records (view self.now)))
-            (S.bytes_of sink.old) (S.bytes_of sink.new) result }
+        ensures written { Writes (text (records (view self.now)))
+            (S.held sink.old) (S.held sink.new) result }
         ensures read { OnOk result (cache.new
             ≡ advanced cache.old (length (sizes (records (view self.now))))) };
 
@@ -109,8 +109,8 @@ pub trait Message: Clone + PartialEq + Drop {
     /// Size Limitations" of the encoding document.
     fn encode<S: EncodeSink>(&self, alloc: Global, sink: &mut S) -> Result<(), EncodeError>
         requires { text_size (records (view self.now)) ≤ 2147483647 }
-        ensures { Writes S.most (text (records (view self.now)))
-            (S.bytes_of sink.old) (S.bytes_of sink.new) result }
+        ensures { Encodes (text (records (view self.now)))
+            (S.held sink.old) (S.held sink.new) result }
     {
         self.encode_with_cache(&mut SizeCache::new(alloc), sink)
     }
@@ -122,8 +122,8 @@ pub trait Message: Clone + PartialEq + Drop {
         sink: &mut S,
     ) -> Result<(), EncodeError>
         requires { text_size (records (view self.now)) ≤ 2147483647 }
-        ensures written { Writes S.most (text (records (view self.now)))
-            (S.bytes_of sink.old) (S.bytes_of sink.new) result }
+        ensures written { Encodes (text (records (view self.now)))
+            (S.held sink.old) (S.held sink.new) result }
         ensures read { OnOk result (cache.new ≡ read_tape (records (view self.now))) }
     {
         cache.clear();
@@ -144,9 +144,9 @@ pub trait Message: Clone + PartialEq + Drop {
     /// Writes the encoding as `encode` does, or answers `MessageTooLarge`, before anything is
     /// written, where it has more than 2,147,483,647 bytes and memory lasts to measure it.
     fn try_encode<S: EncodeSink>(&self, alloc: Global, sink: &mut S) -> Result<(), EncodeError>
-        ensures { TriesToWrite (text_size (records (view self.now))) S.most
-            (text (records (view self.now))) (S.bytes_of sink.old)
-            (S.bytes_of sink.new) result }
+        ensures { TriesToWrite (text_size (records (view self.now)))
+            (text (records (view self.now))) (S.held sink.old)
+            (S.held sink.new) result }
     {
         self.try_encode_with_cache(&mut SizeCache::new(alloc), sink)
     }
@@ -157,9 +157,9 @@ pub trait Message: Clone + PartialEq + Drop {
         cache: &mut SizeCache,
         sink: &mut S,
     ) -> Result<(), EncodeError>
-        ensures written { TriesToWrite (text_size (records (view self.now))) S.most
-            (text (records (view self.now))) (S.bytes_of sink.old)
-            (S.bytes_of sink.new) result }
+        ensures written { TriesToWrite (text_size (records (view self.now)))
+            (text (records (view self.now))) (S.held sink.old)
+            (S.held sink.new) result }
         ensures read { OnOk result (cache.new ≡ read_tape (records (view self.now))) }
     {
         cache.clear();
@@ -185,10 +185,11 @@ pub trait Message: Clone + PartialEq + Drop {
         sink: &mut S,
     ) -> Result<(), EncodeError>
         requires { text_size (records (view self.now)) ≤ 2147483647 }
-        ensures { Writes S.most (delimited_text (text (records (view self.now))))
-            (S.bytes_of sink.old) (S.bytes_of sink.new) result }
+        ensures { Encodes (delimited_text (text (records (view self.now))))
+            (S.held sink.old) (S.held sink.new) result }
     {
         laws::two_parts();
+        laws::piece_by_piece();
         let mut cache = SizeCache::new(alloc);
         let len = self.compute_size(&mut cache)?;
         encode_varint(u64::from(len), sink)?;
@@ -201,11 +202,12 @@ pub trait Message: Clone + PartialEq + Drop {
         alloc: Global,
         sink: &mut S,
     ) -> Result<(), EncodeError>
-        ensures { TriesToWrite (text_size (records (view self.now))) S.most
-            (delimited_text (text (records (view self.now)))) (S.bytes_of sink.old)
-            (S.bytes_of sink.new) result }
+        ensures { TriesToWrite (text_size (records (view self.now)))
+            (delimited_text (text (records (view self.now)))) (S.held sink.old)
+            (S.held sink.new) result }
     {
         laws::two_parts();
+        laws::piece_by_piece();
         let mut cache = SizeCache::new(alloc);
         let size = self.compute_size(&mut cache)?;
         checked_encode_size(size)?;
@@ -269,8 +271,8 @@ pub trait Message: Clone + PartialEq + Drop {
         max_bytes: u32,
         sink: &mut S,
     ) -> Result<u32, EncodeError>
-        ensures { WritesWithin max_bytes S.most (text (records (view self.now)))
-            (S.bytes_of sink.old) (S.bytes_of sink.new) result }
+        ensures { WritesWithin max_bytes (text (records (view self.now)))
+            (S.held sink.old) (S.held sink.new) result }
     {
         self.try_encode_bounded_with_cache(max_bytes, &mut SizeCache::new(alloc), sink)
     }
@@ -283,8 +285,8 @@ pub trait Message: Clone + PartialEq + Drop {
         cache: &mut SizeCache,
         sink: &mut S,
     ) -> Result<u32, EncodeError>
-        ensures written { WritesWithin max_bytes S.most (text (records (view self.now)))
-            (S.bytes_of sink.old) (S.bytes_of sink.new) result }
+        ensures written { WritesWithin max_bytes (text (records (view self.now)))
+            (S.held sink.old) (S.held sink.new) result }
         ensures read { OnOk result (cache.new ≡ read_tape (records (view self.now))) }
     {
         cache.clear();

@@ -12,7 +12,9 @@ ghost use Rattle.wire_codec.specs.TakingLaws.{OneReading};
 ghost use Rattle.wire_codec.specs.Tape.{NextAre, recorded, advanced};
 ghost use Rattle.wire_codec.specs.Writes.{Writes};
 
+use crate::decode_options::default_context;
 use crate::message::Message;
+use crate::size::MAX_MESSAGE_BYTES;
 use crate::size_cache::SizeCache;
 use bytes::Buf;
 use std::alloc::Global;
@@ -51,8 +53,8 @@ pub trait MessageFields: Clone + PartialEq + Drop {
     ) -> Result<(), EncodeError>
         requires sizes { NextAre (sizes (records (view self.now))) cache.old }
         requires size { text_size (records (view self.now)) ≤ 2147483647 }
-        ensures written { Writes S.most (text (records (view self.now)))
-            (S.bytes_of sink.old) (S.bytes_of sink.new) result }
+        ensures written { Writes (text (records (view self.now)))
+            (S.held sink.old) (S.held sink.new) result }
         ensures read { OnOk result (cache.new
             ≡ advanced cache.old (length (sizes (records (view self.now))))) };
 
@@ -124,5 +126,31 @@ impl<T: MessageFields> Message for T {
     #[inline(always)]
     fn clear(&mut self) {
         <T as MessageFields>::clear(self);
+    }
+
+    // The three that give a value stand here since a provided call is never compiled in place, and
+    // a message would be moved once more for each call that it is answered through.
+
+    #[inline(always)]
+    fn decode_length_delimited<B: Buf>(alloc: Global, buf: &mut B) -> Result<T, DecodeError> {
+        let mut message = <T as MessageFields>::default_value(alloc);
+        let max = MAX_MESSAGE_BYTES as usize;
+        message.merge_delimited(alloc, buf, &mut default_context(), max)?;
+        Ok(message)
+    }
+
+    #[inline(always)]
+    fn decode<B: Buf>(alloc: Global, buf: &mut B) -> Result<T, DecodeError> {
+        let mut message = <T as MessageFields>::default_value(alloc);
+        message.merge(alloc, buf, &mut default_context())?;
+        Ok(message)
+    }
+
+    #[inline(always)]
+    fn decode_from_slice(alloc: Global, bytes: &[u8]) -> Result<T, DecodeError> {
+        let mut buf = bytes;
+        let mut message = <T as MessageFields>::default_value(alloc);
+        message.merge(alloc, &mut buf, &mut default_context())?;
+        Ok(message)
     }
 }

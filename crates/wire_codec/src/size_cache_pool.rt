@@ -1,11 +1,10 @@
 //! Size caches that are used again.
 ghost use Rattle.std.specs.Prelude.{◌≡◌, ◌≤◌, ◌⊎◌, ℕ, ◌∷◌, [], ◌++◌, length, IfOk, IfErr};
 ghost use Rattle.wire_base.specs.declared.error.EncodeError.TheVariants.{OutOfMemory};
-ghost use Rattle.wire_codec.specs.Encoding.{TriesToAnswer, TriesToWrite, WritesWithin};
+ghost use Rattle.wire_codec.specs.Encoding.{Encodes, TriesToAnswer, TriesToWrite, WritesWithin};
 ghost use Rattle.wire_codec.specs.Pool.{KeepsLimits, IsWithinLimits, empty_pool};
 ghost use Rattle.wire_codec.specs.Records.{text, text_size};
 ghost use Rattle.wire_codec.specs.Tape.{blank};
-ghost use Rattle.wire_codec.specs.Writes.{Writes};
 
 use crate::message::Message;
 use crate::size::checked_encode_size;
@@ -118,8 +117,8 @@ impl SizeCachePool {
         sink: &mut S,
     ) -> Result<(), EncodeError>
         requires { text_size (M.records (M.view message.now)) ≤ 2147483647 }
-        ensures written { Writes S.most (text (M.records (M.view message.now)))
-            (S.bytes_of sink.old) (S.bytes_of sink.new) result }
+        ensures written { Encodes (text (M.records (M.view message.now)))
+            (S.held sink.old) (S.held sink.new) result }
         ensures limits { KeepsLimits self.old self.new }
     {
         let mut cache = self.acquire();
@@ -146,9 +145,9 @@ impl SizeCachePool {
         message: &M,
         sink: &mut S,
     ) -> Result<(), EncodeError>
-        ensures written { TriesToWrite (text_size (M.records (M.view message.now))) S.most
-            (text (M.records (M.view message.now))) (S.bytes_of sink.old)
-            (S.bytes_of sink.new) result }
+        ensures written { TriesToWrite (text_size (M.records (M.view message.now)))
+            (text (M.records (M.view message.now))) (S.held sink.old)
+            (S.held sink.new) result }
         ensures limits { KeepsLimits self.old self.new }
     {
         let mut cache = self.acquire();
@@ -164,8 +163,8 @@ impl SizeCachePool {
         max_bytes: u32,
         sink: &mut S,
     ) -> Result<u32, EncodeError>
-        ensures written { WritesWithin max_bytes S.most (text (M.records (M.view message.now)))
-            (S.bytes_of sink.old) (S.bytes_of sink.new) result }
+        ensures written { WritesWithin max_bytes (text (M.records (M.view message.now)))
+            (S.held sink.old) (S.held sink.new) result }
         ensures limits { KeepsLimits self.old self.new }
     {
         let mut cache = self.acquire();

@@ -12,19 +12,18 @@ write_to-requires-clause-sizes g c =
 pub returns-in_err-len : goal.returns-in_err-len
 returns-in_err-len g c =
     let p = err_from_is_err_and c.from_residual.result c.from_residual.ensures.1 in
-    rw (p.1, p.2, c.in_err-len.ensures.err) (unwritten _ _ _)
+    rw (p.1, p.2, c.in_err-len.ensures.err) (unwritten c.piece_by_piece.ensures _ _)
 
 pub returns-in_err-encode_varint : goal.returns-in_err-encode_varint
 returns-in_err-encode_varint g c =
     let p = err_from_is_err_and c.from_residual-in_err-encode_varint.result
     c.from_residual-in_err-encode_varint.ensures.1 in
     let len = c.from.ensures ∙ whole_size _ _ c.in_ok-len.ensures.size c.requires in
-    rw (p.1, p.2) (length_refused c.two_parts.ensures _ _ _ _ _ _ len
-    c.in_err-encode_varint.ensures.err c.in_err-encode_varint.ensures.cause)
+    rw (p.1, p.2) (length_refused c.two_parts.ensures _ _ _ _ _ len
+    c.in_err-encode_varint.ensures)
 
 pub returns : goal.returns
 returns g c =
     let len = c.from.ensures ∙ whole_size _ _ c.in_ok-len.ensures.size c.requires in
-    behind_length c.two_parts.ensures _ _ _ _ _ _ _ c.write_to.result len
-    c.in_ok-encode_varint.ensures.ok c.in_ok-encode_varint.ensures.cause
-    c.write_to.ensures.written
+    behind_length c.two_parts.ensures _ _ _ _ _ tt c.write_to.result len
+    c.in_ok-encode_varint.ensures c.write_to.ensures.written

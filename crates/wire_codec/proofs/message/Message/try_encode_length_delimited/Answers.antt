@@ -17,7 +17,7 @@ write_to-requires-clause-sizes g c =
 pub returns-in_err-size : goal.returns-in_err-size
 returns-in_err-size g c =
     let p = err_from_is_err_and c.from_residual.result c.from_residual.ensures.1 in
-    rw (p.1, p.2, c.in_err-size.ensures.err) (tries_unwritten _ _ _ _)
+    rw (p.1, p.2, c.in_err-size.ensures.err) (tries_unwritten c.piece_by_piece.ensures _ _ _)
 
 pub returns-in_err-encode_varint : goal.returns-in_err-encode_varint
 returns-in_err-encode_varint g c =
@@ -26,15 +26,13 @@ returns-in_err-encode_varint g c =
     let tested : c.in_ok-size.size ≤ 2147483647 = search rules in
     let small = uncut_size _ _ c.in_ok-size.ensures.size tested in
     let len = c.from.ensures ∙ whole_size _ _ c.in_ok-size.ensures.size small in
-    let put = c.in_err-encode_varint.ensures in
-    rw (p.1, p.2) (tries_small _ _ _ _ _ _ small
-    (length_refused c.two_parts.ensures _ _ _ _ _ _ len put.err put.cause))
+    rw (p.1, p.2) (tries_small _ _ _ _ _ small
+    (length_refused c.two_parts.ensures _ _ _ _ _ len c.in_err-encode_varint.ensures))
 
 pub returns : goal.returns
 returns g c =
     let tested : c.in_ok-size.size ≤ 2147483647 = search rules in
     let small = uncut_size _ _ c.in_ok-size.ensures.size tested in
     let len = c.from.ensures ∙ whole_size _ _ c.in_ok-size.ensures.size small in
-    let put = c.in_ok-encode_varint.ensures in
-    tries_small _ _ _ _ _ _ small (behind_length c.two_parts.ensures _ _ _ _ _ _ _ c.write_to.result
-    len put.ok put.cause c.write_to.ensures.written)
+    tries_small _ _ _ _ _ small (behind_length c.two_parts.ensures _ _ _ _ _ tt c.write_to.result len
+    c.in_ok-encode_varint.ensures c.write_to.ensures.written)
