@@ -3,7 +3,7 @@ use Rattle.std.proofs.Common.{◌≡◌, ℕ, ◌+◌, ◌≤◌, List, [], ◌�
 use Rattle.std.proofs.Common.{◌∙◌, subst, append_assoc, arith, length-append, add_assoc, add-zero}
 use Rattle.std.proofs.lemmas.List.{append-nil, drop-drop}
 use Rattle.std.proofs.Math.Seq.{drop-append_seam}
-use Rattle.std.specs.Prelude.{Option, Result, Ok, Err}
+use Rattle.std.specs.Prelude.{Result, Ok, Err}
 use Rattle.wire_codec.specs.EncodeError.{EncodeError}
 use Rattle.wire_codec.specs.Laws.{JoinedAddsUp, PieceByPiece}
 use Rattle.wire_codec.specs.Records.{Records, none, field, embedded, group}
@@ -13,13 +13,12 @@ use Rattle.wire_codec.specs.Tag.{tag_text}
 use Rattle.wire_codec.specs.Tape.{Tape, NextAre, advanced, unread_of}
 use Rattle.wire_codec.specs.Varint.{shortest_varint}
 use Rattle.wire_codec.specs.WireType.TheVariants.{LengthDelimited, StartGroup, EndGroup}
-use Rattle.wire_codec.specs.Writes.{Writes, IsWrittenTo}
+use Rattle.wire_codec.specs.Writes.{Held, Writes, IsWrittenTo}
 use Rattle.wire_fields.proofs.Measuring.{Splits, size_joined}
 
 -- records in front of these were written, with their sizes, and these are left
-pub record IsPutTo (most : Option ℕ) (whole left : Records) (t u : Tape) (old now : List ℕ)
-    : Type 0 where
-  pub written : IsWrittenTo most (text whole) old now (text left)
+pub record IsPutTo (whole left : Records) (t u : Tape) (old now : Held) : Type 0 where
+  pub written : IsWrittenTo (text whole) old now (text left)
   pub next : NextAre (sizes left) u
   pub read : advanced u (length (sizes left)) ≡ advanced t (length (sizes whole))
   pub small : text_size left ≤ 2147483647
@@ -47,17 +46,17 @@ not_advanced t = ap (λ (k : ℕ). record { sizes = t.sizes; cursor = k }) (add-
 
 -- ---- parts
 
-pub start : PieceByPiece → (most : Option ℕ) (whole : Records) (t : Tape) (old : List ℕ)
-    → NextAre (sizes whole) t → text_size whole ≤ 2147483647 → IsPutTo most whole whole t t old old
-start pieces most whole t old next small = record {
-  written = pieces.start most (text whole) old;
+pub start : PieceByPiece → (whole : Records) (t : Tape) (old : Held)
+    → NextAre (sizes whole) t → text_size whole ≤ 2147483647 → IsPutTo whole whole t t old old
+start pieces whole t old next small = record {
+  written = pieces.start (text whole) old;
   next = next;
   read = refl;
   small = small;
 }
 
-module _ (joins : JoinedAddsUp) (most : Option ℕ) (whole left piece after : Records) (t u : Tape)
-    (old now : List ℕ) (w : IsPutTo most whole left t u old now)
+module _ (joins : JoinedAddsUp) (whole left piece after : Records) (t u : Tape)
+    (old now : Held) (w : IsPutTo whole left t u old now)
     (parts : Splits left piece after) where
   pub part_next : NextAre (sizes piece) u
   part_next = next_in_front (sizes piece) (sizes after) u
@@ -66,16 +65,16 @@ module _ (joins : JoinedAddsUp) (most : Option ℕ) (whole left piece after : Re
   pub part_small : text_size piece ≤ 2147483647
   part_small = omega (arith, w.small, ap text_size parts.is, size_joined joins piece after)
 
-  pub refused : PieceByPiece → (new : List ℕ) (e : EncodeError)
-      → Writes most (text piece) now new (Err e) → Writes most (text whole) old new (Err e)
-  refused pieces new e put = pieces.refused most (text whole) old now new (text left) (text piece)
+  pub refused : PieceByPiece → (new : Held) (e : EncodeError)
+      → Writes (text piece) now new (Err e) → Writes (text whole) old new (Err e)
+  refused pieces new e put = pieces.refused (text whole) old now new (text left) (text piece)
       (text after) e w.written (ap text parts.is ∙ joins.text piece after) put
 
-  pub more : PieceByPiece → (v : Tape) (next : List ℕ) (done : Unit {0})
-      → Writes most (text piece) now next (Ok done) → v ≡ advanced u (length (sizes piece))
-      → IsPutTo most whole after t v old next
+  pub more : PieceByPiece → (v : Tape) (next : Held) (done : Unit {0})
+      → Writes (text piece) now next (Ok done) → v ≡ advanced u (length (sizes piece))
+      → IsPutTo whole after t v old next
   more pieces v next done put is = record {
-    written = pieces.more most (text whole) old now next (text left) (text piece) (text after) done
+    written = pieces.more (text whole) old now next (text left) (text piece) (text after) done
         w.written (ap text parts.is ∙ joins.text piece after) put;
     next = next_behind (sizes piece) (sizes after) u v
         (subst (λ (ns : List ℕ). NextAre ns u) (ap sizes parts.is ∙ joins.sizes piece after) w.next)
@@ -88,16 +87,16 @@ module _ (joins : JoinedAddsUp) (most : Option ℕ) (whole left piece after : Re
   }
 
 -- what is left is written, and has no sizes
-pub last : PieceByPiece → (most : Option ℕ) (whole left : Records) (t u : Tape)
-    (old now new : List ℕ) (r : Result (Unit {0}) EncodeError) → IsPutTo most whole left t u old now
-    → Writes most (text left) now new r → Writes most (text whole) old new r
-last pieces most whole left t u old now new r w put =
-    pieces.last most (text whole) old now new (text left) r w.written put
+pub last : PieceByPiece → (whole left : Records) (t u : Tape)
+    (old now new : Held) (r : Result (Unit {0}) EncodeError) → IsPutTo whole left t u old now
+    → Writes (text left) now new r → Writes (text whole) old new r
+last pieces whole left t u old now new r w put =
+    pieces.last (text whole) old now new (text left) r w.written put
 
-pub all_read : (most : Option ℕ) (whole left : Records) (t u : Tape) (old now : List ℕ)
-    → IsPutTo most whole left t u old now → sizes left ≡ []
+pub all_read : (whole left : Records) (t u : Tape) (old now : Held)
+    → IsPutTo whole left t u old now → sizes left ≡ []
     → u ≡ advanced t (length (sizes whole))
-all_read most whole left t u old now w flat =
+all_read whole left t u old now w flat =
     sym (not_advanced u) ∙ ap (λ (ns : List ℕ). advanced u (length ns)) (sym flat) ∙ w.read
 
 -- ---- embedded messages and groups

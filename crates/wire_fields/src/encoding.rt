@@ -47,9 +47,8 @@ pub trait MessageEncoding {
             (sizes (message_record encoding number (M.records (M.view message.now)))) cache.old }
         requires size { text_size (message_record encoding number (M.records (M.view message.now)))
             ≤ 2147483647 }
-        ensures written { Writes S.most
-            (text (message_record encoding number (M.records (M.view message.now))))
-            (S.bytes_of sink.old) (S.bytes_of sink.new) result }
+        ensures written { Writes (text (message_record encoding number (M.records (M.view message.now))))
+            (S.held sink.old) (S.held sink.new) result }
         ensures read { OnOk result (cache.new ≡ advanced cache.old (length
             (sizes (message_record encoding number (M.records (M.view message.now)))))) };
 

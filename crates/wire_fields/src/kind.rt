@@ -54,8 +54,8 @@ pub trait Kind {
         requires number { IsFieldNumber number }
         requires sizes { NextAre (sizes (kind.records number (view held.now))) cache.old }
         requires size { text_size (kind.records number (view held.now)) ≤ 2147483647 }
-        ensures written { Writes S.most (text (kind.records number (view held.now)))
-            (S.bytes_of sink.old) (S.bytes_of sink.new) result }
+        ensures written { Writes (text (kind.records number (view held.now)))
+            (S.held sink.old) (S.held sink.new) result }
         ensures read { OnOk result (cache.new
             ≡ advanced cache.old (length (sizes (kind.records number (view held.now))))) };
 

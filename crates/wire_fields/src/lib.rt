@@ -55,8 +55,8 @@ pub use packed::{Packed, Unpacked};
 pub use parts::{Known, Parts, Rest, measure, write};
 pub use presence::{Always, Implicit, Optional};
 pub use recursive::{
-    Place, RecursiveAlone, RecursiveHeld, RecursiveMember, RecursiveSlice, merge_held, merge_nest,
-    nest_size, push_message, slice_size, write_nest, write_slice,
+    Alone, Place, RecursiveAlone, RecursiveHeld, RecursiveMember, RecursiveSlice, merge_held,
+    push_message, slice_size, write_slice,
 };
 pub use repeated::Repeated;
 pub use scalar::{Numeric, Scalar};

@@ -177,9 +177,8 @@ where
         (each_entry K.scalar V.kind number (viewed K.view V.view held.now.entries))) cache.old }
     requires size { text_size
         (each_entry K.scalar V.kind number (viewed K.view V.view held.now.entries)) ≤ 2147483647 }
-    ensures written { Writes S.most
-        (text (each_entry K.scalar V.kind number (viewed K.view V.view held.now.entries)))
-        (S.bytes_of sink.old) (S.bytes_of sink.new) result }
+    ensures written { Writes (text (each_entry K.scalar V.kind number (viewed K.view V.view held.now.entries)))
+        (S.held sink.old) (S.held sink.new) result }
     ensures read { OnOk result (cache.new ≡ advanced cache.old (length (sizes
         (each_entry K.scalar V.kind number (viewed K.view V.view held.now.entries))))) }
 {

@@ -148,9 +148,8 @@ fn write_entry<K: Scalar, V: Kind, S: EncodeSink>(
         (entry_records K.scalar V.kind (K.view key.now, V.view value.now))) cache.old }
     requires size { text_size
         (entry_records K.scalar V.kind (K.view key.now, V.view value.now)) ≤ 2147483647 }
-    ensures written { Writes S.most
-        (text (entry_records K.scalar V.kind (K.view key.now, V.view value.now)))
-        (S.bytes_of sink.old) (S.bytes_of sink.new) result }
+    ensures written { Writes (text (entry_records K.scalar V.kind (K.view key.now, V.view value.now)))
+        (S.held sink.old) (S.held sink.new) result }
     ensures read { OnOk result (cache.new ≡ advanced cache.old (length
         (sizes (entry_records K.scalar V.kind (K.view key.now, V.view value.now))))) }
 {
@@ -197,9 +196,8 @@ pub(crate) fn put_entry<K: Scalar, V: Kind, S: EncodeSink>(
         (entry_record K.scalar V.kind number (K.view key.now, V.view value.now))) cache.old }
     requires size { text_size
         (entry_record K.scalar V.kind number (K.view key.now, V.view value.now)) ≤ 2147483647 }
-    ensures written { Writes S.most
-        (text (entry_record K.scalar V.kind number (K.view key.now, V.view value.now)))
-        (S.bytes_of sink.old) (S.bytes_of sink.new) result }
+    ensures written { Writes (text (entry_record K.scalar V.kind number (K.view key.now, V.view value.now)))
+        (S.held sink.old) (S.held sink.new) result }
     ensures read { OnOk result (cache.new ≡ advanced cache.old (length
         (sizes (entry_record K.scalar V.kind number (K.view key.now, V.view value.now))))) }
 {

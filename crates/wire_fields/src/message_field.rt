@@ -239,9 +239,8 @@ fn put_each<M: Message, E: MessageEncoding, S: EncodeSink>(
         (sizes (message_each E.encoding M.records number (map M.view messages.now))) cache.old }
     requires size { text_size (message_each E.encoding M.records number (map M.view messages.now))
         ≤ 2147483647 }
-    ensures written { Writes S.most
-        (text (message_each E.encoding M.records number (map M.view messages.now)))
-        (S.bytes_of sink.old) (S.bytes_of sink.new) result }
+    ensures written { Writes (text (message_each E.encoding M.records number (map M.view messages.now)))
+        (S.held sink.old) (S.held sink.new) result }
     ensures read { OnOk result (cache.new ≡ advanced cache.old (length
         (sizes (message_each E.encoding M.records number (map M.view messages.now))))) }
 {

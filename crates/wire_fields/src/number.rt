@@ -66,8 +66,8 @@ pub(crate) fn put_number<S: EncodeSink>(
 ) -> Result<(), EncodeError>
     requires number { IsFieldNumber number }
     requires narrow { form ≡ Fixed32 → x < 2 ^ 32 }
-    ensures { Writes S.most (text (number_record form number x))
-        (S.bytes_of sink.old) (S.bytes_of sink.new) result }
+    ensures { Writes (text (number_record form number x))
+        (S.held sink.old) (S.held sink.new) result }
 {
     match form {
         Form::Varint => put_uint64_field(number, x, sink),

@@ -41,8 +41,8 @@ pub(crate) fn put_number_text<S: EncodeSink>(
     sink: &mut S,
 ) -> Result<(), EncodeError>
     requires { form ≡ Fixed32 → x < 2 ^ 32 }
-    ensures { Writes S.most (number_text form x) (S.bytes_of sink.old)
-        (S.bytes_of sink.new) result }
+    ensures { Writes (number_text form x) (S.held sink.old)
+        (S.held sink.new) result }
 {
     laws::put_is_a_write();
     match form {

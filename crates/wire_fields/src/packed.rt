@@ -165,8 +165,8 @@ fn put_packed<N: Number, E: EncodeSink>(
 ) -> Result<(), EncodeError>
     requires number { IsFieldNumber number }
     requires fits { text_size (packed_records N.form N.map number values.now) ≤ 2147483647 }
-    ensures { Writes E.most (text (packed_records N.form N.map number values.now))
-        (E.bytes_of sink.old) (E.bytes_of sink.new) result }
+    ensures { Writes (text (packed_records N.form N.map number values.now))
+        (E.held sink.old) (E.held sink.new) result }
 {
     if values.is_empty() {
         return Ok(());
@@ -196,8 +196,8 @@ fn put_unpacked<N: Number, E: EncodeSink>(
     sink: &mut E,
 ) -> Result<(), EncodeError>
     requires { IsFieldNumber number }
-    ensures { Writes E.most (text (each_record (numeric N.form N.map) number values.now))
-        (E.bytes_of sink.old) (E.bytes_of sink.new) result }
+    ensures { Writes (text (each_record (numeric N.form N.map) number values.now))
+        (E.held sink.old) (E.held sink.new) result }
 {
     put_each::<Numeric<N>, E>(number, values, sink)
 }

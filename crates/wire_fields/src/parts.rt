@@ -27,8 +27,8 @@ pub trait Parts {
     fn put<S: EncodeSink>(&self, cache: &mut SizeCache, sink: &mut S) -> Result<(), EncodeError>
         requires sizes { NextAre (sizes (records self.now)) cache.old }
         requires size { text_size (records self.now) ≤ 2147483647 }
-        ensures written { Writes S.most (text (records self.now)) (S.bytes_of sink.old)
-            (S.bytes_of sink.new) result }
+        ensures written { Writes (text (records self.now)) (S.held sink.old)
+            (S.held sink.new) result }
         ensures read { OnOk result (cache.new
             ≡ advanced cache.old (length (sizes (records self.now)))) };
 }
@@ -123,8 +123,8 @@ pub fn write<P: Parts + Drop, S: EncodeSink>(
 ) -> Result<(), EncodeError>
     requires sizes { NextAre (sizes (P.records parts)) cache.old }
     requires size { text_size (P.records parts) ≤ 2147483647 }
-    ensures written { Writes S.most (text (P.records parts)) (S.bytes_of sink.old)
-        (S.bytes_of sink.new) result }
+    ensures written { Writes (text (P.records parts)) (S.held sink.old)
+        (S.held sink.new) result }
     ensures read { OnOk result (cache.new
         ≡ advanced cache.old (length (sizes (P.records parts)))) }
 {

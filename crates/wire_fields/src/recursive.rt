@@ -12,7 +12,7 @@ mod size;
 mod slices;
 mod write;
 
-pub use alone::{RecursiveAlone, merge_nest, nest_size, write_nest};
+pub use alone::{Alone, RecursiveAlone};
 pub use held::RecursiveHeld;
 pub use member::RecursiveMember;
 pub use merge::merge_held;

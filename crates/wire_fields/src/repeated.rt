@@ -95,8 +95,8 @@ pub(crate) fn put_each<S: Scalar, E: EncodeSink>(
     sink: &mut E,
 ) -> Result<(), EncodeError>
     requires { IsFieldNumber number }
-    ensures { Writes E.most (text (each_record S.scalar number (map S.view values.now)))
-        (E.bytes_of sink.old) (E.bytes_of sink.new) result }
+    ensures { Writes (text (each_record S.scalar number (map S.view values.now)))
+        (E.held sink.old) (E.held sink.new) result }
 {
     laws::joined_records_add_up();
     laws::piece_by_piece();

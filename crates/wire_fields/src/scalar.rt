@@ -43,8 +43,8 @@ pub trait Scalar {
     /// Writes the record of this value. Refused where the sink refuses a put.
     fn put<S: EncodeSink>(number: u32, held: &Self::Held, sink: &mut S) -> Result<(), EncodeError>
         requires { IsFieldNumber number }
-        ensures { Writes S.most (text (scalar_record scalar number (view held.now)))
-            (S.bytes_of sink.old) (S.bytes_of sink.new) result };
+        ensures { Writes (text (scalar_record scalar number (view held.now)))
+            (S.held sink.old) (S.held sink.new) result };
 
     /// Reads the payload behind this tag, and puts its value in the place of the one that is held.
     /// Another wire type is `WireTypeMismatch`. Any error but `OutOfMemory` says that no value

@@ -7,10 +7,12 @@ use wire_schema::Template;
 pub(crate) const ALONE: [Template; 13] = [
     (
         "own_uses",
-        "wire_fields RecursiveAlone
-wire_fields merge_nest
-wire_fields nest_size
-wire_fields write_nest
+        "std::slice from_ref
+wire_fields Alone
+wire_fields RecursiveAlone
+wire_fields merge_held
+wire_fields slice_size
+wire_fields write_slice
 ",
     ),
     (
@@ -23,11 +25,14 @@ wire_fields write_nest
     ("matched", "row"),
     ("member_ghosts", ALONE_GHOSTS),
     ("row_head", ALONE_ROW),
-    ("size_call", "nest_size(self, cache)"),
-    ("write_call", "write_nest(self, cache, sink)"),
+    ("size_call", "slice_size(Alone(from_ref(self)), 0, cache)"),
+    (
+        "write_call",
+        "write_slice(Alone(from_ref(self)), 0, cache, sink)",
+    ),
     (
         "merge_held",
-        "        merge_nest(self, alloc, tag, buf, context)\n",
+        "        merge_held(self, alloc, tag, buf, context)\n",
     ),
     ("others", ""),
     ("moved_shut", ""),

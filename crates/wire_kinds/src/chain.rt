@@ -9,8 +9,8 @@ use wire_codec::{
     Tag, UnknownFields,
 };
 use wire_fields::{
-    Implicit, Int32, Kind, Known, Parts, Place, RecursiveAlone, RecursiveMember, Rest, keep,
-    merge_nest, nest_size, push_message, write_nest,
+    Alone, Implicit, Int32, Kind, Known, Parts, Place, RecursiveAlone, RecursiveMember, Rest, keep,
+    merge_held, push_message, slice_size, write_slice,
 };
 
 /// It holds itself.
@@ -221,7 +221,7 @@ impl MessageFields for Chain {
     }
 
     fn compute_size(&self, cache: &mut SizeCache) -> Result<u32, EncodeError> {
-        nest_size(self, cache)
+        slice_size(Alone(from_ref(self)), 0, cache)
     }
 
     fn write_to<S: EncodeSink>(
@@ -229,7 +229,7 @@ impl MessageFields for Chain {
         cache: &mut SizeCache,
         sink: &mut S,
     ) -> Result<(), EncodeError> {
-        write_nest(self, cache, sink)
+        write_slice(Alone(from_ref(self)), 0, cache, sink)
     }
 
     fn merge_field<B: Buf>(
@@ -239,7 +239,7 @@ impl MessageFields for Chain {
         buf: &mut B,
         context: &mut DecodeContext,
     ) -> Result<(), DecodeError> {
-        merge_nest(self, alloc, tag, buf, context)
+        merge_held(self, alloc, tag, buf, context)
     }
 
     fn clear(&mut self) {

@@ -9,8 +9,8 @@ use wire_codec::{
     Tag, UnknownFields,
 };
 use wire_fields::{
-    Kind, Known, Optional, Parts, Place, RecursiveAlone, RecursiveMember, Rest, Sint64, keep,
-    merge_nest, nest_size, push_message, write_nest,
+    Alone, Kind, Known, Optional, Parts, Place, RecursiveAlone, RecursiveMember, Rest, Sint64,
+    keep, merge_held, push_message, slice_size, write_slice,
 };
 
 /// The message `Nest`.
@@ -237,7 +237,7 @@ impl MessageFields for Nest {
     }
 
     fn compute_size(&self, cache: &mut SizeCache) -> Result<u32, EncodeError> {
-        nest_size(self, cache)
+        slice_size(Alone(from_ref(self)), 0, cache)
     }
 
     fn write_to<S: EncodeSink>(
@@ -245,7 +245,7 @@ impl MessageFields for Nest {
         cache: &mut SizeCache,
         sink: &mut S,
     ) -> Result<(), EncodeError> {
-        write_nest(self, cache, sink)
+        write_slice(Alone(from_ref(self)), 0, cache, sink)
     }
 
     fn merge_field<B: Buf>(
@@ -255,7 +255,7 @@ impl MessageFields for Nest {
         buf: &mut B,
         context: &mut DecodeContext,
     ) -> Result<(), DecodeError> {
-        merge_nest(self, alloc, tag, buf, context)
+        merge_held(self, alloc, tag, buf, context)
     }
 
     fn clear(&mut self) {

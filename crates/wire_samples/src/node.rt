@@ -10,8 +10,8 @@ use wire_codec::{
     Tag, UnknownFields, laws,
 };
 use wire_fields::{
-    Implicit, Kind, Known, Parts, Place, RecursiveAlone, RecursiveMember, Rest, Sint64, keep,
-    merge_nest, nest_size, push_message, write_nest,
+    Alone, Implicit, Kind, Known, Parts, Place, RecursiveAlone, RecursiveMember, Rest, Sint64,
+    keep, merge_held, push_message, slice_size, write_slice,
 };
 
 // How many bytes of element memory each of the children takes.
@@ -266,7 +266,7 @@ impl MessageFields for Node {
     }
 
     fn compute_size(&self, cache: &mut SizeCache) -> Result<u32, EncodeError> {
-        nest_size(self, cache)
+        slice_size(Alone(slice::from_ref(self)), 0, cache)
     }
 
     fn write_to<S: EncodeSink>(
@@ -274,7 +274,7 @@ impl MessageFields for Node {
         cache: &mut SizeCache,
         sink: &mut S,
     ) -> Result<(), EncodeError> {
-        write_nest(self, cache, sink)
+        write_slice(Alone(slice::from_ref(self)), 0, cache, sink)
     }
 
     fn merge_field<B: Buf>(
@@ -285,7 +285,7 @@ impl MessageFields for Node {
         context: &mut DecodeContext,
     ) -> Result<(), DecodeError> {
         laws::records_in_order();
-        merge_nest(self, alloc, tag, buf, context)
+        merge_held(self, alloc, tag, buf, context)
     }
 
     fn clear(&mut self) {

@@ -144,8 +144,8 @@ fn write_records<S: EncodeSink>(
 ) -> Result<(), EncodeError>
     requires sizes { NextAre (sizes (person_records (person_value person.now))) cache.old }
     requires size { text_size (person_records (person_value person.now)) ≤ 2147483647 }
-    ensures written { Writes S.most (text (person_records (person_value person.now)))
-        (S.bytes_of sink.old) (S.bytes_of sink.new) result }
+    ensures written { Writes (text (person_records (person_value person.now)))
+        (S.held sink.old) (S.held sink.new) result }
     ensures read { OnOk result (cache.new ≡ advanced cache.old
         (length (sizes (person_records (person_value person.now))))) }
 {

@@ -9,8 +9,8 @@ use wire_codec::{
     UnknownFields,
 };
 use wire_fields::{
-    Always, Dropped, Implicit, Kind, Known, Parts, Place, RecursiveAlone, RecursiveMember, Rest,
-    Text, Uint64, keep, merge_nest, nest_size, push_message, write_nest,
+    Alone, Always, Dropped, Implicit, Kind, Known, Parts, Place, RecursiveAlone, RecursiveMember,
+    Rest, Text, Uint64, keep, merge_held, push_message, slice_size, write_slice,
 };
 
 /// A rule: its test, and others that hold besides.
@@ -261,7 +261,7 @@ impl MessageFields for Rule {
     }
 
     fn compute_size(&self, cache: &mut SizeCache) -> Result<u32, EncodeError> {
-        nest_size(self, cache)
+        slice_size(Alone(slice::from_ref(self)), 0, cache)
     }
 
     fn write_to<S: EncodeSink>(
@@ -269,7 +269,7 @@ impl MessageFields for Rule {
         cache: &mut SizeCache,
         sink: &mut S,
     ) -> Result<(), EncodeError> {
-        write_nest(self, cache, sink)
+        write_slice(Alone(slice::from_ref(self)), 0, cache, sink)
     }
 
     fn merge_field<B: Buf>(
@@ -279,7 +279,7 @@ impl MessageFields for Rule {
         buf: &mut B,
         context: &mut DecodeContext,
     ) -> Result<(), DecodeError> {
-        merge_nest(self, alloc, tag, buf, context)
+        merge_held(self, alloc, tag, buf, context)
     }
 
     fn clear(&mut self) {

@@ -10,8 +10,8 @@ use wire_codec::{
     Tag, UnknownFields,
 };
 use wire_fields::{
-    Embedded, Implicit, Kind, Known, Parts, Place, RecursiveAlone, RecursiveMember, Rest, Text,
-    keep, merge_nest, nest_size, push_message, write_nest,
+    Alone, Embedded, Implicit, Kind, Known, Parts, Place, RecursiveAlone, RecursiveMember, Rest,
+    Text, keep, merge_held, push_message, slice_size, write_slice,
 };
 
 /// A tree, with a name and counters.
@@ -233,7 +233,7 @@ impl MessageFields for Tree {
     }
 
     fn compute_size(&self, cache: &mut SizeCache) -> Result<u32, EncodeError> {
-        nest_size(self, cache)
+        slice_size(Alone(from_ref(self)), 0, cache)
     }
 
     fn write_to<S: EncodeSink>(
@@ -241,7 +241,7 @@ impl MessageFields for Tree {
         cache: &mut SizeCache,
         sink: &mut S,
     ) -> Result<(), EncodeError> {
-        write_nest(self, cache, sink)
+        write_slice(Alone(from_ref(self)), 0, cache, sink)
     }
 
     fn merge_field<B: Buf>(
@@ -251,7 +251,7 @@ impl MessageFields for Tree {
         buf: &mut B,
         context: &mut DecodeContext,
     ) -> Result<(), DecodeError> {
-        merge_nest(self, alloc, tag, buf, context)
+        merge_held(self, alloc, tag, buf, context)
     }
 
     fn clear(&mut self) {

@@ -92,9 +92,9 @@ impl<T: RecursiveAlone> RecursiveHeld for T {
     }
 }
 
-// Several messages of such a type.
+/// Several messages of such a type; one, to measure or write it, is a slice of one.
 #[derive_where(Clone, Copy)]
-struct Alone<'a, T>(&'a [T]);
+pub struct Alone<'a, T>(pub &'a [T]);
 
 impl<'a, T: RecursiveAlone> RecursiveSlice for Alone<'a, T> {
     ghost use Rattle.wire_fields.specs.NestTable.{all_counted};
@@ -152,69 +152,4 @@ impl<'a, T: RecursiveAlone> RecursiveSlice for Alone<'a, T> {
     ) -> Result<(), EncodeError> {
         <T as RecursiveMember<T>>::put_run(&self.0[index], run, cache, sink)
     }
-}
-
-// The message as a slice of one. No value takes 2^63 bytes. The compiler knows that of each type
-// that a program names, and drops the test; of a type parameter nothing says so.
-#[inline(always)]
-fn slice_of<T>(message: &T) -> Result<&[T], EncodeError>
-    ensures ok { IfOk result (λ messages. messages.now ≡ message.now ∷ []) }
-    ensures err { IfErr result (λ e. e ≡ OutOfMemory) }
-{
-    if mem::size_of_val(message) < 1 << 63 {
-        Ok(slice::from_ref(message))
-    } else {
-        Err(EncodeError::OutOfMemory)
-    }
-}
-
-/// What `compute_size` of a message that holds itself answers.
-#[inline(always)]
-pub fn nest_size<T: RecursiveAlone>(message: &T, cache: &mut SizeCache) -> Result<u32, EncodeError>
-    ensures size { IfOk result (λ answer. answer
-        ≡ cut (text_size (family_records T.family T.sort (T.view message.now)))) }
-    ensures sizes { OnOk result (cache.new
-        ≡ recorded cache.old (cut_sizes (family_records T.family T.sort (T.view message.now)))) }
-    ensures err { IfErr result (λ e. e ≡ OutOfMemory) }
-{
-    slice_size(Alone(slice_of(message)?), 0, cache)
-}
-
-/// What `write_to` of a message that holds itself does.
-#[inline(always)]
-pub fn write_nest<T: RecursiveAlone, S: EncodeSink>(
-    message: &T,
-    cache: &mut SizeCache,
-    sink: &mut S,
-) -> Result<(), EncodeError>
-    requires sizes { NextAre (sizes (family_records T.family T.sort (T.view message.now)))
-        cache.old }
-    requires size { text_size (family_records T.family T.sort (T.view message.now)) ≤ 2147483647 }
-    ensures written { Writes S.most (text (family_records T.family T.sort (T.view message.now)))
-        (S.bytes_of sink.old) (S.bytes_of sink.new) result }
-    ensures read { OnOk result (cache.new ≡ advanced cache.old
-        (length (sizes (family_records T.family T.sort (T.view message.now))))) }
-{
-    write_slice(Alone(slice_of(message)?), 0, cache, sink)
-}
-
-/// What `merge_field` of a message that holds itself does.
-#[inline(always)]
-pub fn merge_nest<T: RecursiveAlone, B: Buf>(
-    message: &mut T,
-    alloc: Global,
-    tag: Tag,
-    buf: &mut B,
-    context: &mut DecodeContext,
-) -> Result<(), DecodeError>
-    ensures ok { OnOk result (IsCharged context.old context.new (λ c.
-        TakesRecord (family_takes T.family T.sort) context.old (tag_number tag) (tag_type tag)
-        (T.view message.old) (B.unread buf.old) c (T.view message.new) (B.unread buf.new))) }
-    ensures err { IfErr result (λ e. e ≢ errors.OutOfMemory → NotTaken
-        (TakesRecord (family_takes T.family T.sort) context.old (tag_number tag) (tag_type tag)
-        (T.view message.old) (B.unread buf.old))) }
-    ensures counts { OnErr result (NoCountGrew context.old context.new) }
-    ensures kept { B.kept buf.new ≡ B.kept buf.old }
-{
-    merge_held(message, alloc, tag, buf, context)
 }

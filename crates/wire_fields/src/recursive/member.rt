@@ -118,9 +118,9 @@ pub trait RecursiveMember<H: Drop>: Drop {
             cache.old }
         requires size { text_size ((family.table sort).run run (leaf_of (view self.now)))
             ≤ 2147483647 }
-        ensures written { Writes S.most (text ((family.table sort).run run (leaf_of
+        ensures written { Writes (text ((family.table sort).run run (leaf_of
             (view self.now))))
-            (S.bytes_of sink.old) (S.bytes_of sink.new) result }
+            (S.held sink.old) (S.held sink.new) result }
         ensures read { OnOk result (cache.new ≡ advanced cache.old
             (length (sizes ((family.table sort).run run (leaf_of (view self.now)))))) };
 

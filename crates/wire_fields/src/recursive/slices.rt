@@ -77,10 +77,10 @@ pub trait RecursiveSlice: Copy {
             (leaf_of (message_at (family.table (sort self)) (views self) index)))) cache.old }
         requires size { text_size ((family.table (sort self)).run run
             (leaf_of (message_at (family.table (sort self)) (views self) index))) ≤ 2147483647 }
-        ensures written { Writes S.most (text ((family.table (sort self)).run run
+        ensures written { Writes (text ((family.table (sort self)).run run
             (leaf_of (message_at (family.table (sort self)) (views self) index))))
-            (S.bytes_of sink.old)
-            (S.bytes_of sink.new) result }
+            (S.held sink.old)
+            (S.held sink.new) result }
         ensures read { OnOk result (cache.new ≡ advanced cache.old
             (length (sizes ((family.table (sort self)).run run
             (leaf_of (message_at (family.table (sort self)) (views self) index)))))) };

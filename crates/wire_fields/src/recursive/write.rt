@@ -29,9 +29,8 @@ pub fn write_slice<T: RecursiveSlice, S: EncodeSink>(
         (records_at T.family (T.sort messages) (T.views messages) index)) cache.old }
     requires size { text_size (records_at T.family (T.sort messages) (T.views messages) index)
         ≤ 2147483647 }
-    ensures written { Writes S.most
-        (text (records_at T.family (T.sort messages) (T.views messages) index))
-        (S.bytes_of sink.old) (S.bytes_of sink.new) result }
+    ensures written { Writes (text (records_at T.family (T.sort messages) (T.views messages) index))
+        (S.held sink.old) (S.held sink.new) result }
     ensures read { OnOk result (cache.new ≡ advanced cache.old (length (sizes
         (records_at T.family (T.sort messages) (T.views messages) index)))) }
 {
@@ -62,10 +61,10 @@ fn put_row<T: RecursiveSlice, S: EncodeSink>(
         (family_records T.family (T.sort messages)) number (T.views messages))) cache.old }
     requires size { text_size (message_each (encoding_of grouped)
         (family_records T.family (T.sort messages)) number (T.views messages)) ≤ 2147483647 }
-    ensures written { Writes S.most (text (message_each (encoding_of grouped)
+    ensures written { Writes (text (message_each (encoding_of grouped)
         (family_records T.family (T.sort messages)) number (T.views messages)))
-        (S.bytes_of sink.old)
-        (S.bytes_of sink.new) result }
+        (S.held sink.old)
+        (S.held sink.new) result }
     ensures read { OnOk result (cache.new ≡ advanced cache.old (length (sizes (message_each
         (encoding_of grouped) (family_records T.family (T.sort messages)) number
         (T.views messages))))) }
@@ -91,10 +90,10 @@ fn put_each<T: RecursiveSlice, S: EncodeSink>(
         (family_records T.family (T.sort messages)) number (T.views messages))) cache.old }
     requires size { text_size (message_each (encoding_of grouped)
         (family_records T.family (T.sort messages)) number (T.views messages)) ≤ 2147483647 }
-    ensures written { Writes S.most (text (message_each (encoding_of grouped)
+    ensures written { Writes (text (message_each (encoding_of grouped)
         (family_records T.family (T.sort messages)) number (T.views messages)))
-        (S.bytes_of sink.old)
-        (S.bytes_of sink.new) result }
+        (S.held sink.old)
+        (S.held sink.new) result }
     ensures read { OnOk result (cache.new ≡ advanced cache.old (length (sizes (message_each
         (encoding_of grouped) (family_records T.family (T.sort messages)) number
         (T.views messages))))) }
@@ -124,9 +123,9 @@ fn put_message<T: RecursiveSlice, S: EncodeSink>(
         (records_at T.family (T.sort messages) (T.views messages) index))) cache.old }
     requires size { text_size (message_record (encoding_of grouped) number
         (records_at T.family (T.sort messages) (T.views messages) index)) ≤ 2147483647 }
-    ensures written { Writes S.most (text (message_record (encoding_of grouped) number
-        (records_at T.family (T.sort messages) (T.views messages) index))) (S.bytes_of sink.old)
-        (S.bytes_of sink.new)
+    ensures written { Writes (text (message_record (encoding_of grouped) number
+        (records_at T.family (T.sort messages) (T.views messages) index))) (S.held sink.old)
+        (S.held sink.new)
         result }
     ensures read { OnOk result (cache.new ≡ advanced cache.old (length (sizes (message_record
         (encoding_of grouped) number (records_at T.family (T.sort messages)
@@ -155,9 +154,9 @@ fn put_embedded<T: RecursiveSlice, S: EncodeSink>(
         (records_at T.family (T.sort messages) (T.views messages) index))) cache.old }
     requires size { text_size (message_record length_prefixed number
         (records_at T.family (T.sort messages) (T.views messages) index)) ≤ 2147483647 }
-    ensures written { Writes S.most (text (message_record length_prefixed number
-        (records_at T.family (T.sort messages) (T.views messages) index))) (S.bytes_of sink.old)
-        (S.bytes_of sink.new)
+    ensures written { Writes (text (message_record length_prefixed number
+        (records_at T.family (T.sort messages) (T.views messages) index))) (S.held sink.old)
+        (S.held sink.new)
         result }
     ensures read { OnOk result (cache.new ≡ advanced cache.old (length (sizes
         (message_record length_prefixed number (records_at T.family (T.sort messages)
@@ -185,9 +184,9 @@ fn put_grouped<T: RecursiveSlice, S: EncodeSink>(
         (records_at T.family (T.sort messages) (T.views messages) index))) cache.old }
     requires size { text_size (message_record delimited number
         (records_at T.family (T.sort messages) (T.views messages) index)) ≤ 2147483647 }
-    ensures written { Writes S.most (text (message_record delimited number
-        (records_at T.family (T.sort messages) (T.views messages) index))) (S.bytes_of sink.old)
-        (S.bytes_of sink.new)
+    ensures written { Writes (text (message_record delimited number
+        (records_at T.family (T.sort messages) (T.views messages) index))) (S.held sink.old)
+        (S.held sink.new)
         result }
     ensures read { OnOk result (cache.new ≡ advanced cache.old (length (sizes
         (message_record delimited number (records_at T.family (T.sort messages)

@@ -6,6 +6,6 @@ use Rattle.wire_fields.proofs.map.put_entries.Given as goal
 abbrev pub invariant-loop-key : goal.invariant-loop-key
 invariant-loop-key g l =
     let each = each_entry g.K.Scalar.scalar g.V.Kind.kind l.fn.number in
-    IsPutTo g.S.EncodeSink.most (each (viewed g.K.Scalar.view g.V.Kind.view l.fn.held.entries))
+    IsPutTo (each (viewed g.K.Scalar.view g.V.Kind.view l.fn.held.entries))
     (each (viewed g.K.Scalar.view g.V.Kind.view l.key-iterator)) l.fn.cache l.cache
-    (g.S.EncodeSink.bytes_of l.fn.sink) (g.S.EncodeSink.bytes_of l.sink)
+    (g.S.EncodeSink.held l.fn.sink) (g.S.EncodeSink.held l.sink)

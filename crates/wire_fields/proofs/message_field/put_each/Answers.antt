@@ -6,7 +6,7 @@ use Rattle.wire_fields.proofs.message_field.put_each.Goals as goal
 pub returns-in_err-put-clause-written : goal.returns-in_err-put-clause-written
 returns-in_err-put-clause-written g c =
     let p = err_from_is_err_and c.from_residual.result c.from_residual.ensures.1 in
-    rw (p.1, p.2) (put.refused c.joined_records_add_up.ensures _ _ _ _ _ _ _ _ _
+    rw (p.1, p.2) (put.refused c.joined_records_add_up.ensures _ _ _ _ _ _ _ _
     c.loop-message.invariant (next_message g.E.MessageEncoding.encoding g.M.Message.records
     g.M.Message.view c.args.number c.args.messages.now c.loop-message.message-index _
     c.loop-message-test.true c.message-item.is) c.piece_by_piece.ensures _ _
@@ -14,7 +14,7 @@ returns-in_err-put-clause-written g c =
 
 pub loop-message-preserved : goal.loop-message-preserved
 loop-message-preserved g c =
-    put.more c.joined_records_add_up.ensures _ _ _ _ _ _ _ _ _ c.loop-message.invariant
+    put.more c.joined_records_add_up.ensures _ _ _ _ _ _ _ _ c.loop-message.invariant
     (next_message g.E.MessageEncoding.encoding g.M.Message.records g.M.Message.view c.args.number
     c.args.messages.now c.loop-message.message-index _ c.loop-message-test.true c.message-item.is)
     c.piece_by_piece.ensures _ _ tt c.in_ok-put.ensures.written c.in_ok-put.ensures.read

@@ -7,6 +7,6 @@ use Rattle.wire_fields.proofs.message_field.put_each.Given as goal
 abbrev pub invariant-loop-message : goal.invariant-loop-message
 invariant-loop-message g l =
     let each = message_each g.E.MessageEncoding.encoding g.M.Message.records l.fn.number in
-    IsPutTo g.S.EncodeSink.most (each (map g.M.Message.view l.fn.messages))
+    IsPutTo (each (map g.M.Message.view l.fn.messages))
     (each (map g.M.Message.view (drop l.message-index l.messages))) l.fn.cache l.cache
-    (g.S.EncodeSink.bytes_of l.fn.sink) (g.S.EncodeSink.bytes_of l.sink)
+    (g.S.EncodeSink.held l.fn.sink) (g.S.EncodeSink.held l.sink)

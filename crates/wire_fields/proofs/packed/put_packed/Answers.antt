@@ -10,8 +10,8 @@ returns-in_err-put_len_delimited_header g c =
     let parts = packed_parts g.N.Number.form g.N.Number.map c.args.number c.payload_len.result
     c.args.values.now (sym c.is_empty.ensures ∙ c.if-is_empty.false) c.payload_len.ensures
     c.requires.fits in
-    rw (p.1, p.2) (c.piece_by_piece.ensures.refused _ _ _ _ _ _ _ _ _
-    (c.piece_by_piece.ensures.start _ _ _) parts c.in_err-put_len_delimited_header.ensures)
+    rw (p.1, p.2) (c.piece_by_piece.ensures.refused _ _ _ _ _ _ _ _
+    (c.piece_by_piece.ensures.start _ _) parts c.in_err-put_len_delimited_header.ensures)
 
 pub returns-in_err-put_number_text : goal.returns-in_err-put_number_text
 returns-in_err-put_number_text g c =
@@ -20,7 +20,7 @@ returns-in_err-put_number_text g c =
     let form = g.N.Number.form in
     let behind = packed_text form g.N.Number.map
     (drop (c.loop-value.value-index + 1) c.args.values.now) in
-    rw (p.1, p.2) (c.piece_by_piece.ensures.refused _ _ _ _ _ _ _ _ _ c.loop-value.invariant
+    rw (p.1, p.2) (c.piece_by_piece.ensures.refused _ _ _ _ _ _ _ _ c.loop-value.invariant
     (next_number form g.N.Number.map c.args.values.now c.loop-value.value-index _
     c.loop-value-test.true c.value-item.is
     ∙ ap (λ (k : ℕ). number_text form k ++ behind) (sym c.number_of.ensures.number)
@@ -33,7 +33,7 @@ loop-value-init g c =
     c.args.values.now (sym c.is_empty.ensures ∙ c.if-is_empty.false) c.payload_len.ensures
     c.requires.fits in
     let pieces = c.piece_by_piece.ensures in
-    pieces.more _ _ _ _ _ _ _ _ tt (pieces.start _ _ _) parts
+    pieces.more _ _ _ _ _ _ _ tt (pieces.start _ _) parts
     c.in_ok-put_len_delimited_header.ensures
 
 pub loop-value-preserved : goal.loop-value-preserved
@@ -41,7 +41,7 @@ loop-value-preserved g c =
     let form = g.N.Number.form in
     let behind = packed_text form g.N.Number.map
     (drop (c.loop-value.value-index + 1) c.args.values.now) in
-    c.piece_by_piece.ensures.more _ _ _ _ _ _ _ _ tt c.loop-value.invariant
+    c.piece_by_piece.ensures.more _ _ _ _ _ _ _ tt c.loop-value.invariant
     (next_number form g.N.Number.map c.args.values.now c.loop-value.value-index _
     c.loop-value-test.true c.value-item.is
     ∙ ap (λ (k : ℕ). number_text form k ++ behind) (sym c.number_of.ensures.number)

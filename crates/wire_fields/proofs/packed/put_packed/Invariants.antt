@@ -9,6 +9,6 @@ abbrev pub invariant-loop-value : goal.invariant-loop-value
 invariant-loop-value g l =
     let form = g.N.Number.form in
     let values = g.N.Number.map in
-    IsWrittenTo g.E.EncodeSink.most (text (packed_records form values l.fn.number l.fn.values))
-    (g.E.EncodeSink.bytes_of l.fn.sink) (g.E.EncodeSink.bytes_of l.sink)
+    IsWrittenTo (text (packed_records form values l.fn.number l.fn.values))
+    (g.E.EncodeSink.held l.fn.sink) (g.E.EncodeSink.held l.sink)
     (packed_text form values (drop l.value-index l.values))

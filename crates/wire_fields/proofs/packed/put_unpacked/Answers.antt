@@ -9,6 +9,6 @@ use Rattle.wire_fields.proofs.packed.put_unpacked.Goals as goal
 pub returns : goal.returns
 returns g c =
     let t = numeric g.N.Number.form g.N.Number.map in
-    subst (λ xs. Writes g.E.EncodeSink.most (text (each_record t c.args.number xs))
-    (g.E.EncodeSink.bytes_of c.args.sink.now) (g.E.EncodeSink.bytes_of c.put_each.new.sink)
+    subst (λ xs. Writes (text (each_record t c.args.number xs))
+    (g.E.EncodeSink.held c.args.sink.now) (g.E.EncodeSink.held c.put_each.new.sink)
     c.put_each.result) (map-id c.args.values.now) c.put_each.ensures

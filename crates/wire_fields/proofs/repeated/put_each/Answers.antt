@@ -5,14 +5,14 @@ use Rattle.wire_fields.proofs.repeated.put_each.Goals as goal
 pub returns-in_err-put : goal.returns-in_err-put
 returns-in_err-put g c =
     let p = err_from_is_err_and c.from_residual.result c.from_residual.ensures.1 in
-    rw (p.1, p.2) (c.piece_by_piece.ensures.refused _ _ _ _ _ _ _ _ _ c.loop-value.invariant
+    rw (p.1, p.2) (c.piece_by_piece.ensures.refused _ _ _ _ _ _ _ _ c.loop-value.invariant
     (next_text g.S.Scalar.scalar g.S.Scalar.view c.args.number c.joined_records_add_up.ensures
     c.args.values.now c.loop-value.value-index _ c.loop-value-test.true c.value-item.is)
     c.in_err-put.ensures)
 
 pub loop-value-preserved : goal.loop-value-preserved
 loop-value-preserved g c =
-    c.piece_by_piece.ensures.more _ _ _ _ _ _ _ _ tt c.loop-value.invariant
+    c.piece_by_piece.ensures.more _ _ _ _ _ _ _ tt c.loop-value.invariant
     (next_text g.S.Scalar.scalar g.S.Scalar.view c.args.number c.joined_records_add_up.ensures
     c.args.values.now c.loop-value.value-index _ c.loop-value-test.true c.value-item.is)
     c.in_ok-put.ensures
@@ -22,4 +22,4 @@ returns g c =
     let left = none_left g.S.Scalar.scalar g.S.Scalar.view c.args.number
     c.joined_records_add_up.ensures c.args.values.now c.loop-value.value-index
     c.loop-value-test.false in
-    c.piece_by_piece.ensures.done _ _ _ _ (rw left at c.loop-value.invariant)
+    c.piece_by_piece.ensures.done _ _ _ (rw left at c.loop-value.invariant)

@@ -8,6 +8,6 @@ use Rattle.wire_fields.proofs.repeated.put_each.Given as goal
 abbrev pub invariant-loop-value : goal.invariant-loop-value
 invariant-loop-value g l =
     let each = each_record g.S.Scalar.scalar l.fn.number in
-    IsWrittenTo g.E.EncodeSink.most (text (each (map g.S.Scalar.view l.fn.values)))
-    (g.E.EncodeSink.bytes_of l.fn.sink) (g.E.EncodeSink.bytes_of l.sink)
+    IsWrittenTo (text (each (map g.S.Scalar.view l.fn.values)))
+    (g.E.EncodeSink.held l.fn.sink) (g.E.EncodeSink.held l.sink)
     (text (each (map g.S.Scalar.view (drop l.value-index l.values))))

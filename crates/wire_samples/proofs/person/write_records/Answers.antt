@@ -23,8 +23,8 @@ write-requires-clause-size g c =
 pub returns-clause-written : goal.returns-clause-written
 returns-clause-written g c =
     let fits : FitsSigned w32 c.args.person.now.id = search rules in
-    subst (λ rs. Writes g.S.EncodeSink.most (text rs) (g.S.EncodeSink.bytes_of c.args.sink.now)
-    (g.S.EncodeSink.bytes_of c.write.new.sink) c.write.result)
+    subst (λ rs. Writes (text rs) (g.S.EncodeSink.held c.args.sink.now)
+    (g.S.EncodeSink.held c.write.new.sink) c.write.result)
     (same_records (person_value c.args.person.now) fits) c.write.ensures.written
 
 pub returns-clause-read : goal.returns-clause-read

@@ -11,7 +11,7 @@ returns-in_err-put_len_delimited_header-clause-written g c =
     let len = c.from.ensures ∙ read_size c.args.number _ rs c.args.cache.now
     c.consume_next-len.new.self c.requires.sizes c.consume_next-len.ensures.next in
     let pieces = c.piece_by_piece.ensures in
-    rw (p.1, p.2) (pieces.refused _ _ _ _ _ _ _ _ _ (pieces.start _ _ _)
+    rw (p.1, p.2) (pieces.refused _ _ _ _ _ _ _ _ (pieces.start _ _)
     (embedded_parts c.args.number _ rs len) c.in_err-put_len_delimited_header.ensures)
 
 pub returns-clause-written : goal.returns-clause-written
@@ -20,6 +20,6 @@ returns-clause-written g c =
     let len = c.from.ensures ∙ read_size c.args.number _ rs c.args.cache.now
     c.consume_next-len.new.self c.requires.sizes c.consume_next-len.ensures.next in
     let pieces = c.piece_by_piece.ensures in
-    let header = pieces.more _ _ _ _ _ _ _ _ tt (pieces.start _ _ _)
+    let header = pieces.more _ _ _ _ _ _ _ tt (pieces.start _ _)
     (embedded_parts c.args.number _ rs len) c.in_ok-put_len_delimited_header.ensures in
-    pieces.last _ _ _ _ _ _ c.write_to.result header c.write_to.ensures.written
+    pieces.last _ _ _ _ _ c.write_to.result header c.write_to.ensures.written

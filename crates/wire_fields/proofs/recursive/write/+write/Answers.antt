@@ -23,7 +23,7 @@ put_embedded-returns-in_err-put_len_delimited_header-clause-written g t c =
     let len = c.from.ensures ∙ read_size c.args.number _ rs c.args.cache.now
     c.consume_next-len.new.self c.requires.sizes c.consume_next-len.ensures.next in
     let pieces = c.piece_by_piece.ensures in
-    rw (p.1, p.2) (pieces.refused _ _ _ _ _ _ _ _ _ (pieces.start _ _ _)
+    rw (p.1, p.2) (pieces.refused _ _ _ _ _ _ _ _ (pieces.start _ _)
     (embedded_parts c.args.number _ rs len) c.in_err-put_len_delimited_header.ensures)
 
 pub put_embedded-returns-clause-written : goal.put_embedded-returns-clause-written
@@ -33,9 +33,9 @@ put_embedded-returns-clause-written g t c =
     let len = c.from.ensures ∙ read_size c.args.number _ rs c.args.cache.now
     c.consume_next-len.new.self c.requires.sizes c.consume_next-len.ensures.next in
     let pieces = c.piece_by_piece.ensures in
-    let header = pieces.more _ _ _ _ _ _ _ _ tt (pieces.start _ _ _)
+    let header = pieces.more _ _ _ _ _ _ _ tt (pieces.start _ _)
     (embedded_parts c.args.number _ rs len) c.in_ok-put_len_delimited_header.ensures in
-    pieces.last _ _ _ _ _ _ c.write_slice.result header c.write_slice.ensures.written
+    pieces.last _ _ _ _ _ c.write_slice.result header c.write_slice.ensures.written
 
 -- ---- a group
 
@@ -46,7 +46,7 @@ put_grouped-returns-in_err-put_group_start-clause-written g t c =
     let rs = records_at g.T.RecursiveSlice.family (g.T.RecursiveSlice.sort c.args.messages)
     (g.T.RecursiveSlice.views c.args.messages) c.args.index in
     let pieces = c.piece_by_piece.ensures in
-    rw (p.1, p.2) (pieces.refused _ _ _ _ _ _ _ _ _ (pieces.start _ _ _)
+    rw (p.1, p.2) (pieces.refused _ _ _ _ _ _ _ _ (pieces.start _ _)
     (group_parts c.args.number rs) c.in_err-put_group_start.ensures)
 
 pub put_grouped-returns-in_err-write_slice-clause-written :
@@ -57,9 +57,9 @@ put_grouped-returns-in_err-write_slice-clause-written g t c =
     let rs = records_at g.T.RecursiveSlice.family (g.T.RecursiveSlice.sort c.args.messages)
     (g.T.RecursiveSlice.views c.args.messages) c.args.index in
     let pieces = c.piece_by_piece.ensures in
-    let begun = pieces.more _ _ _ _ _ _ _ _ tt (pieces.start _ _ _)
+    let begun = pieces.more _ _ _ _ _ _ _ tt (pieces.start _ _)
     (group_parts c.args.number rs) c.in_ok-put_group_start.ensures in
-    rw (p.1, p.2) (pieces.refused _ _ _ _ _ _ _ _ _ begun refl
+    rw (p.1, p.2) (pieces.refused _ _ _ _ _ _ _ _ begun refl
     c.in_err-write_slice.ensures.written)
 
 pub put_grouped-returns-clause-written : goal.put_grouped-returns-clause-written
@@ -67,10 +67,10 @@ put_grouped-returns-clause-written g t c =
     let rs = records_at g.T.RecursiveSlice.family (g.T.RecursiveSlice.sort c.args.messages)
     (g.T.RecursiveSlice.views c.args.messages) c.args.index in
     let pieces = c.piece_by_piece.ensures in
-    let begun = pieces.more _ _ _ _ _ _ _ _ tt (pieces.start _ _ _)
+    let begun = pieces.more _ _ _ _ _ _ _ tt (pieces.start _ _)
     (group_parts c.args.number rs) c.in_ok-put_group_start.ensures in
-    let inside = pieces.more _ _ _ _ _ _ _ _ tt begun refl c.in_ok-write_slice.ensures.written in
-    pieces.last _ _ _ _ _ _ c.put_group_end.result inside c.put_group_end.ensures
+    let inside = pieces.more _ _ _ _ _ _ _ tt begun refl c.in_ok-write_slice.ensures.written in
+    pieces.last _ _ _ _ _ c.put_group_end.result inside c.put_group_end.ensures
 
 -- ---- a row
 
@@ -112,8 +112,8 @@ put_each-put_message-requires g t c κs within =
             (
               there,
               (
-                put.part_next joins _ _ _ _ _ _ _ _ _ c.loop-index.invariant parts,
-                put.part_small joins _ _ _ _ _ _ _ _ _ c.loop-index.invariant parts,
+                put.part_next joins _ _ _ _ _ _ _ _ c.loop-index.invariant parts,
+                put.part_small joins _ _ _ _ _ _ _ _ c.loop-index.invariant parts,
               ),
             ),
           ),
@@ -127,7 +127,7 @@ put_each-returns-in_err-put_message-clause-written g t c =
     let family = g.T.RecursiveSlice.family in
     let s = g.T.RecursiveSlice.sort c.args.messages in
     let p = err_from_is_err_and c.from_residual.result c.from_residual.ensures.1 in
-    rw (p.1, p.2) (put.refused c.joined_records_add_up.ensures _ _ _ _ _ _ _ _ _
+    rw (p.1, p.2) (put.refused c.joined_records_add_up.ensures _ _ _ _ _ _ _ _
     c.loop-index.invariant (next_at (family.table s) (encoding_of c.args.grouped)
     (family_records family s)
     c.args.number (g.T.RecursiveSlice.views c.args.messages) c.loop-index.index
@@ -138,7 +138,7 @@ pub put_each-loop-index-preserved : goal.put_each-loop-index-preserved
 put_each-loop-index-preserved g t c =
     let family = g.T.RecursiveSlice.family in
     let s = g.T.RecursiveSlice.sort c.args.messages in
-    put.more c.joined_records_add_up.ensures _ _ _ _ _ _ _ _ _ c.loop-index.invariant
+    put.more c.joined_records_add_up.ensures _ _ _ _ _ _ _ _ c.loop-index.invariant
     (next_at (family.table s) (encoding_of c.args.grouped) (family_records family s) c.args.number
     (g.T.RecursiveSlice.views c.args.messages) c.loop-index.index
     (omega (arith, c.loop-index-test.true, c.count-index-end.ensures))) c.piece_by_piece.ensures _ _
@@ -151,10 +151,9 @@ put_each-returns-clause-written g t c =
     let ms = g.T.RecursiveSlice.views c.args.messages in
     let all = all_at (encoding_of c.args.grouped) (family_records family s) c.args.number ms
     c.loop-index.index (omega (arith, c.loop-index-test.false, c.count-index-end.ensures)) in
-    c.piece_by_piece.ensures.done _ _ _ _ (subst (λ (b : List ℕ). IsWrittenTo
-    g.S.EncodeSink.most
+    c.piece_by_piece.ensures.done _ _ _ (subst (λ (b : List ℕ). IsWrittenTo
     (text (message_each (encoding_of c.args.grouped) (family_records family s) c.args.number ms))
-    (g.S.EncodeSink.bytes_of c.args.sink.now) (g.S.EncodeSink.bytes_of c.loop-index.sink) b)
+    (g.S.EncodeSink.held c.args.sink.now) (g.S.EncodeSink.held c.loop-index.sink) b)
     (ap text all) c.loop-index.invariant.written)
 
 pub put_each-returns-clause-read : goal.put_each-returns-clause-read
@@ -164,7 +163,7 @@ put_each-returns-clause-read g t c =
     let all = all_at (encoding_of c.args.grouped) (family_records family s) c.args.number
     (g.T.RecursiveSlice.views c.args.messages) c.loop-index.index
     (omega (arith, c.loop-index-test.false, c.count-index-end.ensures)) in
-    put.all_read _ _ _ _ _ _ _ c.loop-index.invariant (ap sizes all)
+    put.all_read _ _ _ _ _ _ c.loop-index.invariant (ap sizes all)
 
 -- ---- a message
 
@@ -173,9 +172,9 @@ write_slice-put_run-requires-clause-sizes g t c =
     let family = g.T.RecursiveSlice.family in
     let s = g.T.RecursiveSlice.sort c.args.messages in
     let m = message_at (family.table s) (g.T.RecursiveSlice.views c.args.messages) c.args.index in
-    put.part_next c.joined_records_add_up.ensures g.S.EncodeSink.most _ _ _ _ _ _
-    (g.S.EncodeSink.bytes_of c.args.sink.now) _
-    (put.start c.piece_by_piece.ensures _ _ _ _ c.requires.sizes c.requires.size)
+    put.part_next c.joined_records_add_up.ensures _ _ _ _ _ _
+    (g.S.EncodeSink.held c.args.sink.now) _
+    (put.start c.piece_by_piece.ensures _ _ _ c.requires.sizes c.requires.size)
     (first_run family s m)
 
 pub write_slice-returns-in_err-put_run-clause-written :
@@ -186,8 +185,8 @@ write_slice-returns-in_err-put_run-clause-written g t c =
     let m = message_at (family.table s) (g.T.RecursiveSlice.views c.args.messages) c.args.index in
     let p = err_from_is_err_and c.from_residual.result c.from_residual.ensures.1 in
     let pieces = c.piece_by_piece.ensures in
-    rw (p.1, p.2) (put.refused c.joined_records_add_up.ensures _ _ _ _ _ _ _ _ _
-    (put.start pieces _ _ _ _ c.requires.sizes c.requires.size)
+    rw (p.1, p.2) (put.refused c.joined_records_add_up.ensures _ _ _ _ _ _ _ _
+    (put.start pieces _ _ _ c.requires.sizes c.requires.size)
     (first_run family s m) pieces _ _
     c.in_err-put_run.ensures.written)
 
@@ -197,8 +196,8 @@ write_slice-loop-row-init g t c =
     let s = g.T.RecursiveSlice.sort c.args.messages in
     let m = message_at (family.table s) (g.T.RecursiveSlice.views c.args.messages) c.args.index in
     let pieces = c.piece_by_piece.ensures in
-    put.more c.joined_records_add_up.ensures _ _ _ _ _ _ _ _ _
-    (put.start pieces _ _ _ _ c.requires.sizes c.requires.size)
+    put.more c.joined_records_add_up.ensures _ _ _ _ _ _ _ _
+    (put.start pieces _ _ _ c.requires.sizes c.requires.size)
     (first_run family s m) pieces _ _ tt
     c.in_ok-put_run.ensures.written c.in_ok-put_run.ensures.read
 
@@ -226,8 +225,8 @@ write_slice-put_row-requires g t c κs within =
           (
             c.number-number.ensures.in_range,
             (
-              put.part_next joins _ _ _ _ _ _ _ _ _ c.loop-row.invariant parts,
-              put.part_small joins _ _ _ _ _ _ _ _ _ c.loop-row.invariant parts,
+              put.part_next joins _ _ _ _ _ _ _ _ c.loop-row.invariant parts,
+              put.part_small joins _ _ _ _ _ _ _ _ c.loop-row.invariant parts,
             ),
           ),
         ),
@@ -248,7 +247,7 @@ write_slice-returns-in_err-put_row-clause-written g t c =
       c.rows-row-end.ensures,
       g.met.T.RecursiveSlice.counted c.args.messages c.args.index,
     ) in
-    rw (p.1, p.2) (put.refused c.joined_records_add_up.ensures _ _ _ _ _ _ _ _ _
+    rw (p.1, p.2) (put.refused c.joined_records_add_up.ensures _ _ _ _ _ _ _ _
     c.loop-row.invariant (next_row family s m c.loop-row.row _ _ _ _ here
     c.number-number.ensures.is c.is_grouped-grouped.ensures c.row.ensures.sort
     c.row.ensures.messages) c.piece_by_piece.ensures _ _
@@ -267,11 +266,11 @@ write_slice-put_run-requires-in-loop-row-clause-sizes g t c =
       c.rows-row-end.ensures,
       g.met.T.RecursiveSlice.counted c.args.messages c.args.index,
     ) in
-    let put_it = put.more joins _ _ _ _ _ _ _ _ _ c.loop-row.invariant
+    let put_it = put.more joins _ _ _ _ _ _ _ _ c.loop-row.invariant
     (next_row family s m c.loop-row.row _ _ _ _ here c.number-number.ensures.is
     c.is_grouped-grouped.ensures c.row.ensures.sort c.row.ensures.messages)
     c.piece_by_piece.ensures _ _ tt c.in_ok-put_row.ensures.written c.in_ok-put_row.ensures.read in
-    put.part_next joins _ _ _ _ _ _ _ _ _ put_it (next_run family s m c.loop-row.row)
+    put.part_next joins _ _ _ _ _ _ _ _ put_it (next_run family s m c.loop-row.row)
 
 pub write_slice-put_run-requires-in-loop-row-clause-size :
     goal.write_slice-put_run-requires-in-loop-row-clause-size
@@ -286,11 +285,11 @@ write_slice-put_run-requires-in-loop-row-clause-size g t c =
       c.rows-row-end.ensures,
       g.met.T.RecursiveSlice.counted c.args.messages c.args.index,
     ) in
-    let put_it = put.more joins _ _ _ _ _ _ _ _ _ c.loop-row.invariant
+    let put_it = put.more joins _ _ _ _ _ _ _ _ c.loop-row.invariant
     (next_row family s m c.loop-row.row _ _ _ _ here c.number-number.ensures.is
     c.is_grouped-grouped.ensures c.row.ensures.sort c.row.ensures.messages)
     c.piece_by_piece.ensures _ _ tt c.in_ok-put_row.ensures.written c.in_ok-put_row.ensures.read in
-    put.part_small joins _ _ _ _ _ _ _ _ _ put_it (next_run family s m c.loop-row.row)
+    put.part_small joins _ _ _ _ _ _ _ _ put_it (next_run family s m c.loop-row.row)
 
 pub write_slice-returns-in_err-put_run-2-clause-written :
     goal.write_slice-returns-in_err-put_run-2-clause-written
@@ -307,11 +306,11 @@ write_slice-returns-in_err-put_run-2-clause-written g t c =
       c.rows-row-end.ensures,
       g.met.T.RecursiveSlice.counted c.args.messages c.args.index,
     ) in
-    let put_it = put.more joins _ _ _ _ _ _ _ _ _ c.loop-row.invariant
+    let put_it = put.more joins _ _ _ _ _ _ _ _ c.loop-row.invariant
     (next_row family s m c.loop-row.row _ _ _ _ here c.number-number.ensures.is
     c.is_grouped-grouped.ensures c.row.ensures.sort c.row.ensures.messages)
     c.piece_by_piece.ensures _ _ tt c.in_ok-put_row.ensures.written c.in_ok-put_row.ensures.read in
-    rw (p.1, p.2) (put.refused joins _ _ _ _ _ _ _ _ _ put_it
+    rw (p.1, p.2) (put.refused joins _ _ _ _ _ _ _ _ put_it
     (next_run family s m c.loop-row.row) c.piece_by_piece.ensures _ _
     c.in_err-put_run-2.ensures.written)
 
@@ -327,11 +326,11 @@ write_slice-loop-row-preserved g t c =
       c.rows-row-end.ensures,
       g.met.T.RecursiveSlice.counted c.args.messages c.args.index,
     ) in
-    let put_it = put.more joins _ _ _ _ _ _ _ _ _ c.loop-row.invariant
+    let put_it = put.more joins _ _ _ _ _ _ _ _ c.loop-row.invariant
     (next_row family s m c.loop-row.row _ _ _ _ here c.number-number.ensures.is
     c.is_grouped-grouped.ensures c.row.ensures.sort c.row.ensures.messages)
     c.piece_by_piece.ensures _ _ tt c.in_ok-put_row.ensures.written c.in_ok-put_row.ensures.read in
-    put.more joins _ _ _ _ _ _ _ _ _ put_it (next_run family s m c.loop-row.row)
+    put.more joins _ _ _ _ _ _ _ _ put_it (next_run family s m c.loop-row.row)
     c.piece_by_piece.ensures _ _ tt c.in_ok-put_run-2.ensures.written
     c.in_ok-put_run-2.ensures.read
 
@@ -346,9 +345,9 @@ write_slice-returns-clause-written g t c =
       c.rows-row-end.ensures,
       g.met.T.RecursiveSlice.counted c.args.messages c.args.index,
     )) in
-    c.piece_by_piece.ensures.done _ _ _ _ (subst (λ (b : List ℕ). IsWrittenTo
-    g.S.EncodeSink.most (text (family_records family s m))
-    (g.S.EncodeSink.bytes_of c.args.sink.now) (g.S.EncodeSink.bytes_of c.loop-row.sink) b)
+    c.piece_by_piece.ensures.done _ _ _ (subst (λ (b : List ℕ). IsWrittenTo
+    (text (family_records family s m))
+    (g.S.EncodeSink.held c.args.sink.now) (g.S.EncodeSink.held c.loop-row.sink) b)
     (ap text all) c.loop-row.invariant.written)
 
 pub write_slice-returns-clause-read : goal.write_slice-returns-clause-read
@@ -362,4 +361,4 @@ write_slice-returns-clause-read g t c =
       c.rows-row-end.ensures,
       g.met.T.RecursiveSlice.counted c.args.messages c.args.index,
     )) in
-    put.all_read _ _ _ _ _ _ _ c.loop-row.invariant (ap sizes all)
+    put.all_read _ _ _ _ _ _ c.loop-row.invariant (ap sizes all)

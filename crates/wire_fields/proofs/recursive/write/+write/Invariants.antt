@@ -41,9 +41,9 @@ invariant-write_slice-loop-row g l =
     let family = g.T.RecursiveSlice.family in
     let s = g.T.RecursiveSlice.sort l.fn.messages in
     let m = message_at (family.table s) (g.T.RecursiveSlice.views l.fn.messages) l.fn.index in
-    IsPutTo g.S.EncodeSink.most (family_records family s m) (left_at family s m l.row) l.fn.cache
+    IsPutTo (family_records family s m) (left_at family s m l.row) l.fn.cache
     l.cache
-    (g.S.EncodeSink.bytes_of l.fn.sink) (g.S.EncodeSink.bytes_of l.sink)
+    (g.S.EncodeSink.held l.fn.sink) (g.S.EncodeSink.held l.sink)
 
 abbrev pub invariant-put_each-loop-index : goal.invariant-put_each-loop-index
 invariant-put_each-loop-index g l =
@@ -51,5 +51,5 @@ invariant-put_each-loop-index g l =
     let each = message_each (encoding_of l.fn.grouped)
     (family_records g.T.RecursiveSlice.family (g.T.RecursiveSlice.sort l.fn.messages)) l.fn.number
     in
-    IsPutTo g.S.EncodeSink.most (each ms) (each (drop l.index ms)) l.fn.cache l.cache
-    (g.S.EncodeSink.bytes_of l.fn.sink) (g.S.EncodeSink.bytes_of l.sink)
+    IsPutTo (each ms) (each (drop l.index ms)) l.fn.cache l.cache
+    (g.S.EncodeSink.held l.fn.sink) (g.S.EncodeSink.held l.sink)

@@ -9,11 +9,11 @@ use Rattle.wire_samples.proofs.node.NodeMessageFields.compute_size.Goals as goal
 
 pub returns-clause-size : goal.returns-clause-size
 returns-clause-size c =
-    subst (λ rs. IfOk c.nest_size.result (λ answer. answer ≡ cut (text_size rs)))
-    (same_records (node_value c.args.self.now)) c.nest_size.ensures.size
+    subst (λ rs. IfOk c.slice_size.result (λ answer. answer ≡ cut (text_size rs)))
+    (same_records (node_value c.args.self.now)) (rw c.from_ref.ensures.value at c.slice_size.ensures.size)
 
 pub returns-clause-sizes : goal.returns-clause-sizes
 returns-clause-sizes c =
-    subst (λ rs. OnOk c.nest_size.result (c.nest_size.new.cache
+    subst (λ rs. OnOk c.slice_size.result (c.slice_size.new.cache
     ≡ recorded c.args.cache.now (cut_sizes rs)))
-    (same_records (node_value c.args.self.now)) c.nest_size.ensures.sizes
+    (same_records (node_value c.args.self.now)) (rw c.from_ref.ensures.value at c.slice_size.ensures.sizes)

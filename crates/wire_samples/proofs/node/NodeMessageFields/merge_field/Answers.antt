@@ -11,13 +11,13 @@ use Rattle.wire_samples.proofs.node.NodeMessageFields.merge_field.Goals as goal
 pub returns-clause-ok : goal.returns-clause-ok
 returns-clause-ok g c =
     arm_ok NodeTakes (nest_takes node_table) (tag_number c.args.tag) _ refl
-    (node_value c.args.self.now) (node_value c.merge_nest.new.message) _ _
-    (λ charge p h. from_nest _ _ _ p charge h) _ _ _ _ _ c.merge_nest.result
-    c.merge_nest.ensures.ok
+    (node_value c.args.self.now) (node_value c.merge_held.new.message) _ _
+    (λ charge p h. from_nest _ _ _ p charge h) _ _ _ _ _ c.merge_held.result
+    c.merge_held.ensures.ok
 
 pub returns-clause-err : goal.returns-clause-err
 returns-clause-err g c =
     arm_err NodeTakes (nest_takes node_table) (tag_number c.args.tag) _ refl
     (node_value c.args.self.now) (node_nest c.args.self.now)
     (λ charge z p h. (as_nest z, in_nest c.records_in_order.ensures.reading h)) _ _ _
-    c.merge_nest.result c.merge_nest.ensures.err
+    c.merge_held.result c.merge_held.ensures.err

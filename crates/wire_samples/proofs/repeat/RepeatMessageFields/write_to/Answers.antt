@@ -10,14 +10,14 @@ pub returns-in_err-put_uint64_field-clause-written
 returns-in_err-put_uint64_field-clause-written g c =
     let p = err_from_is_err_and c.from_residual.result c.from_residual.ensures.1 in
     let m = c.args.self.now in
-    rw (p.1, p.2) (c.piece_by_piece.ensures.refused _ _ _ _ _ _ _ _ _ c.loop.invariant
+    rw (p.1, p.2) (c.piece_by_piece.ensures.refused _ _ _ _ _ _ _ _ c.loop.invariant
     (next_record m.times c.loop.counter (extra_record m.extra) (omega arith))
     c.in_err-put_uint64_field.ensures)
 
 pub loop-preserved : goal.loop-preserved
 loop-preserved g c =
     let m = c.args.self.now in
-    c.piece_by_piece.ensures.more _ _ _ _ _ _ _ _ tt c.loop.invariant
+    c.piece_by_piece.ensures.more _ _ _ _ _ _ _ tt c.loop.invariant
     (next_record m.times c.loop.counter (extra_record m.extra) (omega arith))
     c.in_ok-put_uint64_field.ensures
 
@@ -26,7 +26,7 @@ returns-then-self-clause-written g c =
     let m = c.args.self.now in
     let left = no_more m.times c.loop.counter (extra_record m.extra) (omega arith)
     ∙ extra_text m.extra c.if-self.true in
-    c.piece_by_piece.ensures.last _ _ _ _ _ _ c.put_uint64_field-then-self.result
+    c.piece_by_piece.ensures.last _ _ _ _ _ c.put_uint64_field-then-self.result
     (rw left at c.loop.invariant) c.put_uint64_field-then-self.ensures
 
 pub returns-then-self-clause-read : goal.returns-then-self-clause-read
@@ -41,7 +41,7 @@ returns-clause-written g c =
     let m = c.args.self.now in
     let left = no_more m.times c.loop.counter (extra_record m.extra) (omega arith)
     ∙ no_extra_text m.extra c.if-self.false in
-    c.piece_by_piece.ensures.done _ _ _ _ (rw left at c.loop.invariant)
+    c.piece_by_piece.ensures.done _ _ _ (rw left at c.loop.invariant)
 
 pub returns-clause-read : goal.returns-clause-read
 returns-clause-read g c =

@@ -7,6 +7,6 @@ use Rattle.wire_samples.proofs.repeat.RepeatMessageFields.write_to.Given as goal
 -- the records so far are written, and those that are left come next
 abbrev pub invariant-loop : goal.invariant-loop
 invariant-loop g l =
-    IsWrittenTo g.S.EncodeSink.most (text (repeat_records l.fn.self))
-    (g.S.EncodeSink.bytes_of l.fn.sink) (g.S.EncodeSink.bytes_of l.sink)
+    IsWrittenTo (text (repeat_records l.fn.self))
+    (g.S.EncodeSink.held l.fn.sink) (g.S.EncodeSink.held l.sink)
     (text (joined_records (repeated (l.fn.self.times - l.counter)) (extra_record l.fn.self.extra)))
