@@ -1,5 +1,6 @@
 -- The shortest encoding, item by item.
-use Rattle.std.proofs.Common.{◌≡◌, ℕ, ◌+◌, ◌-◌, ◌^◌, ◌<◌, ◌≤◌, min, List, [], ◌∷◌, ◌++◌, append-nil, append_assoc, length, length-append, refl, sym, ap, ◌∙◌, arith}
+use Rattle.std.proofs.Common.{◌≡◌, ℕ, ◌-◌, ◌^◌, ◌<◌, min, List, [], ◌∷◌, ◌++◌, append-nil, append_assoc, length, Ok, Err, refl, sym, ap, subst, ◌∙◌, arith}
+use Rattle.wire_base.specs.declared.error.EncodeError.{EncodeError}
 use Rattle.wire_base.specs.declared.tag.WireType.TheVariants.{StartGroup, EndGroup}
 use Rattle.wire_base.specs.Charge.{charge}
 use Rattle.wire_base.specs.Ending.{by_input}
@@ -8,8 +9,10 @@ use Rattle.wire_base.specs.Items.{Item, end}
 use Rattle.wire_base.specs.Limits.{Limits}
 use Rattle.wire_base.specs.FaultLaws.{NoListBesideFault}
 use Rattle.wire_base.specs.RecordLaws.{NoTextIsShorter, WholeInput}
+use Rattle.wire_base.specs.Sink.{Held, Writes}
 use Rattle.wire_base.specs.Tag.{tag_text}
 use Rattle.wire_base.specs.Text.{payload_text, record_text, size, text_of}
+use Rattle.wire_base.specs.WriteLaws.{TwoParts}
 use Rattle.wire_read.specs.declared.event.Event.{Event}
 use Rattle.wire_read.specs.declared.event.Fault.{Fault}
 use Rattle.wire_read.specs.declared.reader.Reader.{Reader}
@@ -89,21 +92,17 @@ all_counted shorter law l all r text len h counted short done =
     let (fs, decodes, is) = all_seen law l all r text h done in
     (fs, decodes, omega (arith, counted, ap length is, shorter fs all decodes.spelled, short))
 
--- an item that comes next is of the text of all
-pub room_for : EventsAreInFront → ReaderGoesOn
+-- an item that comes next is of the text of all, behind those before it
+pub ahead : EventsAreInFront → ReaderGoesOn
     → (l : Limits) (all : List ℕ) (fs : Fields) (r t : Reader) (text : List ℕ)
     (e : Event) → Decodes l fs all → Seen l all r text → Gives e all (at r all) (at t all)
-    → length text + length (item_text (item e.number e.value)) ≤ size fs
-room_for front law l all fs r t text e decodes h given =
+    → (rest : List ℕ) × (text_of fs ≡ (text ++ item_text (item e.number e.value)) ++ rest)
+ahead front law l all fs r t text e decodes h given =
     let more = seen_more law l all r t text _ e h given refl in
-    let on = front l all more.items (at t all) fs more.place decodes.spelled decodes.fits in
-    omega (
-      arith,
-      length-append text (item_text (item e.number e.value)),
-      ap length more.is,
-      ap length (sym (text_of_items fs) ∙ ap items_text on.1),
-      ap length (items_text-append more.items on.0),
-      length-append (items_text more.items) (items_text on.0),
+    let on = front l all more.items (at t all) fs more.place decodes.spelled decodes.fits in (
+      items_text on.0,
+      sym (text_of_items fs) ∙ ap items_text on.1 ∙ items_text-append more.items on.0
+          ∙ ap (λ (x : List ℕ). x ++ items_text on.0) (sym more.is),
     )
 
 -- where all of the bytes spell records no fault comes
@@ -114,3 +113,11 @@ no_stop law beside input l all fs r text f decodes h stops =
     beside l by_input all [] f.error fs
     (law l all h.items (at r all) f h.place stops).0.of_list
     ((input (charge fs) l fs all []).1 (decodes.spelled, decodes.fits, refl))
+
+-- a piece that is refused behind others is of the text of all
+pub refused_ahead : TwoParts → (whole text more rest : List ℕ) (old now new : Held)
+    (e : EncodeError) → whole ≡ (text ++ more) ++ rest → Writes text old now (Ok tt)
+    → Writes more now new (Err e) → Writes whole old new (Err e)
+refused_ahead two whole text more rest old now new e is written refused =
+    subst (λ (t : List ℕ). Writes t old new (Err e)) (sym is) (two.refused (text ++ more) rest old
+    new e (two.behind text more old now new tt (Err e) written refused))

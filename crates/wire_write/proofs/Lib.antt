@@ -1,2 +1,2 @@
 pub mod Items
-pub mod Rooms
+pub mod Lengths

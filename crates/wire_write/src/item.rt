@@ -1,15 +1,14 @@
 //! Items in room of the caller's: records, and the starts and ends of groups.
-ghost use Rattle.std.specs.Prelude.{◌≡◌, ◌+◌, ◌-◌, ◌^◌, ◌<◌, ◌≤◌, ◌++◌, true, false, length, min, take, OnOk, IfErr};
-ghost use Rattle.wire_base.specs.declared.error.EncodeError.TheVariants.{OutOfMemory};
-ghost use Rattle.wire_base.specs.Sink.{WriteAnswers};
+ghost use Rattle.std.specs.Prelude.{◌≡◌, ◌+◌, ◌-◌, ◌^◌, ◌<◌, ◌≤◌, true, false, length, min};
+ghost use Rattle.wire_base.specs.Sink.{Writes};
 ghost use Rattle.wire_read.specs.Reading.{item};
 ghost use Rattle.wire_write.specs.Put.{Puts};
 ghost use Rattle.wire_write.specs.Shortest.{item_text};
 
-use std::marker::PhantomData;
+use wire_base::laws::what_fits_is_written;
 use wire_codec::{
-    EncodeError, EncodeSink, Loan, Room, WireType, put_fixed32, put_fixed64, tag_as_number,
-    tag_len, varint_len,
+    EncodeError, EncodeSink, Room, WireType, put_fixed32, put_fixed64, tag_as_number, tag_len,
+    varint_len,
 };
 use wire_read::Value;
 
@@ -62,47 +61,26 @@ pub(crate) fn item_len(number: u32, value: Value<'_>) -> usize
 /// Writes the shortest encoding of an item at a place of a room that is large enough, and answers
 /// the place behind it.
 #[inline(always)]
-pub(crate) fn place_item<L: Loan>(
-    room: &mut [u8],
-    place: usize,
-    number: u32,
-    value: Value<'_>,
-) -> usize
-    requires held { L.held ≡ room.old }
-    requires fits { place + length (item_text (item number value)) ≤ length room.old }
+pub(crate) fn place_item(room: &mut [u8], place: usize, number: u32, value: Value<'_>) -> usize
+    requires { place + length (item_text (item number value)) ≤ length room.old }
     ensures { Puts (item_text (item number value.entry)) place room.old room.new result }
 {
-    let mut sink: Room<'_, L> = Room {
-        room,
-        place,
-        loan: PhantomData,
-    };
-    write_item(number, value, &mut sink);
+    what_fits_is_written();
+    let mut sink = Room { room, place };
+    // There is room, and no memory is asked for, so that no put is refused.
+    let _ = put(number, value, &mut sink);
     sink.place
 }
 
-/// Writes the shortest encoding of an item into room that is large enough.
+/// Writes the shortest encoding of an item.
 #[inline(always)]
-pub(crate) fn write_item<L: Loan>(number: u32, value: Value<'_>, sink: &mut Room<'_, L>)
-    requires { sink.old.place + length (item_text (item number value))
-        ≤ length sink.old.room.now }
-    ensures same_reference { sink.new.room.ghost_name ≡ sink.old.room.ghost_name }
-    ensures written { take sink.new.place sink.new.room.now
-        ≡ take sink.old.place sink.old.room.now ++ item_text (item number value.entry) }
-{
-    // There is room, and no memory is asked for, so that no put is refused.
-    let _ = put(number, value, sink);
-}
-
-// Writes the shortest encoding of an item.
-#[inline(always)]
-fn put<S: EncodeSink>(number: u32, value: Value<'_>, sink: &mut S) -> Result<(), EncodeError>
-    ensures ok { OnOk result (S.bytes_of sink.new
-        ≡ S.bytes_of sink.old ++ item_text (item number value.entry)) }
-    ensures cause { WriteAnswers S.most (S.bytes_of sink.old)
-        (item_text (item number value.entry)) result }
-    ensures loan { S.loan sink.new ≡ S.loan sink.old }
-    ensures memory { IfErr result (λ e. e ≡ OutOfMemory → S.grows) }
+pub(crate) fn put<S: EncodeSink>(
+    number: u32,
+    value: Value<'_>,
+    sink: &mut S,
+) -> Result<(), EncodeError>
+    ensures { Writes (item_text (item number value.entry))
+        (S.held sink.old) (S.held sink.new) result }
 {
     match value {
         Value::Varint(value) => sink.put_varints(tag_as_number(number, WireType::Varint), value),

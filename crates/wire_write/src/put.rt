@@ -1,5 +1,4 @@
 //! Records one by one.
-ghost use Rattle.std.specs.Prelude.{◌≡◌, ◌+◌, ◌^◌, ◌<◌, ◌≤◌, ◌++◌, ℕ, List, length, OnOk, OnErr, IfOk, IfErr};
 ghost use Rattle.std.specs.Int.{w32, w64, to_le_bytes};
 ghost use Rattle.wire_base.specs.declared.tag.WireType.TheVariants.{StartGroup, EndGroup};
 ghost use Rattle.wire_base.specs.Field.{varint, fixed32, fixed64, bytes};
@@ -8,11 +7,10 @@ ghost use Rattle.wire_base.specs.Tag.{tag_text, tag_value};
 ghost use Rattle.wire_base.specs.Text.{record_text};
 ghost use Rattle.wire_scalar.specs.ValueMap.{sint64};
 ghost use Rattle.wire_read.specs.Reading.{item};
-ghost use Rattle.wire_write.specs.Put.{Puts, PutFault};
+ghost use Rattle.wire_write.specs.Put.{PutsOrNot};
 ghost use Rattle.wire_write.specs.Shortest.{item_text};
 
 use crate::item::{fits, item_len, place_item};
-use std::marker::Brand;
 use wire_codec::MAX_FIELD_NUMBER;
 use wire_codec::scalar::{Sint64, VarintScalar};
 use wire_read::Value;
@@ -29,23 +27,16 @@ pub enum PutError {
 
 /// Writes a record with a varint at a place of the room, and answers the place behind it.
 pub fn put_varint(room: &mut [u8], place: usize, number: u32, value: u64) -> Result<usize, PutError>
-    ensures ok { IfOk result (Puts (record_text number (varint value)) place room.old room.new) }
-    ensures number { OnOk result (IsFieldNumber number) }
-    ensures err { IfErr result (PutFault number (record_text number (varint value))
-        place room.old) }
-    ensures unchanged { OnErr result (room.new ≡ room.old) }
+    ensures { PutsOrNot number (record_text number (varint value))
+        place room.old room.new result }
 {
     put(room, place, number, Value::Varint(value))
 }
 
 /// Writes a record of type `sint64` or `sint32`, as `put_varint` does its zigzag number.
 pub fn put_sint(room: &mut [u8], place: usize, number: u32, value: i64) -> Result<usize, PutError>
-    ensures ok { IfOk result (Puts (record_text number (varint (sint64.enc value)))
-        place room.old room.new) }
-    ensures number { OnOk result (IsFieldNumber number) }
-    ensures err { IfErr result (PutFault number (record_text number (varint (sint64.enc value)))
-        place room.old) }
-    ensures unchanged { OnErr result (room.new ≡ room.old) }
+    ensures { PutsOrNot number (record_text number (varint (sint64.enc value)))
+        place room.old room.new result }
 {
     put_varint(room, place, number, Sint64::number_of(value))
 }
@@ -57,11 +48,8 @@ pub fn put_fixed32(
     number: u32,
     value: u32,
 ) -> Result<usize, PutError>
-    ensures ok { IfOk result (Puts (record_text number (fixed32 value)) place room.old room.new) }
-    ensures number { OnOk result (IsFieldNumber number) }
-    ensures err { IfErr result (PutFault number (record_text number (fixed32 value))
-        place room.old) }
-    ensures unchanged { OnErr result (room.new ≡ room.old) }
+    ensures { PutsOrNot number (record_text number (fixed32 value))
+        place room.old room.new result }
 {
     put(room, place, number, Value::Fixed32(value))
 }
@@ -73,11 +61,8 @@ pub fn put_fixed64(
     number: u32,
     value: u64,
 ) -> Result<usize, PutError>
-    ensures ok { IfOk result (Puts (record_text number (fixed64 value)) place room.old room.new) }
-    ensures number { OnOk result (IsFieldNumber number) }
-    ensures err { IfErr result (PutFault number (record_text number (fixed64 value))
-        place room.old) }
-    ensures unchanged { OnErr result (room.new ≡ room.old) }
+    ensures { PutsOrNot number (record_text number (fixed64 value))
+        place room.old room.new result }
 {
     put(room, place, number, Value::Fixed64(value))
 }
@@ -89,32 +74,24 @@ pub fn put_bytes(
     number: u32,
     payload: &[u8],
 ) -> Result<usize, PutError>
-    ensures ok { IfOk result (Puts (record_text number (bytes payload.now))
-        place room.old room.new) }
-    ensures number { OnOk result (IsFieldNumber number) }
-    ensures err { IfErr result (PutFault number (record_text number (bytes payload.now))
-        place room.old) }
-    ensures unchanged { OnErr result (room.new ≡ room.old) }
+    ensures { PutsOrNot number (record_text number (bytes payload.now))
+        place room.old room.new result }
 {
     put(room, place, number, Value::Bytes(payload))
 }
 
 /// Writes the start tag of a group, and answers the place behind it.
 pub fn put_group_start(room: &mut [u8], place: usize, number: u32) -> Result<usize, PutError>
-    ensures ok { IfOk result (Puts (tag_text number StartGroup) place room.old room.new) }
-    ensures number { OnOk result (IsFieldNumber number) }
-    ensures err { IfErr result (PutFault number (tag_text number StartGroup) place room.old) }
-    ensures unchanged { OnErr result (room.new ≡ room.old) }
+    ensures { PutsOrNot number (tag_text number StartGroup)
+        place room.old room.new result }
 {
     put(room, place, number, Value::GroupStart)
 }
 
 /// Writes the end tag of a group, and answers the place behind it.
 pub fn put_group_end(room: &mut [u8], place: usize, number: u32) -> Result<usize, PutError>
-    ensures ok { IfOk result (Puts (tag_text number EndGroup) place room.old room.new) }
-    ensures number { OnOk result (IsFieldNumber number) }
-    ensures err { IfErr result (PutFault number (tag_text number EndGroup) place room.old) }
-    ensures unchanged { OnErr result (room.new ≡ room.old) }
+    ensures { PutsOrNot number (tag_text number EndGroup)
+        place room.old room.new result }
 {
     put(room, place, number, Value::GroupEnd)
 }
@@ -122,12 +99,8 @@ pub fn put_group_end(room: &mut [u8], place: usize, number: u32) -> Result<usize
 // Writes an item at a place of the room, and answers the place behind it.
 #[inline(always)]
 fn put(room: &mut [u8], place: usize, number: u32, value: Value<'_>) -> Result<usize, PutError>
-    ensures ok { IfOk result (Puts (item_text (item number value.entry))
-        place room.old room.new) }
-    ensures number { OnOk result (IsFieldNumber number) }
-    ensures err { IfErr result (PutFault number (item_text (item number value.entry))
-        place room.old) }
-    ensures unchanged { OnErr result (room.new ≡ room.old) }
+    ensures { PutsOrNot number (item_text (item number value.entry))
+        place room.old room.new result }
 {
     if number == 0 || number > MAX_FIELD_NUMBER {
         return Err(PutError::InvalidFieldNumber);
@@ -135,5 +108,5 @@ fn put(room: &mut [u8], place: usize, number: u32, value: Value<'_>) -> Result<u
     if place > room.len() || !fits(number, value, room.len() - place) {
         return Err(PutError::NoRoom(item_len(number, value)));
     }
-    Ok(place_item::<Brand>(room, place, number, value))
+    Ok(place_item(room, place, number, value))
 }

@@ -1,15 +1,15 @@
 //! The shortest encoding of the records that bytes spell.
-ghost use Rattle.std.specs.Prelude.{◌≡◌, ◌≤◌, length, take, OnErr, IfOk, IfErr};
+ghost use Rattle.std.specs.Prelude.{◌≡◌, ◌≤◌, length, OnErr, IfOk, IfErr};
 ghost use Rattle.wire_base.specs.Field.{Fields};
+ghost use Rattle.wire_base.specs.Sink.{Writes};
 ghost use Rattle.wire_base.specs.Text.{size, text_of};
 ghost use Rattle.wire_read.specs.Budget.{read_limits};
 ghost use Rattle.wire_read.specs.Faults.{IsFault};
 ghost use Rattle.wire_write.specs.Put.{Puts};
 ghost use Rattle.wire_write.specs.Shortest.{Decodes, ShortestFault};
 
-use crate::item::{item_len, write_item};
-use std::marker::{Brand, PhantomData};
-use wire_codec::{DecodeContext, Loan, Room};
+use crate::item::{item_len, put};
+use wire_codec::{DecodeContext, EncodeError, EncodeSink, Room, laws};
 use wire_read::{Fault, Reader};
 
 /// Why a shortest encoding is not written.
@@ -67,34 +67,33 @@ pub fn write_shortest(
     if len > room.len() {
         return Err(ShortestError::NoRoom(len));
     }
-    Ok(write_all::<Brand>(bytes, context, room))
+    Ok(write_all(bytes, context, room))
 }
 
 // Writes the shortest encoding of records for which there is room, and answers its length.
-fn write_all<L: Loan>(bytes: &[u8], context: &DecodeContext, room: &mut [u8]) -> usize
-    requires held { L.held ≡ room.old }
-    requires records { (fs : Fields) × Decodes (read_limits context.now) fs bytes.now
+fn write_all(bytes: &[u8], context: &DecodeContext, room: &mut [u8]) -> usize
+    requires { (fs : Fields) × Decodes (read_limits context.now) fs bytes.now
         × (size fs ≤ length room.old) }
     ensures { (fs : Fields) × Decodes (read_limits context.now) fs bytes.now
         × Puts (text_of fs) 0 room.old room.new result }
 {
-    let mut sink: Room<'_, L> = Room {
-        room,
-        place: 0,
-        loan: PhantomData,
-    };
-    write_items(bytes, context, &mut sink);
+    wire_base::laws::one_spelled();
+    wire_base::laws::what_fits_is_written();
+    let mut sink = Room { room, place: 0 };
+    // There is room, and no memory is asked for, so that no put is refused.
+    let _ = put_all(bytes, context, &mut sink);
     sink.place
 }
 
-// Writes the shortest encoding of records into room that is large enough, and yet empty.
-fn write_items<L: Loan>(bytes: &[u8], context: &DecodeContext, sink: &mut Room<'_, L>)
-    requires records { (fs : Fields) × Decodes (read_limits context.now) fs bytes.now
-        × (size fs ≤ length sink.old.room.now) }
-    requires empty { sink.old.place ≡ 0 }
-    ensures same_reference { sink.new.room.ghost_name ≡ sink.old.room.ghost_name }
-    ensures written { (fs : Fields) × Decodes (read_limits context.now) fs bytes.now
-        × (take sink.new.place sink.new.room.now ≡ text_of fs) }
+// Writes the shortest encoding of records.
+fn put_all<S: EncodeSink>(
+    bytes: &[u8],
+    context: &DecodeContext,
+    sink: &mut S,
+) -> Result<(), EncodeError>
+    requires { (fs : Fields) × Decodes (read_limits context.now) fs bytes.now }
+    ensures { (fs : Fields) × Decodes (read_limits context.now) fs bytes.now
+        × Writes (text_of fs) (S.held sink.old) (S.held sink.new) result }
 {
     wire_read::laws::reader_begins();
     wire_read::laws::reader_goes_on();
@@ -104,8 +103,11 @@ fn write_items<L: Loan>(bytes: &[u8], context: &DecodeContext, sink: &mut Room<'
     wire_read::laws::reader_moves_on();
     wire_base::laws::no_list_beside_fault();
     wire_base::laws::whole_input();
+    laws::piece_by_piece();
+    laws::two_parts();
     let mut reader = Reader::within(context);
     while let Ok(Some(event)) = reader.next(bytes) {
-        write_item(event.number, event.value, sink);
+        put(event.number, event.value, sink)?;
     }
+    Ok(())
 }

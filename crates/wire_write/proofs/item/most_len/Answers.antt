@@ -2,7 +2,7 @@ use Rattle.std.proofs.Common.{length-append, arith}
 use Rattle.wire_base.specs.declared.tag.WireType.TheVariants.{Varint, StartGroup, EndGroup}
 use Rattle.wire_base.specs.Tag.{tag_text, tag_value}
 use Rattle.wire_base.specs.Varint.{shortest_varint}
-use Rattle.wire_write.proofs.Rooms.{at_most_ten}
+use Rattle.wire_write.proofs.Lengths.{at_most_ten}
 use Rattle.wire_write.proofs.item.most_len.Goals as goal
 
 pub returns-in-Varint : goal.returns-in-Varint
