@@ -63,13 +63,6 @@ stands n p all behind rest count tag payload is =
           (payload.text, [], outer, inner, refl);
     }
 
-pub nothing_taken : (y : Layout) (place : ℕ) (all old : List ℕ) → TakesRecord y place all 0 old old
-nothing_taken y place all old = record {
-  within = omega arith;
-  none = λ _. refl;
-  some = λ h. absurd (omega (arith, h));
-}
-
 pub line_taken : (y : Layout) (place n count : ℕ) (p : Payload)
     (all behind rest line old new : List ℕ) (m : Margin) → type_of p ≢ StartGroup
     → Reads all (IsTagSpelling n (type_of p)) behind → Reads behind (SpellsPayload n p) rest

@@ -52,11 +52,6 @@ payload_last n b text (behind, rest, tag, payload, ended) =
           ∙ sym (append_assoc tag.text inner.text b),
     )
 
-pub payload_fits : (n : ℕ) (b text : List ℕ) → Spells (field n (bytes b) none) text
-    → length b ≤ length text
-payload_fits n b text h =
-    let (head, e) = payload_last n b text h in omega (arith, ap length e ∙ length-append head b)
-
 -- ---- places
 
 pub place_is : (all front rest : List ℕ) → all ≡ front ++ rest → place_of all rest ≡ length front

@@ -1,7 +1,7 @@
 //! Frames into a sink.
 ghost use Rattle.std.specs.Prelude.{◌≡◌, ◌<◌, ◌^◌, ◌++◌, length, OnOk, OnErr};
 ghost use Rattle.wire_base.specs.Delimited.{delimited_text};
-ghost use Rattle.wire_base.specs.Sink.{KeepsFront, WriteAnswers};
+ghost use Rattle.wire_base.specs.Sink.{Writes};
 ghost use Rattle.wire_frames.specs.Encoding.{WritesFrame, grpc_text};
 
 use wire_base::{EncodeError, EncodeSink, encode_varint, laws};
@@ -11,8 +11,8 @@ use wire_codec::MAX_MESSAGE_BYTES;
 /// 2,147,483,647 bytes is `MessageTooLarge`, before anything is written. Else refused where the
 /// sink refuses a byte of the varint or the payload, and then leaves what stands before.
 pub fn put_delimited_frame<S: EncodeSink>(payload: &[u8], sink: &mut S) -> Result<(), EncodeError>
-    ensures { WritesFrame 2147483647 (length payload.now) S.most (delimited_text payload.now)
-        (S.bytes_of sink.old) (S.bytes_of sink.new) result }
+    ensures { WritesFrame 2147483647 (length payload.now) (delimited_text payload.now)
+        (S.held sink.old) (S.held sink.new) result }
 {
     if payload.len() > MAX_MESSAGE_BYTES as usize {
         return Err(EncodeError::MessageTooLarge);
@@ -28,8 +28,8 @@ pub fn put_grpc_frame<S: EncodeSink>(
     payload: &[u8],
     sink: &mut S,
 ) -> Result<(), EncodeError>
-    ensures { WritesFrame 4294967295 (length payload.now) S.most (grpc_text compressed payload.now)
-        (S.bytes_of sink.old) (S.bytes_of sink.new) result }
+    ensures { WritesFrame 4294967295 (length payload.now) (grpc_text compressed payload.now)
+        (S.held sink.old) (S.held sink.new) result }
 {
     if payload.len() > u32::MAX as usize {
         return Err(EncodeError::MessageTooLarge);
@@ -39,11 +39,7 @@ pub fn put_grpc_frame<S: EncodeSink>(
 
 // Writes a payload behind the varint of its length.
 fn write_delimited<S: EncodeSink>(payload: &[u8], sink: &mut S) -> Result<(), EncodeError>
-    ensures ok { OnOk result
-        (S.bytes_of sink.new ≡ S.bytes_of sink.old ++ delimited_text payload.now) }
-    ensures err { OnErr result (KeepsFront (S.bytes_of sink.old)
-        (delimited_text payload.now) (S.bytes_of sink.new)) }
-    ensures cause { WriteAnswers S.most (S.bytes_of sink.old) (delimited_text payload.now) result }
+    ensures { Writes (delimited_text payload.now) (S.held sink.old) (S.held sink.new) result }
 {
     laws::two_parts();
     laws::put_is_a_write();
@@ -58,12 +54,8 @@ fn write_grpc<S: EncodeSink>(
     sink: &mut S,
 ) -> Result<(), EncodeError>
     requires { length payload.now < 2 ^ 32 }
-    ensures ok { OnOk result
-        (S.bytes_of sink.new ≡ S.bytes_of sink.old ++ grpc_text compressed payload.now) }
-    ensures err { OnErr result (KeepsFront (S.bytes_of sink.old)
-        (grpc_text compressed payload.now) (S.bytes_of sink.new)) }
-    ensures cause { WriteAnswers S.most (S.bytes_of sink.old)
-        (grpc_text compressed payload.now) result }
+    ensures { Writes (grpc_text compressed payload.now)
+        (S.held sink.old) (S.held sink.new) result }
 {
     laws::two_parts();
     laws::put_is_a_write();

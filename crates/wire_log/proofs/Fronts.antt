@@ -77,18 +77,6 @@ pub record HasPut (was now : Stream) (old new : List ℕ) : Type 0 where
   pub framing : now.framing ≡ was.framing
   pub limit : now.limit ≡ was.limit
 
-pub nothing_put : (was : Stream) (old : List ℕ) → HasPut was was old old
-nothing_put was old = record {
-  front = record {
-    text = [];
-    parts = refl;
-    put = sym (append-nil old);
-    entries = record { frames = []; read = refl; records = tt };
-  };
-  framing = refl;
-  limit = refl;
-}
-
 pub entry_put : FramesAddUp → (was now next : Stream) (old new out : List ℕ) (whole : FrameText)
     → HasPut was now old new → TakesEntry now next whole → out ≡ new ++ whole.text
     → HasPut was next old out

@@ -2,6 +2,7 @@
 ghost use Rattle.std.specs.Prelude.{◌≡◌, ◌++◌, length, OnOk, IfOk, IfErr};
 ghost use Rattle.wire_base.specs.FieldNumber.{IsFieldNumber};
 ghost use Rattle.wire_base.specs.Rope.{rope_bytes};
+ghost use Rattle.wire_base.specs.Sink.{Writes};
 ghost use Rattle.wire_base.specs.Tag.{TagFault, tag_text};
 ghost use Rattle.wire_base.specs.Varint.{shortest_varint};
 ghost use Rattle.wire_base.specs.declared.tag.WireType.TheVariants.{LengthDelimited};
@@ -24,11 +25,10 @@ pub fn first_number(bytes: &[u8]) -> Result<u32, DecodeError>
 
 /// Writes two numbers as the shortest varints.
 pub fn put_pair<S: EncodeSink>(first: u64, second: u64, sink: &mut S) -> Result<(), EncodeError>
-    ensures ok { OnOk result (S.bytes_of sink.new
-        ≡ (S.bytes_of sink.old ++ shortest_varint first) ++ shortest_varint second) }
+    ensures { Writes (shortest_varint first ++ shortest_varint second)
+        (S.held sink.old) (S.held sink.new) result }
 {
-    encode_varint(first, sink)?;
-    encode_varint(second, sink)
+    sink.put_varints(first, second)
 }
 
 /// Records but for those of one number, and what is read from their text: the same records.

@@ -4,6 +4,7 @@ ghost use Rattle.wire_base.specs.Ending.{by_tag};
 ghost use Rattle.wire_base.specs.Fault.{ListFault};
 ghost use Rattle.wire_base.specs.Field.{varint};
 ghost use Rattle.wire_base.specs.Limits.{uncounted};
+ghost use Rattle.wire_base.specs.Sink.{Writes};
 ghost use Rattle.wire_base.specs.Text.{record_text};
 ghost use Rattle.wire_base.specs.Varint.{IsSpelling};
 ghost use Rattle.wire_scalar.specs.Packed.{Appends};
@@ -23,8 +24,8 @@ pub fn body_of(bytes: &[u8], number: u32) -> Result<&[u8], DecodeError>
 
 /// Writes a balance as field 1.
 pub fn put_balance<S: EncodeSink>(balance: i64, sink: &mut S) -> Result<(), EncodeError>
-    ensures ok { OnOk result (S.bytes_of sink.new
-        ≡ S.bytes_of sink.old ++ record_text 1 (varint (sint64.enc balance))) }
+    ensures { Writes (record_text 1 (varint (sint64.enc balance)))
+        (S.held sink.old) (S.held sink.new) result }
 {
     put_sint64_field(1, balance, sink)
 }

@@ -1,4 +1,5 @@
 use Rattle.std.proofs.Common.{sym, ap, ◌∙◌, ◌++◌, append-nil}
+use Rattle.wire_codec.specs.Sink.{Held}
 use Rattle.wire_codec.specs.Text.{text_of}
 use Rattle.wire_min.proofs.Results.{ok_before}
 use Rattle.wire_min.proofs.run.shortest_text.Goals as goal
@@ -15,6 +16,7 @@ returns-clause-ok c = record {
     };
     fits = c.in_ok-fields.ensures.within;
   };
-  shortest = (rw (ok_before c.write_to.result _ _ c.in_ok-or.ensures) at c.write_to.ensures.ok)
+  shortest = ap (λ (held : Held). held.bytes)
+      (rw (ok_before c.write_to.result _ _ c.in_ok-or.ensures) at c.write_to.ensures.written.ok)
       ∙ ap (λ l. l ++ text_of c.in_ok-fields.fields) c.new-output.ensures.items;
 }
