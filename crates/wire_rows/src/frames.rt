@@ -6,7 +6,7 @@ use bytes::Bytes;
 use std::alloc::{AllocError, Global};
 use std::fmt::Write;
 use wire_callers::counter::Counter;
-use wire_codec::{DecodeError, DecodeOptions, EncodeError, EncodeSink};
+use wire_codec::{DecodeError, DecodeOptions, EncodeError, EncodeSink, Room};
 use wire_frames::{
     Frame, FrameDecoder, FrameError, FrameText, Framing, MessageError, UnfedCause, frames_of,
     put_delimited_frame, put_grpc_frame,
@@ -198,6 +198,17 @@ fn put(row: &Row<'_>, said: &mut Said) {
             };
             let answer = put_into(row, &mut sink);
             say_put(answer, &sink.bytes, said)
+        }
+        Some("Room") => {
+            let mut slice = said.copied(&[0; 16]);
+            slice.truncate(row.number("room").unwrap_or(0));
+            let mut sink = Room {
+                room: &mut slice,
+                place: 0,
+            };
+            let answer = put_into(row, &mut sink);
+            let place = sink.place;
+            say_put(answer, slice.get(..place).unwrap_or(&[]), said)
         }
         _ => {
             let mut sink = Vec::new(said.alloc);

@@ -1,5 +1,5 @@
 //! A sink that counts five bytes at most.
-ghost use Rattle.std.specs.Prelude.{Some};
+ghost use Rattle.std.specs.Prelude.{Some, None};
 
 use wire_codec::{EncodeError, EncodeSink};
 
@@ -12,9 +12,7 @@ pub struct Narrow {
 }
 
 impl EncodeSink for Narrow {
-    ghost bytes_of = { λ sink. sink.bytes.items };
-
-    ghost most = { Some 5 };
+    ghost held = { λ sink. record { bytes = sink.bytes.items; most = Some 5; lent = None } };
 
     fn put_u8(&mut self, value: u8) -> Result<(), EncodeError> {
         self.put_slice(&[value])

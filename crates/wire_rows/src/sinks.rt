@@ -3,7 +3,7 @@ use crate::row::{Row, Step};
 use crate::said::Said;
 use crate::{scalars, texts};
 use bytes::{Bytes, BytesMut};
-use wire_codec::{EncodeError, EncodeSink, Rope};
+use wire_codec::{EncodeError, EncodeSink, Room, Rope};
 
 pub fn tell(row: &Row<'_>, said: &mut Said) -> bool {
     match row.call {
@@ -34,6 +34,8 @@ fn written(row: &Row<'_>, said: &mut Said) -> bool {
     is_front(answer, buffer.as_slice(), &whole, said);
     into_rope(row, Rope::with_min_segment(said.alloc, 1), &whole, said);
     into_rope(row, Rope::new(said.alloc), &whole, said);
+    into_slice(row, whole.len(), &whole, said);
+    into_slice(row, whole.len().saturating_sub(1), &whole, said);
     said.written(whole.get(1..).unwrap_or(&[]), row.bytes);
     true
 }
@@ -43,6 +45,42 @@ fn into_rope(row: &Row<'_>, mut rope: Rope, whole: &[u8], said: &mut Said) {
     if let Some(bytes) = said.made(rope.to_contiguous_bytes()) {
         is_front(answer, bytes.as_slice(), whole, said);
     }
+}
+
+// The same into a slice of so many bytes. Where they are too few, a front of them is filled.
+fn into_slice(row: &Row<'_>, len: usize, whole: &[u8], said: &mut Said) {
+    let mut slice = said.copied(whole);
+    slice.truncate(len);
+    slice.fill(0);
+    let mut room = Room {
+        room: &mut slice,
+        place: 0,
+    };
+    let answer = put_behind(row, &mut room);
+    let place = room.place;
+    is_filled(answer, &slice, place, whole, said);
+}
+
+/// Whether all stands in the slice where there is room, and else a front of it, and nothing behind.
+pub fn is_filled(
+    answer: Result<(), EncodeError>,
+    slice: &[u8],
+    place: usize,
+    whole: &[u8],
+    said: &mut Said,
+) {
+    if answer == Err(EncodeError::OutOfMemory) {
+        return said.refuse(EncodeError::OutOfMemory);
+    }
+    let fits = slice.len() == whole.len();
+    said.expect(fits == answer.is_ok(), "another answer of a slice");
+    said.expect(
+        fits || answer == Err(EncodeError::LengthOverflow),
+        "another refusal of a slice",
+    );
+    let (filled, rest) = slice.split_at(place.min(slice.len()));
+    said.expect(whole.starts_with(filled), "no front");
+    said.expect(rest.iter().all(|byte| *byte == 0), "past the place");
 }
 
 fn put<S: EncodeSink>(row: &Row<'_>, sink: &mut S) -> Option<Result<(), EncodeError>> {

@@ -3,7 +3,8 @@ use super::sample::{Sample, given};
 use crate::caches::{expect_buffer, give_buffer, pool_of};
 use crate::row::Row;
 use crate::said::Said;
-use wire_codec::{EncodeError, Message, SizeCache, SizeCachePool, laws};
+use crate::sinks::is_filled;
+use wire_codec::{EncodeError, EncodeSink, Message, Room, SizeCache, SizeCachePool, laws};
 
 // What a call answers: the size, where it tells one. What it writes is in the sink.
 type Answer = Result<Option<u32>, EncodeError>;
@@ -37,6 +38,10 @@ fn write<M: Sample + Message>(row: &Row<'_>, call: &str, said: &mut Said) {
                 said.word(": ");
             }
             said.written(sink.get(1..).unwrap_or(&[]), row.bytes);
+            if call == "try_encode" {
+                into_slice(&message, &sink, sink.len(), said);
+                into_slice(&message, &sink, sink.len().saturating_sub(1), said);
+            }
         }
         Err(error) => {
             is_left(&message, call, &error, &sink, said);
@@ -52,6 +57,23 @@ fn sink_of(row: &Row<'_>, said: &mut Said) -> Vec<u8> {
     let mut sink = sink.unwrap_or(Vec::new(said.alloc));
     said.made(sink.push(7));
     sink
+}
+
+// A message behind the byte 7 in a slice of so many bytes.
+fn into_slice<M: Message>(message: &M, whole: &[u8], len: usize, said: &mut Said) {
+    let mut slice = said.copied(whole);
+    slice.truncate(len);
+    slice.fill(0);
+    let mut room = Room {
+        room: &mut slice,
+        place: 0,
+    };
+    let answer = match room.put_u8(7) {
+        Ok(()) => message.try_encode(said.alloc, &mut room),
+        Err(error) => Err(error),
+    };
+    let place = room.place;
+    is_filled(answer, &slice, place, whole, said);
 }
 
 // A call refused for a size leaves the sink, and one refused memory a front of the bytes.
