@@ -1,16 +1,13 @@
 """Schemas that wire_gen is asked, for .ci/generated: which it refuses and with which words, and what
 it writes of others."""
 TYPE = "message A { int32 x = 1; }"
+LONG = "Elephant" * 11
 # A schema, further parameters, and what is said of it on protoc's channel for errors.
 REFUSED = [
     ("proto3", 'import "google/protobuf/empty.proto";' + TYPE
      + "service S { rpc Get(A) returns (google.protobuf.Empty); }", "",
      "S.Get: .google.protobuf.Empty is of a file of no crate that is named, as "
      "import=PACKAGE=CRATE does"),
-    ("proto3", TYPE + "service T { rpc GetA(A) returns (A); } service TGetA {}", "",
-     "TGetA: another service or method is called TGetA too"),
-    ("proto3", TYPE + "message Services { int32 x = 1; } service S { rpc Get(A) returns (A); }",
-     "", "a type and the services have the name services"),
     ("proto2", "message A { required int32 x = 1; }", "",
      ".A.x: required fields want required=optional"),
     ("proto2", "message A { oneof o { int32 x = 1 [default = 7]; } }", "",
@@ -41,8 +38,6 @@ REFUSED = [
      ".x: extensions are not generated with unknown=drop"),
     ("proto3", "message A {" + "".join(f"int32 x{it} = {it};" for it in range(1, 82)) + "}", "",
      ".A: more than 80 fields"),
-    ("proto3", "message A { message B { int32 x = 1; } } message AB { int32 x = 1; }", "",
-     ".A.B: another type is called AB too"),
     ("proto3", 'import "google/protobuf/timestamp.proto";'
      "message A { google.protobuf.Timestamp x = 1; }", "",
      ".A.x: .google.protobuf.Timestamp is of a file of no crate that is named, as "
@@ -89,6 +84,12 @@ EDITIONS = [
     (1000, MESSAGE, "message_encoding: 2", "Group<A>"),
     (1000, 'type: 14 type_name: ".E"', "", "Optional<Enum<E>>"),
     (1001, INT, "", "edition.proto: no syntax or edition that is known"),
+]
+# How many message types stand within one another, and what is said of it. (protoc takes 31.)
+DEEP = [
+    (100, ""),
+    (101, ".A" * 100 + ": more than 100 message types within one another"),
+    (20_000, ".A" * 100 + ": more than 100 message types within one another"),
 ]
 # A schema, further parameters, and parts of the code that is written.
 CHOICES = [
@@ -156,6 +157,58 @@ CHOICES = [
       "    pub foo_bar_3: Option<EnumValue<E>>,", "    pub foo_bar: Option<i32>,",
       "    pub foo_bar_2: Option<i32>,", "            None => EnumValue::Known(E::FooBar_2),",
       "    FooBar4(bool),\n    XY(bool),\n    XY_5(bool),\n"]),
+    # Types whose names come together, within one another, of several sorts, and but for capitals;
+    # what stands further behind leaves the names before it.
+    ("proto3", "message A { message B { int32 x = 1; } } message AB { int32 x = 1; }", "",
+     ["/// The message `AB`.\n", "/// The message `AB_2`.\n", "pub struct AB_2 {",
+      "mod ab;\nmod ab_2;\n", 'const FULL_NAME: &\'static str = "AB";', "pub use ab_2::AB_2;", "ab_2-range",
+      "pub fn ab_2_reads_back()"]),
+    ("proto3", "enum A_B { Z = 0; Q = 1; } message A { B b = 1; A_B c = 2; oneof d { C e = 3; } "
+     "message B { int32 x = 1; } } message A_D { int32 x = 1; } message C { int32 x = 1; }", "",
+     ["pub enum AB {", "pub struct AB_2 {", "1 => b: Embedded<AB_2>,",
+      "2 => c: Implicit<Enum<AB>>,", "pub enum AD {", "pub struct ADKind;", "pub struct AD_2 {"]),
+    ("proto3", "message HTTPServer { HttpServer x = 1; Httpserver y = 2; } "
+     "message HttpServer { int32 x = 1; } message Httpserver { int32 x = 1; }", "",
+     ["pub struct HTTPServer {", "pub x: Option<Box<HttpServer_2>>,",
+      "pub y: Option<Box<Httpserver_3>>,", "mod httpserver;\nmod httpserver_3;\n",
+      "mod http_server_2;"]),
+    ("proto3", TYPE + "message AStays { int32 x = 1; } message BOX { int32 x = 1; } "
+     "message Box { int32 x = 1; }", "",
+     ["pub struct AStays_ {", "pub struct BOX {", "pub struct Box__2 {"]),
+    # What is made of a type beside it, and what is called as that.
+    ("proto3", "message A { enum BKind { Z = 0; } BKind b_kind = 1; oneof b { int32 c = 2; } "
+     "message BKindKind { A x = 1; A y = 2; } }", "",
+     ["pub enum ABKind {", "pub struct ABKind_2;", "2 => b: ABKind_2,",
+      "impl Kind for ABKind_2 {"]),
+    ("proto3", "message A { B b = 1; int32 x = 2; } message B { A a = 1; int32 x = 2; } "
+     "message AFamily { int32 x = 1; }", "",
+     ["pub struct AFamily {", "mod a_family_2;\nmod afamily;\n", "pub mod AFamily_2\n",
+      "#[cycle(a_family_2)]"]),
+    ("proto3", TYPE + "service T { rpc GetA(A) returns (A); rpc Geta(A) returns (A); } "
+     "service TGetA { rpc get_a_2(A) returns (A); rpc getA(A) returns (A); "
+     "rpc GetA(A) returns (A); }", "",
+     ["/// The service `TGetA`.\npub struct TGetA_3;", "ServiceMethod for TGetA {",
+      "pub struct TGeta_2;", "    const METHOD: wire_fields::Method = T::GETA;",
+      "TGetA_3::GET_A_2,", "TGetA_3::GET_A_2_2,"]),
+    ("proto3", TYPE + "message Services { int32 x = 1; } service S { rpc Get(A) returns (A); }",
+     "", ["mod services_;\n", "pub mod services;\n", "pub use services_::Services;"]),
+    ("proto2", "message A { extensions 4 to 9; } extend A { optional bool fooBar = 4; } "
+     "extend A { optional bool foo_bar = 5; }", "",
+     ["pub fn foo_bar() -> Extension<Optional<Bool>>\n    ensures { result.number ≡ 4 }",
+      "pub fn foo_bar_2() -> Extension<Optional<Bool>>\n    ensures { result.number ≡ 5 }"]),
+    # A field and a oneof.
+    ("proto3", "message A { oneof foo_bar { int32 x = 1; } int32 fooBar = 2; "
+     "oneof y { int32 Y = 3; } oneof FooBar { int32 z = 4; } }", "",
+     ["1 => foo_bar: AFooBarKind,", "2 => foo_bar_2: Implicit<Int32>,", "3 => y: AYKind,",
+      "4 => foo_bar_3: AFooBar_2Kind,", "    Y(i32),\n"]),
+    # Lines that have no room for a name.
+    ("proto3", "message A { %s x = 1; } message %s { int32 x = 1; }" % (LONG, LONG), "",
+     [f"    pub x: Option<\n        Box<\n            {LONG},\n        >,\n    >,\n",
+      f"impl MessageName\n    for {LONG} {{\n",
+      f"    const FULL_NAME: &'static str =\n        \"{LONG}\";\n",
+      f"    fn clone(\n        &self,\n    ) -> Result<\n        {LONG},\n        AllocError,\n    > {{\n"
+      f"        Ok(\n            {LONG} {{\n                x: self.x,\n",
+      f"        rows!(empty(\n            {LONG},\n            alloc\n        ))\n"]),
     # Names that no letter begins.
     ("proto2", "enum _ { _0 = 0; } message _1 { optional int32 _ = 1; optional _ __ = 2; "
      "oneof _o { bool _2 = 3; } }", "",

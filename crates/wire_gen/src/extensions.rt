@@ -3,7 +3,6 @@ use crate::comments::{put_comment, set_heading};
 use crate::imports::code_imports;
 use wire_schema::{
     Extension, GenerateError, Schema, Words, features_of, set_field, started, stop_on_default,
-    variant_name, word_name,
 };
 
 const HEAD: &str = "\
@@ -52,27 +51,13 @@ fn put_extension(
     }
     words.fill_all(&[("code", "")]);
     set_field(schema, features, &extension.descriptor, &mut words)?;
-    words.set("function", extension.words.get("outer"));
-    words.append("function", "$proto$");
-    name_function(page, &words)?;
+    page.copy(&extension.words, &["function"]);
     page.copy(
         &words,
         &["number", "kind", "code", "full", "proto", "own_types"],
     );
     page.set("extendee", &extension.descriptor.extendee);
     put_function(page, schema, extension);
-    Ok(())
-}
-
-// What the function of an extension is called, which no other is.
-fn name_function(page: &mut Words, words: &Words) -> Result<(), GenerateError> {
-    let function = variant_name(words.alloc(), words.get("function"))?;
-    let function = word_name(words.alloc(), &function)?;
-    page.set("function", &function);
-    page.fill("called", "pub fn $function$()");
-    if page.get("functions").contains(page.get("called")) {
-        return Err(page.refused("two extensions are called $function$"));
-    }
     Ok(())
 }
 

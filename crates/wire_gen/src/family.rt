@@ -374,9 +374,20 @@ fn members_of(
         page.set("first_name", member.get("name"));
         page.set("first_module", member.get("module"));
     }
-    page.fill_all(&[
-        ("family_name", "$first_name$Family"),
-        ("family_module", "$first_module$_family"),
-    ]);
+    name_family(page, schema)?;
     Ok(members)
+}
+
+// What these types are called together, and their module, which no type is: with a number behind it
+// where one is.
+fn name_family(page: &mut Words, schema: &Schema) -> Result<(), GenerateError> {
+    page.fill("natural", "$first_name$Family");
+    let name = schema.names.beside(page.get("crate"), page.get("natural"))?;
+    let number = name.strip_prefix(page.get("natural")).unwrap_or("");
+    page.set("family_number", number);
+    page.fill_all(&[
+        ("family_name", "$natural$$family_number$"),
+        ("family_module", "$first_module$_family$family_number$"),
+    ]);
+    Ok(())
 }

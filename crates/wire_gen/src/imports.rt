@@ -111,7 +111,7 @@ fn put_name(page: &mut Words, width: usize) {
         .get("line")
         .len()
         .saturating_add(page.get("import").len());
-    if room.saturating_add(2) > width {
+    if room.saturating_add(2) > width && page.get("line") != "   " {
         page.append("imports", "$line$\n");
         page.fill("line", "   ");
     }

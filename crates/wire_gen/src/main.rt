@@ -5,6 +5,7 @@
 mod account;
 mod answers;
 mod arms;
+mod breaks;
 mod closing;
 mod code;
 mod comments;
@@ -19,6 +20,7 @@ mod field_rows;
 mod imports;
 mod keeping;
 mod laws_pages;
+mod layout;
 mod member;
 mod member_definitions;
 mod mentioned;

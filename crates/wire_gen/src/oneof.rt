@@ -37,9 +37,9 @@ $rows$        )
 }
 $clone$
 /// The fields of the oneof, of which one stands at most.
-pub struct $name$Kind;
+pub struct $kind_name$;
 
-impl Kind for $name$Kind {
+impl Kind for $kind_name$ {
 $ghost_imports$
     type Held = Option<$name$>;
 

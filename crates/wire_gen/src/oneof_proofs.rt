@@ -30,7 +30,7 @@ Rattle.$crate$.specs.$name$ $word$-of-$module$-kind
 ";
 
 const HEAD: &str = "\
-$imports$use Rattle.$crate$.proofs.$module$.$name$KindKind.merge.Goals as goal
+$imports$use Rattle.$crate$.proofs.$module$.$kind_name$Kind.merge.Goals as goal
 ";
 
 const ANSWERS: &str = "

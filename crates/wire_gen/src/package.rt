@@ -6,6 +6,7 @@ use crate::definitions::definitions_of;
 use crate::enums::enum_files;
 use crate::extensions::extensions_of;
 use crate::laws_pages::has_laws;
+use crate::layout::laid_out;
 use crate::oneof::oneof_code;
 use crate::oneof_definitions::oneof_definitions;
 use crate::oneof_proofs::merge_answers;
@@ -122,7 +123,11 @@ impl Package {
         let mut file = CodeGeneratorResponseFile::default_value(page.alloc());
         page.fill("file", path);
         file.name = page.finish("file")?;
-        file.content = content;
+        file.content = if file.name.ends_with(".rt") {
+            laid_out(page.alloc(), &content)?
+        } else {
+            content
+        };
         self.files.push(file)?;
         Ok(())
     }
@@ -205,7 +210,7 @@ impl Package {
     // A oneof of a message.
     fn add_oneof(&mut self, oneof: &Oneof, message: &MessageType) -> Result<(), GenerateError> {
         let mut page = self.page(&oneof.words);
-        page.copy(&oneof.words, &["holder", "holder_name"]);
+        page.copy(&oneof.words, &["kind_name", "holder", "holder_name"]);
         let code = oneof_code(&page, oneof, message.is_twin)?;
         let definitions = oneof_definitions(&page, oneof)?;
         self.add_type(&mut page, code, definitions)?;
@@ -214,7 +219,7 @@ impl Package {
             self.add_stays(&mut page, proof)?;
         }
         let answers = merge_answers(&page, oneof)?;
-        let path = "proofs/$module$/$name$KindKind/merge/Answers.antt";
+        let path = "proofs/$module$/$kind_name$Kind/merge/Answers.antt";
         self.add(&mut page, path, answers)?;
         for variant in &oneof.variants {
             if !variant.get("closed").is_empty() {
@@ -245,14 +250,6 @@ impl Package {
         code: String,
         definitions: String,
     ) -> Result<(), GenerateError> {
-        page.fill("line", "mod $module$\n");
-        if self.roots.get("modules").contains(page.get("line")) {
-            return Err(page.refused("$full$: another type is called $name$ too"));
-        }
-        page.fill("line", "pub mod $name$\n");
-        if self.roots.get("definitions").contains(page.get("line")) {
-            return Err(page.refused("$full$: $name$ is the name of a proof of another type"));
-        }
         self.roots.copy(page, &["name", "module"]);
         let key = order_key(page.alloc(), page.get("module"))?;
         self.roots.set("key", &key);
@@ -284,9 +281,6 @@ impl Package {
             return Ok(());
         }
         let mut page = Words::like(&self.base);
-        if self.roots.get("modules").contains("mod services\n") {
-            return Err(page.refused("a type and the services have the name services"));
-        }
         self.roots.append("modules", "mod services\n");
         self.add(&mut page, "src/services.rt", code)
     }

@@ -81,12 +81,8 @@ impl Package {
         page: &mut Words,
         proof: String,
     ) -> Result<(), GenerateError> {
-        page.fill("line", "pub mod $name$Stays\n");
-        if self.roots.get("definitions").contains(page.get("line")) {
-            return Err(page.refused("$full$: another type is called $name$Stays"));
-        }
-        self.roots.copy(page, &["line"]);
-        self.roots.append("definitions", "$line$");
+        self.roots.copy(page, &["name"]);
+        self.roots.append("definitions", "pub mod $name$Stays\n");
         self.add(page, "specs/$name$Stays.antt", proof)
     }
 

@@ -2,7 +2,8 @@
 use crate::comments::{put_comment, set_heading};
 use wire_descriptor::MethodDescriptorProto;
 use wire_schema::{
-    GenerateError, Schema, ServiceType, Template, Words, constant_name, variant_name, word_name,
+    GenerateError, Schema, ServiceType, Template, TypeNames, Words, apart, constant_name,
+    variant_name, word_name,
 };
 
 // The widest line, and the longest name of which a list has several a line.
@@ -54,8 +55,9 @@ const OF_METHOD: [Template; 3] = [
 /// The module of the services of the files, or nothing where they have none.
 pub(crate) fn services_of(base: &Words, schema: &Schema) -> Result<String, GenerateError> {
     let mut page = Words::like(base);
+    let mut names = TypeNames::new(page.alloc());
     for service in &schema.services {
-        put_service(&mut page, schema, service)?;
+        put_service(&mut page, schema, service, &mut names)?;
     }
     if page.get("of_services").is_empty() {
         return page.finish("of_services");
@@ -69,13 +71,21 @@ fn put_service(
     page: &mut Words,
     schema: &Schema,
     service: &ServiceType,
+    names: &mut TypeNames,
 ) -> Result<(), GenerateError> {
     page.copy(&service.words, &["name", "place"]);
     page.set("full", service.words.get("full").trim_start_matches('.'));
     page.fill_all(&[("constants", ""), ("types", ""), ("listed", "")]);
-    stop_on_same(page, "$name$")?;
+    let name = names.given("", page.get("name"))?;
+    page.set("name", &name);
+    let mut constants = Vec::new(page.alloc());
+    for name in ["NAME", "METHODS"] {
+        constants.push(String::from_str(page.alloc(), name)?)?;
+    }
     for (index, method) in service.descriptor.method.iter().enumerate() {
         page.index("index", index);
+        page.set("proto", &method.name);
+        name_method(page, names, &mut constants)?;
         put_method(page, schema, method)?;
     }
     page.index("count", service.descriptor.method.len());
@@ -89,24 +99,11 @@ fn put_service(
     Ok(())
 }
 
-// No two types of the module have one name.
-fn stop_on_same(page: &mut Words, name: &str) -> Result<(), GenerateError> {
-    page.fill("called", name);
-    page.fill("line", "pub struct $called$;\n");
-    let line = page.get("line");
-    if page.get("of_services").contains(line) || page.get("types").contains(line) {
-        return Err(page.refused("$full$: another service or method is called $called$ too"));
-    }
-    Ok(())
-}
-
 fn put_method(
     page: &mut Words,
     schema: &Schema,
     method: &MethodDescriptorProto,
 ) -> Result<(), GenerateError> {
-    page.set("proto", &method.name);
-    name_method(page)?;
     page.set("request", method.input_type.trim_start_matches('.'));
     page.set("response", method.output_type.trim_start_matches('.'));
     set_type(page, schema, "request_type", &method.input_type)?;
@@ -124,20 +121,27 @@ fn put_method(
 
 // What the constant of a method is called, and its type. One that is called as another before it,
 // or as a constant of each service, has its place behind it.
-fn name_method(page: &mut Words) -> Result<(), GenerateError> {
+fn name_method(
+    page: &mut Words,
+    names: &mut TypeNames,
+    constants: &mut Vec<String>,
+) -> Result<(), GenerateError> {
     let alloc = page.alloc();
     let word = word_name(alloc, page.get("proto"))?;
-    page.set("constant", &constant_name(alloc, &word)?);
+    let constant = constant_name(alloc, &word)?;
+    page.set("constant", &constant);
     let name = variant_name(alloc, page.get("proto"))?;
     page.set("type", &name);
     page.fill("type", "$name$$type$");
-    page.fill("line", "$name$::$constant$\n");
-    let is_taken = page.get("listed").contains(page.get("line"))
-        || matches!(page.get("constant"), "NAME" | "METHODS");
-    if is_taken {
+    if constants.contains(&constant) {
         page.append_all(&[("constant", "_$index$"), ("type", "$index$")]);
     }
-    stop_on_same(page, "$type$")
+    let constant = apart(alloc, page.take("constant"), constants)?;
+    page.set("constant", &constant);
+    constants.push(constant)?;
+    let name = names.given("", page.get("type"))?;
+    page.set("type", &name);
+    Ok(())
 }
 
 // The methods of a service as the formatter lays out a list: in a line, of short names as many a

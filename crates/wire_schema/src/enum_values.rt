@@ -21,6 +21,7 @@ pub fn values_of(
 ) -> Result<Vec<NamedValue>, GenerateError> {
     let mut values: Vec<NamedValue> = Vec::new(alloc);
     let mut names = Vec::new(alloc);
+    names.push(String::from_str(alloc, type_name)?)?;
     for value in &descriptor.value {
         let is_alias = values.iter().any(|it| it.number == value.number);
         let mut name = if is_alias {

@@ -3,10 +3,11 @@ use crate::closed::set_closed;
 use crate::default::{set_default, stop_on_default};
 use crate::error::GenerateError;
 use crate::features::Features;
+use crate::field_names::FieldNames;
 use crate::item::{Sort, set_item};
 use crate::keeping::{leave_others, set_keeping, set_types};
 use crate::kind::{set_always, set_key, set_kind, set_map};
-use crate::names::{apart, variant_name, word_name};
+use crate::names::{variant_name, word_name};
 use crate::oneof::{Oneof, add_variant, is_new, oneof_of};
 use crate::schema::{MessageType, Schema};
 use crate::words::{Template, Words};
@@ -39,29 +40,19 @@ pub fn fields_of(
         order.push((field.number, place))?;
     }
     order.sort()?;
-    let names = names_of(alloc, &message.descriptor)?;
+    let names = FieldNames::of(alloc, &message.descriptor)?;
     let mut fields = Vec::new(alloc);
     for (_, place) in order {
-        if let (Some(field), Some(name)) = (message.descriptor.field.get(place), names.get(place)) {
+        let name = names.fields.get(place);
+        if let (Some(field), Some(name)) = (message.descriptor.field.get(place), name) {
             let mut words = started(base, &message.words, field)?;
             words.set("field", name);
             words.index("at", place);
-            add_field(base, words, schema, message, field, &mut fields)?;
+            add_field(base, words, schema, message, &names, field, &mut fields)?;
         }
     }
-    names_differ(alloc, &mut fields)?;
     leave_others(&mut fields);
     Ok(fields)
-}
-
-// The names of the fields in the order of the schema, in which no two are one.
-fn names_of(alloc: Global, message: &DescriptorProto) -> Result<Vec<String>, GenerateError> {
-    let mut names = Vec::new(alloc);
-    for field in &message.field {
-        let name = apart(alloc, word_name(alloc, &field.name)?, &names)?;
-        names.push(name)?;
-    }
-    Ok(names)
 }
 
 // Puts a field behind others, or into its oneof.
@@ -70,6 +61,7 @@ fn add_field(
     mut words: Words,
     schema: &Schema,
     message: &MessageType,
+    names: &FieldNames,
     field: &FieldDescriptorProto,
     fields: &mut Vec<Field>,
 ) -> Result<(), GenerateError> {
@@ -83,7 +75,8 @@ fn add_field(
     };
     let variant = variant_of(words, schema, features, field)?;
     if is_new(fields, index) {
-        fields.push(oneof_of(base, schema, message, index)?)?;
+        let name = names.of_oneof(field);
+        fields.push(oneof_of(base, schema, message, index, name)?)?;
     }
     add_variant(index, variant, fields)
 }
@@ -96,34 +89,6 @@ fn stop_on_closed(words: &mut Words) -> Result<(), GenerateError> {
     }
     let why = "$full$.$proto$: closed enums are not generated with unknown=drop or mismatch=keep";
     Err(words.refused(why))
-}
-
-fn names_differ(alloc: Global, fields: &mut [Field]) -> Result<(), GenerateError> {
-    let mut names = Vec::new(alloc);
-    let mut variants = Vec::new(alloc);
-    for field in fields {
-        add_name(alloc, &mut field.words, &mut names)?;
-        if let Some(oneof) = &mut field.oneof {
-            for variant in &mut oneof.variants {
-                add_name(alloc, variant, &mut variants)?;
-            }
-        }
-    }
-    Ok(())
-}
-
-// Puts the name of a field behind those of others, which it is none of.
-fn add_name(
-    alloc: Global,
-    field: &mut Words,
-    names: &mut Vec<String>,
-) -> Result<(), GenerateError> {
-    let name = field.get("field");
-    if names.iter().any(|it| it.as_str() == name) {
-        return Err(field.refused("$full$: two fields are called $field$"));
-    }
-    names.push(String::from_str(alloc, name)?)?;
-    Ok(())
 }
 
 /// The features of a field of a message, or of an extension.

@@ -26,6 +26,9 @@ const TYPES: &str = "AllocError Always AlwaysEmbedded BTreeMap Blob Bool Box Buf
 // underscore behind it.
 const PARAMETERS: &str = "B S";
 
+// Modules of each crate whose names are no words, so that fields may have them.
+const MODULES: &str = "services";
+
 /// Whether a crate can have this name.
 pub(crate) fn is_crate_name(name: &str) -> bool {
     let has_digit_first = name.starts_with(|it: char| it.is_ascii_digit());
@@ -35,9 +38,19 @@ pub(crate) fn is_crate_name(name: &str) -> bool {
     are_signs && !has_digit_first && !WORDS.split(' ').any(|it| it == name)
 }
 
-/// The name of a type, `OuterInner` of `Outer.Inner`.
+/// The name of a type, `OuterInner` of `Outer.Inner`; one that ends as the pages of proofs do,
+/// `ReportStays`, has an underscore behind it.
 pub(crate) fn type_name(alloc: Global, name: &str) -> Result<String, GenerateError> {
-    escaped(variant_name(alloc, name)?, PARAMETERS)
+    let mut name = escaped(variant_name(alloc, name)?, PARAMETERS)?;
+    if name.to_ascii_lowercase(alloc)?.ends_with("stays") {
+        name.push('_')?;
+    }
+    Ok(name)
+}
+
+/// The module of a type of this name.
+pub(crate) fn module_name(alloc: Global, name: &str) -> Result<String, GenerateError> {
+    escaped(word_name(alloc, name)?, MODULES)
 }
 
 /// A name of capitals, `OuterInner` of `Outer.Inner` and of `outer_inner`, as that of a field of a
@@ -104,11 +117,7 @@ pub fn word_name(alloc: Global, name: &str) -> Result<String, GenerateError> {
 
 /// The name, or where others have it, with an underscore and a number behind it: the first that none
 /// of them has, from 2 on.
-pub(crate) fn apart(
-    alloc: Global,
-    name: String,
-    others: &[String],
-) -> Result<String, GenerateError> {
+pub fn apart(alloc: Global, name: String, others: &[String]) -> Result<String, GenerateError> {
     if !others.contains(&name) {
         return Ok(name);
     }

@@ -2,7 +2,7 @@
 use crate::error::GenerateError;
 use crate::field::Field;
 use crate::keeping::put_number;
-use crate::names::{type_name, word_name};
+use crate::names::module_name;
 use crate::schema::{MessageType, Schema};
 use crate::words::{Template, Words};
 
@@ -24,14 +24,15 @@ pub(crate) fn is_new(fields: &[Field], index: i32) -> bool {
     })
 }
 
-/// A oneof without fields, which stands where its first field does.
+/// A oneof without fields, which stands where its first field does, as a field of this name.
 pub(crate) fn oneof_of(
     base: &Words,
     schema: &Schema,
     message: &MessageType,
     index: i32,
+    field: &str,
 ) -> Result<Field, GenerateError> {
-    let mut words = oneof_words(base, message, index)?;
+    let mut words = oneof_words(base, schema, message, index, field)?;
     let mut own = message.descriptor.field.iter();
     if own.any(|it| it.oneof_index == Some(index) && schema.is_charged(it)) {
         words.fill_all(&CHARGED_ONEOF);
@@ -43,6 +44,7 @@ pub(crate) fn oneof_of(
             "full",
             "name",
             "module",
+            "kind_name",
             "place",
             "schema",
             "holder",
@@ -82,7 +84,7 @@ pub(crate) fn add_variant(
     Ok(())
 }
 
-// In a clause a variant is not called as its oneof, and in code not as another.
+// In a clause a variant is not called as its oneof, nor as its enum, and in code not as another.
 fn tell_apart(variant: &mut Words, oneof: &Oneof) {
     if variant.get("variant") == oneof.words.get("name") {
         variant.append("variant", "_");
@@ -90,6 +92,11 @@ fn tell_apart(variant: &mut Words, oneof: &Oneof) {
     let name = variant.get("variant");
     if oneof.variants.iter().any(|it| it.get("variant") == name) {
         variant.append("variant", "_$number$");
+    }
+    let is_enum = variant.get("kind").starts_with("Enum<");
+    let name = variant.get("variant");
+    if name == oneof.words.get("name") || is_enum && name == variant.get("of_name") {
+        variant.append("variant", "_");
     }
 }
 
@@ -117,7 +124,7 @@ const ONEOF: [Template; 18] = [
         "$specs$ $module$-range\n$specs$ $module$-returned\n",
     ),
     ("held", "Option<$name$>"),
-    ("kind", "$name$Kind"),
+    ("kind", "$kind_name$"),
     ("value", "$name$-Value"),
     ("bracketed", "$name$-Value"),
     ("view", "$module$-of m.$field$"),
@@ -128,7 +135,7 @@ const ONEOF: [Template; 18] = [
     ("copy", "copied_option(&self.$field$)?"),
     (
         "code",
-        "crate::$module$ $name$\ncrate::$module$ $name$Kind\n",
+        "crate::$module$ $name$\ncrate::$module$ $kind_name$\n",
     ),
     (
         "definitions",
@@ -145,27 +152,34 @@ const CHARGED_ONEOF: [Template; 4] = [
 ];
 
 // The words of a oneof, as a type and as a field.
-fn oneof_words(base: &Words, message: &MessageType, index: i32) -> Result<Words, GenerateError> {
+fn oneof_words(
+    base: &Words,
+    schema: &Schema,
+    message: &MessageType,
+    index: i32,
+    field: &str,
+) -> Result<Words, GenerateError> {
     let alloc = base.alloc();
     let mut words = Words::like(base);
-    words.copy(&message.words, &["full", "outer", "place", "schema"]);
+    words.copy(&message.words, &["full", "place", "schema"]);
     let place = usize::try_from(index).unwrap_or(usize::MAX);
     let Some(descriptor) = message.descriptor.oneof_decl.get(place) else {
         return Err(words.refused("$full$: a field of no oneof that is there"));
     };
-    words.set("field", &word_name(alloc, &descriptor.name)?);
+    words.set("field", field);
     words.set("proto", &descriptor.name);
     words.set("holder", message.words.get("module"));
     words.set("holder_name", message.words.get("name"));
     words.number("index", index);
-    words.append_all(&[
-        ("full", ".$proto$"),
-        ("place", ".8.$index$"),
-        ("outer", "$proto$"),
-    ]);
-    let name = type_name(alloc, words.get("outer"))?;
-    words.set("module", &word_name(alloc, &name)?);
-    words.set("name", &name);
+    words.append_all(&[("full", ".$proto$"), ("place", ".8.$index$")]);
+    let name = message.oneof_name(place);
+    words.set("module", &module_name(alloc, name)?);
+    words.set("name", name);
+    words.fill("kind_name", "$name$Kind");
+    let kind_name = schema
+        .names
+        .beside(words.get("crate"), words.get("kind_name"))?;
+    words.set("kind_name", &kind_name);
     words.fill("specs", "Rattle.$crate$.specs.$name$");
     words.fill_all(&ONEOF);
     Ok(words)

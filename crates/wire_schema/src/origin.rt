@@ -1,6 +1,6 @@
 //! What a type has of its file.
 use crate::error::GenerateError;
-use crate::names::{type_name, word_name};
+use crate::names::{module_name, type_name};
 use crate::schema::{MessageType, Origin};
 use crate::words::Words;
 use wire_descriptor::FileDescriptorProto;
@@ -33,7 +33,7 @@ pub(crate) fn inner(
     words.fill("full", "$full$.$name$");
     words.append("outer", "$name$.");
     let name = type_name(alloc, words.get("outer"))?;
-    let module = word_name(alloc, &name)?;
+    let module = module_name(alloc, &name)?;
     words.set("name", &name);
     words.set("module", &module);
     words.ended()?;

@@ -4,6 +4,7 @@ use crate::error::GenerateError;
 use crate::features::Features;
 use crate::origin::{home_of, inner, own_origin};
 use crate::parameters::adapt;
+use crate::type_names::{TypeNames, place_of};
 use crate::words::Words;
 use std::alloc::Global;
 use wire_codec::Message;
@@ -14,6 +15,9 @@ use wire_descriptor::{
 
 // The most message types of one file.
 const MOST_MESSAGES: u32 = 100_000;
+
+// The most message types that stand within one another.
+const MOST_LEVELS: usize = 100;
 
 /// What a type has of its file.
 #[derive(Clone, Copy)]
@@ -38,12 +42,15 @@ pub struct MessageType {
     pub family: Option<usize>,
     /// Whether a clone is seen by contracts as its source is.
     pub is_twin: bool,
+    /// The places of its oneofs, and what their types are called.
+    pub(crate) oneof_names: Vec<(usize, String)>,
 }
 
 impl MessageType {
     // One of which nothing is known yet.
     fn new(words: Words, origin: Origin, descriptor: DescriptorProto) -> MessageType {
         MessageType {
+            oneof_names: Vec::new(words.alloc()),
             words,
             origin,
             descriptor,
@@ -51,6 +58,28 @@ impl MessageType {
             family: None,
             is_twin: true,
         }
+    }
+
+    /// Whether it has a oneof at this place, which does not stand for `optional`.
+    pub(crate) fn has_oneof(&self, place: usize) -> bool {
+        self.descriptor
+            .field
+            .iter()
+            .any(|it| oneof_place(it) == Some(place))
+    }
+
+    /// What the type of the oneof at this place is called.
+    pub(crate) fn oneof_name(&self, place: usize) -> &str {
+        match self.oneof_names.iter().find(|(of, _)| *of == place) {
+            Some((_, name)) => name,
+            None => "",
+        }
+    }
+
+    // How many types it is one of that stand within one another.
+    fn level(&self) -> usize {
+        let outer = self.words.get("outer");
+        outer.chars().filter(|it| *it == '.').count()
     }
 
     // Whether it is the type of a map's entries.
@@ -70,7 +99,15 @@ pub struct EnumType {
     pub descriptor: EnumDescriptorProto,
 }
 
-/// An extension, with the words of what it stands in, and its own `at`.
+/// The place of the oneof that a field is of, which does not stand for `optional`.
+pub(crate) fn oneof_place(field: &FieldDescriptorProto) -> Option<usize> {
+    match field.oneof_index {
+        Some(index) if !field.proto3_optional => usize::try_from(index).ok(),
+        _ => None,
+    }
+}
+
+/// An extension, with the words of what it stands in, its own `at`, and its `function`.
 #[derive(Drop)]
 pub struct Extension {
     pub words: Words,
@@ -102,6 +139,9 @@ pub struct Schema {
     pub extensions: Vec<Extension>,
     /// Those of the files that are to be generated.
     pub services: Vec<ServiceType>,
+    /// The names of types, and of the functions that are extensions.
+    pub names: TypeNames,
+    pub(crate) functions: TypeNames,
     comments: Vec<Comment>,
 }
 
@@ -117,6 +157,8 @@ impl Schema {
             enums: Vec::new(alloc),
             extensions: Vec::new(alloc),
             services: Vec::new(alloc),
+            names: TypeNames::new(alloc),
+            functions: TypeNames::new(alloc),
             comments: Vec::new(alloc),
         };
         for file in &request.proto_file {
@@ -170,9 +212,11 @@ impl Schema {
             features: Features::of_file(file, &mut words)?,
             is_own,
         };
+        let before = self.counts();
         self.add_extensions(&words, "$place$.7.$index$", &file.extension, origin)?;
         self.add_enums(&words, "$place$.5.$index$", &file.enum_type, origin)?;
-        self.add_messages(&mut words, file, origin)
+        self.add_messages(&mut words, file, origin)?;
+        self.name_types(file, home, before)
     }
 
     // The message types of a file, with those within them.
@@ -205,6 +249,10 @@ impl Schema {
         let origin = own_origin(&message)?;
         let extensions = &message.descriptor.extension;
         self.add_extensions(&message.words, "$place$.6.$index$", extensions, origin)?;
+        if !message.descriptor.nested_type.is_empty() && message.level() >= MOST_LEVELS {
+            let mut words = message.words;
+            return Err(words.refused("$full$: more than 100 message types within one another"));
+        }
         self.find_within(&message, origin, pending)?;
         let enums = &message.descriptor.enum_type;
         self.add_enums(&message.words, "$place$.4.$index$", enums, origin)?;
@@ -217,7 +265,7 @@ impl Schema {
         Ok(())
     }
 
-    // The message types within one.
+    // The message types within one, which is not too deep for that.
     fn find_within(
         &self,
         message: &MessageType,
@@ -301,19 +349,12 @@ impl Schema {
         let Some(info) = &file.source_code_info else {
             return Ok(());
         };
-        let mut words = Words::new(self.alloc);
         for location in &info.location {
             if location.leading_comments.is_empty() {
                 continue;
             }
-            words.set("place", &file.name);
-            for number in &location.path {
-                words.number("number", *number);
-                words.append("place", ".$number$");
-            }
-            words.ended()?;
             self.comments.push(Comment {
-                place: words.take("place"),
+                place: place_of(self.alloc, &file.name, &location.path)?,
                 text: documentation(self.alloc, &location.leading_comments)?,
             })?;
         }
