@@ -1,0 +1,3 @@
+pub mod Edit
+pub mod Labels
+pub mod Samples
