@@ -35,16 +35,25 @@ pub record PieceByPiece : Type 0 where
   pub done : (whole : List ℕ) (old now : Held) → IsWrittenTo whole old now []
       → Writes whole old now (Ok tt)
 
--- the text stands in the slice at the place, behind is the place behind it, all else is as it was,
--- and it is the same slice
-pub record FillsSlice (text old new : List ℕ) (name same place behind : ℕ) : Type 0 where
-  pub written : new ≡ take place old ++ text ++ drop (place + length text) old
-  pub moved : behind ≡ place + length text
-  pub same_slice : same ≡ name
+-- all, with the text from a place on in the stead of as many of its elements
+abbrev pub spliced : ℕ → List ℕ → List ℕ → List ℕ
+spliced place text all = take place all ++ text ++ drop (place + length text) all
 
--- a text for which there is room in a slice is written
-abbrev pub WhatFitsIsWritten : Type 0
-WhatFitsIsWritten = (text old new : List ℕ) (name same place behind : ℕ)
-    (r : Result (Unit {0}) EncodeError) → place + length text ≤ length old → behind ≤ length new
-    → Writes text (in_slice name old place) (in_slice same new behind) r
-    → FillsSlice text old new name same place behind
+-- the text stands in the slice at the place, behind is the place behind it, and all else is as it was
+pub record FillsSlice (text : List ℕ) (place : ℕ) (old new : List ℕ) (behind : ℕ) : Type 0 where
+  pub room : place + length text ≤ length old
+  pub moved : behind ≡ place + length text
+  pub written : new ≡ spliced place text old
+
+-- A text for which there is room in a slice is written: the call is not refused, and what the slice
+-- holds then, as a sink, says how it is filled, and that it is the same slice.
+pub record WhatFitsIsWritten : Type 0 where
+  pub succeeds : (text old : List ℕ) (name place : ℕ) (now : Held)
+      (r : Result (Unit {0}) EncodeError) → place + length text ≤ length old
+      → Writes text (in_slice name old place) now r → r ≡ Ok tt
+  pub fills : (text old new : List ℕ) (name same place behind : ℕ)
+      → place + length text ≤ length old → behind ≤ length new
+      → in_slice same new behind ≡ followed_by (in_slice name old place) text
+      → FillsSlice text place old new behind
+  pub same_slice : (text old new : List ℕ) (name same place behind : ℕ)
+      → in_slice same new behind ≡ followed_by (in_slice name old place) text → same ≡ name

@@ -99,6 +99,40 @@ pub trait EncodeSink {
         self.put_slice(bytes)
     }
 
+    /// Appends the shortest varint of a number, as a tag, and four bytes, the lowest first: one put
+    /// where the varint is a byte. Refused where a byte of the varint is, or the four are, and then
+    /// leaves what stands before.
+    #[inline(always)]
+    final fn put_fixed32(&mut self, first: u64, value: u32) -> Result<(), EncodeError>
+        ensures { Writes (shortest_varint first ++ to_le_bytes w32 value)
+            (held self.old) (held self.new) result }
+    {
+        laws::two_parts();
+        laws::put_is_a_write();
+        if first < 0x80 {
+            return self.put_slice(&tagged_fixed32(first as u8, value));
+        }
+        self.put_varint(first)?;
+        self.put_u32_le(value)
+    }
+
+    /// Appends the shortest varint of a number, as a tag, and eight bytes, the lowest first: one put
+    /// where the varint is a byte. Refused where a byte of the varint is, or the eight are, and then
+    /// leaves what stands before.
+    #[inline(always)]
+    final fn put_fixed64(&mut self, first: u64, value: u64) -> Result<(), EncodeError>
+        ensures { Writes (shortest_varint first ++ to_le_bytes w64 value)
+            (held self.old) (held self.new) result }
+    {
+        laws::two_parts();
+        laws::put_is_a_write();
+        if first < 0x80 {
+            return self.put_slice(&tagged_fixed64(first as u8, value));
+        }
+        self.put_varint(first)?;
+        self.put_u64_le(value)
+    }
+
     /// The bytes may be kept as they are, with no copy. They are given up where the put is refused.
     fn put_shared(&mut self, bytes: Bytes) -> Result<(), EncodeError>
         ensures { Puts bytes (held self.old) (held self.new) result }
@@ -163,40 +197,6 @@ impl EncodeSink for Vec<u8> {
         push_delimited(first, bytes, self)?;
         Ok(())
     }
-}
-
-/// Writes the shortest varint of a number, as a tag, and four bytes, the lowest first: one put
-/// where the varint is a byte. Refused where a byte of the varint is, or the four are, and then
-/// leaves what stands before.
-#[inline(always)]
-pub fn put_fixed32<S: EncodeSink>(first: u64, value: u32, sink: &mut S) -> Result<(), EncodeError>
-    ensures { Writes (shortest_varint first ++ to_le_bytes w32 value)
-        (S.held sink.old) (S.held sink.new) result }
-{
-    laws::two_parts();
-    laws::put_is_a_write();
-    if first < 0x80 {
-        return sink.put_slice(&tagged_fixed32(first as u8, value));
-    }
-    sink.put_varint(first)?;
-    sink.put_u32_le(value)
-}
-
-/// Writes the shortest varint of a number, as a tag, and eight bytes, the lowest first: one put
-/// where the varint is a byte. Refused where a byte of the varint is, or the eight are, and then
-/// leaves what stands before.
-#[inline(always)]
-pub fn put_fixed64<S: EncodeSink>(first: u64, value: u64, sink: &mut S) -> Result<(), EncodeError>
-    ensures { Writes (shortest_varint first ++ to_le_bytes w64 value)
-        (S.held sink.old) (S.held sink.new) result }
-{
-    laws::two_parts();
-    laws::put_is_a_write();
-    if first < 0x80 {
-        return sink.put_slice(&tagged_fixed64(first as u8, value));
-    }
-    sink.put_varint(first)?;
-    sink.put_u64_le(value)
 }
 
 // A varint of one byte, and four bytes behind it, the lowest first.

@@ -323,8 +323,8 @@ pub fn piece_by_piece()
     ensures { PieceByPiece }
 {}
 
-/// A text for which a slice has room is written into it, whatever wrote it, and all else of the
-/// slice stays.
+/// A call that writes a text for which a slice has room succeeds. Whatever wrote it, the text stands
+/// in the slice then, and all else of the slice stays.
 pub fn what_fits_is_written()
     ensures { WhatFitsIsWritten }
 {}

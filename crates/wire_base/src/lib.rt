@@ -24,7 +24,7 @@ mod unknown_fields_view;
 mod varint;
 
 pub use decode_context::{DEFAULT_UNKNOWN_FIELD_LIMIT, DecodeContext, RECURSION_LIMIT};
-pub use encode_sink::{EncodeSink, put_fixed32, put_fixed64};
+pub use encode_sink::EncodeSink;
 pub use error::{DecodeError, EncodeError};
 pub use flat_walk::{UnknownSpanCharge, register_unknown_record};
 pub use payload::{copy_bytes, decode_length, take_bytes};

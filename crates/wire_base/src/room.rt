@@ -5,9 +5,10 @@ ghost use Rattle.wire_base.specs.Sink.{in_slice};
 use crate::encode_sink::EncodeSink;
 use crate::error::EncodeError;
 
-/// A slice of the caller's as a sink: the bytes before the place are those that were put. What does
-/// not fit is `LengthOverflow`, and leaves the slice and the place as they were. No memory is asked
-/// for. Behind the place the slice stays as it was lent.
+/// A slice of the caller's as a sink: the bytes before the place are those that were put. A put that
+/// does not fit is `LengthOverflow`, and leaves the slice and the place as they were; a call of
+/// several puts leaves those before the refused one. No memory is asked for. Behind the place the
+/// slice stays as it was lent.
 #[derive(Drop)]
 pub struct Room<'a> {
     pub room: &'a mut [u8],

@@ -1,9 +1,8 @@
 -- What a put answers to C.
-use Rattle.std.specs.Prelude.{◌≡◌, ℕ, List, Result, Ok, Err, OnOk, OnErr, IfOk, IfErr}
-use Rattle.wire_base.specs.FieldNumber.{IsFieldNumber}
+use Rattle.std.specs.Prelude.{◌≡◌, ℕ, List, Result, Ok, Err}
 use Rattle.wire_write.specs.declared.put.PutError.{PutError}
 use Rattle.wire_write.specs.declared.put.PutError.TheVariants.{InvalidFieldNumber, NoRoom}
-use Rattle.wire_write.specs.Put.{Puts, PutFault}
+use Rattle.wire_write.specs.Put.{PutsOrNot}
 use Rattle.wire_c.specs.declared.put.Writer.{Writer}
 
 abbrev pub put_status : Result ℕ PutError → ℕ
@@ -17,13 +16,10 @@ told (Ok behind) w = record { place = behind; wanted = 0 }
 told (Err InvalidFieldNumber) w = record { place = w.place; wanted = 0 }
 told (Err (NoRoom wanted)) w = record { place = w.place; wanted = wanted }
 
--- a record of this number and text was put, or was refused
-pub record PutAnswers (number : ℕ) (text : List ℕ) (old new : List ℕ) (before after : Writer)
+-- a record of this number and text was put, or was refused, and C is told so
+pub record TellsPut (number : ℕ) (text : List ℕ) (old new : List ℕ) (before after : Writer)
     (status : ℕ) : Type 0 where
   pub put : Result ℕ PutError
-  pub ok : IfOk put (Puts text before.place old new)
-  pub is_number : OnOk put (IsFieldNumber number)
-  pub err : IfErr put (PutFault number text before.place old)
-  pub unchanged : OnErr put (new ≡ old)
+  pub result : PutsOrNot number text before.place old new put
   pub writer : after ≡ told put before
   pub answer : status ≡ put_status put

@@ -19,7 +19,7 @@ use Rattle.wire_read.specs.Last.{FoundLast}
 use Rattle.wire_read.specs.Numbers.{status_of, told_fault}
 use Rattle.wire_write.specs.declared.shortest.ShortestError.{ShortestError}
 use Rattle.wire_write.specs.declared.shortest.ShortestError.TheVariants as errors
-use Rattle.wire_write.specs.Put.{Puts}
+use Rattle.wire_base.specs.WriteLaws.{FillsSlice}
 use Rattle.wire_write.specs.Shortest.{Decodes, ShortestFault}
 
 -- the limits have at most 100 levels, and the call does as is said; or they have more, and nothing
@@ -57,7 +57,7 @@ ToldError (errors.NoRoom wanted) len len_then before after status =
 pub record Shortens (l : Limits) (all old new : List ℕ) (len len_then : ℕ)
     (before after : FaultNumbers) (status : ℕ) : Type 0 where
   pub written : Result ℕ ShortestError
-  pub ok : IfOk written (λ n. (fs : Fields) × Decodes l fs all × Puts (text_of fs) 0 old new n)
+  pub ok : IfOk written (λ n. (fs : Fields) × Decodes l fs all × FillsSlice (text_of fs) 0 old new n)
   pub err : IfErr written (ShortestFault l all old)
   pub unchanged : OnErr written (new ≡ old)
   pub told_ok : IfOk written (λ n. (len_then ≡ n) × (after ≡ before) × (status ≡ 0))

@@ -5,7 +5,7 @@ ghost use Rattle.wire_base.specs.Field.{varint, fixed32, fixed64, bytes};
 ghost use Rattle.wire_base.specs.Tag.{tag_text};
 ghost use Rattle.wire_base.specs.Text.{record_text};
 ghost use Rattle.wire_scalar.specs.ValueMap.{sint64};
-ghost use Rattle.wire_c.specs.Put.{PutAnswers, put_status, told};
+ghost use Rattle.wire_c.specs.Put.{TellsPut, put_status, told};
 
 use crate::status::{NO_ROOM, OK};
 use wire_write::PutError;
@@ -52,7 +52,7 @@ pub extern "C" fn gtv_put_varint(
     number: u32,
     value: u64,
 ) -> u32
-    ensures { PutAnswers number (record_text number (varint value))
+    ensures { TellsPut number (record_text number (varint value))
         room.old room.new writer.old writer.new result }
 {
     tell(
@@ -64,7 +64,7 @@ pub extern "C" fn gtv_put_varint(
 /// Writes a record of type `sint64` or `sint32`.
 #[unsafe(no_mangle)]
 pub extern "C" fn gtv_put_sint(writer: &mut Writer, room: &mut [u8], number: u32, value: i64) -> u32
-    ensures { PutAnswers number (record_text number (varint (sint64.enc value)))
+    ensures { TellsPut number (record_text number (varint (sint64.enc value)))
         room.old room.new writer.old writer.new result }
 {
     tell(
@@ -81,7 +81,7 @@ pub extern "C" fn gtv_put_fixed32(
     number: u32,
     value: u32,
 ) -> u32
-    ensures { PutAnswers number (record_text number (fixed32 value))
+    ensures { TellsPut number (record_text number (fixed32 value))
         room.old room.new writer.old writer.new result }
 {
     tell(
@@ -98,7 +98,7 @@ pub extern "C" fn gtv_put_fixed64(
     number: u32,
     value: u64,
 ) -> u32
-    ensures { PutAnswers number (record_text number (fixed64 value))
+    ensures { TellsPut number (record_text number (fixed64 value))
         room.old room.new writer.old writer.new result }
 {
     tell(
@@ -115,7 +115,7 @@ pub extern "C" fn gtv_put_bytes(
     number: u32,
     payload: &[u8],
 ) -> u32
-    ensures { PutAnswers number (record_text number (bytes payload.now))
+    ensures { TellsPut number (record_text number (bytes payload.now))
         room.old room.new writer.old writer.new result }
 {
     tell(
@@ -127,7 +127,7 @@ pub extern "C" fn gtv_put_bytes(
 /// Writes the start tag of a group.
 #[unsafe(no_mangle)]
 pub extern "C" fn gtv_put_group_start(writer: &mut Writer, room: &mut [u8], number: u32) -> u32
-    ensures { PutAnswers number (tag_text number StartGroup)
+    ensures { TellsPut number (tag_text number StartGroup)
         room.old room.new writer.old writer.new result }
 {
     tell(
@@ -139,7 +139,7 @@ pub extern "C" fn gtv_put_group_start(writer: &mut Writer, room: &mut [u8], numb
 /// Writes the end tag of a group.
 #[unsafe(no_mangle)]
 pub extern "C" fn gtv_put_group_end(writer: &mut Writer, room: &mut [u8], number: u32) -> u32
-    ensures { PutAnswers number (tag_text number EndGroup)
+    ensures { TellsPut number (tag_text number EndGroup)
         room.old room.new writer.old writer.new result }
 {
     tell(

@@ -1,7 +1,7 @@
 -- A text with its length written before it.
-use Rattle.std.proofs.Common.{◌≡◌, ℕ, ◌≤◌, List, length, Result, Ok, Err, subst, arith, inr}
+use Rattle.std.proofs.Common.{◌≡◌, ℕ, ◌≤◌, List, length, Result, Ok, Err, subst, arith, inl, inr}
 use Rattle.std.proofs.Common.{refl}
-use Rattle.std.proofs.lemmas.Result.{on_ok_weaker}
+use Rattle.std.proofs.lemmas.Result.{on_ok_weaker, IfErr-weaker}
 use Rattle.wire_base.specs.declared.error.EncodeError.{EncodeError}
 use Rattle.wire_base.specs.declared.error.EncodeError.TheVariants.{OutOfMemory}
 use Rattle.wire_base.specs.WriteLaws.{TwoParts, PieceByPiece}
@@ -13,7 +13,12 @@ use Rattle.wire_codec.specs.Encoding.{Encodes, TriesToWrite}
 -- a write, by a call that wants memory for the sizes too
 pub encodes : (text : List ℕ) (old new : Held) (r : Result (Unit {0}) EncodeError)
     → Writes text old new r → Encodes text old new r
-encodes text old new r w = record { ok = w.ok; err = w.err; cause = w.cause }
+encodes text old new r w = record {
+  ok = w.ok;
+  err = w.err;
+  cause = w.cause;
+  memory = IfErr-weaker r _ _ (λ e grows is. inl (grows is)) w.memory;
+}
 
 -- memory was refused before anything was written
 pub unwritten : PieceByPiece → (text : List ℕ) (old : Held)
@@ -29,6 +34,7 @@ unwritten pieces text old =
         held = none.written.ok;
       };
       cause = tt;
+      memory = λ is. inr refl;
     }
 
 -- the same, whether the message may have so many bytes or not

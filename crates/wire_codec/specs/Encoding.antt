@@ -7,7 +7,7 @@ use Rattle.wire_base.specs.declared.error.EncodeError.TheVariants.{OutOfMemory}
 use Rattle.wire_codec.specs.Records.{Records}
 use Rattle.wire_codec.specs.Sizes.{sizes}
 use Rattle.wire_codec.specs.Tape.{Tape}
-use Rattle.wire_base.specs.Sink.{Held, KeepsFront, WriteAnswers, followed_by}
+use Rattle.wire_base.specs.Sink.{Held, Grows, KeepsFront, WriteAnswers, followed_by}
 
 -- the sizes of the records alone, all of them read
 abbrev pub read_tape : Records → Tape
@@ -18,12 +18,13 @@ abbrev pub IsRefused : {T : Type 0} → EncodeError → Result T EncodeError →
 IsRefused why result = IsErrAnd result (λ e. (e ≡ why) ⊎ (e ≡ OutOfMemory))
 
 -- A text is measured and then written: all of it behind old, or a front of it and the cause. Memory
--- may be wanted for the sizes too.
+-- may be wanted for the sizes too, before anything is written.
 pub record Encodes (text : List ℕ) (old new : Held) (result : Result (Unit {0}) EncodeError)
     : Type 0 where
   pub ok : OnOk result (new ≡ followed_by old text)
   pub err : OnErr result (KeepsFront old text new)
   pub cause : WriteAnswers old.most old.bytes text result
+  pub memory : IfErr result (λ e. e ≡ OutOfMemory → (Grows old.lent) ⊎ (new ≡ old))
 
 -- What is asked for is answered where a message may have so many bytes. Else the call is refused.
 pub record TriesToAnswer {T : Type 0} (result : Result T EncodeError) (len : ℕ)

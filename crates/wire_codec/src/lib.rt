@@ -29,9 +29,9 @@ pub use wire_base::{
     EncodeSink, FIRST_RESERVED_FIELD_NUMBER, LAST_RESERVED_FIELD_NUMBER, MAX_FIELD_NUMBER,
     RECURSION_LIMIT, Room, Rope, RopeBuf, Tag, UnknownField, UnknownFieldData, UnknownFields,
     UnknownFieldsView, UnknownSpanCharge, WireType, check_wire_type, copy_bytes, count_varints,
-    decode_length, decode_unknown_field, decode_varint, encode_varint, put_fixed32, put_fixed64,
-    register_unknown_record, skip_field, skip_field_depth, tag_as_number, tag_len, take_bytes,
-    varint_len, wire_type_mismatch,
+    decode_length, decode_unknown_field, decode_varint, encode_varint, register_unknown_record,
+    skip_field, skip_field_depth, tag_as_number, tag_len, take_bytes, varint_len,
+    wire_type_mismatch,
 };
 
 // Scalars, the numbers of the varint types, packed lists of them, and borrowed groups.

@@ -12,7 +12,7 @@ use Rattle.wire_read.specs.Faults.{IsFault}
 use Rattle.wire_read.specs.Numbers.{status_of, told_fault}
 use Rattle.wire_write.specs.declared.shortest.ShortestError.{ShortestError}
 use Rattle.wire_write.specs.declared.shortest.ShortestError.TheVariants as errors
-use Rattle.wire_write.specs.Put.{Puts}
+use Rattle.wire_base.specs.WriteLaws.{FillsSlice}
 use Rattle.wire_write.specs.Shortest.{Decodes, ShortestFault}
 use Rattle.wire_page.specs.Told.{stopped}
 
@@ -32,7 +32,7 @@ ToldError (errors.NoRoom wanted) len stop = (len ≡ wanted) × (stop ≡ stoppe
 pub record Shortens (l : Limits) (all old new : List ℕ) (len : ℕ)
     (stop : FaultNumbers) : Type 0 where
   pub written : Result ℕ ShortestError
-  pub ok : IfOk written (λ n. (fs : Fields) × Decodes l fs all × Puts (text_of fs) 0 old new n)
+  pub ok : IfOk written (λ n. (fs : Fields) × Decodes l fs all × FillsSlice (text_of fs) 0 old new n)
   pub err : IfErr written (ShortestFault l all old)
   pub unchanged : OnErr written (new ≡ old)
   pub told_ok : IfOk written (λ n. (len ≡ n) × (stop ≡ stopped 1))

@@ -10,7 +10,7 @@ ghost use Rattle.wire_base.specs.Varint.{shortest_varint};
 ghost use Rattle.wire_scalar.specs.ValueMap.{int32, int64, uint32, uint64, sint32, sint64, bool, fixed32, fixed64, sfixed32, sfixed64};
 
 use crate::scalar::{Bool, Int32, Int64, Sint32, Sint64, Uint32, Uint64, VarintScalar};
-use wire_base::{EncodeError, EncodeSink, Tag, WireType, put_fixed32, put_fixed64, tag_as_number};
+use wire_base::{EncodeError, EncodeSink, Tag, WireType, tag_as_number};
 
 /// Writes a field of type `int32`, of a number from 1 to `MAX_FIELD_NUMBER`: its tag, and the value
 /// as `encode_int32` does. Refused where the sink refuses a put.
@@ -129,7 +129,7 @@ pub fn put_fixed32_field<S: EncodeSink>(
     ensures { Writes (record_text number (four_bytes (fixed32.enc value)))
         (S.held sink.old) (S.held sink.new) result }
 {
-    put_fixed32(tag_as_number(number, WireType::Fixed32), value, sink)
+    sink.put_fixed32(tag_as_number(number, WireType::Fixed32), value)
 }
 
 /// Writes a field of type `fixed64`, of a number from 1 to `MAX_FIELD_NUMBER`: its tag, and the
@@ -144,7 +144,7 @@ pub fn put_fixed64_field<S: EncodeSink>(
     ensures { Writes (record_text number (eight_bytes (fixed64.enc value)))
         (S.held sink.old) (S.held sink.new) result }
 {
-    put_fixed64(tag_as_number(number, WireType::Fixed64), value, sink)
+    sink.put_fixed64(tag_as_number(number, WireType::Fixed64), value)
 }
 
 /// Writes a field of type `sfixed32`, of a number from 1 to `MAX_FIELD_NUMBER`: its tag, and the

@@ -1,19 +1,10 @@
--- What a put does: the bytes of a text at a place of a room.
-use Rattle.std.specs.Prelude.{◌≡◌, ℕ, ◌+◌, ◌-◌, ◌^◌, ◌<◌, ◌≤◌, List, ◌++◌, length, take, drop, min}
+-- What a put of a record at a place of a room answers.
+use Rattle.std.specs.Prelude.{◌≡◌, ℕ, ◌+◌, ◌-◌, ◌^◌, ◌<◌, List, length, min}
 use Rattle.std.specs.Prelude.{Result, OnOk, OnErr, IfOk, IfErr}
 use Rattle.wire_base.specs.FieldNumber.{IsFieldNumber}
+use Rattle.wire_base.specs.WriteLaws.{FillsSlice}
 use Rattle.wire_write.specs.declared.put.PutError.{PutError}
 use Rattle.wire_write.specs.declared.put.PutError.TheVariants.{InvalidFieldNumber, NoRoom}
-
--- all, with the text from a place on in the stead of as many of its elements
-abbrev pub spliced : ℕ → List ℕ → List ℕ → List ℕ
-spliced place text all = take place all ++ text ++ drop (place + length text) all
-
--- the text stands at the place, behind is the place behind it, and all else is as it was
-pub record Puts (text : List ℕ) (place : ℕ) (old new : List ℕ) (behind : ℕ) : Type 0 where
-  pub room : place + length text ≤ length old
-  pub moved : behind ≡ place + length text
-  pub written : new ≡ spliced place text old
 
 -- a record of this number and text is none, or has no room at the place
 pub data PutFault : ℕ → List ℕ → ℕ → List ℕ → PutError → Type 0 where
@@ -26,7 +17,7 @@ pub data PutFault : ℕ → List ℕ → ℕ → List ℕ → PutError → Type 
 -- what a put of a record of this number and text answers, and what stands in the room then
 pub record PutsOrNot (number : ℕ) (text : List ℕ) (place : ℕ) (old new : List ℕ)
     (result : Result ℕ PutError) : Type 0 where
-  pub ok : IfOk result (Puts text place old new)
+  pub ok : IfOk result (FillsSlice text place old new)
   pub valid : OnOk result (IsFieldNumber number)
   pub err : IfErr result (PutFault number text place old)
   pub unchanged : OnErr result (new ≡ old)

@@ -1,15 +1,12 @@
 //! Items in room of the caller's: records, and the starts and ends of groups.
 ghost use Rattle.std.specs.Prelude.{◌≡◌, ◌+◌, ◌-◌, ◌^◌, ◌<◌, ◌≤◌, true, false, length, min};
 ghost use Rattle.wire_base.specs.Sink.{Writes};
+ghost use Rattle.wire_base.specs.WriteLaws.{FillsSlice};
 ghost use Rattle.wire_read.specs.Reading.{item};
-ghost use Rattle.wire_write.specs.Put.{Puts};
 ghost use Rattle.wire_write.specs.Shortest.{item_text};
 
 use wire_base::laws::what_fits_is_written;
-use wire_codec::{
-    EncodeError, EncodeSink, Room, WireType, put_fixed32, put_fixed64, tag_as_number, tag_len,
-    varint_len,
-};
+use wire_codec::{EncodeError, EncodeSink, Room, WireType, tag_as_number, tag_len, varint_len};
 use wire_read::Value;
 
 /// Whether the shortest encoding of an item takes at most so many bytes. Where there is room for
@@ -63,7 +60,7 @@ pub(crate) fn item_len(number: u32, value: Value<'_>) -> usize
 #[inline(always)]
 pub(crate) fn place_item(room: &mut [u8], place: usize, number: u32, value: Value<'_>) -> usize
     requires { place + length (item_text (item number value)) ≤ length room.old }
-    ensures { Puts (item_text (item number value.entry)) place room.old room.new result }
+    ensures { FillsSlice (item_text (item number value.entry)) place room.old room.new result }
 {
     what_fits_is_written();
     let mut sink = Room { room, place };
@@ -84,8 +81,8 @@ pub(crate) fn put<S: EncodeSink>(
 {
     match value {
         Value::Varint(value) => sink.put_varints(tag_as_number(number, WireType::Varint), value),
-        Value::Fixed64(value) => put_fixed64(tag_as_number(number, WireType::Fixed64), value, sink),
-        Value::Fixed32(value) => put_fixed32(tag_as_number(number, WireType::Fixed32), value, sink),
+        Value::Fixed64(value) => sink.put_fixed64(tag_as_number(number, WireType::Fixed64), value),
+        Value::Fixed32(value) => sink.put_fixed32(tag_as_number(number, WireType::Fixed32), value),
         Value::Bytes(payload) => {
             sink.put_delimited(tag_as_number(number, WireType::LengthDelimited), payload)
         }

@@ -3,9 +3,9 @@ ghost use Rattle.std.specs.Prelude.{◌≡◌, ◌≤◌, length, OnErr, IfOk, I
 ghost use Rattle.wire_base.specs.Field.{Fields};
 ghost use Rattle.wire_base.specs.Sink.{Writes};
 ghost use Rattle.wire_base.specs.Text.{size, text_of};
+ghost use Rattle.wire_base.specs.WriteLaws.{FillsSlice};
 ghost use Rattle.wire_read.specs.Budget.{read_limits};
 ghost use Rattle.wire_read.specs.Faults.{IsFault};
-ghost use Rattle.wire_write.specs.Put.{Puts};
 ghost use Rattle.wire_write.specs.Shortest.{Decodes, ShortestFault};
 
 use crate::item::{item_len, put};
@@ -59,7 +59,7 @@ pub fn write_shortest(
     room: &mut [u8],
 ) -> Result<usize, ShortestError>
     ensures ok { IfOk result (λ len. (fs : Fields) × Decodes (read_limits context.now) fs bytes.now
-        × Puts (text_of fs) 0 room.old room.new len) }
+        × FillsSlice (text_of fs) 0 room.old room.new len) }
     ensures err { IfErr result (ShortestFault (read_limits context.now) bytes.now room.old) }
     ensures unchanged { OnErr result (room.new ≡ room.old) }
 {
@@ -75,7 +75,7 @@ fn write_all(bytes: &[u8], context: &DecodeContext, room: &mut [u8]) -> usize
     requires { (fs : Fields) × Decodes (read_limits context.now) fs bytes.now
         × (size fs ≤ length room.old) }
     ensures { (fs : Fields) × Decodes (read_limits context.now) fs bytes.now
-        × Puts (text_of fs) 0 room.old room.new result }
+        × FillsSlice (text_of fs) 0 room.old room.new result }
 {
     wire_base::laws::one_spelled();
     wire_base::laws::what_fits_is_written();

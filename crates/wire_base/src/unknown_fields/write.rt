@@ -7,7 +7,7 @@ ghost use Rattle.wire_base.specs.Text.{text_of, record_text};
 ghost use Rattle.wire_base.specs.UnknownFields.{one_record, payload_of};
 
 use super::{UnknownField, UnknownFieldData, UnknownFields};
-use crate::encode_sink::{EncodeSink, put_fixed32, put_fixed64};
+use crate::encode_sink::EncodeSink;
 use crate::error::EncodeError;
 use crate::tag::{WireType, put_tag, tag_as_number};
 
@@ -77,10 +77,10 @@ impl UnknownField {
                 sink.put_varints(tag_as_number(number, WireType::Varint), *value)
             }
             UnknownFieldData::Fixed64(value) => {
-                put_fixed64(tag_as_number(number, WireType::Fixed64), *value, sink)
+                sink.put_fixed64(tag_as_number(number, WireType::Fixed64), *value)
             }
             UnknownFieldData::Fixed32(value) => {
-                put_fixed32(tag_as_number(number, WireType::Fixed32), *value, sink)
+                sink.put_fixed32(tag_as_number(number, WireType::Fixed32), *value)
             }
             UnknownFieldData::LengthDelimited(bytes) => {
                 sink.put_delimited(tag_as_number(number, WireType::LengthDelimited), bytes)

@@ -1,4 +1,4 @@
-use Rattle.wire_base.proofs.encode_sink.put_fixed64.Goals as goal
+use Rattle.wire_base.proofs.encode_sink.EncodeSink.put_fixed64.Goals as goal
 
 pub returns : goal.returns
 returns g c = c.two_parts.ensures.behind _ _ _ _ _ tt _ c.in_ok-put_varint.ensures
