@@ -65,6 +65,8 @@ pub fn put<S: EncodeSink>(row: &Row<'_>, sink: &mut S) -> Option<Result<(), Enco
     match row.call {
         "put_varint" => Some(sink.put_varint(row.value())),
         "put_varints" => Some(sink.put_varints(row.number("first").unwrap_or(0), row.value())),
+        "put_fixed32" => Some(sink.put_fixed32(row.number("first").unwrap_or(0), row.value())),
+        "put_fixed64" => Some(sink.put_fixed64(row.number("first").unwrap_or(0), row.value())),
         "put_delimited" => Some(sink.put_delimited(row.value(), row.bytes)),
         "encode_bytes" => Some(encode_bytes(row.bytes, sink)),
         "put_bytes_field" => Some(put_bytes_field(field_number(row), row.bytes, sink)),
