@@ -1,5 +1,8 @@
 pub mod Arms
 pub mod Back
+pub mod ChoiceBack
+pub mod ChoiceSpot
+pub mod ChoiceStays
 pub mod Closed
 pub mod ClosedBack
 pub mod ClosedMaps
@@ -20,12 +23,15 @@ pub mod Measuring
 pub mod MessageBack
 pub mod Messages
 pub mod Nest
+pub mod NestArms
 pub mod NestBack
+pub mod NestChoice
 pub mod NestParts
 pub mod NestPayload
 pub mod NestRange
 pub mod NestRows
 pub mod NestTable
+pub mod NoFields
 pub mod Numbers
 pub mod Oneof
 pub mod OneofBack

@@ -6,6 +6,7 @@ use Rattle.wire_codec.specs.Limits.{Charge}
 use Rattle.wire_codec.specs.Records.{Records}
 use Rattle.wire_fields.specs.declared.recursive.Place.{Place}
 use Rattle.wire_fields.specs.Nest.{Nest, Rows, leaf_of, rows_of}
+use Rattle.wire_fields.specs.NestChoice.{Choice, first_choice, second_choice}
 use Rattle.wire_fields.specs.NestRange.{GoesToLeaf, IsOther, leaf_range, any_beside, all_runs}
 use Rattle.wire_fields.specs.NestTable.{Table, IsThere, if_number}
 use Rattle.wire_fields.specs.Ranges.{Range}
@@ -80,6 +81,13 @@ module _ {A B : Type 0} where
       holds = first_holds;
     }
 
+    -- what the leaf without a oneof is in, so is the sum
+    pub first_kept : (c : Choice A) → ((m : A) → x.Is m → x.Is (c.without m)) → (m : A ⊎ B)
+        → first_stay.Is m → first_stay.Is ((first_choice {B = B} c).without m)
+    unfolding first_stay
+    first_kept c kept (inl m) is = kept m is
+    first_kept c kept (inr m) is = is
+
   module _ {takes : Step B} {start : B} {records : B → Records} {Here : ℕ → Type 0} {r : Range B}
       (x : StepStays takes start records Here r) where
     second_step : (n : ℕ) (p : Payload) (c : Charge) (m z : A ⊎ B) → IsSound n p → Here n
@@ -101,6 +109,12 @@ module _ {A B : Type 0} where
       step = second_step;
       holds = second_holds;
     }
+
+    pub second_kept : (c : Choice B) → ((m : B) → x.Is m → x.Is (c.without m)) → (m : A ⊎ B)
+        → second_stay.Is m → second_stay.Is ((second_choice {A = A} c).without m)
+    unfolding second_stay
+    second_kept c kept (inl m) is = is
+    second_kept c kept (inr m) is = kept m is
 
 -- ---- tables
 
