@@ -1,0 +1,10 @@
+pub mod Line
+pub mod LineStays
+pub mod Money
+pub mod MoneyStays
+pub mod Order
+pub mod OrderAddress
+pub mod OrderAddressStays
+pub mod OrderPayment
+pub mod OrderPaymentStays
+pub mod OrderStays

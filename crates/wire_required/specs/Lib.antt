@@ -1,0 +1,4 @@
+pub mod Missing
+pub mod Parsing
+pub mod Path
+pub mod Seen
