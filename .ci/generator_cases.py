@@ -8,27 +8,40 @@ REFUSED = [
      + "service S { rpc Get(A) returns (google.protobuf.Empty); }", "",
      "S.Get: .google.protobuf.Empty is of a file of no crate that is named, as "
      "import=PACKAGE=CRATE does"),
-    ("proto2", "message A { required int32 x = 1; }", "",
-     ".A.x: required fields want required=optional"),
-    ("proto2", "message A { oneof o { int32 x = 1 [default = 7]; } }", "",
-     ".A.x: default values in oneofs and extensions want defaults=skip"),
+    ("proto2", "message A { required int32 x = 1; optional A y = 2; }", "",
+     ".A: required fields in messages that hold themselves or one another, or in what these hold, "
+     "want required=optional"),
+    ("proto2", "message B { required int32 x = 1; } message A { optional B b = 1; "
+     "optional C c = 2; } message C { repeated A a = 1; optional int32 x = 2; }", "",
+     ".A: required fields in messages that hold themselves or one another, or in what these hold, "
+     "want required=optional"),
     ("proto2", "message A { extensions 4; } extend A { optional bool x = 4 [default = true]; }",
-     "", ".x: default values in oneofs and extensions want defaults=skip"),
+     "", ".x: default values of extensions want defaults=skip"),
     ("proto2", r'message A { optional string x = 1 [default = "\377"]; }', "",
      ".A.x: a default value that is no UTF-8"),
     ("proto2", "enum E { B = 0; } message A { map<int32, E> x = 1; }", ",unknown=drop",
      ".A.x: closed enums are not generated with unknown=drop or mismatch=keep"),
-    ("proto3", "message A { A x = 1; }", "", ".A: a message that holds itself, or what holds it, "
-     "has one to eight other fields, and neither closed enums, unknown=drop nor mismatch=keep"),
-    ("proto3", "message A { B x = 1; int32 y = 2; } message B { repeated A x = 1; }", "",
-     ".B: a message that holds itself, or what holds it, has one to eight other fields, and "
-     "neither closed enums, unknown=drop nor mismatch=keep"),
+    ("proto3", "message A { A x = 1; int32 y = 2; }", ",unknown=drop", ".A: a message that holds "
+     "itself, or what holds it, has neither closed enums, unknown=drop nor mismatch=keep"),
+    ("proto2", "enum E { Z = 0; } message A { optional B x = 1; } message B { repeated A x = 1; "
+     "optional E y = 2; }", "", ".B: a message that holds itself, or what holds it, has neither "
+     "closed enums, unknown=drop nor mismatch=keep"),
     ("proto3", "message A { map<int32, A> x = 1; int32 y = 2; }", "",
-     ".A: messages that hold themselves or one another by a map, a oneof or groups want "
+     ".A: messages that hold themselves or one another by a map or by lists of groups want "
      "encoded=FIELD"),
     ("proto3", "message A { map<int32, B> x = 1; int32 y = 2; } "
      "message B { repeated A x = 1; int32 y = 2; }", "",
-     ".A: messages that hold themselves or one another by a map, a oneof or groups want "
+     ".A: messages that hold themselves or one another by a map or by lists of groups want "
+     "encoded=FIELD"),
+    ("proto2", "message A { repeated group B = 1 { optional A x = 1; } }", "",
+     ".A: messages that hold themselves or one another by a map or by lists of groups want "
+     "encoded=FIELD"),
+    ("proto3", "message A { oneof b { A x = 1; } oneof c { A y = 2; int32 z = 3; } }", "",
+     ".A: messages that hold themselves or one another by several oneofs want encoded=FIELD"),
+    ("proto3", "message A { oneof b { B x = 1; int32 y = 2; } } message B { A z = 1; }", "",
+     ".A: messages that hold one another by a oneof want encoded=FIELD"),
+    ("proto3", "message L { int32 x = 1; } message A { oneof b { A x = 1; L y = 2; } }", "",
+     ".A: messages that hold themselves or one another by a oneof that has other messages want "
      "encoded=FIELD"),
     ("proto3", "message A { B x = 1; } message B { A x = 1; }", ",encoded=A.y",
      ".A.y: encoded= wants a field of messages behind their length"),
@@ -52,13 +65,13 @@ REFUSED = [
      "import=google.protobuf"),
     ("proto3", TYPE, ",element=many", "parameters are crate=NAME, import=PACKAGE=CRATE, "
      "element=BYTES, unknown=keep or drop, mismatch=refuse or keep, enums=open, strings=bytes, "
-     "required=optional, services=skip, defaults=skip, laws=skip, and encoded=FIELD: "
-     "element=many"),
+     "required=optional, services=skip, defaults=skip, laws=skip, split=COUNT, and "
+     "encoded=FIELD: element=many"),
     ("proto2", TYPE.replace("int32", "optional string"), ",strings=texts",
      "parameters are crate=NAME, import=PACKAGE=CRATE, "
      "element=BYTES, unknown=keep or drop, mismatch=refuse or keep, enums=open, strings=bytes, "
-     "required=optional, services=skip, defaults=skip, laws=skip, and encoded=FIELD: "
-     "strings=texts"),
+     "required=optional, services=skip, defaults=skip, laws=skip, split=COUNT, and "
+     "encoded=FIELD: strings=texts"),
     ("proto3", TYPE, ",unknown=drop,mismatch=keep", "mismatch=keep wants unknown=keep"),
     ("proto2", "enum E { B = 0; } message A { optional E x = 1; }", ",unknown=drop",
      ".A.x: closed enums are not generated with unknown=drop or mismatch=keep"),
@@ -69,7 +82,7 @@ INT, MESSAGE, STRING = "type: 5", 'type: 11 type_name: ".A"', "type: 9"
 EDITIONS = [
     (1000, INT, "", "Optional<Int32>"),
     (1000, INT, "field_presence: 2", "Implicit<Int32>"),
-    (1000, INT, "field_presence: 3", ".C.x: required fields want required=optional"),
+    (1000, INT, "field_presence: 3", "Needed<Optional<Int32>>"),
     (1000, INT, "field_presence: 3", "Optional<Int32>", "required=optional"),
     (1000, STRING, "", "Optional<Text>"),
     (1000, STRING, "utf8_validation: 2", "Optional<Text>", "strings=bytes"),
@@ -106,6 +119,24 @@ CHOICES = [
     ("proto2", "message A { required int32 x = 1; optional bytes y = 2 [default = 'a']; }",
      ",required=optional,defaults=skip,laws=skip",
      ["1 => x: Optional<Int32>,", "2 => y: Optional<Blob>,"]),
+    ("proto2", "message A { required int32 x = 1; required E type = 2; } enum E { F = 0; } "
+     "message Bag { repeated A a = 1; map<sint64, A> b = 2; oneof o { A c = 3; int32 d = 4; } "
+     "required group G = 5 { optional bool x = 1; } optional C c_2 = 6; } "
+     "message C { optional int32 x = 1; }", "",
+     ['"x" => x: Needed<Optional<Int32>>,', '"type" => type_: NeededValue<EnumValue<E>>,',
+      "impl Required for A {", "impl Required for Bag {", '"a" => a: EachEmbedded<A, 56>,',
+      '"b" => b: Map<Sint64, AlwaysEmbedded<A>, 64>,', '"o" => o: BagOKind,',
+      'Some(BagO::C(message)) => missing_in(alloc, "c", message),',
+      "Some(BagO::D(_)) => Ok(None),", '"g" => g: Needed<Group<BagG>>,\n        )',
+      "chosen: wire_codec wire_fields wire_required bytes",
+      'within_entries (codes "b") int_key a-missing (b-of-bag m)',
+      'needs (codes "type") (type_-of-a m)']),
+    ("proto2", "message A { " + " ".join(f"required bool x{it} = {it};" for it in range(1, 13))
+     + " }", "",
+     ["..ARequired1To7,\n            ..ARequired8To12,\n        )", "struct ARequired1To7;",
+      "a-missing-1-to-7 m\n    ∷ a-missing-8-to-12 m\n    ∷ [])"]),
+    ("proto2", "message A { required int32 x = 1; optional A y = 2; }", ",required=optional",
+     ["    pub x: Option<i32>,", "chosen: wire_codec wire_fields bytes"]),
     ("proto2", r"""enum E { option allow_alias = true; LOW = 0; e = 0; }
      message A { optional E x = 1 [default = e]; optional float y = 2 [default = 1e-45];
      optional double z = 3 [default = nan]; optional bytes b = 4 [default = "\1\'"];
@@ -116,6 +147,12 @@ CHOICES = [
       "            None => EnumValue::Known(E::Low),", "FloatBits { bits: 1 }",
       "bits: 9221120237041090560,", 'b"\\x01\'"', "(1 ∷ 39 ∷ [])", 'b"\\xff"',
       "ensures { result.now ≡ or_else (255 ∷ []) (option_map (λ b. b.items) self.now.s) }"]),
+    ("proto2", "enum E { LOW = 0; HIGH = 1; } message A { oneof o { int32 x = 1 [default = 7]; "
+     "E y = 2 [default = HIGH]; string z = 3 [default = 'a']; bool w = 4; } }", "",
+     ["ensures { result ≡ or_else (pos 7) (x-of-ao-as (ao-of self.now.o)) }",
+      "            Some(AO::X(value)) => *value,\n            _ => 7,\n",
+      "            _ => EnumValue::Known(E::High),", "use crate::e::E;",
+      "            Some(AO::Z(value)) => value,\n            _ => \"a\",\n"]),
     ("proto3", "enum E { option allow_alias = true; LOW = 0; Least = 0; HIGH = 1; }" + TYPE, "",
      ["pub enum E {\n    Low = 0,\n    High = 1,\n}", "pub const LEAST: E = E::Low;"]),
     ("proto3", 'import "google/protobuf/duration.proto";'
@@ -142,6 +179,13 @@ CHOICES = [
      ["Optional<Blob>", "Repeated<Blob, 24>", "Map<Text, Always<Blob>, 64>", "D(Vec<u8>)"]),
     ("proto2", "message A { optional string a = 1; }", "", ["Optional<Text>"]),
     ("proto3", "message A { string a = 1; }", ",strings=bytes", ["Implicit<Text>"]),
+    # Messages that hold themselves beside nothing, beside more than eight fields, and in oneofs.
+    ("proto3", "message A { A x = 1; }", "",
+     ["abbrev pub A-Known : Type 0\nA-Known =\n    ⊤\n", "        keep(alloc, tag"]),
+    ("proto3", "message A { " + "".join(f"int32 x{it} = {it}; " for it in range(1, 10))
+     + "A y = 10; }", "", ["struct AFields1To8<'a> {", "(fields_1_to_8, field_9).len(cache)"]),
+    ("proto3", "message A { oneof b { A x = 1; int32 y = 2; } int32 z = 3; }", "",
+     ["    X(Box<A>),\n    Y(i32),\n", "#[cycle(a)]", "Some(AB::X(message)) => from_ref(message)"]),
     # Names that the code has for type parameters, and comments with what documentation can't have.
     ("proto2", "enum B { LOW = 0; } message S { optional B b = 1; } "
      "message A { optional S s = 1; }", "",
@@ -217,3 +261,21 @@ CHOICES = [
     ("proto3", "\n\n// a\tb\u2028c\u202ed\u200f\x01e\r\n// f\t\r\n" + TYPE, "",
      ["/// a    b cde\n/// f\n#[derive"]),
 ]
+# A schema that is split into crates of two message types, with the line of crates.txt of each, and
+# the types that it has.
+SPLIT = """enum Kind { KIND_NONE = 0; } enum Unused { UNUSED_NONE = 0; }
+message A { int32 a = 1; Kind kind = 2; }
+message B { A a = 1; repeated C c = 2; string name = 3; }
+message C { bytes x = 1; D d = 2; }
+message D { int32 y = 1; Kind kind = 2; oneof z { A za = 3; int64 zb = 4; } }
+message E { map<string, B> bs = 1; E e = 2; int32 depth = 3; }
+message F { G g = 1; int32 f = 2; }
+message G { F f = 1; int32 g = 2; }
+service S { rpc Place(B) returns (E); }"""
+PARTS = {
+    "split_1: wire_codec wire_fields bytes": ["F", "G", "Unused"],
+    "split_2: wire_codec wire_fields bytes": ["A", "D", "Kind_"],
+    "split_3: wire_codec wire_fields split_2 bytes": ["B_", "C"],
+    "split_4: wire_codec wire_fields split_3 bytes": ["E"],
+    "split: wire_codec wire_fields split_1 split_2 split_3 split_4 bytes": [],
+}

@@ -1,18 +1,24 @@
 //! The proofs of a message type: why a record that a field refuses is refused by the message.
+use crate::choice_answers::put_choice;
 use crate::imports::definition_imports;
+use crate::rest_answers::put_rest;
 use crate::tree::Tree;
 use wire_schema::{Field, GenerateError, Template, Words};
 
 const USES: &str = "\
+Rattle.$crate$.specs.$specs_of_own$ $module$-known
+Rattle.$crate$.specs.$specs_of_own$ $whole$
+$whole_uses$";
+
+// Where there are fields.
+const USES_OF_FIELDS: &str = "\
 Rattle.std.proofs.Common rules
 Rattle.std.proofs.Common sym
 Rattle.std.proofs.Common ◌∙◌
 Rattle.wire_codec.specs.TagView tag_number
 Rattle.wire_fields.specs.Arms arm_err
 Rattle.wire_fields.specs.Arms unlike
-Rattle.$crate$.specs.$specs_of_own$ $module$-known
-Rattle.$crate$.specs.$specs_of_own$ $whole$
-$whole_uses$";
+";
 
 const FAMILY: &str = "use Rattle.$crate$.specs.$family_name$ as family\n";
 
@@ -20,38 +26,66 @@ const HEAD: &str = "\
 $imports$use Rattle.$crate$.proofs.$module$.$goals$.Goals as goal
 ";
 
+// The equations of one level of a message that holds itself, before a record is taken and after it.
+const LEVELS: &str = " _ _
+    (fold_out-$name$$their_trees$$their_ones$ c.args.self.now)
+    (fold-roll-$name$$their_trees$$their_ones$ _)";
+
+const LEAF_USES: &str = "\
+Rattle.wire_fields.specs.NestArms leaf_ok
+Rattle.$crate$.specs.declared.$first_type$.TheFolds fold-roll-$name$
+";
+
+const MEMBER_USES: &str = "\
+$inner_uses$\
+Rattle.wire_fields.specs.NestArms leaf_ok
+Rattle.$crate$.specs.declared.$first_type$.TheFolds fold-roll-$name$
+";
+
 // Of a message, whose calls the rows make, and of the leaf of one that holds itself.
-const OF_WHOLE: [Template; 6] = [
+const OF_WHOLE: [Template; 10] = [
     ("of_call", "c.fields-"),
     ("goals", "$name$MessageFields.merge_field"),
     ("whole", "$module$-shape"),
+    ("all_takes", "$module$-shape.takes"),
+    ("taken_uses", "Rattle.wire_fields.specs.Arms arm_ok\n"),
+    ("taken_by", "arm_ok"),
+    ("levels", ""),
     ("before", ""),
     ("behind", ""),
     ("whole_uses", ""),
 ];
 
-const OF_LEAF: [Template; 6] = [
+const OF_LEAF: [Template; 10] = [
     ("of_call", "c."),
     ("goals", "$name$RecursiveMember.merge_leaf"),
     ("whole", "$module$-leaf"),
+    ("all_takes", "$module$-leaf.takes"),
+    ("taken_uses", LEAF_USES),
+    ("taken_by", "leaf_ok"),
+    ("levels", LEVELS),
     (
         "before",
-        "rw (fold_out-$name$ $name$-Value $module$-one c.args.self.now)\n    (",
+        "rw (fold_out-$name$$their_trees$$their_ones$ c.args.self.now)\n    (",
     ),
     ("behind", ")"),
     (
         "whole_uses",
         "Rattle.$crate$.specs.$name$ $name$-Value\n\
         Rattle.$crate$.specs.$name$ $module$-one\n\
-        Rattle.$crate$.specs.declared.$module$.$name$ fold_out-$name$\n",
+        Rattle.$crate$.specs.declared.$module$.$name$ fold_out-$name$\n$choice_answers$",
     ),
 ];
 
 // Of that of a type of a family.
-const OF_MEMBER: [Template; 6] = [
+const OF_MEMBER: [Template; 10] = [
     ("of_call", "c."),
     ("goals", "$name$RecursiveMemberFamilyHeld.merge_leaf"),
     ("whole", "$module$-leaf"),
+    ("all_takes", "$sum_takes$"),
+    ("taken_uses", MEMBER_USES),
+    ("taken_by", "leaf_ok"),
+    ("levels", LEVELS),
     (
         "before",
         "rw (fold_out-$name$$their_trees$$their_ones$ c.args.self.now)\n    ($err_open$",
@@ -75,91 +109,17 @@ returns-in-$number$-clause-err g c =
 const TAKEN: &str = "
 pub returns-in-$number$-clause-ok : goal.returns-in-$number$-clause-ok
 returns-in-$number$-clause-ok g c =
-    arm_ok $whole$.takes $step$ $number$ _
-    (sym $of_call$field_number.ensures.number ∙ c.in-$number$.is) _ _ _ _
+    $taken_by$ $all_takes$ $step$ $number$ _
+    (sym $of_call$field_number.ensures.number ∙ c.in-$number$.is) _ _$levels$ _ _
     (λ charge p h. $taken$) _ _ _ _ _
     $call$.result $call$.ensures.ok
-";
-
-const REST: &str = "
-pub returns-in_default-clause-err : goal.returns-in_default-clause-err
-returns-in_default-clause-err g c =
-    let n = tag_number c.args.tag in
-    $before$rest_err $module$-known.owns $module$-known.takes keeps _
-    (λ p. $unlike$)
-    _ _ _ _ $of_call$keep.result $of_call$keep.ensures.err$behind$
-";
-
-// Of many fields the search does not find that what is kept is none of theirs.
-const MANY: usize = 16;
-
-const REST_TAKEN: &str = "
-pub returns-in_default-clause-ok : goal.returns-in_default-clause-ok
-returns-in_default-clause-ok g c =
-    let n = tag_number c.args.tag in
-    arm_ok $whole$.takes keeps n n refl _ _ _ _
-    (λ charge p h. to_rest $module$-known.owns $module$-known.takes keeps n
-    (λ p. $unlike$)
-    _ charge _ p h)
-    _ _ _ _ _ $of_call$keep.result $of_call$keep.ensures.ok
-";
-
-const USES_OF_REST_TAKEN: &str = "\
-Rattle.std.proofs.Common refl
-Rattle.wire_fields.specs.Arms arm_ok
-Rattle.wire_fields.specs.Arms to_rest
-";
-
-// The same where they are not kept.
-const REST_DROPPED: &str = "
-pub returns-in_default-clause-err : goal.returns-in_default-clause-err
-returns-in_default-clause-err g c =
-    let n = tag_number c.args.tag in
-    rest_err $module$-known.owns $module$-known.takes drops _
-    (λ p. $unlike$)
-    _ _ _ _ $of_call$pass_over.result
-    (IfErr-weaker $of_call$pass_over.result _ _ (λ e none other. none) $of_call$pass_over.ensures.err)
-";
-
-// The same where a field may leave records to the unknown fields.
-const REST_BESIDE: &str = "
-pub returns-in_default-clause-err : goal.returns-in_default-clause-err
-returns-in_default-clause-err g c =
-    let n = tag_number c.args.tag in
-    arm_err $module$-shape.takes keeps n n refl _ _
-    (λ charge z p h. (
-      z.1,
-      (from_last $module$-known.owns $module$-known.takes keeps_beside n
-          (λ p. $unlike$)
-          ($module$-value c.args.self.now) z charge p h).0,
-    ))
-    _ _ _ $of_call$keep.result $of_call$keep.ensures.err
-";
-
-const USES_OF_REST: &str = "\
-Rattle.wire_fields.specs.Arms rest_err
-Rattle.wire_fields.specs.Shape keeps
-";
-
-const USES_OF_DROPPED: &str = "\
-Rattle.std.proofs.lemmas.Result IfErr-weaker
-Rattle.wire_fields.specs.Arms rest_err
-Rattle.wire_fields.specs.Dropped drops
-";
-
-const USES_OF_BESIDE: &str = "\
-Rattle.$crate$.specs.$name$ $module$-value
-Rattle.wire_fields.specs.Shape keeps
-Rattle.std.proofs.Common refl
-Rattle.wire_fields.specs.Arms from_last
-Rattle.wire_fields.specs.Leaving keeps_beside
 ";
 
 // The search does not find by itself that what a list of numbers takes the message takes, and of
 // other fields it takes seconds to find.
 const USES_OF_TAKEN: &str = "\
+$taken_uses$\
 Rattle.std.proofs.Common refl
-Rattle.wire_fields.specs.Arms arm_ok
 ";
 
 // A field's part of what a message makes of a record, alone and with the unknown fields.
@@ -194,6 +154,14 @@ pub(crate) fn answers_of(
     let mut page = Words::like(base);
     page.copy(&tree.words, &["unlike"]);
     put_whole(&mut page, is_recursive);
+    page.append(
+        "uses",
+        if fields.is_empty() {
+            BARE
+        } else {
+            USES_OF_FIELDS
+        },
+    );
     for field in fields {
         put_field(&mut page, field);
     }
@@ -223,8 +191,15 @@ fn put_whole(page: &mut Words, is_recursive: bool) {
     page.fill("uses", USES);
 }
 
+// The proof that no field owns a number, where there is none.
+const BARE: &str = "Rattle.std.proofs.Common refl\n";
+
 // The answers of the numbers of a field.
 fn put_field(page: &mut Words, field: &Field) {
+    if let (Some(oneof), false) = (&field.oneof, field.words.get("in_choice").is_empty()) {
+        page.copy(&field.words, &["path", "firsts"]);
+        return put_choice(page, oneof);
+    }
     page.copy(
         &field.words,
         &["field", "kind", "definition", "specs", "step", "shape"],
@@ -263,28 +238,6 @@ fn put_variant(page: &mut Words) {
     } else {
         page.fill_all(&[("call", "$own_call$"), ("step", "$own_step$")]);
         put_closing(page);
-    }
-}
-
-// The answers of the arm of all other numbers.
-fn put_rest(page: &mut Words, fields: &[Field]) {
-    let leaves = fields
-        .iter()
-        .any(|it| it.words.get("both") == "both_leaving");
-    let is_kept = page.get("unknown") == "keep";
-    page.fill("rest", "");
-    if leaves {
-        page.append_all(&[("uses", USES_OF_BESIDE), ("rest", REST_BESIDE)]);
-    } else if is_kept {
-        if fields.len() > MANY {
-            page.append_all(&[("uses", USES_OF_REST_TAKEN), ("rest", REST_TAKEN)]);
-        }
-        page.append_all(&[("uses", USES_OF_REST), ("rest", REST)]);
-    } else {
-        page.append_all(&[("uses", USES_OF_DROPPED), ("rest", REST_DROPPED)]);
-    }
-    if page.get("unlike").contains("neither") {
-        page.append("uses", "Rattle.wire_fields.specs.Arms neither\n");
     }
 }
 

@@ -2,9 +2,10 @@
 use crate::arms::put_arm;
 use crate::comments::{put_comment, set_heading};
 use crate::copies::set_clone;
-use crate::defaults::put_defaults;
+use crate::defaults::{put_defaults, use_defaults};
 use crate::field_rows::put_rows;
 use crate::imports::{code_imports, ghost_imports};
+use crate::required::{DOCUMENTED, put_required, use_asked};
 use crate::tree::Tree;
 use wire_schema::{Field, GenerateError, MessageType, Schema, Template, Words};
 
@@ -215,6 +216,8 @@ pub(crate) fn code_of(
     if message.is_twin {
         set_clone(&mut page, fields, tree);
     }
+    use_asked(&mut page, fields);
+    use_defaults(&mut page, fields);
     put_struct(&mut page, schema, message);
     if !fields.is_empty() {
         put_rows(&mut page, fields, tree);
@@ -232,6 +235,7 @@ pub(crate) fn code_of(
         page.append("code", PART);
     }
     page.append("code", "$copied_apart$");
+    put_required(&mut page);
     page.finish("code")
 }
 
@@ -249,9 +253,14 @@ pub(crate) fn set_rest(page: &mut Words) {
 pub(crate) fn set_leaf_rest(page: &mut Words) {
     set_rest(page);
     page.append("uses", "$rest_uses$");
+    let is_bare = page.get("arms").is_empty();
     page.fill(
         "merge",
-        "        match tag.field_number() {\n$arms$            _ => $keep$,\n        }\n",
+        if is_bare {
+            "        $keep$\n"
+        } else {
+            "        match tag.field_number() {\n$arms$            _ => $keep$,\n        }\n"
+        },
     );
 }
 
@@ -273,9 +282,20 @@ fn put_struct(page: &mut Words, schema: &Schema, message: &MessageType) {
         "" => page.append("code", "/// The message `$name$`.\n"),
         comment => put_comment(page, "code", "", comment),
     }
+    if !page.get("requiring").is_empty() {
+        page.append("code", DOCUMENTED);
+    }
     page.set("derived", if message.is_twin { "" } else { "Clone, " });
     let is_member = !page.get("family_name").is_empty();
-    page.append("code", if is_member { CYCLE } else { "" });
+    let is_choice = !page.get("choice").is_empty();
+    page.append(
+        "code",
+        match (is_member, is_choice) {
+            (true, _) => CYCLE,
+            (false, true) => "#[cycle($module$)]\n",
+            (false, false) => "",
+        },
+    );
     page.append("code", STRUCT);
 }
 

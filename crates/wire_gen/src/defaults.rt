@@ -36,6 +36,33 @@ impl $name$ {
 $ghost_imports$$aliases_of_defaults$$getters$}
 ";
 
+// Of a field of a oneof, which holds nothing where another of its fields stands.
+const GHOSTS_OF_VARIANT: &str = "\
+Rattle.$crate$.specs.$oneof_name$ $field$-of-$oneof_module$-as
+Rattle.$crate$.specs.$oneof_name$ $oneof_module$-of
+";
+
+const HELD_IN_ONE: &str =
+    "$mapped_before$($field$-of-$oneof_module$-as ($oneof_module$-of $fields_of_self$.$oneof$))\
+    $mapped_behind$";
+
+const BODY_IN_ONE: &str = "
+    {
+        match &self.$oneof$ {
+            Some($oneof_name$::$variant$(value)) => $default_taken$,
+            _ => $default$,
+        }
+    }
+";
+
+const OF_VARIANT: [Template; 5] = [
+    ("ghosts", GHOSTS),
+    ("ghosts", GHOSTS_OF_VARIANT),
+    ("getters", HEAD),
+    ("getters", "$clause$"),
+    ("getters", BODY_IN_ONE),
+];
+
 const OF_FIELD: [Template; 4] = [
     ("ghosts", GHOSTS),
     ("getters", HEAD),
@@ -66,34 +93,89 @@ pub(crate) fn put_defaults(page: &mut Words, fields: &[Field], holds_itself: boo
         page.fill_all(&ROLLED);
     }
     for field in fields {
-        if field.words.get("default_term").is_empty() {
-            continue;
-        }
-        page.copy(&field.words, &["field", "default", "default_type"]);
-        page.copy(
-            &field.words,
-            &["default_term", "default_seen", "default_before"],
-        );
-        page.copy(
-            &field.words,
-            &["default_behind", "default_match", "default_ghosts"],
-        );
-        page.copy(&field.words, &["default_as"]);
-        page.fill("default_held", HELD);
-        page.fill("clause", CLAUSE[0]);
-        if page.get("clause").chars().count() > 100 {
-            page.fill("clause", CLAUSE[1]);
-        }
-        page.append_all(&OF_FIELD);
-        if !page
-            .get("aliases_of_defaults")
-            .contains(page.get("default_as"))
-        {
-            page.append("aliases_of_defaults", "$default_as$");
+        if let Some(oneof) = &field.oneof {
+            page.set("oneof", field.words.get("field"));
+            page.set("oneof_name", oneof.words.get("name"));
+            page.set("oneof_module", oneof.words.get("module"));
+            for variant in &oneof.variants {
+                put_variant(page, variant);
+            }
+        } else if take_default(page, &field.words) {
+            page.fill("default_held", HELD);
+            put_clause(page);
+            page.append_all(&OF_FIELD);
         }
     }
     if !page.get("getters").is_empty() {
         ghost_imports(page, "    ");
         page.append("code", BLOCK);
     }
+}
+
+/// Brings in the types that the getters of fields of oneofs name, which no other code there does.
+pub(crate) fn use_defaults(page: &mut Words, fields: &[Field]) {
+    for field in fields {
+        if let Some(oneof) = &field.oneof {
+            for variant in &oneof.variants {
+                page.copy(variant, &["held", "of_path", "of_name"]);
+                if !variant.get("default_as").is_empty() {
+                    page.append("uses", "wire_codec EnumValue\n$of_path$ $of_name$\n");
+                } else if variant.get("default_seen") == "result.bits" {
+                    page.append("uses", "wire_fields $held$\n");
+                }
+            }
+        }
+    }
+}
+
+// The words of the default value of a field, where it has one. Whether it has.
+fn take_default(page: &mut Words, field: &Words) -> bool {
+    if field.get("default_term").is_empty() {
+        return false;
+    }
+    page.copy(field, &["field", "default", "default_type"]);
+    page.copy(field, &["default_term", "default_seen", "default_before"]);
+    page.copy(
+        field,
+        &["default_behind", "default_match", "default_ghosts"],
+    );
+    page.copy(field, &["default_as"]);
+    if !page
+        .get("aliases_of_defaults")
+        .contains(page.get("default_as"))
+    {
+        page.append("aliases_of_defaults", "$default_as$");
+    }
+    true
+}
+
+// What the contract says.
+fn put_clause(page: &mut Words) {
+    page.fill("clause", CLAUSE[0]);
+    if page.get("clause").chars().count() > 100 {
+        page.fill("clause", CLAUSE[1]);
+    }
+}
+
+// The getter of a field of a oneof, where it has a default value.
+fn put_variant(page: &mut Words, variant: &Words) {
+    if !take_default(page, variant) {
+        return;
+    }
+    page.copy(variant, &["variant"]);
+    let is_text = page.get("default_match").starts_with('&');
+    page.set("default_taken", if is_text { "value" } else { "*value" });
+    // (a text is seen as its bytes there)
+    let is_mapped = !is_text && !page.get("default_before").is_empty();
+    page.fill(
+        "mapped_before",
+        if is_mapped { "$default_before$" } else { "" },
+    );
+    page.fill(
+        "mapped_behind",
+        if is_mapped { "$default_behind$" } else { "" },
+    );
+    page.fill("default_held", HELD_IN_ONE);
+    put_clause(page);
+    page.append_all(&OF_VARIANT);
 }

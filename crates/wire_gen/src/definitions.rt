@@ -3,6 +3,7 @@ use crate::comments::set_heading;
 use crate::copies::put_copies;
 use crate::imports::definition_imports;
 use crate::laws_pages::has_laws;
+use crate::required::{define_asked, put_missing};
 use crate::returned::{put_range, put_range_page};
 use crate::tree::Tree;
 use wire_schema::{Field, GenerateError, MessageType, Template, Words};
@@ -156,8 +157,10 @@ pub(crate) fn definitions_of(
     if is_read_back {
         put_range(&mut page, fields, tree);
     }
+    define_asked(&mut page, fields);
     definition_imports(&mut page);
     put_text(&mut page, fields);
+    put_missing(&mut page);
     if is_read_back {
         put_range_page(&mut page, fields);
     }

@@ -45,6 +45,9 @@ fn put_extension(
 ) -> Result<(), GenerateError> {
     let mut words = started(page, &extension.words, &extension.descriptor)?;
     let features = features_of(extension.origin.features, &extension.descriptor, &mut words)?;
+    if !words.get("needed").is_empty() {
+        return Err(words.refused("$full$.$proto$: an extension is not required"));
+    }
     stop_on_default(&extension.descriptor, &mut words)?;
     if words.get("unknown") == "drop" {
         return Err(words.refused("$full$.$proto$: extensions are not generated with unknown=drop"));

@@ -1,236 +1,9 @@
-//! The code of message types that hold one another: the enums of all of them pass on what is asked.
-use crate::comments::set_heading;
-use crate::imports::code_imports;
+//! What message types that hold themselves or one another are called, together and each by itself.
 use wire_schema::{GenerateError, Schema, Template, Words};
-
-const FAMILY_USES: &str = "\
-bytes Buf
-std::alloc Global
-wire_codec DecodeContext
-wire_codec DecodeError
-wire_codec EncodeError
-wire_codec EncodeSink
-wire_codec SizeCache
-wire_codec Tag
-wire_fields Place
-wire_fields RecursiveHeld
-wire_fields RecursiveMember
-wire_fields RecursiveSlice
-";
-
-const WHAT: &str = "Messages that hold one another, as one type: $listed$.";
-
-const FAMILY: &str = "\
-$heading$$imports$
-// One of them, moved out of a message or into it.
-#[derive(Drop)]
-pub(crate) enum FamilyHeld {
-$helds$}
-
-// Several of one type.
-#[derive(Clone, Copy)]
-pub(crate) enum FamilySlice<'a> {
-$slices$}
-
-impl RecursiveHeld for FamilyHeld {
-    ghost use Rattle.$crate$.specs.$family_name$.{Family-Leaves};
-    ghost use Rattle.$crate$.specs.$family_name$.{Family-Sorts};
-    ghost use Rattle.$crate$.specs.$family_name$.{family-all};
-    ghost use Rattle.$crate$.specs.$family_name$.{family-held-sort};
-    ghost use Rattle.$crate$.specs.$family_name$.{family-held-value};
-    ghost use Rattle.$crate$.specs.$family_name$.{family-singles};
-
-    ghost Sort = { Family-Sorts };
-
-    ghost Leaf = { Family-Leaves };
-
-    ghost sort = { family-held-sort };
-
-    ghost view = { family-held-value };
-
-    ghost family = { family-all };
-
-    ghost single = { family-singles };
-
-    fn place(&self, number: u32) -> Place {
-        match self {
-$placed$        }
-    }
-
-    fn new_in(&self, alloc: Global, row: usize) -> FamilyHeld {
-        match self {
-$made$        }
-    }
-
-    fn take(&mut self, alloc: Global, row: usize) -> FamilyHeld {
-        match self {
-$taken$        }
-    }
-
-    fn put(&mut self, alloc: Global, row: usize, message: FamilyHeld) -> Result<(), DecodeError> {
-        match self {
-$put$        }
-    }
-
-    fn push(&mut self, row: usize, message: FamilyHeld) -> Result<(), DecodeError> {
-        match self {
-$pushed$        }
-    }
-
-    fn merge_leaf<B: Buf>(
-        &mut self,
-        alloc: Global,
-        tag: Tag,
-        buf: &mut B,
-        context: &mut DecodeContext,
-    ) -> Result<(), DecodeError> {
-        match self {
-$merged$        }
-    }
-}
-
-impl<'a> RecursiveSlice for FamilySlice<'a> {
-    ghost use Rattle.$crate$.specs.$family_name$.{Family-Leaves};
-    ghost use Rattle.$crate$.specs.$family_name$.{Family-Sorts};
-    ghost use Rattle.$crate$.specs.$family_name$.{family-all};
-    ghost use Rattle.$crate$.specs.$family_name$.{family-slice-counted};
-    ghost use Rattle.$crate$.specs.$family_name$.{family-slice-sort};
-    ghost use Rattle.$crate$.specs.$family_name$.{family-slice-values};
-
-    ghost Sort = { Family-Sorts };
-
-    ghost Leaf = { Family-Leaves };
-
-    ghost sort = { family-slice-sort };
-
-    ghost views = { family-slice-values };
-
-    ghost family = { family-all };
-
-    ghost counted = { family-slice-counted };
-
-    fn count(self) -> usize {
-        match self {
-$counts$        }
-    }
-
-    fn rows(self) -> usize {
-        match self {
-$rows$        }
-    }
-
-    fn number(self, row: usize) -> u32 {
-        match self {
-$numbers$        }
-    }
-
-    fn is_grouped(self, row: usize) -> bool {
-        match self {
-$grouped$        }
-    }
-
-    fn row(self, index: usize, row: usize) -> FamilySlice<'a> {
-        match self {
-$row$        }
-    }
-
-    fn run_len(self, index: usize, run: usize, cache: &mut SizeCache) -> Result<u64, EncodeError> {
-        match self {
-$lens$        }
-    }
-
-    fn put_run<S: EncodeSink>(
-        self,
-        index: usize,
-        run: usize,
-        cache: &mut SizeCache,
-        sink: &mut S,
-    ) -> Result<(), EncodeError> {
-        match self {
-$puts$        }
-    }
-}
-";
-
-const OF_MEMBER: [Template; 17] = [
-    ("uses", "crate::$module$ $name$\n"),
-    ("helds", "    $name$($name$),\n"),
-    ("slices", "    $name$(&'a [$name$]),\n"),
-    (
-        "placed",
-        "            FamilyHeld::$name$(_) => $name$::place(number),\n",
-    ),
-    (
-        "made",
-        "            FamilyHeld::$name$(_) => $name$::new_in(alloc, row),\n",
-    ),
-    (
-        "taken",
-        "            FamilyHeld::$name$(own) => own.take(alloc, row),\n",
-    ),
-    (
-        "put",
-        "            FamilyHeld::$name$(own) => own.put(alloc, row, message),\n",
-    ),
-    (
-        "pushed",
-        "            FamilyHeld::$name$(own) => own.push(row, message),\n",
-    ),
-    (
-        "merged",
-        "            FamilyHeld::$name$(own) => own.merge_leaf(alloc, tag, buf, context),\n",
-    ),
-    (
-        "counts",
-        "            FamilySlice::$name$(own) => own.len(),\n",
-    ),
-    (
-        "rows",
-        "            FamilySlice::$name$(_) => $name$::rows(),\n",
-    ),
-    (
-        "numbers",
-        "            FamilySlice::$name$(_) => $name$::number(row),\n",
-    ),
-    (
-        "grouped",
-        "            FamilySlice::$name$(_) => $name$::is_grouped(row),\n",
-    ),
-    (
-        "row",
-        "            FamilySlice::$name$(own) => own[index].row(row),\n",
-    ),
-    (
-        "lens",
-        "            FamilySlice::$name$(own) => own[index].run_len(run, cache),\n",
-    ),
-    (
-        "puts",
-        "            FamilySlice::$name$(own) => own[index].put_run(run, cache, sink),\n",
-    ),
-    ("listed", "$and$`$name$`"),
-];
-
-/// The module of the enums of these types, whose words the pages have.
-pub(crate) fn family_code(base: &Words, members: &[Words]) -> Result<String, GenerateError> {
-    let mut page = Words::like(base);
-    page.set("uses", FAMILY_USES);
-    for member in members {
-        page.copy(member, &["name", "module"]);
-        let is_first = page.get("listed").is_empty();
-        page.set("and", if is_first { "" } else { ", " });
-        page.append_all(&OF_MEMBER);
-    }
-    code_imports(&mut page);
-    set_heading(&mut page, "//!", WHAT);
-    page.fill("text", FAMILY);
-    page.finish("text")
-}
 
 // What each of them adds to the words of all: the arms of what another is not, the names of types
 // and of functions, as they are called in the page of all and in others, and lines of types.
-const OF_ALL: [Template; 8] = [
-    ("family", " $other$"),
+const OF_ALL: [Template; 7] = [
     ("trees", " Family-Tree"),
     ("their_trees", " family.Family-Tree"),
     ("ones", " $other_module$-one"),
@@ -243,8 +16,70 @@ const OF_ALL: [Template; 8] = [
     ),
 ];
 
+// The same of the type of a oneof of which some variants are rows.
+const OF_CHOICE: [Template; 8] = [
+    ("trees", " $other$-Held"),
+    ("their_trees", " family.$other$-Held"),
+    ("ones", " $other_module$-one"),
+    ("their_ones", " family.$other_module$-one"),
+    ("their_values", " family.$other_module$-value"),
+    ("types", " $other$"),
+    (
+        "type_uses",
+        "use Rattle.$crate$.specs.declared.$other_module$.$other$.{$other$}\n",
+    ),
+    ("has_choice", "has_choice"),
+];
+
+// Of a type that holds itself alone, with such a oneof or without.
+const OF_ALONE: [Template; 8] = [
+    ("family", " $name$ "),
+    ("tree", "$name$-Value"),
+    ("trees", " $name$-Value"),
+    ("ones", " $module$-one"),
+    ("their_values", " $module$-value"),
+    ("types", " $name$"),
+    ("first_type", "$module$.$name$"),
+    ("sum_choice", "$module$-choice"),
+];
+
+const ALONE_WITH_CHOICE: [Template; 8] = [
+    (
+        "choice_answers",
+        "Rattle.$crate$.specs.$name$ $choice$-Held\nRattle.$crate$.specs.$name$ $choice_module$-one\n",
+    ),
+    ("trees", " $choice$-Held$trees$"),
+    ("ones", " $choice_module$-one$ones$"),
+    ("their_values", " $choice_module$-value$their_values$"),
+    ("types", " $choice$$types$"),
+    ("first_type", "$choice_module$.$choice$"),
+    (
+        "uses_of_choice",
+        "use Rattle.$crate$.specs.$name$.{$choice$-Held, $choice_module$-one, $choice_module$-value}\n",
+    ),
+    (
+        "uses_of_variants",
+        "use Rattle.$crate$.specs.declared.$choice_module$.$choice$.{$choice$}\n",
+    ),
+];
+
+/// The same of a type that holds itself alone.
+pub(crate) fn set_alone(page: &mut Words) {
+    page.fill_all(&OF_ALONE);
+    page.fill_all(&[("uses_of_choice", ""), ("uses_of_variants", "")]);
+    page.fill("choice_answers", "");
+    if !page.get("choice").is_empty() {
+        page.fill_all(&ALONE_WITH_CHOICE);
+    }
+    page.fill_all(&[("their_trees", "$trees$"), ("their_ones", "$ones$")]);
+}
+
 // What it is in the sum of all: the words of its leaf by itself, from which the sum's are made.
-const OF_LEAF: [Template; 12] = [
+const OF_LEAF: [Template; 21] = [
+    ("tree", "Family-Tree"),
+    ("sum_choice", "$module$-choice"),
+    ("sum_is_choice", "$module$-is_choice"),
+    ("sum_kept", "($module$-kept g)"),
     ("sum_start", "$module$-leaf.default"),
     ("sum_takes", "$module$-leaf.takes"),
     ("sum_run", "($module$-run i)"),
@@ -258,12 +93,35 @@ const OF_LEAF: [Template; 12] = [
     ),
     ("into_open", ""),
     ("into_close", ""),
+    ("part_open", ""),
+    ("part_close", ""),
+    ("untaken_open", ""),
+    ("untaken_close", ""),
+    ("untaken_uses", ""),
     ("err_open", ""),
     ("err_close", ""),
 ];
 
 // Of the word `side`, `first` or `second`, and `into`, `inl` or `inr`: one sum more around it.
-const IN_SUM: [Template; 14] = [
+const IN_SUM: [Template; 22] = [
+    (
+        "untaken_open",
+        "$side$_untaken _ $sum_takes$ _ _ _ _ _\n    ($untaken_open$",
+    ),
+    ("untaken_close", "$untaken_close$)"),
+    (
+        "untaken_uses",
+        "$untaken_uses$Rattle.wire_fields.specs.Sums $side$_untaken\n",
+    ),
+    (
+        "sum_is_choice",
+        "($side$_is_choice $sum_takes$ $sum_choice$ $sum_is_choice$)",
+    ),
+    (
+        "sum_kept",
+        "($side$_kept $sum_stay$ $sum_choice$ $sum_kept$)",
+    ),
+    ("sum_choice", "($side$_choice $sum_choice$)"),
     ("sum_single", "($side$_single $sum_takes$ $sum_single$)"),
     (
         "sum_back",
@@ -286,6 +144,8 @@ const IN_SUM: [Template; 14] = [
     ("sum_run", "(of_$side$ $sum_run$)"),
     ("sum_records", "(of_$side$ $sum_records$)"),
     ("sum_range", "($side$_range $sum_range$)"),
+    ("part_open", "of_$side$ ($part_open$"),
+    ("part_close", "$part_close$)"),
     ("into_open", "$into$ $open$$into_open$"),
     ("into_close", "$into_close$$shut$"),
 ];
@@ -303,10 +163,11 @@ pub(crate) fn set_family(
         .position(|it| it.get("name") == page.get("name"));
     let last = members.len().saturating_sub(1);
     page.fill_all(&OF_LEAF);
+    put_types(page, &members)?;
     for (place, member) in members.iter().enumerate() {
         page.set("other", member.get("name"));
         page.set("other_module", member.get("module"));
-        page.append_all(&OF_ALL);
+        page.append("family", " $other$");
         page.fill("pattern", "l");
         put_sides(page, place, last, &[("pattern", "($into$ $pattern$)")]);
         if own == Some(place) {
@@ -325,6 +186,28 @@ pub(crate) fn set_family(
     page.append("family", " ");
     page.fill("pattern", "$own_pattern$");
     Ok(members)
+}
+
+// Tells the page of all these types, and of those of their oneofs, in the order in which the folds
+// have them: the enums first.
+fn put_types(page: &mut Words, members: &[Words]) -> Result<(), GenerateError> {
+    let mut order: Vec<(bool, &str, &str)> = Vec::new(page.alloc());
+    for member in members {
+        order.push((true, member.get("module"), member.get("name")))?;
+        if !member.get("choice").is_empty() {
+            order.push((false, member.get("choice_module"), member.get("choice")))?;
+        }
+    }
+    order.sort()?;
+    for (is_message, module, name) in order {
+        page.set("other", name);
+        page.set("other_module", module);
+        page.append_all(if is_message { &OF_ALL } else { &OF_CHOICE });
+        if page.get("first_type").is_empty() {
+            page.fill("first_type", "$other_module$.$other$");
+        }
+    }
+    Ok(())
 }
 
 // Fills these templates for each sum around the leaf at a place, from the inside out.
@@ -366,7 +249,10 @@ fn members_of(
     for (_, place) in order {
         if let Some(message) = schema.messages.get(place) {
             let mut words = Words::new(page.alloc());
-            words.copy(&message.words, &["name", "module"]);
+            words.copy(
+                &message.words,
+                &["name", "module", "choice", "choice_module"],
+            );
             members.push(words)?;
         }
     }
@@ -382,7 +268,7 @@ fn members_of(
 // where one is.
 fn name_family(page: &mut Words, schema: &Schema) -> Result<(), GenerateError> {
     page.fill("natural", "$first_name$Family");
-    let name = schema.names.beside(page.get("crate"), page.get("natural"))?;
+    let name = schema.names.beside(page.get("whole"), page.get("natural"))?;
     let number = name.strip_prefix(page.get("natural")).unwrap_or("");
     page.set("family_number", number);
     page.fill_all(&[

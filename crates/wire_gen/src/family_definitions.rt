@@ -35,7 +35,6 @@ Rattle.wire_fields.specs.Nest row
 Rattle.wire_fields.specs.Nest row_count
 Rattle.wire_fields.specs.Nest row_of
 Rattle.wire_fields.specs.NestTable all_counted
-Rattle.wire_fields.specs.NestTable as_it_was
 Rattle.wire_fields.specs.NestTable empty_of
 Rattle.wire_fields.specs.NestTable family_records
 Rattle.wire_fields.specs.NestTable family_single
@@ -81,7 +80,7 @@ const WHAT: &str =
     "Messages that hold one another, as contracts see them, and their tables: $listed$.";
 
 const TEXT: &str = "\
-$heading$$imports$$aliases$
+$heading$$imports$$aliases$$choice_aliases$
 -- which of them a message is
 pub data Family-Sorts : Type 0 where
 $sorts$
@@ -125,24 +124,25 @@ $slice_values$
 pub family-slice-counted : (ms : FamilySlice) (i : ℕ)
     → row_count (message_at (family-tables (family-slice-sort ms)) (family-slice-values ms) i)
     ≡ (family-tables (family-slice-sort ms)).rows
-$slice_counted$$backs$";
+$slice_counted$$stands_lines$$backs$";
 
 const BACK: &str = "
 abbrev pub family-leaf-ranges : Family-Sorts → Range Family-Leaves
 $leaf_ranges$
 abbrev pub family-ranges : Family-Sorts → Range Family-Tree
-family-ranges = family_range family-all family-leaf-ranges
+family-ranges = $range_of_all$
 
 pub family-leaves-back : Grounds → (s : Family-Sorts)
-    → LeafBack (family-tables s) (family-leaf-ranges s)
+    → $leaf_back$ (family-tables s) (family-leaf-ranges s)$stands_there$
 $leaves_back$
 pub family-returned : Grounds → (s : Family-Sorts) → Returned (family-shapes s) (family-ranges s)
 family-returned g s =
-    family_returned g family-all family-leaf-ranges (family-singles g.reading)
+    $returned_of_all$ (family-singles g.reading)
     (family-leaves-back g) s (family-shapes s) refl refl refl (λ n p. refl)
 ";
 
-const OF_MEMBER: [Template; 15] = [
+const OF_MEMBER: [Template; 16] = [
+    ("choice_aliases", "$choice_aliases$"),
     ("sorts", "  $name$-Sort : Family-Sorts\n"),
     (
         "leaves",
@@ -157,7 +157,7 @@ $name$-Leaf = $name$-Known × Fields
     ),
     (
         "values",
-        "-- one message, with values in the places of those that it holds
+        "$helds$-- one message, with values in the places of those that it holds
 abbrev pub $module$-one : $name$-F$trees$ → Family-Tree
 $module$-one m =
     nest ($into_open$(
@@ -170,7 +170,7 @@ $view$,
     ),
     (
         "folds",
-        "abbrev pub $module$-value : $name$ → Family-Tree
+        "$choice_folds$abbrev pub $module$-value : $name$ → Family-Tree
 $module$-value = fold-$name$$trees$$ones$
 
 ",
@@ -184,7 +184,7 @@ $module$-known =
 abbrev pub $module$-leaf : Shape $name$-Leaf
 $module$-leaf = two $module$-known unknown
 
--- the records of the leaf before the first row, behind the first, and so on
+$run_parts$-- the records of the leaf before the first row, behind the first, and so on
 abbrev pub $module$-run : ℕ → $name$-Leaf → Records
 $runs$
 abbrev pub $module$-number : ℕ → ℕ
@@ -194,7 +194,7 @@ $onces$
 abbrev pub $module$-place : ℕ → place.Place
 $module$-place n = $places$
 
-abbrev pub $module$-table : tables.Table Family-Leaves
+$choice_table$abbrev pub $module$-table : tables.Table Family-Leaves
 $module$-table = record {
   default = $sum_start$;
   takes = $sum_takes$;
@@ -203,11 +203,11 @@ $module$-table = record {
   number = $module$-number;
   once = $module$-once;
   place = $module$-place;
-  beside = as_it_was;
-  rows_beside = as_it_was;
+  beside = $beside$;
+  rows_beside = $rows_beside$;
 }
 
-",
+$choice_laws$",
     ),
     (
         "table_lines",
@@ -250,7 +250,53 @@ $module$-counted m = ap row_count (fold_out-$name$$trees$$ones$ m)
     ("backs", "$back$"),
 ];
 
-const OF_BACK: [Template; 2] = [
+// Which rows may stand beside a leaf, where some are variants of a oneof.
+const STANDS: &str = "
+-- which rows may stand beside a leaf
+abbrev pub family-stands : Family-Sorts → Beside Family-Leaves
+$leaf_stands$";
+
+const USES_OF_STANDS: &str = "\
+Rattle.wire_fields.specs.ChoiceBack one_stands
+Rattle.wire_fields.specs.NestBack beside_returned
+Rattle.wire_fields.specs.NestChoice first_choice
+Rattle.wire_fields.specs.NestChoice second_choice
+Rattle.wire_fields.specs.NestRange Beside
+Rattle.wire_fields.specs.NestRange LeafBeside
+Rattle.wire_fields.specs.NestRange any_beside
+Rattle.wire_fields.specs.NestRange beside_range
+Rattle.wire_fields.specs.ChoiceBack first_is_choice
+Rattle.wire_fields.specs.ChoiceBack second_is_choice
+";
+
+const OF_CHOICES: [Template; 4] = [
+    (
+        "range_of_all",
+        "beside_range family-all family-leaf-ranges family-stands",
+    ),
+    ("leaf_back", "LeafBeside"),
+    ("stands_there", " (family-stands s)"),
+    (
+        "returned_of_all",
+        "beside_returned g family-all family-leaf-ranges family-stands",
+    ),
+];
+
+const OF_NO_CHOICES: [Template; 4] = [
+    ("range_of_all", "family_range family-all family-leaf-ranges"),
+    ("leaf_back", "LeafBack"),
+    ("stands_there", ""),
+    (
+        "returned_of_all",
+        "family_returned g family-all family-leaf-ranges",
+    ),
+];
+
+const OF_BACK: [Template; 3] = [
+    (
+        "leaf_stands",
+        "family-stands $name$-Sort = $stands_beside$\n",
+    ),
     (
         "leaf_ranges",
         "family-leaf-ranges $name$-Sort = $sum_range$\n",
@@ -267,6 +313,15 @@ pub(crate) fn family_definitions(base: &Words, members: &[Words]) -> Result<Stri
     page.fill("uses", USES);
     let is_read_back = has_laws(base);
     page.append("uses", if is_read_back { USES_OF_BACK } else { "" });
+    let is_choice = !page.get("has_choice").is_empty();
+    page.append(
+        "uses",
+        if is_read_back && is_choice {
+            USES_OF_STANDS
+        } else {
+            ""
+        },
+    );
     let last = members.len().saturating_sub(1);
     page.fill_all(&[("at", "zero"), ("at_least", "i")]);
     for member in members {
@@ -319,6 +374,13 @@ fn put_lines(page: &mut Words, own: &mut Words, lines: &'static [Template]) {
 
 // What is read back of all, behind an empty line.
 fn put_back(page: &mut Words) {
+    let is_choice = !page.get("has_choice").is_empty();
+    page.fill_all(if is_choice {
+        &OF_CHOICES
+    } else {
+        &OF_NO_CHOICES
+    });
+    page.fill("stands_lines", if is_choice { STANDS } else { "" });
     page.append("backs", BACK);
     let backs = page.take("backs");
     let (_, ranges) = backs.split_once('\n').unwrap_or(("", ""));
@@ -329,33 +391,4 @@ fn put_back(page: &mut Words) {
         page.fill("backs", FAMILY_ACCOUNT);
     }
     page.append("backs", "\n$ranges$");
-}
-
-const HELD_HEAD: &str = "\
-use Rattle.$crate$.proofs.$family_module$.FamilyHeldRecursiveHeld.merge_leaf.Goals as goal
-$answers$";
-
-const HELD: &str = "
-pub returns-in-$name$-clause-err : goal.returns-in-$name$-clause-err
-returns-in-$name$-clause-err g c = rw c.in-$name$.is $call$.ensures.err
-";
-
-/// The answers of `merge_leaf` of all of them as one type.
-pub(crate) fn held_answers(base: &Words, members: &[Words]) -> Result<String, GenerateError> {
-    let mut page = Words::like(base);
-    for member in members {
-        page.copy(member, &["name"]);
-        let is_first = page.get("answers").is_empty();
-        page.fill(
-            "call",
-            if is_first {
-                "c.merge_leaf"
-            } else {
-                "(c.merge_leaf-in-$name$)"
-            },
-        );
-        page.append("answers", HELD);
-    }
-    page.fill("text", HELD_HEAD);
-    page.finish("text")
 }

@@ -11,7 +11,7 @@ Rattle.$crate$.specs.declared.$module$.$name$ $name$
 Rattle.$crate$.specs.declared.$module$.$name$ $name$-F
 Rattle.$crate$.specs.declared.$module$.$name$ fold-$name$
 Rattle.$crate$.specs.declared.$module$.$name$ fold_out-$name$
-";
+$uses_of_beside$";
 
 /// What is read back of one of them.
 pub(crate) const MEMBER_RANGE: &str = "\
@@ -45,10 +45,10 @@ $module$-known-back g =
     known_back g $module$-table $module$-known $module$-range-of-known
     ($module$-returned-of-known g) (λ n h. $apart$)
 
-pub $module$-back : Grounds → LeafBack $module$-table $sum_range$
+pub $module$-back : Grounds → $leaf_back$ $module$-table $sum_range$$stands_of$
 $module$-back g =
-    table_back $module$-table $sum_range$ $sum_takes$
-    $sum_start$ $sum_records$
+    $back_of_table$ $sum_takes$
+    $sum_start$ $sum_records$$law_of_choice$
     $sum_back$
     refl refl $module$-runs_in_order ($module$-row_numbers g) $module$-row_places (λ i m. refl)
     (λ n rs. refl)
@@ -137,8 +137,8 @@ use Rattle.wire_fields.specs.Nest.{listed_row, row_pushed}
 use Rattle.$crate$.specs.$family_name$ as family
 $type_uses$\
 use Rattle.$crate$.specs.declared.$module$.$name$.{out-$name$, fold_out-$name$}
-use Rattle.$crate$.specs.declared.$first_module$.$first_name$.TheFolds.{fold-roll-$name$}
-use Rattle.$crate$.specs.declared.$first_module$.$first_name$.TheFolds.{map-$name$}
+use Rattle.$crate$.specs.declared.$first_type$.TheFolds.{fold-roll-$name$}
+use Rattle.$crate$.specs.declared.$first_type$.TheFolds.{map-$name$}
 use Rattle.$crate$.proofs.$module$.$name$RecursiveMemberFamilyHeld.push.Goals as goal
 ";
 

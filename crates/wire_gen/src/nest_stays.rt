@@ -11,9 +11,42 @@ const OF_LEAF: &str = "
 pub $module$-there : (n : ℕ) → IsThere $module$-table ($module$-place n)
 $module$-there n = $theres$
 
-pub $module$-stays-of-known : Grounds → FieldsStay $module$-known $known_range$
+$abbrev$pub $module$-stays-of-known : Grounds → FieldsStay $module$-known $known_range$
 $module$-stays-of-known g =
     $stays$
+";
+
+// Of a oneof of which some variants are rows: such a row has one message at most, and what a leaf
+// holds without the oneof is as what it holds with it.
+const OF_CHOICE: &str = "
+pub $module$-choice_rows : (i : ℕ) → $module$-choice.is_row i ≡ true → $module$-once i ≡ true
+$choice_lines$
+pub $module$-kept : (g : Grounds) (m : $name$-Leaf)
+    → (known_stay $module$-table ($module$-stays-of-known g)).Is m
+    → (known_stay $module$-table ($module$-stays-of-known g)).Is ($module$-choice.without m)
+$module$-kept g m is = $kept$
+";
+
+const ALONE_WITH_CHOICE: &str = "$of_leaf$$of_choice$
+pub $module$-stays : Grounds → Stays $module$-shape $accounted_range$
+$module$-stays g =
+    beside_stays g (alone $module$-table)
+    (λ s. leaf_range $module$-table $module$-known $known_range$)
+    (λ s. one_stands $module$-choice)
+    (λ s. choice_stays $module$-table $module$-choice $module$-is_choice
+    (known_stay $module$-table ($module$-stays-of-known g)) ($module$-kept g)
+    refl refl $runs_in_order$ $module$-there $module$-choice_rows (λ i m. refl) (λ n rs. refl))
+    tt $module$-shape refl refl refl
+";
+
+const MEMBER_WITH_CHOICE: &str = "$of_leaf$$of_choice$
+pub $module$-leaf-stays : Grounds
+    → LeafStays $module$-table (family-leaf-ranges$account$ $name$-Sort) (one_stands $sum_choice$)
+$module$-leaf-stays g =
+    choice_stays $module$-table $sum_choice$ $sum_is_choice$
+    $sum_stay$
+    $sum_kept$
+    refl refl $runs_in_order$ $module$-there $module$-choice_rows (λ i m. refl) (λ n rs. refl)
 ";
 
 const ALONE: &str = "$of_leaf$
@@ -40,12 +73,12 @@ const FAMILY_PAGE: &str = "$heading$$imports$$text$";
 
 const FAMILY: &str = "$leaves$
 pub family-leaves-stay : Grounds → (s : Family-Sorts)
-    → LeafStays (family-tables s) (family-leaf-ranges$account$ s) any_beside
+    → LeafStays (family-tables s) (family-leaf-ranges$account$ s) $stands_there$
 $lines$
 pub family-stays : Grounds → (s : Family-Sorts)
     → Stays (family-shapes s) (family-ranges$account$ s)
 family-stays g s =
-    beside_stays g family-all (family-leaf-ranges$account$) (λ s. any_beside)
+    beside_stays g family-all (family-leaf-ranges$account$) $stands_of_all$
     (family-leaves-stay g) s (family-shapes s) refl refl refl
 ";
 
@@ -59,14 +92,30 @@ $module$-stays g = family-stays g $name$-Sort
 ";
 
 const NAMED: &str = "\
+Rattle.std.proofs.Common zero
+Rattle.std.proofs.Common suc
+Rattle.std.proofs.Common ◌≡◌
+Rattle.std.specs.Prelude true
+Rattle.wire_fields.specs.ChoiceBack one_stands
+Rattle.wire_fields.specs.ChoiceBack first_is_choice
+Rattle.wire_fields.specs.ChoiceBack second_is_choice
+Rattle.wire_fields.specs.ChoiceSpot tells_either
+Rattle.wire_fields.specs.ChoiceSpot tells_one
+Rattle.wire_fields.specs.ChoiceStays choice_stays
+Rattle.wire_fields.specs.NestChoice first_choice
+Rattle.wire_fields.specs.NestChoice second_choice
+Rattle.wire_fields.specs.NestTable alone
 Rattle.std.specs.Prelude ℕ
 Rattle.std.specs.Prelude ◌==◌
 Rattle.wire_fields.specs.NestRange any_beside
 Rattle.wire_fields.specs.NestRange leaf_range
 Rattle.wire_fields.specs.NestTable IsThere
+Rattle.wire_fields.specs.NoFields no_fields_stay
 Rattle.wire_fields.specs.Stays FieldsStay
+Rattle.wire_fields.specs.StaysLeaf first_kept
 Rattle.wire_fields.specs.StaysLeaf first_stay
 Rattle.wire_fields.specs.StaysLeaf known_stay
+Rattle.wire_fields.specs.StaysLeaf second_kept
 Rattle.wire_fields.specs.StaysLeaf second_stay
 Rattle.wire_fields.specs.StaysLeaf table_stays
 Rattle.wire_fields.specs.StaysLeaf there_where
@@ -76,7 +125,11 @@ Rattle.wire_fields.specs.StaysNest nest_stays
 ";
 
 const NAMED_OF_LEAF: &str = "\
+$home_specs$ $module$-choice
+$home_specs$ $module$-is_choice
 $home_specs$ $module$-known
+$home_specs$ $module$-once
+$home_specs$ $name$-Leaf
 $home_specs$ $module$-place
 $home_specs$ $module$-range-of-known
 $home_specs$ $module$-runs_in_order
@@ -90,6 +143,7 @@ $home_specs$ family-account
 $home_specs$ family-all
 $home_specs$ family-leaf-ranges
 $home_specs$ family-ranges
+$home_specs$ family-stands
 $home_specs$ family-shapes
 $home_specs$ family-tables
 ";
@@ -110,7 +164,8 @@ pub(crate) fn nest_stays(
     put_account_of(&mut page, "$module$-account");
     put_leaf(&mut page, fields, tree);
     put_accounted_range(&mut page);
-    page.fill("text", ALONE);
+    let is_choice = !page.get("choice").is_empty();
+    page.fill("text", if is_choice { ALONE_WITH_CHOICE } else { ALONE });
     stays_page(&mut page)
 }
 
@@ -120,7 +175,15 @@ pub(crate) fn put_leaf_stays(page: &mut Words, fields: &[Field], tree: &Tree) {
     put_account_of(page, "family-account");
     put_leaf(page, fields, tree);
     page.append("named", NAMED_OF_FAMILY);
-    page.fill("leaf_stays", MEMBER);
+    let is_choice = !page.get("choice").is_empty();
+    page.fill(
+        "leaf_stays",
+        if is_choice {
+            MEMBER_WITH_CHOICE
+        } else {
+            MEMBER
+        },
+    );
 }
 
 /// The page of all of them, of which each has a page of a table.
@@ -135,6 +198,12 @@ pub(crate) fn family_stays(base: &Words, members: &[Words]) -> Result<String, Ge
         page.append("listed", if is_first { "`$name$`" } else { ", `$name$`" });
     }
     page.fill("named", "$all_named$");
+    let is_choice = !page.get("has_choice").is_empty();
+    page.fill_all(if is_choice {
+        &OF_CHOICES
+    } else {
+        &OF_NO_CHOICES
+    });
     page.fill("text", FAMILY);
     put_names(&mut page);
     definition_imports(&mut page);
@@ -142,6 +211,16 @@ pub(crate) fn family_stays(base: &Words, members: &[Words]) -> Result<String, Ge
     page.fill("text", FAMILY_PAGE);
     page.finish("text")
 }
+
+const OF_CHOICES: [Template; 2] = [
+    ("stands_there", "(family-stands s)"),
+    ("stands_of_all", "family-stands"),
+];
+
+const OF_NO_CHOICES: [Template; 2] = [
+    ("stands_there", "any_beside"),
+    ("stands_of_all", "(λ s. any_beside)"),
+];
 
 const OF_MEMBER: [Template; 3] = [
     ("leaves", "$leaf_stays$"),
@@ -193,5 +272,72 @@ fn put_leaf(page: &mut Words, fields: &[Field], tree: &Tree) {
             page.fill("theres", THERE);
         }
     }
+    let is_choice = !page.get("choice").is_empty();
+    page.set("abbrev", if is_choice { "abbrev " } else { "" });
     page.fill("of_leaf", OF_LEAF);
+    put_choice_rows(page, fields);
+}
+
+// That a row which none has is none of the oneof.
+const FIRST_ROW: [Template; 2] = [
+    ("row_tells", "tells_one $at_least$ $row$"),
+    ("row_told", "absurd (omega (arith, h))"),
+];
+
+const NEXT_ROW: [Template; 2] = [
+    (
+        "row_tells",
+        "tells_either _ _ ($row_tells$) (tells_one $at_least$ $row$)",
+    ),
+    (
+        "row_told",
+        "elim h [ inl h ↦ $row_told$ | inr h ↦ absurd (omega (arith, h)) ]",
+    ),
+];
+
+fn put_told(page: &mut Words, fields: &[Field]) {
+    page.fill_all(&[("row_tells", ""), ("row_told", "")]);
+    let mut row: usize = 0;
+    for field in fields {
+        if !field.words.get("choice_variant").is_empty() {
+            page.index("row", row);
+            let is_first = page.get("row_tells").is_empty();
+            page.fill_all(if is_first { &FIRST_ROW } else { &NEXT_ROW });
+        }
+        if is_row(field) {
+            row = row.saturating_add(1);
+        }
+    }
+}
+
+// The rows of a oneof have one message at most.
+fn put_choice_rows(page: &mut Words, fields: &[Field]) {
+    page.set("of_choice", "");
+    if page.get("choice").is_empty() {
+        return;
+    }
+    page.fill_all(&[("at", "zero"), ("at_least", "i"), ("choice_lines", "")]);
+    for field in fields {
+        if is_row(field) {
+            let is_each = field.words.get("kind").starts_with("Each");
+            page.set("is_once", if is_each { "own" } else { "refl" });
+            page.append(
+                "choice_lines",
+                "$module$-choice_rows $at$ own = $is_once$\n",
+            );
+            page.fill_all(&[("at", "(suc $at$)"), ("at_least", "(suc $at_least$)")]);
+        }
+    }
+    put_told(page, fields);
+    page.append(
+        "choice_lines",
+        if page.get("is_once") == "refl" {
+            "$module$-choice_rows $at_least$ own = refl\n"
+        } else {
+            "$module$-choice_rows $at_least$ own =\n    let h = $row_tells$ own in\n    $row_told$\n"
+        },
+    );
+    let is_plain = !page.get("choice_plain").is_empty();
+    page.fill("kept", if is_plain { "$spot_is$" } else { "is" });
+    page.fill("of_choice", OF_CHOICE);
 }

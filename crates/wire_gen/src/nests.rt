@@ -1,16 +1,21 @@
 //! The files of message types that hold themselves or one another.
 use crate::answers::answers_of;
-use crate::family::{family_code, set_family};
-use crate::family_definitions::{family_definitions, held_answers};
+use crate::choice_code::choice_code;
+use crate::family::{set_alone, set_family};
+use crate::family_code::family_code;
+use crate::family_definitions::family_definitions;
 use crate::laws_pages::has_laws;
 use crate::member_definitions::{MEMBER_MERGE, member_definitions};
 use crate::nest_stays::{family_stays, member_stays, nest_stays, put_leaf_stays};
+use crate::oneof_definitions::oneof_definitions;
+use crate::oneof_stays::oneof_stays;
 use crate::package::Package;
 use crate::recursive::recursive_code;
-use crate::recursive_definitions::{recursive_definitions, row_answers, table_page};
+use crate::recursive_definitions::{recursive_definitions, table_page};
+use crate::row_answers::{held_answers, row_answers};
 use crate::rows::{is_row, leaf_tree};
 use crate::tree::Tree;
-use wire_schema::{Field, GenerateError, MessageType, Schema, Template, Words, fields_of};
+use wire_schema::{Field, GenerateError, MessageType, Oneof, Schema, Template, Words, fields_of};
 
 // Where the proofs of a message type that holds itself are, and of one of a family.
 const FOLDERS: [Template; 2] = [
@@ -32,9 +37,10 @@ impl Package {
         fields: Vec<Field>,
     ) -> Result<(), GenerateError> {
         let mut page = self.page(&message.words);
+        page.copy(&message.words, &["choice", "choice_module", "choices"]);
         match message.family {
             Some(first) => drop(set_family(&mut page, schema, first)?),
-            None => page.fill("family", " $name$ "),
+            None => set_alone(&mut page),
         }
         let is_member = message.family.is_some();
         page.fill_all(if is_member { &MEMBER_FOLDERS } else { &FOLDERS });
@@ -55,11 +61,54 @@ impl Package {
             };
             self.add_stays(&mut page, proof)?;
         }
-        self.add_oneofs(&fields, message)?;
+        self.add_choices(&page, &fields, message)?;
         self.add_rows(&mut page, &fields)?;
         self.add_leaf(&mut page, fields, &tree)?;
         if is_member {
             self.add_member(&mut page)?;
+        }
+        Ok(())
+    }
+
+    // The oneofs of such a type, of which some variants may be rows.
+    fn add_choices(
+        &mut self,
+        base: &Words,
+        fields: &[Field],
+        message: &MessageType,
+    ) -> Result<(), GenerateError> {
+        for field in fields {
+            let Some(oneof) = &field.oneof else {
+                continue;
+            };
+            if is_row(field) || !field.words.get("in_choice").is_empty() {
+                self.add_choice(base, oneof, fields)?;
+            } else {
+                self.add_oneof(oneof, message)?;
+            }
+        }
+        Ok(())
+    }
+
+    // A oneof of which some variants are rows.
+    fn add_choice(
+        &mut self,
+        base: &Words,
+        oneof: &Oneof,
+        fields: &[Field],
+    ) -> Result<(), GenerateError> {
+        let code = choice_code(base, oneof, fields)?;
+        let mut page = self.page(&oneof.words);
+        page.copy(&oneof.words, &["holder", "holder_name"]);
+        if oneof.variants.is_empty() {
+            return self.add_code(&mut page, code);
+        }
+        page.set("in_choice", "in_choice");
+        let definitions = oneof_definitions(&page, oneof)?;
+        self.add_type(&mut page, code, definitions)?;
+        if has_laws(&self.base) {
+            let proof = oneof_stays(&page, oneof)?;
+            self.add_stays(&mut page, proof)?;
         }
         Ok(())
     }
@@ -156,6 +205,7 @@ impl Package {
         message: &MessageType,
     ) -> Result<Words, GenerateError> {
         let mut page = self.page(&message.words);
+        page.copy(&message.words, &["choice", "choice_module", "choices"]);
         set_family(&mut page, schema, first)?;
         let fields = fields_of(&self.base, schema, message)?;
         let (fields, tree) = leaf_tree(&mut page, fields)?;

@@ -2,6 +2,7 @@
 use crate::closing::OF_CLOSED_VARIANT;
 use crate::comments::set_heading;
 use crate::imports::{code_imports, ghost_imports};
+use crate::required_oneof::{put_requirement, use_variants};
 use wire_schema::{GenerateError, Oneof, Template, Words};
 
 // The widest line of code.
@@ -164,6 +165,7 @@ pub(crate) fn oneof_code(
             page.append_all(&OF_CLOSED_VARIANT);
         }
     }
+    use_variants(&mut page, oneof);
     set_clone(&mut page, is_twin);
     page.fill("len_head", LEN);
     // (its line's end counted)
@@ -177,6 +179,7 @@ pub(crate) fn oneof_code(
     page.fill("ghosts", KIND_GHOSTS);
     ghost_imports(&mut page, "    ");
     page.append_all(&[("text", ENUM), ("text", "$variants$")]);
+    put_requirement(&mut page);
     page.finish("text")
 }
 

@@ -1,10 +1,12 @@
 //! The definitions of a oneof.
+use crate::choice_laws::{IS_PLAIN, SPOT, USES_OF_SPOT as USES_OF_PLAIN, put_spot};
 use crate::closing::{CLOSED_DEFINITIONS, put_apart_variants};
 use crate::comments::set_heading;
 use crate::definitions::TABLE;
 use crate::imports::definition_imports;
 use crate::keeping::put_owned;
 use crate::laws_pages::has_laws;
+use crate::required_oneof::{define_variant, put_missing_in_one, set_requiring};
 use crate::returned::{under_charges, use_charges};
 use wire_schema::{GenerateError, Oneof, Template, Words, put_apart};
 
@@ -12,7 +14,6 @@ const USES: &str = "\
 Rattle.std.specs.Prelude None
 Rattle.std.specs.Prelude Option
 Rattle.std.specs.Prelude Some
-Rattle.std.specs.Prelude option_map
 Rattle.wire_codec.specs.Records Records
 Rattle.wire_codec.specs.Records none
 Rattle.wire_fields.specs.Oneof Variants
@@ -20,6 +21,10 @@ Rattle.wire_fields.specs.Oneof oneof
 Rattle.wire_fields.specs.Oneof variant
 Rattle.wire_fields.specs.Shape FieldKind
 Rattle.wire_fields.specs.Shape Shape
+";
+
+const USES_OF_TYPE: &str = "\
+Rattle.std.specs.Prelude option_map
 Rattle.$crate$.specs.declared.$module$.$name$ $name$
 ";
 
@@ -38,23 +43,31 @@ const VALUE: &str = "
 abbrev pub $name$-One : Type 0
 $name$-One = $sum$
 
-abbrev pub $module$-one : $name$ → $name$-One
-$ones$
-abbrev pub $name$-Value : Type 0
+$whole_one$abbrev pub $name$-Value : Type 0
 $name$-Value = Option $name$-One
 
+$whole_of$$variants$abbrev pub $module$-records : $name$-Value → Records
+$module$-records None = none
+$records$";
+
+const ONE: &str = "\
+abbrev pub $module$-one : $name$ → $name$-One
+$ones$
+";
+
+const OF_ONE: &str = "\
 abbrev pub $module$-of : Option $name$ → $name$-Value
 $module$-of = option_map $module$-one
 
-$variants$abbrev pub $module$-records : $name$-Value → Records
-$module$-records None = none
-$records$";
+";
 
 const SHAPE: &str = "
 abbrev pub $module$-shape : Shape $name$-Value
 $module$-shape =
     oneof None $module$-records $all$
+";
 
+const WHOLE_KIND: &str = "
 -- under whatever number, since the variants have their own
 abbrev pub $module$-kind : FieldKind $name$-Value
 $module$-kind = record {
@@ -174,25 +187,38 @@ const OTHER: &str = "$word$-of-$module$-as (Some $injected$) = None\n";
 const OTHER_THERE: &str =
     "$word$-of-$module$-there g (Some $injected$) h =\n    ($word$-of-$module$-stays g).start\n";
 
-const OF_VARIANT: [Template; 5] = [
+const OF_TYPE: [Template; 2] = [
     ("ones", "$module$-one ($variant$ x) = $seen$\n"),
-    (
-        "records",
-        "$module$-records (Some $one$) = $definition$.kind.records $digits$ x\n",
-    ),
-    ("variants", VARIANT),
-    ("uses", "$of_always$ $always$\n$definitions$$numeric$"),
     (
         "uses",
         "Rattle.$crate$.specs.declared.$module$.$name$.TheVariants $variant$\n",
     ),
 ];
 
+const OF_VARIANT: [Template; 3] = [
+    (
+        "records",
+        "$module$-records (Some $one$) = $definition$.kind.records $digits$ x\n",
+    ),
+    ("variants", VARIANT),
+    ("uses", "$of_always$ $always$\n$definitions$$numeric$"),
+];
+
 /// The value of a oneof, its table, and what each variant is.
 pub(crate) fn oneof_definitions(base: &Words, oneof: &Oneof) -> Result<String, GenerateError> {
     let is_read_back = has_laws(base);
     let mut page = Words::like(base);
+    let is_whole = page.get("in_choice").is_empty();
     page.fill("uses", USES);
+    page.append(
+        "uses",
+        if is_whole {
+            USES_OF_TYPE
+        } else {
+            USES_OF_PLAIN
+        },
+    );
+    set_requiring(&mut page, oneof);
     for variant in oneof.variants.iter().rev() {
         page.copy(variant, &["bracketed"]);
         let is_last = page.get("sum").is_empty();
@@ -234,9 +260,15 @@ pub(crate) fn oneof_definitions(base: &Words, oneof: &Oneof) -> Result<String, G
         page.fill("definition", "($always$ $definition$)");
         put_values(&mut page, place, last);
         page.append_all(&OF_VARIANT);
+        if is_whole {
+            page.append_all(&OF_TYPE);
+        } else {
+            put_spot(&mut page, place);
+        }
         if !page.get("closed").is_empty() {
             page.append_all(&CLOSED_DEFINITIONS);
         }
+        define_variant(&mut page, variant);
         put_tree(&mut page, place);
         put_numbers(&mut page, place, last);
         if is_read_back {
@@ -257,12 +289,19 @@ pub(crate) fn oneof_definitions(base: &Words, oneof: &Oneof) -> Result<String, G
     }
     definition_imports(&mut page);
     set_heading(&mut page, "--", TABLE);
+    page.fill_all(&[("whole_one", ""), ("whole_of", "")]);
+    if is_whole {
+        page.fill_all(&[("whole_one", ONE), ("whole_of", OF_ONE)]);
+    }
     page.append_all(&[("text", HEAD), ("text", VALUE)]);
     if last > 0 {
         page.append("text", FRONT);
     }
     page.append("text", SHAPE);
+    page.append("text", if is_whole { WHOLE_KIND } else { IS_PLAIN });
+    put_missing_in_one(&mut page);
     if is_read_back {
+        page.append("text", if is_whole { "" } else { SPOT });
         page.fill("ranges", RANGE);
         page.append("ranges", "$apart_variants$$owned_variants$");
         under_charges(&mut page);

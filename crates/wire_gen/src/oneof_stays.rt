@@ -14,7 +14,7 @@ $in_ranges$
 $stays$";
 
 const PLAIN: &str = "\
-pub $module$-stays : Grounds → FieldsStay $module$-shape $accounted_range$
+$abbrev$pub $module$-stays : Grounds → FieldsStay $module$-shape $accounted_range$
 $module$-stays g =
     oneof_stays None $module$-records _ ($module$-is g) tt
     $all_stay$
@@ -137,6 +137,8 @@ pub(crate) fn oneof_stays(base: &Words, oneof: &Oneof) -> Result<String, Generat
     }
     put_range(&mut page);
     let is_plain = page.get("here") == "anywhere";
+    let is_choice = !page.get("in_choice").is_empty();
+    page.set("abbrev", if is_choice { "abbrev " } else { "" });
     page.fill("stays", if is_plain { PLAIN } else { CLOSING });
     page.append("named", NAMED);
     page.fill("text", TEXT);

@@ -60,13 +60,18 @@ fn files_of(
 ) -> Result<Vec<CodeGeneratorResponseFile>, GenerateError> {
     let mut base = Words::new(alloc);
     set_crate(&mut base, request)?;
-    let schema = Schema::of(&base, request)?;
+    let mut schema = Schema::of(&base, request)?;
+    let most = base.get("split").parse::<usize>().unwrap_or(0);
     let mut package = Package {
         roots: Words::like(&base),
         base,
         files: Vec::new(alloc),
     };
-    package.add_all(&schema)?;
+    if most > 0 {
+        package.add_split(&mut schema, most)?;
+    } else {
+        package.add_all(&schema)?;
+    }
     Ok(package.files)
 }
 
@@ -80,15 +85,21 @@ pub(crate) struct Package {
 
 impl Package {
     fn add_all(&mut self, schema: &Schema) -> Result<(), GenerateError> {
+        self.add_types(schema)?;
+        self.add_extensions(schema)?;
+        self.add_services(schema)?;
+        self.add_roots()
+    }
+
+    /// The types that are to be generated.
+    pub(crate) fn add_types(&mut self, schema: &Schema) -> Result<(), GenerateError> {
         self.add_messages(schema)?;
         for of_enum in &schema.enums {
             if of_enum.origin.is_own {
                 self.add_enum(schema, of_enum)?;
             }
         }
-        self.add_extensions(schema)?;
-        self.add_services(schema)?;
-        self.add_roots()
+        Ok(())
     }
 
     fn add_messages(&mut self, schema: &Schema) -> Result<(), GenerateError> {
@@ -108,7 +119,15 @@ impl Package {
         let mut page = Words::like(&self.base);
         page.copy(
             of,
-            &["full", "name", "module", "place", "schema", "charged"],
+            &[
+                "full",
+                "name",
+                "module",
+                "place",
+                "schema",
+                "charged",
+                "requiring",
+            ],
         );
         page
     }
@@ -121,7 +140,8 @@ impl Package {
         content: String,
     ) -> Result<(), GenerateError> {
         let mut file = CodeGeneratorResponseFile::default_value(page.alloc());
-        page.fill("file", path);
+        page.set("file", self.base.get("crate_folder"));
+        page.append("file", path);
         file.name = page.finish("file")?;
         file.content = if file.name.ends_with(".rt") {
             laid_out(page.alloc(), &content)?
@@ -140,6 +160,9 @@ impl Package {
         }
         if message.is_recursive || message.family.is_some() {
             return self.add_recursive(schema, message, fields);
+        }
+        if !page.get("requiring").is_empty() {
+            self.need_required();
         }
         let tree = tree_of(&page, &mut fields, true)?;
         let code = code_of(&page, schema, message, &fields, &tree)?;
@@ -207,8 +230,12 @@ impl Package {
         Ok(())
     }
 
-    // A oneof of a message.
-    fn add_oneof(&mut self, oneof: &Oneof, message: &MessageType) -> Result<(), GenerateError> {
+    /// A oneof of a message.
+    pub(crate) fn add_oneof(
+        &mut self,
+        oneof: &Oneof,
+        message: &MessageType,
+    ) -> Result<(), GenerateError> {
         let mut page = self.page(&oneof.words);
         page.copy(&oneof.words, &["kind_name", "holder", "holder_name"]);
         let code = oneof_code(&page, oneof, message.is_twin)?;
@@ -243,6 +270,14 @@ impl Package {
         self.add_type(&mut page, code, definitions)
     }
 
+    // The crate stands on that of required fields.
+    fn need_required(&mut self) {
+        if self.roots.get("requiring").is_empty() {
+            self.roots.set("requiring", "requiring");
+            self.roots.append("needs", " wire_required");
+        }
+    }
+
     /// A module of code, and that of its definitions.
     pub(crate) fn add_type(
         &mut self,
@@ -250,19 +285,25 @@ impl Package {
         code: String,
         definitions: String,
     ) -> Result<(), GenerateError> {
+        self.add_code(page, code)?;
+        self.roots.append("definitions", "pub mod $name$\n");
+        self.add(page, "specs/$name$.antt", definitions)
+    }
+
+    /// The module of a type.
+    pub(crate) fn add_code(&mut self, page: &mut Words, code: String) -> Result<(), GenerateError> {
         self.roots.copy(page, &["name", "module"]);
         let key = order_key(page.alloc(), page.get("module"))?;
         self.roots.set("key", &key);
         self.roots.append_all(&[
             ("modules", "mod $module$\n"),
             ("exports", "$key$\tpub use $module$::$name$;\n"),
-            ("definitions", "pub mod $name$\n"),
         ]);
-        self.add(page, "src/$module$.rt", code)?;
-        self.add(page, "specs/$name$.antt", definitions)
+        self.add(page, "src/$module$.rt", code)
     }
 
-    fn add_extensions(&mut self, schema: &Schema) -> Result<(), GenerateError> {
+    /// The module of the extensions, where the files declare any.
+    pub(crate) fn add_extensions(&mut self, schema: &Schema) -> Result<(), GenerateError> {
         let code = extensions_of(&self.base, schema)?;
         if code.is_empty() {
             return Ok(());
@@ -275,7 +316,8 @@ impl Package {
         self.add(&mut page, "src/extensions.rt", code)
     }
 
-    fn add_services(&mut self, schema: &Schema) -> Result<(), GenerateError> {
+    /// The module of the services, where the files have any.
+    pub(crate) fn add_services(&mut self, schema: &Schema) -> Result<(), GenerateError> {
         let code = services_of(&self.base, schema)?;
         if code.is_empty() {
             return Ok(());

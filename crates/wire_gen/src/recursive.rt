@@ -1,10 +1,13 @@
 //! The code of a message type that holds itself: its fields of its own type, or of those that hold
 //! it, are rows, and all others its leaf, which is written in runs between the rows.
+use crate::choice_code::{
+    ONCE_OF_CHOICE, put_declared, put_ghosts, put_no_rows, put_plain, set_names,
+};
 use crate::code::{put_field_comment, put_head, put_leaf_field, set_leaf_rest};
-use crate::defaults::put_defaults;
+use crate::defaults::{put_defaults, use_defaults};
 use crate::member::{ALONE, ALONE_OF, EACH, MEMBER, MEMBER_OF, ONCE};
 use crate::rows::{is_row, once_place};
-use crate::runs::{put_field_in_run, put_run};
+use crate::runs::{put_field_in_run, put_part_head, put_run};
 use wire_schema::{Field, GenerateError, MessageType, Schema, Words};
 
 const USES: &str = "\
@@ -224,6 +227,7 @@ pub(crate) fn recursive_code(
         page.fill_all(&ALONE);
     }
     page.fill("uses", USES);
+    set_names(&mut page, fields);
     let mut count: usize = 0;
     for field in fields {
         if is_row(field) {
@@ -242,9 +246,11 @@ pub(crate) fn recursive_code(
     put_numbers(&mut page, count);
     put_calls(&mut page);
     set_leaf_rest(&mut page);
+    put_ghosts(&mut page);
+    use_defaults(&mut page, fields);
     put_head(&mut page, schema, message);
     put_defaults(&mut page, fields, true);
-    page.append("code", CODE);
+    page.append_all(&[("code", CODE), ("code", "$parts$")]);
     page.finish("code")
 }
 
@@ -254,7 +260,13 @@ fn is_member(page: &Words) -> bool {
 }
 
 fn put_row(page: &mut Words, schema: &Schema, field: &Field) {
-    put_field_comment(page, schema);
+    page.copy(&field.words, &["choice_variant"]);
+    let is_variant = !page.get("choice_variant").is_empty();
+    if !is_variant {
+        put_field_comment(page, schema);
+    } else if field.oneof.is_some() {
+        put_declared(page, schema);
+    }
     page.fill_all(if is_member(page) {
         &MEMBER_OF
     } else {
@@ -276,7 +288,8 @@ fn put_row(page: &mut Words, schema: &Schema, field: &Field) {
         page.append("uses", "wire_fields push_message\n");
     } else {
         page.set("once", once_place(field));
-        page.append_all(&ONCE);
+        put_no_rows(page);
+        page.append_all(if is_variant { &ONCE_OF_CHOICE } else { &ONCE });
         page.append("uses", "std::slice from_ref\n");
     }
     page.fill("last_number", "$number$");
@@ -293,13 +306,19 @@ fn fill_line(page: &mut Words, forms: &'static [&'static str; 2]) {
 
 // A field of the leaf: one of its run, and an arm.
 fn put_leaf(page: &mut Words, schema: &Schema, field: &Field) {
-    page.copy(
-        &field.words,
-        &["field", "number", "kind", "held", "at", "code"],
-    );
-    put_leaf_field(page, schema, &field.words);
-    page.copy(&field.words, &["number"]);
-    put_field_in_run(page);
+    if let (Some(oneof), false) = (&field.oneof, field.words.get("in_choice").is_empty()) {
+        page.copy(&field.words, &["field"]);
+        put_declared(page, schema);
+        put_part_head(page, &field.words);
+        put_plain(page, oneof);
+        page.copy(&field.words, &["number"]);
+        return put_field_in_run(page, &field.words);
+    }
+    let field = &field.words;
+    page.copy(field, &["field", "number", "kind", "held", "at", "code"]);
+    put_leaf_field(page, schema, field);
+    page.copy(field, &["number"]);
+    put_field_in_run(page, field);
 }
 
 // The field numbers of the rows.

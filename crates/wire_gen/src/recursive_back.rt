@@ -1,8 +1,9 @@
 //! What is read back of a message that holds itself.
 use crate::account::{ACCOUNT, put_account};
+use crate::choice_laws::put_choice_laws;
 use crate::member_definitions::MEMBER_RANGE;
 use crate::returned::{put_returned, put_sides, under_charges};
-use crate::rows::is_row;
+use crate::rows::{NO_FIELDS_BACK, is_bare, is_row};
 use crate::tree::Tree;
 use wire_schema::{Field, Template, Words};
 
@@ -45,6 +46,10 @@ $module$-runs_in_order l = same_order
     $run_pieces$
     (followed $leaf_pieces$(piece (unknown.records l.1))) refl
 
+";
+
+// Where no row is a variant of a oneof.
+const PLAIN_RANGE: &str = "\
 abbrev pub $module$-range : Range $name$-Value
 $module$-range =
     nest_range $module$-table (leaf_range $module$-table $module$-known $module$-range-of-known)
@@ -58,6 +63,60 @@ $module$-returned g =
     ($module$-row_numbers g) $module$-row_places (λ i m. refl) (λ n rs. refl))
     $module$-shape refl refl refl (λ n p. refl)
 ";
+
+// Where some rows are variants of a oneof.
+const CHOICE_RANGE: &str = "\
+abbrev pub $module$-range : Range $name$-Value
+$module$-range =
+    beside_range (alone $module$-table)
+    (λ s. leaf_range $module$-table $module$-known $module$-range-of-known)
+    (λ s. one_stands $module$-choice) tt
+
+pub $module$-returned : Grounds → Returned $module$-shape $module$-range
+$module$-returned g =
+    beside_returned g (alone $module$-table)
+    (λ s. leaf_range $module$-table $module$-known $module$-range-of-known)
+    (λ s. one_stands $module$-choice) (λ s. $module$-leaf.single g.reading)
+    (λ s. choice_back $module$-table
+    (leaf_range $module$-table $module$-known $module$-range-of-known) $module$-choice
+    $module$-leaf.takes $module$-leaf.default $module$-leaf.records $module$-is_choice
+    (known_back g $module$-table $module$-known $module$-range-of-known
+    ($module$-returned-of-known g) (λ n h. $apart$))
+    refl refl $module$-runs_in_order
+    ($module$-row_numbers g) $module$-row_places (λ i m. refl) (λ n rs. refl))
+    tt $module$-shape refl refl refl (λ n p. refl)
+";
+
+const USES_CHOICE: &str = "\
+Rattle.wire_fields.specs.ChoiceBack choice_back
+Rattle.wire_fields.specs.ChoiceBack one_stands
+Rattle.wire_fields.specs.NestBack beside_returned
+Rattle.wire_fields.specs.NestRange beside_range
+Rattle.wire_fields.specs.NestRange known_back
+Rattle.wire_fields.specs.NestRange leaf_range
+Rattle.wire_fields.specs.NestRange runs_from
+Rattle.wire_fields.specs.NestTable alone
+";
+
+// What a member shows of its table.
+const OF_TABLE: [Template; 5] = [
+    ("leaf_back", "LeafBack"),
+    ("stands_of", ""),
+    ("stands_beside", "any_beside"),
+    ("back_of_table", "table_back $module$-table $sum_range$"),
+    ("law_of_choice", ""),
+];
+
+const OF_CHOICE: [Template; 5] = [
+    ("leaf_back", "LeafBeside"),
+    ("stands_of", " (one_stands $sum_choice$)"),
+    ("stands_beside", "one_stands $sum_choice$"),
+    (
+        "back_of_table",
+        "choice_back $module$-table $sum_range$ $sum_choice$",
+    ),
+    ("law_of_choice", "\n    $sum_is_choice$"),
+];
 
 const OF_ROW: [Template; 2] = [
     (
@@ -85,9 +144,20 @@ const OF_NO_ROW: [Template; 2] = [
 pub(crate) fn put_back(page: &mut Words, fields: &[Field], tree: &Tree) {
     let is_alone = page.get("family_name").is_empty();
     page.append("uses", USES);
-    page.append("uses", if is_alone { USES_ALONE } else { "" });
+    let is_choice = !page.get("choice").is_empty();
+    page.append(
+        "uses",
+        match (is_alone, is_choice) {
+            (true, true) => USES_CHOICE,
+            (true, false) => USES_ALONE,
+            (false, _) => "",
+        },
+    );
+    page.fill_all(if is_choice { &OF_CHOICE } else { &OF_TABLE });
+    put_choice_laws(page);
     page.fill_all(&[("at", "zero"), ("at_least", "i"), ("run_piece", "")]);
     page.fill_all(&[("run_ends", "(piece none)"), ("run_pieces", "")]);
+    page.fill_all(&[("outer_piece", ""), ("leaf_pieces", "")]);
     for field in fields {
         page.copy(&field.words, &["number", "table", "path"]);
         if is_row(field) {
@@ -95,9 +165,15 @@ pub(crate) fn put_back(page: &mut Words, fields: &[Field], tree: &Tree) {
             page.fill_all(&[("at", "(suc $at$)"), ("at_least", "(suc $at_least$)")]);
             end_run(page);
         } else {
-            put_piece(page, "(piece (($table$).records l.0$path$))");
+            put_field_piece(page, &field.words);
             put_leaf_piece(page);
         }
+    }
+    if is_bare(fields) {
+        page.append_all(&[
+            ("uses", NO_FIELDS_BACK),
+            ("leaf_pieces", "(piece none)\n    "),
+        ]);
     }
     page.append_all(&OF_NO_ROW);
     put_piece(page, "(piece (unknown.records l.1))");
@@ -114,12 +190,30 @@ pub(crate) fn put_back(page: &mut Words, fields: &[Field], tree: &Tree) {
     }
     page.append("ranges", if is_alone { RANGE } else { MEMBER_RANGE });
     if is_alone {
+        page.append("ranges", if is_choice { CHOICE_RANGE } else { PLAIN_RANGE });
+    }
+    if is_alone {
         under_charges(page);
     }
     page.append("back", "\n$ranges$");
 }
 
-// Puts the records of a field behind those of the run so far.
+// Puts the records of a field behind those of the run so far, or of the part that it stands in.
+fn put_field_piece(page: &mut Words, field: &Words) {
+    let is_within = !page.get("outer_piece").is_empty();
+    if !field.get("in_part").is_empty() && !is_within {
+        page.fill_all(&[("outer_piece", "$run_piece$ "), ("run_piece", "")]);
+    }
+    put_piece(page, "(piece (($table$).records l.0$path$))");
+    if !field.get("high").is_empty() {
+        page.fill("whole_part", "$run_piece$");
+        let outer = page.take("outer_piece");
+        page.set("run_piece", outer.trim_end());
+        put_piece(page, "$whole_part$");
+    }
+}
+
+// Puts records behind those of the run so far.
 fn put_piece(page: &mut Words, piece: &str) {
     page.fill("part", piece);
     let is_first = page.get("run_piece").is_empty();

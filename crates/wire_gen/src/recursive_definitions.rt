@@ -1,13 +1,13 @@
 //! The definitions and the proofs of a message type that holds itself.
+use crate::choice::{put_choice, set_row_path};
 use crate::comments::set_heading;
 use crate::definitions::put_field_range;
 use crate::imports::definition_imports;
 use crate::laws_pages::has_laws;
-use crate::member_definitions::{
-    MEMBER_PUSH, MEMBER_PUSH_HEAD, MEMBER_ROW, MEMBER_ROW_HEAD, MEMBER_USES,
-};
+use crate::member_definitions::MEMBER_USES;
 use crate::recursive_back::put_back;
-use crate::rows::{is_row, once_place};
+use crate::rows::{USES_OF_NO_FIELDS, is_bare, is_row, once_place};
+use crate::runs::{begin_part, end_part};
 use crate::tree::Tree;
 use wire_schema::{Field, GenerateError, Template, Words};
 
@@ -33,7 +33,7 @@ Rattle.wire_fields.specs.Nest nest
 Rattle.wire_fields.specs.Nest row
 Rattle.wire_fields.specs.Nest row_count
 Rattle.wire_fields.specs.Nest row_of
-Rattle.wire_fields.specs.NestTable as_it_was
+$uses_of_beside$\
 Rattle.wire_fields.specs.NestTable empty_of
 Rattle.wire_fields.specs.NestTable if_number
 Rattle.wire_fields.specs.NestTable nest_records
@@ -68,7 +68,7 @@ const WHAT: &str = "`$name$` as contracts see it, and its table: its leaf, and r
                     its own type.";
 
 const TEXT: &str = "\
-$heading$$imports$$aliases$
+$heading$$imports$$aliases$$choice_aliases$
 $kinds$abbrev pub $name$-Known : Type 0
 $name$-Known =
     $value$
@@ -79,8 +79,8 @@ $name$-Leaf = $name$-Known × Fields
 abbrev pub $name$-Value : Type 0
 $name$-Value = nests.Nest $name$-Leaf
 
--- one message, with values in the places of those that it holds
-abbrev pub $module$-one : $name$-F $name$-Value → $name$-Value
+$helds$-- one message, with values in the places of those that it holds
+abbrev pub $module$-one : $name$-F$trees$ → $name$-Value
 $module$-one m =
     nest (
 $view$,
@@ -89,16 +89,16 @@ $view$,
     $row_views$
 
 abbrev pub $module$-value : $name$ → $name$-Value
-$module$-value = fold-$name$ $name$-Value $module$-one
+$module$-value = fold-$name$$trees$$ones$
 
-abbrev pub $module$-known : Shape $name$-Known
+$choice_folds$abbrev pub $module$-known : Shape $name$-Known
 $module$-known =
     $table$
 
 abbrev pub $module$-leaf : Shape $name$-Leaf
 $module$-leaf = two $module$-known unknown
 
--- the records of the leaf before the first row, behind the first, and so on
+$run_parts$-- the records of the leaf before the first row, behind the first, and so on
 abbrev pub $module$-run : ℕ → $name$-Leaf → Records
 $runs$
 abbrev pub $module$-number : ℕ → ℕ
@@ -108,7 +108,7 @@ $onces$
 abbrev pub $module$-place : ℕ → place.Place
 $module$-place n = $places$
 
-abbrev pub $module$-table : tables.Table $name$-Leaf
+$choice_table$abbrev pub $module$-table : tables.Table $name$-Leaf
 $module$-table = record {
   default = $module$-leaf.default;
   takes = $module$-leaf.takes;
@@ -117,12 +117,12 @@ $module$-table = record {
   number = $module$-number;
   once = $module$-once;
   place = $module$-place;
-  beside = as_it_was;
-  rows_beside = as_it_was;
+  beside = $beside$;
+  rows_beside = $rows_beside$;
 }
 
-pub $module$-counted : (m : $name$) → row_count ($module$-value m) ≡ $count$
-$module$-counted m = ap row_count (fold_out-$name$ $name$-Value $module$-one m)
+$choice_laws$pub $module$-counted : (m : $name$) → row_count ($module$-value m) ≡ $count$
+$module$-counted m = ap row_count (fold_out-$name$$trees$$ones$ m)
 
 pub $module$-single : OneReading → IsSingle (nest_takes $module$-table)
 $module$-single reading = nest_single $module$-table reading ($module$-leaf.single reading)
@@ -157,6 +157,14 @@ pub(crate) fn table_page(base: &Words, fields: &[Field], tree: &Tree) -> Words {
     let mut page = Words::like(base);
     let is_member = !page.get("family_name").is_empty();
     page.fill("uses", if is_member { MEMBER_USES } else { USES });
+    page.append(
+        "uses",
+        if is_bare(fields) {
+            USES_OF_NO_FIELDS
+        } else {
+            ""
+        },
+    );
     page.fill_all(&[("at", "zero"), ("at_least", "i")]);
     let mut count: usize = 0;
     for field in fields {
@@ -186,7 +194,7 @@ pub(crate) fn table_page(base: &Words, fields: &[Field], tree: &Tree) -> Words {
                     put_field_range(&mut page);
                 }
             }
-            put_in_run(&mut page, "($table$).records l.0$path$");
+            put_field_in_run(&mut page, &field.words);
         }
     }
     put_in_run(&mut page, "unknown.records l.1");
@@ -194,6 +202,7 @@ pub(crate) fn table_page(base: &Words, fields: &[Field], tree: &Tree) -> Words {
     put_number(&mut page, "$least_before$");
     page.index("count", count);
     put_rows(&mut page, fields, count);
+    put_choice(&mut page, fields);
     if is_read_back {
         put_back(&mut page, fields, tree);
     }
@@ -204,7 +213,41 @@ pub(crate) fn table_page(base: &Words, fields: &[Field], tree: &Tree) -> Words {
     page
 }
 
-// Puts the records of a field behind those of the run so far.
+// Some fields of a run, which are a part by themselves.
+const RUN_PART: &str = "\
+-- the records of the fields $low$ to $high$
+abbrev pub $module$-records-$low$-to-$high$ : $name$-Leaf → Records
+$module$-records-$low$-to-$high$ l =
+    $run$
+
+";
+
+// The field of a oneof of which some variants are rows.
+const RUN_CHOICE: &str = "\
+-- the records of the fields of `$choice$` that are of the leaf
+abbrev pub $module$-records-$number$ : $name$-Leaf → Records
+$module$-records-$number$ l = ($table$).records l.0$path$
+
+";
+
+// Puts the records of a field behind those of the run so far, or of the part that it stands in.
+fn put_field_in_run(page: &mut Words, field: &Words) {
+    if !field.get("in_part").is_empty() {
+        begin_part(page);
+    }
+    put_in_run(page, "($table$).records l.0$path$");
+    if !field.get("in_choice").is_empty() {
+        page.append("run_parts", RUN_CHOICE);
+    }
+    if !field.get("high").is_empty() {
+        page.copy(field, &["low", "high"]);
+        page.append("run_parts", RUN_PART);
+        end_part(page);
+        put_in_run(page, "$module$-records-$low$-to-$high$ l");
+    }
+}
+
+// Puts records behind those of the run so far.
 fn put_in_run(page: &mut Words, part: &str) {
     page.fill("part", part);
     let is_first = page.get("run").is_empty();
@@ -265,96 +308,17 @@ fn put_rows(page: &mut Words, fields: &[Field], count: usize) {
             let is_each = field.words.get("kind").starts_with("Each");
             page.set("once", once_place(field));
             page.fill_all(if is_each { &OF_EACH } else { &OF_ONCE });
+            if !field.words.get("choice_variant").is_empty() {
+                set_row_path(page, fields, field.words.get("number"));
+                page.fill(
+                    "row_view",
+                    "(or_else $choice_module$-none m.$field$)$row_path$",
+                );
+            }
             page.fill_all(&[
                 ("places", "if_number (n == $number$) ($here$) ($places$)"),
                 ("row_views", "(row (row_of $row_view$) $row_views$)"),
             ]);
         }
     }
-}
-
-const ROW_HEAD: &str = "\
-use Rattle.std.proofs.Common.{◌∙◌, ap, map, sym}
-use Rattle.wire_fields.specs.Nest.{listed_row}
-use Rattle.$crate$.specs.$name$.{$name$-Value, $module$-one, $module$-value}
-use Rattle.$crate$.specs.declared.$module$.$name$.{fold_out-$name$}
-use Rattle.$crate$.proofs.$module$.$name$RecursiveAlone.row.Goals as goal
-";
-
-const ROW: &str = "
-pub returns-in-$row$ : goal.returns-in-$row$
-returns-in-$row$ c =
-    rw (c.in-$row$.is, fold_out-$name$ $name$-Value $module$-one c.args.self.now)
-    (ap (map $module$-value) $call$.ensures.value ∙ sym (listed_row _))
-";
-
-const PUSH_HEAD: &str = "\
-use Rattle.std.proofs.Common.{◌∙◌}
-use Rattle.std.proofs.lemmas.Result.{on_ok_weaker}
-use Rattle.wire_fields.specs.Nest.{listed_row, row_pushed}
-use Rattle.$crate$.specs.$name$.{$name$-Value, $module$-one, $module$-value}
-use Rattle.$crate$.specs.declared.$module$.$name$.{$name$, out-$name$, fold_out-$name$}
-use Rattle.$crate$.specs.declared.$module$.$name$.TheFolds.{fold-roll-$name$, map-$name$}
-use Rattle.$crate$.proofs.$module$.$name$RecursiveMember.push.Goals as goal
-";
-
-const PUSH: &str = "
-pub returns-in-$row$-clause-ok : goal.returns-in-$row$-clause-ok
-returns-in-$row$-clause-ok c =
-    λ here many kind. on_ok_weaker $call$.result (λ pushed. rw (
-      c.in-$row$.is,
-      fold_out-$name$ $name$-Value $module$-one c.args.self.now,
-    ) (fold-roll-$name$ $name$-Value $module$-one _
-    ∙ row_pushed $module$-value $row$
-    ($module$-one (map-$name$ $name$ $name$-Value $module$-value (out-$name$ c.args.self.now)))
-    _ _ c.args.message (listed_row _) pushed)) $call$.ensures.ok
-";
-
-/// The answers of `row`, and those of `push`; nothing where there is no row of many messages.
-pub(crate) fn row_answers(base: &Words, fields: &[Field]) -> Result<[String; 2], GenerateError> {
-    let mut page = Words::like(base);
-    let is_member = !page.get("family_name").is_empty();
-    let mut row: usize = 0;
-    let mut is_first = true;
-    for field in fields {
-        if is_row(field) {
-            if field.words.get("kind").starts_with("Each") {
-                page.copy(&field.words, &["of_name", "of_module"]);
-                page.index("row", row);
-                page.fill(
-                    "call",
-                    if row == 0 {
-                        "c.deref"
-                    } else {
-                        "(c.deref-in-$row$)"
-                    },
-                );
-                page.append("rows", if is_member { MEMBER_ROW } else { ROW });
-                page.fill(
-                    "call",
-                    if is_first {
-                        "c.push_message"
-                    } else {
-                        "(c.push_message-in-$row$)"
-                    },
-                );
-                page.append("pushes", if is_member { MEMBER_PUSH } else { PUSH });
-                is_first = false;
-            }
-            row = row.saturating_add(1);
-        }
-    }
-    if !is_first {
-        page.fill("of_row", if is_member { MEMBER_ROW_HEAD } else { ROW_HEAD });
-        page.fill(
-            "of_push",
-            if is_member {
-                MEMBER_PUSH_HEAD
-            } else {
-                PUSH_HEAD
-            },
-        );
-        page.append_all(&[("of_row", "$rows$"), ("of_push", "$pushes$")]);
-    }
-    Ok([page.finish("of_row")?, page.finish("of_push")?])
 }

@@ -1,6 +1,8 @@
 //! Which fields of a message are of its own type, or of one of its family.
+use crate::choice::{row_of, set_choice};
+use crate::runs::tell_parts;
 use crate::tree::{Tree, tree_of};
-use wire_schema::{Field, GenerateError, Words};
+use wire_schema::{Field, GenerateError, Template, Words};
 
 /// Whether a field is of its message's own type, or of one of its family.
 pub(crate) fn is_row(field: &Field) -> bool {
@@ -16,25 +18,56 @@ pub(crate) fn leaf_tree(
     let alloc = base.alloc();
     let mut order = Vec::new(alloc);
     let (mut rows, mut leaf) = (Vec::new(alloc), Vec::new(alloc));
+    if !base.get("choices").is_empty() {
+        return Err(base.refused(SEVERAL));
+    }
+    if !base.get("choice").is_empty() && !base.get("family_name").is_empty() {
+        return Err(base.refused(ONE_ANOTHER));
+    }
     for mut field in fields {
         if is_own(base, &field.words) {
             field.words.set("is_row", "is_row");
         } else if holds_own(base, &field) {
             return Err(base.refused(BY_OTHER));
         }
-        order.push(is_row(&field))?;
-        if is_row(&field) {
-            rows.push(field)?;
-        } else {
-            leaf.push(field)?;
+        let mut variants = Vec::new(alloc);
+        if let Some(oneof) = &mut field.oneof {
+            std::mem::swap(&mut variants, &mut oneof.rows);
+            let mut own = oneof.variants.iter();
+            if !variants.is_empty() && own.any(|it| it.get("presence") != "Always") {
+                return Err(base.refused(BESIDE_OTHERS));
+            }
+        }
+        let mut of = Words::new(alloc);
+        of.copy(&field.words, &["field"]);
+        let mut whole = Some(field);
+        for variant in variants {
+            let row = row_of(variant, &of, &mut whole);
+            if let Some(field) = whole.take() {
+                order.push(false)?;
+                leaf.push(field)?;
+            }
+            order.push(true)?;
+            rows.push(row)?;
+        }
+        if let Some(field) = whole {
+            order.push(is_row(&field))?;
+            if is_row(&field) {
+                rows.push(field)?;
+            } else {
+                leaf.push(field)?;
+            }
         }
     }
     let is_plain = base.get("unknown") == "keep" && base.get("mismatch") == "refuse";
     let leaves = leaf.iter().any(|it| it.words.get("sort") == "Leaving");
-    if !is_plain || leaves || leaf.is_empty() || leaf.len() > MOST_LEAVES {
-        return Err(base.refused(NO_LEAF));
+    if !is_plain || leaves {
+        return Err(base.refused(NOT_PLAIN));
     }
-    let tree = tree_of(base, &mut leaf, false)?;
+    let mut tree = tree_of(base, &mut leaf, false)?;
+    if leaf.is_empty() {
+        tree.words.fill_all(&NO_FIELDS);
+    }
     let (mut rows, mut leaf) = (rows.into_iter(), leaf.into_iter());
     let mut fields = Vec::new(alloc);
     for is_row in order {
@@ -43,18 +76,52 @@ pub(crate) fn leaf_tree(
             fields.push(field)?;
         }
     }
+    tell_parts(alloc, &mut fields)?;
+    set_choice(base, &fields, &tree.words);
     Ok((fields, tree))
 }
 
-const BY_OTHER: &str =
-    "$full$: messages that hold themselves or one another by a map, a oneof or groups want \
-                        encoded=FIELD";
+const BY_OTHER: &str = "$full$: messages that hold themselves or one another by a map or by \
+                        lists of groups want encoded=FIELD";
 
-const NO_LEAF: &str = "$full$: a message that holds itself, or what holds it, has one to eight \
-                       other fields, and neither closed enums, unknown=drop nor mismatch=keep";
+const BESIDE_OTHERS: &str = "$full$: messages that hold themselves or one another by a oneof that \
+                             has other messages want encoded=FIELD";
 
-// The most other fields: the runs of these are tuples.
-const MOST_LEAVES: usize = 8;
+const ONE_ANOTHER: &str = "$full$: messages that hold one another by a oneof want encoded=FIELD";
+
+const SEVERAL: &str = "$full$: messages that hold themselves or one another by several oneofs want \
+                       encoded=FIELD";
+
+const NOT_PLAIN: &str = "$full$: a message that holds itself, or what holds it, has neither \
+                         closed enums, unknown=drop nor mismatch=keep";
+
+// The tree of no fields.
+const NO_FIELDS: [Template; 8] = [
+    ("value", "⊤"),
+    ("view", "tt"),
+    ("table", "no_fields"),
+    ("unlike", "refl"),
+    ("range", "no_fields_range"),
+    ("returned", "no_fields_returned"),
+    ("stays", "no_fields_stay"),
+    ("apart", "absurd h"),
+];
+
+/// What the definitions of a message without other fields bring in, and what is read back of it.
+pub(crate) const USES_OF_NO_FIELDS: &str = "\
+Rattle.std.specs.Prelude ⊤
+Rattle.wire_fields.specs.NoFields no_fields
+";
+
+pub(crate) const NO_FIELDS_BACK: &str = "\
+Rattle.wire_fields.specs.NoFields no_fields_range
+Rattle.wire_fields.specs.NoFields no_fields_returned
+";
+
+/// Whether a message that holds itself has no other fields.
+pub(crate) fn is_bare(fields: &[Field]) -> bool {
+    fields.iter().all(is_row)
+}
 
 /// Where records of a row of one message go, which are groups or not.
 pub(crate) fn once_place(field: &Field) -> &'static str {

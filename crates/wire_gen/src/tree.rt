@@ -1,5 +1,6 @@
 //! The fields of a message as a balanced tree of pairs, which its code, its definitions and its
 //! proofs have alike.
+use crate::choice::{SPOT, SPOT_IN_FIRST, SPOT_IN_SECOND};
 use crate::spans::parts_of;
 use wire_schema::{Field, GenerateError, Template, Words};
 
@@ -243,6 +244,11 @@ fn leaf(base: &Words, place: usize, field: &Words) -> Node {
         ],
     );
     words.fill_all(&LEAF);
+    if !field.get("in_choice").is_empty() {
+        words.copy(field, &["module"]);
+        words.fill_all(&SPOT);
+        words.copy(base, &["module"]);
+    }
     let mut is_first = true;
     for number in field.get("numbers").split(' ') {
         words.set("of", number);
@@ -282,6 +288,16 @@ fn pair(left: Node, right: Node) -> Node {
     }
     for name in ["view", "right_view", "seen", "right_seen"] {
         words.indent(name);
+    }
+    if !words.get("spot").is_empty() {
+        words.fill_all(&SPOT_IN_FIRST);
+    } else if !right.words.get("spot").is_empty() {
+        words.copy(
+            &right.words,
+            &["spot", "spot_of", "spot_apart", "spot_path"],
+        );
+        words.copy(&right.words, &["spot_stands", "spot_without"]);
+        words.fill_all(&SPOT_IN_SECOND);
     }
     words.indent_rest("apart");
     words.set("right_in", right.words.get("apart"));

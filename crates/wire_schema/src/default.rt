@@ -96,7 +96,7 @@ pub(crate) fn set_default(
     Ok(())
 }
 
-/// A field of a oneof and an extension have no getter.
+/// An extension has no getter.
 pub fn stop_on_default(
     field: &FieldDescriptorProto,
     words: &mut Words,
@@ -104,7 +104,7 @@ pub fn stop_on_default(
     if field.default_value.is_empty() || words.get("defaults") == "skip" {
         return Ok(());
     }
-    Err(words.refused("$full$.$proto$: default values in oneofs and extensions want defaults=skip"))
+    Err(words.refused("$full$.$proto$: default values of extensions want defaults=skip"))
 }
 
 fn set_signed(text: &str, words: &mut Words) {

@@ -1,7 +1,7 @@
 //! What the syntax or the edition of a file leaves to its parts, as fields of a `FeatureSet`.
 use crate::error::GenerateError;
 use crate::words::Words;
-use wire_descriptor::{FeatureSet, FileDescriptorProto};
+use wire_descriptor::{FeatureSet, FieldDescriptorProto, FileDescriptorProto};
 
 /// The editions that are known: proto2, and that of 2023.
 pub const FIRST_EDITION: i32 = 998;
@@ -38,6 +38,8 @@ const LENGTH_PREFIXED: i32 = 1;
 const DELIMITED: i32 = 2;
 
 const ALLOW: i32 = 1;
+
+const LABEL_REQUIRED: i32 = 2;
 
 /// The features of a part of a file.
 #[derive(Clone, Copy)]
@@ -125,10 +127,6 @@ impl Features {
         self.presence == IMPLICIT
     }
 
-    pub(crate) fn is_required(self) -> bool {
-        self.presence == LEGACY_REQUIRED
-    }
-
     pub fn is_closed(self) -> bool {
         self.enum_type == CLOSED
     }
@@ -150,6 +148,19 @@ impl Features {
     pub(crate) fn is_told_unchecked(self) -> bool {
         self.strings == NONE
     }
+}
+
+/// Whether a field is to be there: of proto2 by its label, of an edition by its own feature.
+pub(crate) fn is_required(field: &FieldDescriptorProto) -> bool {
+    let set = match &field.options {
+        Some(options) => options.features.as_deref(),
+        None => None,
+    };
+    let is_legacy = match set {
+        Some(set) => set.field_presence == LEGACY_REQUIRED,
+        None => false,
+    };
+    field.label == LABEL_REQUIRED || is_legacy
 }
 
 // What a set says, where it says something.

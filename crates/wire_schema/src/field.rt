@@ -1,8 +1,8 @@
 //! Fields of a message type, each with its kind.
 use crate::closed::set_closed;
-use crate::default::{set_default, stop_on_default};
+use crate::default::set_default;
 use crate::error::GenerateError;
-use crate::features::Features;
+use crate::features::{Features, is_required};
 use crate::field_names::FieldNames;
 use crate::item::{Sort, set_item};
 use crate::keeping::{leave_others, set_keeping, set_types};
@@ -14,13 +14,12 @@ use crate::words::{Template, Words};
 use std::alloc::Global;
 use wire_descriptor::{DescriptorProto, FieldDescriptorProto};
 
-const LABEL_REQUIRED: i32 = 2;
-
 const LABEL_REPEATED: i32 = 3;
 
 /// A field. Its words are those of its kind, and `field`, its name in code; `at`, its place among
 /// the fields of its descriptor; its `number`, and the `numbers` of all, where it is a oneof; its
-/// part of the `table`, and the `step` of its records.
+/// part of the `table`, and the `step` of its records; whether it is `needed`, as required; and
+/// whether it is `of_requiring`, of a message that has required fields, or holds such.
 #[derive(Drop)]
 pub struct Field {
     pub words: Words,
@@ -66,6 +65,9 @@ fn add_field(
     fields: &mut Vec<Field>,
 ) -> Result<(), GenerateError> {
     let features = features_of(message.origin.features, field, &mut words)?;
+    if schema.is_requiring(field) {
+        words.set("of_requiring", "requiring");
+    }
     let index = match field.oneof_index {
         Some(index) if !field.proto3_optional => index,
         _ => {
@@ -78,7 +80,7 @@ fn add_field(
         let name = names.of_oneof(field);
         fields.push(oneof_of(base, schema, message, index, name)?)?;
     }
-    add_variant(index, variant, fields)
+    add_variant(index, variant, schema.holds_own(message, field), fields)
 }
 
 // The numbers that a closed enum lacks go to the unknown fields.
@@ -91,7 +93,8 @@ fn stop_on_closed(words: &mut Words) -> Result<(), GenerateError> {
     Err(words.refused(why))
 }
 
-/// The features of a field of a message, or of an extension.
+/// The features of a field of a message, or of an extension. Where it is a required one the word
+/// `needed` says so.
 pub fn features_of(
     outer: Features,
     field: &FieldDescriptorProto,
@@ -101,9 +104,8 @@ pub fn features_of(
         Some(options) => outer.with(options.features.as_deref(), words)?,
         None => outer,
     };
-    let is_required = features.is_required() || field.label == LABEL_REQUIRED;
-    if is_required && words.get("required") != "optional" {
-        return Err(words.refused("$full$.$proto$: required fields want required=optional"));
+    if is_required(field) && words.get("required") != "optional" {
+        words.set("needed", "needed");
     }
     Ok(features)
 }
@@ -198,8 +200,8 @@ fn variant_of(
     features: Features,
     field: &FieldDescriptorProto,
 ) -> Result<Words, GenerateError> {
-    stop_on_default(field, &mut words)?;
     let sort = set_item(schema, features, field, &mut words)?;
+    set_default(schema, field, &mut words)?;
     stop_on_closed(&mut words)?;
     set_always(sort, &mut words);
     set_types(false, &mut words);

@@ -1,133 +1,123 @@
 //! Which message types hold one another or themselves, and what follows for those that hold such.
 use crate::error::GenerateError;
-use crate::schema::Schema;
+use crate::features::is_required;
+use crate::graph::{Graph, filled, put_at};
+use crate::names::module_name;
+use crate::schema::{MessageType, Schema, oneof_place};
 use crate::words::Words;
+use std::alloc::Global;
 use wire_descriptor::FieldDescriptorProto;
+
+const REQUIRED_WITHIN: &str = "\
+    $full$: required fields in messages that hold themselves or one another, or in what these hold, \
+    want required=optional";
 
 impl Schema {
     /// Which message types hold themselves, and which hold one another: each tells the place of the
     /// first of its family, by their modules.
     pub(crate) fn find_families(&mut self) -> Result<(), GenerateError> {
         let held = self.held_by_each()?;
-        let families = self.families(&held)?;
-        for (message, family) in self.messages.iter_mut().zip(families) {
-            message.family = family;
-        }
-        for (holder, held) in held {
-            if let Some(message) = self.messages.get_mut(holder) {
-                message.is_recursive |= holder == held;
+        for (place, family) in self.families(&held)?.iter().enumerate() {
+            if let Some(message) = self.messages.get_mut(place) {
+                message.family = *family;
+                message.is_recursive = held.from(place).contains(&place);
             }
         }
-        self.number_members();
+        self.number_members()?;
+        self.find_choices()
+    }
+
+    // Tells each type of which oneofs some variants are messages of the type itself or of its
+    // family: the word `choice`, what the type of such a oneof is called, and `choice_module`; where
+    // there are several, the word `choices`.
+    fn find_choices(&mut self) -> Result<(), GenerateError> {
+        let mut found: Vec<(usize, Words)> = Vec::new(self.alloc);
+        for (holder, message) in self.messages.iter().enumerate() {
+            for field in &message.descriptor.field {
+                if let (Some(place), true) = (oneof_place(field), self.holds_own(message, field)) {
+                    found.push((holder, choice_of(self.alloc, message, place)?))?;
+                }
+            }
+        }
+        for (holder, words) in found {
+            if let Some(message) = self.messages.get_mut(holder) {
+                tell_choice(&mut message.words, &words);
+            }
+        }
         Ok(())
     }
 
+    /// Whether a field that is no map holds messages of its message's own type, or of its family.
+    pub(crate) fn holds_own(&self, message: &MessageType, field: &FieldDescriptorProto) -> bool {
+        let full = message.words.get("full");
+        match self.message(&field.type_name) {
+            Some(held) if held.words.get("full") == full => message.is_recursive,
+            Some(held) => message.family.is_some() && held.family == message.family,
+            None => false,
+        }
+    }
+
     // The place of the first of its family for each type that is of one.
-    fn families(&self, held: &[(usize, usize)]) -> Result<Vec<Option<usize>>, GenerateError> {
-        let open = self.open_ones(held)?;
-        let mut reached = Vec::new(self.alloc);
-        for (start, is_open) in open.iter().enumerate() {
-            reached.push(self.reached(held, start, *is_open)?)?;
+    fn families(&self, held: &Graph) -> Result<Vec<Option<usize>>, GenerateError> {
+        let components = held.components()?;
+        let mut counts: Vec<usize> = filled(self.alloc, components.len(), 0)?;
+        let mut firsts: Vec<Option<usize>> = filled(self.alloc, components.len(), None)?;
+        for (place, component) in components.iter().enumerate() {
+            let first = firsts.get(*component).copied().unwrap_or(None);
+            put_at(&mut firsts, *component, self.earlier(first, place));
+            let count = counts.get(*component).copied().unwrap_or(0);
+            put_at(&mut counts, *component, count.saturating_add(1));
         }
         let mut families = Vec::new(self.alloc);
-        for place in 0..self.messages.len() {
-            families.push(self.first_of_family(&reached, place))?;
+        for component in &components {
+            let count = counts.get(*component).copied().unwrap_or(0);
+            let first = firsts.get(*component).copied().unwrap_or(None);
+            families.push(if count > 1 { first } else { None })?;
         }
         Ok(families)
     }
 
-    // Tells each type of a family its place there, by their modules.
-    fn number_members(&mut self) {
-        for place in 0..self.messages.len() {
-            let index = self.place_in_family(place);
-            if let Some(message) = self.messages.get_mut(place) {
-                if message.family.is_some() {
-                    message.words.index("index", index);
-                    message.words.fill("member", "$index$ ∷ ");
-                }
-            }
-        }
-    }
-
-    // How many of the family of the type at this place are before it.
-    fn place_in_family(&self, place: usize) -> usize {
-        let Some(own) = self.messages.get(place) else {
-            return 0;
-        };
-        let family = self.messages.iter().filter(|it| it.family == own.family);
-        let module = own.words.get("module");
-        family.filter(|it| it.words.get("module") < module).count()
-    }
-
-    // Those that lead to types that hold one another: each turn leaves those open that hold an open
-    // one beside themselves.
-    fn open_ones(&self, held: &[(usize, usize)]) -> Result<Vec<bool>, GenerateError> {
-        let mut open = self.flags(true)?;
-        for _ in 0..self.messages.len() {
-            let mut next = self.flags(false)?;
-            for (holder, held) in held {
-                if holder != held && open.get(*held) == Some(&true) {
-                    if let Some(flag) = next.get_mut(*holder) {
-                        *flag = true;
-                    }
-                }
-            }
-            if next == open {
-                break;
-            }
-            open = next;
-        }
-        Ok(open)
-    }
-
-    // What the type at a place holds, whatever lies between; itself where it is open, and else
-    // nothing.
-    fn reached(
-        &self,
-        held: &[(usize, usize)],
-        start: usize,
-        is_open: bool,
-    ) -> Result<Vec<bool>, GenerateError> {
-        let mut flags = self.flags(false)?;
-        if let Some(flag) = flags.get_mut(start) {
-            *flag = is_open;
-        }
-        for _ in 0..self.messages.len() {
-            let mut is_same = true;
-            for (holder, held) in held {
-                if flags.get(*holder) == Some(&true) && flags.get(*held) == Some(&false) {
-                    if let Some(flag) = flags.get_mut(*held) {
-                        *flag = true;
-                        is_same = false;
-                    }
-                }
-            }
-            if is_same {
-                break;
-            }
-        }
-        Ok(flags)
-    }
-
-    // The first of those that the type at this place reaches and that reach it, where there are
-    // others.
-    fn first_of_family(&self, reached: &[Vec<bool>], place: usize) -> Option<usize> {
-        let mut first: Option<(&str, usize)> = None;
-        let mut count: usize = 0;
-        for (other, message) in self.messages.iter().enumerate() {
-            if reaches(reached, place, other) && reaches(reached, other, place) {
-                let own = (message.words.get("module"), other);
-                first = match first {
-                    Some(least) if least <= own => Some(least),
-                    _ => Some(own),
-                };
-                count = count.saturating_add(1);
-            }
-        }
+    // Of two places the one whose module comes first.
+    fn earlier(&self, first: Option<usize>, place: usize) -> Option<usize> {
         match first {
-            Some((_, first)) if count > 1 => Some(first),
-            _ => None,
+            Some(first) if self.order(first) <= self.order(place) => Some(first),
+            _ => Some(place),
         }
+    }
+
+    // By what a type comes before others of its family.
+    fn order(&self, place: usize) -> (&str, usize) {
+        match self.messages.get(place) {
+            Some(message) => (message.words.get("module"), place),
+            None => ("", place),
+        }
+    }
+
+    // Tells each type of a family its place there, by their modules.
+    fn number_members(&mut self) -> Result<(), GenerateError> {
+        let mut members = Vec::new(self.alloc);
+        for (place, message) in self.messages.iter().enumerate() {
+            if let Some(family) = message.family {
+                let module = String::from_str(self.alloc, message.words.get("module"))?;
+                members.push((family, module, place))?;
+            }
+        }
+        members.sort()?;
+        let mut last = None;
+        let mut index: usize = 0;
+        for (family, _, place) in members {
+            index = if last == Some(family) {
+                index.saturating_add(1)
+            } else {
+                0
+            };
+            last = Some(family);
+            if let Some(message) = self.messages.get_mut(place) {
+                message.words.index("index", index);
+                message.words.fill("member", "$index$ ∷ ");
+            }
+        }
+        Ok(())
     }
 
     /// The clone of a message that holds itself or others is a derived one, which says nothing of it, nor of
@@ -137,7 +127,7 @@ impl Schema {
         for (message, flag) in self.messages.iter().zip(flags.iter_mut()) {
             *flag = !message.is_recursive && message.family.is_none();
         }
-        self.spread(&mut flags)?;
+        self.held_by_each()?.spread(&mut flags)?;
         for (message, flag) in self.messages.iter_mut().zip(flags) {
             message.is_twin = flag;
         }
@@ -152,13 +142,58 @@ impl Schema {
             let mut fields = message.descriptor.field.iter();
             flags.push(!fields.any(|it| self.leaves_entries(it)))?;
         }
-        self.spread(&mut flags)?;
+        self.held_by_each()?.spread(&mut flags)?;
         for (message, is_plain) in self.messages.iter_mut().zip(flags) {
             if !is_plain {
                 message.words.set("charged", "charged");
             }
         }
         Ok(())
+    }
+
+    /// Which types have required fields, or hold messages of one that has, where these are looked
+    /// at: none that is generated holds itself, or others that hold it.
+    pub(crate) fn find_required(&mut self, base: &Words) -> Result<(), GenerateError> {
+        let mut flags = Vec::new(self.alloc);
+        for message in &self.messages {
+            flags.push(!message.descriptor.field.iter().any(is_required))?;
+        }
+        if base.get("required") == "optional" || flags.iter().all(|it| *it) {
+            return Ok(());
+        }
+        let held = self.held_by_each()?;
+        held.spread(&mut flags)?;
+        for (message, is_plain) in self.messages.iter_mut().zip(flags) {
+            if !is_plain {
+                message.words.set("requiring", "requiring");
+            }
+        }
+        self.stop_on_required(&held)
+    }
+
+    // No type that is generated has a required field within one that holds itself.
+    fn stop_on_required(&self, held: &Graph) -> Result<(), GenerateError> {
+        for (place, holder) in self.messages.iter().enumerate() {
+            for held in held.from(place) {
+                let Some(held) = self.messages.get(*held) else {
+                    continue;
+                };
+                let is_round = held.is_recursive || held.family.is_some();
+                if is_round && holder.origin.is_own && !held.words.get("requiring").is_empty() {
+                    let mut words = Words::like(&held.words);
+                    return Err(words.refused(REQUIRED_WITHIN));
+                }
+            }
+        }
+        Ok(())
+    }
+
+    /// Whether a field holds a message that has required fields, or holds such a message.
+    pub(crate) fn is_requiring(&self, field: &FieldDescriptorProto) -> bool {
+        match self.message(self.held(field)) {
+            Some(message) => !message.words.get("requiring").is_empty(),
+            None => false,
+        }
     }
 
     // Whether the values of a field, those of a map too, are of a closed enum.
@@ -185,21 +220,6 @@ impl Schema {
         }
     }
 
-    // Takes the flag from what holds a message without one.
-    fn spread(&self, flags: &mut Vec<bool>) -> Result<(), GenerateError> {
-        let held = self.held_by_each()?;
-        for _ in 0..self.messages.len() {
-            for (holder, held) in &held {
-                if flags.get(*held) == Some(&false) {
-                    if let Some(flag) = flags.get_mut(*holder) {
-                        *flag = false;
-                    }
-                }
-            }
-        }
-        Ok(())
-    }
-
     // A flag for each message type.
     fn flags(&self, flag: bool) -> Result<Vec<bool>, GenerateError> {
         let mut flags = Vec::new(self.alloc);
@@ -209,23 +229,21 @@ impl Schema {
         Ok(flags)
     }
 
-    // The places of message types, each with that of one that it holds.
-    fn held_by_each(&self) -> Result<Vec<(usize, usize)>, GenerateError> {
-        let mut pairs = Vec::new(self.alloc);
+    // Which message types hold which, by their places.
+    pub(crate) fn held_by_each(&self) -> Result<Graph, GenerateError> {
+        let mut held = Graph::new(self.alloc, self.messages.len())?;
         for (holder, message) in self.messages.iter().enumerate() {
             for field in &message.descriptor.field {
-                let held = self.held(field);
-                let mut places = self.messages.iter();
-                if let Some(held) = places.position(|it| it.words.get("full") == held) {
-                    pairs.push((holder, held))?;
+                if let Some(place) = self.places.message(self.held(field)) {
+                    held.lead(holder, place)?;
                 }
             }
         }
-        Ok(pairs)
+        Ok(held)
     }
 
     // The message that a field holds, as values of a map too; nothing where it holds none.
-    fn held<'a>(&'a self, field: &'a FieldDescriptorProto) -> &'a str {
+    pub(crate) fn held<'a>(&'a self, field: &'a FieldDescriptorProto) -> &'a str {
         match self.entry(&field.type_name) {
             Some(entry) => match entry.descriptor.field.iter().find(|it| it.number == 2) {
                 Some(value) => value.type_name.as_str(),
@@ -236,9 +254,20 @@ impl Schema {
     }
 }
 
-fn reaches(reached: &[Vec<bool>], from: usize, to: usize) -> bool {
-    match reached.get(from) {
-        Some(flags) => flags.get(to) == Some(&true),
-        None => false,
+// What the type of the oneof at this place is called.
+fn choice_of(alloc: Global, message: &MessageType, place: usize) -> Result<Words, GenerateError> {
+    let mut words = Words::new(alloc);
+    words.set("choice", message.oneof_name(place));
+    let module = module_name(alloc, message.oneof_name(place))?;
+    words.set("choice_module", &module);
+    Ok(words)
+}
+
+// Tells a type of such a oneof.
+fn tell_choice(message: &mut Words, words: &Words) {
+    let is_new = message.get("choice") != words.get("choice");
+    if is_new && !message.get("choice").is_empty() {
+        message.set("choices", "several");
     }
+    message.copy(words, &["choice", "choice_module"]);
 }

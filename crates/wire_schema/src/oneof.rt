@@ -14,6 +14,9 @@ pub struct Oneof {
     index: i32,
     pub words: Words,
     pub variants: Vec<Words>,
+    /// Those variants that are messages of the type itself or of its family, which stand among none
+    /// of the above.
+    pub rows: Vec<Words>,
 }
 
 /// Whether there is no oneof of this index.
@@ -58,24 +61,34 @@ pub(crate) fn oneof_of(
             index,
             words: of,
             variants: Vec::new(base.alloc()),
+            rows: Vec::new(base.alloc()),
         }),
     })
 }
 
-/// Puts a field into its oneof, which is there.
+/// Puts a field into its oneof, which is there, as a row or not.
 pub(crate) fn add_variant(
     index: i32,
     mut variant: Words,
+    is_row: bool,
     fields: &mut [Field],
 ) -> Result<(), GenerateError> {
     for field in fields {
         if let Some(oneof) = &mut field.oneof {
             if oneof.index == index {
                 tell_apart(&mut variant, oneof);
+                put_declared(&mut oneof.words, &variant, is_row);
+                if is_row {
+                    oneof.rows.push(variant)?;
+                    return Ok(());
+                }
                 if oneof.variants.is_empty() {
                     field.words.set("number", variant.get("number"));
                 }
                 put_number(&mut field.words, &variant);
+                if !variant.get("of_requiring").is_empty() {
+                    field.words.copy(&variant, &["of_requiring"]);
+                }
                 oneof.variants.push(variant)?;
                 return Ok(());
             }
@@ -84,13 +97,27 @@ pub(crate) fn add_variant(
     Ok(())
 }
 
+// The lines of all variants as they are declared.
+fn put_declared(words: &mut Words, variant: &Words, is_row: bool) {
+    words.copy(variant, &["variant", "held"]);
+    words.append(
+        "declared",
+        if is_row {
+            "    $variant$(Box<$held$>),\n"
+        } else {
+            "    $variant$($held$),\n"
+        },
+    );
+}
+
 // In a clause a variant is not called as its oneof, nor as its enum, and in code not as another.
 fn tell_apart(variant: &mut Words, oneof: &Oneof) {
     if variant.get("variant") == oneof.words.get("name") {
         variant.append("variant", "_");
     }
     let name = variant.get("variant");
-    if oneof.variants.iter().any(|it| it.get("variant") == name) {
+    let mut others = oneof.variants.iter().chain(oneof.rows.iter());
+    if others.any(|it| it.get("variant") == name) {
         variant.append("variant", "_$number$");
     }
     let is_enum = variant.get("kind").starts_with("Enum<");
@@ -178,7 +205,7 @@ fn oneof_words(
     words.fill("kind_name", "$name$Kind");
     let kind_name = schema
         .names
-        .beside(words.get("crate"), words.get("kind_name"))?;
+        .beside(words.get("whole"), words.get("kind_name"))?;
     words.set("kind_name", &kind_name);
     words.fill("specs", "Rattle.$crate$.specs.$name$");
     words.fill_all(&ONEOF);

@@ -13,8 +13,9 @@ use wire_descriptor::CodeGeneratorRequest;
 /// kept; `mismatch=` whether records of other wire types are refused, or kept with these;
 /// `enums=open` takes closed enums as open ones, `strings=bytes` strings that need not be UTF-8 as
 /// bytes, and `required=optional` required fields as optional ones; `services=skip` passes over
-/// services, `defaults=skip` over default values, and `laws=skip` writes no laws; and each
-/// `encoded=FIELD` names a field of messages that is held as the bytes of their encodings.
+/// services, `defaults=skip` over default values, and `laws=skip` writes no laws; `split=COUNT`
+/// writes crates of about so many message types; and each `encoded=FIELD` names a field of messages
+/// that is held as the bytes of their encodings.
 pub fn set_crate(base: &mut Words, request: &CodeGeneratorRequest) -> Result<(), GenerateError> {
     base.set("crate", first_name(request));
     base.fill_all(&DEFAULTS);
@@ -41,6 +42,7 @@ pub fn set_crate(base: &mut Words, request: &CodeGeneratorRequest) -> Result<(),
     if !is_crate_name(base.get("crate")) {
         return Err(base.refused(NO_NAME));
     }
+    base.fill_all(&[("whole", "$crate$"), ("target", "crates/$crate$")]);
     if base.get("unknown") == "drop" && base.get("mismatch") == "keep" {
         return Err(base.refused("mismatch=keep wants unknown=keep"));
     }
@@ -61,7 +63,7 @@ const NO_NAME: &str = "\
 const PARAMETERS: &str = "\
     parameters are crate=NAME, import=PACKAGE=CRATE, element=BYTES, unknown=keep or drop, \
     mismatch=refuse or keep, enums=open, strings=bytes, required=optional, services=skip, \
-    defaults=skip, laws=skip, and encoded=FIELD: $option$";
+    defaults=skip, laws=skip, split=COUNT, and encoded=FIELD: $option$";
 
 fn set_parameter(base: &mut Words, name: &str, choice: &str) -> Result<(), GenerateError> {
     match (name, choice) {
@@ -79,6 +81,7 @@ fn set_parameter(base: &mut Words, name: &str, choice: &str) -> Result<(), Gener
             base.set("element", choice);
             base.fill_all(&[("of_text", "$element$"), ("of_entry", "$element$")]);
         }
+        ("split", _) if is_size(choice) => base.set("split", choice),
         ("encoded", _) => {
             base.set("name", choice);
             base.append("encoded", ".$name$\n");

@@ -4,6 +4,7 @@ use crate::error::GenerateError;
 use crate::features::Features;
 use crate::origin::{home_of, inner, own_origin};
 use crate::parameters::adapt;
+use crate::places::Places;
 use crate::type_names::{TypeNames, place_of};
 use crate::words::Words;
 use std::alloc::Global;
@@ -30,7 +31,8 @@ pub struct Origin {
 /// A message type. Its words are `full`, its name in schemas, as `.package.Outer.Inner`; `name`,
 /// the one in code, and `module`; `outer`, the names of the types that it stands in and its own;
 /// `home`, its crate, if one is named; `place`, its file and the numbers that lead there; `charged`, where it or what
-/// it holds leaves entries of maps; and `member`, its place in its family as the head of a list.
+/// it holds leaves entries of maps; `requiring`, where it or what it holds has required fields; and
+/// `member`, its place in its family as the head of a list.
 #[derive(Drop)]
 pub struct MessageType {
     pub words: Words,
@@ -42,6 +44,8 @@ pub struct MessageType {
     pub family: Option<usize>,
     /// Whether a clone is seen by contracts as its source is.
     pub is_twin: bool,
+    /// The part that has it where the schema is split, from 1 on.
+    pub part: usize,
     /// The places of its oneofs, and what their types are called.
     pub(crate) oneof_names: Vec<(usize, String)>,
 }
@@ -57,6 +61,7 @@ impl MessageType {
             is_recursive: false,
             family: None,
             is_twin: true,
+            part: 0,
         }
     }
 
@@ -97,6 +102,8 @@ pub struct EnumType {
     pub words: Words,
     pub origin: Origin,
     pub descriptor: EnumDescriptorProto,
+    /// As of a message type.
+    pub part: usize,
 }
 
 /// The place of the oneof that a field is of, which does not stand for `optional`.
@@ -122,13 +129,6 @@ pub struct ServiceType {
     pub descriptor: ServiceDescriptorProto,
 }
 
-// What stands before a part of a file.
-#[derive(Drop)]
-struct Comment {
-    place: String,
-    text: String,
-}
-
 #[derive(Drop)]
 pub struct Schema {
     pub alloc: Global,
@@ -142,7 +142,8 @@ pub struct Schema {
     /// The names of types, and of the functions that are extensions.
     pub names: TypeNames,
     pub(crate) functions: TypeNames,
-    comments: Vec<Comment>,
+    pub(crate) places: Places,
+    comments: Vec<String>,
 }
 
 impl Schema {
@@ -159,6 +160,7 @@ impl Schema {
             services: Vec::new(alloc),
             names: TypeNames::new(alloc),
             functions: TypeNames::new(alloc),
+            places: Places::new(alloc),
             comments: Vec::new(alloc),
         };
         for file in &request.proto_file {
@@ -179,6 +181,7 @@ impl Schema {
         schema.find_families()?;
         schema.find_twins()?;
         schema.find_charged()?;
+        schema.find_required(base)?;
         Ok(schema)
     }
 
@@ -257,9 +260,12 @@ impl Schema {
         let enums = &message.descriptor.enum_type;
         self.add_enums(&message.words, "$place$.4.$index$", enums, origin)?;
         let message = MessageType::new(message.words, origin, message.descriptor);
+        let full = message.words.get("full");
         if message.is_entry() {
+            self.places.add_entry(full, self.entries.len())?;
             self.entries.push(message)?;
         } else {
+            self.places.add_message(full, self.messages.len())?;
             self.messages.push(message)?;
         }
         Ok(())
@@ -298,10 +304,12 @@ impl Schema {
                 let features = options.features.as_deref();
                 origin.features = origin.features.with(features, &mut words)?;
             }
+            self.places.add_enum(words.get("full"), self.enums.len())?;
             self.enums.push(EnumType {
                 words,
                 origin,
                 descriptor: descriptor.clone()?,
+                part: 0,
             })?;
         }
         Ok(())
@@ -353,34 +361,37 @@ impl Schema {
             if location.leading_comments.is_empty() {
                 continue;
             }
-            self.comments.push(Comment {
-                place: place_of(self.alloc, &file.name, &location.path)?,
-                text: documentation(self.alloc, &location.leading_comments)?,
-            })?;
+            let before = place_of(self.alloc, &file.name, &location.path)?;
+            self.places.add_comment(&before, self.comments.len())?;
+            let text = documentation(self.alloc, &location.leading_comments)?;
+            self.comments.push(text)?;
         }
         Ok(())
     }
 
     /// What stands before the part of a file that is at this place.
     pub fn comment(&self, place: &str) -> &str {
-        match self.comments.iter().find(|it| it.place.as_str() == place) {
-            Some(comment) => &comment.text,
+        match self
+            .comments
+            .get(self.places.comment(place).unwrap_or(usize::MAX))
+        {
+            Some(comment) => comment,
             None => "",
         }
     }
 
     /// The message type of this full name.
     pub fn message(&self, full: &str) -> Option<&MessageType> {
-        self.messages.iter().find(|it| it.words.get("full") == full)
+        self.messages.get(self.places.message(full)?)
     }
 
     /// The type of a map's entries of this full name.
     pub(crate) fn entry(&self, full: &str) -> Option<&MessageType> {
-        self.entries.iter().find(|it| it.words.get("full") == full)
+        self.entries.get(self.places.entry(full)?)
     }
 
     /// The enum of this full name.
     pub fn enum_of(&self, full: &str) -> Option<&EnumType> {
-        self.enums.iter().find(|it| it.words.get("full") == full)
+        self.enums.get(self.places.enum_of(full)?)
     }
 }

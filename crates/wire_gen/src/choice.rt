@@ -1,0 +1,369 @@
+//! A oneof of which some variants are messages of the type itself or of its family: these are rows,
+//! and the others a field of the leaf.
+use crate::oneof_definitions::put_values;
+use crate::rows::is_row;
+use wire_schema::{Field, Oneof, Template, Words};
+
+// The field of the leaf: how what its message holds is seen, and names that are brought in.
+const OF_LEAF: [Template; 4] = [
+    ("in_choice", "in_choice"),
+    ("view", "(or_else $module$-none m.$field$).0"),
+    (
+        "definitions",
+        "$specs$ $name$-Value\n$specs$ $module$-shape\nRattle.wire_fields.specs.Messages or_else\n",
+    ),
+    ("code", ""),
+];
+
+const OF_ROW: [Template; 2] = [("is_row", "is_row"), ("choice_variant", "$variant$")];
+
+/// The row of a variant. The first of a oneof whose variants are all rows takes the oneof, and else it
+/// stays a field of the leaf.
+pub(crate) fn row_of(mut variant: Words, of: &Words, whole: &mut Option<Field>) -> Field {
+    variant.fill_all(&OF_ROW);
+    variant.copy(of, &["field"]);
+    let is_group = variant.get("presence") == "AlwaysGroup";
+    variant.fill(
+        "kind",
+        if is_group {
+            "Group<$kind$>"
+        } else {
+            "Embedded<$kind$>"
+        },
+    );
+    let mut oneof = None;
+    if let Some(field) = whole {
+        let is_bare = match &field.oneof {
+            Some(oneof) => oneof.variants.is_empty(),
+            None => false,
+        };
+        if is_bare {
+            oneof = field.oneof.take();
+        } else {
+            field.words.fill_all(&OF_LEAF);
+        }
+    }
+    if oneof.is_some() {
+        *whole = None;
+    }
+    Field {
+        words: variant,
+        oneof,
+    }
+}
+
+/// Where it stands in a tree of fields: that it does, by what it is told from other values, and how it
+/// is taken away.
+pub(crate) const SPOT: [Template; 6] = [
+    ("spot", "$module$-spot"),
+    ("spot_of", "$module$"),
+    ("spot_apart", "$apart$"),
+    ("spot_path", ""),
+    ("spot_stands", "is_some"),
+    ("spot_without", "no_variant"),
+];
+
+/// The same in the first of a pair, and in the second.
+pub(crate) const SPOT_IN_FIRST: [Template; 4] = [
+    (
+        "spot",
+        "(first_spot ($table$)\n    ($right_table$) $spot_of$-is_plain\n    \
+        $spot_stands$ $spot_without$\n    $spot$)",
+    ),
+    ("spot_path", ".0$spot_path$"),
+    ("spot_stands", "(λ m. is_some m$spot_path$)"),
+    ("spot_without", "(in_first $spot_without$)"),
+];
+
+pub(crate) const SPOT_IN_SECOND: [Template; 4] = [
+    (
+        "spot",
+        "(second_spot ($table$)\n    ($right_table$) $spot_of$-is_plain\n    \
+        $spot_stands$ $spot_without$\n    $spot$\n    \
+        $spot_of$-plain $spot_of$-tells\n    (λ n p h. $spot_apart$))",
+    ),
+    ("spot_path", ".1$spot_path$"),
+    ("spot_stands", "(λ m. is_some m$spot_path$)"),
+    ("spot_without", "(in_second $spot_without$)"),
+];
+
+/// Tells the page of a type with such a oneof where it stands in the leaf, which is this tree, and
+/// which rows it has.
+pub(crate) fn set_choice(page: &mut Words, fields: &[Field], tree: &Words) {
+    page.copy(tree, &["spot", "spot_path", "spot_stands", "spot_without"]);
+    page.fill_all(&[("choice_rows", ""), ("choice_plain", "")]);
+    page.fill(
+        "uses_of_beside",
+        "Rattle.wire_fields.specs.NestTable as_it_was\n",
+    );
+    if page.get("choice").is_empty() {
+        return;
+    }
+    page.fill("uses_of_beside", "");
+    let mut row: usize = 0;
+    for field in fields {
+        if is_row(field) {
+            if !field.words.get("choice_variant").is_empty() {
+                page.index("row", row);
+                let is_first = page.get("choice_rows").is_empty();
+                page.fill(
+                    "choice_rows",
+                    if is_first {
+                        "i == $row$"
+                    } else {
+                        "($choice_rows$) || (i == $row$)"
+                    },
+                );
+            }
+            row = row.saturating_add(1);
+        } else if !field.words.get("in_choice").is_empty() {
+            set_spot(page, &field.words);
+        }
+    }
+}
+
+// What a leaf without it is in: what one is in with it, but for this part.
+fn set_spot(page: &mut Words, field: &Words) {
+    page.set("choice_plain", "plain");
+    page.set("spot_is", "tt");
+    page.set("steps", ".0");
+    page.append("steps", field.get("path"));
+    let steps = page.take("steps");
+    let mut rest: &str = &steps;
+    for _ in 0..steps.len() {
+        let Some((before, step)) = rest.rsplit_once('.') else {
+            break;
+        };
+        page.set("before", before);
+        if step == "0" {
+            page.fill("spot_is", "($spot_is$, is$before$.1)");
+        } else {
+            page.fill("spot_is", "(is$before$.0, $spot_is$)");
+        }
+        rest = before;
+    }
+}
+
+// ---- as contracts see it
+
+const USES: &str = "\
+Rattle.std.specs.Prelude List
+Rattle.std.specs.Prelude []
+Rattle.std.specs.Prelude box_value
+Rattle.std.specs.Prelude ◌∷◌
+Rattle.std.specs.Prelude ◌==◌
+Rattle.std.specs.Prelude ◌||◌
+Rattle.wire_fields.specs.Messages or_else
+Rattle.wire_fields.specs.NestChoice Choice
+Rattle.wire_fields.specs.NestChoice beside_row
+Rattle.wire_fields.specs.NestChoice rows_beside_field
+Rattle.$crate$.specs.declared.$choice_module$.$choice$ $choice$
+Rattle.$crate$.specs.declared.$choice_module$.$choice$ $choice$-F
+Rattle.$crate$.specs.declared.$choice_module$.$choice$ fold-$choice$
+";
+
+const USES_OF_PLAIN: &str = "\
+Rattle.std.specs.Prelude None
+Rattle.std.specs.Prelude Some
+Rattle.std.specs.Prelude is_some
+Rattle.std.proofs.Common inl
+Rattle.std.proofs.Common inr
+Rattle.wire_fields.specs.NestChoice in_first
+Rattle.wire_fields.specs.NestChoice in_second
+Rattle.wire_fields.specs.NestChoice no_variant
+Rattle.$crate$.specs.$choice$ $choice$-Value
+Rattle.$crate$.specs.$choice$ $choice_module$-is_plain
+$variant_uses$";
+
+const USES_OF_ROWS: &str = "\
+Rattle.std.specs.Prelude ⊤
+Rattle.wire_fields.specs.NestChoice rows_alone
+";
+
+const ALIAS: &str = "\
+use Rattle.$crate$.specs.declared.$first_type$.TheOpen as $choice_module$_variants
+";
+
+const HELD: &str = "\
+-- `$choice$` as contracts see it: the variant that is of the leaf, and the messages of each row
+abbrev pub $choice$-Held : Type 0
+$choice$-Held = $plain_value$ × $rows_value$
+
+abbrev pub $choice_module$-none : $choice$-Held
+$choice_module$-none = ($plain_none$, $rows_none$)
+
+abbrev pub $choice_module$-one : $choice$-F$trees$ → $choice$-Held
+$variant_lines$
+";
+
+const FOLD: &str = "\
+abbrev pub $choice_module$-value : $choice$ → $choice$-Held
+$choice_module$-value = fold-$choice$$trees$$ones$
+
+";
+
+const CHOICE: &str = "\
+-- the oneof `$choice$`: its fields of the leaf, and its rows
+abbrev pub $module$-choice : Choice $name$-Leaf
+$module$-choice = record {
+  is_plain = $choice_module$-is_plain;
+  is_row = λ i. $choice_rows$;
+  stands = λ l. is_some l.0$spot_path$;
+  without = in_first $spot_without$;
+}
+
+";
+
+const ROWS_ALONE: &str = "\
+-- the oneof `$choice$`, whose fields are all rows
+abbrev pub $module$-choice : Choice $name$-Leaf
+$module$-choice = rows_alone (λ i. $choice_rows$)
+
+";
+
+/// The definitions of a type with such a oneof: the words `helds`, what stands before the value of
+/// one message, `choice_folds` and `choice_table`.
+pub(crate) fn put_choice(page: &mut Words, fields: &[Field]) {
+    page.fill_all(&[("helds", ""), ("choice_folds", ""), ("choice_table", "")]);
+    page.fill_all(&[("beside", "as_it_was"), ("rows_beside", "as_it_was")]);
+    if page.get("choice").is_empty() {
+        return;
+    }
+    set_rows_of(page, fields);
+    let is_plain = !page.get("choice_plain").is_empty();
+    page.fill_all(&[("variant_lines", ""), ("variant_uses", "")]);
+    for field in fields {
+        if let Some(oneof) = &field.oneof {
+            if !field.words.get("in_choice").is_empty() {
+                put_plain_lines(page, oneof);
+            }
+        }
+    }
+    put_row_lines(page, fields);
+    page.append("uses", USES);
+    page.append(
+        "uses",
+        if is_plain {
+            USES_OF_PLAIN
+        } else {
+            USES_OF_ROWS
+        },
+    );
+    page.append("choice_aliases", ALIAS);
+    page.set("plain_none", if is_plain { "None" } else { "tt" });
+    page.fill("plain_value", if is_plain { "$choice$-Value" } else { "⊤" });
+    page.fill_all(&[("helds", HELD), ("choice_folds", FOLD)]);
+    page.fill("choice_table", if is_plain { CHOICE } else { ROWS_ALONE });
+    page.fill_all(&[
+        ("beside", "beside_row $sum_choice$"),
+        ("rows_beside", "rows_beside_field $sum_choice$"),
+    ]);
+}
+
+// The type of the messages of all its rows, and none of them.
+fn set_rows_of(page: &mut Words, fields: &[Field]) {
+    page.fill_all(&[("rows_value", ""), ("rows_none", "")]);
+    for field in fields.iter().rev() {
+        if !field.words.get("choice_variant").is_empty() {
+            let is_last = page.get("rows_value").is_empty();
+            page.fill_all(if is_last {
+                &[("rows_value", "(List $tree$)"), ("rows_none", "[]")]
+            } else {
+                &[
+                    ("rows_value", "((List $tree$) × $rows_value$)"),
+                    ("rows_none", "([], $rows_none$)"),
+                ]
+            });
+        }
+    }
+}
+
+// A line of each variant that is of the leaf.
+fn put_plain_lines(page: &mut Words, oneof: &Oneof) {
+    let last = oneof.variants.len().saturating_sub(1);
+    for (place, variant) in oneof.variants.iter().enumerate() {
+        page.copy(variant, &["variant", "before", "behind", "definitions"]);
+        page.copy(variant, &["ghosts"]);
+        put_values(page, place, last);
+        page.append(
+            "variant_lines",
+            "$choice_module$-one ($choice_module$_variants.$variant$ x) = (Some $seen$, $rows_none$)\n",
+        );
+        page.append("variant_uses", "$definitions$");
+    }
+}
+
+// A line of each that is a row, and where the row's messages are: the word `row_path` of each.
+fn put_row_lines(page: &mut Words, fields: &[Field]) {
+    let is_plain = !page.get("choice_plain").is_empty();
+    page.set("plain_of_row", if is_plain { "None" } else { "tt" });
+    let mut count: usize = 0;
+    for field in fields {
+        if !field.words.get("choice_variant").is_empty() {
+            count = count.saturating_add(1);
+        }
+    }
+    let last = count.saturating_sub(1);
+    let mut place: usize = 0;
+    for field in fields {
+        if !field.words.get("choice_variant").is_empty() {
+            page.copy(&field.words, &["choice_variant"]);
+            set_one_row(page, place, last);
+            page.append(
+                "variant_lines",
+                "$choice_module$-one ($choice_module$_variants.$choice_variant$ x) =\n    \
+                ($plain_of_row$, $one_row$)\n",
+            );
+            place = place.saturating_add(1);
+        }
+    }
+}
+
+// The messages of all rows, of which the one at this place has one.
+fn set_one_row(page: &mut Words, place: usize, last: usize) {
+    page.fill_all(&[("one_row", ""), ("here_row", "")]);
+    for _ in 0..last.saturating_add(1) {
+        // from the last on
+        let behind = page.get("here_row").len();
+        let at = last.saturating_sub(behind);
+        page.append("here_row", ".");
+        page.set(
+            "items",
+            if at == place {
+                "(box_value x ∷ [])"
+            } else {
+                "[]"
+            },
+        );
+        let is_last = page.get("one_row").is_empty();
+        page.fill(
+            "one_row",
+            if is_last {
+                "$items$"
+            } else {
+                "($items$, $one_row$)"
+            },
+        );
+    }
+}
+
+/// Where the messages of a row are, of the rows of a oneof: the word `row_path`.
+pub(crate) fn set_row_path(page: &mut Words, fields: &[Field], number: &str) {
+    page.fill("row_path", ".1");
+    let mut is_found = false;
+    let mut is_behind = false;
+    for field in fields {
+        if !field.words.get("choice_variant").is_empty() {
+            if is_found {
+                is_behind = true;
+            } else if field.words.get("number") == number {
+                is_found = true;
+            } else {
+                page.append("row_path", ".1");
+            }
+        }
+    }
+    if is_behind {
+        page.append("row_path", ".0");
+    }
+}

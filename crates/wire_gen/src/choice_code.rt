@@ -1,0 +1,331 @@
+//! The code of a oneof of which some variants are rows.
+use crate::code::put_field_comment;
+use crate::comments::set_heading;
+use crate::imports::{code_imports, ghost_imports};
+use wire_schema::{Field, GenerateError, Oneof, Schema, Template, Words};
+
+const DECLARED: [Template; 4] = [
+    ("declared", "    pub $field$: Option<$choice$>,\n"),
+    ("emptied", "            $field$: None,\n"),
+    ("cleared", "        self.$field$ = None;\n"),
+    ("uses", "crate::$choice_module$ $choice$\n"),
+];
+
+/// The field of the oneof as it is declared.
+pub(crate) fn put_declared(page: &mut Words, schema: &Schema) {
+    page.set("at", "");
+    put_field_comment(page, schema);
+    page.append_all(&DECLARED);
+}
+
+/// A row that is a variant.
+pub(crate) const ONCE_OF_CHOICE: [Template; 4] = [
+    ("places", "            $number$ => Place::$once$($row$),\n"),
+    (
+        "rows",
+        "            $row$ => {
+                match &self.$field$ {
+                    Some($choice$::$choice_variant$(message)) => $slice_open$from_ref(message)$moved_shut$,
+$no_rows$                    None => $slice_open$&[]$moved_shut$,
+                }
+            }
+",
+    ),
+    (
+        "takes",
+        "            $row$ => {
+                match self.$field$.take() {
+                    Some($choice$::$choice_variant$(message)) => $moved_open$Box::into_inner(message)$moved_shut$,
+                    _ => $moved_open$$of_name$::empty(alloc)$moved_shut$,
+                }
+            }
+",
+    ),
+    (
+        "onces",
+        "$arm$ => {
+                self.$field$ = Some($choice$::$choice_variant$(Box::new(alloc, message)?));
+                Ok(())
+            }
+",
+    ),
+];
+
+// What is measured and written of the leaf's variants, and how their records are taken.
+const OF_VARIANT: [Template; 3] = [
+    (
+        "plain_lens",
+        "            Some($choice$::$variant$(value)) => {
+                let field: Known<$presence$<$kind$>> = Known {
+                    number: $digits$,
+                    held: value,
+                };
+                field.len(cache)
+            }
+",
+    ),
+    (
+        "plain_puts",
+        "            Some($choice$::$variant$(value)) => {
+                let field: Known<$presence$<$kind$>> = Known {
+                    number: $digits$,
+                    held: value,
+                };
+                field.put(cache, sink)
+            }
+",
+    ),
+    ("uses", "$code$wire_fields $presence$\nwire_fields Known\n"),
+];
+
+// (a default arm for several variants is not proved)
+const NO_ROW: Template = (
+    "no_rows",
+    "                    Some($choice$::$other$(_)) => $slice_open$&[]$moved_shut$,\n",
+);
+
+const NOT_PLAIN: [Template; 2] = [
+    (
+        "plain_lens",
+        "            Some($choice$::$other$(_)) => Ok(0),\n",
+    ),
+    (
+        "plain_puts",
+        "            Some($choice$::$other$(_)) => Ok(()),\n",
+    ),
+];
+
+const NEW: Template = (
+    "news_of_plain",
+    "        Some($choice$::$other$(_)) => <$presence$<$kind$> as Kind>::empty(alloc),\n",
+);
+
+const TAKEN: &str = "
+// The `$variant$` that stands, or a new one.
+fn $word$_or_new(alloc: Global, held: Option<$choice$>) -> $held$
+    ensures { $of_module$-value result ≡ or_else $of_module$-shape.default ($word$-of-$choice_module$-as
+        (or_else $choice_module$-none (option_map $choice_module$-value held)).0) }
+{
+    match held {
+        Some($choice$::$variant$(value)) => value,
+$news_of_plain$        None => <$presence$<$kind$> as Kind>::empty(alloc),
+    }
+}
+";
+
+const TAKEN_GHOSTS: &str = "\
+Rattle.std.specs.Prelude option_map
+Rattle.std.specs.Prelude ◌≡◌
+Rattle.wire_fields.specs.Messages or_else
+$of_specs$.$of_name$ $of_module$-shape
+$of_specs$.$of_name$ $of_module$-value
+Rattle.$crate$.specs.$choice$ $word$-of-$choice_module$-as
+Rattle.$crate$.specs.$home$ $choice_module$-none
+Rattle.$crate$.specs.$home$ $choice_module$-value
+";
+
+const SET: &str = "            $digits$ => {
+                let value = merge_new::<$presence$<$kind$>, B>(alloc, tag, buf, context)?;
+                self.$field$ = Some($choice$::$variant$(value));
+                Ok(())
+            }
+";
+
+const MERGED: &str = "            $digits$ => {
+                let mut value = $word$_or_new(alloc, self.$field$.take());
+                let merged = <$presence$<$kind$> as Kind>::merge(alloc, tag, &mut value, buf, context);
+                self.$field$ = Some($choice$::$variant$(value));
+                merged
+            }
+";
+
+const PLAIN: &str = "
+// The variants of `$choice$` that are no messages of a row.
+#[derive(Drop)]
+struct $choice$Fields$of_low$To$of_high$<'a> {
+    message: &'a $name$,
+}
+
+impl<'a> Parts for $choice$Fields$of_low$To$of_high$<'a> {
+    ghost use Rattle.wire_fields.specs.Nest.{leaf_of};
+$part_ghosts$
+    ghost records = { λ p.
+        $part_open$$part_records$$part_close$ (leaf_of ($module$-value p.message.now)) };
+
+    fn len(&self, cache: &mut SizeCache) -> Result<u64, EncodeError> {
+        match &self.message.$field$ {
+$plain_lens$            None => Ok(0),
+        }
+    }
+
+    fn put<S: EncodeSink>(&self, cache: &mut SizeCache, sink: &mut S) -> Result<(), EncodeError> {
+        match &self.message.$field$ {
+$plain_puts$            None => Ok(()),
+        }
+    }
+}
+";
+
+/// The variants that are of the leaf: their arms, and what stands for them in the run.
+pub(crate) fn put_plain(page: &mut Words, oneof: &Oneof) {
+    page.fill_all(&[("plain_lens", ""), ("plain_puts", ""), ("of_low", "")]);
+    for variant in &oneof.variants {
+        page.copy(
+            variant,
+            &["variant", "digits", "presence", "kind", "code", "word"],
+        );
+        page.copy(variant, &["held", "of_module", "of_name", "of_specs"]);
+        page.append_all(&OF_VARIANT);
+        if page.get("of_low").is_empty() {
+            page.fill("of_low", "$digits$");
+        }
+        page.fill("of_high", "$digits$");
+        let is_scalar = page.get("presence") == "Always";
+        if is_scalar {
+            page.append("uses", "wire_fields merge_new\n");
+            page.append("arms", SET);
+        } else {
+            page.append("uses", "wire_fields Kind\n");
+            page.append("arms", MERGED);
+            put_taken(page);
+        }
+    }
+    let names = page.take("choice_names");
+    for name in names.split(' ') {
+        let mut own = oneof.variants.iter();
+        if !name.is_empty() && !own.any(|it| it.get("variant") == name) {
+            page.set("other", name);
+            page.append_all(&NOT_PLAIN);
+        }
+    }
+    page.set("choice_names", &names);
+    page.append("parts", PLAIN);
+}
+
+// The function that takes the message of a variant out.
+fn put_taken(page: &mut Words) {
+    let is_alone = page.get("family_name").is_empty();
+    page.fill("home", if is_alone { "$name$" } else { "$family_name$" });
+    page.set("news_of_plain", "");
+    put_others(page, "variant", &NEW);
+    page.append_all(&[("parts", TAKEN), ("choice_ghosts", TAKEN_GHOSTS)]);
+}
+
+// A line for each of the other variants of the one whose name this word is.
+fn put_others(page: &mut Words, own: &'static str, line: &'static Template) {
+    let names = page.take("choice_names");
+    for name in names.split(' ') {
+        if !name.is_empty() && name != page.get(own) {
+            page.set("other", name);
+            page.append(line.0, line.1);
+        }
+    }
+    page.set("choice_names", &names);
+}
+
+/// The lines of a row for all the other variants, the word `no_rows`.
+pub(crate) fn put_no_rows(page: &mut Words) {
+    page.set("no_rows", "");
+    put_others(page, "choice_variant", &NO_ROW);
+}
+
+/// Tells the page the names of all variants of such a oneof, the word `choice_names`.
+pub(crate) fn set_names(page: &mut Words, fields: &[Field]) {
+    page.fill_all(&[("choice_names", ""), ("choice_ghosts", "")]);
+    for field in fields {
+        if let (Some(oneof), false) = (&field.oneof, field.words.get("in_choice").is_empty()) {
+            for variant in &oneof.variants {
+                page.copy(variant, &["variant"]);
+                page.append("choice_names", "$variant$ ");
+            }
+        }
+        if !field.words.get("choice_variant").is_empty() {
+            page.copy(&field.words, &["choice_variant"]);
+            page.append("choice_names", "$choice_variant$ ");
+        }
+    }
+}
+
+/// What the clauses of the module bring in for it, behind the others.
+pub(crate) fn put_ghosts(page: &mut Words) {
+    if !page.get("choice_ghosts").is_empty() {
+        page.fill("ghosts", "$choice_ghosts$");
+        ghost_imports(page, "");
+        let head = page.take("head_ghosts");
+        page.set("head_ghosts", head.trim_end());
+        page.append("head_ghosts", "\n$ghost_imports$\n");
+    }
+}
+
+const ENUM: &str = "\
+$heading$$imports$
+/// One of these, where one is there.
+#[cycle($cycle$)]
+#[derive(Clone, Debug, Drop, PartialEq)]
+pub enum $name$ {
+$declared$}
+";
+
+/// The module of such a oneof, of a message of these fields, whose words the base has.
+pub(crate) fn choice_code(
+    base: &Words,
+    oneof: &Oneof,
+    fields: &[Field],
+) -> Result<String, GenerateError> {
+    let mut page = Words::like(base);
+    let is_alone = page.get("family_name").is_empty();
+    page.fill(
+        "cycle",
+        if is_alone {
+            "$module$"
+        } else {
+            "$family_module$"
+        },
+    );
+    page.copy(
+        &oneof.words,
+        &["name", "full", "place", "schema", "declared"],
+    );
+    page.fill_all(&[("uses", ""), ("all_code", "")]);
+    for field in fields {
+        if !field.words.get("choice_variant").is_empty() {
+            page.copy(&field.words, &["of_name", "of_path"]);
+            page.append("uses", "$of_path$ $of_name$\n");
+        }
+    }
+    for variant in &oneof.variants {
+        page.copy(variant, &["code"]);
+        page.append("all_code", "$code$");
+    }
+    let code = page.take("all_code");
+    let declared = page.take("declared");
+    for line in code.split('\n') {
+        let (_, name) = line.split_once(' ').unwrap_or((line, ""));
+        if !name.is_empty() && is_mentioned(&declared, name) {
+            page.set("line", line);
+            page.append("uses", "$line$\n");
+        }
+    }
+    page.set("declared", &declared);
+    code_imports(&mut page);
+    page.fill(
+        "imports",
+        if page.get("imports").is_empty() {
+            ""
+        } else {
+            "$imports$"
+        },
+    );
+    set_heading(&mut page, "//!", "The oneof `$name$`.");
+    page.fill("text", ENUM);
+    page.finish("text")
+}
+
+// Whether a name stands in the types of variants.
+fn is_mentioned(declared: &str, name: &str) -> bool {
+    declared.lines().any(|line| {
+        let (_, held) = line.split_once('(').unwrap_or((line, ""));
+        let mut words = held.split(|it: char| !it.is_alphanumeric() && it != '_');
+        words.any(|it| it == name)
+    })
+}

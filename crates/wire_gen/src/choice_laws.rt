@@ -1,0 +1,124 @@
+//! What is shown of a oneof of which some variants are rows.
+use wire_schema::{Template, Words};
+
+const USES: &str = "\
+Rattle.wire_fields.specs.ChoiceBack IsChoice
+";
+
+const USES_OF_PLAIN: &str = "\
+Rattle.wire_fields.specs.ChoiceSpot first_spot
+Rattle.wire_fields.specs.ChoiceSpot leaf_choice
+Rattle.wire_fields.specs.ChoiceSpot second_spot
+Rattle.$crate$.specs.$choice$ $choice_module$-plain
+Rattle.$crate$.specs.$choice$ $choice_module$-spot
+Rattle.$crate$.specs.$choice$ $choice_module$-tells
+";
+
+const USES_OF_ROWS: &str = "\
+Rattle.wire_fields.specs.ChoiceBack alone_choice
+";
+
+const PLAIN: &str = "\
+pub $module$-is_choice : IsChoice $module$-leaf.takes $module$-leaf.default $module$-choice
+$module$-is_choice =
+    leaf_choice $module$-known $module$-choice
+    (first_spot $module$-known unknown $choice_module$-is_plain
+    $spot_stands$ $spot_without$ $spot$)
+
+";
+
+const ROWS_ALONE: &str = "\
+pub $module$-is_choice : IsChoice $module$-leaf.takes $module$-leaf.default $module$-choice
+$module$-is_choice = alone_choice _ _ _
+
+";
+
+/// Puts it into the word `choice_laws`, where there is such a oneof.
+pub(crate) fn put_choice_laws(page: &mut Words) {
+    page.set("choice_laws", "");
+    if page.get("choice").is_empty() {
+        return;
+    }
+    let is_plain = !page.get("choice_plain").is_empty();
+    page.append("uses", USES);
+    page.append(
+        "uses",
+        if is_plain {
+            USES_OF_PLAIN
+        } else {
+            USES_OF_ROWS
+        },
+    );
+    page.fill("choice_laws", if is_plain { PLAIN } else { ROWS_ALONE });
+}
+
+/// What the variants of the leaf bring in.
+pub(crate) const USES_OF_SPOT: &str = "\
+Rattle.std.proofs.Common refl
+Rattle.std.proofs.Common ◌≡◌
+Rattle.std.proofs.Common ◌⊎◌
+Rattle.std.specs.Prelude Bool
+Rattle.std.specs.Prelude is_some
+Rattle.std.specs.Prelude true
+Rattle.std.specs.Prelude ℕ
+Rattle.std.specs.Prelude ◌==◌
+Rattle.std.specs.Prelude ◌||◌
+Rattle.wire_fields.specs.ChoiceSpot Spot
+Rattle.wire_fields.specs.ChoiceSpot either_sets
+Rattle.wire_fields.specs.ChoiceSpot here_spot
+Rattle.wire_fields.specs.ChoiceSpot tells_either
+Rattle.wire_fields.specs.ChoiceSpot tells_one
+Rattle.wire_fields.specs.ChoiceSpot variant_sets
+Rattle.wire_fields.specs.NestChoice no_variant
+";
+
+/// The numbers of the variants that are of the leaf.
+pub(crate) const IS_PLAIN: &str = "
+-- its field numbers
+abbrev pub $module$-is_plain : ℕ → Bool
+$module$-is_plain n = $is_plain$
+";
+
+/// What records make of them.
+pub(crate) const SPOT: &str = "
+abbrev pub $module$-plain : ℕ → Type 0
+$module$-plain n = $numbers$
+
+pub $module$-tells : (n : ℕ) → $module$-is_plain n ≡ true → $module$-plain n
+$module$-tells n = $tells$
+
+pub $module$-spot : Spot $module$-shape $module$-is_plain is_some no_variant
+$module$-spot =
+    here_spot $module$-records $all$ $module$-is_plain (λ n p. refl)
+    $sets$
+";
+
+const ONE: [Template; 3] = [
+    ("is_this", "(n == $digits$)"),
+    ("tells_this", "tells_one n $digits$"),
+    (
+        "sets_this",
+        "(variant_sets $digits$ $definition$ $word$-of-$module$-as (λ x. Some $one$) (λ x. refl))",
+    ),
+];
+
+const FIRST: [Template; 3] = [
+    ("is_plain", "$is_this$"),
+    ("tells", "$tells_this$"),
+    ("sets", "$sets_this$"),
+];
+
+const NEXT: [Template; 3] = [
+    ("is_plain", "($is_plain$ || $is_this$)"),
+    ("tells", "tells_either _ _ ($tells$) ($tells_this$)"),
+    (
+        "sets",
+        "(either_sets $all$ $word$-of-$module$\n    $sets$\n    $sets_this$)",
+    ),
+];
+
+/// The variant at this place of those of the leaf.
+pub(crate) fn put_spot(page: &mut Words, place: usize) {
+    page.fill_all(&ONE);
+    page.fill_all(if place == 0 { &FIRST } else { &NEXT });
+}

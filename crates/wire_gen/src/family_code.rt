@@ -1,0 +1,228 @@
+//! The code of message types that hold one another: the enums of all of them pass on what is asked.
+use crate::comments::set_heading;
+use crate::imports::code_imports;
+use wire_schema::{GenerateError, Template, Words};
+
+const FAMILY_USES: &str = "\
+bytes Buf
+std::alloc Global
+wire_codec DecodeContext
+wire_codec DecodeError
+wire_codec EncodeError
+wire_codec EncodeSink
+wire_codec SizeCache
+wire_codec Tag
+wire_fields Place
+wire_fields RecursiveHeld
+wire_fields RecursiveMember
+wire_fields RecursiveSlice
+";
+
+const WHAT: &str = "Messages that hold one another, as one type: $listed$.";
+
+const FAMILY: &str = "\
+$heading$$imports$
+// One of them, moved out of a message or into it.
+#[derive(Drop)]
+pub(crate) enum FamilyHeld {
+$helds$}
+
+// Several of one type.
+#[derive(Clone, Copy)]
+pub(crate) enum FamilySlice<'a> {
+$slices$}
+
+impl RecursiveHeld for FamilyHeld {
+    ghost use Rattle.$crate$.specs.$family_name$.{Family-Leaves};
+    ghost use Rattle.$crate$.specs.$family_name$.{Family-Sorts};
+    ghost use Rattle.$crate$.specs.$family_name$.{family-all};
+    ghost use Rattle.$crate$.specs.$family_name$.{family-held-sort};
+    ghost use Rattle.$crate$.specs.$family_name$.{family-held-value};
+    ghost use Rattle.$crate$.specs.$family_name$.{family-singles};
+
+    ghost Sort = { Family-Sorts };
+
+    ghost Leaf = { Family-Leaves };
+
+    ghost sort = { family-held-sort };
+
+    ghost view = { family-held-value };
+
+    ghost family = { family-all };
+
+    ghost single = { family-singles };
+
+    fn place(&self, number: u32) -> Place {
+        match self {
+$placed$        }
+    }
+
+    fn new_in(&self, alloc: Global, row: usize) -> FamilyHeld {
+        match self {
+$made$        }
+    }
+
+    fn take(&mut self, alloc: Global, row: usize) -> FamilyHeld {
+        match self {
+$taken$        }
+    }
+
+    fn put(&mut self, alloc: Global, row: usize, message: FamilyHeld) -> Result<(), DecodeError> {
+        match self {
+$put$        }
+    }
+
+    fn push(&mut self, row: usize, message: FamilyHeld) -> Result<(), DecodeError> {
+        match self {
+$pushed$        }
+    }
+
+    fn merge_leaf<B: Buf>(
+        &mut self,
+        alloc: Global,
+        tag: Tag,
+        buf: &mut B,
+        context: &mut DecodeContext,
+    ) -> Result<(), DecodeError> {
+        match self {
+$merged$        }
+    }
+}
+
+impl<'a> RecursiveSlice for FamilySlice<'a> {
+    ghost use Rattle.$crate$.specs.$family_name$.{Family-Leaves};
+    ghost use Rattle.$crate$.specs.$family_name$.{Family-Sorts};
+    ghost use Rattle.$crate$.specs.$family_name$.{family-all};
+    ghost use Rattle.$crate$.specs.$family_name$.{family-slice-counted};
+    ghost use Rattle.$crate$.specs.$family_name$.{family-slice-sort};
+    ghost use Rattle.$crate$.specs.$family_name$.{family-slice-values};
+
+    ghost Sort = { Family-Sorts };
+
+    ghost Leaf = { Family-Leaves };
+
+    ghost sort = { family-slice-sort };
+
+    ghost views = { family-slice-values };
+
+    ghost family = { family-all };
+
+    ghost counted = { family-slice-counted };
+
+    fn count(self) -> usize {
+        match self {
+$counts$        }
+    }
+
+    fn rows(self) -> usize {
+        match self {
+$rows$        }
+    }
+
+    fn number(self, row: usize) -> u32 {
+        match self {
+$numbers$        }
+    }
+
+    fn is_grouped(self, row: usize) -> bool {
+        match self {
+$grouped$        }
+    }
+
+    fn row(self, index: usize, row: usize) -> FamilySlice<'a> {
+        match self {
+$row$        }
+    }
+
+    fn run_len(self, index: usize, run: usize, cache: &mut SizeCache) -> Result<u64, EncodeError> {
+        match self {
+$lens$        }
+    }
+
+    fn put_run<S: EncodeSink>(
+        self,
+        index: usize,
+        run: usize,
+        cache: &mut SizeCache,
+        sink: &mut S,
+    ) -> Result<(), EncodeError> {
+        match self {
+$puts$        }
+    }
+}
+";
+
+const OF_MEMBER: [Template; 17] = [
+    ("uses", "crate::$module$ $name$\n"),
+    ("helds", "    $name$($name$),\n"),
+    ("slices", "    $name$(&'a [$name$]),\n"),
+    (
+        "placed",
+        "            FamilyHeld::$name$(_) => $name$::place(number),\n",
+    ),
+    (
+        "made",
+        "            FamilyHeld::$name$(_) => $name$::new_in(alloc, row),\n",
+    ),
+    (
+        "taken",
+        "            FamilyHeld::$name$(own) => own.take(alloc, row),\n",
+    ),
+    (
+        "put",
+        "            FamilyHeld::$name$(own) => own.put(alloc, row, message),\n",
+    ),
+    (
+        "pushed",
+        "            FamilyHeld::$name$(own) => own.push(row, message),\n",
+    ),
+    (
+        "merged",
+        "            FamilyHeld::$name$(own) => own.merge_leaf(alloc, tag, buf, context),\n",
+    ),
+    (
+        "counts",
+        "            FamilySlice::$name$(own) => own.len(),\n",
+    ),
+    (
+        "rows",
+        "            FamilySlice::$name$(_) => $name$::rows(),\n",
+    ),
+    (
+        "numbers",
+        "            FamilySlice::$name$(_) => $name$::number(row),\n",
+    ),
+    (
+        "grouped",
+        "            FamilySlice::$name$(_) => $name$::is_grouped(row),\n",
+    ),
+    (
+        "row",
+        "            FamilySlice::$name$(own) => own[index].row(row),\n",
+    ),
+    (
+        "lens",
+        "            FamilySlice::$name$(own) => own[index].run_len(run, cache),\n",
+    ),
+    (
+        "puts",
+        "            FamilySlice::$name$(own) => own[index].put_run(run, cache, sink),\n",
+    ),
+    ("listed", "$and$`$name$`"),
+];
+
+/// The module of the enums of these types, whose words the pages have.
+pub(crate) fn family_code(base: &Words, members: &[Words]) -> Result<String, GenerateError> {
+    let mut page = Words::like(base);
+    page.set("uses", FAMILY_USES);
+    for member in members {
+        page.copy(member, &["name", "module"]);
+        let is_first = page.get("listed").is_empty();
+        page.set("and", if is_first { "" } else { ", " });
+        page.append_all(&OF_MEMBER);
+    }
+    code_imports(&mut page);
+    set_heading(&mut page, "//!", WHAT);
+    page.fill("text", FAMILY);
+    page.finish("text")
+}

@@ -1,0 +1,116 @@
+//! What is asked of a oneof that has a message with required fields, or one that holds such.
+use crate::imports::ghost_imports;
+use wire_schema::{Oneof, Words};
+
+// The call that looks into the message that stands.
+const REQUIREMENT: &str = "
+impl Requirement for $kind_name$ {
+$ghost_imports$
+    type Held = Option<$name$>;
+
+    ghost Value = { $name$-Value };
+
+    ghost view = { $module$-of };
+
+    ghost missing = { λ name. $module$-missing };
+
+    fn missing(
+        alloc: Global,
+        _name: &'static str,
+        held: &Option<$name$>,
+    ) -> Result<Option<FieldPath>, AllocError> {
+        match held {
+$asked$            None => Ok(None),
+        }
+    }
+}
+";
+
+const GHOSTS_OF_ONE: &str = "\
+Rattle.$crate$.specs.$name$ $name$-Value
+Rattle.$crate$.specs.$name$ $module$-missing
+Rattle.$crate$.specs.$name$ $module$-of
+";
+
+const USES_OF_VARIANTS: &str = "\
+std::alloc AllocError
+wire_required FieldPath
+wire_required Requirement
+wire_required missing_in
+";
+
+// The same as a definition.
+const MISSING_IN_ONE: &str = "
+-- what the message lacks that stands
+abbrev pub $module$-missing : $name$-Value → Missing
+$module$-missing None = None
+$asked$";
+
+const USES_IN_ONE: &str = "\
+Rattle.std.specs.Prelude codes
+Rattle.wire_required.specs.Missing Missing
+Rattle.wire_required.specs.Missing in_message
+";
+
+/// Tells the page of a oneof whether one of its messages has required fields, or holds such.
+pub(crate) fn set_requiring(page: &mut Words, oneof: &Oneof) {
+    let mut variants = oneof.variants.iter();
+    let is_requiring = variants.any(|it| !it.get("of_requiring").is_empty());
+    page.set("requiring", if is_requiring { "requiring" } else { "" });
+    page.set("asked", "");
+}
+
+/// The arms of a oneof, as the word `asked`, and what they bring in.
+pub(crate) fn use_variants(page: &mut Words, oneof: &Oneof) {
+    set_requiring(page, oneof);
+    if page.get("requiring").is_empty() {
+        return;
+    }
+    page.append("uses", USES_OF_VARIANTS);
+    for variant in &oneof.variants {
+        page.copy(variant, &["variant", "proto", "of_requiring"]);
+        let is_plain = page.get("of_requiring").is_empty();
+        page.append(
+            "asked",
+            if is_plain {
+                "            Some($name$::$variant$(_)) => Ok(None),\n"
+            } else {
+                "            Some($name$::$variant$(message)) => missing_in(alloc, \"$proto$\", message),\n"
+            },
+        );
+    }
+}
+
+/// Puts the call of a oneof behind the text so far, of the arms that are there.
+pub(crate) fn put_requirement(page: &mut Words) {
+    if !page.get("requiring").is_empty() {
+        page.fill("ghosts", GHOSTS_OF_ONE);
+        ghost_imports(page, "    ");
+        page.append("text", REQUIREMENT);
+    }
+}
+
+/// Puts its definition behind the text so far, of the lines that are there.
+pub(crate) fn put_missing_in_one(page: &mut Words) {
+    if !page.get("requiring").is_empty() {
+        page.append("text", MISSING_IN_ONE);
+    }
+}
+
+/// The line of a variant, which is seen as the word `one`, and what it brings in.
+pub(crate) fn define_variant(page: &mut Words, variant: &Words) {
+    if page.get("requiring").is_empty() {
+        return;
+    }
+    page.append("uses", USES_IN_ONE);
+    page.copy(variant, &["proto", "of_requiring", "specs", "of_module"]);
+    if page.get("of_requiring").is_empty() {
+        page.append("asked", "$module$-missing (Some $one$) = None\n");
+    } else {
+        page.append(
+            "asked",
+            "$module$-missing (Some $one$) = in_message (codes \"$proto$\") $of_module$-missing x\n",
+        );
+        page.append("uses", "$specs$ $of_module$-missing\n");
+    }
+}
