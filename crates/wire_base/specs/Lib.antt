@@ -21,6 +21,7 @@ pub mod LimitsLaws
 pub mod Read
 pub mod RecordLaws
 pub mod Refusal
+pub mod Room
 pub mod Rope
 pub mod Shortest
 pub mod Sink

@@ -1,5 +1,5 @@
 -- What holds of writes. Each statement is proved as the contract of a law of src/laws.rt.
-use Rattle.std.specs.Prelude.{◌≡◌, List, [], ◌++◌, ℕ, ◌+◌, ◌≤◌, length, take, drop, Result, Ok, Err}
+use Rattle.std.specs.Prelude.{◌≡◌, List, [], ◌++◌, ℕ, ◌+◌, ◌<◌, ◌≤◌, length, take, drop, Result, Ok, Err}
 use Rattle.wire_base.specs.declared.error.EncodeError.{EncodeError}
 use Rattle.wire_base.specs.Sink.{Held, Puts, Writes, IsWrittenTo, followed_by, in_slice}
 
@@ -57,3 +57,16 @@ pub record WhatFitsIsWritten : Type 0 where
       → FillsSlice text place old new behind
   pub same_slice : (text old new : List ℕ) (name same place behind : ℕ)
       → in_slice same new behind ≡ followed_by (in_slice name old place) text → same ≡ name
+
+-- A put into a slice fills it. Where it is refused there is no room for the text, and a slice that
+-- holds what was held is as it was. It is the same slice always.
+pub record PutFillsSlice : Type 0 where
+  pub fills : (text old new : List ℕ) (name same place behind : ℕ) (done : Unit {0})
+      → place ≤ length old → behind ≤ length new
+      → Puts text (in_slice name old place) (in_slice same new behind) (Ok done)
+      → FillsSlice text place old new behind × (same ≡ name)
+  pub lacks : (text old : List ℕ) (name place : ℕ) (now : Held) (e : EncodeError)
+      → place ≤ length old → Puts text (in_slice name old place) now (Err e)
+      → length old < place + length text
+  pub stays : (old new : List ℕ) (name same place behind : ℕ)
+      → in_slice same new behind ≡ in_slice name old place → (new ≡ old) × (same ≡ name)

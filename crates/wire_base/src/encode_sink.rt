@@ -99,36 +99,28 @@ pub trait EncodeSink {
         self.put_slice(bytes)
     }
 
-    /// Appends the shortest varint of a number, as a tag, and four bytes, the lowest first: one put
-    /// where the varint is a byte. Refused where a byte of the varint is, or the four are, and then
-    /// leaves what stands before.
+    /// Appends the shortest varint of a number, as a tag, and four bytes, the lowest first. Refused
+    /// where a byte of the varint is, or the four are, and then leaves what stands before.
     #[inline(always)]
-    final fn put_fixed32(&mut self, first: u64, value: u32) -> Result<(), EncodeError>
+    fn put_fixed32(&mut self, first: u64, value: u32) -> Result<(), EncodeError>
         ensures { Writes (shortest_varint first ++ to_le_bytes w32 value)
             (held self.old) (held self.new) result }
     {
         laws::two_parts();
         laws::put_is_a_write();
-        if first < 0x80 {
-            return self.put_slice(&tagged_fixed32(first as u8, value));
-        }
         self.put_varint(first)?;
         self.put_u32_le(value)
     }
 
-    /// Appends the shortest varint of a number, as a tag, and eight bytes, the lowest first: one put
-    /// where the varint is a byte. Refused where a byte of the varint is, or the eight are, and then
-    /// leaves what stands before.
+    /// Appends the shortest varint of a number, as a tag, and eight bytes, the lowest first. Refused
+    /// where a byte of the varint is, or the eight are, and then leaves what stands before.
     #[inline(always)]
-    final fn put_fixed64(&mut self, first: u64, value: u64) -> Result<(), EncodeError>
+    fn put_fixed64(&mut self, first: u64, value: u64) -> Result<(), EncodeError>
         ensures { Writes (shortest_varint first ++ to_le_bytes w64 value)
             (held self.old) (held self.new) result }
     {
         laws::two_parts();
         laws::put_is_a_write();
-        if first < 0x80 {
-            return self.put_slice(&tagged_fixed64(first as u8, value));
-        }
         self.put_varint(first)?;
         self.put_u64_le(value)
     }
@@ -197,6 +189,30 @@ impl EncodeSink for Vec<u8> {
         push_delimited(first, bytes, self)?;
         Ok(())
     }
+
+    /// One put where the varint is a byte.
+    #[inline(always)]
+    fn put_fixed32(&mut self, first: u64, value: u32) -> Result<(), EncodeError> {
+        laws::two_parts();
+        laws::put_is_a_write();
+        if first < 0x80 {
+            return self.put_slice(&tagged_fixed32(first as u8, value));
+        }
+        self.put_varint(first)?;
+        self.put_u32_le(value)
+    }
+
+    /// One put where the varint is a byte.
+    #[inline(always)]
+    fn put_fixed64(&mut self, first: u64, value: u64) -> Result<(), EncodeError> {
+        laws::two_parts();
+        laws::put_is_a_write();
+        if first < 0x80 {
+            return self.put_slice(&tagged_fixed64(first as u8, value));
+        }
+        self.put_varint(first)?;
+        self.put_u64_le(value)
+    }
 }
 
 // A varint of one byte, and four bytes behind it, the lowest first.
@@ -219,8 +235,8 @@ fn tagged_fixed64(tag: u8, value: u64) -> [u8; 9]
     [tag, a, b, c, d, e, f, g, h]
 }
 
-// How many bytes a varint has at most.
-const MOST_DIGITS: usize = 10;
+/// How many bytes a varint has at most.
+pub(crate) const MOST_DIGITS: usize = 10;
 
 // Appends the shortest varint of a number to bytes with room for it.
 #[inline(always)]

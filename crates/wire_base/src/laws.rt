@@ -7,7 +7,7 @@ ghost use Rattle.wire_base.specs.FaultLaws.{NoPayloadBesideFault, NoListBesideFa
 ghost use Rattle.wire_base.specs.AgreementLaws.{SkippedWhereDecoded, RefusedAlike, RoomSuffices, BodyWhereDecoded, FaultsStay, CutIsShort};
 ghost use Rattle.wire_base.specs.ItemLaws.{RecordsAreItems, OneWalk, NoWalkBesideFault, OneSpanFault, PayloadsInside};
 ghost use Rattle.wire_base.specs.SpanLaws.{OneSpansCharge, SpansChargeRecords, JoinedSpansSpell};
-ghost use Rattle.wire_base.specs.WriteLaws.{TwoParts, PutIsWrite, PieceByPiece, WhatFitsIsWritten};
+ghost use Rattle.wire_base.specs.WriteLaws.{TwoParts, PutIsWrite, PieceByPiece, WhatFitsIsWritten, PutFillsSlice};
 
 /// The shortest varint of a number reads back as that number, whatever follows it.
 pub fn shortest_reads_back()
@@ -327,4 +327,10 @@ pub fn piece_by_piece()
 /// in the slice then, and all else of the slice stays.
 pub fn what_fits_is_written()
     ensures { WhatFitsIsWritten }
+{}
+
+/// A put into a slice, as each call of a `Room` is: the text stands in it, or has no room there, and
+/// then the slice stays.
+pub fn put_fills_a_slice()
+    ensures { PutFillsSlice }
 {}
