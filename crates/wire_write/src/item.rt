@@ -1,40 +1,12 @@
 //! Items in room of the caller's: records, and the starts and ends of groups.
-ghost use Rattle.std.specs.Prelude.{◌≡◌, ◌+◌, ◌-◌, ◌^◌, ◌<◌, ◌≤◌, true, false, length, min};
-ghost use Rattle.wire_base.specs.Sink.{Writes};
-ghost use Rattle.wire_base.specs.WriteLaws.{FillsSlice};
+ghost use Rattle.std.specs.Prelude.{◌≡◌, ◌-◌, ◌^◌, length, min};
+ghost use Rattle.wire_base.specs.Room.{in_room};
+ghost use Rattle.wire_base.specs.Sink.{Puts};
 ghost use Rattle.wire_read.specs.Reading.{item};
 ghost use Rattle.wire_write.specs.Shortest.{item_text};
 
-use wire_base::laws::what_fits_is_written;
 use wire_codec::{EncodeError, EncodeSink, Room, WireType, tag_as_number, tag_len, varint_len};
 use wire_read::Value;
-
-/// Whether the shortest encoding of an item takes at most so many bytes. Where there is room for
-/// the longest tag and number it is not measured.
-#[inline(always)]
-pub(crate) fn fits(number: u32, value: Value<'_>, left: usize) -> bool
-    requires { left < 2 ^ 64 - 1 }
-    ensures fits { result ≡ true → length (item_text (item number value.entry)) ≤ left }
-    ensures not { result ≡ false → left < length (item_text (item number value.entry)) }
-{
-    most_len(number, value) <= left || item_len(number, value) <= left
-}
-
-// A length that the shortest encoding of an item does not exceed.
-#[inline(always)]
-fn most_len(number: u32, value: Value<'_>) -> usize
-    ensures { length (item_text (item number value.entry)) ≤ result }
-{
-    wire_base::laws::shortest_reads_back();
-    match value {
-        Value::Varint(_) => 20,
-        Value::Fixed64(_) => 18,
-        Value::Fixed32(_) => 14,
-        Value::Bytes(payload) => 20 + payload.len(),
-        Value::GroupStart => 10,
-        Value::GroupEnd => 10,
-    }
-}
 
 /// How many bytes the shortest encoding of an item has, or `usize::MAX` where they are more.
 #[inline(always)]
@@ -55,29 +27,11 @@ pub(crate) fn item_len(number: u32, value: Value<'_>) -> usize
     }
 }
 
-/// Writes the shortest encoding of an item at a place of a room that is large enough, and answers
-/// the place behind it.
+/// Writes the shortest encoding of an item, whole or not at all.
 #[inline(always)]
-pub(crate) fn place_item(room: &mut [u8], place: usize, number: u32, value: Value<'_>) -> usize
-    requires { place + length (item_text (item number value)) ≤ length room.old }
-    ensures { FillsSlice (item_text (item number value.entry)) place room.old room.new result }
-{
-    what_fits_is_written();
-    let mut sink = Room { room, place };
-    // There is room, and no memory is asked for, so that no put is refused.
-    let _ = put(number, value, &mut sink);
-    sink.place
-}
-
-/// Writes the shortest encoding of an item.
-#[inline(always)]
-pub(crate) fn put<S: EncodeSink>(
-    number: u32,
-    value: Value<'_>,
-    sink: &mut S,
-) -> Result<(), EncodeError>
-    ensures { Writes (item_text (item number value.entry))
-        (S.held sink.old) (S.held sink.new) result }
+pub(crate) fn put(number: u32, value: Value<'_>, sink: &mut Room<'_>) -> Result<(), EncodeError>
+    ensures { Puts (item_text (item number value.entry))
+        (in_room sink.old) (in_room sink.new) result }
 {
     match value {
         Value::Varint(value) => sink.put_varints(tag_as_number(number, WireType::Varint), value),

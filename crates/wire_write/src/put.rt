@@ -10,9 +10,10 @@ ghost use Rattle.wire_read.specs.Reading.{item};
 ghost use Rattle.wire_write.specs.Put.{PutsOrNot};
 ghost use Rattle.wire_write.specs.Shortest.{item_text};
 
-use crate::item::{fits, item_len, place_item};
-use wire_codec::MAX_FIELD_NUMBER;
+use crate::item::{self, item_len};
+use wire_base::laws::put_fills_a_slice;
 use wire_codec::scalar::{Sint64, VarintScalar};
+use wire_codec::{MAX_FIELD_NUMBER, Room};
 use wire_read::Value;
 
 /// Why a record is not written.
@@ -105,8 +106,13 @@ fn put(room: &mut [u8], place: usize, number: u32, value: Value<'_>) -> Result<u
     if number == 0 || number > MAX_FIELD_NUMBER {
         return Err(PutError::InvalidFieldNumber);
     }
-    if place > room.len() || !fits(number, value, room.len() - place) {
+    if place > room.len() {
         return Err(PutError::NoRoom(item_len(number, value)));
     }
-    Ok(place_item(room, place, number, value))
+    put_fills_a_slice();
+    let mut sink = Room { room, place };
+    match item::put(number, value, &mut sink) {
+        Ok(()) => Ok(sink.place),
+        Err(_) => Err(PutError::NoRoom(item_len(number, value))),
+    }
 }

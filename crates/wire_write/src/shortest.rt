@@ -1,6 +1,7 @@
 //! The shortest encoding of the records that bytes spell.
 ghost use Rattle.std.specs.Prelude.{◌≡◌, ◌≤◌, length, OnErr, IfOk, IfErr};
 ghost use Rattle.wire_base.specs.Field.{Fields};
+ghost use Rattle.wire_base.specs.Room.{in_room};
 ghost use Rattle.wire_base.specs.Sink.{Writes};
 ghost use Rattle.wire_base.specs.Text.{size, text_of};
 ghost use Rattle.wire_base.specs.WriteLaws.{FillsSlice};
@@ -9,7 +10,7 @@ ghost use Rattle.wire_read.specs.Faults.{IsFault};
 ghost use Rattle.wire_write.specs.Shortest.{Decodes, ShortestFault};
 
 use crate::item::{item_len, put};
-use wire_codec::{DecodeContext, EncodeError, EncodeSink, Room, laws};
+use wire_codec::{DecodeContext, EncodeError, Room, laws};
 use wire_read::{Fault, Reader};
 
 /// Why a shortest encoding is not written.
@@ -86,14 +87,10 @@ fn write_all(bytes: &[u8], context: &DecodeContext, room: &mut [u8]) -> usize
 }
 
 // Writes the shortest encoding of records.
-fn put_all<S: EncodeSink>(
-    bytes: &[u8],
-    context: &DecodeContext,
-    sink: &mut S,
-) -> Result<(), EncodeError>
+fn put_all(bytes: &[u8], context: &DecodeContext, sink: &mut Room<'_>) -> Result<(), EncodeError>
     requires { (fs : Fields) × Decodes (read_limits context.now) fs bytes.now }
     ensures { (fs : Fields) × Decodes (read_limits context.now) fs bytes.now
-        × Writes (text_of fs) (S.held sink.old) (S.held sink.new) result }
+        × Writes (text_of fs) (in_room sink.old) (in_room sink.new) result }
 {
     wire_read::laws::reader_begins();
     wire_read::laws::reader_goes_on();
@@ -105,6 +102,7 @@ fn put_all<S: EncodeSink>(
     wire_base::laws::whole_input();
     laws::piece_by_piece();
     laws::two_parts();
+    laws::put_is_a_write();
     let mut reader = Reader::within(context);
     while let Ok(Some(event)) = reader.next(bytes) {
         put(event.number, event.value, sink)?;

@@ -6,7 +6,7 @@ use Rattle.wire_write.proofs.Items.{ahead, all_seen, no_stop, refused_ahead, see
 use Rattle.wire_write.proofs.shortest.put_all.Goals as goal
 
 pub loop-event-init : goal.loop-event-init
-loop-event-init g c =
+loop-event-init c =
     let pieces = c.piece_by_piece.ensures in (
       [],
       record { items = []; place = search rules; is = refl },
@@ -14,7 +14,7 @@ loop-event-init g c =
     )
 
 pub loop-event-preserved : goal.loop-event-preserved
-loop-event-preserved g c =
+loop-event-preserved c =
     let all = c.args.bytes.now in
     let e = c.in-Ok-Some.event in
     let more = item_text (item e.number e.value) in
@@ -22,11 +22,11 @@ loop-event-preserved g c =
     let given : Gives e all (at c.loop-event.reader all) (at c.next.new.self all) = search rules in (
       text ++ more,
       seen_more c.reader_goes_on.ensures _ _ _ _ _ _ e seen given refl,
-      c.two_parts.ensures.behind text more _ _ _ tt (Ok tt) written c.in_ok-put.ensures,
+      c.two_parts.ensures.behind text more _ _ _ tt (Ok tt) written (c.put_is_a_write.ensures _ _ _ _ c.in_ok-put.ensures),
     )
 
 pub returns-in_err-put : goal.returns-in_err-put
-returns-in_err-put g c =
+returns-in_err-put c =
     let p = err_from_is_err_and c.from_residual.result c.from_residual.ensures.1 in
     let all = c.args.bytes.now in
     let (text, seen, written) = c.loop-event.invariant in
@@ -38,18 +38,18 @@ returns-in_err-put g c =
       fs,
       decodes,
       rw (p.1, p.2) (refused_ahead c.two_parts.ensures _ text _ rest _ _ _ _ is written
-          c.in_err-put.ensures),
+          (c.put_is_a_write.ensures _ _ _ _ c.in_err-put.ensures)),
     )
 
 pub returns-in_default : goal.returns-in_default
-returns-in_default g c =
+returns-in_default c =
     let (text, seen, written) = c.loop-event.invariant in
     let done : IsDone (at c.loop-event.reader c.args.bytes.now) = search rules in
     let (fs, decodes, is) = all_seen c.reader_is_done.ensures _ _ _ _ seen done in
     (fs, decodes, rw (sym is) written)
 
 pub returns-in_default-2 : goal.returns-in_default-2
-returns-in_default-2 g c =
+returns-in_default-2 c =
     let all = c.args.bytes.now in
     let (text, seen, written) = c.loop-event.invariant in
     let (fs, decodes) = c.requires in
