@@ -15,8 +15,6 @@ REFUSED = [
      "optional C c = 2; } message C { repeated A a = 1; optional int32 x = 2; }", "",
      ".A: required fields in messages that hold themselves or one another, or in what these hold, "
      "want required=optional"),
-    ("proto2", "message A { extensions 4; } extend A { optional bool x = 4 [default = true]; }",
-     "", ".x: default values of extensions want defaults=skip"),
     ("proto2", r'message A { optional string x = 1 [default = "\377"]; }', "",
      ".A.x: a default value that is no UTF-8"),
     ("proto2", "enum E { B = 0; } message A { map<int32, E> x = 1; }", ",unknown=drop",
@@ -38,11 +36,9 @@ REFUSED = [
      "encoded=FIELD"),
     ("proto3", "message A { oneof b { A x = 1; } oneof c { A y = 2; int32 z = 3; } }", "",
      ".A: messages that hold themselves or one another by several oneofs want encoded=FIELD"),
-    ("proto3", "message A { oneof b { B x = 1; int32 y = 2; } } message B { A z = 1; }", "",
-     ".A: messages that hold one another by a oneof want encoded=FIELD"),
-    ("proto3", "message L { int32 x = 1; } message A { oneof b { A x = 1; L y = 2; } }", "",
-     ".A: messages that hold themselves or one another by a oneof that has other messages want "
-     "encoded=FIELD"),
+    ("proto3", "message A { oneof b { B x = 1; } oneof c { A y = 2; int32 z = 3; } } "
+     "message B { A z = 1; }", "",
+     ".A: messages that hold themselves or one another by several oneofs want encoded=FIELD"),
     ("proto3", "message A { B x = 1; } message B { A x = 1; }", ",encoded=A.y",
      ".A.y: encoded= wants a field of messages behind their length"),
     ("proto2", "message A { optional group B = 1 { optional A x = 1; } }", ",encoded=A.b",
@@ -125,7 +121,7 @@ CHOICES = [
      "message C { optional int32 x = 1; }", "",
      ['"x" => x: Needed<Optional<Int32>>,', '"type" => type_: NeededValue<EnumValue<E>>,',
       "impl Required for A {", "impl Required for Bag {", '"a" => a: EachEmbedded<A, 56>,',
-      '"b" => b: Map<Sint64, AlwaysEmbedded<A>, 64>,', '"o" => o: BagOKind,',
+      '"b" => b: Map<Sint64, AlwaysEmbedded<A>, 96>,', '"o" => o: BagOKind,',
       'Some(BagO::C(message)) => missing_in(alloc, "c", message),',
       "Some(BagO::D(_)) => Ok(None),", '"g" => g: Needed<Group<BagG>>,\n        )',
       "chosen: wire_codec wire_fields wire_required bytes",
@@ -168,7 +164,7 @@ CHOICES = [
      "map<string, string> c = 3; }", ",element=100",
      ["EachEmbedded<A, 100>", "Repeated<Text, 100>", "Map<Text, Always<Text>, 100>"]),
     ("proto2", "enum E { B = 0; } message A { oneof o { E x = 1; } map<int32, E> y = 2; }",
-     ",enums=open", ["X(EnumValue<E>)", "Map<Int32, Always<Enum<E>>, 64>"]),
+     ",enums=open", ["X(EnumValue<E>)", "Map<Int32, Always<Enum<E>>, 56>"]),
     ("proto2", "enum E { B = 0; } message A { oneof o { E x = 1; int32 y = 2; } }", "",
      ["1 [set_or_keep_x] | 2 => o: AOKind,", "pub(crate) fn set_or_keep_x<"]),
     ("proto3", "message A { map<int32, B> x = 1; B z = 2; } "
@@ -176,7 +172,7 @@ CHOICES = [
      ["Map<Int32, Always<Blob>, 64>", "2 => z: Optional<Blob>,", "EachEmbedded<A", "Embedded<A>"]),
     ("proto2", "message A { optional string a = 1; repeated string b = 2; "
      "map<string, string> c = 3; oneof o { string d = 4; } }", ",strings=bytes",
-     ["Optional<Blob>", "Repeated<Blob, 24>", "Map<Text, Always<Blob>, 64>", "D(Vec<u8>)"]),
+     ["Optional<Blob>", "Repeated<Blob, 24>", "Map<Text, Always<Blob>, 72>", "D(Vec<u8>)"]),
     ("proto2", "message A { optional string a = 1; }", "", ["Optional<Text>"]),
     ("proto3", "message A { string a = 1; }", ",strings=bytes", ["Implicit<Text>"]),
     # Messages that hold themselves beside nothing, beside more than eight fields, and in oneofs.
@@ -186,6 +182,21 @@ CHOICES = [
      + "A y = 10; }", "", ["struct AFields1To8<'a> {", "(fields_1_to_8, field_9).len(cache)"]),
     ("proto3", "message A { oneof b { A x = 1; int32 y = 2; } int32 z = 3; }", "",
      ["    X(Box<A>),\n    Y(i32),\n", "#[cycle(a)]", "Some(AB::X(message)) => from_ref(message)"]),
+    ("proto3", "message L { int32 x = 1; } message A { oneof b { A x = 1; L y = 2; } }", "",
+     ["    X(Box<A>),\n    Y(L),\n", "use crate::l::L;", "        Some(AB::Y(value)) => value,\n",
+      "        Some(AB::X(_)) => <AlwaysEmbedded<L> as Kind>::empty(alloc),\n"]),
+    ("proto3", "message A { oneof b { B x = 1; int32 y = 2; } } message B { A z = 1; }", "",
+     ["    X(Box<B_>),\n    Y(i32),\n", "#[cycle(a_family)]",
+      "Some(AB::X(message)) => FamilySlice::B_(from_ref(message)),"]),
+    ("proto2", "message A { oneof b { A x = 1; int32 y = 2 [default = 7]; } }", "",
+     ["            (or_else ab-none\n            (option_map ab-value (out-A self.now).b)).0) }",
+      "            Some(AB::Y(value)) => *value,\n            Some(AB::X(_)) => 7,\n"
+      "            None => 7,\n"]),
+    ("proto2", 'message A { extensions 4 to 9; } extend A { optional string x = 4 [default = "a"]; '
+     "optional int32 y = 5; optional float z = 6 [default = 1]; }", "",
+     ["pub fn x_default() -> &'static str\n    ensures { result.now ≡ (codes \"a\") }\n{\n    \"a\"\n}",
+      "        None => unreachable!(),\n    }\n}\n\n/// The extension `.z` of `.A`.\n",
+      "pub fn z_default() -> FloatBits\n"]),
     # Names that the code has for type parameters, and comments with what documentation can't have.
     ("proto2", "enum B { LOW = 0; } message S { optional B b = 1; } "
      "message A { optional S s = 1; }", "",
@@ -274,7 +285,7 @@ message G { F f = 1; int32 g = 2; }
 service S { rpc Place(B) returns (E); }"""
 PARTS = {
     "split_1: wire_codec wire_fields bytes": ["F", "G", "Unused"],
-    "split_2: wire_codec wire_fields bytes": ["A", "D", "Kind_"],
+    "split_2: wire_codec wire_fields bytes": ["A", "D", "DZ", "Kind_"],
     "split_3: wire_codec wire_fields split_2 bytes": ["B_", "C"],
     "split_4: wire_codec wire_fields split_3 bytes": ["E"],
     "split: wire_codec wire_fields split_1 split_2 split_3 split_4 bytes": [],

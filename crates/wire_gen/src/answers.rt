@@ -169,6 +169,7 @@ pub(crate) fn answers_of(
     definition_imports(&mut page);
     let is_member = !page.get("family_name").is_empty();
     page.append("imports", if is_member { FAMILY } else { "" });
+    page.append("imports", "$kinds_alias$");
     page.fill("text", HEAD);
     page.append("text", "$answers$$rest$");
     page.finish("text")
@@ -189,6 +190,7 @@ fn put_whole(page: &mut Words, is_recursive: bool) {
         if is_member { "$family_name$" } else { "$name$" },
     );
     page.fill("uses", USES);
+    page.fill("fold_types", "$types$");
 }
 
 // The proof that no field owns a number, where there is none.
@@ -197,8 +199,7 @@ const BARE: &str = "Rattle.std.proofs.Common refl\n";
 // The answers of the numbers of a field.
 fn put_field(page: &mut Words, field: &Field) {
     if let (Some(oneof), false) = (&field.oneof, field.words.get("in_choice").is_empty()) {
-        page.copy(&field.words, &["path", "firsts"]);
-        return put_choice(page, oneof);
+        return put_choice(page, &field.words, oneof);
     }
     page.copy(
         &field.words,

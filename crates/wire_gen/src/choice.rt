@@ -1,5 +1,6 @@
 //! A oneof of which some variants are messages of the type itself or of its family: these are rows,
 //! and the others a field of the leaf.
+use crate::choice_names::set_opened;
 use crate::oneof_definitions::put_values;
 use crate::rows::is_row;
 use wire_schema::{Field, Oneof, Template, Words};
@@ -181,10 +182,10 @@ Rattle.wire_fields.specs.NestChoice rows_alone
 ";
 
 const ALIAS: &str = "\
-use Rattle.$crate$.specs.declared.$first_type$.TheOpen as $choice_module$_variants
+use Rattle.$crate$.specs.declared.$first_type$.TheOpen as $open$
 ";
 
-const HELD: &str = "\
+const HELD_TYPE: &str = "\
 -- `$choice$` as contracts see it: the variant that is of the leaf, and the messages of each row
 abbrev pub $choice$-Held : Type 0
 $choice$-Held = $plain_value$ × $rows_value$
@@ -192,6 +193,9 @@ $choice$-Held = $plain_value$ × $rows_value$
 abbrev pub $choice_module$-none : $choice$-Held
 $choice_module$-none = ($plain_none$, $rows_none$)
 
+";
+
+const HELD_ONE: &str = "\
 abbrev pub $choice_module$-one : $choice$-F$trees$ → $choice$-Held
 $variant_lines$
 ";
@@ -225,21 +229,23 @@ $module$-choice = rows_alone (λ i. $choice_rows$)
 /// one message, `choice_folds` and `choice_table`.
 pub(crate) fn put_choice(page: &mut Words, fields: &[Field]) {
     page.fill_all(&[("helds", ""), ("choice_folds", ""), ("choice_table", "")]);
+    page.set("held_types", "");
     page.fill_all(&[("beside", "as_it_was"), ("rows_beside", "as_it_was")]);
     if page.get("choice").is_empty() {
         return;
     }
     set_rows_of(page, fields);
     let is_plain = !page.get("choice_plain").is_empty();
-    page.fill_all(&[("variant_lines", ""), ("variant_uses", "")]);
-    for field in fields {
-        if let Some(oneof) = &field.oneof {
-            if !field.words.get("in_choice").is_empty() {
-                put_plain_lines(page, oneof);
-            }
-        }
-    }
-    put_row_lines(page, fields);
+    let is_alone = page.get("family_name").is_empty();
+    page.fill(
+        "open",
+        if is_alone {
+            "$choice_module$_variants"
+        } else {
+            "variants"
+        },
+    );
+    put_lines(page, fields);
     page.append("uses", USES);
     page.append(
         "uses",
@@ -249,15 +255,33 @@ pub(crate) fn put_choice(page: &mut Words, fields: &[Field]) {
             USES_OF_ROWS
         },
     );
-    page.append("choice_aliases", ALIAS);
     page.set("plain_none", if is_plain { "None" } else { "tt" });
     page.fill("plain_value", if is_plain { "$choice$-Value" } else { "⊤" });
-    page.fill_all(&[("helds", HELD), ("choice_folds", FOLD)]);
+    page.fill_all(&OF_CHOICE);
+    page.fill("helds", if is_alone { "$held_types$" } else { "" });
+    page.append("helds", HELD_ONE);
     page.fill("choice_table", if is_plain { CHOICE } else { ROWS_ALONE });
-    page.fill_all(&[
-        ("beside", "beside_row $sum_choice$"),
-        ("rows_beside", "rows_beside_field $sum_choice$"),
-    ]);
+}
+
+const OF_CHOICE: [Template; 5] = [
+    ("choice_aliases", ALIAS),
+    ("held_types", HELD_TYPE),
+    ("choice_folds", FOLD),
+    ("beside", "beside_row $sum_choice$"),
+    ("rows_beside", "rows_beside_field $sum_choice$"),
+];
+
+// A line of each variant.
+fn put_lines(page: &mut Words, fields: &[Field]) {
+    page.fill_all(&[("variant_lines", ""), ("variant_uses", "")]);
+    for field in fields {
+        if let Some(oneof) = &field.oneof {
+            if !field.words.get("in_choice").is_empty() {
+                put_plain_lines(page, oneof);
+            }
+        }
+    }
+    put_row_lines(page, fields);
 }
 
 // The type of the messages of all its rows, and none of them.
@@ -284,10 +308,11 @@ fn put_plain_lines(page: &mut Words, oneof: &Oneof) {
     for (place, variant) in oneof.variants.iter().enumerate() {
         page.copy(variant, &["variant", "before", "behind", "definitions"]);
         page.copy(variant, &["ghosts"]);
+        set_opened(page, variant.get("variant"));
         put_values(page, place, last);
         page.append(
             "variant_lines",
-            "$choice_module$-one ($choice_module$_variants.$variant$ x) = (Some $seen$, $rows_none$)\n",
+            "$choice_module$-one ($open$.$opened$ x) = (Some $seen$, $rows_none$)\n",
         );
         page.append("variant_uses", "$definitions$");
     }
@@ -308,10 +333,11 @@ fn put_row_lines(page: &mut Words, fields: &[Field]) {
     for field in fields {
         if !field.words.get("choice_variant").is_empty() {
             page.copy(&field.words, &["choice_variant"]);
+            set_opened(page, field.words.get("choice_variant"));
             set_one_row(page, place, last);
             page.append(
                 "variant_lines",
-                "$choice_module$-one ($choice_module$_variants.$choice_variant$ x) =\n    \
+                "$choice_module$-one ($open$.$opened$ x) =\n    \
                 ($plain_of_row$, $one_row$)\n",
             );
             place = place.saturating_add(1);

@@ -1,18 +1,18 @@
 //! The proofs of what is taken by a oneof of which some variants are rows.
-use wire_schema::{Oneof, Words};
+use wire_schema::{Oneof, Template, Words};
 
-// A variant of the leaf of a oneof of which some are rows.
+// A variant of the leaf that is no message.
 const SET: &str = "
-pub returns-in_err-$taker$-in-$digits$-clause-err : goal.returns-in_err-$taker$-in-$digits$-clause-err
-returns-in_err-$taker$-in-$digits$-clause-err g c =
+pub returns-in_err-value-in-$digits$-clause-err : goal.returns-in_err-value-in-$digits$-clause-err
+returns-in_err-value-in-$digits$-clause-err g c =
     let r = $residual$ in
     let p = err_from_is_err_and r.result r.ensures.1 in
     rw (p.1, p.2)
     (rw (fold_out-$name$$their_trees$$their_ones$ c.args.self.now)
     (λ other. $untaken_open$untaken $whole$.takes ($always$ $definition$).kind.takes $digits$ _
     (sym c.field_number.ensures.number ∙ c.in-$digits$.is) _ _
-    (λ charge z p h. (h.0$firsts$.0, $own_step$)) _ _ _
-    ((c.in_err-$taker$-in-$digits$).ensures.err other)$untaken_close$))
+    (λ charge z p h. (h.0$firsts$.0, h.0$firsts$.1)) _ _ _
+    ((c.in_err-value-in-$digits$).ensures.err other)$untaken_close$))
 ";
 
 const USES_OF_SET: &str = "\
@@ -22,32 +22,145 @@ Rattle.wire_fields.specs.Arms untaken
 $of_always$ $always$
 $definitions$$numeric$";
 
-/// The answers of such variants.
-pub(crate) fn put_choice(page: &mut Words, oneof: &Oneof) {
+// What stands, seen by itself and in its message.
+const STANDING: &str = "
+-- what stands, as in its message and by itself
+standing : (m : $name$-F$fold_types$) (k : Option $choice$)
+    → (or_else $of_home$$choice_module$-none (map-$name$$fold_types$$their_trees$$their_values$
+    (record m { $field$ = k })).$field$).0
+    ≡ (or_else $of_home$$choice_module$-none (option_map $of_home$$choice_module$-value k)).0
+standing m None = refl
+standing m (Some k) = refl
+";
+
+// A variant that is a message: its record goes into the one that stands, or into a new one.
+const MERGED: &str = "
+pub returns-in-$digits$-clause-err : goal.returns-in-$digits$-clause-err
+returns-in-$digits$-clause-err g c =
+    $before$arm_err $whole$.takes ($always$ $definition$).kind.takes $digits$ _
+    (sym c.field_number.ensures.number ∙ c.in-$digits$.is) _ _
+    (λ charge z p h. (h.0$firsts$.0, rw ($stood$) h.0$firsts$.1)) _ _ _
+    $merged$.result $merged$.ensures.err$behind$
+
+pub returns-in-$digits$-clause-ok : goal.returns-in-$digits$-clause-ok
+unfolding Rattle.$crate$.specs.declared.$first_type$.TheViews.out-$choice$ denote.Hole.Carrier.out
+returns-in-$digits$-clause-ok g c =
+    leaf_ok $all_takes$ ($always$ $definition$).kind.takes $digits$ _
+    (sym c.field_number.ensures.number ∙ c.in-$digits$.is) _ _ _ _
+    (fold_out-$name$$their_trees$$their_ones$ c.args.self.now)
+    (fold-roll-$name$$their_trees$$their_ones$
+    (record (out-$name$ (roll-$name$ $emptied$)) { $field$ = $put$ })
+    ∙ ap (λ (f : $name$-F$fold_types$). $of_home$$module$-one
+    (map-$name$$fold_types$$their_trees$$their_values$ (record f { $field$ = $put$ })))
+    (out-roll-$name$ $emptied$))
+    ($of_module$-value c.$word$_or_new-value.result) ($of_module$-value $merged$.new.held)
+    (λ charge p h. $taken_open$($of_module$-value $merged$.new.held, rw ($stood$) at h,
+    ap (λ (x : $of_home$$choice$-Held). x.0)
+    (fold_out-$choice$$their_trees$$their_ones$ (kinds.$variant$ $merged$.new.held)))$taken_close$)
+    _ _ _ _ _ $merged$.result $merged$.ensures.ok
+";
+
+// What stood before, the message without it, and what is put into it.
+const OF_MERGED: [Template; 3] = [
+    (
+        "stood",
+        "c.$word$_or_new-value.ensures, $taken$.ensures.value,
+    ← standing (out-$name$ c.args.self.now) (out-$name$ c.args.self.now).$field$",
+    ),
+    (
+        "emptied",
+        "(record (out-$name$ c.args.self.now) { $field$ = $taken$.new.self })",
+    ),
+    ("put", "Some (kinds.$variant$ $merged$.new.held)"),
+];
+
+const USES_OF_MERGED: &str = "\
+$taken_uses$\
+Rattle.std.proofs.Common ap
+Rattle.std.proofs.Common refl
+Rattle.std.proofs.Common ◌≡◌
+Rattle.std.specs.Prelude None
+Rattle.std.specs.Prelude Option
+Rattle.std.specs.Prelude Some
+Rattle.std.specs.Prelude option_map
+Rattle.wire_fields.specs.Messages or_else
+Rattle.$crate$.specs.declared.$module$.$name$ $name$-F
+Rattle.$crate$.specs.declared.$module$.$name$ out-$name$
+Rattle.$crate$.specs.declared.$choice_module$.$choice$ $choice$
+Rattle.$crate$.specs.declared.$choice_module$.$choice$ fold_out-$choice$
+Rattle.$crate$.specs.declared.$first_type$.TheFolds map-$name$
+Rattle.$crate$.specs.declared.$first_type$.TheViews out-roll-$name$
+Rattle.$crate$.specs.declared.$first_type$.TheViews roll-$name$
+$of_always$ $always$
+$definitions$";
+
+const USES_OF_ALONE: &str = "\
+Rattle.$crate$.specs.$name$ $choice_module$-none
+Rattle.$crate$.specs.$name$ $choice_module$-value
+Rattle.$crate$.specs.$name$ $module$-value
+Rattle.$crate$.specs.declared.$module$.$name$ $name$
+";
+
+const ALIAS: &str = "\
+use Rattle.$crate$.specs.declared.$choice_module$.$choice$.TheVariants as kinds
+";
+
+/// The answers of such variants, of a oneof of this field.
+pub(crate) fn put_choice(page: &mut Words, field: &Words, oneof: &Oneof) {
+    page.copy(field, &["path", "firsts", "field"]);
+    let (open, close) = field.get("taken").split_once('h').unwrap_or(("", ""));
+    page.set("taken_open", open);
+    page.set("taken_close", close);
     for variant in &oneof.variants {
         page.copy(variant, &["digits", "always", "of_always", "definition"]);
-        page.copy(variant, &["definitions", "numeric", "word"]);
-        page.append("uses", USES_OF_SET);
-        let is_scalar = page.get("always") == "always";
-        page.set("taker", if is_scalar { "value" } else { "merge" });
-        page.fill(
-            "own_step",
-            if is_scalar {
-                "h.0$firsts$.1"
-            } else {
-                "rw c.$word$_or_new-value.ensures.value h.0$firsts$.1"
-            },
-        );
-        let is_first = page.get("residuals").is_empty();
-        page.append("residuals", ".");
-        page.fill(
-            "residual",
-            if is_first {
-                "c.from_residual"
-            } else {
-                "c.from_residual-in_err-$taker$-in-$digits$"
-            },
-        );
-        page.append("answers", SET);
+        page.copy(variant, &["definitions", "numeric", "word", "variant"]);
+        page.copy(variant, &["of_module"]);
+        if page.get("always") == "always" {
+            put_set(page);
+        } else {
+            put_merged(page);
+        }
     }
+}
+
+fn put_set(page: &mut Words) {
+    let is_first = page.get("residuals").is_empty();
+    page.append("residuals", ".");
+    page.fill(
+        "residual",
+        if is_first {
+            "c.from_residual"
+        } else {
+            "c.from_residual-in_err-value-in-$digits$"
+        },
+    );
+    page.append_all(&[("uses", USES_OF_SET), ("answers", SET)]);
+}
+
+// The first of several calls has no number in its name.
+const FIRST_MERGED: [Template; 2] = [("merged", "c.merge-merged"), ("taken", "c.take")];
+
+const NEXT_MERGED: [Template; 2] = [
+    ("merged", "(c.merge-merged-in-$digits$)"),
+    ("taken", "(c.take-in-$digits$)"),
+];
+
+fn put_merged(page: &mut Words) {
+    let is_alone = page.get("family_name").is_empty();
+    let is_first = page.get("kinds_alias").is_empty();
+    page.append("uses", USES_OF_MERGED);
+    if is_first {
+        page.set("of_home", if is_alone { "" } else { "family." });
+        page.append("uses", if is_alone { USES_OF_ALONE } else { "" });
+        page.fill("kinds_alias", ALIAS);
+        page.append("kinds_alias", "$type_uses$");
+        page.append("answers", STANDING);
+    }
+    page.fill_all(if is_first {
+        &FIRST_MERGED
+    } else {
+        &NEXT_MERGED
+    });
+    page.fill_all(&OF_MERGED);
+    page.append("answers", MERGED);
 }

@@ -1,4 +1,5 @@
 //! The code of a oneof of which some variants are rows.
+use crate::choice_names::put_others;
 use crate::code::put_field_comment;
 use crate::comments::set_heading;
 use crate::imports::{code_imports, ghost_imports};
@@ -204,46 +205,15 @@ pub(crate) fn put_plain(page: &mut Words, oneof: &Oneof) {
 
 // The function that takes the message of a variant out.
 fn put_taken(page: &mut Words) {
-    let is_alone = page.get("family_name").is_empty();
-    page.fill("home", if is_alone { "$name$" } else { "$family_name$" });
     page.set("news_of_plain", "");
     put_others(page, "variant", &NEW);
     page.append_all(&[("parts", TAKEN), ("choice_ghosts", TAKEN_GHOSTS)]);
 }
 
-// A line for each of the other variants of the one whose name this word is.
-fn put_others(page: &mut Words, own: &'static str, line: &'static Template) {
-    let names = page.take("choice_names");
-    for name in names.split(' ') {
-        if !name.is_empty() && name != page.get(own) {
-            page.set("other", name);
-            page.append(line.0, line.1);
-        }
-    }
-    page.set("choice_names", &names);
-}
-
-/// The lines of a row for all the other variants, the word `no_rows`.
+//// The lines of a row for all the other variants, the word `no_rows`.
 pub(crate) fn put_no_rows(page: &mut Words) {
     page.set("no_rows", "");
     put_others(page, "choice_variant", &NO_ROW);
-}
-
-/// Tells the page the names of all variants of such a oneof, the word `choice_names`.
-pub(crate) fn set_names(page: &mut Words, fields: &[Field]) {
-    page.fill_all(&[("choice_names", ""), ("choice_ghosts", "")]);
-    for field in fields {
-        if let (Some(oneof), false) = (&field.oneof, field.words.get("in_choice").is_empty()) {
-            for variant in &oneof.variants {
-                page.copy(variant, &["variant"]);
-                page.append("choice_names", "$variant$ ");
-            }
-        }
-        if !field.words.get("choice_variant").is_empty() {
-            page.copy(&field.words, &["choice_variant"]);
-            page.append("choice_names", "$choice_variant$ ");
-        }
-    }
 }
 
 /// What the clauses of the module bring in for it, behind the others.

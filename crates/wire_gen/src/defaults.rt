@@ -1,4 +1,5 @@
 //! Getters of the fields that have a default value in the schema.
+use crate::choice_names::put_others;
 use crate::imports::ghost_imports;
 use wire_schema::{Field, Template, Words};
 
@@ -50,14 +51,46 @@ const BODY_IN_ONE: &str = "
     {
         match &self.$oneof$ {
             Some($oneof_name$::$variant$(value)) => $default_taken$,
-            _ => $default$,
-        }
+$other_defaults$        }
     }
 ";
 
+const IN_ONE: [Template; 3] = [
+    ("ghosts_of_variant", GHOSTS_OF_VARIANT),
+    ("default_held", HELD_IN_ONE),
+    ("other_defaults", "            _ => $default$,\n"),
+];
+
+// Of one of which some variants are messages of the type itself or of its family.
+const GHOSTS_OF_CHOICE: &str = "\
+Rattle.std.specs.Prelude option_map
+Rattle.$crate$.specs.$oneof_name$ $field$-of-$oneof_module$-as
+Rattle.$crate$.specs.$home$ $oneof_module$-none
+Rattle.$crate$.specs.$home$ $oneof_module$-value
+";
+
+const HELD_IN_CHOICE: &str = "$mapped_before$($field$-of-$oneof_module$-as
+            (or_else $oneof_module$-none
+            (option_map $oneof_module$-value $fields_of_self$.$oneof$)).0)$mapped_behind$";
+
+// (a default arm for several variants is not proved)
+const OTHER_DEFAULT: Template = (
+    "other_defaults",
+    "            Some($oneof_name$::$other$(_)) => $default$,\n",
+);
+
+const IN_CHOICE: [Template; 3] = [
+    ("ghosts_of_variant", GHOSTS_OF_CHOICE),
+    ("default_held", HELD_IN_CHOICE),
+    (
+        "other_defaults",
+        "$other_defaults$            None => $default$,\n",
+    ),
+];
+
 const OF_VARIANT: [Template; 5] = [
     ("ghosts", GHOSTS),
-    ("ghosts", GHOSTS_OF_VARIANT),
+    ("ghosts", "$ghosts_of_variant$"),
     ("getters", HEAD),
     ("getters", "$clause$"),
     ("getters", BODY_IN_ONE),
@@ -94,6 +127,7 @@ pub(crate) fn put_defaults(page: &mut Words, fields: &[Field], holds_itself: boo
     }
     for field in fields {
         if let Some(oneof) = &field.oneof {
+            page.copy(&field.words, &["in_choice"]);
             page.set("oneof", field.words.get("field"));
             page.set("oneof_name", oneof.words.get("name"));
             page.set("oneof_module", oneof.words.get("module"));
@@ -175,7 +209,18 @@ fn put_variant(page: &mut Words, variant: &Words) {
         "mapped_behind",
         if is_mapped { "$default_behind$" } else { "" },
     );
-    page.fill("default_held", HELD_IN_ONE);
+    put_held(page);
     put_clause(page);
     page.append_all(&OF_VARIANT);
+}
+
+// How the clause sees what the oneof holds, and the arms of the other variants.
+fn put_held(page: &mut Words) {
+    page.set("other_defaults", "");
+    if page.get("in_choice").is_empty() {
+        page.fill_all(&IN_ONE);
+    } else {
+        put_others(page, "variant", &OTHER_DEFAULT);
+        page.fill_all(&IN_CHOICE);
+    }
 }

@@ -90,7 +90,7 @@ Family-Leaves = $sum$
 abbrev pub Family-Tree : Type 0
 Family-Tree = nests.Nest Family-Leaves
 
-$values$$folds$$tables$abbrev pub family-tables : Family-Sorts → tables.Table Family-Leaves
+$held_types$$values$$folds$$tables$abbrev pub family-tables : Family-Sorts → tables.Table Family-Leaves
 $table_lines$
 -- of which type the messages of a row are
 abbrev pub family-holds : Family-Sorts → ℕ → Family-Sorts
@@ -142,7 +142,7 @@ family-returned g s =
 ";
 
 const OF_MEMBER: [Template; 16] = [
-    ("choice_aliases", "$choice_aliases$"),
+    ("held_types", "$held_types$"),
     ("sorts", "  $name$-Sort : Family-Sorts\n"),
     (
         "leaves",
@@ -257,6 +257,7 @@ abbrev pub family-stands : Family-Sorts → Beside Family-Leaves
 $leaf_stands$";
 
 const USES_OF_STANDS: &str = "\
+Rattle.wire_fields.specs.ChoiceBack choice_back
 Rattle.wire_fields.specs.ChoiceBack one_stands
 Rattle.wire_fields.specs.NestBack beside_returned
 Rattle.wire_fields.specs.NestChoice first_choice
@@ -351,6 +352,9 @@ fn put_member(page: &mut Words, member: &Words, last: usize) {
     page.append("uses", "$line$");
     let is_first = page.get("listed").is_empty();
     page.append("listed", if is_first { "`$name$`" } else { ", `$name$`" });
+    if !own.get("choice_aliases").is_empty() {
+        page.copy(&own, &["choice_aliases"]);
+    }
     let is_last = page.get("sum_open").len() >= last;
     page.append(
         "sum",

@@ -10,6 +10,7 @@ mod choice;
 mod choice_answers;
 mod choice_code;
 mod choice_laws;
+mod choice_names;
 mod closing;
 mod code;
 mod comments;

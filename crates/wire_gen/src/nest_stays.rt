@@ -128,6 +128,7 @@ const NAMED_OF_LEAF: &str = "\
 $home_specs$ $module$-choice
 $home_specs$ $module$-is_choice
 $home_specs$ $module$-known
+$home_specs$ $module$-leaf
 $home_specs$ $module$-once
 $home_specs$ $name$-Leaf
 $home_specs$ $module$-place

@@ -1,6 +1,7 @@
 //! The files of message types that hold themselves or one another.
 use crate::answers::answers_of;
 use crate::choice_code::choice_code;
+use crate::choice_names::put_all_variants;
 use crate::family::{set_alone, set_family};
 use crate::family_code::family_code;
 use crate::family_definitions::family_definitions;
@@ -187,24 +188,33 @@ impl Package {
         members: &[Words],
     ) -> Result<Vec<Words>, GenerateError> {
         let mut tables = Vec::new(self.base.alloc());
+        let mut all = Words::like(&self.base);
+        for message in &schema.messages {
+            if message.family == Some(first) {
+                put_all_variants(&mut all, &fields_of(&self.base, schema, message)?);
+            }
+        }
         for member in members {
             for message in &schema.messages {
                 let is_named = message.words.get("name") == member.get("name");
                 if is_named && message.family == Some(first) {
-                    tables.push(self.table_of(schema, first, message)?)?;
+                    tables.push(self.table_of(&all, schema, first, message)?)?;
                 }
             }
         }
         Ok(tables)
     }
 
+    // That of one, of all whose oneofs these are the variants.
     fn table_of(
         &self,
+        all: &Words,
         schema: &Schema,
         first: usize,
         message: &MessageType,
     ) -> Result<Words, GenerateError> {
         let mut page = self.page(&message.words);
+        page.copy(all, &["all_variants"]);
         page.copy(&message.words, &["choice", "choice_module", "choices"]);
         set_family(&mut page, schema, first)?;
         let fields = fields_of(&self.base, schema, message)?;

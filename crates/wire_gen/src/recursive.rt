@@ -1,8 +1,7 @@
 //! The code of a message type that holds itself: its fields of its own type, or of those that hold
 //! it, are rows, and all others its leaf, which is written in runs between the rows.
-use crate::choice_code::{
-    ONCE_OF_CHOICE, put_declared, put_ghosts, put_no_rows, put_plain, set_names,
-};
+use crate::choice_code::{ONCE_OF_CHOICE, put_declared, put_ghosts, put_no_rows, put_plain};
+use crate::choice_names::set_names;
 use crate::code::{put_field_comment, put_head, put_leaf_field, set_leaf_rest};
 use crate::defaults::{put_defaults, use_defaults};
 use crate::member::{ALONE, ALONE_OF, EACH, MEMBER, MEMBER_OF, ONCE};

@@ -21,9 +21,6 @@ pub(crate) fn leaf_tree(
     if !base.get("choices").is_empty() {
         return Err(base.refused(SEVERAL));
     }
-    if !base.get("choice").is_empty() && !base.get("family_name").is_empty() {
-        return Err(base.refused(ONE_ANOTHER));
-    }
     for mut field in fields {
         if is_own(base, &field.words) {
             field.words.set("is_row", "is_row");
@@ -33,10 +30,6 @@ pub(crate) fn leaf_tree(
         let mut variants = Vec::new(alloc);
         if let Some(oneof) = &mut field.oneof {
             std::mem::swap(&mut variants, &mut oneof.rows);
-            let mut own = oneof.variants.iter();
-            if !variants.is_empty() && own.any(|it| it.get("presence") != "Always") {
-                return Err(base.refused(BESIDE_OTHERS));
-            }
         }
         let mut of = Words::new(alloc);
         of.copy(&field.words, &["field"]);
@@ -83,11 +76,6 @@ pub(crate) fn leaf_tree(
 
 const BY_OTHER: &str = "$full$: messages that hold themselves or one another by a map or by \
                         lists of groups want encoded=FIELD";
-
-const BESIDE_OTHERS: &str = "$full$: messages that hold themselves or one another by a oneof that \
-                             has other messages want encoded=FIELD";
-
-const ONE_ANOTHER: &str = "$full$: messages that hold one another by a oneof want encoded=FIELD";
 
 const SEVERAL: &str = "$full$: messages that hold themselves or one another by several oneofs want \
                        encoded=FIELD";

@@ -88,17 +88,22 @@ fn part_words(
 fn put_exports(whole: &mut Words, schema: &Schema) -> Result<(), GenerateError> {
     let messages = schema.messages.iter().filter(|it| it.part > 0);
     for message in messages {
-        put_export(whole, &message.words)?;
+        put_export(whole, &message.words, message.words.get("name"))?;
+        for (_, oneof) in message.oneof_types() {
+            put_export(whole, &message.words, oneof)?;
+        }
     }
     let enums = schema.enums.iter().filter(|it| it.part > 0);
     for of_enum in enums {
-        put_export(whole, &of_enum.words)?;
+        put_export(whole, &of_enum.words, of_enum.words.get("name"))?;
     }
     Ok(())
 }
 
-fn put_export(whole: &mut Words, of_type: &Words) -> Result<(), GenerateError> {
-    whole.copy(of_type, &["home", "name"]);
+// The line that passes on a type of this name, of the crate that has a message or an enum.
+fn put_export(whole: &mut Words, of_type: &Words, name: &str) -> Result<(), GenerateError> {
+    whole.copy(of_type, &["home"]);
+    whole.set("name", name);
     whole.fill("path", "$home$::$name$");
     let key = order_key(whole.alloc(), whole.get("path"))?;
     whole.set("key", &key);

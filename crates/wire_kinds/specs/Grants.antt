@@ -35,11 +35,11 @@ grants-by_text-range =
     (closed_range level-number level-of)
 
 abbrev pub grants-by_signed-kind : Leaving (List (ℤ × (EnumValue Level)))
-grants-by_signed-kind = closed_signed_map 64 Varint sint64 level-number level-of 2
+grants-by_signed-kind = closed_signed_map 56 Varint sint64 level-number level-of 2
 
 abbrev pub grants-by_signed-range : Range (List (ℤ × (EnumValue Level)))
 grants-by_signed-range =
-    signed_map_range 64 Varint sint64 (always (numeric Varint (open_enum level-number level-of)))
+    signed_map_range 56 Varint sint64 (always (numeric Varint (open_enum level-number level-of)))
     sint64_range (closed_range level-number level-of)
 
 abbrev pub Grants-Known : Type 0
@@ -75,7 +75,7 @@ grants-shape = with_unknown grants-known
 
 -- what each record is charged that is left
 abbrev pub grants-left-charge : ℕ → Payload → Charge
-grants-left-charge = entries_left 64 2 (entries_left 64 1 (λ n p. payload_charge p))
+grants-left-charge = entries_left 56 2 (entries_left 64 1 (λ n p. payload_charge p))
 
 -- what each record is charged that is left: by the numbers of the fields that lead to its message,
 -- from the outermost one on, by its own number and by its payload

@@ -14,13 +14,13 @@ use Rattle.wire_kinds.specs.Level.{level-number, level-of, level-values}
 pub grants-stays : Grounds → Stays grants-shape (grants-range grants-account)
 grants-stays g =
     charged_stays
-    (entries_others grants-known 64 2 _ (λ p. refl)
+    (entries_others grants-known 56 2 _ (λ p. refl)
     (entries_others grants-known 64 1 _ (λ p. refl)
     (λ n p other. refl)))
     (both_stay
     (closed_text_map_stays g 64 level-number level-of
     (first_numbered_keeps level-number level-values) 1 (λ p. refl)
     string_stays)
-    (closed_signed_map_stays g 64 level-number level-of
+    (closed_signed_map_stays g 56 level-number level-of
     (first_numbered_keeps level-number level-values) 2 (λ p. refl)
     (numeric_stays sint64_stays)))

@@ -44,19 +44,19 @@ maps-by_signed-range =
     sint32_range string_range
 
 abbrev pub maps-by_unsigned-kind : Lawful (List (ℕ × Widths-Value))
-maps-by_unsigned-kind = unsigned_map 64 Fixed64 fixed64 (embedded_always widths-shape)
+maps-by_unsigned-kind = unsigned_map 208 Fixed64 fixed64 (embedded_always widths-shape)
 
 abbrev pub maps-by_unsigned-range : Range (List (ℕ × Widths-Value))
 maps-by_unsigned-range =
-    unsigned_map_range 64 Fixed64 fixed64 (embedded_always widths-shape)
+    unsigned_map_range 208 Fixed64 fixed64 (embedded_always widths-shape)
     fixed64_range (always_range widths-shape widths-range)
 
 abbrev pub maps-by_turn-kind : Lawful (List (Bool × (EnumValue Shade)))
-maps-by_turn-kind = bool_map 64 (always (numeric Varint (open_enum shade-number shade-of)))
+maps-by_turn-kind = bool_map 56 (always (numeric Varint (open_enum shade-number shade-of)))
 
 abbrev pub maps-by_turn-range : Range (List (Bool × (EnumValue Shade)))
 maps-by_turn-range =
-    bool_map_range 64 (always (numeric Varint (open_enum shade-number shade-of)))
+    bool_map_range 56 (always (numeric Varint (open_enum shade-number shade-of)))
     (enum_range shade-number shade-of)
 
 abbrev pub Maps-Known : Type 0

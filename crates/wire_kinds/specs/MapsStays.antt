@@ -34,9 +34,9 @@ maps-stays g =
     (always_stays string_stays))))
     (two_stays
     (known_stays 3 maps-by_unsigned-kind
-    (unsigned_map_stays g 64 (embedded_always widths-shape) (numeric_stays fixed64_stays)
+    (unsigned_map_stays g 208 (embedded_always widths-shape) (numeric_stays fixed64_stays)
     (embedded_always_stays g (widths-stays g))))
     (known_stays 4 maps-by_turn-kind
-    (bool_map_stays g 64 (always (numeric Varint (open_enum shade-number shade-of))) (numeric_stays bool_stays)
+    (bool_map_stays g 56 (always (numeric Varint (open_enum shade-number shade-of))) (numeric_stays bool_stays)
     (always_stays (numeric_stays (enum_stays shade-number shade-of
     (first_numbered_keeps shade-number shade-values))))))))

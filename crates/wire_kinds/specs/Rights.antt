@@ -26,19 +26,19 @@ use Rattle.wire_kinds.specs.declared.level.Level.{Level}
 use Rattle.wire_kinds.specs.declared.rights.Rights.{Rights}
 
 abbrev pub rights-by_unsigned-kind : Leaving (List (ℕ × (EnumValue Level)))
-rights-by_unsigned-kind = closed_unsigned_map 64 Varint uint32 level-number level-of 1
+rights-by_unsigned-kind = closed_unsigned_map 56 Varint uint32 level-number level-of 1
 
 abbrev pub rights-by_unsigned-range : Range (List (ℕ × (EnumValue Level)))
 rights-by_unsigned-range =
-    unsigned_map_range 64 Varint uint32 (always (numeric Varint (open_enum level-number level-of)))
+    unsigned_map_range 56 Varint uint32 (always (numeric Varint (open_enum level-number level-of)))
     uint32_range (closed_range level-number level-of)
 
 abbrev pub rights-by_turn-kind : Leaving (List (Bool × (EnumValue Level)))
-rights-by_turn-kind = closed_bool_map 64 level-number level-of 2
+rights-by_turn-kind = closed_bool_map 56 level-number level-of 2
 
 abbrev pub rights-by_turn-range : Range (List (Bool × (EnumValue Level)))
 rights-by_turn-range =
-    bool_map_range 64 (always (numeric Varint (open_enum level-number level-of)))
+    bool_map_range 56 (always (numeric Varint (open_enum level-number level-of)))
     (closed_range level-number level-of)
 
 abbrev pub Rights-Known : Type 0
@@ -74,7 +74,7 @@ rights-shape = with_unknown rights-known
 
 -- what each record is charged that is left
 abbrev pub rights-left-charge : ℕ → Payload → Charge
-rights-left-charge = entries_left 64 2 (entries_left 64 1 (λ n p. payload_charge p))
+rights-left-charge = entries_left 56 2 (entries_left 56 1 (λ n p. payload_charge p))
 
 -- what each record is charged that is left: by the numbers of the fields that lead to its message,
 -- from the outermost one on, by its own number and by its payload

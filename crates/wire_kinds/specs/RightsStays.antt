@@ -14,13 +14,13 @@ use Rattle.wire_kinds.specs.Rights.{rights-account, rights-known, rights-range, 
 pub rights-stays : Grounds → Stays rights-shape (rights-range rights-account)
 rights-stays g =
     charged_stays
-    (entries_others rights-known 64 2 _ (λ p. refl)
-    (entries_others rights-known 64 1 _ (λ p. refl)
+    (entries_others rights-known 56 2 _ (λ p. refl)
+    (entries_others rights-known 56 1 _ (λ p. refl)
     (λ n p other. refl)))
     (both_stay
-    (closed_unsigned_map_stays g 64 level-number level-of
+    (closed_unsigned_map_stays g 56 level-number level-of
     (first_numbered_keeps level-number level-values) 1 (λ p. refl)
     (numeric_stays uint32_stays))
-    (closed_bool_map_stays g 64 level-number level-of
+    (closed_bool_map_stays g 56 level-number level-of
     (first_numbered_keeps level-number level-values) 2 (λ p. refl)
     (numeric_stays bool_stays)))

@@ -30,7 +30,7 @@ abbrev pub team-earlier-kind : Lawful (List Grants-Value)
 team-earlier-kind = embedded_each 72 grants-shape
 
 abbrev pub team-by_member-kind : Lawful (List (ℤ × Grants-Value))
-team-by_member-kind = signed_map 64 Varint int32 (embedded_always grants-shape)
+team-by_member-kind = signed_map 112 Varint int32 (embedded_always grants-shape)
 
 abbrev pub team-rights-kind : Lawful (Option Rights-Value)
 team-rights-kind = embedded_once rights-shape
@@ -105,7 +105,7 @@ module _ (charges : List ℕ → ℕ → Payload → Charge) where
 
   abbrev pub team-by_member-range : Range (List (ℤ × Grants-Value))
   team-by_member-range =
-      signed_map_range 64 Varint int32 (embedded_always grants-shape)
+      signed_map_range 112 Varint int32 (embedded_always grants-shape)
       int32_range (always_range grants-shape (grants-range (λ path. charges (3 ∷ path))))
 
   abbrev pub team-rights-range : Range (Option Rights-Value)

@@ -24,7 +24,7 @@ team-stays g =
     (embedded_each_stays g (grants-stays g) 72)))
     (two_stays
     (known_stays 3 team-by_member-kind
-    (signed_map_stays g 64 (embedded_always grants-shape) (numeric_stays int32_stays)
+    (signed_map_stays g 112 (embedded_always grants-shape) (numeric_stays int32_stays)
     (embedded_always_stays g (grants-stays g))))
     (known_stays 4 team-rights-kind
     (embedded_once_stays g (rights-stays g)))))

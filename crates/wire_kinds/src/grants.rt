@@ -24,7 +24,7 @@ macro_rules! rows {
         fields!(
             $($call)*
             1 [closed_map] => by_text: Map<Text, Always<Enum<Level>>, 64>,
-            2 [closed_map] => by_signed: Map<Sint64, Always<Enum<Level>>, 64>,
+            2 [closed_map] => by_signed: Map<Sint64, Always<Enum<Level>>, 56>,
             _ => unknown
         )
     };

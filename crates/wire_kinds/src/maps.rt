@@ -31,8 +31,8 @@ macro_rules! rows {
             $($call)*
             1 => by_text: Map<Text, Always<Int32>, 64>,
             2 => by_signed: Map<Sint32, Always<Text>, 64>,
-            3 => by_unsigned: Map<Fixed64, AlwaysEmbedded<Widths>, 64>,
-            4 => by_turn: Map<Bool, Always<Enum<Shade>>, 64>,
+            3 => by_unsigned: Map<Fixed64, AlwaysEmbedded<Widths>, 208>,
+            4 => by_turn: Map<Bool, Always<Enum<Shade>>, 56>,
             _ => unknown
         )
     };

@@ -23,8 +23,8 @@ macro_rules! rows {
     ($($call:tt)*) => {
         fields!(
             $($call)*
-            1 [closed_map] => by_unsigned: Map<Uint32, Always<Enum<Level>>, 64>,
-            2 [closed_map] => by_turn: Map<Bool, Always<Enum<Level>>, 64>,
+            1 [closed_map] => by_unsigned: Map<Uint32, Always<Enum<Level>>, 56>,
+            2 [closed_map] => by_turn: Map<Bool, Always<Enum<Level>>, 56>,
             _ => unknown
         )
     };

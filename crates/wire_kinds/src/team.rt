@@ -31,7 +31,7 @@ macro_rules! rows {
             $($call)*
             1 => own: Embedded<Grants>,
             2 => earlier: EachEmbedded<Grants, 72>,
-            3 => by_member: Map<Int32, AlwaysEmbedded<Grants>, 64>,
+            3 => by_member: Map<Int32, AlwaysEmbedded<Grants>, 112>,
             4 => rights: Embedded<Rights>,
             _ => unknown
         )

@@ -47,11 +47,11 @@ abbrev pub order-lines-range : Range (List Line-Value)
 order-lines-range = each_range 72 line-shape line-range
 
 abbrev pub order-fees-kind : Lawful (List ((List ℕ) × Money-Value))
-order-fees-kind = text_map 64 (embedded_always money-shape)
+order-fees-kind = text_map 112 (embedded_always money-shape)
 
 abbrev pub order-fees-range : Range (List ((List ℕ) × Money-Value))
 order-fees-range =
-    text_map_range 64 (embedded_always money-shape)
+    text_map_range 112 (embedded_always money-shape)
     (always_range money-shape money-range)
 
 abbrev pub order-address-kind : Lawful (Option OrderAddress-Value)

@@ -27,7 +27,7 @@ order-stays g =
     (embedded_each_stays g (line-stays g) 72)))
     (two_stays
     (known_stays 3 order-fees-kind
-    (text_map_stays g 64 (embedded_always money-shape) string_stays
+    (text_map_stays g 112 (embedded_always money-shape) string_stays
     (embedded_always_stays g (money-stays g))))
     (order_payment-stays g)))
     (known_stays 6 order-address-kind

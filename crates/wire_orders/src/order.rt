@@ -38,7 +38,7 @@ macro_rules! rows {
             $($call)*
             1 => number: Optional<Fixed64>,
             2 => lines: EachEmbedded<Line, 72>,
-            3 => fees: Map<Text, AlwaysEmbedded<Money>, 64>,
+            3 => fees: Map<Text, AlwaysEmbedded<Money>, 112>,
             4 | 5 => payment: OrderPaymentKind,
             6 => address: Group<OrderAddress>,
             _ => unknown
@@ -145,7 +145,7 @@ impl Required for Order {
             alloc,
             "number" => number: Needed<Optional<Fixed64>>,
             "lines" => lines: EachEmbedded<Line, 72>,
-            "fees" => fees: Map<Text, AlwaysEmbedded<Money>, 64>,
+            "fees" => fees: Map<Text, AlwaysEmbedded<Money>, 112>,
             "payment" => payment: OrderPaymentKind,
             "address" => address: Needed<Group<OrderAddress>>,
             "address" => address: Group<OrderAddress>,

@@ -64,19 +64,19 @@ abbrev pub report-samples-range : Range (List ReportSample-Value)
 report-samples-range = each_range 80 report_sample-shape report_sample-range
 
 abbrev pub report-labels-kind : Lawful (List ((List ℕ) × (List ℕ)))
-report-labels-kind = text_map 64 (always string)
+report-labels-kind = text_map 72 (always string)
 
 abbrev pub report-labels-range : Range (List ((List ℕ) × (List ℕ)))
 report-labels-range =
-    text_map_range 64 (always string)
+    text_map_range 72 (always string)
     string_range
 
 abbrev pub report-last-kind : Lawful (List (ℤ × ReportSample-Value))
-report-last-kind = signed_map 64 Varint sint32 (embedded_always report_sample-shape)
+report-last-kind = signed_map 120 Varint sint32 (embedded_always report_sample-shape)
 
 abbrev pub report-last-range : Range (List (ℤ × ReportSample-Value))
 report-last-range =
-    signed_map_range 64 Varint sint32 (embedded_always report_sample-shape)
+    signed_map_range 120 Varint sint32 (embedded_always report_sample-shape)
     sint32_range (always_range report_sample-shape report_sample-range)
 
 abbrev pub report-load-kind : Lawful (Option DoubleBits)

@@ -45,10 +45,10 @@ report-stays g =
     (two_stays
     (two_stays
     (known_stays 5 report-labels-kind
-    (text_map_stays g 64 (always string) string_stays
+    (text_map_stays g 72 (always string) string_stays
     (always_stays string_stays)))
     (known_stays 6 report-last-kind
-    (signed_map_stays g 64 (embedded_always report_sample-shape) (numeric_stays sint32_stays)
+    (signed_map_stays g 120 (embedded_always report_sample-shape) (numeric_stays sint32_stays)
     (embedded_always_stays g (report_sample-stays g)))))
     (two_stays
     (known_stays 7 report-load-kind

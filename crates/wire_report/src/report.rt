@@ -74,8 +74,8 @@ macro_rules! rows_5_to_8 {
     ($($call:tt)*) => {
         fields!(
             $($call)*
-            5 => labels: Map<Text, Always<Text>, 64>,
-            6 => last: Map<Sint32, AlwaysEmbedded<ReportSample>, 64>,
+            5 => labels: Map<Text, Always<Text>, 72>,
+            6 => last: Map<Sint32, AlwaysEmbedded<ReportSample>, 120>,
             7 => load: Optional<Double>,
             8 => offsets: Packed<Sint32>,
         )

@@ -96,17 +96,6 @@ pub(crate) fn set_default(
     Ok(())
 }
 
-/// An extension has no getter.
-pub fn stop_on_default(
-    field: &FieldDescriptorProto,
-    words: &mut Words,
-) -> Result<(), GenerateError> {
-    if field.default_value.is_empty() || words.get("defaults") == "skip" {
-        return Ok(());
-    }
-    Err(words.refused("$full$.$proto$: default values of extensions want defaults=skip"))
-}
-
 fn set_signed(text: &str, words: &mut Words) {
     if let Ok(value) = fast_float::parse_i64(text.as_bytes()) {
         let below = value.saturating_add(1).unsigned_abs();

@@ -155,6 +155,7 @@ pub fn set_field(
     };
     match entry {
         Some(entry) => {
+            set_size("of_entry", entry_size(schema, &entry.descriptor), words);
             words.set("entry_part", "key");
             set_part(schema, features, &entry.descriptor, 1, words)?;
             words.set("entry_part", "value");
@@ -167,10 +168,7 @@ pub fn set_field(
         None => {
             let sort = set_item(schema, features, field, words)?;
             set_default(schema, field, words)?;
-            words.number("size", element_size(schema, field));
-            if !words.get("element").is_empty() {
-                words.fill("size", "$element$");
-            }
+            set_size("size", element_size(schema, field), words);
             set_kind(features, field, sort, words);
             let is_number = matches!(sort, Sort::Number);
             set_types(is_number && field.label == LABEL_REPEATED, words);
@@ -240,6 +238,26 @@ const PLAIN: [Template; 9] = [
     ("sort", "Lawful"),
     ("call", "merge"),
 ];
+
+// What an element is charged: so many bytes, if no parameter says how many.
+fn set_size(word: &'static str, size: i32, words: &mut Words) {
+    words.number(word, size);
+    if !words.get("element").is_empty() {
+        words.fill(word, "$element$");
+    }
+}
+
+// How many bytes an entry of a map takes: its key, its value and its place, each rounded up.
+fn entry_size(schema: &Schema, entry: &DescriptorProto) -> i32 {
+    let mut size: i32 = 24;
+    for part in &entry.field {
+        size = size.saturating_add(match part.type_ {
+            11 => element_size(schema, part),
+            _ => size_of(part),
+        });
+    }
+    size
+}
 
 // How many bytes a message of this field takes where it stands in a list: those of its fields and
 // of its unknown fields, each rounded up.

@@ -29,7 +29,6 @@ mod split;
 mod type_names;
 mod words;
 
-pub use default::stop_on_default;
 pub use enum_values::{NamedValue, values_of};
 pub use error::GenerateError;
 pub use features::{FIRST_EDITION, Features, LAST_EDITION};

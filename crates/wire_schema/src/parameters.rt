@@ -49,9 +49,8 @@ pub fn set_crate(base: &mut Words, request: &CodeGeneratorRequest) -> Result<(),
     Ok(())
 }
 
-const DEFAULTS: [Template; 4] = [
+const DEFAULTS: [Template; 3] = [
     ("of_text", "24"),
-    ("of_entry", "64"),
     ("unknown", "keep"),
     ("mismatch", "refuse"),
 ];
@@ -79,7 +78,7 @@ fn set_parameter(base: &mut Words, name: &str, choice: &str) -> Result<(), Gener
         ("laws", "skip") => base.set("without_laws", choice),
         ("element", _) if is_size(choice) => {
             base.set("element", choice);
-            base.fill_all(&[("of_text", "$element$"), ("of_entry", "$element$")]);
+            base.fill("of_text", "$element$");
         }
         ("split", _) if is_size(choice) => base.set("split", choice),
         ("encoded", _) => {

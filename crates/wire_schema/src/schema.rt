@@ -81,6 +81,11 @@ impl MessageType {
         }
     }
 
+    /// What the types of its oneofs are called.
+    pub fn oneof_types(&self) -> &[(usize, String)] {
+        &self.oneof_names
+    }
+
     // How many types it is one of that stand within one another.
     fn level(&self) -> usize {
         let outer = self.words.get("outer");

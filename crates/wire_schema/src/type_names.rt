@@ -257,7 +257,7 @@ fn name_oneof(
     Ok(())
 }
 
-// The function that is an extension.
+// The function that is an extension, and the one that gives its default value, where it has one.
 fn name_function(
     extension: &mut Extension,
     home: &str,
@@ -270,5 +270,10 @@ fn name_function(
     words.append("function", "$proto$");
     let name = word_name(alloc, &variant_name(alloc, words.get("function"))?)?;
     words.set("function", &functions.given(home, &name)?);
+    if !extension.descriptor.default_value.is_empty() {
+        words.fill("function_default", "$function$_default");
+        let given = functions.given(home, words.get("function_default"))?;
+        words.set("function_default", &given);
+    }
     words.ended()
 }

@@ -39,11 +39,11 @@ ledger-names-range =
     sint32_range string_range
 
 abbrev pub ledger-visits-kind : Lawful (List (Bool × Counter-Value))
-ledger-visits-kind = bool_map 64 (embedded_always counter-shape)
+ledger-visits-kind = bool_map 80 (embedded_always counter-shape)
 
 abbrev pub ledger-visits-range : Range (List (Bool × Counter-Value))
 ledger-visits-range =
-    bool_map_range 64 (embedded_always counter-shape)
+    bool_map_range 80 (embedded_always counter-shape)
     (always_range counter-shape counter-range)
 
 abbrev pub Ledger-Known : Type 0

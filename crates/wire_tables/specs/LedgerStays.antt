@@ -29,5 +29,5 @@ ledger-stays g =
     (signed_map_stays g 64 (always string) (numeric_stays sint32_stays)
     (always_stays string_stays))))
     (known_stays 3 ledger-visits-kind
-    (bool_map_stays g 64 (embedded_always counter-shape) (numeric_stays bool_stays)
+    (bool_map_stays g 80 (embedded_always counter-shape) (numeric_stays bool_stays)
     (embedded_always_stays g (counter-stays g)))))

@@ -69,11 +69,11 @@ signal-by_name-range =
     (closed_range level-number level-of)
 
 abbrev pub signal-by_place-kind : Leaving (List (ℤ × (EnumValue Level)))
-signal-by_place-kind = closed_signed_map 64 Varint sint32 level-number level-of 7
+signal-by_place-kind = closed_signed_map 56 Varint sint32 level-number level-of 7
 
 abbrev pub signal-by_place-range : Range (List (ℤ × (EnumValue Level)))
 signal-by_place-range =
-    signed_map_range 64 Varint sint32 (always (numeric Varint (open_enum level-number level-of)))
+    signed_map_range 56 Varint sint32 (always (numeric Varint (open_enum level-number level-of)))
     sint32_range (closed_range level-number level-of)
 
 abbrev pub Signal-Fields-6-To-7 : Type 0
@@ -152,7 +152,7 @@ signal-shape = with_unknown signal-known
 
 -- what each record is charged that is left
 abbrev pub signal-left-charge : ℕ → Payload → Charge
-signal-left-charge = entries_left 64 7 (entries_left 64 6 (λ n p. payload_charge p))
+signal-left-charge = entries_left 56 7 (entries_left 64 6 (λ n p. payload_charge p))
 
 -- what each record is charged that is left: by the numbers of the fields that lead to its message,
 -- from the outermost one on, by its own number and by its payload

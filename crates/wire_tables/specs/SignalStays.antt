@@ -18,7 +18,7 @@ use Rattle.wire_tables.specs.SignalCauseStays.{signal_cause-stays}
 pub signal-stays : Grounds → Stays signal-shape (signal-range signal-account)
 signal-stays g =
     charged_stays
-    (entries_others signal-known 64 7 _ (λ p. refl)
+    (entries_others signal-known 56 7 _ (λ p. refl)
     (entries_others signal-known 64 6 _ (λ p. refl)
     (λ n p other. refl)))
     (both_stay
@@ -39,6 +39,6 @@ signal-stays g =
     (closed_text_map_stays g 64 level-number level-of
     (first_numbered_keeps level-number level-values) 6 (λ p. refl)
     string_stays)
-    (closed_signed_map_stays g 64 level-number level-of
+    (closed_signed_map_stays g 56 level-number level-of
     (first_numbered_keeps level-number level-values) 7 (λ p. refl)
     (numeric_stays sint32_stays))))

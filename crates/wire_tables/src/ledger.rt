@@ -29,7 +29,7 @@ macro_rules! rows {
             $($call)*
             1 => counts: Map<Text, Always<Int64>, 64>,
             2 => names: Map<Sint32, Always<Text>, 64>,
-            3 => visits: Map<Bool, AlwaysEmbedded<Counter>, 64>,
+            3 => visits: Map<Bool, AlwaysEmbedded<Counter>, 80>,
             _ => unknown
         )
     };

@@ -47,7 +47,7 @@ macro_rules! rows_6_to_7 {
         fields!(
             $($call)*
             6 [closed_map] => by_name: Map<Text, Always<Enum<Level>>, 64>,
-            7 [closed_map] => by_place: Map<Sint32, Always<Enum<Level>>, 64>,
+            7 [closed_map] => by_place: Map<Sint32, Always<Enum<Level>>, 56>,
         )
     };
 }

@@ -17,11 +17,11 @@ use Rattle.wire_well_known.specs.Value.{value-value}
 use Rattle.wire_well_known.specs.declared.struct_.Struct.{Struct}
 
 abbrev pub struct_-fields-kind : Lawful (List ((List ℕ) × Value-Value))
-struct_-fields-kind = text_map 64 (embedded_always value-shape)
+struct_-fields-kind = text_map 192 (embedded_always value-shape)
 
 abbrev pub struct_-fields-range : Range (List ((List ℕ) × Value-Value))
 struct_-fields-range =
-    text_map_range 64 (embedded_always value-shape)
+    text_map_range 192 (embedded_always value-shape)
     (always_range value-shape value-range)
 
 abbrev pub Struct-Known : Type 0

@@ -14,5 +14,5 @@ pub struct_-stays : Grounds → Stays struct_-shape struct_-range
 struct_-stays g =
     whole_stays
     (known_stays 1 struct_-fields-kind
-    (text_map_stays g 64 (embedded_always value-shape) string_stays
+    (text_map_stays g 192 (embedded_always value-shape) string_stays
     (embedded_always_stays g (value-stays g))))

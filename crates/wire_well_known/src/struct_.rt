@@ -23,7 +23,7 @@ macro_rules! rows {
     ($($call:tt)*) => {
         fields!(
             $($call)*
-            1 => fields: Map<Text, AlwaysEmbedded<Value>, 64>,
+            1 => fields: Map<Text, AlwaysEmbedded<Value>, 192>,
             _ => unknown
         )
     };
