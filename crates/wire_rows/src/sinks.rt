@@ -47,7 +47,8 @@ fn into_rope(row: &Row<'_>, mut rope: Rope, whole: &[u8], said: &mut Said) {
     }
 }
 
-// The same into a slice of so many bytes. Where they are too few, a front of them is filled.
+// The same into a slice of so many bytes. Where they are too few, a record leaves the slice behind
+// the first byte as it was, and a length with its bytes, which is two puts, a front.
 fn into_slice(row: &Row<'_>, len: usize, whole: &[u8], said: &mut Said) {
     let mut slice = said.copied(whole);
     slice.truncate(len);
@@ -58,7 +59,11 @@ fn into_slice(row: &Row<'_>, len: usize, whole: &[u8], said: &mut Said) {
     };
     let answer = put_behind(row, &mut room);
     let place = room.place;
+    let refused = answer == Err(EncodeError::LengthOverflow);
     is_filled(answer, &slice, place, whole, said);
+    if refused && !matches!(row.call, "encode_bytes" | "encode_string") {
+        said.expect(place == len.min(1), "a front of a record");
+    }
 }
 
 /// Whether all stands in the slice where there is room, and else a front of it, and nothing behind.
