@@ -1,0 +1,5 @@
+pub mod Album
+pub mod AlbumKind
+pub mod AlbumSource
+pub mod Alike
+pub mod Track

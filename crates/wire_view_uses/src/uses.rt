@@ -1,0 +1,34 @@
+//! What a program does with a view.
+ghost use Rattle.std.specs.Prelude.{◌≡◌, ◌≢◌, IfOk, IfErr};
+ghost use Rattle.wire_codec.specs.DecodeError.TheVariants.{OutOfMemory};
+ghost use Rattle.wire_fields.specs.Shape.{DecodesAs, NotDecodedAs};
+ghost use Rattle.wire_view_uses.specs.Album.{Album-Value, album-shape, album-value, title-of-album};
+
+use crate::album::Album;
+use crate::album_view::AlbumView;
+use std::alloc::Global;
+use wire_codec::DecodeError;
+use wire_views::MessageView;
+
+/// The title of the album that the bytes are, where it stands in them.
+pub fn title_of<'a>(alloc: Global, bytes: &'a [u8]) -> Result<&'a str, DecodeError>
+    ensures ok { IfOk result (λ title. (album : Album-Value)
+        × DecodesAs album-shape bytes.now album × (title.now ≡ title-of-album album)) }
+    ensures err { IfErr result (λ e. e ≢ OutOfMemory → NotDecodedAs album-shape bytes.now) }
+{
+    match AlbumView::decode_view_by_default(alloc, bytes) {
+        Ok(album) => Ok(album.title),
+        Err(why) => Err(why),
+    }
+}
+
+/// The album that the bytes are, by way of its view.
+pub fn decode_by_view(alloc: Global, bytes: &[u8]) -> Result<Album, DecodeError>
+    ensures ok { IfOk result (λ album. DecodesAs album-shape bytes.now (album-value album)) }
+    ensures err { IfErr result (λ e. e ≢ OutOfMemory → NotDecodedAs album-shape bytes.now) }
+{
+    match AlbumView::decode_view_by_default(alloc, bytes) {
+        Ok(view) => view.own(alloc),
+        Err(why) => Err(why),
+    }
+}

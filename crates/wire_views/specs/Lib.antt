@@ -1,0 +1,3 @@
+pub mod Passing
+pub mod Spans
+pub mod SpelledOnce

@@ -1,0 +1,40 @@
+//! Views of messages: message types that borrow their strings, bytes and unknown fields from the
+//! bytes that they are read from. `CALLING.md` shows one.
+//!
+//! A view has the table of its message, with the definitions of `wire_fields`: it is read exactly
+//! where the message is, within the same limits and at the same charge, and stands for the same
+//! value. A kind of field here borrows what its kind of `wire_fields` owns: `ImplicitIn<TextIn>` is
+//! that of `Implicit<Text>`, and what holds no more than numbers is `CopiedIn` of the kind itself.
+//! `MessageView::own` makes the message.
+#![tactic(auto)]
+
+mod copied;
+mod encoding;
+mod message_field;
+mod message_view;
+mod passing;
+mod presence;
+mod repeated;
+mod rows;
+mod span;
+mod text;
+mod unknown;
+mod variants;
+mod view_kind;
+mod view_scalar;
+
+pub use copied::{CopiedIn, PackedIn, UnpackedIn};
+pub use encoding::ViewEncoding;
+pub use message_field::{
+    AlwaysEmbeddedIn, AlwaysGroupIn, AlwaysMessageIn, EachEmbeddedIn, EachGroupIn, EachIn,
+    EmbeddedIn, GroupIn, OnceIn,
+};
+pub use message_view::MessageView;
+pub use passing::pass_unknown_field;
+pub use presence::{AlwaysIn, ImplicitIn, OptionalIn};
+pub use repeated::RepeatedIn;
+pub use span::UnknownSpan;
+pub use text::{BytesIn, TextIn};
+pub use unknown::{keep_span, own_spans};
+pub use view_kind::ViewKind;
+pub use view_scalar::ViewScalar;
