@@ -17,6 +17,7 @@ pub mod KeepingBack
 pub mod Least
 pub mod Leaving
 pub mod LeavingBack
+pub mod LeavingLeaf
 pub mod Maps
 pub mod MapsBack
 pub mod Measuring

@@ -9,7 +9,7 @@ use Rattle.wire_codec.specs.InRange.{AreFitting, AreNumbered}
 use Rattle.wire_codec.specs.Limits.{Charge, both, nested, no_charge}
 use Rattle.wire_codec.specs.Records.{Records, plain, plain_payload, joined_records, text_size}
 use Rattle.wire_fields.specs.declared.recursive.Place.{Place}
-use Rattle.wire_fields.specs.declared.recursive.Place.TheVariants.{Leaf, Once, Each, Grouped}
+use Rattle.wire_fields.specs.declared.recursive.Place.TheVariants.{Leaf, Once, Each, Grouped, EachGrouped}
 use Rattle.wire_fields.specs.Back.{AllAre, FoldsBack, plain_joined, fitting_joined, numbered_joined}
 use Rattle.wire_fields.specs.Back.{fold_on}
 use Rattle.wire_fields.specs.Grounds.{Grounds}
@@ -128,17 +128,17 @@ module _ {S L : Type 0} (g : Grounds) (family : Family S L) (r : S → Range L)
           ∙ ap (with_row i (m ∷ [])) (sym (kept once)),
     )
 
-    each_taken : (bytes : ℕ)
-        → owned length_prefixed (λ m. new_in family s i) (with_more i) (placed bytes)
+    each_taken : (grouped : Bool) (bytes : ℕ)
+        → owned (encoding_of grouped) (λ m. new_in family s i) (with_more i) (placed bytes)
         (family_takes family (family.holds s i)) (nest l rows) ((family.table s).number i)
-        (plain_payload (length_prefixed.payload written)) (placed bytes (nested c)) with_it
-    each_taken bytes = (
+        (plain_payload ((encoding_of grouped).payload written)) (placed bytes (nested c)) with_it
+    each_taken grouped bytes = (
       m,
       nested c,
       (
         plain written,
         c,
-        (encoding_back false).holds written inner.fitting inner.numbered short,
+        (encoding_back grouped).holds written inner.fitting inner.numbered short,
         inner.folded,
         refl,
       ),
@@ -164,7 +164,11 @@ module _ {S L : Type 0} (g : Grounds) (family : Family S L) (r : S → Range L)
     message_taken (Each k bytes) is at nothing =
         taken s ((family.table s).number i) (Each i bytes) (is ∙ ap (λ x. Each x bytes) at.0)
         (nest l rows)
-        with_it written (placed bytes (nested c)) (each_taken bytes)
+        with_it written (placed bytes (nested c)) (each_taken false bytes)
+    message_taken (EachGrouped k bytes) is at nothing =
+        taken s ((family.table s).number i) (EachGrouped i bytes)
+        (is ∙ ap (λ x. EachGrouped x bytes) at.0) (nest l rows)
+        with_it written (placed bytes (nested c)) (each_taken true bytes)
 
   mutual
     nest_folded : (s : S) (m : Nest L) → FamilyHolds family r stands s m

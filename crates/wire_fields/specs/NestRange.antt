@@ -9,7 +9,7 @@ use Rattle.wire_codec.specs.Folds.{Step}
 use Rattle.wire_codec.specs.Limits.{Charge, both, nested, no_charge}
 use Rattle.wire_codec.specs.Records.{Records, none, field, plain, joined_records, text_size}
 use Rattle.wire_fields.specs.declared.recursive.Place.{Place}
-use Rattle.wire_fields.specs.declared.recursive.Place.TheVariants.{Leaf, Once, Each, Grouped}
+use Rattle.wire_fields.specs.declared.recursive.Place.TheVariants.{Leaf, Once, Each, Grouped, EachGrouped}
 use Rattle.wire_fields.specs.Back.{AllAre, FoldsBack, AreOthers, all_weaker, two_back, unknown_back}
 use Rattle.wire_fields.specs.Grounds.{Grounds}
 use Rattle.wire_fields.specs.Nest.{Nest, nest, Rows, done, row, Row, end, ahead, count_rows}
@@ -64,6 +64,7 @@ price Leaf one = one
 price (Once i) one = one
 price (Each i bytes) one = placed bytes one
 price (Grouped i) one = one
+price (EachGrouped i bytes) one = placed bytes one
 
 -- that of the leaf, and that of the messages, each a level down
 abbrev mutual
@@ -110,6 +111,7 @@ IsPlaceOf i once Leaf = ⊥
 IsPlaceOf i once (Once k) = (k ≡ i) × (once ≡ true)
 IsPlaceOf i once (Each k bytes) = (k ≡ i) × (once ≡ false)
 IsPlaceOf i once (Grouped k) = (k ≡ i) × (once ≡ true)
+IsPlaceOf i once (EachGrouped k bytes) = (k ≡ i) × (once ≡ false)
 
 abbrev pub GoesToLeaf : {L : Type 0} → Table L → ℕ → Type 0
 GoesToLeaf t n = t.place n ≡ Leaf

@@ -7,7 +7,7 @@ use Rattle.wire_codec.specs.Limits.{Charge, both, element_of}
 use Rattle.wire_codec.specs.Records.{Records, none, joined_records}
 use Rattle.wire_codec.specs.TakingLaws.{OneReading}
 use Rattle.wire_fields.specs.declared.recursive.Place.{Place}
-use Rattle.wire_fields.specs.declared.recursive.Place.TheVariants.{Leaf, Once, Each, Grouped}
+use Rattle.wire_fields.specs.declared.recursive.Place.TheVariants.{Leaf, Once, Each, Grouped, EachGrouped}
 use Rattle.wire_fields.specs.Least.{Within, at_some, Rising, Steps, AllWithin, AllSingle, AllRising}
 use Rattle.wire_fields.specs.Least.{all_at_some, Grows, least, least_single, inside_more, inside_finite}
 use Rattle.wire_fields.specs.Messages.{Encoding, length_prefixed, delimited, inside, or_else}
@@ -49,6 +49,7 @@ IsThere t Leaf = Unit {0}
 IsThere t (Once i) = (i < t.rows) × (t.once i ≡ true)
 IsThere t (Each i bytes) = (i < t.rows) × (t.once i ≡ false)
 IsThere t (Grouped i) = (i < t.rows) × (t.once i ≡ true)
+IsThere t (EachGrouped i bytes) = (i < t.rows) × (t.once i ≡ false)
 
 -- the messages that go to this place stand in groups, and not behind their lengths
 abbrev pub is_grouped : Place → Bool
@@ -56,6 +57,7 @@ is_grouped Leaf = false
 is_grouped (Once i) = false
 is_grouped (Each i bytes) = false
 is_grouped (Grouped i) = true
+is_grouped (EachGrouped i bytes) = true
 
 abbrev pub encoding_of : Bool → Encoding
 encoding_of true = delimited
@@ -144,7 +146,7 @@ placed bytes one = both (element_of bytes) one
 
 -- A record of the leaf is the leaf's. Once: the message that is there takes the
 -- payload, or a new one does. Each: a new one does, which is charged for its place in memory
--- besides, and is put behind those that are there. Grouped: as once, of a group.
+-- besides, and is put behind those that are there. Grouped: as once, of a group, or as each.
 abbrev pub takes_at : {S L : Type 0} → Family S L → Steps S (Nest L) → S → Place → Step (Nest L)
 takes_at family steps s Leaf m n p c z =
     (family.table s).takes (leaf_of m) n p c (leaf_of z)
@@ -157,6 +159,9 @@ takes_at family steps s (Each i bytes) m n p c z =
     (steps (family.holds s i)) m n p c z
 takes_at family steps s (Grouped i) m n p c z =
     owned delimited (one_in family s i) (with_one (family.table s) i) (λ one. one)
+    (steps (family.holds s i)) m n p c z
+takes_at family steps s (EachGrouped i bytes) m n p c z =
+    owned delimited (λ m. new_in family s i) (with_more i) (placed bytes)
     (steps (family.holds s i)) m n p c z
 
 -- what a value makes of a record, by what those in it make of theirs
@@ -212,6 +217,10 @@ module _ {S L : Type 0} (family : Family S L) (reading : OneReading)
       owned_more delimited (one_in family s i) (with_one (family.table s) i) (λ one. one) (a k)
       (b k) (on k)
       m z n p c h
+  at_more s (EachGrouped i bytes) a b on m z n p c h =
+      let k = family.holds s i in
+      owned_more delimited (λ m. new_in family s i) (with_more i) (placed bytes) (a k) (b k) (on k)
+      m z n p c h
 
   at_finite : (s : S) (place : Place) (chain : ℕ → Steps S (Nest L)) → AllRising chain
       → Within (takes_at family (all_at_some chain) s place)
@@ -228,6 +237,10 @@ module _ {S L : Type 0} (family : Family S L) (reading : OneReading)
   at_finite s (Grouped i) chain rising m z n p c h =
       let k = family.holds s i in
       owned_finite delimited (one_in family s i) (with_one (family.table s) i) (λ one. one)
+      (λ h. chain h k) (rising k) m z n p c h
+  at_finite s (EachGrouped i bytes) chain rising m z n p c h =
+      let k = family.holds s i in
+      owned_finite delimited (λ m. new_in family s i) (with_more i) (placed bytes)
       (λ h. chain h k) (rising k) m z n p c h
 
   at_single : (s : S) (place : Place) (a : Steps S (Nest L)) → AllSingle a
@@ -252,6 +265,10 @@ module _ {S L : Type 0} (family : Family S L) (reading : OneReading)
       let held = family.holds s i in
       owned_single delimited (one_in family s i) (with_one (family.table s) i) (λ one. one) reading
       (a held)
+      (one held) m u z w n p c d h k
+  at_single s (EachGrouped i bytes) a one m u z w n p c d h k =
+      let held = family.holds s i in
+      owned_single delimited (λ m. new_in family s i) (with_more i) (placed bytes) reading (a held)
       (one held) m u z w n p c d h k
 
   pub grows : Grows (level family)

@@ -7,7 +7,7 @@ use Rattle.wire_codec.specs.Folds.{Step}
 use Rattle.wire_codec.specs.Limits.{Charge}
 use Rattle.wire_codec.specs.Records.{joined_records}
 use Rattle.wire_fields.specs.declared.recursive.Place.{Place}
-use Rattle.wire_fields.specs.declared.recursive.Place.TheVariants.{Leaf, Once, Each, Grouped}
+use Rattle.wire_fields.specs.declared.recursive.Place.TheVariants.{Leaf, Once, Each, Grouped, EachGrouped}
 use Rattle.wire_fields.specs.Grounds.{Grounds}
 use Rattle.wire_fields.specs.Least.{Steps, up_to}
 use Rattle.wire_fields.specs.Messages.{inside, or_else}
@@ -18,7 +18,7 @@ use Rattle.wire_fields.specs.NestRange.{IsFit, Beside, any_beside, FamilyHolds, 
 use Rattle.wire_fields.specs.NestRange.{beside_range, nest_range, runs_from, all_runs, GoesToLeaf}
 use Rattle.wire_fields.specs.NestRows.{count_set, count_empty}
 use Rattle.wire_fields.specs.NestTable.{Table, Family, alone, IsThere, encoding_of, encoding_at}
-use Rattle.wire_fields.specs.NestTable.{is_grouped, empty_of, family_records, rows_records}
+use Rattle.wire_fields.specs.NestTable.{is_grouped, placed, with_more, empty_of, family_records, rows_records}
 use Rattle.wire_fields.specs.NestTable.{row_records, owned, new_in, one_in, takes_at, level}
 use Rattle.wire_fields.specs.NestTable.{family_takes, nest_records, nest_takes}
 use Rattle.wire_fields.specs.Ranges.{Range}
@@ -228,6 +228,24 @@ module _ {S L : Type 0} (g : Grounds) (family : Family S L) (r : S → Range L)
           stand,
         )
 
+    more_taken : (grouped : Bool) (i bytes : ℕ) (m z : Nest L) (c : Charge)
+        → (family.table s).once i ≡ false → IsMessage s m
+        → owned (encoding_of grouped) (λ m. new_in family s i) (with_more i) (placed bytes)
+        (steps (family.holds s i)) m n p c z
+        → IsMessage s z
+    more_taken grouped i bytes (nest l rows) z c many is (after, one, taken, charged, same) =
+        let q = row_of (rows_row i rows ++ after ∷ []) in
+        let message = inside_is grouped i (new_in family s i) after one
+        (empty_is (family.holds s i)) taken in
+        subst (IsMessage s) (sym same) (
+          is.0,
+          count_set i q rows ∙ is.1,
+          set_are s 0 i i rows q (omega arith) is.2
+              (fit_many ((family.table s).once i) q many)
+              (more_is s 0 i i rows after (omega arith) is.2 message),
+          (h s).beside_more i l rows q many is.3,
+        )
+
     at_place : (place : Place) (m z : Nest L) (c : Charge) → (family.table s).place n ≡ place
         → IsThere (family.table s) place → IsMessage s m
         → takes_at family steps s place m n p c z → IsMessage s z
@@ -242,18 +260,10 @@ module _ {S L : Type 0} (g : Grounds) (family : Family S L) (r : S → Range L)
         )
     at_place (Once i) m z c place_is there is taken = one_is false i m z c there.1 is taken
     at_place (Grouped i) m z c place_is there is taken = one_is true i m z c there.1 is taken
-    at_place (Each i bytes) (nest l rows) z c place_is there is (after, one, taken, charged, same) =
-        let q = row_of (rows_row i rows ++ after ∷ []) in
-        let message = inside_is false i (new_in family s i) after one
-        (empty_is (family.holds s i)) taken in
-        subst (IsMessage s) (sym same) (
-          is.0,
-          count_set i q rows ∙ is.1,
-          set_are s 0 i i rows q (omega arith) is.2
-              (fit_many ((family.table s).once i) q there.1)
-              (more_is s 0 i i rows after (omega arith) is.2 message),
-          (h s).beside_more i l rows q there.1 is.3,
-        )
+    at_place (Each i bytes) m z c place_is there is taken =
+        more_taken false i bytes m z c there.1 is taken
+    at_place (EachGrouped i bytes) m z c place_is there is taken =
+        more_taken true i bytes m z c there.1 is taken
 
   steps_stay : (k : ℕ) (s : S) (n : ℕ) (p : Payload) (c : Charge) (m z : Nest L) → IsSound n p
       → IsMessage s m → up_to (level family) k s m n p c z → IsMessage s z

@@ -32,6 +32,8 @@ pub enum Place {
     Each(usize, usize),
     /// Into this row, which has one message at most and whose records are groups.
     Grouped(usize),
+    /// Behind the messages of this row, whose records are groups, each charged for so many bytes.
+    EachGrouped(usize, usize),
 }
 
 impl Place {
@@ -44,6 +46,7 @@ impl Place {
             Place::Once(_) => false,
             Place::Each(_, _) => false,
             Place::Grouped(_) => true,
+            Place::EachGrouped(_, _) => true,
         }
     }
 }

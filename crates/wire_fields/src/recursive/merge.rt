@@ -9,7 +9,7 @@ ghost use Rattle.wire_fields.specs.Messages.{length_prefixed, delimited, inside}
 ghost use Rattle.wire_fields.specs.Nest.{Nest};
 ghost use Rattle.wire_fields.specs.NestPayload.{Enters, TakesWithin};
 ghost use Rattle.wire_fields.specs.NestTable.{family_takes};
-ghost use Rattle.wire_fields.specs.declared.recursive.Place.TheVariants.{Once, Each, Grouped};
+ghost use Rattle.wire_fields.specs.declared.recursive.Place.TheVariants.{Once, Each, Grouped, EachGrouped};
 ghost use Rattle.wire_fields.specs.NestTable.{IsThere};
 
 use super::{Place, RecursiveHeld};
@@ -47,6 +47,9 @@ pub fn merge_held<T: RecursiveHeld, B: Buf>(
         Place::Once(row) => merge_once(message, alloc, tag, row, buf, context),
         Place::Each(row, bytes) => merge_each(message, alloc, tag, row, bytes, buf, context),
         Place::Grouped(row) => merge_once_grouped(message, alloc, tag, row, buf, context),
+        Place::EachGrouped(row, bytes) => {
+            merge_each_grouped(message, alloc, tag, row, bytes, buf, context)
+        }
     }
 }
 
@@ -142,6 +145,39 @@ fn merge_once_grouped<T: RecursiveHeld, B: Buf>(
     let mut own = message.take(alloc, row);
     merge_grouped(&mut own, alloc, tag, buf, context)?;
     message.put(alloc, row, own)
+}
+
+// The same of a row that has many, and whose messages stand in groups.
+#[cycle(merge)]
+#[inline(always)]
+fn merge_each_grouped<T: RecursiveHeld, B: Buf>(
+    message: &mut T,
+    alloc: Global,
+    tag: Tag,
+    row: usize,
+    bytes: usize,
+    buf: &mut B,
+    context: &mut DecodeContext,
+) -> Result<(), DecodeError>
+    requires place { (T.family.table (T.sort message.old)).place (tag_number tag) ≡ EachGrouped row bytes }
+    requires there { IsThere (T.family.table (T.sort message.old)) (EachGrouped row bytes) }
+    ensures ok { OnOk result (IsCharged context.old context.new (λ c.
+        TakesRecord (family_takes T.family (T.sort message.old)) context.old (tag_number tag)
+        (tag_type tag) (T.view message.old) (B.unread buf.old) c (T.view message.new)
+        (B.unread buf.new))) }
+    ensures err { IfErr result (λ e. e ≢ OutOfMemory → NotTaken
+        (TakesRecord (family_takes T.family (T.sort message.old)) context.old (tag_number tag)
+        (tag_type tag) (T.view message.old) (B.unread buf.old))) }
+    ensures sort { T.sort message.new ≡ T.sort message.old }
+    ensures counts { OnErr result (NoCountGrew context.old context.new) }
+    ensures kept { B.kept buf.new ≡ B.kept buf.old }
+{
+    laws::records_in_order();
+    laws::grammar::limits_add_up();
+    context.register_element_memory(bytes)?;
+    let mut own = message.new_in(alloc, row);
+    merge_grouped(&mut own, alloc, tag, buf, context)?;
+    message.push(row, own)
 }
 
 // Reads the payload behind this tag and takes its records into the message, one level down.

@@ -388,3 +388,60 @@ merge_once_grouped-returns-clause-ok g t c =
     ((family.table s).beside c.args.row (g.T.RecursiveHeld.view c.args.message.now))
     (c.take-own.ensures.others there.0 there.1)) taken))
     (put there.0 there.1 (c.in_ok-merge_grouped.ensures.sort ∙ held))
+
+pub merge_each_grouped-returns-in_err-register_element_memory-clause-err
+    : goal.merge_each_grouped-returns-in_err-register_element_memory-clause-err
+merge_each_grouped-returns-in_err-register_element_memory-clause-err g t c =
+    let r = c.from_residual in
+    let p = err_from_is_err_and r.result r.ensures.1 in
+    let family = g.T.RecursiveHeld.family in
+    let s = g.T.RecursiveHeld.sort c.args.message.now in
+    let reading = c.records_in_order.ensures.reading in
+    let place = c.requires.place in
+    let start = new_in family s c.args.row in
+    rw (p.1, p.2) (λ other. not_placed family reading (g.met.T.RecursiveHeld.single reading) s _ _ _
+    _ _ _
+    place (no_room c.args.bytes delimited (family_takes family
+    (family.holds s c.args.row)) start
+    (with_more c.args.row) c.limits_add_up.ensures _ _ _ _ start _ (λ i. start)
+    c.in_err-register_element_memory.ensures.none_left))
+
+pub merge_each_grouped-returns-in_err-merge_grouped-clause-err
+    : goal.merge_each_grouped-returns-in_err-merge_grouped-clause-err
+merge_each_grouped-returns-in_err-merge_grouped-clause-err g t c =
+    let there = c.requires.there in
+    let r = c.from_residual-in_err-merge_grouped in
+    let p = err_from_is_err_and r.result r.ensures.1 in
+    let family = g.T.RecursiveHeld.family in
+    let s = g.T.RecursiveHeld.sort c.args.message.now in
+    let reading = c.records_in_order.ensures.reading in
+    let place = c.requires.place in
+    let held = c.new_in-own.ensures.sort there.0 there.1 in
+    let none = rw held at c.in_err-merge_grouped.ensures.err in
+    rw (p.1, p.2) (λ other. not_placed family reading (g.met.T.RecursiveHeld.single reading) s _ _ _
+    _ _ _
+    place (no_more c.args.bytes delimited (family_takes family
+    (family.holds s c.args.row))
+    (new_in family s c.args.row) (with_more c.args.row) c.limits_add_up.ensures _ _ _ _ _ _
+    (c.new_in-own.ensures.result there.0 there.1) _
+    c.in_ok-register_element_memory.ensures.ok (none other)))
+
+pub merge_each_grouped-returns-clause-ok
+    : goal.merge_each_grouped-returns-clause-ok
+merge_each_grouped-returns-clause-ok g t c =
+    let there = c.requires.there in
+    let family = g.T.RecursiveHeld.family in
+    let s = g.T.RecursiveHeld.sort c.args.message.now in
+    let reading = c.records_in_order.ensures.reading in
+    let place = c.requires.place in
+    let held = c.new_in-own.ensures.sort there.0 there.1 in
+    let taken = rw held at c.in_ok-merge_grouped.ensures.ok in
+    on_ok_weaker c.push.result (λ is. placed_taken family reading (g.met.T.RecursiveHeld.single
+    reading)
+    s _ _ _ _ _ _ place _ _ _ (each_taken c.args.bytes delimited
+    (family_takes family (family.holds s c.args.row)) (new_in family s c.args.row)
+    (with_more c.args.row) c.limits_add_up.ensures _ _ _ _ _ _
+    (c.new_in-own.ensures.result there.0 there.1) _ _ _ _ _
+    c.in_ok-register_element_memory.ensures.ok
+    c.in_ok-register_element_memory.ensures.taken is taken))
+    (c.push.ensures.ok there.0 there.1 (c.in_ok-merge_grouped.ensures.sort ∙ held))

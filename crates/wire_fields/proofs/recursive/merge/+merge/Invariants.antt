@@ -28,6 +28,9 @@ decreases-merge_each g l = 4 * l.context.now.depth + 2
 abbrev pub decreases-merge_once_grouped : goal.decreases-merge_once_grouped
 decreases-merge_once_grouped g l = 4 * l.context.now.depth + 2
 
+abbrev pub decreases-merge_each_grouped : goal.decreases-merge_each_grouped
+decreases-merge_each_grouped g l = 4 * l.context.now.depth + 2
+
 abbrev pub decreases-merge_payload : goal.decreases-merge_payload
 decreases-merge_payload g l = 4 * l.context.now.depth + 4
 
