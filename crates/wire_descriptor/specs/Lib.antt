@@ -9,6 +9,7 @@ pub mod FeatureSet
 pub mod FieldDescriptorProto
 pub mod FieldOptions
 pub mod FileDescriptorProto
+pub mod FileDescriptorSet
 pub mod FileOptions
 pub mod MessageOptions
 pub mod MethodDescriptorProto

@@ -1,0 +1,4 @@
+-- Lemmas on tables.
+pub mod Tables
+pub mod Found
+pub mod Open

@@ -1,0 +1,24 @@
+use Rattle.std.proofs.Common.{rules, ◌≡◌, ◌+◌, length, true, [], ◌∷◌, ◌++◌, take, arith, string_bytes, slice_get, refl, subst}
+use Rattle.std.specs.Prelude.{cond, Some, None}
+use Rattle.std.proofs.lemmas.Grind.{common_steps}
+use Rattle.std.proofs.lemmas.Map.Text.{text_keys}
+use Rattle.std.specs.BTreeMap.{get_by_text}
+use Rattle.std.specs.Str.{bytes_eq}
+use Rattle.wire_dynamic.specs.Places.{message_has_name}
+use Rattle.std.proofs.lemmas.Option.{slice_get_read}
+use Rattle.wire_dynamic.proofs.Found.{absent_text, none_found}
+use Rattle.wire_dynamic.proofs.Tables.{matches_pushed}
+use Rattle.wire_dynamic.proofs.places.message_places.Goals as goal
+
+pub loop-place-preserved : goal.loop-place-preserved
+loop-place-preserved c = λ k.
+    let d = c.index-declared-place.result in
+    let xs = c.args.declared.now in
+    let i = c.loop-place.place in
+    let name : string_bytes c.in_ok-clone.field-0 ≡ string_bytes d.name = search rules in
+    let step : take (i + 1) xs ≡ take i xs ++ d ∷ [] = grind (arith, common_steps) in
+    let tells : slice_get xs i ≡ Some d = slice_get_read xs (length xs) i d refl c.loop-place-test.true c.index-declared-place.is in
+    let old = get_by_text c.loop-place.places k in
+    let absent : bytes_eq k (string_bytes d.name) ≡ true → old ≡ None = absent_text c.loop-place.places (string_bytes d.name) k (subst (λ q. get_by_text c.loop-place.places q ≡ None) name (none_found _ _ _ c.in_ok-insert.ensures.old c.is_some.ensures c.if-is_some.false)) in
+    let new : get_by_text c.insert.new.self k ≡ cond (bytes_eq k (string_bytes d.name)) (Some i) old = grind (arith, text_keys, name, c.in_ok-insert.ensures.updates) in
+    rw step (matches_pushed (λ m j. slice_get xs j ≡ Some m) d (take i xs) i (message_has_name k) old (get_by_text c.insert.new.self k) (c.loop-place.invariant k) tells absent new)

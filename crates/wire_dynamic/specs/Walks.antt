@@ -1,0 +1,30 @@
+-- Which field a record is of, by the groups that it stands in.
+use Rattle.std.specs.Prelude.{ℕ, List, [], ◌∷◌, Option, None, Some, option_and_then}
+use Rattle.wire_read.specs.declared.event.Value.{Value}
+use Rattle.wire_read.specs.declared.event.Value.TheVariants.{GroupEnd}
+use Rattle.wire_dynamic.specs.declared.field.Field.{Field}
+use Rattle.wire_dynamic.specs.declared.field.Kind.{Kind}
+use Rattle.wire_dynamic.specs.declared.field.Kind.TheVariants as kinds
+use Rattle.wire_dynamic.specs.declared.schema.Schema.{Schema}
+use Rattle.wire_dynamic.specs.Schemas.{field_of}
+
+-- the place of the type of a group
+abbrev pub group_of : Kind → Option ℕ
+group_of (kinds.Group place) = Some place
+group_of _ = None
+
+-- the field of this number of the message type at a place, if there is one
+abbrev pub field_in : Schema → ℕ → Option ℕ → Option Field
+field_in s n place = option_and_then (λ p. field_of s p n) place
+
+-- The place of the type of the message that stands innermost in one of the type at a place, where
+-- groups of these numbers are open, the innermost first.
+abbrev pub innermost : Schema → ℕ → List ℕ → Option ℕ
+innermost s root [] = Some root
+innermost s root (n ∷ outside) =
+    option_and_then (λ (f : Field). group_of f.kind) (field_in s n (innermost s root outside))
+
+-- the groups in which an event is told, of those that are open before it and behind it
+abbrev pub told_in : Value → List ℕ → List ℕ → List ℕ
+told_in GroupEnd before behind = behind
+told_in _ before behind = before

@@ -1,0 +1,128 @@
+//! The types of a descriptor set.
+ghost use Rattle.std.specs.Prelude.{◌≡◌, IfOk};
+ghost use Rattle.std.specs.List.{AllZip};
+ghost use Rattle.std.specs.Option.{option_copied};
+ghost use Rattle.wire_dynamic.specs.declared.declared.Declared.{Declared};
+ghost use Rattle.wire_dynamic.specs.Enums.{IsEnum};
+ghost use Rattle.wire_dynamic.specs.Messages.{IsMessage};
+ghost use Rattle.wire_dynamic.specs.Schemas.{enum_at, field_of, message_at, place_of, IsSchema};
+
+use crate::declared::Declared;
+use crate::enum_type::EnumType;
+use crate::error::SchemaError;
+use crate::extensions::{Extensions, extensions_of};
+use crate::field::Field;
+use crate::message_type::MessageType;
+use crate::places::Places;
+use std::alloc::Global;
+use std::collections::BTreeMap;
+use wire_codec::{DecodeError, Message};
+use wire_descriptor::FileDescriptorSet;
+
+/// The message types and the enums of a descriptor set, with its extensions.
+#[derive(Drop)]
+pub struct Schema {
+    messages: Vec<MessageType>,
+    enums: Vec<EnumType>,
+    extensions: Extensions,
+    places: Places,
+}
+
+impl Schema {
+    /// The schema of the bytes of a descriptor set, as `protoc --descriptor_set_out` writes them.
+    pub fn decode(alloc: Global, bytes: &[u8]) -> Result<Schema, SchemaError> {
+        match FileDescriptorSet::decode_from_slice(alloc, bytes) {
+            Ok(set) => Schema::of(alloc, &set),
+            Err(DecodeError::OutOfMemory) => Err(SchemaError::OutOfMemory),
+            Err(error) => Err(SchemaError::NotDecoded(error)),
+        }
+    }
+
+    /// The schema of a descriptor set.
+    pub fn of(alloc: Global, set: &FileDescriptorSet) -> Result<Schema, SchemaError>
+        ensures { IfOk result (λ s. (declared : Declared) × IsSchema declared s) }
+    {
+        let declared = Declared::of(alloc, set)?;
+        Schema::of_declared(alloc, &declared)
+    }
+
+    /// The schema of what a set declares. Refused where two message types or two enums have one
+    /// name, where two fields of a message or two extensions of it have one number, where a number
+    /// is not of 1 to 536,870,911, where a type is none that a field can have, or is not declared,
+    /// and where memory runs out.
+    pub fn of_declared(alloc: Global, declared: &Declared) -> Result<Schema, SchemaError>
+        ensures { IfOk result (IsSchema declared.now) }
+    {
+        let places = Places::of(alloc, declared)?;
+        let messages = messages_of(alloc, declared, &places)?;
+        let enums = enums_of(alloc, declared)?;
+        let extensions = extensions_of(alloc, declared, &places)?;
+        Ok(Schema {
+            messages,
+            enums,
+            extensions,
+            places,
+        })
+    }
+
+    /// The places of the message types, in the order of their full names.
+    pub fn message_places(&self) -> &BTreeMap<String, usize> {
+        &self.places.messages
+    }
+
+    /// The place of the message type of this full name, as `.package.Outer.Inner`.
+    pub fn message_place(&self, name: &str) -> Option<usize>
+        ensures { result ≡ place_of self.now name.now }
+    {
+        self.places.messages.get(name).copied()
+    }
+
+    /// The message type at this place.
+    pub fn message(&self, place: usize) -> Option<&MessageType>
+        ensures { option_copied result ≡ message_at self.now place }
+    {
+        self.messages.get(place)
+    }
+
+    /// The enum at this place.
+    pub fn enum_at(&self, place: usize) -> Option<&EnumType>
+        ensures { option_copied result ≡ enum_at self.now place }
+    {
+        self.enums.get(place)
+    }
+
+    /// The field of this number of the message type at this place, or else the extension.
+    pub fn field(&self, place: usize, number: u32) -> Option<&Field>
+        ensures { option_copied result ≡ field_of self.now place number }
+    {
+        match self.messages.get(place)?.fields.get(&number) {
+            Some(field) => Some(field),
+            None => self.extensions.get(&(place, number)),
+        }
+    }
+}
+
+fn messages_of(
+    alloc: Global,
+    declared: &Declared,
+    places: &Places,
+) -> Result<Vec<MessageType>, SchemaError>
+    ensures { IfOk result (λ messages. AllZip (IsMessage declared.now places.now)
+        declared.now.messages.items messages.items) }
+{
+    let mut messages = Vec::new(alloc);
+    for message in &declared.messages {
+        messages.push(MessageType::of(alloc, message, declared, places)?)?;
+    }
+    Ok(messages)
+}
+
+fn enums_of(alloc: Global, declared: &Declared) -> Result<Vec<EnumType>, SchemaError>
+    ensures { IfOk result (λ enums. AllZip IsEnum declared.now.enums.items enums.items) }
+{
+    let mut enums = Vec::new(alloc);
+    for of_enum in &declared.enums {
+        enums.push(EnumType::of(alloc, of_enum)?)?;
+    }
+    Ok(enums)
+}
