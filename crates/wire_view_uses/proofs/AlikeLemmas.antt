@@ -12,10 +12,10 @@ use Rattle.wire_codec.specs.DecodeError.TheVariants.{OutOfMemory}
 use Rattle.wire_codec.specs.Limits.{Limits}
 use Rattle.wire_codec.specs.Taking.{TakesAll, IsCharged, NotDecoded}
 use Rattle.wire_codec.specs.TakingLaws.{TakenInOneWay}
-use Rattle.wire_view_uses.specs.Album.{album-shape, album-value, album-view_value}
+use Rattle.wire_albums.specs.Album.{album-shape, album-value, album-view_value}
 use Rattle.wire_view_uses.specs.Alike.{AreAlike}
-use Rattle.wire_view_uses.specs.declared.album.Album.{Album}
-use Rattle.wire_view_uses.specs.declared.album_view.AlbumView.{AlbumView}
+use Rattle.wire_albums.specs.declared.album.Album.{Album}
+use Rattle.wire_albums.specs.declared.album_view.AlbumView.{AlbumView}
 
 -- an error that is no other than want of memory
 is_memory : (e : DecodeError) → ((e ≢ OutOfMemory) → ⊥) → e ≡ OutOfMemory

@@ -1,13 +1,12 @@
 //! An album and its view from the same bytes.
 ghost use Rattle.std.specs.Prelude.{◌≡◌, ◌≢◌, IfOk, IfErr};
+ghost use Rattle.wire_albums.specs.Album.{album-shape, album-value};
 ghost use Rattle.wire_codec.specs.DecodeError.TheVariants.{OutOfMemory};
 ghost use Rattle.wire_codec.specs.Taking.{TakesAll, IsCharged, NotDecoded};
-ghost use Rattle.wire_view_uses.specs.Album.{album-shape, album-value};
 ghost use Rattle.wire_view_uses.specs.Alike.{AreAlike};
 
-use crate::album::Album;
-use crate::album_view::AlbumView;
 use std::alloc::Global;
+use wire_albums::{Album, AlbumView};
 use wire_codec::{DecodeContext, DecodeError, Message, laws};
 use wire_views::MessageView;
 

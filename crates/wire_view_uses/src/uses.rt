@@ -1,12 +1,11 @@
 //! What a program does with a view.
 ghost use Rattle.std.specs.Prelude.{◌≡◌, ◌≢◌, IfOk, IfErr};
+ghost use Rattle.wire_albums.specs.Album.{Album-Value, album-shape, album-value, title-of-album};
 ghost use Rattle.wire_codec.specs.DecodeError.TheVariants.{OutOfMemory};
 ghost use Rattle.wire_fields.specs.Shape.{DecodesAs, NotDecodedAs};
-ghost use Rattle.wire_view_uses.specs.Album.{Album-Value, album-shape, album-value, title-of-album};
 
-use crate::album::Album;
-use crate::album_view::AlbumView;
 use std::alloc::Global;
+use wire_albums::{Album, AlbumView};
 use wire_codec::DecodeError;
 use wire_views::MessageView;
 

@@ -1,3 +1,5 @@
+pub mod ClosedSpans
+pub mod MapEntries
 pub mod Owning
 pub mod Passed
 pub mod SpanLaws

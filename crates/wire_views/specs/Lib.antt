@@ -1,3 +1,4 @@
+pub mod Entries
 pub mod Passing
 pub mod Spans
 pub mod SpelledOnce

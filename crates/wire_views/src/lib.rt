@@ -8,10 +8,16 @@
 //! `MessageView::own` makes the message.
 #![tactic(auto)]
 
+mod closed;
 mod copied;
 mod encoding;
+mod map;
+mod map_entry;
+mod map_key;
 mod message_field;
+mod message_map;
 mod message_view;
+mod ordering;
 mod passing;
 mod presence;
 mod repeated;
@@ -23,13 +29,19 @@ mod variants;
 mod view_kind;
 mod view_scalar;
 
+pub use closed::merge_closed;
 pub use copied::{CopiedIn, PackedIn, UnpackedIn};
 pub use encoding::ViewEncoding;
+pub use map::MapIn;
+pub use map_entry::ViewEntryValue;
+pub use map_key::{MapKey, NumberIn};
 pub use message_field::{
     AlwaysEmbeddedIn, AlwaysGroupIn, AlwaysMessageIn, EachEmbeddedIn, EachGroupIn, EachIn,
     EmbeddedIn, GroupIn, OnceIn,
 };
+pub use message_map::EmbeddedMapIn;
 pub use message_view::MessageView;
+pub use ordering::in_order;
 pub use passing::pass_unknown_field;
 pub use presence::{AlwaysIn, ImplicitIn, OptionalIn};
 pub use repeated::RepeatedIn;

@@ -2,13 +2,14 @@
 
 /// What is asked of the fields of a view: `empty`, `merge` or `own`. Behind the call stand the
 /// rows, which a macro of the view's module puts there: each has the numbers of a field, its name
-/// and its kind, and the last says that all other records are kept where they stand. What is handed
-/// in are names and places, which stand in what is made more than once.
+/// and its kind, and the last says that all other records are kept where they stand. A number is
+/// followed by `[closed]` where the field is of a closed enum. What is handed in are names and
+/// places, which stand in what is made more than once.
 #[macro_export]
 macro_rules! view_fields {
     // The value of no records.
     (empty($name:ident, $alloc:expr)
-        $($($number:literal)|+ => $field:ident: $kind:ty,)+ _ => unknown) => {
+        $($($number:literal $([$way:ident])?)|+ => $field:ident: $kind:ty,)+ _ => unknown) => {
         $name {
             $($field: <$kind as $crate::ViewKind>::empty($alloc),)+
             unknown: Vec::new($alloc),
@@ -16,24 +17,39 @@ macro_rules! view_fields {
     };
     // Takes the record behind a tag into its field.
     (merge($message:expr, $alloc:expr, $tag:expr, $buf:expr, $context:expr)
-        $($($number:literal)|+ => $field:ident: $kind:ty,)+ _ => unknown) => {
+        $($($number:literal $([$way:ident])?)|+ => $field:ident: $kind:ty,)+ _ => unknown) => {
         match $tag.field_number() {
-            $($($number => <$kind as $crate::ViewKind>::merge(
-                $alloc,
-                $tag,
-                &mut $message.$field,
-                $buf,
-                $context,
-            ),)+)+
+            $($($number => $crate::view_merged!([$($way)?]
+                $kind, $field, ($message, $alloc, $tag, $buf, $context)),)+)+
             _ => $crate::keep_span($tag, &mut $message.unknown, $buf, $context),
         }
     };
     // The message of this name, with memory of its own.
     (own($name:ident, $message:expr, $alloc:expr)
-        $($($number:literal)|+ => $field:ident: $kind:ty,)+ _ => unknown) => {
+        $($($number:literal $([$way:ident])?)|+ => $field:ident: $kind:ty,)+ _ => unknown) => {
         Ok($name {
             $($field: <$kind as $crate::ViewKind>::own($alloc, &$message.$field)?,)+
             unknown: $crate::own_spans($alloc, &$message.unknown)?,
         })
+    };
+}
+
+/// How the record of one number is taken: into its field, or as that of a closed enum.
+#[macro_export]
+macro_rules! view_merged {
+    ([] $kind:ty, $field:ident,
+        ($message:expr, $alloc:expr, $tag:expr, $buf:expr, $context:expr)) => {
+        <$kind as $crate::ViewKind>::merge($alloc, $tag, &mut $message.$field, $buf, $context)
+    };
+    ([closed] $kind:ty, $field:ident,
+        ($message:expr, $alloc:expr, $tag:expr, $buf:expr, $context:expr)) => {
+        $crate::merge_closed(
+            $alloc,
+            $tag,
+            &mut $message.$field,
+            &mut $message.unknown,
+            $buf,
+            $context,
+        )
     };
 }

@@ -45,8 +45,8 @@ pub fn keep_span<'a>(
     Ok(())
 }
 
-// The bytes before so many that are left.
-fn front_of<'a>(start: &'a [u8], rest: &[u8]) -> &'a [u8]
+/// The bytes before so many that are left.
+pub(crate) fn front_of<'a>(start: &'a [u8], rest: &[u8]) -> &'a [u8]
     requires { length rest.now ≤ length start.now }
     ensures { result.now ≡ take (length start.now - length rest.now) start.now }
 {
