@@ -15,25 +15,16 @@ REFUSED = [
      "optional C c = 2; } message C { repeated A a = 1; optional int32 x = 2; }", "",
      ".A: required fields in messages that hold themselves or one another, or in what these hold, "
      "want required=optional"),
-    ("proto2", r'message A { optional string x = 1 [default = "\377"]; }', "",
-     ".A.x: a default value that is no UTF-8"),
     ("proto2", "enum E { B = 0; } message A { map<int32, E> x = 1; }", ",unknown=drop",
      ".A.x: closed enums are not generated with unknown=drop or mismatch=keep"),
-    ("proto3", "message A { A x = 1; int32 y = 2; }", ",unknown=drop", ".A: a message that holds "
-     "itself, or what holds it, has neither closed enums, unknown=drop nor mismatch=keep"),
-    ("proto2", "enum E { Z = 0; } message A { optional B x = 1; } message B { repeated A x = 1; "
-     "optional E y = 2; }", "", ".B: a message that holds itself, or what holds it, has neither "
-     "closed enums, unknown=drop nor mismatch=keep"),
-    ("proto3", "message A { map<int32, A> x = 1; int32 y = 2; }", "",
-     ".A: messages that hold themselves or one another by a map or by lists of groups want "
-     "encoded=FIELD"),
-    ("proto3", "message A { map<int32, B> x = 1; int32 y = 2; } "
-     "message B { repeated A x = 1; int32 y = 2; }", "",
-     ".A: messages that hold themselves or one another by a map or by lists of groups want "
-     "encoded=FIELD"),
-    ("proto2", "message A { repeated group B = 1 { optional A x = 1; } }", "",
-     ".A: messages that hold themselves or one another by a map or by lists of groups want "
-     "encoded=FIELD"),
+    ("proto3", "message A { A x = 1; int32 y = 2; }", ",mismatch=keep", ".A: a message that holds "
+     "itself, or what holds it, has no mismatch=keep"),
+    ("proto2", "enum E { Z = 0; } message A { oneof b { A x = 1; int32 y = 2; } "
+     "optional E z = 3; }", "", ".A: a message that holds itself, or what holds it, has no maps of "
+     "closed enums, and by a oneof neither closed enums nor unknown=drop"),
+    ("proto2", "enum E { Z = 0; } message A { optional A x = 1; map<int32, E> y = 2; }", "",
+     ".A: a message that holds itself, or what holds it, has no maps of closed enums, and by a "
+     "oneof neither closed enums nor unknown=drop"),
     ("proto3", "message A { oneof b { A x = 1; } oneof c { A y = 2; int32 z = 3; } }", "",
      ".A: messages that hold themselves or one another by several oneofs want encoded=FIELD"),
     ("proto3", "message A { oneof b { B x = 1; } oneof c { A y = 2; int32 z = 3; } } "
@@ -61,14 +52,18 @@ REFUSED = [
      "import=google.protobuf"),
     ("proto3", TYPE, ",element=many", "parameters are crate=NAME, import=PACKAGE=CRATE, "
      "element=BYTES, unknown=keep or drop, mismatch=refuse or keep, enums=open, strings=bytes, "
-     "required=optional, services=skip, defaults=skip, laws=skip, split=COUNT, and "
+     "required=optional, views=true, services=skip, defaults=skip, laws=skip, split=COUNT, and "
      "encoded=FIELD: element=many"),
     ("proto2", TYPE.replace("int32", "optional string"), ",strings=texts",
      "parameters are crate=NAME, import=PACKAGE=CRATE, "
      "element=BYTES, unknown=keep or drop, mismatch=refuse or keep, enums=open, strings=bytes, "
-     "required=optional, services=skip, defaults=skip, laws=skip, split=COUNT, and "
+     "required=optional, views=true, services=skip, defaults=skip, laws=skip, split=COUNT, and "
      "encoded=FIELD: strings=texts"),
     ("proto3", TYPE, ",unknown=drop,mismatch=keep", "mismatch=keep wants unknown=keep"),
+    ("proto3", TYPE, ",views=true,unknown=drop",
+     "views=true wants unknown=keep and mismatch=refuse"),
+    ("proto3", TYPE, ",mismatch=keep,views=true",
+     "views=true wants unknown=keep and mismatch=refuse"),
     ("proto2", "enum E { B = 0; } message A { optional E x = 1; }", ",unknown=drop",
      ".A.x: closed enums are not generated with unknown=drop or mismatch=keep"),
 ]
@@ -188,6 +183,9 @@ CHOICES = [
     ("proto3", "message A { oneof b { B x = 1; int32 y = 2; } } message B { A z = 1; }", "",
      ["    X(Box<B_>),\n    Y(i32),\n", "#[cycle(a_family)]",
       "Some(AB::X(message)) => FamilySlice::B_(from_ref(message)),"]),
+    # A default value of a string that is no UTF-8.
+    ("proto2", r'message A { optional string x = 1 [default = "\377"]; }', "",
+     ["pub fn x_or_default(&self) -> &[u8]", "Some(value) => value.as_bytes(),"]),
     ("proto2", "message A { oneof b { A x = 1; int32 y = 2 [default = 7]; } }", "",
      ["            (or_else ab-none\n            (option_map ab-value (out-A self.now).b)).0) }",
       "            Some(AB::Y(value)) => *value,\n            Some(AB::X(_)) => 7,\n"
@@ -269,6 +267,22 @@ CHOICES = [
      "oneof _o { bool _2 = 3; } }", "",
      ["pub enum X {\n    X0 = 0,\n}", "pub struct X1 {", "    pub x_: Option<i32>,",
       "    pub x__: Option<EnumValue<X>>,", "X2(bool),"]),
+    # Views, and types that have none.
+    ("proto2", "enum E { F = 0; } message A { optional E e = 1; optional bytes AView = 2; } "
+     "message AView { repeated A a = 1; oneof b { string c = 2; fixed32 d = 3; } } "
+     "message B { map<int64, A> a = 1; } message G { repeated E e = 1; } "
+     "message H { optional G g = 1; } message K { map<string, E> f = 1; } message I { optional I i = 1; } "
+     "message J { map<string, I> i = 1; }", ",views=true",
+     ["            1 [closed] => e: CopiedIn<&'a [u8], Optional<Enum<E>>>,\n"
+      "            2 => aview: OptionalIn<BytesIn<'a>>,\n",
+      "pub struct AView_2<'a> {", "pub use aview_2::AView_2;", "pub struct AViewView<'a> {",
+      "            1 => a: EachEmbeddedIn<AView_2<'a>, 64>,\n            2 | 3 => b: ",
+      "            1 => a: EmbeddedMapIn<NumberIn<&'a [u8], Int64>, AView_2<'a>, 104>,\n",
+      "wire_codec wire_fields wire_views bytes", "/// It has no view: `e` has values ",
+      "/// It has no view: `f` has values ",
+      "/// It has no view: `g` is of `G`, which has none.",
+      "/// It has no view: it holds messages of its own type, or of types that hold it.",
+      "/// It has no view: `i` is of `I`, which has none."]),
     ("proto3", "\n\n// a\tb\u2028c\u202ed\u200f\x01e\r\n// f\t\r\n" + TYPE, "",
      ["/// a    b cde\n/// f\n#[derive"]),
 ]

@@ -23,7 +23,7 @@ Rattle.wire_fields.specs.Arms unlike
 const FAMILY: &str = "use Rattle.$crate$.specs.$family_name$ as family\n";
 
 const HEAD: &str = "\
-$imports$use Rattle.$crate$.proofs.$module$.$goals$.Goals as goal
+$imports$use Rattle.$crate$.proofs.$of_goals$.$goals$.Goals as goal
 ";
 
 // The equations of one level of a message that holds itself, before a record is taken and after it.
@@ -97,9 +97,20 @@ const OF_MEMBER: [Template; 10] = [
     ),
 ];
 
+// What of the above is another thing for a view: the calls of its rows, the function, what it is
+// given, and the call that keeps a record.
+const OF_VIEW: [Template; 6] = [
+    ("seen_by", "view_value"),
+    ("of_call", "c.view_fields-"),
+    ("of_goals", "$view_module$"),
+    ("goals", "$view_name$MessageView.merge_field"),
+    ("given", "c"),
+    ("keeper", "keep_span"),
+];
+
 const REFUSED: &str = "
 pub returns-in-$number$-clause-err : goal.returns-in-$number$-clause-err
-returns-in-$number$-clause-err g c =
+returns-in-$number$-clause-err $given$ =
     $before$arm_err $whole$.takes $step$ $number$ _
     (sym $of_call$field_number.ensures.number ∙ c.in-$number$.is) _ _
     (λ charge z p h. ($seen$)) _ _ _
@@ -108,7 +119,7 @@ returns-in-$number$-clause-err g c =
 
 const TAKEN: &str = "
 pub returns-in-$number$-clause-ok : goal.returns-in-$number$-clause-ok
-returns-in-$number$-clause-ok g c =
+returns-in-$number$-clause-ok $given$ =
     $taken_by$ $all_takes$ $step$ $number$ _
     (sym $of_call$field_number.ensures.number ∙ c.in-$number$.is) _ _$levels$ _ _
     (λ charge p h. $taken$) _ _ _ _ _
@@ -152,8 +163,24 @@ pub(crate) fn answers_of(
     is_recursive: bool,
 ) -> Result<String, GenerateError> {
     let mut page = Words::like(base);
-    page.copy(&tree.words, &["unlike"]);
     put_whole(&mut page, is_recursive);
+    written(page, fields, tree)
+}
+
+/// The answers of `merge_field` of a view.
+pub(crate) fn view_answers_of(
+    base: &Words,
+    fields: &[Field],
+    tree: &Tree,
+) -> Result<String, GenerateError> {
+    let mut page = Words::like(base);
+    put_whole(&mut page, false);
+    page.fill_all(&OF_VIEW);
+    written(page, fields, tree)
+}
+
+fn written(mut page: Words, fields: &[Field], tree: &Tree) -> Result<String, GenerateError> {
+    page.copy(&tree.words, &["unlike"]);
     page.append(
         "uses",
         if fields.is_empty() {
@@ -178,6 +205,12 @@ pub(crate) fn answers_of(
 // What the fields are of, and what all answers bring in.
 fn put_whole(page: &mut Words, is_recursive: bool) {
     let is_member = !page.get("family_name").is_empty();
+    page.fill_all(&[
+        ("of_goals", "$module$"),
+        ("given", "g c"),
+        ("keeper", "keep"),
+        ("seen_by", "value"),
+    ]);
     page.fill_all(if is_member {
         &OF_MEMBER
     } else if is_recursive {

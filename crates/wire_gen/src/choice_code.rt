@@ -21,7 +21,10 @@ pub(crate) fn put_declared(page: &mut Words, schema: &Schema) {
 
 /// A row that is a variant.
 pub(crate) const ONCE_OF_CHOICE: [Template; 4] = [
-    ("places", "            $number$ => Place::$once$($row$),\n"),
+    (
+        "places",
+        "            $number$ => Place::$row_place$($row$),\n",
+    ),
     (
         "rows",
         "            $row$ => {

@@ -32,6 +32,9 @@ const STRUCT: &str = "\
 pub struct $name$ {$declared$}
 ";
 
+// (such a map is the list of its entries)
+const ENTRY: &str = "/// An entry of a map, of whose keys each counts as it came last.\n";
+
 const NAME: &str = "
 impl MessageName for $name$ {
     const PACKAGE: &'static str = \"$package$\";
@@ -279,11 +282,15 @@ fn put_struct(page: &mut Words, schema: &Schema, message: &MessageType) {
     set_heading(page, "//!", "The message `$full$`.");
     page.fill("code", "$heading$$head_ghosts$$imports$\n");
     match schema.comment(message.words.get("place")) {
+        "" if message.is_entry() => page.append("code", ENTRY),
         "" => page.append("code", "/// The message `$name$`.\n"),
         comment => put_comment(page, "code", "", comment),
     }
     if !page.get("requiring").is_empty() {
         page.append("code", DOCUMENTED);
+    }
+    if !page.get("unviewed").is_empty() {
+        page.append("code", "///\n/// It has no view: $unviewed$.\n");
     }
     page.set("derived", if message.is_twin { "" } else { "Clone, " });
     let is_member = !page.get("family_name").is_empty();
@@ -327,8 +334,16 @@ pub(crate) fn put_leaf_field(page: &mut Words, schema: &Schema, field: &Words) {
     put_field_comment(page, schema);
     page.append_all(&OF_FIELD);
     page.append_all(&OF_LEAF);
+    let mut calls = field.get("all_calls").split(' ');
     for number in field.get("numbers").split(' ') {
         page.set("number", number);
+        page.set("call", calls.next().unwrap_or(""));
+        if page.get("call").is_empty() {
+            page.copy(field, &["call"]);
+        }
+        if page.get("call").starts_with("merge_closed") {
+            page.append("uses", "wire_fields $call$\n");
+        }
         put_arm(page);
     }
 }

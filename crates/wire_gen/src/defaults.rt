@@ -26,7 +26,7 @@ const HELD: &str = "$default_before$$fields_of_self$.$field$$default_behind$";
 const BODY: &str = "
     {
         match $default_match$ {
-            Some(value) => value,
+            Some(value) => $default_read$,
             None => $default$,
         }
     }
@@ -173,7 +173,7 @@ fn take_default(page: &mut Words, field: &Words) -> bool {
         field,
         &["default_behind", "default_match", "default_ghosts"],
     );
-    page.copy(field, &["default_as"]);
+    page.copy(field, &["default_as", "default_read"]);
     if !page
         .get("aliases_of_defaults")
         .contains(page.get("default_as"))
@@ -198,7 +198,10 @@ fn put_variant(page: &mut Words, variant: &Words) {
     }
     page.copy(variant, &["variant"]);
     let is_text = page.get("default_match").starts_with('&');
-    page.set("default_taken", if is_text { "value" } else { "*value" });
+    page.fill(
+        "default_taken",
+        if is_text { "$default_read$" } else { "*value" },
+    );
     // (a text is seen as its bytes there)
     let is_mapped = !is_text && !page.get("default_before").is_empty();
     page.fill(

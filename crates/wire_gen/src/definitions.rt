@@ -6,6 +6,7 @@ use crate::laws_pages::has_laws;
 use crate::required::{define_asked, put_missing};
 use crate::returned::{put_range, put_range_page};
 use crate::tree::Tree;
+use crate::view_definitions::define_view;
 use wire_schema::{Field, GenerateError, MessageType, Template, Words};
 
 const USES: &str = "\
@@ -82,7 +83,7 @@ $tree_view$,
   $kept_view$,
 )
 
-$accessors$$shapes$";
+$view_value$$accessors$$shapes$";
 
 const SHAPE: &str = "\
 abbrev pub $module$-known : $part$ $name$-Known
@@ -100,7 +101,7 @@ $name$-Value = $kept$
 abbrev pub $module$-value : $name$ → $name$-Value
 $module$-value m = $kept_view$
 
-abbrev pub $module$-shape : Shape $name$-Value
+$view_value$abbrev pub $module$-shape : Shape $name$-Value
 $module$-shape = $rest$
 ";
 
@@ -154,6 +155,7 @@ pub(crate) fn definitions_of(
     }
     put_tree(&mut page, &tree.words);
     page.indent("tree_view");
+    define_view(&mut page, fields, tree);
     if is_read_back {
         put_range(&mut page, fields, tree);
     }

@@ -89,7 +89,7 @@ const OF_LEAF: [Template; 21] = [
     ("sum_back", "($module$-known-back g)"),
     (
         "sum_stay",
-        "(known_stay $module$-table ($module$-stays-of-known g))",
+        "($leaf_stay$ $module$-table ($module$-stays-of-known g))",
     ),
     ("into_open", ""),
     ("into_close", ""),
@@ -165,6 +165,7 @@ pub(crate) fn set_family(
     page.fill_all(&OF_LEAF);
     put_types(page, &members)?;
     for (place, member) in members.iter().enumerate() {
+        page.copy(member, &[]);
         page.set("other", member.get("name"));
         page.set("other_module", member.get("module"));
         page.append("family", " $other$");

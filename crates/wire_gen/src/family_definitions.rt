@@ -1,8 +1,8 @@
 //! The definitions of message types that hold one another, on a page of all of them.
 use crate::account::{FAMILY_ACCOUNT, MEMBER_ACCOUNT};
 use crate::comments::set_heading;
-use crate::imports::definition_imports;
 use crate::laws_pages::has_laws;
+use crate::mentioned::use_mentioned_of;
 use crate::recursive_definitions::ALIASES;
 use crate::returned::under_charges;
 use wire_schema::{GenerateError, Template, Words};
@@ -22,7 +22,6 @@ Rattle.std.specs.Prelude false
 Rattle.std.specs.Prelude true
 Rattle.std.specs.Prelude ◌==◌
 Rattle.std.specs.Prelude ℕ
-Rattle.wire_codec.specs.Field Fields
 Rattle.wire_codec.specs.Folds IsSingle
 Rattle.wire_codec.specs.Records Records
 Rattle.wire_codec.specs.Records joined_records
@@ -45,7 +44,6 @@ Rattle.wire_fields.specs.Shape Lawful
 Rattle.wire_fields.specs.Shape Shape
 Rattle.wire_fields.specs.Shape known
 Rattle.wire_fields.specs.Shape two
-Rattle.wire_fields.specs.Shape unknown
 Rattle.wire_fields.specs.Sums first_single
 Rattle.wire_fields.specs.Sums first_takes
 Rattle.wire_fields.specs.Sums of_first
@@ -63,7 +61,6 @@ Rattle.wire_fields.specs.NestRange IsReadBack
 Rattle.wire_fields.specs.NestRange LeafBack
 Rattle.wire_fields.specs.NestRange all_runs
 Rattle.wire_fields.specs.NestRange family_range
-Rattle.wire_fields.specs.NestRange known_back
 Rattle.wire_fields.specs.NestRange table_back
 Rattle.wire_fields.specs.Sums first_back
 Rattle.wire_fields.specs.Sums first_range
@@ -79,8 +76,11 @@ use Rattle.$crate$.specs.declared.$family_module$.FamilySlice.TheVariants as sli
 const WHAT: &str =
     "Messages that hold one another, as contracts see them, and their tables: $listed$.";
 
-const TEXT: &str = "\
+const HEAD: &str = "\
 $heading$$imports$$aliases$$choice_aliases$
+$text$";
+
+const TEXT: &str = "\
 -- which of them a message is
 pub data Family-Sorts : Type 0 where
 $sorts$
@@ -151,7 +151,7 @@ $name$-Known =
     $value$
 
 abbrev pub $name$-Leaf : Type 0
-$name$-Leaf = $name$-Known × Fields
+$name$-Leaf = $name$-Known × $leaf_kept$
 
 ",
     ),
@@ -162,7 +162,7 @@ abbrev pub $module$-one : $name$-F$trees$ → Family-Tree
 $module$-one m =
     nest ($into_open$(
 $view$,
-      m.unknown,
+      $leaf_view$,
     )$into_close$)
     $row_views$
 
@@ -177,12 +177,12 @@ $module$-value = fold-$name$$trees$$ones$
     ),
     (
         "tables",
-        "abbrev pub $module$-known : Shape $name$-Known
+        "abbrev pub $module$-known : $leaf_part$ $name$-Known
 $module$-known =
     $table$
 
 abbrev pub $module$-leaf : Shape $name$-Leaf
-$module$-leaf = two $module$-known unknown
+$module$-leaf = $leaf_whole$
 
 $run_parts$-- the records of the leaf before the first row, behind the first, and so on
 abbrev pub $module$-run : ℕ → $name$-Leaf → Records
@@ -328,14 +328,15 @@ pub(crate) fn family_definitions(base: &Words, members: &[Words]) -> Result<Stri
     for member in members {
         put_member(&mut page, member, last);
     }
-    definition_imports(&mut page);
-    page.fill("aliases", MORE_ALIASES);
-    page.append("aliases", ALIASES);
     if is_read_back {
         put_back(&mut page);
     }
-    set_heading(&mut page, "--", WHAT);
     page.fill("text", TEXT);
+    use_mentioned_of(&mut page);
+    page.fill("aliases", MORE_ALIASES);
+    page.append("aliases", ALIASES);
+    set_heading(&mut page, "--", WHAT);
+    page.fill("text", HEAD);
     page.finish("text")
 }
 

@@ -27,6 +27,7 @@ mod imports;
 mod keeping;
 mod laws_pages;
 mod layout;
+mod leaf;
 mod member;
 mod member_definitions;
 mod mentioned;
@@ -53,6 +54,10 @@ mod spans;
 mod split;
 mod stays;
 mod tree;
+mod view;
+mod view_code;
+mod view_definitions;
+mod view_oneof;
 mod written;
 
 use std::io::{Read, Write};

@@ -173,7 +173,10 @@ pub(crate) const ONCE: [Template; 7] = [
     ("declared", "    pub $field$: Option<Box<$of_name$>>,\n"),
     ("emptied", "            $field$: None,\n"),
     ("cleared", "        self.$field$ = None;\n"),
-    ("places", "            $number$ => Place::$once$($row$),\n"),
+    (
+        "places",
+        "            $number$ => Place::$row_place$($row$),\n",
+    ),
     (
         "rows",
         "            $row$ => {
@@ -211,7 +214,7 @@ pub(crate) const EACH: [Template; 5] = [
     ("cleared", "        self.$field$.clear();\n"),
     (
         "places",
-        "            $number$ => Place::Each($row$, $size$),\n",
+        "            $number$ => Place::$row_place$($row$, $size$),\n",
     ),
     (
         "rows",

@@ -20,7 +20,7 @@ abbrev pub $module$-range-of-known : Range $name$-Known
 $module$-range-of-known =
     $range$
 
-abbrev pub $module$-returned-of-known : Grounds → Returned $module$-known $module$-range-of-known
+abbrev pub $module$-returned-of-known : Grounds → $leaf_returned$ $module$-known $module$-range-of-known
 $module$-returned-of-known g =
     $returned$
 
@@ -33,16 +33,16 @@ $row_places$
 pub $module$-runs_in_order : (l : Family-Leaves) → all_runs $module$-table l ≡ $sum_records$ l
 $other_patterns$$module$-runs_in_order $pattern$ = same_order
     $run_pieces$
-    (followed $leaf_pieces$(piece (unknown.records l.1))) refl
+    (followed $leaf_pieces$(piece ($left_records$))) refl
 
 abbrev pub $module$-range-of-leaf : Range $name$-Leaf
-$module$-range-of-leaf = leaf_range $module$-table $module$-known $module$-range-of-known
+$module$-range-of-leaf = $leaf_range$ $module$-range-of-known
 
 pub $module$-known-back : (g : Grounds)
     → IsReadBack $module$-leaf.takes $module$-leaf.default $module$-leaf.records
     (GoesToLeaf $module$-table) $module$-range-of-leaf
 $module$-known-back g =
-    known_back g $module$-table $module$-known $module$-range-of-known
+    $leaf_known_back$ $module$-range-of-known
     ($module$-returned-of-known g) (λ n h. $apart$)
 
 pub $module$-back : Grounds → $leaf_back$ $module$-table $sum_range$$stands_of$

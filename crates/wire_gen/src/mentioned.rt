@@ -1,4 +1,5 @@
 //! Which names a text has.
+use crate::imports::definition_imports;
 use wire_schema::Words;
 
 /// Of the lines of the word `named`, of a module and a name each, puts those to the word `uses` whose
@@ -16,6 +17,13 @@ pub(crate) fn use_mentioned(page: &mut Words) {
         }
     }
     page.set("text", &text);
+}
+
+/// Makes the lines of the word `uses` whose name stands in the word `text` the word `imports`.
+pub(crate) fn use_mentioned_of(page: &mut Words) {
+    page.fill_all(&[("named", "$uses$"), ("uses", "")]);
+    use_mentioned(page);
+    definition_imports(page);
 }
 
 // Whether a name or an operator stands in a text, and not as a part of another.

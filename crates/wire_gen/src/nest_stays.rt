@@ -1,6 +1,7 @@
 //! That what decoding leaves of messages that hold themselves or one another is in range.
 use crate::comments::set_heading;
 use crate::imports::definition_imports;
+use crate::leaf::set_leaf_stays;
 use crate::rows::is_row;
 use crate::stays::{HOME, put_accounted_range, put_fields, put_names, stays_page};
 use crate::tree::Tree;
@@ -11,7 +12,7 @@ const OF_LEAF: &str = "
 pub $module$-there : (n : ℕ) → IsThere $module$-table ($module$-place n)
 $module$-there n = $theres$
 
-$abbrev$pub $module$-stays-of-known : Grounds → FieldsStay $module$-known $known_range$
+$abbrev$pub $module$-stays-of-known : Grounds → $leaf_stays$
 $module$-stays-of-known g =
     $stays$
 ";
@@ -22,8 +23,8 @@ const OF_CHOICE: &str = "
 pub $module$-choice_rows : (i : ℕ) → $module$-choice.is_row i ≡ true → $module$-once i ≡ true
 $choice_lines$
 pub $module$-kept : (g : Grounds) (m : $name$-Leaf)
-    → (known_stay $module$-table ($module$-stays-of-known g)).Is m
-    → (known_stay $module$-table ($module$-stays-of-known g)).Is ($module$-choice.without m)
+    → ($leaf_stay$ $module$-table ($module$-stays-of-known g)).Is m
+    → ($leaf_stay$ $module$-table ($module$-stays-of-known g)).Is ($module$-choice.without m)
 $module$-kept g m is = $kept$
 ";
 
@@ -31,10 +32,10 @@ const ALONE_WITH_CHOICE: &str = "$of_leaf$$of_choice$
 pub $module$-stays : Grounds → Stays $module$-shape $accounted_range$
 $module$-stays g =
     beside_stays g (alone $module$-table)
-    (λ s. leaf_range $module$-table $module$-known $known_range$)
+    (λ s. $leaf_range$ $known_range$)
     (λ s. one_stands $module$-choice)
     (λ s. choice_stays $module$-table $module$-choice $module$-is_choice
-    (known_stay $module$-table ($module$-stays-of-known g)) ($module$-kept g)
+    ($leaf_stay$ $module$-table ($module$-stays-of-known g)) ($module$-kept g)
     refl refl $runs_in_order$ $module$-there $module$-choice_rows (λ i m. refl) (λ n rs. refl))
     tt $module$-shape refl refl refl
 ";
@@ -52,8 +53,8 @@ $module$-leaf-stays g =
 const ALONE: &str = "$of_leaf$
 pub $module$-stays : Grounds → Stays $module$-shape $accounted_range$
 $module$-stays g =
-    nest_stays g $module$-table (leaf_range $module$-table $module$-known $known_range$)
-    (table_stays $module$-table (known_stay $module$-table ($module$-stays-of-known g))
+    nest_stays g $module$-table ($leaf_range$ $known_range$)
+    (table_stays $module$-table ($leaf_stay$ $module$-table ($module$-stays-of-known g))
     refl refl $runs_in_order$ $module$-there (λ i m. refl) (λ n rs. refl))
     $module$-shape refl refl refl
 ";
@@ -108,10 +109,17 @@ Rattle.wire_fields.specs.NestTable alone
 Rattle.std.specs.Prelude ℕ
 Rattle.std.specs.Prelude ◌==◌
 Rattle.wire_fields.specs.NestRange any_beside
+Rattle.wire_codec.specs.Charge payload_charge
+Rattle.wire_fields.specs.LeavingLeaf dropping_leaf_range
+Rattle.wire_fields.specs.LeavingLeaf dropping_leaf_stay
+Rattle.wire_fields.specs.LeavingLeaf leaving_leaf_range
+Rattle.wire_fields.specs.LeavingLeaf leaving_leaf_stay
 Rattle.wire_fields.specs.NestRange leaf_range
 Rattle.wire_fields.specs.NestTable IsThere
 Rattle.wire_fields.specs.NoFields no_fields_stay
 Rattle.wire_fields.specs.Stays FieldsStay
+Rattle.wire_fields.specs.Sums first_takes
+Rattle.wire_fields.specs.Sums second_takes
 Rattle.wire_fields.specs.StaysLeaf first_kept
 Rattle.wire_fields.specs.StaysLeaf first_stay
 Rattle.wire_fields.specs.StaysLeaf known_stay
@@ -119,6 +127,8 @@ Rattle.wire_fields.specs.StaysLeaf second_kept
 Rattle.wire_fields.specs.StaysLeaf second_stay
 Rattle.wire_fields.specs.StaysLeaf table_stays
 Rattle.wire_fields.specs.StaysLeaf there_where
+Rattle.wire_fields.specs.StaysLeaving LeavingStays
+Rattle.wire_fields.specs.StaysMessages anywhere
 Rattle.wire_fields.specs.StaysNest LeafStays
 Rattle.wire_fields.specs.StaysNest beside_stays
 Rattle.wire_fields.specs.StaysNest nest_stays
@@ -274,6 +284,7 @@ fn put_leaf(page: &mut Words, fields: &[Field], tree: &Tree) {
         }
     }
     let is_choice = !page.get("choice").is_empty();
+    set_leaf_stays(page);
     page.set("abbrev", if is_choice { "abbrev " } else { "" });
     page.fill("of_leaf", OF_LEAF);
     put_choice_rows(page, fields);

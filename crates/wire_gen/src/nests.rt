@@ -6,6 +6,7 @@ use crate::family::{set_alone, set_family};
 use crate::family_code::family_code;
 use crate::family_definitions::family_definitions;
 use crate::laws_pages::has_laws;
+use crate::leaf::set_leaf;
 use crate::member_definitions::{MEMBER_MERGE, member_definitions};
 use crate::nest_stays::{family_stays, member_stays, nest_stays, put_leaf_stays};
 use crate::oneof_definitions::oneof_definitions;
@@ -39,6 +40,7 @@ impl Package {
     ) -> Result<(), GenerateError> {
         let mut page = self.page(&message.words);
         page.copy(&message.words, &["choice", "choice_module", "choices"]);
+        set_leaf(&mut page, &fields);
         match message.family {
             Some(first) => drop(set_family(&mut page, schema, first)?),
             None => set_alone(&mut page),
@@ -216,8 +218,9 @@ impl Package {
         let mut page = self.page(&message.words);
         page.copy(all, &["all_variants"]);
         page.copy(&message.words, &["choice", "choice_module", "choices"]);
-        set_family(&mut page, schema, first)?;
         let fields = fields_of(&self.base, schema, message)?;
+        set_leaf(&mut page, &fields);
+        set_family(&mut page, schema, first)?;
         let (fields, tree) = leaf_tree(&mut page, fields)?;
         let mut table = table_page(&page, &fields, &tree);
         if has_laws(&self.base) {

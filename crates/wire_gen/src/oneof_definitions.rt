@@ -8,6 +8,7 @@ use crate::keeping::put_owned;
 use crate::laws_pages::has_laws;
 use crate::required_oneof::{define_variant, put_missing_in_one, set_requiring};
 use crate::returned::{under_charges, use_charges};
+use crate::view_definitions::define_oneof_view;
 use wire_schema::{GenerateError, Oneof, Template, Words, put_apart};
 
 const USES: &str = "\
@@ -36,17 +37,17 @@ Rattle.wire_fields.specs.Oneof either_of
 ";
 
 const HEAD: &str = "\
-$heading$$imports$";
+$heading$$imports$$view_variants$";
 
 const VALUE: &str = "
 -- the one that stands
 abbrev pub $name$-One : Type 0
 $name$-One = $sum$
 
-$whole_one$abbrev pub $name$-Value : Type 0
+$whole_one$$view_one$abbrev pub $name$-Value : Type 0
 $name$-Value = Option $name$-One
 
-$whole_of$$variants$abbrev pub $module$-records : $name$-Value → Records
+$whole_of$$view_of$$variants$abbrev pub $module$-records : $name$-Value → Records
 $module$-records None = none
 $records$";
 
@@ -287,6 +288,7 @@ pub(crate) fn oneof_definitions(base: &Words, oneof: &Oneof) -> Result<String, G
         put_apart_variants(&mut page, &oneof.variants);
         put_owned(&mut page, &oneof.variants);
     }
+    define_oneof_view(&mut page, oneof);
     definition_imports(&mut page);
     set_heading(&mut page, "--", TABLE);
     page.fill_all(&[("whole_one", ""), ("whole_of", "")]);

@@ -127,6 +127,9 @@ impl Package {
                 "schema",
                 "charged",
                 "requiring",
+                "view_name",
+                "view_module",
+                "unviewed",
             ],
         );
         page
@@ -175,6 +178,7 @@ impl Package {
         }
         self.add_oneofs(&fields, message)?;
         self.add_written(&mut page, &fields, &tree)?;
+        self.add_view(&page, schema, &fields, &tree)?;
         if fields.is_empty() {
             return Ok(());
         }
@@ -238,6 +242,7 @@ impl Package {
     ) -> Result<(), GenerateError> {
         let mut page = self.page(&oneof.words);
         page.copy(&oneof.words, &["kind_name", "holder", "holder_name"]);
+        page.copy(&oneof.words, &["view_kind_name"]);
         let code = oneof_code(&page, oneof, message.is_twin)?;
         let definitions = oneof_definitions(&page, oneof)?;
         self.add_type(&mut page, code, definitions)?;
@@ -248,6 +253,7 @@ impl Package {
         let answers = merge_answers(&page, oneof)?;
         let path = "proofs/$module$/$kind_name$Kind/merge/Answers.antt";
         self.add(&mut page, path, answers)?;
+        self.add_oneof_view(&page, oneof)?;
         for variant in &oneof.variants {
             if !variant.get("closed").is_empty() {
                 self.add_closed(&mut page, variant)?;

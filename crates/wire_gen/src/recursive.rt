@@ -5,7 +5,7 @@ use crate::choice_names::set_names;
 use crate::code::{put_field_comment, put_head, put_leaf_field, set_leaf_rest};
 use crate::defaults::{put_defaults, use_defaults};
 use crate::member::{ALONE, ALONE_OF, EACH, MEMBER, MEMBER_OF, ONCE};
-use crate::rows::{is_row, once_place};
+use crate::rows::{is_row, place_of};
 use crate::runs::{put_field_in_run, put_part_head, put_run};
 use wire_schema::{Field, GenerateError, MessageType, Schema, Words};
 
@@ -271,6 +271,7 @@ fn put_row(page: &mut Words, schema: &Schema, field: &Field) {
     } else {
         &ALONE_OF
     });
+    page.set("row_place", place_of(field));
     if page.get("of_name") != page.get("name") {
         page.append("uses", "$of_path$ $of_name$\n");
     }
@@ -286,7 +287,6 @@ fn put_row(page: &mut Words, schema: &Schema, field: &Field) {
         page.append("eaches", "$line$\n");
         page.append("uses", "wire_fields push_message\n");
     } else {
-        page.set("once", once_place(field));
         put_no_rows(page);
         page.append_all(if is_variant { &ONCE_OF_CHOICE } else { &ONCE });
         page.append("uses", "std::slice from_ref\n");

@@ -12,7 +12,7 @@ Rattle.std.specs.Prelude ◌<◌
 Rattle.wire_codec.specs.FieldNumber IsFieldNumber
 Rattle.wire_fields.specs.NestRange IsPlaceOf
 Rattle.wire_fields.specs.NestRange followed
-Rattle.wire_fields.specs.NestRange leaf_range
+$back_uses_of_leaf$\
 Rattle.wire_fields.specs.NestRange piece
 Rattle.wire_fields.specs.NestRange same_order
 ";
@@ -21,6 +21,7 @@ const USES_ALONE: &str = "\
 Rattle.wire_fields.specs.NestBack nest_returned
 Rattle.wire_fields.specs.NestRange leaf_back
 Rattle.wire_fields.specs.NestRange nest_range
+Rattle.wire_fields.specs.NestRange table_back
 Rattle.wire_fields.specs.NestRange runs_from
 ";
 
@@ -30,7 +31,7 @@ abbrev pub $module$-range-of-known : Range $name$-Known
 $module$-range-of-known =
     $range$
 
-abbrev pub $module$-returned-of-known : Grounds → Returned $module$-known $module$-range-of-known
+abbrev pub $module$-returned-of-known : Grounds → $leaf_returned$ $module$-known $module$-range-of-known
 $module$-returned-of-known g =
     $returned$
 
@@ -44,11 +45,11 @@ pub $module$-runs_in_order : (l : $name$-Leaf)
     → runs_from $module$-table l 0 (suc $count$) ≡ $module$-leaf.records l
 $module$-runs_in_order l = same_order
     $run_pieces$
-    (followed $leaf_pieces$(piece (unknown.records l.1))) refl
+    (followed $leaf_pieces$(piece ($left_records$))) refl
 
 ";
 
-// Where no row is a variant of a oneof.
+// Where no row is a variant of a oneof: of a leaf that keeps what is no field's, and of others.
 const PLAIN_RANGE: &str = "\
 abbrev pub $module$-range : Range $name$-Value
 $module$-range =
@@ -64,23 +65,40 @@ $module$-returned g =
     $module$-shape refl refl refl (λ n p. refl)
 ";
 
+const OTHER_RANGE: &str = "\
+abbrev pub $module$-range : Range $name$-Value
+$module$-range = nest_range $module$-table ($leaf_range$ $module$-range-of-known)
+
+pub $module$-returned : Grounds → Returned $module$-shape $module$-range
+$module$-returned g =
+    nest_returned g $module$-table ($leaf_range$ $module$-range-of-known)
+    ($module$-leaf.single g.reading)
+    (table_back $module$-table ($leaf_range$ $module$-range-of-known)
+    $module$-leaf.takes $module$-leaf.default $module$-leaf.records
+    ($leaf_known_back$ $module$-range-of-known
+    ($module$-returned-of-known g) (λ n h. $apart$))
+    refl refl $module$-runs_in_order
+    ($module$-row_numbers g) $module$-row_places (λ i m. refl) (λ n rs. refl))
+    $module$-shape refl refl refl (λ n p. refl)
+";
+
 // Where some rows are variants of a oneof.
 const CHOICE_RANGE: &str = "\
 abbrev pub $module$-range : Range $name$-Value
 $module$-range =
     beside_range (alone $module$-table)
-    (λ s. leaf_range $module$-table $module$-known $module$-range-of-known)
+    (λ s. $leaf_range$ $module$-range-of-known)
     (λ s. one_stands $module$-choice) tt
 
 pub $module$-returned : Grounds → Returned $module$-shape $module$-range
 $module$-returned g =
     beside_returned g (alone $module$-table)
-    (λ s. leaf_range $module$-table $module$-known $module$-range-of-known)
+    (λ s. $leaf_range$ $module$-range-of-known)
     (λ s. one_stands $module$-choice) (λ s. $module$-leaf.single g.reading)
     (λ s. choice_back $module$-table
-    (leaf_range $module$-table $module$-known $module$-range-of-known) $module$-choice
+    ($leaf_range$ $module$-range-of-known) $module$-choice
     $module$-leaf.takes $module$-leaf.default $module$-leaf.records $module$-is_choice
-    (known_back g $module$-table $module$-known $module$-range-of-known
+    ($leaf_known_back$ $module$-range-of-known
     ($module$-returned-of-known g) (λ n h. $apart$))
     refl refl $module$-runs_in_order
     ($module$-row_numbers g) $module$-row_places (λ i m. refl) (λ n rs. refl))
@@ -92,8 +110,6 @@ Rattle.wire_fields.specs.ChoiceBack choice_back
 Rattle.wire_fields.specs.ChoiceBack one_stands
 Rattle.wire_fields.specs.NestBack beside_returned
 Rattle.wire_fields.specs.NestRange beside_range
-Rattle.wire_fields.specs.NestRange known_back
-Rattle.wire_fields.specs.NestRange leaf_range
 Rattle.wire_fields.specs.NestRange runs_from
 Rattle.wire_fields.specs.NestTable alone
 ";
@@ -176,7 +192,7 @@ pub(crate) fn put_back(page: &mut Words, fields: &[Field], tree: &Tree) {
         ]);
     }
     page.append_all(&OF_NO_ROW);
-    put_piece(page, "(piece (unknown.records l.1))");
+    put_piece(page, "(piece ($left_records$))");
     end_run(page);
     page.append("run_pieces", "$run_ends$");
     put_returned(page, fields, tree);
@@ -190,7 +206,15 @@ pub(crate) fn put_back(page: &mut Words, fields: &[Field], tree: &Tree) {
     }
     page.append("ranges", if is_alone { RANGE } else { MEMBER_RANGE });
     if is_alone {
-        page.append("ranges", if is_choice { CHOICE_RANGE } else { PLAIN_RANGE });
+        let is_plain = page.get("leaf_kind").is_empty();
+        page.append(
+            "ranges",
+            match (is_choice, is_plain) {
+                (true, _) => CHOICE_RANGE,
+                (false, true) => PLAIN_RANGE,
+                (false, false) => OTHER_RANGE,
+            },
+        );
     }
     if is_alone {
         under_charges(page);

@@ -2,11 +2,12 @@
 use crate::choice::{put_choice, set_row_path};
 use crate::comments::set_heading;
 use crate::definitions::put_field_range;
-use crate::imports::definition_imports;
 use crate::laws_pages::has_laws;
+use crate::leaf::is_leaving;
 use crate::member_definitions::MEMBER_USES;
+use crate::mentioned::use_mentioned_of;
 use crate::recursive_back::put_back;
-use crate::rows::{USES_OF_NO_FIELDS, is_bare, is_row, once_place};
+use crate::rows::{USES_OF_NO_FIELDS, is_bare, is_row, place_of};
 use crate::runs::{begin_part, end_part};
 use crate::tree::Tree;
 use wire_schema::{Field, GenerateError, Template, Words};
@@ -21,7 +22,6 @@ Rattle.std.specs.Prelude false
 Rattle.std.specs.Prelude true
 Rattle.std.specs.Prelude ◌==◌
 Rattle.std.specs.Prelude ℕ
-Rattle.wire_codec.specs.Field Fields
 Rattle.wire_codec.specs.Folds IsSingle
 Rattle.wire_codec.specs.Records Records
 Rattle.wire_codec.specs.Records joined_records
@@ -43,7 +43,6 @@ Rattle.wire_fields.specs.Shape Lawful
 Rattle.wire_fields.specs.Shape Shape
 Rattle.wire_fields.specs.Shape known
 Rattle.wire_fields.specs.Shape two
-Rattle.wire_fields.specs.Shape unknown
 Rattle.$crate$.specs.declared.$module$.$name$ $name$
 Rattle.$crate$.specs.declared.$module$.$name$ $name$-F
 Rattle.$crate$.specs.declared.$module$.$name$ fold-$name$
@@ -59,7 +58,7 @@ use Rattle.wire_fields.specs.declared.recursive.Place.TheVariants as places
 ";
 
 const KIND: &str = "\
-abbrev pub $module$-$field$-kind : Lawful $bracketed$
+abbrev pub $module$-$field$-kind : $sort$ $bracketed$
 $module$-$field$-kind = $definition$
 
 ";
@@ -67,14 +66,17 @@ $module$-$field$-kind = $definition$
 const WHAT: &str = "`$name$` as contracts see it, and its table: its leaf, and rows of messages of \
                     its own type.";
 
-const TEXT: &str = "\
+const HEAD: &str = "\
 $heading$$imports$$aliases$$choice_aliases$
+$text$";
+
+const TEXT: &str = "\
 $kinds$abbrev pub $name$-Known : Type 0
 $name$-Known =
     $value$
 
 abbrev pub $name$-Leaf : Type 0
-$name$-Leaf = $name$-Known × Fields
+$name$-Leaf = $name$-Known × $leaf_kept$
 
 abbrev pub $name$-Value : Type 0
 $name$-Value = nests.Nest $name$-Leaf
@@ -84,19 +86,19 @@ abbrev pub $module$-one : $name$-F$trees$ → $name$-Value
 $module$-one m =
     nest (
 $view$,
-      m.unknown,
+      $leaf_view$,
     )
     $row_views$
 
 abbrev pub $module$-value : $name$ → $name$-Value
 $module$-value = fold-$name$$trees$$ones$
 
-$choice_folds$abbrev pub $module$-known : Shape $name$-Known
+$choice_folds$abbrev pub $module$-known : $leaf_part$ $name$-Known
 $module$-known =
     $table$
 
 abbrev pub $module$-leaf : Shape $name$-Leaf
-$module$-leaf = two $module$-known unknown
+$module$-leaf = $leaf_whole$
 
 $run_parts$-- the records of the leaf before the first row, behind the first, and so on
 abbrev pub $module$-run : ℕ → $name$-Leaf → Records
@@ -144,10 +146,11 @@ pub(crate) fn recursive_definitions(
     tree: &Tree,
 ) -> Result<String, GenerateError> {
     let mut page = table_page(base, fields, tree);
-    definition_imports(&mut page);
+    page.fill("text", TEXT);
+    use_mentioned_of(&mut page);
     page.set("aliases", ALIASES);
     set_heading(&mut page, "--", WHAT);
-    page.fill("text", TEXT);
+    page.fill("text", HEAD);
     page.finish("text")
 }
 
@@ -165,6 +168,7 @@ pub(crate) fn table_page(base: &Words, fields: &[Field], tree: &Tree) -> Words {
             ""
         },
     );
+    page.append("uses", "$leaf_uses$");
     page.fill_all(&[("at", "zero"), ("at_least", "i")]);
     let mut count: usize = 0;
     for field in fields {
@@ -187,17 +191,17 @@ pub(crate) fn table_page(base: &Words, fields: &[Field], tree: &Tree) -> Words {
             count = count.saturating_add(1);
         } else {
             page.append("uses", "$definitions$");
-            if field.oneof.is_none() {
-                page.copy(&field.words, &["own_range", "of_charged"]);
+            if field.oneof.is_none() || is_leaving(field) {
+                page.copy(&field.words, &["own_range", "of_charged", "sort"]);
                 page.append("kinds", KIND);
-                if is_read_back {
+                if is_read_back && field.oneof.is_none() {
                     put_field_range(&mut page);
                 }
             }
             put_field_in_run(&mut page, &field.words);
         }
     }
-    put_in_run(&mut page, "unknown.records l.1");
+    put_in_run(&mut page, "$left_records$");
     put_run(&mut page, "$at_least$");
     put_number(&mut page, "$least_before$");
     page.index("count", count);
@@ -285,14 +289,13 @@ fn put_number(page: &mut Words, at: &str) {
     ]);
 }
 
-const OF_EACH: [Template; 3] = [
-    ("here", "places.Each $row$ $size$"),
-    ("once", "Each"),
+const OF_EACH: [Template; 2] = [
+    ("here", "places.$row_place$ $row$ $size$"),
     ("row_view", "m.$field$.items"),
 ];
 
 const OF_ONCE: [Template; 2] = [
-    ("here", "places.$once$ $row$"),
+    ("here", "places.$row_place$ $row$"),
     ("row_view", "(boxed_row m.$field$)"),
 ];
 
@@ -306,7 +309,7 @@ fn put_rows(page: &mut Words, fields: &[Field], count: usize) {
             page.index("row", row);
             page.copy(&field.words, &["field", "number", "size"]);
             let is_each = field.words.get("kind").starts_with("Each");
-            page.set("once", once_place(field));
+            page.set("row_place", place_of(field));
             page.fill_all(if is_each { &OF_EACH } else { &OF_ONCE });
             if !field.words.get("choice_variant").is_empty() {
                 set_row_path(page, fields, field.words.get("number"));

@@ -1,13 +1,13 @@
 //! The proofs of a message type: what becomes of a record whose number no field has.
-use wire_schema::{Field, Words};
+use wire_schema::{Field, Template, Words};
 
 const REST: &str = "
 pub returns-in_default-clause-err : goal.returns-in_default-clause-err
-returns-in_default-clause-err g c =
+returns-in_default-clause-err $given$ =
     let n = tag_number c.args.tag in
     $before$rest_err $module$-known.owns $module$-known.takes keeps _
     (λ p. $unlike$)
-    _ _ _ _ $of_call$keep.result $of_call$keep.ensures.err$behind$
+    _ _ _ _ $of_call$$keeper$.result $of_call$$keeper$.ensures.err$behind$
 ";
 
 // Of a leaf that has no field.
@@ -18,6 +18,16 @@ returns-clause-err g c =
     _ _ _ _ $of_call$keep.result $of_call$keep.ensures.err$behind$
 ";
 
+// The same of one that keeps no unknown fields.
+const DROPPED_OF_NONE: &str = "
+pub returns-clause-err : goal.returns-clause-err
+returns-clause-err g c =
+    $before$rest_err $module$-known.owns $module$-known.takes drops _ (λ p. $unlike$)
+    _ _ _ _ $of_call$pass_over.result
+    (IfErr-weaker $of_call$pass_over.result _ _ (λ e none other. none)
+    $of_call$pass_over.ensures.err)$behind$
+";
+
 // Of many fields the search does not find that what is kept is none of theirs.
 const MANY: usize = 16;
 
@@ -25,13 +35,13 @@ const MANY_OF_LEAF: usize = 8;
 
 const REST_TAKEN: &str = "
 pub returns-in_default-clause-ok : goal.returns-in_default-clause-ok
-returns-in_default-clause-ok g c =
+returns-in_default-clause-ok $given$ =
     let n = tag_number c.args.tag in
     arm_ok $all_takes$ keeps n n refl _ _ _ _
     (λ charge p h. to_rest $module$-known.owns $module$-known.takes keeps n
     (λ p. $unlike$)
     _ charge _ p h)
-    _ _ _ _ _ $of_call$keep.result $of_call$keep.ensures.ok
+    _ _ _ _ _ $of_call$$keeper$.result $of_call$$keeper$.ensures.ok
 ";
 
 const USES_OF_REST_TAKEN: &str = "\
@@ -62,25 +72,26 @@ const REST_DROPPED: &str = "
 pub returns-in_default-clause-err : goal.returns-in_default-clause-err
 returns-in_default-clause-err g c =
     let n = tag_number c.args.tag in
-    rest_err $module$-known.owns $module$-known.takes drops _
+    $before$rest_err $module$-known.owns $module$-known.takes drops _
     (λ p. $unlike$)
     _ _ _ _ $of_call$pass_over.result
-    (IfErr-weaker $of_call$pass_over.result _ _ (λ e none other. none) $of_call$pass_over.ensures.err)
+    (IfErr-weaker $of_call$pass_over.result _ _ (λ e none other. none)
+    $of_call$pass_over.ensures.err)$behind$
 ";
 
 // The same where a field may leave records to the unknown fields.
 const REST_BESIDE: &str = "
 pub returns-in_default-clause-err : goal.returns-in_default-clause-err
-returns-in_default-clause-err g c =
+returns-in_default-clause-err $given$ =
     let n = tag_number c.args.tag in
-    arm_err $module$-shape.takes keeps n n refl _ _
+    $before$arm_err $whole$.takes keeps n n refl _ _
     (λ charge z p h. (
       z.1,
       (from_last $module$-known.owns $module$-known.takes keeps_beside n
           (λ p. $unlike$)
-          ($module$-value c.args.self.now) z charge p h).0,
+          $held_value$ z charge p h).0,
     ))
-    _ _ _ $of_call$keep.result $of_call$keep.ensures.err
+    _ _ _ $of_call$$keeper$.result $of_call$$keeper$.ensures.err$behind$
 ";
 
 const USES_OF_REST: &str = "\
@@ -95,12 +106,22 @@ Rattle.wire_fields.specs.Dropped drops
 ";
 
 const USES_OF_BESIDE: &str = "\
-Rattle.$crate$.specs.$name$ $module$-value
 Rattle.wire_fields.specs.Shape keeps
 Rattle.std.proofs.Common refl
 Rattle.wire_fields.specs.Arms from_last
 Rattle.wire_fields.specs.Leaving keeps_beside
 ";
+
+// What a message holds before the record, and what a leaf does.
+const OF_WHOLE: [Template; 2] = [
+    ("held_value", "($module$-$seen_by$ c.args.self.now)"),
+    (
+        "uses",
+        "$uses$Rattle.$crate$.specs.$name$ $module$-$seen_by$\n",
+    ),
+];
+
+const OF_LEAF: [Template; 1] = [("held_value", "_")];
 
 /// The answers of the arm of all other numbers.
 pub(crate) fn put_rest(page: &mut Words, fields: &[Field]) {
@@ -110,9 +131,12 @@ pub(crate) fn put_rest(page: &mut Words, fields: &[Field]) {
     let is_kept = page.get("unknown") == "keep";
     let is_whole = page.get("of_call") != "c.";
     page.fill("rest", "");
-    if fields.is_empty() {
+    if fields.is_empty() && is_kept {
         page.append_all(&[("uses", USES_OF_REST), ("rest", REST_OF_NONE)]);
+    } else if fields.is_empty() {
+        page.append_all(&[("uses", USES_OF_DROPPED), ("rest", DROPPED_OF_NONE)]);
     } else if leaves {
+        page.fill_all(if is_whole { &OF_WHOLE } else { &OF_LEAF });
         page.append_all(&[("uses", USES_OF_BESIDE), ("rest", REST_BESIDE)]);
     } else if is_kept {
         if is_whole && fields.len() > MANY {

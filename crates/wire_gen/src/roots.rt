@@ -25,7 +25,7 @@ $options$        -Ischema$command$
 
 `rt check` proves of each type that encoding writes exactly the shortest encoding of the records
 that `specs/` tells of a value, and that decoding takes exactly the bytes that spell records of its
-table, within the limits, and gives their value.
+table, within the limits, and gives their value.$viewed$
 ";
 
 const LAWS_ARE: &str = "Laws of the message types: each function is a theorem, and does nothing.";

@@ -24,8 +24,6 @@ pub(crate) fn leaf_tree(
     for mut field in fields {
         if is_own(base, &field.words) {
             field.words.set("is_row", "is_row");
-        } else if holds_own(base, &field) {
-            return Err(base.refused(BY_OTHER));
         }
         let mut variants = Vec::new(alloc);
         if let Some(oneof) = &mut field.oneof {
@@ -52,9 +50,12 @@ pub(crate) fn leaf_tree(
             }
         }
     }
-    let is_plain = base.get("unknown") == "keep" && base.get("mismatch") == "refuse";
-    let leaves = leaf.iter().any(|it| it.words.get("sort") == "Leaving");
-    if !is_plain || leaves {
+    if base.get("mismatch") == "keep" {
+        return Err(base.refused(KEEPING));
+    }
+    let is_choice = !base.get("choice").is_empty();
+    let leaves_entries = leaf.iter().any(|it| !it.words.get("left").is_empty());
+    if leaves_entries || is_choice && !base.get("leaf_kind").is_empty() {
         return Err(base.refused(NOT_PLAIN));
     }
     let mut tree = tree_of(base, &mut leaf, false)?;
@@ -74,14 +75,13 @@ pub(crate) fn leaf_tree(
     Ok((fields, tree))
 }
 
-const BY_OTHER: &str = "$full$: messages that hold themselves or one another by a map or by \
-                        lists of groups want encoded=FIELD";
-
 const SEVERAL: &str = "$full$: messages that hold themselves or one another by several oneofs want \
                        encoded=FIELD";
 
-const NOT_PLAIN: &str = "$full$: a message that holds itself, or what holds it, has neither \
-                         closed enums, unknown=drop nor mismatch=keep";
+const KEEPING: &str = "$full$: a message that holds itself, or what holds it, has no mismatch=keep";
+
+const NOT_PLAIN: &str = "$full$: a message that holds itself, or what holds it, has no maps of \
+                         closed enums, and by a oneof neither closed enums nor unknown=drop";
 
 // The tree of no fields.
 const NO_FIELDS: [Template; 8] = [
@@ -111,29 +111,25 @@ pub(crate) fn is_bare(fields: &[Field]) -> bool {
     fields.iter().all(is_row)
 }
 
-/// Where records of a row of one message go, which are groups or not.
-pub(crate) fn once_place(field: &Field) -> &'static str {
-    if field.words.get("kind").starts_with("Group<") {
+/// Where records of a row go: of one message or of many, which are groups or not.
+pub(crate) fn place_of(field: &Field) -> &'static str {
+    let kind = field.words.get("kind");
+    if kind.starts_with("EachGroup<") {
+        "EachGrouped"
+    } else if kind.starts_with("Each") {
+        "Each"
+    } else if kind.starts_with("Group<") {
         "Grouped"
     } else {
         "Once"
     }
 }
 
-// Whether a field is an embedded message or a group of such a type, or a list of such messages.
+// Whether a field is an embedded message or a group of such a type, or a list of such.
 fn is_own(base: &Words, field: &Words) -> bool {
     let kind = field.get("kind");
-    let is_single = kind.starts_with("Embedded<") || kind.starts_with("Group<");
-    let is_row = is_single || kind.starts_with("EachEmbedded<");
-    is_row && is_of_family(base, field)
-}
-
-// Whether another kind of field has such a type.
-fn holds_own(base: &Words, field: &Field) -> bool {
-    match &field.oneof {
-        Some(oneof) => oneof.variants.iter().any(|it| is_of_family(base, it)),
-        None => is_of_family(base, &field.words),
-    }
+    let mut kinds = ["Embedded<", "Group<", "EachEmbedded<", "EachGroup<"].iter();
+    kinds.any(|it| kind.starts_with(*it)) && is_of_family(base, field)
 }
 
 fn is_of_family(base: &Words, field: &Words) -> bool {

@@ -216,7 +216,9 @@ fn put_in_run(page: &mut Words, part: &str) {
 
 /// Puts the arms of a run that ends.
 pub(crate) fn put_run(page: &mut Words, is_last: bool) {
-    if is_last {
+    if is_last && page.get("unknown") == "drop" {
+        put_in_run(page, "Dropped");
+    } else if is_last {
         page.append("run_lets", RUN_REST);
         put_in_run(page, "rest");
     }

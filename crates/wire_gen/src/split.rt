@@ -1,5 +1,6 @@
 //! Several crates of one schema: some message types each, and one that passes all on.
 use crate::package::Package;
+use crate::view::has_view;
 use wire_schema::{GenerateError, Schema, Words, order_key, set_part};
 
 const LINE: &str = "    $crate$: wire_codec wire_fields$needs$ bytes\n";
@@ -89,8 +90,16 @@ fn put_exports(whole: &mut Words, schema: &Schema) -> Result<(), GenerateError> 
     let messages = schema.messages.iter().filter(|it| it.part > 0);
     for message in messages {
         put_export(whole, &message.words, message.words.get("name"))?;
+        let has_view = has_view(&message.words);
+        if has_view {
+            put_export(whole, &message.words, message.words.get("view_name"))?;
+        }
         for (_, oneof) in message.oneof_types() {
             put_export(whole, &message.words, oneof)?;
+            if has_view {
+                let view = schema.oneof_view(whole.get("whole"), oneof)?;
+                put_export(whole, &message.words, &view)?;
+            }
         }
     }
     let enums = schema.enums.iter().filter(|it| it.part > 0);

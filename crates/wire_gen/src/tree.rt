@@ -14,7 +14,8 @@ pub(crate) struct Tree {
 }
 
 /// Fields in a row, as one part of the tree. Its words are the first and the last number, `low` and
-/// `high`; its type `value` as contracts see it, and how a message `m` is seen so, its `view`, and the same field by field, `seen`; the `table`, and why a
+/// `high`; its type `value` as contracts see it, and how a message `m` is seen so, its `view`, the
+/// same field by field, `seen`, and the same of its view, `view_seen`; the `table`, and why a
 /// number is none of it, `unlike`; the `range` of values that are read back, why they are,
 /// `returned`, why decoding gives such, `stays`, and why a number `h` that is one of it is none of
 /// others, `apart`.
@@ -83,7 +84,8 @@ const LEAF: [Template; 10] = [
 const MOST_NESTED: usize = 72;
 
 // What is taken over from the right part of a pair.
-const RIGHT: [Template; 10] = [
+const RIGHT: [Template; 11] = [
+    ("right_view_seen", "view_seen"),
     ("right_value", "value"),
     ("right_view", "view"),
     ("right_seen", "seen"),
@@ -96,7 +98,8 @@ const RIGHT: [Template; 10] = [
     ("high", "high"),
 ];
 
-const PAIR: [Template; 9] = [
+const PAIR: [Template; 10] = [
+    ("view_seen", "(\n$view_seen$,\n$right_view_seen$,\n)"),
     ("value", "($value$\n    × $right_value$)"),
     ("view", "(\n$view$,\n$right_view$,\n)"),
     ("seen", "(\n$seen$,\n$right_seen$,\n)"),
@@ -130,9 +133,10 @@ const NAMES: [Template; 5] = [
 ];
 
 // The name in the place of what it is.
-const NAMED: [Template; 3] = [
+const NAMED: [Template; 4] = [
     ("value", "$part_value$"),
     ("view", "$part_words$-value m"),
+    ("view_seen", "$part_words$-view_value m"),
     ("table", "$part_words$"),
 ];
 
@@ -229,7 +233,15 @@ fn leaf(base: &Words, place: usize, field: &Words) -> Node {
     words.copy(base, &["name", "module"]);
     words.copy(
         field,
-        &["number", "bracketed", "view", "table", "both", "margin"],
+        &[
+            "number",
+            "bracketed",
+            "view",
+            "view_seen",
+            "table",
+            "both",
+            "margin",
+        ],
     );
     words.copy(
         field,
@@ -287,6 +299,9 @@ fn pair(left: Node, right: Node) -> Node {
         words.set(name, right.words.get(of));
     }
     for name in ["view", "right_view", "seen", "right_seen"] {
+        words.indent(name);
+    }
+    for name in ["view_seen", "right_view_seen"] {
         words.indent(name);
     }
     if !words.get("spot").is_empty() {

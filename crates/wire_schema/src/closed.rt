@@ -143,7 +143,7 @@ pub(crate) fn set_closed(words: &mut Words) {
     words.append_all(&OF_CLOSED);
     set_leaving(words);
     if is_once {
-        words.fill("view", "m.$field$");
+        words.fill_all(&[("view", "m.$field$"), ("view_seen", "m.$field$")]);
         words.append("definitions", "Rattle.std.specs.Prelude Option\n");
     } else {
         words.append("definitions", "Rattle.std.specs.Prelude List\n");

@@ -10,8 +10,10 @@ use wire_fields::{DoubleBits, FloatBits};
 
 // The words of a default: the type that a getter answers, `default_type`; the value in code,
 // `default`, and in a clause, `default_term`; what of the result is seen, `default_seen`, and what
-// stands `default_before` and `default_behind` the field; and lines of names that the clause has.
-const OF_NUMBER: [Template; 3] = [
+// stands `default_before` and `default_behind` the field; how a value that stands is read,
+// `default_read`; and lines of names that the clause has.
+const OF_NUMBER: [Template; 4] = [
+    ("default_read", "value"),
     ("default_type", "$held$"),
     ("default_seen", "result"),
     ("default_match", "self.$field$"),
@@ -24,7 +26,8 @@ const OF_FLOAT: [Template; 4] = [
     ("default_ghosts", "Rattle.std.specs.Prelude option_map\n"),
 ];
 
-const OF_TEXT: [Template; 4] = [
+const OF_TEXT: [Template; 5] = [
+    ("default_read", "value"),
     ("default_seen", "result.now"),
     ("default_before", "(option_map $view$ "),
     ("default_behind", ")"),
@@ -71,7 +74,7 @@ pub(crate) fn set_default(
         return set_bytes(field, words);
     }
     let Ok(text) = str::from_utf8(&field.default_value) else {
-        return Err(words.refused("$full$.$proto$: a default value that is no UTF-8"));
+        return set_no_text(field, words);
     };
     if words.get("kind") == "Text" {
         return set_text(text, words);
@@ -182,6 +185,19 @@ fn set_bytes(field: &FieldDescriptorProto, words: &mut Words) -> Result<(), Gene
     words.set("default", &bytes_literal(alloc, &bytes)?);
     words.set("default_type", "&[u8]");
     set_term(&bytes, words)
+}
+
+// Of a string whose default value is no UTF-8 a getter lends the bytes.
+fn set_no_text(field: &FieldDescriptorProto, words: &mut Words) -> Result<(), GenerateError> {
+    if words.get("kind") != "Text" {
+        return Err(words.refused("$full$.$proto$: a default value that is no UTF-8"));
+    }
+    let literal = bytes_literal(words.alloc(), &field.default_value)?;
+    words.set("default", &literal);
+    words.set("default_type", "&[u8]");
+    set_term(&field.default_value, words)?;
+    words.set("default_read", "value.as_bytes()");
+    Ok(())
 }
 
 fn set_term(bytes: &[u8], words: &mut Words) -> Result<(), GenerateError> {

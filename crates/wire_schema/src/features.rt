@@ -114,6 +114,14 @@ impl Features {
         }
     }
 
+    /// The same with numbers and texts that are there only where they are none that is the default.
+    pub(crate) fn with_implicit_presence(self) -> Features {
+        Features {
+            presence: IMPLICIT,
+            ..self
+        }
+    }
+
     /// The same with open enums.
     pub(crate) fn with_open_enums(self) -> Features {
         Features {

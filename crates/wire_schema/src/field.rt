@@ -7,9 +7,11 @@ use crate::field_names::FieldNames;
 use crate::item::{Sort, set_item};
 use crate::keeping::{leave_others, set_keeping, set_types};
 use crate::kind::{set_always, set_key, set_kind, set_map};
+use crate::message_type::MessageType;
 use crate::names::{variant_name, word_name};
 use crate::oneof::{Oneof, add_variant, is_new, oneof_of};
-use crate::schema::{MessageType, Schema};
+use crate::schema::Schema;
+use crate::view_field::{set_key_view, set_variant_view};
 use crate::words::{Template, Words};
 use std::alloc::Global;
 use wire_descriptor::{DescriptorProto, FieldDescriptorProto};
@@ -160,6 +162,7 @@ pub fn set_field(
             set_part(schema, features, &entry.descriptor, 1, words)?;
             words.set("entry_part", "value");
             set_key(words);
+            set_key_view(words);
             let sort = set_part(schema, features, &entry.descriptor, 2, words)?;
             set_map(sort, words);
             words.set("wire_type", "LengthDelimited");
@@ -202,6 +205,7 @@ fn variant_of(
     set_default(schema, field, &mut words)?;
     stop_on_closed(&mut words)?;
     set_always(sort, &mut words);
+    set_variant_view(&mut words);
     set_types(false, &mut words);
     let alloc = words.alloc();
     let is_own = words.get("field") == word_name(alloc, &field.name)?.as_str();

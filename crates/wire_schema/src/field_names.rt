@@ -1,7 +1,7 @@
 //! What the fields of a message are called, and its oneofs.
 use crate::error::GenerateError;
+use crate::message_type::oneof_place;
 use crate::names::{apart, word_name};
-use crate::schema::oneof_place;
 use std::alloc::Global;
 use wire_descriptor::{DescriptorProto, FieldDescriptorProto};
 

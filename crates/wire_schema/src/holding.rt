@@ -2,8 +2,9 @@
 use crate::error::GenerateError;
 use crate::features::is_required;
 use crate::graph::{Graph, filled, put_at};
+use crate::message_type::{MessageType, oneof_place};
 use crate::names::module_name;
-use crate::schema::{MessageType, Schema, oneof_place};
+use crate::schema::Schema;
 use crate::words::Words;
 use std::alloc::Global;
 use wire_descriptor::FieldDescriptorProto;
@@ -196,8 +197,8 @@ impl Schema {
         }
     }
 
-    // Whether the values of a field, those of a map too, are of a closed enum.
-    fn is_of_closed_enum(&self, field: &FieldDescriptorProto) -> bool {
+    /// Whether the values of a field, those of a map too, are of a closed enum.
+    pub(crate) fn is_of_closed_enum(&self, field: &FieldDescriptorProto) -> bool {
         match self.enum_of(self.held(field)) {
             Some(of_enum) => of_enum.origin.features.is_closed(),
             None => false,

@@ -4,6 +4,7 @@ use crate::features::Features;
 use crate::kind::bracket;
 use crate::scalar::{Scalar, number_type};
 use crate::schema::Schema;
+use crate::view_field::set_of_view;
 use crate::words::{Template, Words};
 use wire_descriptor::FieldDescriptorProto;
 
@@ -355,6 +356,7 @@ fn set_message(
         return Err(foreign(field, words));
     };
     set_names(&message.words, field, words)?;
+    set_of_view(&message.words, words);
     words.fill_all(&MESSAGE);
     if !message.words.get("charged").is_empty() {
         words.set("of_charged", "of_charged");

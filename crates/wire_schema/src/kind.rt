@@ -1,6 +1,7 @@
 //! The kinds of fields.
 use crate::features::Features;
 use crate::item::Sort;
+use crate::view_field::set_view;
 use crate::words::{Template, Words};
 use wire_descriptor::FieldDescriptorProto;
 
@@ -357,6 +358,7 @@ pub(crate) fn set_always(sort: Sort, words: &mut Words) {
 }
 
 fn put_kind(kind: &Kind, words: &mut Words) {
+    set_view(kind.kind, words);
     words.append("returned_uses", kind.back.uses);
     words.fill("range", kind.back.range);
     words.fill("kind_returned", kind.back.returned);

@@ -9,18 +9,20 @@ const WORDS: &str = "abbrev abstract as assumption async await become box break 
     ghost ground if impl in instance laws let lib loop macro main match mod module move mut \
     opaque open override priv pub record ref requires return rw self specs static std struct \
     super syntax then trait true try type typeof unknown unsafe unsized use virtual where while \
-    wire_codec wire_fields yield";
+    wire_codec wire_fields wire_views yield";
 
 // Names of types that each generated module has, or that the language does. A message, an enum or
 // its value of such a name has an underscore behind it.
-const TYPES: &str = "AllocError Always AlwaysEmbedded BTreeMap Blob Bool Box Buf Charge Clone \
-    Copy Debug DecodeContext DecodeError Double DoubleBits Drop EachEmbedded EachGroup Embedded \
-    EncodeError EncodeSink Enum EnumValue Enumeration Eq Err FamilyHeld FamilySlice FieldKind \
-    Fields Fixed32 Fixed64 Float FloatBits Global Grounds Group Hash Implicit Int32 Int64 Kind \
-    Known Lawful Leaving Lib List Map Message None Ok Option Optional Packed PartialEq Payload \
-    Plain Range Records Repeated Rest Result Returned Self Sfixed32 Sfixed64 Shape Sint32 Sint64 \
-    Size SizeCache Some Step String Tag Text Twin Type Uint32 Uint64 UnknownFields Unpacked \
-    Variants Vec";
+const TYPES: &str = "AllocError Always AlwaysEmbedded AlwaysEmbeddedIn AlwaysGroupIn AlwaysIn \
+    BTreeMap Blob Bool Box Buf BytesIn Charge Clone CopiedIn Copy Debug DecodeContext DecodeError \
+    Double DoubleBits Drop EachEmbedded EachEmbeddedIn EachGroup EachGroupIn Embedded EmbeddedIn \
+    EmbeddedMapIn EncodeError EncodeSink Enum EnumValue Enumeration Eq Err FamilyHeld FamilySlice \
+    FieldKind Fields Fixed32 Fixed64 Float FloatBits Global Grounds Group GroupIn Hash Implicit \
+    ImplicitIn Int32 Int64 Kind Known Lawful Leaving Lib List Map MapIn Message MessageView None \
+    NumberIn Ok Option Optional OptionalIn Packed PackedIn PartialEq Payload PhantomData Plain \
+    Range Records Repeated RepeatedIn Rest Result Returned Self Sfixed32 Sfixed64 Shape Sint32 \
+    Sint64 Size SizeCache Some Step String Tag Text TextIn Twin Type Uint32 Uint64 UnknownFields \
+    UnknownSpan Unpacked UnpackedIn Variants Vec ViewKind";
 
 // Type parameters of what is written. A message, an enum or a oneof of such a name has an
 // underscore behind it.

@@ -2,8 +2,10 @@
 use crate::error::GenerateError;
 use crate::field::Field;
 use crate::keeping::put_number;
+use crate::message_type::MessageType;
 use crate::names::module_name;
-use crate::schema::{MessageType, Schema};
+use crate::schema::Schema;
+use crate::view::set_oneof_view;
 use crate::words::{Template, Words};
 
 /// A oneof, with its fields in the order of their numbers. Its words are those of a type; those of
@@ -53,6 +55,9 @@ pub(crate) fn oneof_of(
             "holder",
             "holder_name",
             "charged",
+            "view_name",
+            "view_module",
+            "view_kind_name",
         ],
     );
     Ok(Field {
@@ -209,5 +214,6 @@ fn oneof_words(
     words.set("kind_name", &kind_name);
     words.fill("specs", "Rattle.$crate$.specs.$name$");
     words.fill_all(&ONEOF);
+    set_oneof_view(schema, message, &mut words)?;
     Ok(words)
 }

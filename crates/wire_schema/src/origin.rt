@@ -1,7 +1,7 @@
 //! What a type has of its file.
 use crate::error::GenerateError;
+use crate::message_type::{MessageType, Origin};
 use crate::names::{module_name, type_name};
-use crate::schema::{MessageType, Origin};
 use crate::words::Words;
 use wire_descriptor::FileDescriptorProto;
 

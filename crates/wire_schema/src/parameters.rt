@@ -1,8 +1,9 @@
 //! What the parameter of a request says.
 use crate::error::GenerateError;
 use crate::field::features_of;
+use crate::message_type::MessageType;
 use crate::names::is_crate_name;
-use crate::schema::{MessageType, Schema};
+use crate::schema::Schema;
 use crate::words::{Template, Words};
 use std::alloc::Global;
 use wire_descriptor::CodeGeneratorRequest;
@@ -12,10 +13,10 @@ use wire_descriptor::CodeGeneratorRequest;
 /// what an element of a list or a map is charged; `unknown=` whether fields that a schema lacks are
 /// kept; `mismatch=` whether records of other wire types are refused, or kept with these;
 /// `enums=open` takes closed enums as open ones, `strings=bytes` strings that need not be UTF-8 as
-/// bytes, and `required=optional` required fields as optional ones; `services=skip` passes over
-/// services, `defaults=skip` over default values, and `laws=skip` writes no laws; `split=COUNT`
-/// writes crates of about so many message types; and each `encoded=FIELD` names a field of messages
-/// that is held as the bytes of their encodings.
+/// bytes, and `required=optional` required fields as optional ones; `views=true` writes views;
+/// `services=skip` passes over services, `defaults=skip` over default values, and `laws=skip`
+/// writes no laws; `split=COUNT` writes crates of about so many message types; and each
+/// `encoded=FIELD` names a field of messages that is held as the bytes of their encodings.
 pub fn set_crate(base: &mut Words, request: &CodeGeneratorRequest) -> Result<(), GenerateError> {
     base.set("crate", first_name(request));
     base.fill_all(&DEFAULTS);
@@ -46,6 +47,10 @@ pub fn set_crate(base: &mut Words, request: &CodeGeneratorRequest) -> Result<(),
     if base.get("unknown") == "drop" && base.get("mismatch") == "keep" {
         return Err(base.refused("mismatch=keep wants unknown=keep"));
     }
+    let is_plain = base.get("unknown") == "keep" && base.get("mismatch") == "refuse";
+    if !is_plain && !base.get("views").is_empty() {
+        return Err(base.refused("views=true wants unknown=keep and mismatch=refuse"));
+    }
     Ok(())
 }
 
@@ -61,8 +66,8 @@ const NO_NAME: &str = "\
 
 const PARAMETERS: &str = "\
     parameters are crate=NAME, import=PACKAGE=CRATE, element=BYTES, unknown=keep or drop, \
-    mismatch=refuse or keep, enums=open, strings=bytes, required=optional, services=skip, \
-    defaults=skip, laws=skip, split=COUNT, and encoded=FIELD: $option$";
+    mismatch=refuse or keep, enums=open, strings=bytes, required=optional, views=true, \
+    services=skip, defaults=skip, laws=skip, split=COUNT, and encoded=FIELD: $option$";
 
 fn set_parameter(base: &mut Words, name: &str, choice: &str) -> Result<(), GenerateError> {
     match (name, choice) {
@@ -73,6 +78,7 @@ fn set_parameter(base: &mut Words, name: &str, choice: &str) -> Result<(), Gener
         ("enums", "open") => base.set("enums", choice),
         ("strings", "bytes") => base.set("strings", choice),
         ("required", "optional") => base.set("required", choice),
+        ("views", "true") => base.set("views", choice),
         ("services", "skip") => base.set("services", choice),
         ("defaults", "skip") => base.set("defaults", choice),
         ("laws", "skip") => base.set("without_laws", choice),

@@ -51,6 +51,11 @@ impl Places {
         add(self.alloc, &mut self.entries, full, place)
     }
 
+    /// As if no type of entries had been added.
+    pub(crate) fn clear_entries(&mut self) {
+        self.entries.clear();
+    }
+
     pub(crate) fn add_enum(&mut self, full: &str, place: usize) -> Result<(), GenerateError> {
         add(self.alloc, &mut self.enums, full, place)
     }

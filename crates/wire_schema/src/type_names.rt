@@ -1,7 +1,8 @@
 //! Names of types, of which no two in a crate are one.
 use crate::error::GenerateError;
+use crate::message_type::MessageType;
 use crate::names::{module_name, order_key, type_name, variant_name, word_name};
-use crate::schema::{Extension, MessageType, Schema};
+use crate::schema::{Extension, Schema};
 use crate::words::Words;
 use std::alloc::Global;
 use std::collections::BTreeMap;
@@ -230,7 +231,12 @@ impl Schema {
     }
 }
 
-fn rename(words: &mut Words, home: &str, names: &mut TypeNames) -> Result<(), GenerateError> {
+/// Gives a type its name and its module.
+pub(crate) fn rename(
+    words: &mut Words,
+    home: &str,
+    names: &mut TypeNames,
+) -> Result<(), GenerateError> {
     let name = names.given(home, words.get("name"))?;
     words.set("module", &module_name(words.alloc(), &name)?);
     words.set("name", &name);

@@ -1,0 +1,73 @@
+//! The files of the view of a message type, and of those of its oneofs.
+use crate::answers::view_answers_of;
+use crate::oneof_proofs::view_merge_answers;
+use crate::package::Package;
+use crate::tree::Tree;
+use crate::view_code::view_code_of;
+use crate::view_oneof::oneof_view_code;
+use wire_schema::{Field, GenerateError, Oneof, Schema, Words};
+
+// What the README says of views.
+const VIEWED: &str =
+    " A view is read just where its message is, as the\nsame value, and `own` makes the \
+                      message of it.";
+
+/// Whether a type has a view, or a oneof.
+pub(crate) fn has_view(words: &Words) -> bool {
+    !words.get("view_name").is_empty()
+}
+
+impl Package {
+    /// The view of a message, where it has one.
+    pub(crate) fn add_view(
+        &mut self,
+        page: &Words,
+        schema: &Schema,
+        fields: &[Field],
+        tree: &Tree,
+    ) -> Result<(), GenerateError> {
+        if !has_view(page) {
+            return Ok(());
+        }
+        self.need_views();
+        let code = view_code_of(page, schema, fields)?;
+        self.add_module(page, code)?;
+        if fields.is_empty() {
+            return Ok(());
+        }
+        let answers = view_answers_of(page, fields, tree)?;
+        let path = "proofs/$view_module$/$view_name$MessageView/merge_field/Answers.antt";
+        self.add(&mut Words::like(page), path, answers)
+    }
+
+    /// The view of a oneof, where its message has one.
+    pub(crate) fn add_oneof_view(
+        &mut self,
+        page: &Words,
+        oneof: &Oneof,
+    ) -> Result<(), GenerateError> {
+        if !has_view(page) {
+            return Ok(());
+        }
+        let code = oneof_view_code(page, oneof)?;
+        self.add_module(page, code)?;
+        let answers = view_merge_answers(page, oneof)?;
+        let path = "proofs/$view_module$/$view_kind_name$ViewKind/merge/Answers.antt";
+        self.add(&mut Words::like(page), path, answers)
+    }
+
+    // The module of a view, which the crate passes on as it does the type that it is of.
+    fn add_module(&mut self, page: &Words, code: String) -> Result<(), GenerateError> {
+        let mut view = Words::like(page);
+        view.fill_all(&[("name", "$view_name$"), ("module", "$view_module$")]);
+        self.add_code(&mut view, code)
+    }
+
+    // The crate stands on that of views.
+    fn need_views(&mut self) {
+        if self.roots.get("viewed").is_empty() {
+            self.roots.set("viewed", VIEWED);
+            self.roots.append("needs", " wire_views");
+        }
+    }
+}

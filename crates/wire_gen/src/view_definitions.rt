@@ -1,0 +1,113 @@
+//! The definitions of views: how one is seen by contracts, as the value of its message.
+use crate::oneof_definitions::put_values;
+use crate::tree::Tree;
+use crate::view::has_view;
+use wire_schema::{Field, Oneof, Template, Words};
+
+const USES: &str = "\
+Rattle.wire_views.specs.Spans fields_of
+Rattle.$crate$.specs.declared.$view_module$.$view_name$ $view_name$
+";
+
+const PART: &str = "\
+abbrev pub $part_words$-view_value : $view_name$ → $part_value$
+$part_words$-view_value m = $view_seen$
+
+";
+
+const VALUE: &str = "\
+abbrev pub $module$-view_value : $view_name$ → $name$-Value
+$module$-view_value m = (
+$view_seen$,
+  fields_of m.unknown.items,
+)
+
+";
+
+const VALUE_OF_NONE: &str = "\
+abbrev pub $module$-view_value : $view_name$ → $name$-Value
+$module$-view_value m = fields_of m.unknown.items
+
+";
+
+/// Puts how the view of a message is seen, where it has one: the word `view_value`, and names that
+/// are brought in.
+pub(crate) fn define_view(page: &mut Words, fields: &[Field], tree: &Tree) {
+    page.set("view_value", "");
+    if !has_view(page) {
+        return;
+    }
+    page.append_all(&[("uses", USES), ("view_value", "-- the same of its view\n")]);
+    for field in fields {
+        page.copy(&field.words, &["view_definitions"]);
+        page.append_all(&[("uses", "$view_definitions$")]);
+    }
+    for part in &tree.parts {
+        page.copy(&part.words, &["view_seen", "part_words", "part_value"]);
+        page.append("view_value", PART);
+    }
+    page.copy(&tree.words, &["view_seen"]);
+    page.indent("view_seen");
+    page.append(
+        "view_value",
+        if fields.is_empty() {
+            VALUE_OF_NONE
+        } else {
+            VALUE
+        },
+    );
+}
+
+const ONEOF_USES: &str = "\
+Rattle.$crate$.specs.declared.$view_module$.$view_name$ $view_name$
+";
+
+// What its page brings in under another name.
+const VARIANTS: &str = "\
+use Rattle.$crate$.specs.declared.$view_module$.$view_name$.TheVariants as views
+";
+
+const ONE: &str = "\
+-- the same of its view
+abbrev pub $module$-view_one : $view_name$ → $name$-One
+$view_ones$
+";
+
+const OF: &str = "\
+abbrev pub $module$-view_of : Option $view_name$ → $name$-Value
+$module$-view_of = option_map $module$-view_one
+
+";
+
+const OF_VARIANT: [Template; 2] = [
+    (
+        "view_ones",
+        "$module$-view_one (views.$variant$ x) = $seen$\n",
+    ),
+    ("uses", "$view_definitions$"),
+];
+
+/// Puts how the view of a oneof is seen, where it has one: the words `view_one` and `view_of`, and
+/// names that are brought in.
+pub(crate) fn define_oneof_view(page: &mut Words, oneof: &Oneof) {
+    page.fill_all(&[("view_one", ""), ("view_of", ""), ("view_variants", "")]);
+    if !has_view(page) {
+        return;
+    }
+    page.append_all(&[("uses", ONEOF_USES)]);
+    let last = oneof.variants.len().saturating_sub(1);
+    for (place, variant) in oneof.variants.iter().enumerate() {
+        page.copy(
+            variant,
+            &["variant", "view_before", "view_behind", "view_definitions"],
+        );
+        page.fill_all(&[("before", "$view_before$"), ("behind", "$view_behind$")]);
+        put_values(page, place, last);
+        page.append_all(&OF_VARIANT);
+    }
+    page.fill_all(&[
+        ("view_one", ONE),
+        ("view_of", OF),
+        ("view_variants", VARIANTS),
+    ]);
+}
