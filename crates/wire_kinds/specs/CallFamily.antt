@@ -5,7 +5,7 @@ use Rattle.std.specs.Prelude.{Bool, List, false, string_bytes, true, ℕ, ℤ, �
 use Rattle.wire_codec.specs.Field.{Fields}
 use Rattle.wire_codec.specs.FieldNumber.{IsFieldNumber}
 use Rattle.wire_codec.specs.Folds.{IsSingle}
-use Rattle.wire_codec.specs.Records.{Records, joined_records, none}
+use Rattle.wire_codec.specs.Records.{Records, none}
 use Rattle.wire_codec.specs.TakingLaws.{OneReading}
 use Rattle.wire_codec.specs.ValueMap.{sint64}
 use Rattle.wire_fields.specs.Grounds.{Grounds, numeric_back, sint64_back, string_back}
@@ -18,7 +18,7 @@ use Rattle.wire_fields.specs.NestTable.{all_counted, as_it_was, empty_of, family
 use Rattle.wire_fields.specs.NestTable.{family_single, family_takes, if_number, message_at}
 use Rattle.wire_fields.specs.Numbers.{numeric}
 use Rattle.wire_fields.specs.Presence.{implicit}
-use Rattle.wire_fields.specs.Ranges.{Range, pair_range, sint64_range, string_range}
+use Rattle.wire_fields.specs.Ranges.{Range, sint64_range, string_range}
 use Rattle.wire_fields.specs.Returned.{Returned, implicit_returned, known_returned}
 use Rattle.wire_fields.specs.Shape.{Lawful, Shape, known, two, unknown}
 use Rattle.wire_fields.specs.Sums.{first_back, first_range, first_single, first_takes, of_first}

@@ -5,7 +5,7 @@ use Rattle.std.specs.Prelude.{Bool, Option, false, option_map, true, ℕ, ℤ, �
 use Rattle.wire_codec.specs.Field.{Fields}
 use Rattle.wire_codec.specs.FieldNumber.{IsFieldNumber}
 use Rattle.wire_codec.specs.Folds.{IsSingle}
-use Rattle.wire_codec.specs.Records.{Records, joined_records, none}
+use Rattle.wire_codec.specs.Records.{Records, none}
 use Rattle.wire_codec.specs.TakingLaws.{OneReading}
 use Rattle.wire_codec.specs.ValueMap.{sint64}
 use Rattle.wire_fields.specs.Grounds.{Grounds, numeric_back, sint64_back}
@@ -17,7 +17,7 @@ use Rattle.wire_fields.specs.NestTable.{as_it_was, empty_of, if_number, nest_rec
 use Rattle.wire_fields.specs.NestTable.{nest_takes}
 use Rattle.wire_fields.specs.Numbers.{numeric}
 use Rattle.wire_fields.specs.Presence.{optional}
-use Rattle.wire_fields.specs.Ranges.{Range, optional_range, pair_range, sint64_range}
+use Rattle.wire_fields.specs.Ranges.{Range, optional_range, sint64_range}
 use Rattle.wire_fields.specs.Returned.{Returned, known_returned, optional_returned}
 use Rattle.wire_fields.specs.Shape.{Lawful, Shape, known, two, unknown}
 use Rattle.wire_fields.specs.declared.form.Form.TheVariants.{Varint}

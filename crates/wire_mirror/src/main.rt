@@ -15,7 +15,7 @@ use wire_kinds::{
 use wire_report::{Report, ReportSample};
 use wire_well_known::{
     Any, BoolValue, BytesValue, DoubleValue, Duration, Empty, FieldMask, FloatValue, Int32Value,
-    Int64Value, StringValue, Timestamp, UInt32Value, UInt64Value,
+    Int64Value, ListValue, StringValue, Struct, Timestamp, UInt32Value, UInt64Value, Value,
 };
 
 /// Why a line has no message.
@@ -59,9 +59,12 @@ fn answer(alloc: Global, name: &str, digits: &str) -> Result<String, MirrorError
         "FloatValue" => mirrored::<FloatValue>(alloc, digits),
         "Int32Value" => mirrored::<Int32Value>(alloc, digits),
         "Int64Value" => mirrored::<Int64Value>(alloc, digits),
+        "ListValue" => mirrored::<ListValue>(alloc, digits),
         "StringValue" => mirrored::<StringValue>(alloc, digits),
+        "Struct" => mirrored::<Struct>(alloc, digits),
         "UInt32Value" => mirrored::<UInt32Value>(alloc, digits),
         "UInt64Value" => mirrored::<UInt64Value>(alloc, digits),
+        "Value" => mirrored::<Value>(alloc, digits),
         "kinds.Varints" => mirrored::<Varints>(alloc, digits),
         "kinds.Widths" => mirrored::<Widths>(alloc, digits),
         "kinds.MaybeVarints" => mirrored::<MaybeVarints>(alloc, digits),

@@ -19,11 +19,15 @@ pub mod Int32ValueStays
 pub mod Int64Value
 pub mod Int64ValueStays
 pub mod ListValue
+pub mod ListValueFamily
+pub mod ListValueFamilyStays
 pub mod ListValueStays
 pub mod NullValue
 pub mod StringValue
 pub mod StringValueStays
 pub mod Struct
+pub mod StructFieldsEntry
+pub mod StructFieldsEntryStays
 pub mod StructStays
 pub mod Timestamp
 pub mod TimestampStays

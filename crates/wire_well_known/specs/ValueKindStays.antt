@@ -10,28 +10,23 @@ use Rattle.wire_fields.specs.Grounds.{Grounds}
 use Rattle.wire_fields.specs.Messages.{or_else}
 use Rattle.wire_fields.specs.Numbers.{numeric}
 use Rattle.wire_fields.specs.Presence.{always}
-use Rattle.wire_fields.specs.Ranges.{any_bytes_range, bool_range, double_range, enum_range}
-use Rattle.wire_fields.specs.Ranges.{string_range}
+use Rattle.wire_fields.specs.Ranges.{bool_range, double_range, enum_range, string_range}
 use Rattle.wire_fields.specs.Short.{AreShort}
 use Rattle.wire_fields.specs.Stays.{FieldsStay, KindStays}
-use Rattle.wire_fields.specs.StaysKinds.{always_stays, any_bytes_stay, bool_stays, double_stays}
-use Rattle.wire_fields.specs.StaysKinds.{enum_stays, numeric_stays, string_stays}
+use Rattle.wire_fields.specs.StaysKinds.{always_stays, bool_stays, double_stays, enum_stays}
+use Rattle.wire_fields.specs.StaysKinds.{numeric_stays, string_stays}
 use Rattle.wire_fields.specs.StaysMessages.{either_stays, oneof_stays, variant_stays}
-use Rattle.wire_fields.specs.Texts.{any_bytes, string}
+use Rattle.wire_fields.specs.Texts.{string}
 use Rattle.wire_fields.specs.declared.form.Form.TheVariants.{Fixed64, Varint}
 use Rattle.wire_well_known.specs.NullValue.{null_value-number, null_value-of, null_value-values}
 use Rattle.wire_well_known.specs.ValueKind.{ValueKind-Value, bool_value-of-value_kind-as}
 use Rattle.wire_well_known.specs.ValueKind.{bool_value-of-value_kind-kind}
-use Rattle.wire_well_known.specs.ValueKind.{list_value-of-value_kind-as}
-use Rattle.wire_well_known.specs.ValueKind.{list_value-of-value_kind-kind}
 use Rattle.wire_well_known.specs.ValueKind.{null_value-of-value_kind-as}
 use Rattle.wire_well_known.specs.ValueKind.{null_value-of-value_kind-kind}
 use Rattle.wire_well_known.specs.ValueKind.{number_value-of-value_kind-as}
 use Rattle.wire_well_known.specs.ValueKind.{number_value-of-value_kind-kind}
 use Rattle.wire_well_known.specs.ValueKind.{string_value-of-value_kind-as}
-use Rattle.wire_well_known.specs.ValueKind.{string_value-of-value_kind-kind}
-use Rattle.wire_well_known.specs.ValueKind.{struct_value-of-value_kind-as}
-use Rattle.wire_well_known.specs.ValueKind.{struct_value-of-value_kind-kind, value_kind-holds}
+use Rattle.wire_well_known.specs.ValueKind.{string_value-of-value_kind-kind, value_kind-holds}
 use Rattle.wire_well_known.specs.ValueKind.{value_kind-range, value_kind-records, value_kind-shape}
 
 abbrev pub null_value-of-value_kind-stays : Grounds
@@ -59,26 +54,12 @@ abbrev pub bool_value-of-value_kind-stays : Grounds
 bool_value-of-value_kind-stays g =
     always_stays (numeric_stays bool_stays)
 
-abbrev pub struct_value-of-value_kind-stays : Grounds
-    → KindStays (always any_bytes).kind
-    any_bytes_range
-struct_value-of-value_kind-stays g =
-    always_stays any_bytes_stay
-
-abbrev pub list_value-of-value_kind-stays : Grounds
-    → KindStays (always any_bytes).kind
-    any_bytes_range
-list_value-of-value_kind-stays g =
-    always_stays any_bytes_stay
-
 abbrev pub value_kind-is : Grounds → ValueKind-Value → Type 0
 value_kind-is g None = Unit {0}
 value_kind-is g (Some (inl x)) = (null_value-of-value_kind-stays g).Is x
 value_kind-is g (Some (inr (inl x))) = (number_value-of-value_kind-stays g).Is x
 value_kind-is g (Some (inr (inr (inl x)))) = (string_value-of-value_kind-stays g).Is x
-value_kind-is g (Some (inr (inr (inr (inl x))))) = (bool_value-of-value_kind-stays g).Is x
-value_kind-is g (Some (inr (inr (inr (inr (inl x)))))) = (struct_value-of-value_kind-stays g).Is x
-value_kind-is g (Some (inr (inr (inr (inr (inr x)))))) = (list_value-of-value_kind-stays g).Is x
+value_kind-is g (Some (inr (inr (inr x)))) = (bool_value-of-value_kind-stays g).Is x
 
 pub null_value-of-value_kind-there : (g : Grounds) (m : ValueKind-Value) → value_kind-is g m
     → (null_value-of-value_kind-stays g).Is
@@ -120,41 +101,7 @@ bool_value-of-value_kind-there g (Some (inr (inl other))) h =
     (bool_value-of-value_kind-stays g).start
 bool_value-of-value_kind-there g (Some (inr (inr (inl other)))) h =
     (bool_value-of-value_kind-stays g).start
-bool_value-of-value_kind-there g (Some (inr (inr (inr (inl x))))) h = h
-bool_value-of-value_kind-there g (Some (inr (inr (inr (inr other))))) h =
-    (bool_value-of-value_kind-stays g).start
-
-pub struct_value-of-value_kind-there : (g : Grounds) (m : ValueKind-Value) → value_kind-is g m
-    → (struct_value-of-value_kind-stays g).Is
-    (or_else struct_value-of-value_kind-kind.default (struct_value-of-value_kind-as m))
-struct_value-of-value_kind-there g None h = (struct_value-of-value_kind-stays g).start
-struct_value-of-value_kind-there g (Some (inl other)) h =
-    (struct_value-of-value_kind-stays g).start
-struct_value-of-value_kind-there g (Some (inr (inl other))) h =
-    (struct_value-of-value_kind-stays g).start
-struct_value-of-value_kind-there g (Some (inr (inr (inl other)))) h =
-    (struct_value-of-value_kind-stays g).start
-struct_value-of-value_kind-there g (Some (inr (inr (inr (inl other))))) h =
-    (struct_value-of-value_kind-stays g).start
-struct_value-of-value_kind-there g (Some (inr (inr (inr (inr (inl x)))))) h = h
-struct_value-of-value_kind-there g (Some (inr (inr (inr (inr (inr other)))))) h =
-    (struct_value-of-value_kind-stays g).start
-
-pub list_value-of-value_kind-there : (g : Grounds) (m : ValueKind-Value) → value_kind-is g m
-    → (list_value-of-value_kind-stays g).Is
-    (or_else list_value-of-value_kind-kind.default (list_value-of-value_kind-as m))
-list_value-of-value_kind-there g None h = (list_value-of-value_kind-stays g).start
-list_value-of-value_kind-there g (Some (inl other)) h =
-    (list_value-of-value_kind-stays g).start
-list_value-of-value_kind-there g (Some (inr (inl other))) h =
-    (list_value-of-value_kind-stays g).start
-list_value-of-value_kind-there g (Some (inr (inr (inl other)))) h =
-    (list_value-of-value_kind-stays g).start
-list_value-of-value_kind-there g (Some (inr (inr (inr (inl other))))) h =
-    (list_value-of-value_kind-stays g).start
-list_value-of-value_kind-there g (Some (inr (inr (inr (inr (inl other)))))) h =
-    (list_value-of-value_kind-stays g).start
-list_value-of-value_kind-there g (Some (inr (inr (inr (inr (inr x)))))) h = h
+bool_value-of-value_kind-there g (Some (inr (inr (inr x)))) h = h
 
 pub value_kind-in-range : (g : Grounds) (m : ValueKind-Value) → value_kind-is g m
     → AreShort (value_kind-records m) → value_kind-holds m
@@ -165,17 +112,13 @@ value_kind-in-range g (Some (inr (inl x))) h short =
     (number_value-of-value_kind-stays g).holds 2 x h short
 value_kind-in-range g (Some (inr (inr (inl x)))) h short =
     (string_value-of-value_kind-stays g).holds 3 x h short
-value_kind-in-range g (Some (inr (inr (inr (inl x))))) h short =
+value_kind-in-range g (Some (inr (inr (inr x)))) h short =
     (bool_value-of-value_kind-stays g).holds 4 x h short
-value_kind-in-range g (Some (inr (inr (inr (inr (inl x)))))) h short =
-    (struct_value-of-value_kind-stays g).holds 5 x h short
-value_kind-in-range g (Some (inr (inr (inr (inr (inr x)))))) h short =
-    (list_value-of-value_kind-stays g).holds 6 x h short
 
-pub value_kind-stays : Grounds → FieldsStay value_kind-shape value_kind-range
+abbrev pub value_kind-stays : Grounds → FieldsStay value_kind-shape value_kind-range
 value_kind-stays g =
     oneof_stays None value_kind-records _ (value_kind-is g) tt
-    (either_stays (either_stays (either_stays (either_stays (either_stays (variant_stays 1 (always (numeric Varint (open_enum null_value-number null_value-of))) null_value-of-value_kind-as
+    (either_stays (either_stays (either_stays (variant_stays 1 (always (numeric Varint (open_enum null_value-number null_value-of))) null_value-of-value_kind-as
     (λ x. Some (inl x)) (value_kind-is g) (null_value-of-value_kind-stays g)
     (null_value-of-value_kind-there g) (λ t h. h))
     (variant_stays 2 (always (numeric Fixed64 double)) number_value-of-value_kind-as
@@ -185,12 +128,6 @@ value_kind-stays g =
     (λ x. Some (inr (inr (inl x)))) (value_kind-is g) (string_value-of-value_kind-stays g)
     (string_value-of-value_kind-there g) (λ t h. h)))
     (variant_stays 4 (always (numeric Varint bool)) bool_value-of-value_kind-as
-    (λ x. Some (inr (inr (inr (inl x))))) (value_kind-is g) (bool_value-of-value_kind-stays g)
+    (λ x. Some (inr (inr (inr x)))) (value_kind-is g) (bool_value-of-value_kind-stays g)
     (bool_value-of-value_kind-there g) (λ t h. h)))
-    (variant_stays 5 (always any_bytes) struct_value-of-value_kind-as
-    (λ x. Some (inr (inr (inr (inr (inl x)))))) (value_kind-is g) (struct_value-of-value_kind-stays g)
-    (struct_value-of-value_kind-there g) (λ t h. h)))
-    (variant_stays 6 (always any_bytes) list_value-of-value_kind-as
-    (λ x. Some (inr (inr (inr (inr (inr x)))))) (value_kind-is g) (list_value-of-value_kind-stays g)
-    (list_value-of-value_kind-there g) (λ t h. h)))
     (value_kind-in-range g)

@@ -17,6 +17,8 @@ ghost use Rattle.wire_well_known.specs.Int64Value.{int64_value-range, int64_valu
 ghost use Rattle.wire_well_known.specs.ListValue.{list_value-range, list_value-shape};
 ghost use Rattle.wire_well_known.specs.StringValue.{string_value-range, string_value-shape};
 ghost use Rattle.wire_well_known.specs.Struct.{struct_-range, struct_-shape};
+ghost use Rattle.wire_well_known.specs.StructFieldsEntry.{struct_fields_entry-range};
+ghost use Rattle.wire_well_known.specs.StructFieldsEntry.{struct_fields_entry-shape};
 ghost use Rattle.wire_well_known.specs.Timestamp.{timestamp-range, timestamp-shape};
 ghost use Rattle.wire_well_known.specs.UInt32Value.{uint32_value-range, uint32_value-shape};
 ghost use Rattle.wire_well_known.specs.UInt64Value.{uint64_value-range, uint64_value-shape};
@@ -293,6 +295,22 @@ pub fn double_value_reads_back()
 /// within it takes at most 2,147,483,647 bytes and any other payload less than 2^64.
 pub fn double_value_decodes_in_range()
     ensures { DecodesInRange double_value-shape double_value-range }
+{
+    grounds();
+}
+
+/// What is written of each `StructFieldsEntry` in range decodes to it, where the limits suffice.
+pub fn struct_fields_entry_reads_back()
+    ensures { ReadsBack struct_fields_entry-shape struct_fields_entry-range }
+{
+    grounds();
+    text_decodes::<crate::StructFieldsEntry>();
+}
+
+/// What bytes decode to as `StructFieldsEntry` is in range, where each message and group
+/// within it takes at most 2,147,483,647 bytes and any other payload less than 2^64.
+pub fn struct_fields_entry_decodes_in_range()
+    ensures { DecodesInRange struct_fields_entry-shape struct_fields_entry-range }
 {
     grounds();
 }

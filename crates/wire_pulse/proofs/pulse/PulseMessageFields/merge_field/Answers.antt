@@ -26,4 +26,5 @@ returns-in_default-clause-err g c =
     rest_err pulse-known.owns pulse-known.takes drops _
     (λ p. unlike n 1 (search rules))
     _ _ _ _ c.fields-pass_over.result
-    (IfErr-weaker c.fields-pass_over.result _ _ (λ e none other. none) c.fields-pass_over.ensures.err)
+    (IfErr-weaker c.fields-pass_over.result _ _ (λ e none other. none)
+    c.fields-pass_over.ensures.err)
