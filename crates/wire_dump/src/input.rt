@@ -30,7 +30,8 @@ pub(crate) fn input(rt: &HostRuntime, options: &Options<'_>) -> Result<Vec<u8>, 
     }
 }
 
-fn read<R: Read + Drop>(alloc: Global, reader: R, size: u64) -> Result<Vec<u8>, RunError>
+/// All bytes of a reader, which has no more than so many.
+pub(crate) fn read<R: Read + Drop>(alloc: Global, reader: R, size: u64) -> Result<Vec<u8>, RunError>
     ensures { IfOk result (λ bytes. length bytes.items ≤ size) }
 {
     let mut bytes = Vec::new(alloc);

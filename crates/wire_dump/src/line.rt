@@ -16,7 +16,7 @@ const LEVELS: u32 = 16;
 // Two spaces a level. Those of 16 levels are put at once, and those of too many are cut off again,
 // since a copy of a fixed length takes two instructions.
 #[inline(always)]
-fn put_indentation(out: &mut Vec<u8>, level: u32) -> Result<(), AllocError>
+pub(crate) fn put_indentation(out: &mut Vec<u8>, level: u32) -> Result<(), AllocError>
     ensures { OnOk result (out.new.items ≡ out.old.items ++ indented level) }
 {
     if level > LEVELS {
@@ -137,7 +137,7 @@ fn put_named(out: &mut Vec<u8>, number: u32) -> Result<(), AllocError>
 
 // The places of the bytes that a line is of, where they are shown.
 #[inline(always)]
-fn put_margin(out: &mut Vec<u8>, margin: Margin) -> Result<(), AllocError>
+pub(crate) fn put_margin(out: &mut Vec<u8>, margin: Margin) -> Result<(), AllocError>
     ensures { OnOk result (out.new.items
         ≡ out.old.items ++ range_text margin.is_shown margin.start margin.end) }
 {

@@ -3,16 +3,22 @@
 
 mod dump;
 mod fault_line;
+mod field_name;
+mod float_text;
 mod frames;
 mod input;
 mod laws;
 mod layout;
 mod line;
+mod misfit;
 mod options;
 mod record;
 mod shortest;
 mod stop;
 mod string;
+mod typed;
+mod typed_run;
+mod typed_value;
 
 use bytes::Bytes;
 use dump::put_records;
@@ -25,6 +31,7 @@ use shortest::{reader_at_stop, shortest_text};
 use std::io::Write;
 use std::process::ExitCode;
 use stop::Stop;
+use typed_run::{run_typed, schema_in};
 use wire_frames::{FrameDecoder, FrameError, Framing};
 use wire_read::Reader;
 use wire_run::{FramePlace, RunError, Source, answer_words, report, words, write_error};
@@ -41,8 +48,19 @@ fn main(rt: HostRuntime) -> ExitCode {
 // What these words ask for, and its status.
 fn answer(rt: &HostRuntime, words: &[String]) -> ExitCode {
     match Options::parse(rt.alloc(), words) {
-        Ok(options) => report(rt, NAME, options.source, run(rt, &options)),
+        Ok(options) => match options.descriptor_set {
+            Some(path) => answer_typed(rt, &options, path),
+            None => report(rt, NAME, options.source, run(rt, &options)),
+        },
         Err(error) => report(rt, NAME, Source::StandardInput, answer_words(rt, &error)),
+    }
+}
+
+// The same with the descriptor set in this file.
+fn answer_typed(rt: &HostRuntime, options: &Options<'_>, path: &str) -> ExitCode {
+    match schema_in(rt, path, options.size) {
+        Ok(schema) => report(rt, NAME, options.source, run_typed(rt, options, &schema)),
+        Err(error) => report(rt, NAME, Source::File(path), Err(error)),
     }
 }
 

@@ -23,13 +23,19 @@ pub(crate) struct Options<'a> {
     pub(crate) has_offsets: bool,
     pub(crate) is_shortest: bool,
     pub(crate) is_delimited: bool,
+    /// The file of the descriptor set, where there is a schema.
+    pub(crate) descriptor_set: Option<&'a str>,
+    /// The full name of the type of the messages.
+    pub(crate) type_name: Option<&'a str>,
+    pub(crate) is_strict: bool,
 }
 
-const ABOUT: &str = "Prints the records of Protocol Buffers bytes, without a schema, and says at \
-    which byte and why broken ones are broken. Status 0: all is printed; 1: the bytes are no \
-    records; 2: these words; 3: the file cannot be opened; 4: reading failed; 5: the input is too \
-    long; 6: no hexadecimal text; 8: writing failed; 9: nobody reads the output; 10: no memory; \
-    11: no base64 text.";
+const ABOUT: &str = "Prints the records of Protocol Buffers bytes, without a schema or with one, \
+    and says at which byte and why broken ones are broken. Status 0: all is printed; 1: the bytes \
+    are no records; 2: these words; 3: the file cannot be opened; 4: reading failed; 5: the input \
+    is too long; 6: no hexadecimal text; 8: writing failed; 9: nobody reads the output; 10: no \
+    memory; 11: no base64 text; 12: no descriptor set; 13: it has no such type; 14: a record does \
+    not fit its field.";
 
 const HEX: &str = "The input is hexadecimal text, spaces between bytes or none";
 
@@ -45,13 +51,22 @@ const SHORTEST: &str = "Write the records as bytes again, with no varint padded,
 
 const DELIMITED: &str = "The input is a log: messages one after another, each behind its length";
 
+const STRICT: &str = "Stop at the first record that does not fit its field";
+
+const SET: &str = "A descriptor set, as protoc --descriptor_set_out --include_imports writes it: \
+    fields are named, and values are of their types";
+
+const TYPE: &str = "The full name of the type of the messages, as package.Type; without it the \
+    types of the descriptor set are listed";
+
 // Each flag, the one that it does not go with, if there is one, and its help.
-const FLAGS: [(&str, &str, &str); 5] = [
+const FLAGS: [(&str, &str, &str); 6] = [
     ("hex", "base64", HEX),
     ("base64", "", BASE64),
     ("offsets", "shortest", OFFSETS),
     ("shortest", "", SHORTEST),
     ("delimited", "shortest", DELIMITED),
+    ("strict", "shortest", STRICT),
 ];
 
 const MOST: &str = "18446744073709551615";
@@ -76,6 +91,9 @@ impl<'a> Options<'a> {
             has_offsets: matches.get_flag("offsets"),
             is_shortest: matches.get_flag("shortest"),
             is_delimited: matches.get_flag("delimited"),
+            descriptor_set: matches.get_str("descriptor_set"),
+            type_name: matches.get_str("type"),
+            is_strict: matches.get_flag("strict"),
         })
     }
 }
@@ -102,7 +120,9 @@ fn matches<'a>(alloc: Global, words: &'a [String]) -> Result<ArgMatches<'a>, Err
     let command = Command::new(alloc, "wire_dump")
         .version("1")
         .about(ABOUT)
-        .arg(file)?;
+        .arg(file)?
+        .arg(named(alloc, "descriptor_set", "FILE", SET)?)?
+        .arg(named(alloc, "type", "NAME", TYPE)?.requires_arg("descriptor_set")?)?;
     let command = with_flags(alloc, command)?;
     with_limits(alloc, command)?.try_get_matches_from(words)
 }
@@ -135,6 +155,20 @@ fn flag<'a>(
         return Ok(flag);
     }
     flag.conflicts_with(other)
+}
+
+fn named<'a>(
+    alloc: Global,
+    name: &'a str,
+    value: &'a str,
+    help: &'a str,
+) -> Result<Arg<'a>, AllocError> {
+    Arg::new(alloc, name)
+        .long(name)
+        .value_name(value)
+        .action(ArgAction::Set)
+        .help(help)
+        .conflicts_with("shortest")
 }
 
 fn limit<'a>(alloc: Global, name: &'a str, default: &'a str, help: &'a str) -> Arg<'a> {

@@ -1,7 +1,7 @@
 -- The status with which a run ends.
 use Rattle.std.specs.Prelude.{ℕ, Result, Ok, Err}
 use Rattle.wire_run.specs.declared.error.RunError.{RunError}
-use Rattle.wire_run.specs.declared.error.RunError.TheVariants.{Broken, Usage, NotOpened, ReadFailed, TooLong, NotHexadecimal, NotBase64, WriteFailed, BrokenPipe, OutOfMemory}
+use Rattle.wire_run.specs.declared.error.RunError.TheVariants.{Broken, Usage, NotOpened, ReadFailed, TooLong, NotHexadecimal, NotBase64, WriteFailed, BrokenPipe, OutOfMemory, NoSchema, NoType, Unfit}
 
 -- of a run that does not do all that it was asked for
 abbrev pub error_status : RunError → ℕ
@@ -15,6 +15,9 @@ error_status (WriteFailed e) = 8
 error_status BrokenPipe = 9
 error_status OutOfMemory = 10
 error_status NotBase64 = 11
+error_status NoSchema = 12
+error_status NoType = 13
+error_status Unfit = 14
 
 -- of any run
 abbrev pub status_of : Result (Unit {0}) RunError → ℕ

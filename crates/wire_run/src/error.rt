@@ -27,6 +27,12 @@ pub enum RunError {
     /// Nobody reads the output any more.
     BrokenPipe,
     OutOfMemory,
+    /// A file is no descriptor set, and the line of why was printed.
+    NoSchema,
+    /// A descriptor set has no such type, and the line of this was printed.
+    NoType,
+    /// A record does not fit its field, and the line of this was printed.
+    Unfit,
 }
 
 /// The status of a run. Why it failed is printed on standard error first, where no line was printed
@@ -47,6 +53,7 @@ pub fn report(
     // The status stays the same where the line cannot be written.
     let _ = match error {
         RunError::Broken | RunError::Usage | RunError::BrokenPipe => Ok(()),
+        RunError::NoSchema | RunError::NoType | RunError::Unfit => Ok(()),
         RunError::NotOpened(error) | RunError::ReadFailed(error) => {
             eprintln!(rt; "{program}: {source}: {error}")
         }
@@ -75,6 +82,9 @@ impl RunError {
             RunError::BrokenPipe => 9,
             RunError::OutOfMemory => 10,
             RunError::NotBase64 => 11,
+            RunError::NoSchema => 12,
+            RunError::NoType => 13,
+            RunError::Unfit => 14,
         }
     }
 }

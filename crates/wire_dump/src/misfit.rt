@@ -1,0 +1,108 @@
+//! Records that do not fit their fields.
+use crate::field_name::shown_name;
+use std::alloc::{AllocError, Global};
+use std::fmt;
+use wire_codec::DecodeError;
+use wire_dynamic::{Told, Walk};
+use wire_read::{Reader, Value, laws};
+
+/// Why a record does not fit its field.
+#[derive(Debug, Drop)]
+pub(crate) enum Cause {
+    /// It is no value of the field's type.
+    Type,
+    /// It is no UTF-8.
+    Text,
+    /// It is a message within more messages and groups than are allowed.
+    Depth,
+    /// It is no message, for this cause at this byte of the input.
+    Fault(DecodeError, usize),
+}
+
+impl fmt::Display for Cause {
+    fn fmt<W: fmt::Write>(&self, f: &mut fmt::Formatter<W>) -> fmt::Result {
+        match self {
+            Cause::Type => f.write_str("no value of its type"),
+            Cause::Text => f.write_str("no UTF-8 text"),
+            Cause::Depth => f.write_str("too many levels"),
+            Cause::Fault(error, place) => write!(f, "{error} at {place}"),
+        }
+    }
+}
+
+/// A record that does not fit its field: the path to it, and the byte at which it begins.
+#[derive(Drop)]
+pub(crate) struct Misfit {
+    pub(crate) path: String,
+    pub(crate) place: usize,
+    pub(crate) cause: Cause,
+}
+
+impl Misfit {
+    /// One of which no path is known yet.
+    pub(crate) fn new(alloc: Global, place: usize, cause: Cause) -> Misfit {
+        Misfit {
+            path: String::new(alloc),
+            place,
+            cause,
+        }
+    }
+
+    /// The same with a step of its path more, in front of the others.
+    pub(crate) fn within(self, alloc: Global, step: &str) -> Result<Misfit, AllocError> {
+        let Misfit { path, place, cause } = self;
+        let path = if path.is_empty() {
+            String::from_str(alloc, step)?
+        } else {
+            format!(in alloc; "{step}.{path}")?
+        };
+        Ok(Misfit { path, place, cause })
+    }
+}
+
+/// The step of a path to an event: the names of the groups that it stands in, and its own, with its
+/// index where there may be more of its field.
+pub(crate) fn step_to(
+    alloc: Global,
+    walk: &Walk<'_>,
+    told: &Told<'_, '_>,
+    bytes: &[u8],
+) -> Result<String, AllocError> {
+    let mut step = String::new(alloc);
+    let mut groups = walk.reader().open_groups().len();
+    if let Value::GroupStart = told.event.value {
+        groups = groups.saturating_sub(1);
+    }
+    for count in 0..groups {
+        if let Some(field) = walk.group(count) {
+            step.push_str(shown_name(field))?;
+            step.push('.')?;
+        }
+    }
+    if let Some(field) = told.field {
+        step.push_str(shown_name(field))?;
+        if field.is_repeated {
+            let front = &bytes[..told.event.start.min(bytes.len())];
+            let index = index_of(front, told.event.number, groups);
+            step.push_str(&format!(in alloc; "[{index}]")?)?;
+        }
+    }
+    Ok(step)
+}
+
+// How many records of this number stand in the groups that are open at the end of bytes.
+fn index_of(front: &[u8], number: u32, groups: usize) -> usize {
+    laws::reader_moves_on();
+    let mut reader = Reader::new(100);
+    let mut index: usize = 0;
+    while let Ok(Some(event)) = reader.next(front) {
+        let open = reader.open_groups().len();
+        let is_start = matches!(event.value, Value::GroupStart);
+        if open < groups {
+            index = 0;
+        } else if open == groups && event.number == number && !is_start {
+            index = index.saturating_add(1);
+        }
+    }
+    index
+}
