@@ -1,7 +1,7 @@
 // The input, and what is shown of it.
 'use strict';
 
-let file = null, current = '';
+let file = null, current = '', misfit = null;
 class Trouble extends Error {}
 
 // The places and digits of what `xxd` prints, lines as `00000000: 0a03 4164 61  .Ada`; none of any
@@ -132,8 +132,10 @@ async function decode() {
   bytes = input;
   module.load(bytes);
   byteAt = opened = 0;
+  chooseType();
   root = new List(0, bytes.length, null, 0, 0);
   root.isLog = id('log').checked;
+  root.type = root.isLog ? null : rootType;
   const steps = root.isLog ? frames(root) : reading(root);
   document.body.classList.add('reading');
   for (let until = performance.now() + 12; !steps.next().done;) {
@@ -164,8 +166,10 @@ function show() {
   const isEmpty = bytes.length === 0, isBad = root.isFault();
   id('output').hidden = isEmpty;
   id('empty').hidden = !isEmpty;
-  id('fault').hidden = !isBad || isEmpty;
+  misfit = rootType && !isBad && root.size <= 20000 ? firstMisfit(root) : null;
+  id('fault').hidden = !(isBad || misfit) || isEmpty;
   if (isBad) showFault();
+  else if (misfit) showMisfit(misfit);
   const noun = root.isLog ? 'message' : 'record';
   const top = root.isLog || root.size > 5e6 ? root.size : countTop(root);
   id('summary').textContent =
@@ -182,6 +186,16 @@ function show() {
     showReadings();
   keepLink();
   document.body.dataset.run = run;
+}
+// A record that does not fit the schema, or a message that breaks inside.
+function showMisfit({list, i, path, why}) {
+  const stop = list.stop, place = i < 0 ? stop.place : list.start[i];
+  id('fault-name').textContent = path;
+  id('fault-place').textContent = `at byte ${count(place)}`;
+  id('fault-sentence').textContent = i < 0
+    ? `${list.type?.name ?? 'This message'} breaks inside: ${errorOf(stop)}. ${sentenceOf(list)}`
+    : `Field ${fieldOf(list, i).name} of ${typeAt(list, i).name} is of type ${
+      typeName(fieldOf(list, i))}; here stands ${why}.`;
 }
 function countTop(list) {
   let found = 0;

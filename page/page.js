@@ -144,6 +144,9 @@ function begin() {
   for (const button of document.querySelectorAll('[data-example]')) {
     button.addEventListener('click', () => load(button.dataset.example));
   }
+  id('choose-schema').addEventListener('click', () => id('schema').click());
+  id('schema').addEventListener('change', () => takeSchema(id('schema').files[0]));
+  id('type').addEventListener('change', decode);
   id('choose').addEventListener('click', () => id('file').click());
   id('file').addEventListener('change', () => takeFile(id('file').files[0]));
   id('clear').addEventListener('click', () => {
@@ -154,7 +157,7 @@ function begin() {
     id('text').focus();
   });
   id('show-fault').addEventListener('click', () => {
-    choose({list: root, i: -1});
+    choose(misfit ?? {list: root, i: -1});
     id('hex').focus();
   });
   id('open-all').addEventListener('click', () => {

@@ -121,6 +121,8 @@ class List {
     this.closed = new Set();
     this.broken = new Map();
     this.open = [];
+    this.starts = [];
+    this.type = null;
     this.grow(Math.min(64, length + 1));
   }
   grow(size) {
@@ -134,17 +136,26 @@ class List {
     this.behind = more(Float64Array, this.behind);
     this.value = more(BigUint64Array, this.value);
     this.depth = more(Uint8Array, this.depth);
+    // (the event that the innermost group around each starts with)
+    if (schema) this.outer = more(Int32Array, this.outer);
   }
   push(kind, number, value, start, behind, end) {
     if (this.size === this.tag.length) this.grow(this.size * 2);
-    if (kind === END) this.open.pop();
+    if (kind === END) {
+      this.open.pop();
+      this.starts.pop();
+    }
     const i = this.size++;
     this.tag[i] = number * 8 + kind;
     this.start[i] = start;
     this.behind[i] = behind;
     this.value[i] = value;
     this.depth[i] = this.open.length;
-    if (kind === START) this.open.push(number);
+    if (this.outer) this.outer[i] = this.starts.length ? this.starts.at(-1) : -1;
+    if (kind === START) {
+      this.open.push(number);
+      this.starts.push(i);
+    }
     this.end = end;
   }
   kind(i) { return this.tag[i] % 8; }
@@ -167,8 +178,8 @@ class List {
 }
 
 // Reads the events of a list, a batch a step.
-function* reading(list) {
-  const state = module.begin(limits);
+function* reading(list, within = limits) {
+  const state = module.begin(within);
   for (;;) {
     const found = module.events(state, list.place, list.length);
     const {view, room} = module;
@@ -210,9 +221,14 @@ function* frames(list) {
 }
 
 // The records inside of a payload or a message of a log, read at once.
-function openChild(list, i) {
-  const child = new List(list.payload(i), Number(list.value[i]), list, i, list.nesting(i) + 1);
+function readChild(list, i, level) {
+  const child = new List(list.payload(i), Number(list.value[i]), list, i, level);
+  child.type = list.kind(i) === FRAME ? rootType : fieldOf(list, i)?.message ?? null;
   for (const _ of reading(child)) {}
+  return child;
+}
+function openChild(list, i) {
+  const child = readChild(list, i, list.nesting(i) + 1);
   list.children.set(i, child);
   list.forget();
   return child;
@@ -220,7 +236,8 @@ function openChild(list, i) {
 
 // Whether a payload spells records, of so many levels at most.
 function isMessage(list, i, depth) {
-  const length = Number(list.value[i]);
+  const length = Number(list.value[i]), field = fieldOf(list, i);
+  if (field) return depth > 0 && field.type === 'message' && !!field.message;
   return list.kind(i) === FRAME
     || (length > 0 && depth > 0
       && module

@@ -144,26 +144,31 @@ function dumpText(list, budget = BUDGET, margin = '') {
   const lines = [];
   const inside = (i) => margin + '  '.repeat(list.depth[i]);
   for (let i = 0; i < list.size; i++) {
-    const kind = list.kind(i), name = inside(i) + list.number(i), value = list.value[i];
+    const field = fieldOf(list, i), fits = !!field && !misfitOf(list, i, field);
+    const kind = list.kind(i), name = inside(i) + (fits ? field.name : list.number(i));
     if (kind === START)
       lines.push(`${name} {`);
     else if (kind === END)
       lines.push(`${inside(i)}}`);
-    else if (kind === VARINT)
-      lines.push(`${name}: ${value}`);
-    else if (kind !== BYTES) {
-      lines.push(`${name}: 0x${value.toString(16).padStart(kind === FIXED64 ? 16 : 8, '0')}`);
-    } else if (!isMessage(list, i, budget - list.depth[i])) {
-      lines.push(`${name}: "${escaped(list.payload(i), Number(value))}"`);
-    } else {
-      const child = list.children.get(i) || new List(list.payload(i), Number(value), list, i, 0);
-      if (!child.size)
-        for (const _ of reading(child)) {}
+    else if (fits && !field.message)
+      lines.push(...typedText(list, i, field).map((value) => `${name}: ${value}`));
+    else if (fits || opensUntyped(list, i, field, budget - list.depth[i])) {
+      const child = list.children.get(i) || readChild(list, i, 0);
       lines.push(`${name} {`, ...dumpText(child, budget - list.depth[i] - 1, inside(i) + '  '),
         `${inside(i)}}`);
-    }
+    } else
+      lines.push(`${name}: ${untypedText(list, i)}`);
   }
   return lines;
+}
+const opensUntyped = (list, i, field, depth) =>
+  !field && list.kind(i) === BYTES && isMessage(list, i, depth);
+// A record without a schema, as its wire type has it.
+function untypedText(list, i) {
+  const kind = list.kind(i), value = list.value[i];
+  if (kind === VARINT) return String(value);
+  if (kind === BYTES) return `"${escaped(list.payload(i), Number(value))}"`;
+  return `0x${value.toString(16).padStart(kind === FIXED64 ? 16 : 8, '0')}`;
 }
 const ESCAPES = {10: '\\n', 13: '\\r', 9: '\\t', 34: '\\"', 39: "\\'", 92: '\\\\'};
 function escaped(place, length) {
@@ -175,10 +180,18 @@ function escaped(place, length) {
   return text;
 }
 
+// A field by its number, and by its name where the schema has it.
+function calledAt(list, number) {
+  const start = list.starts.at(-1);
+  const type = start === undefined ? list.type : fieldOf(list, start)?.message;
+  const field = type?.fields.get(number);
+  return field ? `${number} (${field.name})` : String(number);
+}
 function sentenceOf(list) {
   const {status, detail, part, record, place, frame} = list.stop;
   const end = list.place + list.length, left = end - place;
-  const tag = module.prefix(record, end), field = tag.taken ? Number(tag.number >> 3n) : 0;
+  const tag = module.prefix(record, end);
+  const field = tag.taken ? calledAt(list, Number(tag.number >> 3n)) : '0';
   const groups = list.open;
   if (frame && part === 2) return `What stands before message ${frame} of the log is no length.`;
   if (frame)

@@ -115,12 +115,18 @@ function drawEvent(node, list, i) {
   turn.setAttribute('aria-hidden', 'true');
   node.append(turn);
   if (openable) node.setAttribute('aria-expanded', isShown);
-  node.append(
-    make('b', '', kind === FRAME ? `message ${list.number(i)}` : String(list.number(i))));
-  if (kind !== FRAME) node.append(make('span', 'kind', KINDS[kind]));
+  const field = fieldOf(list, i), why = field ? misfitOf(list, i, field) : '';
+  const name = kind === FRAME ? `message ${list.number(i)}` : field?.name ?? String(list.number(i));
+  node.append(make('b', '', name));
+  if (kind !== FRAME) node.append(make('span', 'kind', field ? typeName(field) : KINDS[kind]));
+  if (field && !(why && kind !== BYTES)) {
+    drawTyped(node, list, i, field, why);
+    return;
+  }
   const found = readingsOf(list, i, 96);
   const said = sayEvent(list, i, kind, openable, found);
   if (said) node.append(said);
+  if (why) node.append(make('span', 'also bad', why));
   const alike = found.length > 1 && !(kind === BYTES && openable) ? found.slice(1) : [];
   if (alike.length && kind !== BYTES) {
     const also = alike.map(([name, text]) => `${name} ${text}`);
@@ -130,6 +136,20 @@ function drawEvent(node, list, i) {
   node.setAttribute('aria-label',
     `${kind === FRAME ? 'Message' : 'Field'} ${list.number(i)}, ${KINDS[kind]}, ` +
       `${said ? said.textContent : ''}, bytes ${from} to ${to - 1}`);
+}
+// A record of a field that the schema has, and why it does not fit, where it does not.
+function drawTyped(node, list, i, field, why) {
+  const kind = list.kind(i), isGroup = kind === START || kind === END;
+  let said = isGroup ? '' : many(Number(list.value[i]), 'byte');
+  if (!isGroup && !(field.type === 'message' && field.message))
+    said = why ? `"${escaped(list.payload(i), Math.min(Number(list.value[i]), 96))}"`
+               : sayTyped(list, i, field, 24);
+  if (said) node.append(make('span', 'value', said));
+  if (why) node.append(make('span', 'also bad', why));
+  const [from, to] = [list.start[i], list.endOf(i)];
+  node.setAttribute('aria-label',
+    `Field ${list.number(i)}, ${field.name}, ${typeName(field)}, ${said}, ` +
+      `${why ? `${why}, ` : ''}bytes ${from} to ${to - 1}`);
 }
 function sayEvent(list, i, kind, openable, found) {
   const length = Number(list.value[i]);
@@ -221,7 +241,7 @@ function showReadings() {
   const kind = list.kind(i), [from, to] = [list.start[i], list.endOf(i)];
   node.append(
     make('h3', '', `${kind === FRAME ? 'Message' : 'Field'} ${list.number(i)}, ${KINDS[kind]}`));
-  const table = make('dl');
+  const table = make('dl'), field = fieldOf(list, i);
   const add = (name, text) => table.append(make('dt', '', name), make('dd', '', text));
   const part = (name, a, b) => {
     if (b > a)
@@ -229,6 +249,12 @@ function showReadings() {
         `${count(a)}..${count(b)}   ${hex(bytes.subarray(a, Math.min(b, a + 12)))}${
           b - a > 12 ? ' …' : ''}`);
   };
+  if (field && kind !== END) {
+    add('field', `${pathOf(list, i)}, ${field.isRepeated ? 'repeated ' : ''}${typeName(field)}`);
+    const why = misfitOf(list, i, field);
+    if (why) add('does not fit', why);
+    else if (kind !== START && !field.message) add('value', sayTyped(list, i, field, 200));
+  }
   for (const [name, text] of readingsOf(list, i, 600)) add(name, text);
   const held = list.holds(i) ? list.payload(i) : list.behind[i];
   if (kind !== FRAME) part('tag at', from, list.behind[i]);
