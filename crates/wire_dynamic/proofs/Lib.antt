@@ -2,3 +2,4 @@
 pub mod Tables
 pub mod Found
 pub mod Open
+pub mod Declaring

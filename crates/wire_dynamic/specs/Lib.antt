@@ -1,6 +1,10 @@
 -- Descriptor sets as data.
 pub mod Table
+pub mod Errors
 pub mod Features
+pub mod Declares
+pub mod Gained
+pub mod DeclaresFault
 pub mod Fields
 pub mod Messages
 pub mod Enums

@@ -4,11 +4,15 @@ use Rattle.std.specs.Option.{option_or}
 use Rattle.std.specs.Ordering.{nat_cmp}
 use Rattle.std.specs.BTreeMap.{get, get_by_text}
 use Rattle.std.specs.List.{AllZip}
+use Rattle.wire_fields.specs.Shape.{DecodesAs}
+use Rattle.wire_descriptor.specs.declared.file_descriptor_set.FileDescriptorSet.{FileDescriptorSet}
+use Rattle.wire_descriptor.specs.FileDescriptorSet.{file_descriptor_set-shape, file_descriptor_set-value}
 use Rattle.wire_dynamic.specs.declared.declared.Declared.{Declared}
 use Rattle.wire_dynamic.specs.declared.enum_type.EnumType.{EnumType}
 use Rattle.wire_dynamic.specs.declared.field.Field.{Field}
 use Rattle.wire_dynamic.specs.declared.message_type.MessageType.{MessageType}
 use Rattle.wire_dynamic.specs.declared.schema.Schema.{Schema}
+use Rattle.wire_dynamic.specs.Declares.{IsDeclaredBy}
 use Rattle.wire_dynamic.specs.Enums.{IsEnum}
 use Rattle.wire_dynamic.specs.Extensions.{extends, place_cmp, IsExtension}
 use Rattle.wire_dynamic.specs.Messages.{IsMessage}
@@ -39,3 +43,15 @@ pub record IsSchema (declared : Declared) (s : Schema) : Type 0 where
   pub enums : AllZip IsEnum declared.enums.items s.enums.items
   pub extensions : IsTableOf (extends s.places) (IsExtension declared s.places)
       declared.extensions.items (get place_cmp s.extensions)
+
+-- the schema of what a set declares
+pub record IsSchemaOf (set : FileDescriptorSet) (s : Schema) : Type 0 where
+  pub declared : Declared
+  pub from_set : IsDeclaredBy set declared
+  pub schema : IsSchema declared s
+
+-- the schema of the set that bytes are
+pub record IsDecodedSchema (bytes : List ℕ) (s : Schema) : Type 0 where
+  pub set : FileDescriptorSet
+  pub decoded : DecodesAs file_descriptor_set-shape bytes (file_descriptor_set-value set)
+  pub schema : IsSchemaOf set s

@@ -36,8 +36,8 @@ pub enum SchemaError {
     #[error("{0}: no such type is in the descriptor set")]
     NoType(String),
 
-    /// More than 100,000 message types of one file, or more than 100 within one another.
-    #[error("{0}: too many message types")]
+    /// A message type of this name stands in 100 others, and has one nested in it.
+    #[error("{0}: too many message types within one another")]
     TooMany(String),
 
     /// Memory ran out.
@@ -62,5 +62,18 @@ impl<T: Drop> From<AllocFailed<T>> for SchemaError {
 
     fn from(_error: AllocFailed<T>) -> SchemaError {
         SchemaError::OutOfMemory
+    }
+}
+
+impl From<DecodeError> for SchemaError {
+    ghost use Rattle.wire_dynamic.specs.Errors.{decode_failed};
+
+    ghost from_gives = { λ error e. e ≡ decode_failed error };
+
+    fn from(error: DecodeError) -> SchemaError {
+        match error {
+            DecodeError::OutOfMemory => SchemaError::OutOfMemory,
+            _ => SchemaError::NotDecoded(error),
+        }
     }
 }

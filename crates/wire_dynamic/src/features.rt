@@ -1,9 +1,7 @@
 //! What the syntax or the edition of a file leaves to its parts, as fields of a `FeatureSet`.
 ghost use Rattle.std.specs.Prelude.{◌≡◌};
-ghost use Rattle.wire_dynamic.specs.Features.{features_but_for, features_with, is_checked, is_closed, is_delimited, is_legacy_required, or_else};
+ghost use Rattle.wire_dynamic.specs.Features.{features_but_for, features_with, file_features, is_checked, is_closed, is_delimited, is_legacy_required, length_prefixed, or_else, syntax_features};
 
-use crate::error::SchemaError;
-use std::alloc::Global;
 use wire_descriptor::{FeatureSet, FileDescriptorProto};
 
 const EDITION_2023: i32 = 1000;
@@ -37,24 +35,36 @@ const LENGTH_PREFIXED: i32 = 1;
 const DELIMITED: i32 = 2;
 
 impl Features {
-    /// Those of a file.
-    pub(crate) fn of_file(
-        alloc: Global,
-        file: &FileDescriptorProto,
-    ) -> Result<Features, SchemaError> {
-        let of_syntax = match file.syntax_.as_str() {
-            "" | "proto2" => Features::new(EXPLICIT, CLOSED, NONE),
-            "proto3" => Features::new(IMPLICIT, OPEN, VERIFY),
-            "editions" if file.edition == EDITION_2023 => Features::new(EXPLICIT, OPEN, VERIFY),
-            _ => return Err(SchemaError::UnknownEdition(file.name.clone()?)),
-        };
-        Ok(match &file.options {
+    /// Those of a file, if its syntax or its edition is known.
+    pub(crate) fn of_file(file: &FileDescriptorProto) -> Option<Features>
+        ensures { result ≡ file_features file.now }
+    {
+        let of_syntax = Features::of_syntax(&file.syntax_, file.edition)?;
+        Some(match &file.options {
             Some(options) => of_syntax.with(&options.features),
             None => of_syntax,
         })
     }
 
-    fn new(presence: i32, enum_type: i32, strings: i32) -> Features {
+    // Those of a syntax, or of an edition.
+    fn of_syntax(syntax: &str, edition: i32) -> Option<Features>
+        ensures { result ≡ syntax_features syntax.now edition }
+    {
+        if syntax.is_empty() || syntax == "proto2" {
+            return Some(Features::new(EXPLICIT, CLOSED, NONE));
+        }
+        if syntax == "proto3" {
+            return Some(Features::new(IMPLICIT, OPEN, VERIFY));
+        }
+        if syntax == "editions" && edition == EDITION_2023 {
+            return Some(Features::new(EXPLICIT, OPEN, VERIFY));
+        }
+        None
+    }
+
+    fn new(presence: i32, enum_type: i32, strings: i32) -> Features
+        ensures { result ≡ length_prefixed presence enum_type strings }
+    {
         Features {
             presence,
             enum_type,

@@ -2,10 +2,9 @@
 ghost use Rattle.std.specs.Prelude.{◌≡◌, IfOk};
 ghost use Rattle.std.specs.List.{AllZip};
 ghost use Rattle.std.specs.Option.{option_copied};
-ghost use Rattle.wire_dynamic.specs.declared.declared.Declared.{Declared};
 ghost use Rattle.wire_dynamic.specs.Enums.{IsEnum};
 ghost use Rattle.wire_dynamic.specs.Messages.{IsMessage};
-ghost use Rattle.wire_dynamic.specs.Schemas.{enum_at, field_of, message_at, place_of, IsSchema};
+ghost use Rattle.wire_dynamic.specs.Schemas.{enum_at, field_of, message_at, place_of, IsDecodedSchema, IsSchema, IsSchemaOf};
 
 use crate::declared::Declared;
 use crate::enum_type::EnumType;
@@ -16,7 +15,7 @@ use crate::message_type::MessageType;
 use crate::places::Places;
 use std::alloc::Global;
 use std::collections::BTreeMap;
-use wire_codec::{DecodeError, Message};
+use wire_codec::Message;
 use wire_descriptor::FileDescriptorSet;
 
 /// The message types and the enums of a descriptor set, with its extensions.
@@ -30,17 +29,17 @@ pub struct Schema {
 
 impl Schema {
     /// The schema of the bytes of a descriptor set, as `protoc --descriptor_set_out` writes them.
-    pub fn decode(alloc: Global, bytes: &[u8]) -> Result<Schema, SchemaError> {
-        match FileDescriptorSet::decode_from_slice(alloc, bytes) {
-            Ok(set) => Schema::of(alloc, &set),
-            Err(DecodeError::OutOfMemory) => Err(SchemaError::OutOfMemory),
-            Err(error) => Err(SchemaError::NotDecoded(error)),
-        }
+    /// Refused as `of`, and where the bytes are no set.
+    pub fn decode(alloc: Global, bytes: &[u8]) -> Result<Schema, SchemaError>
+        ensures { IfOk result (IsDecodedSchema bytes.now) }
+    {
+        let set = FileDescriptorSet::decode_from_slice(alloc, bytes)?;
+        Schema::of(alloc, &set)
     }
 
-    /// The schema of a descriptor set.
+    /// The schema of a descriptor set. Refused as `Declared::of` and `of_declared`.
     pub fn of(alloc: Global, set: &FileDescriptorSet) -> Result<Schema, SchemaError>
-        ensures { IfOk result (λ s. (declared : Declared) × IsSchema declared s) }
+        ensures { IfOk result (IsSchemaOf set.now) }
     {
         let declared = Declared::of(alloc, set)?;
         Schema::of_declared(alloc, &declared)

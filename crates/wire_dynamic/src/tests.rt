@@ -1,6 +1,7 @@
-//! A descriptor set of protoc, and what is found in it.
-use crate::{Kind, Schema, Walk};
+//! A descriptor set of protoc, and what is found in it; and sets that are refused.
+use crate::{Kind, Schema, SchemaError, Walk};
 use std::test::Fail;
+use wire_base::encode_varint;
 
 // That of `syntax = "proto2"; package a; message M { optional group G = 2 { optional int32 x = 3; }
 // optional E e = 4; map<int32, M> of = 5; extensions 100 to 200; enum E { ZERO = 0; ONE = 1; } }
@@ -71,5 +72,119 @@ fn records_in_a_group_are_told(rt: HostRuntime) -> Result<(), Fail> {
         };
         assert_eq!(rt; found, name);
     }
+    Ok(())
+}
+
+// That of `edition = "2023"; message M { option features.message_encoding = DELIMITED;
+// message N { optional N x = 1; } }`.
+const DELIMITED: &[u8] =
+    b"\n1\n\x01fp\xe8\x07\"\x1f\n\x01M\x1a\x14\n\x01N\x12\x0f\n\x01x\x18\x01 \x01(\x0b2\x04.M.N:\
+    \x04b\x02(\x02b\x08editions";
+
+#[test]
+fn features_reach_nested_types(rt: HostRuntime) -> Result<(), Fail> {
+    let schema = Schema::decode(rt.alloc(), DELIMITED)?;
+    let place = schema.message_place(".M.N").ok_or("no type")?;
+    let field = schema.field(place, 1).ok_or("no field")?;
+    assert_eq!(rt; field.kind, Kind::Group(place));
+    Ok(())
+}
+
+// Sets of one file or two, and why they are refused.
+const REFUSED: [(&[u8], &str); 14] = [
+    (b"\n\x05", "no descriptor set: unexpected end of buffer"),
+    (
+        b"\n\x0b\n\x01fb\x06proto4",
+        "f: no syntax or edition that is known",
+    ),
+    (
+        b"\n\x10\n\x01fp\xe9\x07b\x08editions",
+        "f: no syntax or edition that is known",
+    ),
+    (
+        b"\n\x0d\n\x01f\"\x03\n\x01M\"\x03\n\x01M",
+        ".M: more than one type has this name",
+    ),
+    (
+        b"\n\x08\n\x01f*\x03\n\x01E\n\x08\n\x01f*\x03\n\x01E",
+        ".E: more than one type has this name",
+    ),
+    (
+        b"\n\x13\n\x01f\"\x0e\n\x01M\x12\x09\n\x01x\x18\x00 \x01(\x05",
+        "field x: its number is none",
+    ),
+    (
+        b"\n\x17\n\x01f\"\x12\n\x01M\x12\x0d\n\x01x\x18\x80\x80\x80\x80\x02 \x01(\x05",
+        "field x: its number is none",
+    ),
+    (
+        b"\n\x1e\n\x01f\"\x19\n\x01M\x12\x09\n\x01x\x18\x01 \x01(\x05\x12\x09\n\x01y\x18\x01 \
+        \x01(\x05",
+        "field y: another field has its number",
+    ),
+    (
+        b"\n\x13\n\x01f\"\x0e\n\x01M\x12\x09\n\x01x\x18\x01 \x01(\x00",
+        "field x: its type is none",
+    ),
+    (
+        b"\n\x17\n\x01f\"\x12\n\x01M\x12\x0d\n\x01x\x18\x01 \x01(\x0b2\x02.N",
+        ".N: no such type is in the descriptor set",
+    ),
+    (
+        b"\n\x17\n\x01f\"\x12\n\x01M\x12\x0d\n\x01x\x18\x01 \x01(\x0e2\x02.M",
+        ".M: no such type is in the descriptor set",
+    ),
+    (
+        b"\n\x12\n\x01f:\x0d\n\x01x\x12\x02.N\x18\x01 \x01(\x05",
+        ".N: no such type is in the descriptor set",
+    ),
+    (
+        b"\n&\n\x01f\"\x03\n\x01M:\x0d\n\x01x\x12\x02.M\x18\x01 \x01(\x05:\x0d\n\x01y\x12\x02.M\
+        \x18\x01 \x01(\x05",
+        "field .y: another field has its number",
+    ),
+    (
+        b"\n\x0b\n\x01f\"\x06\n\x01M\x1a\x01\n",
+        "no descriptor set: unexpected end of buffer",
+    ),
+];
+
+#[test]
+fn sets_are_refused(rt: HostRuntime) -> Result<(), Fail> {
+    for (bytes, why) in REFUSED {
+        let Err(error) = Schema::decode(rt.alloc(), bytes) else {
+            return Err(why)?;
+        };
+        assert_eq!(rt; format!(in rt.alloc(); "{error}")?.as_str(), why);
+    }
+    Ok(())
+}
+
+// A set of one file, with so many message types within another, each of the name `M`.
+fn nested(rt: &HostRuntime, count: u32) -> Result<Vec<u8>, Fail> {
+    let mut bytes = Vec::from_slice(rt.alloc(), b"\n\x01M")?;
+    for _ in 0..count {
+        bytes = wrapped(rt, 0x1a, bytes)?;
+    }
+    wrapped(rt, b'\n', wrapped(rt, b'"', bytes)?)
+}
+
+// A record of a field of this tag, behind the name `M`, or alone in a file.
+fn wrapped(rt: &HostRuntime, tag: u8, payload: Vec<u8>) -> Result<Vec<u8>, Fail> {
+    let mut bytes = Vec::from_slice(rt.alloc(), if tag == 0x1a { b"\n\x01M" } else { b"" })?;
+    bytes.push(tag)?;
+    encode_varint(payload.len() as u64, &mut bytes)?;
+    bytes.extend_from_slice(&payload)?;
+    Ok(bytes)
+}
+
+#[test]
+fn message_types_nest_100_deep(rt: HostRuntime) -> Result<(), Fail> {
+    let deep = nested(&rt, 100)?;
+    let schema = Schema::decode(rt.alloc(), &deep)?;
+    assert_eq!(rt; schema.message_places().len(), 101);
+    let deeper = nested(&rt, 101)?;
+    let refused = Schema::decode(rt.alloc(), &deeper);
+    assert!(rt; matches!(refused, Err(SchemaError::TooMany(_))));
     Ok(())
 }

@@ -1,0 +1,8 @@
+use Rattle.std.proofs.Common.{take}
+use Rattle.wire_dynamic.specs.Declares.{IsExtensionOf}
+use Rattle.wire_dynamic.specs.Gained.{GainsAll}
+use Rattle.wire_dynamic.proofs.declared.add_extensions.Given as goal
+
+abbrev pub invariant-loop-descriptor : goal.invariant-loop-descriptor
+invariant-loop-descriptor l = GainsAll IsExtensionOf l.fn.scope l.fn.outer
+    (take l.descriptor-index l.fn.descriptors) l.fn.extensions.items l.extensions.items
