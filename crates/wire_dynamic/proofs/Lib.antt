@@ -3,3 +3,5 @@ pub mod Tables
 pub mod Found
 pub mod Open
 pub mod Declaring
+pub mod Counts
+pub mod Refused

@@ -10,6 +10,7 @@ pub mod Messages
 pub mod Enums
 pub mod Extensions
 pub mod Places
+pub mod Refusals
 pub mod Schemas
 pub mod Walks
 pub mod Told

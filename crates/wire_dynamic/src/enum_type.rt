@@ -6,7 +6,6 @@ ghost use Rattle.wire_dynamic.specs.Enums.{value_has_name, value_has_number, IsE
 ghost use Rattle.wire_dynamic.specs.Table.{IsTableOf};
 
 use crate::declared::DeclaredEnum;
-use crate::error::SchemaError;
 use std::alloc::{AllocError, Global};
 use std::collections::BTreeMap;
 use wire_descriptor::EnumValueDescriptorProto;
@@ -23,7 +22,7 @@ pub struct EnumType {
 impl EnumType {
     /// The one that is declared. Of several names of one number, and of several numbers of one
     /// name, the first counts.
-    pub(crate) fn of(alloc: Global, of_enum: &DeclaredEnum) -> Result<EnumType, SchemaError>
+    pub(crate) fn of(alloc: Global, of_enum: &DeclaredEnum) -> Result<EnumType, AllocError>
         ensures { IfOk result (IsEnum of_enum.now) }
     {
         let name = of_enum.name.clone()?;

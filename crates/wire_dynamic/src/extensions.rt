@@ -1,7 +1,9 @@
 //! Extensions, by the message type that they extend and by their numbers.
-ghost use Rattle.std.specs.Prelude.{IfOk};
+ghost use Rattle.std.specs.Prelude.{◌≢◌, IfErr, IfOk};
 ghost use Rattle.std.specs.BTreeMap.{get};
+ghost use Rattle.wire_dynamic.specs.declared.error.SchemaError.TheVariants.{OutOfMemory};
 ghost use Rattle.wire_dynamic.specs.Extensions.{extends, place_cmp, IsExtension};
+ghost use Rattle.wire_dynamic.specs.Refusals.{ExtensionFault};
 ghost use Rattle.wire_dynamic.specs.Table.{IsTableOf};
 
 use crate::declared::Declared;
@@ -20,9 +22,11 @@ pub(crate) fn extensions_of(
     declared: &Declared,
     places: &Places,
 ) -> Result<Extensions, SchemaError>
-    ensures { IfOk result (λ extensions. IsTableOf (extends places.now)
+    ensures ok { IfOk result (λ extensions. IsTableOf (extends places.now)
         (IsExtension declared.now places.now) declared.now.extensions.items
         (get place_cmp extensions)) }
+    ensures err { IfErr result (λ e. e ≢ OutOfMemory
+        → ExtensionFault declared.now places.now e) }
 {
     let mut extensions = BTreeMap::new(alloc);
     for extension in &declared.extensions {

@@ -1,13 +1,15 @@
 //! A field of a message type, as its descriptor tells it.
-ghost use Rattle.std.specs.Prelude.{◌≡◌, ◌<◌, ◌≤◌, pos, Some, false, string_bytes, slice_get, IfOk, IfSome};
-ghost use Rattle.std.specs.BTreeMap.{get_by_text};
+ghost use Rattle.std.specs.Prelude.{◌≡◌, ◌≢◌, ◌<◌, ◌≤◌, pos, false, string_bytes, slice_get, IfErr, IfNone, IfOk, IfSome};
 ghost use Rattle.std.specs.Option.{option_map_or};
+ghost use Rattle.wire_dynamic.specs.declared.error.SchemaError.TheVariants.{OutOfMemory};
 ghost use Rattle.wire_dynamic.specs.Fields.{field_features, is_entry, kind_of, message_kind, scalar_of, IsField};
+ghost use Rattle.wire_dynamic.specs.Refusals.{FieldFault, IsNoNumber, IsWantOfKind};
 
 use crate::declared::Declared;
 use crate::error::SchemaError;
 use crate::features::Features;
 use crate::places::Places;
+use std::alloc::AllocError;
 use wire_descriptor::FieldDescriptorProto;
 
 /// What a field holds. A message type or an enum is given by its place among those of the schema;
@@ -64,6 +66,7 @@ const MOST_NUMBER: u32 = 536_870_911;
 pub(crate) fn number_of(descriptor: &FieldDescriptorProto) -> Option<u32>
     ensures is { IfSome result (λ number. descriptor.now.number ≡ pos number) }
     ensures within { IfSome result (λ number. 0 < number × number ≤ 536870911) }
+    ensures none { IfNone result (IsNoNumber descriptor.now.number) }
 {
     match u32::try_from(descriptor.number) {
         Ok(number) if (1..=MOST_NUMBER).contains(&number) => Some(number),
@@ -81,16 +84,17 @@ impl Field {
         declared: &Declared,
         places: &Places,
     ) -> Result<Field, SchemaError>
-        ensures { IfOk result (IsField declared.now places.now outer (string_bytes name)
+        ensures ok { IfOk result (IsField declared.now places.now outer (string_bytes name)
             descriptor.now) }
+        ensures err { IfErr result (λ e. e ≢ OutOfMemory → FieldFault declared.now places.now
+            outer (string_bytes name) descriptor.now e) }
     {
         let Some(number) = number_of(descriptor) else {
             return Err(SchemaError::NoNumber(name));
         };
         let features = features_of(descriptor, outer);
-        let kind = match kind_of(descriptor, features, declared, places)? {
-            Some(kind) => kind,
-            None => return Err(SchemaError::NoKind(name)),
+        let Some(kind) = kind_of(descriptor, features, declared, places) else {
+            return Err(no_kind(name, descriptor)?);
         };
         Ok(Field {
             name,
@@ -114,28 +118,37 @@ fn features_of(descriptor: &FieldDescriptorProto, outer: Features) -> Features
     }
 }
 
-// What a field holds, if its type is one that a field can have.
+// Why a field of this name has no kind.
+fn no_kind(name: String, descriptor: &FieldDescriptorProto) -> Result<SchemaError, AllocError>
+    ensures { IfOk result (IsWantOfKind (string_bytes name) descriptor.now) }
+{
+    Ok(match descriptor.type_ {
+        TYPE_GROUP | TYPE_MESSAGE | TYPE_ENUM => SchemaError::NoType(descriptor.type_name.clone()?),
+        _ => SchemaError::NoKind(name),
+    })
+}
+
+// What a field holds, if its type is one that a field can have, and is declared.
 fn kind_of(
     descriptor: &FieldDescriptorProto,
     features: Features,
     declared: &Declared,
     places: &Places,
-) -> Result<Option<Kind>, SchemaError>
-    ensures { IfOk result (λ kind. kind
-        ≡ kind_of declared.now places.now features descriptor.now) }
+) -> Option<Kind>
+    ensures { result ≡ kind_of declared.now places.now features descriptor.now }
 {
     let number = descriptor.type_;
     if number == TYPE_GROUP {
-        return Ok(Some(Kind::Group(message_place(descriptor, places)?)));
+        return Some(Kind::Group(places.message(&descriptor.type_name)?));
     }
     if number == TYPE_MESSAGE {
-        let place = message_place(descriptor, places)?;
-        return Ok(Some(message_kind(place, features, declared)));
+        let place = places.message(&descriptor.type_name)?;
+        return Some(message_kind(place, features, declared));
     }
     if number == TYPE_ENUM {
-        return Ok(Some(Kind::Enum(enum_place(descriptor, places)?)));
+        return Some(Kind::Enum(places.enum_of(&descriptor.type_name)?));
     }
-    Ok(scalar_of(number))
+    scalar_of(number)
 }
 
 // The kind of a field of the message type at this place.
@@ -179,25 +192,5 @@ fn is_entry(place: usize, declared: &Declared) -> bool
     match declared.messages.get(place) {
         Some(message) => message.is_entry(),
         None => false,
-    }
-}
-
-fn message_place(descriptor: &FieldDescriptorProto, places: &Places) -> Result<usize, SchemaError>
-    ensures { IfOk result (λ place. get_by_text places.now.messages
-        (string_bytes descriptor.now.type_name) ≡ Some place) }
-{
-    match places.message(&descriptor.type_name) {
-        Some(place) => Ok(place),
-        None => Err(SchemaError::NoType(descriptor.type_name.clone()?)),
-    }
-}
-
-fn enum_place(descriptor: &FieldDescriptorProto, places: &Places) -> Result<usize, SchemaError>
-    ensures { IfOk result (λ place. get_by_text places.now.enums
-        (string_bytes descriptor.now.type_name) ≡ Some place) }
-{
-    match places.enum_of(&descriptor.type_name) {
-        Some(place) => Ok(place),
-        None => Err(SchemaError::NoType(descriptor.type_name.clone()?)),
     }
 }

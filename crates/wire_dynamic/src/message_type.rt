@@ -1,9 +1,11 @@
 //! A message type, with its fields by their numbers.
-ghost use Rattle.std.specs.Prelude.{◌≡◌, string_bytes, IfOk};
+ghost use Rattle.std.specs.Prelude.{◌≡◌, ◌≢◌, string_bytes, IfErr, IfOk};
 ghost use Rattle.std.specs.BTreeMap.{get};
 ghost use Rattle.std.specs.Ordering.{nat_cmp};
+ghost use Rattle.wire_dynamic.specs.declared.error.SchemaError.TheVariants.{OutOfMemory};
 ghost use Rattle.wire_dynamic.specs.Fields.{has_number};
 ghost use Rattle.wire_dynamic.specs.Messages.{IsMessage, IsOwnField};
+ghost use Rattle.wire_dynamic.specs.Refusals.{OwnFault};
 ghost use Rattle.wire_dynamic.specs.Table.{IsTableOf};
 
 use crate::declared::{Declared, DeclaredMessage};
@@ -29,7 +31,9 @@ impl MessageType {
         declared: &Declared,
         places: &Places,
     ) -> Result<MessageType, SchemaError>
-        ensures { IfOk result (IsMessage declared.now places.now message.now) }
+        ensures ok { IfOk result (IsMessage declared.now places.now message.now) }
+        ensures err { IfErr result (λ e. e ≢ OutOfMemory → OwnFault declared.now places.now
+            message.now e) }
     {
         let name = message.name.clone()?;
         let is_entry = message.is_entry();
@@ -68,9 +72,11 @@ fn fields_of(
     declared: &Declared,
     places: &Places,
 ) -> Result<BTreeMap<u32, Field>, SchemaError>
-    ensures { IfOk result (λ fields. IsTableOf has_number
+    ensures ok { IfOk result (λ fields. IsTableOf has_number
         (IsOwnField declared.now places.now message.now.features)
         message.now.descriptor.field.items (get nat_cmp fields)) }
+    ensures err { IfErr result (λ e. e ≢ OutOfMemory → OwnFault declared.now places.now
+        message.now e) }
 {
     let mut fields = BTreeMap::new(alloc);
     for descriptor in &message.descriptor.field {

@@ -1,7 +1,9 @@
 //! Where the types of a schema stand, by their full names.
-ghost use Rattle.std.specs.Prelude.{◌≡◌, Some, IfOk, slice_get};
+ghost use Rattle.std.specs.Prelude.{◌≡◌, ◌≢◌, Some, IfErr, IfOk, slice_get};
 ghost use Rattle.std.specs.BTreeMap.{get_by_text};
+ghost use Rattle.wire_dynamic.specs.declared.error.SchemaError.TheVariants.{OutOfMemory};
 ghost use Rattle.wire_dynamic.specs.Places.{enum_has_name, message_has_name, ArePlaces};
+ghost use Rattle.wire_dynamic.specs.Refusals.{ArePlacesTwice, AreNamedTwice};
 ghost use Rattle.wire_dynamic.specs.Table.{IsTableOf};
 
 use crate::declared::{Declared, DeclaredEnum, DeclaredMessage};
@@ -19,7 +21,8 @@ pub(crate) struct Places {
 impl Places {
     /// Those of all that is declared. No two message types have one name, and no two enums.
     pub(crate) fn of(alloc: Global, declared: &Declared) -> Result<Places, SchemaError>
-        ensures { IfOk result (ArePlaces declared.now) }
+        ensures ok { IfOk result (ArePlaces declared.now) }
+        ensures err { IfErr result (λ e. e ≢ OutOfMemory → ArePlacesTwice declared.now e) }
     {
         Ok(Places {
             messages: message_places(alloc, &declared.messages)?,
@@ -46,8 +49,10 @@ fn message_places(
     alloc: Global,
     declared: &[DeclaredMessage],
 ) -> Result<BTreeMap<String, usize>, SchemaError>
-    ensures { IfOk result (λ places. IsTableOf message_has_name
+    ensures ok { IfOk result (λ places. IsTableOf message_has_name
         (λ m i. slice_get declared.now i ≡ Some m) declared.now (get_by_text places)) }
+    ensures err { IfErr result (λ e. e ≢ OutOfMemory
+        → AreNamedTwice message_has_name declared.now e) }
 {
     let mut places = BTreeMap::new(alloc);
     for (place, message) in declared.iter().enumerate() {
@@ -62,8 +67,10 @@ fn enum_places(
     alloc: Global,
     declared: &[DeclaredEnum],
 ) -> Result<BTreeMap<String, usize>, SchemaError>
-    ensures { IfOk result (λ places. IsTableOf enum_has_name
+    ensures ok { IfOk result (λ places. IsTableOf enum_has_name
         (λ e i. slice_get declared.now i ≡ Some e) declared.now (get_by_text places)) }
+    ensures err { IfErr result (λ e. e ≢ OutOfMemory
+        → AreNamedTwice enum_has_name declared.now e) }
 {
     let mut places = BTreeMap::new(alloc);
     for (place, of_enum) in declared.iter().enumerate() {

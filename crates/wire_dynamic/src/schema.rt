@@ -1,9 +1,11 @@
 //! The types of a descriptor set.
-ghost use Rattle.std.specs.Prelude.{◌≡◌, IfOk};
+ghost use Rattle.std.specs.Prelude.{◌≡◌, ◌≢◌, IfErr, IfOk};
 ghost use Rattle.std.specs.List.{AllZip};
 ghost use Rattle.std.specs.Option.{option_copied};
+ghost use Rattle.wire_dynamic.specs.declared.error.SchemaError.TheVariants.{OutOfMemory};
 ghost use Rattle.wire_dynamic.specs.Enums.{IsEnum};
 ghost use Rattle.wire_dynamic.specs.Messages.{IsMessage};
+ghost use Rattle.wire_dynamic.specs.Refusals.{MessagesFault, SchemaFault};
 ghost use Rattle.wire_dynamic.specs.Schemas.{enum_at, field_of, message_at, place_of, IsDecodedSchema, IsSchema, IsSchemaOf};
 
 use crate::declared::Declared;
@@ -13,7 +15,7 @@ use crate::extensions::{Extensions, extensions_of};
 use crate::field::Field;
 use crate::message_type::MessageType;
 use crate::places::Places;
-use std::alloc::Global;
+use std::alloc::{AllocError, Global};
 use std::collections::BTreeMap;
 use wire_codec::Message;
 use wire_descriptor::FileDescriptorSet;
@@ -50,7 +52,8 @@ impl Schema {
     /// is not of 1 to 536,870,911, where a type is none that a field can have, or is not declared,
     /// and where memory runs out.
     pub fn of_declared(alloc: Global, declared: &Declared) -> Result<Schema, SchemaError>
-        ensures { IfOk result (IsSchema declared.now) }
+        ensures ok { IfOk result (IsSchema declared.now) }
+        ensures err { IfErr result (λ e. e ≢ OutOfMemory → SchemaFault declared.now e) }
     {
         let places = Places::of(alloc, declared)?;
         let messages = messages_of(alloc, declared, &places)?;
@@ -106,8 +109,10 @@ fn messages_of(
     declared: &Declared,
     places: &Places,
 ) -> Result<Vec<MessageType>, SchemaError>
-    ensures { IfOk result (λ messages. AllZip (IsMessage declared.now places.now)
+    ensures ok { IfOk result (λ messages. AllZip (IsMessage declared.now places.now)
         declared.now.messages.items messages.items) }
+    ensures err { IfErr result (λ e. e ≢ OutOfMemory
+        → MessagesFault declared.now places.now e) }
 {
     let mut messages = Vec::new(alloc);
     for message in &declared.messages {
@@ -116,7 +121,7 @@ fn messages_of(
     Ok(messages)
 }
 
-fn enums_of(alloc: Global, declared: &Declared) -> Result<Vec<EnumType>, SchemaError>
+fn enums_of(alloc: Global, declared: &Declared) -> Result<Vec<EnumType>, AllocError>
     ensures { IfOk result (λ enums. AllZip IsEnum declared.now.enums.items enums.items) }
 {
     let mut enums = Vec::new(alloc);

@@ -1,11 +1,10 @@
 use Rattle.std.proofs.Common.{rules, ◌≡◌, ◌+◌, [], ◌∷◌, ◌++◌, take, arith, string_bytes, refl, ap, sym, subst, ◌∙◌}
-use Rattle.std.specs.Prelude.{length, Contains}
+use Rattle.std.specs.Prelude.{Contains}
 use Rattle.std.proofs.lemmas.Grind.{common_steps}
 use Rattle.std.proofs.lemmas.Result.{err_from_is_err_and}
 use Rattle.wire_descriptor.specs.DescriptorProto.{descriptor_proto-value}
 use Rattle.wire_dynamic.specs.declared.declared.Declared.{Declared}
 use Rattle.wire_dynamic.specs.Declares.{scope_of, IsEnumOf, IsExtensionOf, IsMessageIn, IsOutermost}
-use Rattle.wire_dynamic.specs.DeclaresFault.{MessageFault}
 use Rattle.wire_dynamic.proofs.Declaring.{fault_in_file, file_gained, gains_at, outermost_begun, outermost_more, OutermostTaken}
 use Rattle.wire_dynamic.proofs.declared.Declared.add_file.Goals as goal
 

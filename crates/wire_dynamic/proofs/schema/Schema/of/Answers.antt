@@ -7,4 +7,4 @@ returns c =
     IfOk-weaker c.of_declared.result (IsSchema c.in_ok-declared.declared)
     (IsSchemaOf c.args.set.now)
     (λ s is. record { declared = c.in_ok-declared.declared; from_set = c.in_ok-declared.ensures.ok; schema = is })
-    c.of_declared.ensures
+    c.of_declared.ensures.ok

@@ -1,0 +1,40 @@
+-- Refusals of a whole, by those of its parts.
+use Rattle.std.specs.Prelude.{◌≡◌, ℕ, List, Contains, string_bytes}
+use Rattle.std.proofs.Common.{inr, subst}
+use Rattle.wire_descriptor.specs.declared.field_descriptor_proto.FieldDescriptorProto.{FieldDescriptorProto}
+use Rattle.wire_dynamic.specs.declared.declared.Declared.{Declared}
+use Rattle.wire_dynamic.specs.declared.declared.DeclaredExtension.{DeclaredExtension}
+use Rattle.wire_dynamic.specs.declared.declared.DeclaredMessage.{DeclaredMessage}
+use Rattle.wire_dynamic.specs.declared.error.SchemaError.{SchemaError}
+use Rattle.wire_dynamic.specs.declared.error.SchemaError.TheVariants as errors
+use Rattle.wire_dynamic.specs.declared.places.Places.{Places}
+use Rattle.wire_dynamic.specs.Refusals.{ExtensionFault, FieldFault, OwnFault}
+
+module _ (declared : Declared) (places : Places) where
+  own_cases : (m : DeclaredMessage) (d : FieldDescriptorProto) (e : SchemaError)
+      → Contains m.descriptor.field.items d
+      → FieldFault declared places m.features (string_bytes d.name) d e
+      → OwnFault declared places m e
+  own_cases m d (errors.NumberTwice field) own fault = absurd fault.0
+  own_cases m d e own fault = (d, own, fault)
+
+  pub own_fault : (m : DeclaredMessage) (d : FieldDescriptorProto) (name : List ℕ)
+      (e : SchemaError) → Contains m.descriptor.field.items d → name ≡ string_bytes d.name
+      → FieldFault declared places m.features name d e → OwnFault declared places m e
+  own_fault m d name e own same fault =
+      own_cases m d e own (subst (λ n. FieldFault declared places m.features n d e) same fault)
+
+  extension_cases : (x : DeclaredExtension) (e : SchemaError)
+      → Contains declared.extensions.items x
+      → FieldFault declared places x.features (string_bytes x.name) x.descriptor e
+      → ExtensionFault declared places e
+  extension_cases x (errors.NumberTwice field) own fault = absurd fault.0
+  extension_cases x e own fault = (x, own, inr fault)
+
+  pub extension_fault : (x : DeclaredExtension) (name : List ℕ) (e : SchemaError)
+      → Contains declared.extensions.items x → name ≡ string_bytes x.name
+      → FieldFault declared places x.features name x.descriptor e
+      → ExtensionFault declared places e
+  extension_fault x name e own same fault =
+      extension_cases x e own
+      (subst (λ n. FieldFault declared places x.features n x.descriptor e) same fault)
