@@ -2,6 +2,9 @@
 use Rattle.std.specs.Prelude.{◌≡◌, ◌⊎◌, ℕ, ℤ, pos, ◌<◌, ◌≤◌, Bool, true, false, ◌||◌, List, None, Contains, count_by, string_bytes}
 use Rattle.std.specs.BTreeMap.{get_by_text}
 use Rattle.std.specs.Ordering.{int_eq}
+use Rattle.wire_fields.specs.Shape.{DecodesAs, NotDecodedAs}
+use Rattle.wire_descriptor.specs.FileDescriptorSet.{file_descriptor_set-shape, file_descriptor_set-value}
+use Rattle.wire_descriptor.specs.declared.file_descriptor_set.FileDescriptorSet.{FileDescriptorSet}
 use Rattle.wire_descriptor.specs.declared.field_descriptor_proto.FieldDescriptorProto.{FieldDescriptorProto}
 use Rattle.wire_dynamic.specs.declared.declared.Declared.{Declared}
 use Rattle.wire_dynamic.specs.declared.declared.DeclaredExtension.{DeclaredExtension}
@@ -10,6 +13,8 @@ use Rattle.wire_dynamic.specs.declared.error.SchemaError.{SchemaError}
 use Rattle.wire_dynamic.specs.declared.error.SchemaError.TheVariants as errors
 use Rattle.wire_dynamic.specs.declared.features.Features.{Features}
 use Rattle.wire_dynamic.specs.declared.places.Places.{Places}
+use Rattle.wire_dynamic.specs.Declares.{IsDeclaredBy}
+use Rattle.wire_dynamic.specs.DeclaresFault.{SetFault}
 use Rattle.wire_dynamic.specs.Extensions.{extends}
 use Rattle.wire_dynamic.specs.Fields.{field_features, has_number, kind_of, number_of}
 use Rattle.wire_dynamic.specs.Places.{enum_has_name, message_has_name, ArePlaces}
@@ -89,3 +94,15 @@ pub data SchemaFault (declared : Declared) (e : SchemaError) : Type 0 where
       → SchemaFault declared e
   in_extension : (places : Places) → ArePlaces declared places
       → ExtensionFault declared places e → SchemaFault declared e
+
+-- what a set declares is not told, or has no schema
+abbrev pub HasNoSchema : FileDescriptorSet → SchemaError → Type 0
+HasNoSchema set e = SetFault set e
+    ⊎ ((declared : Declared) × IsDeclaredBy set declared × SchemaFault declared e)
+
+-- the same of the set that bytes are, where they are one
+abbrev pub BytesHaveNoSchema : List ℕ → SchemaError → Type 0
+BytesHaveNoSchema bytes e = NotDecodedAs file_descriptor_set-shape bytes
+    ⊎ ((set : FileDescriptorSet)
+    × DecodesAs file_descriptor_set-shape bytes (file_descriptor_set-value set)
+    × HasNoSchema set e)

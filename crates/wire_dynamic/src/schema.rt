@@ -5,7 +5,7 @@ ghost use Rattle.std.specs.Option.{option_copied};
 ghost use Rattle.wire_dynamic.specs.declared.error.SchemaError.TheVariants.{OutOfMemory};
 ghost use Rattle.wire_dynamic.specs.Enums.{IsEnum};
 ghost use Rattle.wire_dynamic.specs.Messages.{IsMessage};
-ghost use Rattle.wire_dynamic.specs.Refusals.{MessagesFault, SchemaFault};
+ghost use Rattle.wire_dynamic.specs.Refusals.{BytesHaveNoSchema, HasNoSchema, MessagesFault, SchemaFault};
 ghost use Rattle.wire_dynamic.specs.Schemas.{enum_at, field_of, message_at, place_of, IsDecodedSchema, IsSchema, IsSchemaOf};
 
 use crate::declared::Declared;
@@ -33,7 +33,8 @@ impl Schema {
     /// The schema of the bytes of a descriptor set, as `protoc --descriptor_set_out` writes them.
     /// Refused as `of`, and where the bytes are no set.
     pub fn decode(alloc: Global, bytes: &[u8]) -> Result<Schema, SchemaError>
-        ensures { IfOk result (IsDecodedSchema bytes.now) }
+        ensures ok { IfOk result (IsDecodedSchema bytes.now) }
+        ensures err { IfErr result (λ e. e ≢ OutOfMemory → BytesHaveNoSchema bytes.now e) }
     {
         let set = FileDescriptorSet::decode_from_slice(alloc, bytes)?;
         Schema::of(alloc, &set)
@@ -41,7 +42,8 @@ impl Schema {
 
     /// The schema of a descriptor set. Refused as `Declared::of` and `of_declared`.
     pub fn of(alloc: Global, set: &FileDescriptorSet) -> Result<Schema, SchemaError>
-        ensures { IfOk result (IsSchemaOf set.now) }
+        ensures ok { IfOk result (IsSchemaOf set.now) }
+        ensures err { IfErr result (λ e. e ≢ OutOfMemory → HasNoSchema set.now e) }
     {
         let declared = Declared::of(alloc, set)?;
         Schema::of_declared(alloc, &declared)
