@@ -1,4 +1,5 @@
 pub mod Missing
+pub mod Nested
 pub mod Parsing
 pub mod Path
 pub mod Seen

@@ -8,6 +8,7 @@
 
 mod error;
 mod key;
+mod nested;
 mod path;
 mod required;
 mod requirement;
@@ -18,6 +19,7 @@ mod tests;
 
 pub use error::ParseError;
 pub use key::PathKey;
+pub use nested::{RequiredAlone, RequiredMember, RequiredSlice, RowRequirement, slice_missing};
 pub use path::FieldPath;
 pub use required::{Parse, Required};
 pub use requirement::{Needed, NeededValue, Requirement, missing_in, or_missing};

@@ -223,8 +223,8 @@ pub fn missing_in<M: Required>(
     behind_field(message.missing(alloc)?, name)
 }
 
-// The path from the message that holds a field of this name.
-fn behind_field(
+/// The path from the message that holds a field of this name.
+pub(crate) fn behind_field(
     path: Option<FieldPath>,
     name: &'static str,
 ) -> Result<Option<FieldPath>, AllocError>
