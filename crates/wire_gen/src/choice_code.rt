@@ -3,6 +3,7 @@ use crate::choice_names::put_others;
 use crate::code::put_field_comment;
 use crate::comments::set_heading;
 use crate::imports::{code_imports, ghost_imports};
+use crate::required_oneof::put_choice_requirement;
 use wire_schema::{Field, GenerateError, Oneof, Schema, Template, Words};
 
 const DECLARED: [Template; 4] = [
@@ -88,7 +89,8 @@ const NO_ROW: Template = (
     "                    Some($choice$::$other$(_)) => $slice_open$&[]$moved_shut$,\n",
 );
 
-const NOT_PLAIN: [Template; 2] = [
+const NOT_PLAIN: [Template; 3] = [
+    ("own_rows", "$other$ "),
     (
         "plain_lens",
         "            Some($choice$::$other$(_)) => Ok(0),\n",
@@ -173,6 +175,7 @@ $plain_puts$            None => Ok(()),
 /// The variants that are of the leaf: their arms, and what stands for them in the run.
 pub(crate) fn put_plain(page: &mut Words, oneof: &Oneof) {
     page.fill_all(&[("plain_lens", ""), ("plain_puts", ""), ("of_low", "")]);
+    page.set("own_rows", "");
     for variant in &oneof.variants {
         page.copy(
             variant,
@@ -204,6 +207,7 @@ pub(crate) fn put_plain(page: &mut Words, oneof: &Oneof) {
     }
     page.set("choice_names", &names);
     page.append("parts", PLAIN);
+    put_choice_requirement(page, oneof);
 }
 
 // The function that takes the message of a variant out.

@@ -75,7 +75,7 @@ pub(crate) fn set_alone(page: &mut Words) {
 }
 
 // What it is in the sum of all: the words of its leaf by itself, from which the sum's are made.
-const OF_LEAF: [Template; 21] = [
+const OF_LEAF: [Template; 23] = [
     ("tree", "Family-Tree"),
     ("sum_choice", "$module$-choice"),
     ("sum_is_choice", "$module$-is_choice"),
@@ -100,10 +100,12 @@ const OF_LEAF: [Template; 21] = [
     ("untaken_uses", ""),
     ("err_open", ""),
     ("err_close", ""),
+    ("asked_open", ""),
+    ("asked_close", ""),
 ];
 
 // Of the word `side`, `first` or `second`, and `into`, `inl` or `inr`: one sum more around it.
-const IN_SUM: [Template; 22] = [
+const IN_SUM: [Template; 24] = [
     (
         "untaken_open",
         "$side$_untaken _ $sum_takes$ _ _ _ _ _\n    ($untaken_open$",
@@ -148,6 +150,8 @@ const IN_SUM: [Template; 22] = [
     ("part_close", "$part_close$)"),
     ("into_open", "$into$ $open$$into_open$"),
     ("into_close", "$into_close$$shut$"),
+    ("asked_open", "asked_$side$ ($asked_open$"),
+    ("asked_close", "$asked_close$)"),
 ];
 
 /// Tells a page of one of the types that hold one another, or of all of them, what they are called:

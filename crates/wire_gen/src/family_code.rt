@@ -211,6 +211,78 @@ const OF_MEMBER: [Template; 17] = [
     ("listed", "$and$`$name$`"),
 ];
 
+const ASKED: &str = "
+impl<'a> RequiredSlice for FamilySlice<'a> {
+    ghost use Rattle.$crate$.specs.$family_name$.{Family-Leaves};
+    ghost use Rattle.$crate$.specs.$family_name$.{Family-Sorts};
+    ghost use Rattle.$crate$.specs.$family_name$.{family-all};
+    ghost use Rattle.$crate$.specs.$family_name$.{family-asked};
+    ghost use Rattle.$crate$.specs.$family_name$.{family-slice-counted};
+    ghost use Rattle.$crate$.specs.$family_name$.{family-slice-sort};
+    ghost use Rattle.$crate$.specs.$family_name$.{family-slice-values};
+
+    ghost Sort = { Family-Sorts };
+
+    ghost Leaf = { Family-Leaves };
+
+    ghost sort = { family-slice-sort };
+
+    ghost views = { family-slice-values };
+
+    ghost family = { family-all };
+
+    ghost asked = { family-asked };
+
+    ghost counted = { family-slice-counted };
+
+    fn message_count(self) -> usize {
+        self.count()
+    }
+
+    fn row_count(self) -> usize {
+        self.rows()
+    }
+
+    fn row_messages(self, index: usize, row: usize) -> FamilySlice<'a> {
+        self.row(index, row)
+    }
+
+    fn row_requirement(self, row: usize) -> RowRequirement {
+        match self {
+$asked_rows$        }
+    }
+
+    fn run_missing(
+        self,
+        index: usize,
+        alloc: Global,
+        run: usize,
+    ) -> Result<Option<FieldPath>, AllocError> {
+        match self {
+$asked_runs$        }
+    }
+}
+";
+
+const ASKED_USES: &str = "\
+std::alloc AllocError
+wire_required FieldPath
+wire_required RequiredMember
+wire_required RequiredSlice
+wire_required RowRequirement
+";
+
+const ASKED_OF_MEMBER: [Template; 2] = [
+    (
+        "asked_rows",
+        "            FamilySlice::$name$(_) => $name$::row_requirement(row),\n",
+    ),
+    (
+        "asked_runs",
+        "            FamilySlice::$name$(own) => own[index].run_missing(alloc, run),\n",
+    ),
+];
+
 /// The module of the enums of these types, whose words the pages have.
 pub(crate) fn family_code(base: &Words, members: &[Words]) -> Result<String, GenerateError> {
     let mut page = Words::like(base);
@@ -220,9 +292,13 @@ pub(crate) fn family_code(base: &Words, members: &[Words]) -> Result<String, Gen
         let is_first = page.get("listed").is_empty();
         page.set("and", if is_first { "" } else { ", " });
         page.append_all(&OF_MEMBER);
+        page.append_all(&ASKED_OF_MEMBER);
     }
+    let is_requiring = !page.get("requiring").is_empty();
+    page.append("uses", if is_requiring { ASKED_USES } else { "" });
     code_imports(&mut page);
     set_heading(&mut page, "//!", WHAT);
     page.fill("text", FAMILY);
+    page.append("text", if is_requiring { ASKED } else { "" });
     page.finish("text")
 }

@@ -4,6 +4,7 @@ use crate::comments::set_heading;
 use crate::laws_pages::has_laws;
 use crate::mentioned::use_mentioned_of;
 use crate::recursive_definitions::ALIASES;
+use crate::required_tables::{ASKED, NESTED, OF_ASKED};
 use crate::returned::under_charges;
 use wire_schema::{GenerateError, Template, Words};
 
@@ -124,7 +125,7 @@ $slice_values$
 pub family-slice-counted : (ms : FamilySlice) (i : ℕ)
     → row_count (message_at (family-tables (family-slice-sort ms)) (family-slice-values ms) i)
     ≡ (family-tables (family-slice-sort ms)).rows
-$slice_counted$$stands_lines$$backs$";
+$slice_counted$$asked_of_all$$stands_lines$$backs$";
 
 const BACK: &str = "
 abbrev pub family-leaf-ranges : Family-Sorts → Range Family-Leaves
@@ -331,10 +332,13 @@ pub(crate) fn family_definitions(base: &Words, members: &[Words]) -> Result<Stri
     if is_read_back {
         put_back(&mut page);
     }
+    let is_requiring = !page.get("requiring").is_empty();
+    page.fill("asked_of_all", if is_requiring { ASKED } else { "" });
     page.fill("text", TEXT);
     use_mentioned_of(&mut page);
     page.fill("aliases", MORE_ALIASES);
     page.append("aliases", ALIASES);
+    page.append("aliases", if is_requiring { NESTED } else { "" });
     set_heading(&mut page, "--", WHAT);
     page.fill("text", HEAD);
     page.finish("text")
@@ -346,6 +350,7 @@ fn put_member(page: &mut Words, member: &Words, last: usize) {
     own.fill("aliases", "");
     put_lines(page, &mut own, &OF_MEMBER);
     put_lines(page, &mut own, &OF_BACK);
+    put_lines(page, &mut own, &OF_ASKED);
     page.copy(&own, &["name", "left_within"]);
     page.append("accounts", MEMBER_ACCOUNT);
     page.fill_all(&[("at", "(suc $at$)"), ("at_least", "(suc $at_least$)")]);

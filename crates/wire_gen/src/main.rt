@@ -43,6 +43,8 @@ mod recursive_back;
 mod recursive_definitions;
 mod required;
 mod required_oneof;
+mod required_rows;
+mod required_tables;
 mod rest_answers;
 mod returned;
 mod roots;

@@ -67,7 +67,13 @@ $module$-value = family.$module$-value
 
 abbrev pub $module$-shape : Shape $name$-Value
 $module$-shape = family.family-shapes family.$name$-Sort
-$back$";
+$face_missing$$back$";
+
+const FACE_MISSING: &str = "
+-- the first required field that is not there
+abbrev pub $module$-missing : $name$-Value → Missing
+$module$-missing = family.family-missing family.$name$-Sort
+";
 
 const FACE_OF_BACK: &str = "\
 abbrev pub $module$-range : Range $name$-Value
@@ -99,6 +105,10 @@ pub(crate) fn member_definitions(base: &Words) -> Result<String, GenerateError> 
     let mut page = Words::like(base);
     let is_read_back = has_laws(base);
     page.fill("uses", FACE_USES);
+    if !page.get("requiring").is_empty() {
+        page.append("uses", "Rattle.wire_required.specs.Missing Missing\n");
+        page.fill("face_missing", FACE_MISSING);
+    }
     if is_read_back {
         let is_charged = !page.get("charged").is_empty();
         page.set("charges", if is_charged { " charges" } else { "" });

@@ -40,6 +40,9 @@ impl Package {
     ) -> Result<(), GenerateError> {
         let mut page = self.page(&message.words);
         page.copy(&message.words, &["choice", "choice_module", "choices"]);
+        if !page.get("requiring").is_empty() {
+            self.need_required();
+        }
         set_leaf(&mut page, &fields);
         match message.family {
             Some(first) => drop(set_family(&mut page, schema, first)?),
@@ -160,7 +163,7 @@ impl Package {
         let mut page = Words::like(&self.base);
         let members = set_family(&mut page, schema, first)?;
         if let Some(message) = schema.messages.get(first) {
-            page.copy(&message.words, &["charged", "schema"]);
+            page.copy(&message.words, &["charged", "schema", "requiring"]);
         }
         let tables = self.tables_of(schema, first, &members)?;
         let code = family_code(&page, &members)?;

@@ -276,8 +276,8 @@ impl Package {
         self.add_type(&mut page, code, definitions)
     }
 
-    // The crate stands on that of required fields.
-    fn need_required(&mut self) {
+    /// The crate stands on that of required fields.
+    pub(crate) fn need_required(&mut self) {
         if self.roots.get("requiring").is_empty() {
             self.roots.set("requiring", "requiring");
             self.roots.append("needs", " wire_required");

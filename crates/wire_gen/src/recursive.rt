@@ -5,6 +5,7 @@ use crate::choice_names::set_names;
 use crate::code::{put_field_comment, put_head, put_leaf_field, set_leaf_rest};
 use crate::defaults::{put_defaults, use_defaults};
 use crate::member::{ALONE, ALONE_OF, EACH, MEMBER, MEMBER_OF, ONCE};
+use crate::required_rows::{put_required_rows, use_asked_rows};
 use crate::rows::{is_row, place_of};
 use crate::runs::{put_field_in_run, put_part_head, put_run};
 use wire_schema::{Field, GenerateError, MessageType, Schema, Words};
@@ -247,9 +248,11 @@ pub(crate) fn recursive_code(
     set_leaf_rest(&mut page);
     put_ghosts(&mut page);
     use_defaults(&mut page, fields);
+    use_asked_rows(&mut page, fields);
     put_head(&mut page, schema, message);
     put_defaults(&mut page, fields, true);
     page.append_all(&[("code", CODE), ("code", "$parts$")]);
+    put_required_rows(&mut page);
     page.finish("code")
 }
 

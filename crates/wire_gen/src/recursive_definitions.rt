@@ -7,6 +7,7 @@ use crate::leaf::is_leaving;
 use crate::member_definitions::MEMBER_USES;
 use crate::mentioned::use_mentioned_of;
 use crate::recursive_back::put_back;
+use crate::required_tables::{NESTED, define_asked_rows};
 use crate::rows::{USES_OF_NO_FIELDS, is_bare, is_row, place_of};
 use crate::runs::{begin_part, end_part};
 use crate::tree::Tree;
@@ -137,7 +138,7 @@ $module$-shape = record {
   takes = nest_takes $module$-table;
   single = $module$-single;
 }
-$back$";
+$asked_table$$back$";
 
 /// The value of a message type that holds itself, and its table.
 pub(crate) fn recursive_definitions(
@@ -149,6 +150,9 @@ pub(crate) fn recursive_definitions(
     page.fill("text", TEXT);
     use_mentioned_of(&mut page);
     page.set("aliases", ALIASES);
+    if !page.get("requiring").is_empty() {
+        page.append("aliases", NESTED);
+    }
     set_heading(&mut page, "--", WHAT);
     page.fill("text", HEAD);
     page.finish("text")
@@ -207,6 +211,7 @@ pub(crate) fn table_page(base: &Words, fields: &[Field], tree: &Tree) -> Words {
     page.index("count", count);
     put_rows(&mut page, fields, count);
     put_choice(&mut page, fields);
+    define_asked_rows(&mut page, fields);
     if is_read_back {
         put_back(&mut page, fields, tree);
     }

@@ -35,7 +35,8 @@ Rattle.$crate$.specs.$name$ $module$-missing
 Rattle.$crate$.specs.$name$ $module$-value
 ";
 
-const USES: &str = "\
+/// What the call brings in.
+pub(crate) const USES: &str = "\
 std::alloc AllocError
 wire_required FieldPath
 wire_required Required
@@ -93,7 +94,8 @@ $module$-missing m =
     first_of ($asked$[])
 ";
 
-const USES_OF_MISSING: &str = "\
+/// What the definition of a type brings in.
+pub(crate) const USES_OF_MISSING: &str = "\
 Rattle.std.specs.Prelude []
 Rattle.std.specs.Prelude codes
 Rattle.std.specs.Prelude ◌∷◌
@@ -104,11 +106,14 @@ Rattle.wire_required.specs.Missing first_of
 // The widest line.
 const WIDTH: usize = 100;
 
-// A definition in a line, and where it is longer.
+// A definition in a line, and where it is longer: of what is seen as the word `asked_value`.
 const LINES: [&str; 2] = [
-    "$missing_in$$lacks$ ($field$-of-$module$ m)\n    ∷ ",
-    "$missing_in$$lacks$\n    ($field$-of-$module$ m)\n    ∷ ",
+    "$missing_in$$lacks$ $asked_value$\n    ∷ ",
+    "$missing_in$$lacks$\n    $asked_value$\n    ∷ ",
 ];
+
+// What a field holds, of a message `m`.
+const VALUE: &str = "($field$-of-$module$ m)";
 
 // What is asked of a field that is to be there, and of what a field holds.
 const NEEDED: [Template; 4] = [
@@ -149,6 +154,9 @@ const IN_ONEOF: [Template; 4] = [
     ("missing_uses", "$specs$ $of_module$-missing\n"),
 ];
 
+// (of a oneof of which some variants are rows, it is asked by those that are of the leaf)
+const IN_CHOICE: &str = "$choice$Required$of_low$To$of_high$";
+
 const ROW: &str = "            \"$proto$\" => $field$: $requirement$,\n";
 
 /// The rows of a message type, as the word `asked`, with the parts that are `asked_apart` where
@@ -159,6 +167,17 @@ pub(crate) fn use_asked(page: &mut Words, fields: &[Field]) {
     }
     page.append("uses", USES);
     page.fill_all(&NONE_ASKED);
+    use_rows(page, fields, PART_GHOSTS, &USE_PART);
+}
+
+/// Puts the rows of fields in a row behind the word `asked`. Where there are many, what a part of
+/// them brings in, in clauses, and its templates, are these.
+pub(crate) fn use_rows(
+    page: &mut Words,
+    fields: &[Field],
+    ghosts: &str,
+    part: &'static [Template],
+) {
     let has_parts = rows_of(fields) > MOST_ROWS;
     let mut count: usize = 0;
     for (place, field) in fields.iter().enumerate() {
@@ -172,9 +191,9 @@ pub(crate) fn use_asked(page: &mut Words, fields: &[Field]) {
             count = 0;
             if has_parts {
                 set_span(page, field);
-                page.fill("ghosts", PART_GHOSTS);
+                page.fill("ghosts", ghosts);
                 ghost_imports(page, "    ");
-                page.append_all(&USE_PART);
+                page.append_all(part);
             } else {
                 page.append("asked", "$rows_of_part$");
             }
@@ -191,11 +210,22 @@ pub(crate) fn define_asked(page: &mut Words, fields: &[Field]) {
     }
     page.append("uses", USES_OF_MISSING);
     page.fill_all(&NONE_ASKED);
+    define_rows(page, fields, VALUE, &DEFINE_PART);
+}
+
+/// The same of fields in a row, of which each is seen as this template says.
+pub(crate) fn define_rows(
+    page: &mut Words,
+    fields: &[Field],
+    value: &str,
+    part: &'static [Template],
+) {
     let has_parts = rows_of(fields) > MOST_ROWS;
     let mut count: usize = 0;
     for (place, field) in fields.iter().enumerate() {
         for is_needed in [true, false] {
             if set_requirement(page, field, is_needed) {
+                page.fill("asked_value", value);
                 put_line(page);
                 page.append("uses", "$missing_uses$");
                 count = count.saturating_add(1);
@@ -205,7 +235,7 @@ pub(crate) fn define_asked(page: &mut Words, fields: &[Field]) {
             count = 0;
             if has_parts {
                 set_span(page, field);
-                page.append_all(&DEFINE_PART);
+                page.append_all(part);
             } else {
                 page.append("asked", "$lines_of_part$");
             }
@@ -214,7 +244,8 @@ pub(crate) fn define_asked(page: &mut Words, fields: &[Field]) {
     }
 }
 
-const NONE_ASKED: [Template; 5] = [
+/// No rows so far.
+pub(crate) const NONE_ASKED: [Template; 5] = [
     ("asked", ""),
     ("asked_apart", ""),
     ("rows_of_part", ""),
@@ -300,7 +331,7 @@ fn set_requirement(page: &mut Words, field: &Field, is_needed: bool) -> bool {
     }
     page.copy(
         &field.words,
-        &["proto", "field", "kind", "of_name", "specs"],
+        &["proto", "field", "kind", "of_name", "specs", "path"],
     );
     page.copy(&field.words, &["key_held"]);
     page.set("of_module", field.words.get("of_module"));
@@ -316,6 +347,9 @@ fn set_requirement(page: &mut Words, field: &Field, is_needed: bool) -> bool {
     if field.oneof.is_some() {
         page.set("of_module", field.words.get("module"));
         page.fill_all(&IN_ONEOF);
+        if !field.words.get("in_choice").is_empty() {
+            page.fill("requirement", IN_CHOICE);
+        }
         return true;
     }
     set_within(page);

@@ -69,15 +69,7 @@ pub(crate) fn use_variants(page: &mut Words, oneof: &Oneof) {
     page.append("uses", USES_OF_VARIANTS);
     for variant in &oneof.variants {
         page.copy(variant, &["variant", "proto", "of_requiring"]);
-        let is_plain = page.get("of_requiring").is_empty();
-        page.append(
-            "asked",
-            if is_plain {
-                "            Some($name$::$variant$(_)) => Ok(None),\n"
-            } else {
-                "            Some($name$::$variant$(message)) => missing_in(alloc, \"$proto$\", message),\n"
-            },
-        );
+        put_arm(page, "$name$");
     }
 }
 
@@ -113,4 +105,80 @@ pub(crate) fn define_variant(page: &mut Words, variant: &Words) {
         );
         page.append("uses", "$specs$ $of_module$-missing\n");
     }
+}
+
+// The same of a oneof of which some variants are rows: of those that are of the leaf.
+const CHOICE: &str = "
+// What is asked of the variants of `$choice$` that are no messages of a row.
+struct $choice$Required$of_low$To$of_high$;
+
+impl Requirement for $choice$Required$of_low$To$of_high$ {
+$ghost_imports$
+    type Held = Option<$choice$>;
+
+    ghost Value = { $choice$-Value };
+
+    ghost view = { λ held.
+        (or_else $choice_module$-none (option_map $choice_module$-value held)).0 };
+
+    ghost missing = { λ name. $choice_module$-missing };
+
+    fn missing(
+        alloc: Global,
+        _name: &'static str,
+        held: &Option<$choice$>,
+    ) -> Result<Option<FieldPath>, AllocError> {
+        match held {
+$asked$            None => Ok(None),
+        }
+    }
+}
+";
+
+const CHOICE_GHOSTS: &str = "\
+Rattle.std.specs.Prelude option_map
+Rattle.wire_fields.specs.Messages or_else
+Rattle.$crate$.specs.$choice$ $choice$-Value
+Rattle.$crate$.specs.$choice$ $choice_module$-missing
+Rattle.$crate$.specs.$home$ $choice_module$-none
+Rattle.$crate$.specs.$home$ $choice_module$-value
+";
+
+/// Puts what is asked of such a oneof behind the parts so far, where one of its messages that are
+/// of the leaf has required fields, or holds such.
+pub(crate) fn put_choice_requirement(page: &mut Words, oneof: &Oneof) {
+    let mut variants = oneof.variants.iter();
+    if !variants.any(|it| !it.get("of_requiring").is_empty()) {
+        return;
+    }
+    page.append("uses", USES_OF_VARIANTS);
+    page.set("asked", "");
+    for variant in &oneof.variants {
+        page.copy(variant, &["variant", "proto", "of_requiring"]);
+        put_arm(page, "$choice$");
+    }
+    page.set("of_requiring", "");
+    for name in page.take("own_rows").split(' ') {
+        if !name.is_empty() {
+            page.set("variant", name);
+            put_arm(page, "$choice$");
+        }
+    }
+    page.fill("ghosts", CHOICE_GHOSTS);
+    ghost_imports(page, "    ");
+    page.append("parts", CHOICE);
+}
+
+// The arm of a variant of this oneof.
+fn put_arm(page: &mut Words, oneof: &str) {
+    page.fill("asked_oneof", oneof);
+    let is_plain = page.get("of_requiring").is_empty();
+    page.append(
+        "asked",
+        if is_plain {
+            "            Some($asked_oneof$::$variant$(_)) => Ok(None),\n"
+        } else {
+            "            Some($asked_oneof$::$variant$(message)) => missing_in(alloc, \"$proto$\", message),\n"
+        },
+    );
 }

@@ -2,6 +2,8 @@
 //! answered of them.
 #![tactic(auto)]
 
+#[cfg(test)]
+mod nested_tests;
 pub mod number;
 #[cfg(test)]
 mod tests;

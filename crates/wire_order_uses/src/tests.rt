@@ -8,7 +8,7 @@ use wire_required::{FieldPath, Parse, ParseError, PathStep, Required};
 
 // What is found: the answer that was expected, want of memory, or anything else.
 #[derive(Clone, Copy, Debug, PartialEq)]
-enum Found {
+pub(crate) enum Found {
     Own,
     Other,
     OutOfMemory,
@@ -16,7 +16,7 @@ enum Found {
 
 // What is answered of bytes.
 #[derive(Clone, Copy)]
-enum Answer {
+pub(crate) enum Answer {
     Complete,
     Missing(&'static str),
     Fault,
@@ -24,8 +24,8 @@ enum Answer {
 
 use Answer::{Complete, Fault, Missing};
 
-// Bytes, and what is answered of them as an order.
-type Row = (&'static [u8], Answer);
+// Bytes, and what is answered of them as a message.
+pub(crate) type Row = (&'static [u8], Answer);
 
 const ROWS: [Row; 19] = [
     (b"\x09\x07\0\0\0\0\0\0\0\x33\x0a\x01s\x34", Complete),
@@ -93,7 +93,7 @@ fn is_printed(alloc: Global, path: &FieldPath, wanted: &str) -> Found {
 }
 
 // What is found where an answer was expected.
-fn found_in<T>(alloc: Global, answer: &Result<T, ParseError>, wanted: Answer) -> Found {
+pub(crate) fn found_in<T>(alloc: Global, answer: &Result<T, ParseError>, wanted: Answer) -> Found {
     match (answer, wanted) {
         (Err(ParseError::Decode(DecodeError::OutOfMemory)), _) => Found::OutOfMemory,
         (Err(ParseError::MissingRequiredField(path)), Missing(wanted)) => {
@@ -105,11 +105,11 @@ fn found_in<T>(alloc: Global, answer: &Result<T, ParseError>, wanted: Answer) ->
 }
 
 // What `decode_from_slice` answers, and then `missing` of the message.
-fn decoded(alloc: Global, row: &Row) -> Found {
-    match (Order::decode_from_slice(alloc, row.0), row.1) {
+pub(crate) fn decoded<M: Message + Required>(alloc: Global, row: &Row) -> Found {
+    match (M::decode_from_slice(alloc, row.0), row.1) {
         (Err(DecodeError::OutOfMemory), _) => Found::OutOfMemory,
         (Err(_), Fault) => Found::Own,
-        (Ok(order), Complete | Missing(_)) => match (order.missing(alloc), row.1) {
+        (Ok(message), Complete | Missing(_)) => match (message.missing(alloc), row.1) {
             (Ok(None), Complete) => Found::Own,
             (Ok(Some(path)), Missing(wanted)) => is_printed(alloc, &path, wanted),
             (Err(_), _) => Found::OutOfMemory,
@@ -144,7 +144,7 @@ fn within_limits_too(rt: HostRuntime) {
 #[test]
 fn what_is_decoded_is_asked(rt: HostRuntime) {
     for (place, row) in ROWS.iter().enumerate() {
-        assert_eq!(rt; decoded(rt.alloc(), row), Found::Own, "{place}");
+        assert_eq!(rt; decoded::<Order>(rt.alloc(), row), Found::Own, "{place}");
     }
 }
 

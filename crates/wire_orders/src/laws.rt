@@ -2,13 +2,83 @@
 //! from orders.proto; not to be edited.
 ghost use Rattle.wire_fields.specs.Returned.{ReadsBack};
 ghost use Rattle.wire_fields.specs.Stays.{DecodesInRange};
+ghost use Rattle.wire_orders.specs.Category.{category-range, category-shape};
+ghost use Rattle.wire_orders.specs.Condition.{condition-range, condition-shape};
 ghost use Rattle.wire_orders.specs.Line.{line-range, line-shape};
 ghost use Rattle.wire_orders.specs.Money.{money-range, money-shape};
+ghost use Rattle.wire_orders.specs.Offer.{offer-range, offer-shape};
 ghost use Rattle.wire_orders.specs.Order.{order-range, order-shape};
 ghost use Rattle.wire_orders.specs.OrderAddress.{order_address-range, order_address-shape};
+ghost use Rattle.wire_orders.specs.Rebate.{rebate-range, rebate-shape};
+ghost use Rattle.wire_orders.specs.RebateUnlessEntry.{rebate_unless_entry-range};
+ghost use Rattle.wire_orders.specs.RebateUnlessEntry.{rebate_unless_entry-shape};
 
 use wire_codec::laws::text_decodes;
 use wire_fields::laws::grounds;
+
+/// What is written of each `Offer` in range decodes to it, where the limits suffice.
+pub fn offer_reads_back()
+    ensures { ReadsBack offer-shape offer-range }
+{
+    grounds();
+    text_decodes::<crate::Offer>();
+}
+
+/// What bytes decode to as `Offer` is in range, where each message and group
+/// within it takes at most 2,147,483,647 bytes and any other payload less than 2^64.
+pub fn offer_decodes_in_range()
+    ensures { DecodesInRange offer-shape offer-range }
+{
+    grounds();
+}
+
+/// What is written of each `Rebate` in range decodes to it, where the limits suffice.
+pub fn rebate_reads_back()
+    ensures { ReadsBack rebate-shape rebate-range }
+{
+    grounds();
+    text_decodes::<crate::Rebate>();
+}
+
+/// What bytes decode to as `Rebate` is in range, where each message and group
+/// within it takes at most 2,147,483,647 bytes and any other payload less than 2^64.
+pub fn rebate_decodes_in_range()
+    ensures { DecodesInRange rebate-shape rebate-range }
+{
+    grounds();
+}
+
+/// What is written of each `Condition` in range decodes to it, where the limits suffice.
+pub fn condition_reads_back()
+    ensures { ReadsBack condition-shape condition-range }
+{
+    grounds();
+    text_decodes::<crate::Condition>();
+}
+
+/// What bytes decode to as `Condition` is in range, where each message and group
+/// within it takes at most 2,147,483,647 bytes and any other payload less than 2^64.
+pub fn condition_decodes_in_range()
+    ensures { DecodesInRange condition-shape condition-range }
+{
+    grounds();
+}
+
+/// What is written of each `Category` in range decodes to it, where the limits suffice.
+pub fn category_reads_back()
+    ensures { ReadsBack category-shape category-range }
+{
+    grounds();
+    text_decodes::<crate::Category>();
+}
+
+/// What bytes decode to as `Category` is in range, where each message and group
+/// within it takes at most 2,147,483,647 bytes and any other payload less than 2^64.
+pub fn category_decodes_in_range()
+    ensures { DecodesInRange category-shape category-range }
+{
+    grounds();
+}
 
 /// What is written of each `Order` in range decodes to it, where the limits suffice.
 pub fn order_reads_back()
@@ -70,6 +140,22 @@ pub fn money_reads_back()
 /// within it takes at most 2,147,483,647 bytes and any other payload less than 2^64.
 pub fn money_decodes_in_range()
     ensures { DecodesInRange money-shape money-range }
+{
+    grounds();
+}
+
+/// What is written of each `RebateUnlessEntry` in range decodes to it, where the limits suffice.
+pub fn rebate_unless_entry_reads_back()
+    ensures { ReadsBack rebate_unless_entry-shape rebate_unless_entry-range }
+{
+    grounds();
+    text_decodes::<crate::RebateUnlessEntry>();
+}
+
+/// What bytes decode to as `RebateUnlessEntry` is in range, where each message and group
+/// within it takes at most 2,147,483,647 bytes and any other payload less than 2^64.
+pub fn rebate_unless_entry_decodes_in_range()
+    ensures { DecodesInRange rebate_unless_entry-shape rebate_unless_entry-range }
 {
     grounds();
 }

@@ -48,10 +48,10 @@ abbrev mutual
 -- ---- the leaf of one type of several
 
 module _ {A B : Type 0} where
-  abbrev pub first_missing : (A → Missing) → A ⊎ B → Missing
-  first_missing missing (inl l) = missing l
-  first_missing missing (inr l) = None
+  abbrev pub asked_first : (A → Missing) → A ⊎ B → Missing
+  asked_first missing (inl l) = missing l
+  asked_first missing (inr l) = None
 
-  abbrev pub second_missing : (B → Missing) → A ⊎ B → Missing
-  second_missing missing (inl l) = None
-  second_missing missing (inr l) = missing l
+  abbrev pub asked_second : (B → Missing) → A ⊎ B → Missing
+  asked_second missing (inl l) = None
+  asked_second missing (inr l) = missing l

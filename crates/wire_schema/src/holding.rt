@@ -9,10 +9,6 @@ use crate::words::Words;
 use std::alloc::Global;
 use wire_descriptor::FieldDescriptorProto;
 
-const REQUIRED_WITHIN: &str = "\
-    $full$: required fields in messages that hold themselves or one another, or in what these hold, \
-    want required=optional";
-
 impl Schema {
     /// Which message types hold themselves, and which hold one another: each tells the place of the
     /// first of its family, by their modules.
@@ -153,7 +149,7 @@ impl Schema {
     }
 
     /// Which types have required fields, or hold messages of one that has, where these are looked
-    /// at: none that is generated holds itself, or others that hold it.
+    /// at.
     pub(crate) fn find_required(&mut self, base: &Words) -> Result<(), GenerateError> {
         let mut flags = Vec::new(self.alloc);
         for message in &self.messages {
@@ -162,28 +158,10 @@ impl Schema {
         if base.get("required") == "optional" || flags.iter().all(|it| *it) {
             return Ok(());
         }
-        let held = self.held_by_each()?;
-        held.spread(&mut flags)?;
+        self.held_by_each()?.spread(&mut flags)?;
         for (message, is_plain) in self.messages.iter_mut().zip(flags) {
             if !is_plain {
                 message.words.set("requiring", "requiring");
-            }
-        }
-        self.stop_on_required(&held)
-    }
-
-    // No type that is generated has a required field within one that holds itself.
-    fn stop_on_required(&self, held: &Graph) -> Result<(), GenerateError> {
-        for (place, holder) in self.messages.iter().enumerate() {
-            for held in held.from(place) {
-                let Some(held) = self.messages.get(*held) else {
-                    continue;
-                };
-                let is_round = held.is_recursive || held.family.is_some();
-                if is_round && holder.origin.is_own && !held.words.get("requiring").is_empty() {
-                    let mut words = Words::like(&held.words);
-                    return Err(words.refused(REQUIRED_WITHIN));
-                }
             }
         }
         Ok(())
