@@ -8,13 +8,6 @@ REFUSED = [
      + "service S { rpc Get(A) returns (google.protobuf.Empty); }", "",
      "S.Get: .google.protobuf.Empty is of a file of no crate that is named, as "
      "import=PACKAGE=CRATE does"),
-    ("proto2", "message A { required int32 x = 1; optional A y = 2; }", "",
-     ".A: required fields in messages that hold themselves or one another, or in what these hold, "
-     "want required=optional"),
-    ("proto2", "message B { required int32 x = 1; } message A { optional B b = 1; "
-     "optional C c = 2; } message C { repeated A a = 1; optional int32 x = 2; }", "",
-     ".A: required fields in messages that hold themselves or one another, or in what these hold, "
-     "want required=optional"),
     ("proto2", "enum E { B = 0; } message A { map<int32, E> x = 1; }", ",unknown=drop",
      ".A.x: closed enums are not generated with unknown=drop or mismatch=keep"),
     ("proto3", "message A { A x = 1; int32 y = 2; }", ",mismatch=keep", ".A: a message that holds "
@@ -128,6 +121,29 @@ CHOICES = [
       "a-missing-1-to-7 m\n    ∷ a-missing-8-to-12 m\n    ∷ [])"]),
     ("proto2", "message A { required int32 x = 1; optional A y = 2; }", ",required=optional",
      ["    pub x: Option<i32>,", "chosen: wire_codec wire_fields bytes"]),
+    ("proto2", "message A { required int32 x = 1; optional A y = 2; required B z = 3; } "
+     "message B { required bool x = 1; }", "",
+     ['"x" => x: Needed<Optional<Int32>>,', '        RowRequirement::Once("y")\n',
+      '"z" => z: Needed<Embedded<B_>>,\n                "z" => z: Embedded<B_>,\n            ),',
+      "slice_missing(Alone(from_ref(self)), 0, alloc)", "impl RequiredAlone for A {",
+      'a-asked-row i = nested.once (codes "y")', "a-asked-run (suc i) l =",
+      'within (codes "z") b_-missing l.0.1', "chosen: wire_codec wire_fields wire_required bytes"]),
+    ("proto2", "message B { required int32 x = 1; } message A { required B b = 1; "
+     "oneof o { C c = 2; B d = 3; int32 e = 4; } } message C { repeated group A = 1 "
+     "{ optional .A a = 2; } map<int32, A> as = 3; optional int32 x = 4; } "
+     "message D { optional C c = 1; }", "",
+     ['            0 => RowRequirement::Each("a"),\n            1 => RowRequirement::Each("as"),',
+      "            Some(AO::D(message)) => missing_in(alloc, \"d\", message),",
+      "            Some(AO::C(_)) => Ok(None),", "struct AORequired3To4;",
+      '"o" => o: AORequired3To4,', "ao-missing (Some (inl x)) = in_message (codes \"d\")",
+      "a-missing = family.family-missing family.A-Sort",
+      "impl<'a> RequiredSlice for FamilySlice<'a> {",
+      'within (codes "c") c-missing (c-of-d m)', '"c" => c: Embedded<C>,']),
+    ("proto2", "message A { optional A y = 2; " + " ".join(
+        f"required bool x{it} = {it};" for it in range(3, 15)) + " }", "",
+     ["..ARequired3To9,\n                ..ARequired10To14,\n            ),",
+      "a-asked-3-to-9 l\n    ∷ a-asked-10-to-14 l\n    ∷ [])",
+      "ghost view = { λ m. leaf_of (a-value m) };"]),
     ("proto2", r"""enum E { option allow_alias = true; LOW = 0; e = 0; }
      message A { optional E x = 1 [default = e]; optional float y = 2 [default = 1e-45];
      optional double z = 3 [default = nan]; optional bytes b = 4 [default = "\1\'"];

@@ -63,10 +63,10 @@ $ghost_imports$
 }
 ";
 
+// (the value is brought in at the head of the module)
 const GHOSTS: &str = "\
 Rattle.$crate$.specs.$name$ $name$-Value
 Rattle.$crate$.specs.$name$ $module$-missing
-Rattle.$crate$.specs.$name$ $module$-value
 ";
 
 const USES_OF_ROWS: &str = "\

@@ -45,6 +45,11 @@ $module$-asked-$low$-to-$high$ l =
     ),
 ];
 
+// A row that others stand behind, and the last.
+const ROW_BEFORE: &str = "$module$-asked-row $row_before$ = $last_asked$\n";
+
+const LAST_ROW: &str = "$module$-asked-row $least_row$ = $last_asked$\n";
+
 /// The alias of such definitions.
 pub(crate) const NESTED: &str = "use Rattle.wire_required.specs.Nested as nested\n";
 
@@ -62,23 +67,15 @@ pub(crate) fn define_asked_rows(page: &mut Words, fields: &[Field]) {
     for (place, field) in fields.iter().enumerate() {
         if is_row(field) {
             if first > 0 {
-                page.append("asked_rows", "$module$-asked-row $row_before$ = $last_asked$\n");
+                page.append("asked_rows", ROW_BEFORE);
             }
-            page.fill("row_before", "$row_at$");
             page.fill("asked_at", "$row_at$");
             define_run(page, fields.get(first..place).unwrap_or(&[]));
-            page.copy(&field.words, &["proto"]);
-            page.set("asked_as", asked_as(field).1);
-            page.fill("last_asked", "nested.$asked_as$ (codes \"$proto$\")");
-            page.fill_all(&[
-                ("row_at", "(suc $row_at$)"),
-                ("least_row", "$last_row_at$"),
-                ("last_row_at", "(suc $last_row_at$)"),
-            ]);
+            set_row(page, field);
             first = place.saturating_add(1);
         }
     }
-    page.append("asked_rows", "$module$-asked-row $least_row$ = $last_asked$\n");
+    page.append("asked_rows", LAST_ROW);
     page.fill("asked_at", "$last_row_at$");
     define_run(page, fields.get(first..).unwrap_or(&[]));
     if page.get("all_asked").is_empty() {
@@ -86,6 +83,19 @@ pub(crate) fn define_asked_rows(page: &mut Words, fields: &[Field]) {
     }
     page.fill("asked_table", DEFINITION);
     page.append("asked_table", if is_alone(page) { OF_ONE } else { "" });
+}
+
+// The words of the line of a row.
+fn set_row(page: &mut Words, field: &Field) {
+    page.copy(&field.words, &["proto"]);
+    page.set("asked_as", asked_as(field).1);
+    page.fill_all(&[
+        ("last_asked", "nested.$asked_as$ (codes \"$proto$\")"),
+        ("row_before", "$row_at$"),
+        ("row_at", "(suc $row_at$)"),
+        ("least_row", "$last_row_at$"),
+        ("last_row_at", "(suc $last_row_at$)"),
+    ]);
 }
 
 // The line of a run of these fields.

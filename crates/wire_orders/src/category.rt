@@ -334,7 +334,7 @@ impl RequiredAlone for Category {
 }
 
 impl Required for Category {
-    ghost use Rattle.wire_orders.specs.Category.{Category-Value, category-missing, category-value};
+    ghost use Rattle.wire_orders.specs.Category.{Category-Value, category-missing};
 
     ghost Seen = { Category-Value };
 

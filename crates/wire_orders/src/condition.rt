@@ -416,7 +416,6 @@ impl RequiredMember for Condition {
 
 impl Required for Condition {
     ghost use Rattle.wire_orders.specs.Condition.{Condition-Value, condition-missing};
-    ghost use Rattle.wire_orders.specs.Condition.{condition-value};
 
     ghost Seen = { Condition-Value };
 

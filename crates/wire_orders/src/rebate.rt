@@ -308,7 +308,7 @@ impl RequiredMember for Rebate {
 }
 
 impl Required for Rebate {
-    ghost use Rattle.wire_orders.specs.Rebate.{Rebate-Value, rebate-missing, rebate-value};
+    ghost use Rattle.wire_orders.specs.Rebate.{Rebate-Value, rebate-missing};
 
     ghost Seen = { Rebate-Value };
 

@@ -290,7 +290,6 @@ impl RequiredMember for RebateUnlessEntry {
 impl Required for RebateUnlessEntry {
     ghost use Rattle.wire_orders.specs.RebateUnlessEntry.{RebateUnlessEntry-Value};
     ghost use Rattle.wire_orders.specs.RebateUnlessEntry.{rebate_unless_entry-missing};
-    ghost use Rattle.wire_orders.specs.RebateUnlessEntry.{rebate_unless_entry-value};
 
     ghost Seen = { RebateUnlessEntry-Value };
 
