@@ -12,7 +12,7 @@ use Rattle.wire_codec.specs.ValueMap.{uint32}
 use Rattle.wire_fields.specs.ChoiceBack.{IsChoice, choice_back, first_is_choice, one_stands}
 use Rattle.wire_fields.specs.ChoiceSpot.{first_spot, leaf_choice, second_spot}
 use Rattle.wire_fields.specs.Grounds.{Grounds, numeric_back, string_back, uint32_back}
-use Rattle.wire_fields.specs.Messages.{or_else}
+use Rattle.wire_fields.specs.Messages.{boxed_value, embedded_once, or_else}
 use Rattle.wire_fields.specs.Nest.{boxed_row, done, nest, row, row_count, row_of}
 use Rattle.wire_fields.specs.NestBack.{beside_returned}
 use Rattle.wire_fields.specs.NestChoice.{Choice, beside_row, first_choice, in_first, in_second}
@@ -24,9 +24,10 @@ use Rattle.wire_fields.specs.NestTable.{all_counted, as_it_was, empty_of, family
 use Rattle.wire_fields.specs.NestTable.{family_single, family_takes, if_number, message_at}
 use Rattle.wire_fields.specs.Numbers.{numeric}
 use Rattle.wire_fields.specs.Presence.{implicit, optional}
-use Rattle.wire_fields.specs.Ranges.{Range, optional_range, pair_range, string_range, uint32_range}
-use Rattle.wire_fields.specs.Returned.{Returned, implicit_returned, known_returned}
-use Rattle.wire_fields.specs.Returned.{optional_returned, two_returned}
+use Rattle.wire_fields.specs.Ranges.{Range, once_range, optional_range, pair_range, string_range}
+use Rattle.wire_fields.specs.Ranges.{uint32_range}
+use Rattle.wire_fields.specs.Returned.{Returned, embedded_once_returned, implicit_returned}
+use Rattle.wire_fields.specs.Returned.{known_returned, optional_returned, two_returned}
 use Rattle.wire_fields.specs.Shape.{Lawful, Shape, known, two, unknown}
 use Rattle.wire_fields.specs.Sums.{first_back, first_range, first_single, first_takes, of_first}
 use Rattle.wire_fields.specs.Sums.{of_second, second_back, second_range, second_single}
@@ -34,11 +35,11 @@ use Rattle.wire_fields.specs.Sums.{second_takes}
 use Rattle.wire_fields.specs.Texts.{string}
 use Rattle.wire_fields.specs.declared.form.Form.TheVariants.{Varint}
 use Rattle.wire_orders.specs.ConditionTest.{ConditionTest-Value, condition_test-is_plain}
-use Rattle.wire_orders.specs.ConditionTest.{condition_test-missing, condition_test-plain}
-use Rattle.wire_orders.specs.ConditionTest.{condition_test-range, condition_test-returned}
-use Rattle.wire_orders.specs.ConditionTest.{condition_test-shape, condition_test-spot}
-use Rattle.wire_orders.specs.ConditionTest.{condition_test-tells}
-use Rattle.wire_orders.specs.Money.{money-value}
+use Rattle.wire_orders.specs.ConditionTest.{condition_test-plain, condition_test-range}
+use Rattle.wire_orders.specs.ConditionTest.{condition_test-returned, condition_test-shape}
+use Rattle.wire_orders.specs.ConditionTest.{condition_test-spot, condition_test-tells}
+use Rattle.wire_orders.specs.Money.{Money-Value, money-missing, money-range, money-returned}
+use Rattle.wire_orders.specs.Money.{money-shape, money-value}
 use Rattle.wire_orders.specs.declared.condition.Condition.{Condition, Condition-F, fold-Condition}
 use Rattle.wire_orders.specs.declared.condition.Condition.{fold_out-Condition}
 use Rattle.wire_orders.specs.declared.condition_family.FamilyHeld.{FamilyHeld}
@@ -50,7 +51,7 @@ use Rattle.wire_orders.specs.declared.rebate_unless_entry.RebateUnlessEntry.{Reb
 use Rattle.wire_orders.specs.declared.rebate_unless_entry.RebateUnlessEntry.{RebateUnlessEntry-F}
 use Rattle.wire_orders.specs.declared.rebate_unless_entry.RebateUnlessEntry.{fold-RebateUnlessEntry}
 use Rattle.wire_orders.specs.declared.rebate_unless_entry.RebateUnlessEntry.{fold_out-RebateUnlessEntry}
-use Rattle.wire_required.specs.Missing.{Missing, first_of, needs}
+use Rattle.wire_required.specs.Missing.{Missing, first_of, needs, within}
 use Rattle.wire_required.specs.Nested.{asked_first, asked_second}
 use Rattle.wire_orders.specs.declared.condition_family.FamilyHeld.TheVariants as held
 use Rattle.wire_orders.specs.declared.condition_family.FamilySlice.TheVariants as slices
@@ -73,10 +74,17 @@ condition-note-kind = optional string
 abbrev pub condition-note-range : Range (Option (List ℕ))
 condition-note-range = optional_range string_range
 
+abbrev pub condition-least-kind : Lawful (Option Money-Value)
+condition-least-kind = embedded_once money-shape
+
+abbrev pub condition-least-range : Range (Option Money-Value)
+condition-least-range = once_range money-shape money-range
+
 abbrev pub Condition-Known : Type 0
 Condition-Known =
-    ((Option (List ℕ))
+    (((Option (List ℕ))
     × ConditionTest-Value)
+    × (Option Money-Value))
 
 abbrev pub Condition-Leaf : Type 0
 Condition-Leaf = Condition-Known × Fields
@@ -121,8 +129,7 @@ abbrev pub condition_test-none : ConditionTest-Held
 condition_test-none = (None, [])
 
 abbrev pub condition_test-one : ConditionTest-F ConditionTest-Held Family-Tree Family-Tree Family-Tree → ConditionTest-Held
-condition_test-one (variants.Least x) = (Some (inl (money-value x)), [])
-condition_test-one (variants.Count x) = (Some (inr x), [])
+condition_test-one (variants.Count x) = (Some x, [])
 condition_test-one (variants.Also x) =
     (None, (box_value x ∷ []))
 
@@ -131,8 +138,11 @@ abbrev pub condition-one : Condition-F ConditionTest-Held Family-Tree Family-Tre
 condition-one m =
     nest (inl (
       (
-        option_map (λ s. string_bytes s) m.note,
-        (or_else condition_test-none m.test).0,
+        (
+          option_map (λ s. string_bytes s) m.note,
+          (or_else condition_test-none m.test).0,
+        ),
+        boxed_value money-value m.least,
       ),
       m.unknown,
     ))
@@ -170,23 +180,25 @@ rebate_unless_entry-value = fold-RebateUnlessEntry ConditionTest-Held Family-Tre
 
 abbrev pub condition-known : Shape Condition-Known
 condition-known =
-    two (known 1 condition-note-kind)
-    (condition_test-shape)
+    two (two (known 1 condition-note-kind)
+    (condition_test-shape))
+    (known 3 condition-least-kind)
 
 abbrev pub condition-leaf : Shape Condition-Leaf
 condition-leaf = two condition-known unknown
 
 -- the records of the fields of `ConditionTest` that are of the leaf
-abbrev pub condition-records-3 : Condition-Leaf → Records
-condition-records-3 l = (condition_test-shape).records l.0.1
+abbrev pub condition-records-4 : Condition-Leaf → Records
+condition-records-4 l = (condition_test-shape).records l.0.0.1
 
 -- the records of the leaf before the first row, behind the first, and so on
 abbrev pub condition-run : ℕ → Condition-Leaf → Records
 condition-run zero l =
-    joined_records ((known 1 condition-note-kind).records l.0.0)
-    ((condition_test-shape).records l.0.1)
+    joined_records ((known 1 condition-note-kind).records l.0.0.0)
+    ((condition_test-shape).records l.0.0.1)
 condition-run (suc i) l =
-    unknown.records l.1
+    joined_records ((known 3 condition-least-kind).records l.0.1)
+    (unknown.records l.1)
 
 abbrev pub condition-number : ℕ → ℕ
 condition-number i = 2
@@ -202,8 +214,8 @@ abbrev pub condition-choice : Choice Condition-Leaf
 condition-choice = record {
   is_plain = condition_test-is_plain;
   is_row = λ i. i == 0;
-  stands = λ l. is_some l.0.1;
-  without = in_first (in_second no_variant);
+  stands = λ l. is_some l.0.0.1;
+  without = in_first (in_first (in_second no_variant));
 }
 
 abbrev pub condition-table : tables.Table Family-Leaves
@@ -223,15 +235,16 @@ pub condition-is_choice : IsChoice condition-leaf.takes condition-leaf.default c
 condition-is_choice =
     leaf_choice condition-known condition-choice
     (first_spot condition-known unknown condition_test-is_plain
-    (λ m. is_some m.1) (in_second no_variant) (second_spot (known 1 condition-note-kind)
+    (λ m. is_some m.0.1) (in_first (in_second no_variant)) (first_spot (two (known 1 condition-note-kind)
+    (condition_test-shape))
+    (known 3 condition-least-kind) condition_test-is_plain
+    (λ m. is_some m.1) (in_second no_variant)
+    (second_spot (known 1 condition-note-kind)
     (condition_test-shape) condition_test-is_plain
     is_some no_variant
     condition_test-spot
     condition_test-plain condition_test-tells
-    (λ n p h. elim h [
-      | inl h ↦ rw h refl
-      | inr h ↦ rw h refl
-    ])))
+    (λ n p h. rw h refl))))
 
 abbrev pub rebate-known : Shape Rebate-Known
 rebate-known =
@@ -382,10 +395,10 @@ family-slice-counted (slices.RebateUnlessEntry ms) i =
 
 -- what is asked of the leaf before the first row, behind the first, and so on
 abbrev pub condition-asked-run : ℕ → Condition-Leaf → Missing
-condition-asked-run zero l =
-    first_of (condition_test-missing l.0.1
+condition-asked-run zero l = None
+condition-asked-run (suc i) l =
+    first_of (within (codes "least") money-missing l.0.1
     ∷ [])
-condition-asked-run (suc i) l = None
 
 -- and of each row
 abbrev pub condition-asked-row : ℕ → nested.AskedRow
@@ -439,20 +452,23 @@ family-stands RebateUnlessEntry-Sort = any_beside
 -- what is read back once it is written
 abbrev pub condition-range-of-known : Range Condition-Known
 condition-range-of-known =
-    pair_range (condition-note-range)
-    (condition_test-range)
+    pair_range (pair_range (condition-note-range)
+    (condition_test-range))
+    (condition-least-range)
 
 abbrev pub condition-returned-of-known : Grounds → Returned condition-known condition-range-of-known
 condition-returned-of-known g =
     two_returned g
+    (two_returned g
     (known_returned g 1 condition-note-kind condition-note-range
     (omega arith) (omega arith)
     (optional_returned g _ _ string_back))
     (condition_test-returned g)
-    (λ n p h. elim h [
-      | inl h ↦ rw h refl
-      | inr h ↦ rw h refl
-    ])
+    (λ n p h. rw h refl))
+    (known_returned g 3 condition-least-kind condition-least-range
+    (omega arith) (omega arith)
+    (embedded_once_returned g _ _ (money-returned g)))
+    (λ n p h. rw h refl)
 
 pub condition-row_numbers : Grounds → (i : ℕ) → i < 1 → IsFieldNumber (condition-number i)
 condition-row_numbers g zero low = g.number 2 (omega arith) (omega arith)
@@ -468,11 +484,12 @@ pub condition-runs_in_order : (l : Family-Leaves) → all_runs condition-table l
 condition-runs_in_order (inr (inl l)) = refl
 condition-runs_in_order (inr (inr l)) = refl
 condition-runs_in_order (inl l) = same_order
-    (followed (followed (piece ((known 1 condition-note-kind).records l.0.0)) (piece ((condition_test-shape).records l.0.1)))
-    (followed (piece (unknown.records l.1))
+    (followed (followed (piece ((known 1 condition-note-kind).records l.0.0.0)) (piece ((condition_test-shape).records l.0.0.1)))
+    (followed (followed (piece ((known 3 condition-least-kind).records l.0.1)) (piece (unknown.records l.1)))
     (piece none)))
-    (followed (followed (piece ((known 1 condition-note-kind).records l.0.0))
-    (piece ((condition_test-shape).records l.0.1)))
+    (followed (followed (followed (piece ((known 1 condition-note-kind).records l.0.0.0))
+    (piece ((condition_test-shape).records l.0.0.1)))
+    (piece ((known 3 condition-least-kind).records l.0.1)))
     (piece (unknown.records l.1))) refl
 
 abbrev pub condition-range-of-leaf : Range Condition-Leaf
@@ -484,11 +501,11 @@ pub condition-known-back : (g : Grounds)
 condition-known-back g =
     known_back g condition-table condition-known condition-range-of-known
     (condition-returned-of-known g) (λ n h. elim h [
-      | inl h ↦ rw h refl
-      | inr h ↦ elim h [
+      | inl h ↦ elim h [
         | inl h ↦ rw h refl
         | inr h ↦ rw h refl
       ]
+      | inr h ↦ rw h refl
     ])
 
 pub condition-back : Grounds → LeafBeside condition-table (first_range condition-range-of-leaf) (one_stands (first_choice condition-choice))

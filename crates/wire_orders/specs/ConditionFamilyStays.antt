@@ -13,11 +13,13 @@ use Rattle.wire_fields.specs.StaysKinds.{implicit_stays, numeric_stays, optional
 use Rattle.wire_fields.specs.StaysKinds.{string_stays, uint32_stays}
 use Rattle.wire_fields.specs.StaysLeaf.{first_kept, first_stay, known_stay, second_stay}
 use Rattle.wire_fields.specs.StaysLeaf.{table_stays, there_where}
+use Rattle.wire_fields.specs.StaysMessages.{embedded_once_stays}
 use Rattle.wire_fields.specs.StaysNest.{LeafStays, beside_stays}
 use Rattle.wire_orders.specs.ConditionFamily.{Condition-Leaf, Condition-Sort, Family-Sorts}
 use Rattle.wire_orders.specs.ConditionFamily.{Rebate-Sort, RebateUnlessEntry-Sort, condition-choice}
 use Rattle.wire_orders.specs.ConditionFamily.{condition-is_choice, condition-known, condition-leaf}
-use Rattle.wire_orders.specs.ConditionFamily.{condition-note-kind, condition-once, condition-place}
+use Rattle.wire_orders.specs.ConditionFamily.{condition-least-kind, condition-note-kind}
+use Rattle.wire_orders.specs.ConditionFamily.{condition-once, condition-place}
 use Rattle.wire_orders.specs.ConditionFamily.{condition-range-of-known, condition-runs_in_order}
 use Rattle.wire_orders.specs.ConditionFamily.{condition-table, family-all, family-leaf-ranges}
 use Rattle.wire_orders.specs.ConditionFamily.{family-ranges, family-shapes, family-stands}
@@ -30,6 +32,7 @@ use Rattle.wire_orders.specs.ConditionFamily.{rebate_unless_entry-range-of-known
 use Rattle.wire_orders.specs.ConditionFamily.{rebate_unless_entry-runs_in_order}
 use Rattle.wire_orders.specs.ConditionFamily.{rebate_unless_entry-table}
 use Rattle.wire_orders.specs.ConditionTestStays.{condition_test-stays}
+use Rattle.wire_orders.specs.MoneyStays.{money-stays}
 
 pub condition-there : (n : ℕ) → IsThere condition-table (condition-place n)
 condition-there n = there_where condition-table (n == 2) _ _ (omega arith, refl)
@@ -38,9 +41,12 @@ condition-there n = there_where condition-table (n == 2) _ _ (omega arith, refl)
 abbrev pub condition-stays-of-known : Grounds → FieldsStay condition-known condition-range-of-known
 condition-stays-of-known g =
     two_stays
+    (two_stays
     (known_stays 1 condition-note-kind
     (optional_stays string_stays))
-    (condition_test-stays g)
+    (condition_test-stays g))
+    (known_stays 3 condition-least-kind
+    (embedded_once_stays g (money-stays g)))
 
 pub condition-choice_rows : (i : ℕ) → condition-choice.is_row i ≡ true → condition-once i ≡ true
 condition-choice_rows zero own = refl
@@ -49,7 +55,7 @@ condition-choice_rows (suc i) own = refl
 pub condition-kept : (g : Grounds) (m : Condition-Leaf)
     → (known_stay condition-table (condition-stays-of-known g)).Is m
     → (known_stay condition-table (condition-stays-of-known g)).Is (condition-choice.without m)
-condition-kept g m is = ((is.0.0, tt), is.1)
+condition-kept g m is = (((is.0.0.0, tt), is.0.1), is.1)
 
 pub condition-leaf-stays : Grounds
     → LeafStays condition-table (family-leaf-ranges Condition-Sort) (one_stands (first_choice condition-choice))

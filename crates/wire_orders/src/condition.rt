@@ -3,11 +3,6 @@ ghost use Rattle.std.specs.Prelude.{◌<◌, ◌≡◌};
 ghost use Rattle.wire_fields.specs.Nest.{row_at};
 ghost use Rattle.wire_orders.specs.ConditionFamily.{Condition-Sort, condition-value, condition-table};
 ghost use Rattle.wire_orders.specs.ConditionFamily.{family-holds, family-slice-sort, family-slice-values};
-ghost use Rattle.std.specs.Prelude.{option_map, ◌≡◌};
-ghost use Rattle.wire_fields.specs.Messages.{or_else};
-ghost use Rattle.wire_orders.specs.ConditionFamily.{condition_test-none, condition_test-value};
-ghost use Rattle.wire_orders.specs.ConditionTest.{least-of-condition_test-as};
-ghost use Rattle.wire_orders.specs.Money.{money-shape, money-value};
 
 use crate::condition_family::{FamilyHeld, FamilySlice};
 use crate::condition_test::ConditionTest;
@@ -22,12 +17,11 @@ use wire_codec::{
     Tag, UnknownFields,
 };
 use wire_fields::{
-    Always, AlwaysEmbedded, Kind, Known, Optional, Parts, Place, RecursiveMember, Rest, Text,
-    Uint32, keep, merge_held, merge_new, slice_size, write_slice,
+    Always, Embedded, Kind, Known, Optional, Parts, Place, RecursiveMember, Rest, Text, Uint32,
+    keep, merge_held, merge_new, slice_size, write_slice,
 };
 use wire_required::{
-    FieldPath, Required, RequiredMember, Requirement, RowRequirement, first_missing, missing_in,
-    slice_missing,
+    FieldPath, Required, RequiredMember, RowRequirement, first_missing, slice_missing,
 };
 
 /// What has to be so.
@@ -39,6 +33,7 @@ use wire_required::{
 pub struct Condition {
     pub note: Option<String>,
     pub test: Option<ConditionTest>,
+    pub least: Option<Box<Money>>,
     /// The fields that the schema lacks, as they came.
     pub unknown: UnknownFields,
 }
@@ -81,6 +76,7 @@ impl RecursiveMember<FamilyHeld> for Condition {
         Condition {
             note: <Optional<Text> as Kind>::empty(alloc),
             test: None,
+            least: <Embedded<Money> as Kind>::empty(alloc),
             unknown: UnknownFields::new(alloc),
         }
     }
@@ -139,14 +135,18 @@ impl RecursiveMember<FamilyHeld> for Condition {
                     number: 1,
                     held: &self.note,
                 };
-                let field_3 = ConditionTestFields3To4 { message: self };
-                (field_1, field_3).len(cache)
+                let field_4 = ConditionTestFields4To4 { message: self };
+                (field_1, field_4).len(cache)
             }
             _ => {
+                let field_3: Known<Embedded<Money>> = Known {
+                    number: 3,
+                    held: &self.least,
+                };
                 let rest = Rest {
                     fields: &self.unknown,
                 };
-                rest.len(cache)
+                (field_3, rest).len(cache)
             }
         }
     }
@@ -163,14 +163,18 @@ impl RecursiveMember<FamilyHeld> for Condition {
                     number: 1,
                     held: &self.note,
                 };
-                let field_3 = ConditionTestFields3To4 { message: self };
-                (field_1, field_3).put(cache, sink)
+                let field_4 = ConditionTestFields4To4 { message: self };
+                (field_1, field_4).put(cache, sink)
             }
             _ => {
+                let field_3: Known<Embedded<Money>> = Known {
+                    number: 3,
+                    held: &self.least,
+                };
                 let rest = Rest {
                     fields: &self.unknown,
                 };
-                rest.put(cache, sink)
+                (field_3, rest).put(cache, sink)
             }
         }
     }
@@ -184,19 +188,12 @@ impl RecursiveMember<FamilyHeld> for Condition {
     ) -> Result<(), DecodeError> {
         match tag.field_number() {
             1 => <Optional<Text> as Kind>::merge(alloc, tag, &mut self.note, buf, context),
-            3 => {
-                let mut value = least_or_new(alloc, self.test.take());
-                let merged = <AlwaysEmbedded<Money> as Kind>::merge(
-                    alloc, tag, &mut value, buf, context,
-                );
-                self.test = Some(ConditionTest::Least(value));
-                merged
-            }
             4 => {
                 let value = merge_new::<Always<Uint32>, B>(alloc, tag, buf, context)?;
                 self.test = Some(ConditionTest::Count(value));
                 Ok(())
             }
+            3 => <Embedded<Money> as Kind>::merge(alloc, tag, &mut self.least, buf, context),
             _ => keep(alloc, tag, &mut self.unknown, buf, context),
         }
     }
@@ -213,7 +210,6 @@ impl Condition {
             0 => {
                 match &self.test {
                     Some(ConditionTest::Also(message)) => FamilySlice::Rebate(from_ref(message)),
-                    Some(ConditionTest::Least(_)) => FamilySlice::Rebate(&[]),
                     Some(ConditionTest::Count(_)) => FamilySlice::Rebate(&[]),
                     None => FamilySlice::Rebate(&[]),
                 }
@@ -275,46 +271,27 @@ impl MessageFields for Condition {
     fn clear(&mut self) {
         <Optional<Text> as Kind>::clear(&mut self.note);
         self.test = None;
+        <Embedded<Money> as Kind>::clear(&mut self.least);
         self.unknown.clear();
-    }
-}
-
-// The `Least` that stands, or a new one.
-fn least_or_new(alloc: Global, held: Option<ConditionTest>) -> Money
-    ensures { money-value result ≡ or_else money-shape.default (least-of-condition_test-as
-        (or_else condition_test-none (option_map condition_test-value held)).0) }
-{
-    match held {
-        Some(ConditionTest::Least(value)) => value,
-        Some(ConditionTest::Count(_)) => <AlwaysEmbedded<Money> as Kind>::empty(alloc),
-        Some(ConditionTest::Also(_)) => <AlwaysEmbedded<Money> as Kind>::empty(alloc),
-        None => <AlwaysEmbedded<Money> as Kind>::empty(alloc),
     }
 }
 
 // The variants of `ConditionTest` that are no messages of a row.
 #[derive(Drop)]
-struct ConditionTestFields3To4<'a> {
+struct ConditionTestFields4To4<'a> {
     message: &'a Condition,
 }
 
-impl<'a> Parts for ConditionTestFields3To4<'a> {
+impl<'a> Parts for ConditionTestFields4To4<'a> {
     ghost use Rattle.wire_fields.specs.Nest.{leaf_of};
     ghost use Rattle.wire_fields.specs.Sums.{of_first};
-    ghost use Rattle.wire_orders.specs.ConditionFamily.{condition-records-3};
+    ghost use Rattle.wire_orders.specs.ConditionFamily.{condition-records-4};
 
     ghost records = { λ p.
-        of_first (condition-records-3) (leaf_of (condition-value p.message.now)) };
+        of_first (condition-records-4) (leaf_of (condition-value p.message.now)) };
 
     fn len(&self, cache: &mut SizeCache) -> Result<u64, EncodeError> {
         match &self.message.test {
-            Some(ConditionTest::Least(value)) => {
-                let field: Known<AlwaysEmbedded<Money>> = Known {
-                    number: 3,
-                    held: value,
-                };
-                field.len(cache)
-            }
             Some(ConditionTest::Count(value)) => {
                 let field: Known<Always<Uint32>> = Known {
                     number: 4,
@@ -329,13 +306,6 @@ impl<'a> Parts for ConditionTestFields3To4<'a> {
 
     fn put<S: EncodeSink>(&self, cache: &mut SizeCache, sink: &mut S) -> Result<(), EncodeError> {
         match &self.message.test {
-            Some(ConditionTest::Least(value)) => {
-                let field: Known<AlwaysEmbedded<Money>> = Known {
-                    number: 3,
-                    held: value,
-                };
-                field.put(cache, sink)
-            }
             Some(ConditionTest::Count(value)) => {
                 let field: Known<Always<Uint32>> = Known {
                     number: 4,
@@ -345,38 +315,6 @@ impl<'a> Parts for ConditionTestFields3To4<'a> {
             }
             Some(ConditionTest::Also(_)) => Ok(()),
             None => Ok(()),
-        }
-    }
-}
-
-// What is asked of the variants of `ConditionTest` that are no messages of a row.
-struct ConditionTestRequired3To4;
-
-impl Requirement for ConditionTestRequired3To4 {
-    ghost use Rattle.std.specs.Prelude.{option_map};
-    ghost use Rattle.wire_fields.specs.Messages.{or_else};
-    ghost use Rattle.wire_orders.specs.ConditionFamily.{condition_test-none, condition_test-value};
-    ghost use Rattle.wire_orders.specs.ConditionTest.{ConditionTest-Value, condition_test-missing};
-
-    type Held = Option<ConditionTest>;
-
-    ghost Value = { ConditionTest-Value };
-
-    ghost view = { λ held.
-        (or_else condition_test-none (option_map condition_test-value held)).0 };
-
-    ghost missing = { λ name. condition_test-missing };
-
-    fn missing(
-        alloc: Global,
-        _name: &'static str,
-        held: &Option<ConditionTest>,
-    ) -> Result<Option<FieldPath>, AllocError> {
-        match held {
-            Some(ConditionTest::Least(message)) => missing_in(alloc, "least", message),
-            Some(ConditionTest::Count(_)) => Ok(None),
-            Some(ConditionTest::Also(_)) => Ok(None),
-            None => Ok(None),
         }
     }
 }
@@ -404,12 +342,12 @@ impl RequiredMember for Condition {
 
     fn run_missing(&self, alloc: Global, run: usize) -> Result<Option<FieldPath>, AllocError> {
         match run {
-            0 => first_missing!(
+            0 => Ok(None),
+            _ => first_missing!(
                 self,
                 alloc,
-                "test" => test: ConditionTestRequired3To4,
+                "least" => least: Embedded<Money>,
             ),
-            _ => Ok(None),
         }
     }
 }

@@ -48,11 +48,6 @@ module _ {S L : Type 0} (family : Family S L) (asked : Asked S L) (s : S) where
       (each_of_row family asked (family.holds s k) r)
   next_of l (suc i) k (row r rs) h = next_of l i k rs (omega (arith, h))
 
-  -- the first run, and the rows
-  pub first_run : (m : Nest L) → family_missing family asked s m
-      ≡ option_or (asked.run s 0 (leaf_of m)) (left_missing family asked s m 0)
-  first_run (nest l rows) = refl
-
   -- what a row lacks, the run behind it, and the rows to come
   pub next_row : (m : Nest L) (i : ℕ) (q : AskedRow) (held : S) (ms : List (Nest L))
       (found : Missing) → i < row_count m → q ≡ asked.row s i → held ≡ family.holds s i

@@ -1,12 +1,11 @@
-use Rattle.std.proofs.Common.{◌≡◌, ◌<◌, ◌∙◌, length, map, ap, sym, rules, arith}
+use Rattle.std.proofs.Common.{◌≡◌, ◌<◌, ◌∙◌, length, ap, sym, rules, arith}
 use Rattle.std.specs.Prelude.{None}
 use Rattle.wire_fields.specs.Nest.{nodes, all_nodes, row_count, row_less, message_less}
 use Rattle.wire_fields.specs.NestTable.{empty_of, message_at}
 use Rattle.wire_required.specs.Missing.{at}
-use Rattle.wire_required.specs.Nested.{family_missing, row_missing}
+use Rattle.wire_required.specs.Nested.{family_missing}
 use Rattle.wire_required.specs.Path.{index}
-use Rattle.wire_required.proofs.MissingRows.{found_here, not_here, next_message, first_run}
-use Rattle.wire_required.proofs.MissingRows.{next_row, no_rows}
+use Rattle.wire_required.proofs.MissingRows.{found_here, not_here, next_message, next_row, no_rows}
 use Rattle.wire_required.proofs.nested.+missing.Goals as goal
 
 pub missing_in_list-slice_missing-requires : goal.missing_in_list-slice_missing-requires
