@@ -1,6 +1,26 @@
 //! What is shown of a oneof of which some variants are rows.
 use wire_schema::{Template, Words};
 
+/// Which rows may stand beside a leaf of a family, where some are variants of a oneof.
+pub(crate) const STANDS: &str = "
+-- which rows may stand beside a leaf
+abbrev pub family-stands : Family-Sorts → Beside Family-Leaves
+$leaf_stands$";
+
+pub(crate) const USES_OF_STANDS: &str = "\
+Rattle.wire_fields.specs.ChoiceBack choice_back
+Rattle.wire_fields.specs.ChoiceBack one_stands
+Rattle.wire_fields.specs.NestBack beside_returned
+Rattle.wire_fields.specs.NestChoice first_choice
+Rattle.wire_fields.specs.NestChoice second_choice
+Rattle.wire_fields.specs.NestRange Beside
+Rattle.wire_fields.specs.NestRange LeafBeside
+Rattle.wire_fields.specs.NestRange any_beside
+Rattle.wire_fields.specs.NestRange beside_range
+Rattle.wire_fields.specs.ChoiceBack first_is_choice
+Rattle.wire_fields.specs.ChoiceBack second_is_choice
+";
+
 const USES: &str = "\
 Rattle.wire_fields.specs.ChoiceBack IsChoice
 ";

@@ -1,5 +1,6 @@
 //! The definitions of message types that hold one another, on a page of all of them.
 use crate::account::{FAMILY_ACCOUNT, MEMBER_ACCOUNT};
+use crate::choice_laws::{STANDS, USES_OF_STANDS};
 use crate::comments::set_heading;
 use crate::laws_pages::has_laws;
 use crate::mentioned::use_mentioned_of;
@@ -250,26 +251,6 @@ $module$-counted m = ap row_count (fold_out-$name$$trees$$ones$ m)
     ),
     ("backs", "$back$"),
 ];
-
-// Which rows may stand beside a leaf, where some are variants of a oneof.
-const STANDS: &str = "
--- which rows may stand beside a leaf
-abbrev pub family-stands : Family-Sorts → Beside Family-Leaves
-$leaf_stands$";
-
-const USES_OF_STANDS: &str = "\
-Rattle.wire_fields.specs.ChoiceBack choice_back
-Rattle.wire_fields.specs.ChoiceBack one_stands
-Rattle.wire_fields.specs.NestBack beside_returned
-Rattle.wire_fields.specs.NestChoice first_choice
-Rattle.wire_fields.specs.NestChoice second_choice
-Rattle.wire_fields.specs.NestRange Beside
-Rattle.wire_fields.specs.NestRange LeafBeside
-Rattle.wire_fields.specs.NestRange any_beside
-Rattle.wire_fields.specs.NestRange beside_range
-Rattle.wire_fields.specs.ChoiceBack first_is_choice
-Rattle.wire_fields.specs.ChoiceBack second_is_choice
-";
 
 const OF_CHOICES: [Template; 4] = [
     (

@@ -158,7 +158,8 @@ pub(crate) fn put_choice_requirement(page: &mut Words, oneof: &Oneof) {
         put_arm(page, "$choice$");
     }
     page.set("of_requiring", "");
-    for name in page.take("own_rows").split(' ') {
+    let rows = page.take("own_rows");
+    for name in rows.split(' ') {
         if !name.is_empty() {
             page.set("variant", name);
             put_arm(page, "$choice$");
