@@ -7,3 +7,12 @@ pub mod One
 pub mod Escaped
 pub mod Front
 pub mod Decimal
+pub mod ShownOpen
+pub mod ShownPut
+pub mod ShownWalk
+pub mod ShownRecord
+pub mod ShownMessage
+pub mod ShownPacked
+pub mod EnumNames
+pub mod ShownUnfit
+pub mod Behind

@@ -32,12 +32,12 @@ pub record Sofar (y : Layout) (place : ℕ) (l : Limits) (all : List ℕ) (s : A
   pub covers : width_of lines ≡ length front
   pub written : new ≡ old ++ printed y.has_offsets place lines
 
-put_all-append : (items : List Item) (i : Item) (r : Records)
+pub put_all-append : (items : List Item) (i : Item) (r : Records)
     → put_all (items ++ i ∷ []) r ≡ put i (put_all items r)
 put_all-append [] i r = refl
 put_all-append (j ∷ items) i r = put_all-append items i (put j r)
 
-length-numbers : (levels : List Group) → length (numbers levels) ≡ length levels
+pub length-numbers : (levels : List Group) → length (numbers levels) ≡ length levels
 length-numbers [] = refl
 length-numbers (g ∷ levels) = ap suc (length-numbers levels)
 
@@ -60,7 +60,7 @@ shown : ItemsTellRecords → (l : Limits) (all : List ℕ) (items : List Item) (
     → rebuilt items ≡ record { levels = place.levels; fields = place.fields }
 shown tell l all items s place = ap rebuilt place.items_are ∙ tell place.levels place.fields
 
-open_count : ItemsTellRecords → (l : Limits) (all : List ℕ) (items : List Item) (s : At)
+pub open_count : ItemsTellRecords → (l : Limits) (all : List ℕ) (items : List Item) (s : At)
     → IsAt l all items s → s.groups ≡ numbers (rebuilt items).levels
 open_count tell l all items s place =
     place.groups ∙ ap (λ (r : Records). numbers r.levels) (sym (shown tell l all items s place))

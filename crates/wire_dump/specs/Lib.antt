@@ -9,3 +9,7 @@ pub mod Frames
 pub mod Shortened
 pub mod Laws
 pub mod Input
+pub mod Names
+pub mod Numbers
+pub mod Shows
+pub mod Shown

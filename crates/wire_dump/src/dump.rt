@@ -57,9 +57,9 @@ pub(crate) fn put_records(
     Ok(())
 }
 
-// Puts the lines of an event, which is this text, and behind which so many groups are open.
+/// Puts the lines of an event, which is this text, and behind which so many groups are open.
 #[cycle(dump)]
-fn put_item(
+pub(crate) fn put_item(
     out: &mut Vec<u8>,
     layout: Layout,
     count: u32,

@@ -1,16 +1,44 @@
 //! Floats as C++ prints them: with as few digits as a shorter form has, where that is read back as
 //! the same number, and else with as many as every number needs.
+ghost use Rattle.std.specs.Prelude.{◌≡◌, ◌^◌, ◌++◌, ℕ, List, OnOk, codes, if◌then◌else◌};
+ghost use Rattle.wire_dump.specs.Numbers.{IsFloat};
+
 use std::alloc::{AllocError, Global};
 use wire_fields::{DoubleBits, FloatBits};
 
+// The sign of a number, and infinity.
+const DOUBLE_SIGN: u64 = 0x8000_0000_0000_0000;
+
+const DOUBLE_INFINITY: u64 = 0x7FF0_0000_0000_0000;
+
+const FLOAT_SIGN: u32 = 0x8000_0000;
+
+const FLOAT_INFINITY: u32 = 0x7F80_0000;
+
+// The least number with all of a float's digits.
+const FLOAT_NORMAL: u32 = 0x0080_0000;
+
 /// Puts the number of these bits behind what was put.
-pub(crate) fn put_double(alloc: Global, out: &mut Vec<u8>, bits: u64) -> Result<(), AllocError> {
-    let Some(value) = (DoubleBits { bits }).get() else {
+pub(crate) fn put_double(alloc: Global, out: &mut Vec<u8>, bits: u64) -> Result<(), AllocError>
+    ensures { OnOk result ((text : List ℕ) × IsFloat (2 ^ 63) 9218868437227405312 bits text
+        × (out.new.items ≡ out.old.items ++ text)) }
+{
+    let size = bits % DOUBLE_SIGN;
+    if size > DOUBLE_INFINITY {
         return out.extend_from_slice(b"nan");
-    };
-    if value.is_infinite() {
-        return put_infinite(out, value < 0.0);
     }
+    if size == DOUBLE_INFINITY {
+        return put_infinite(out, bits >= DOUBLE_SIGN);
+    }
+    match (DoubleBits { bits }).get() {
+        Some(value) => put_finite_double(alloc, out, value),
+        None => out.extend_from_slice(b"nan"),
+    }
+}
+
+fn put_finite_double(alloc: Global, out: &mut Vec<u8>, value: f64) -> Result<(), AllocError>
+    ensures { OnOk result ((text : List ℕ) × (out.new.items ≡ out.old.items ++ text)) }
+{
     let short = format!(in alloc; "{value:.14e}")?;
     if short.parse::<f64>() == Ok(value) {
         return put_general(out, &short, 15);
@@ -19,22 +47,43 @@ pub(crate) fn put_double(alloc: Global, out: &mut Vec<u8>, bits: u64) -> Result<
 }
 
 /// The same of 32 bits.
-pub(crate) fn put_float(alloc: Global, out: &mut Vec<u8>, bits: u32) -> Result<(), AllocError> {
-    let Some(value) = (FloatBits { bits }).get() else {
+pub(crate) fn put_float(alloc: Global, out: &mut Vec<u8>, bits: u32) -> Result<(), AllocError>
+    ensures { OnOk result ((text : List ℕ) × IsFloat (2 ^ 31) 2139095040 bits text
+        × (out.new.items ≡ out.old.items ++ text)) }
+{
+    let size = bits % FLOAT_SIGN;
+    if size > FLOAT_INFINITY {
         return out.extend_from_slice(b"nan");
-    };
-    if value.is_infinite() {
-        return put_infinite(out, value < 0.0);
     }
-    let short = format!(in alloc; "{value:.5e}")?;
+    if size == FLOAT_INFINITY {
+        return put_infinite(out, bits >= FLOAT_SIGN);
+    }
     // (C++ takes no short form of a number that is too small to be a normal one)
-    if bits % 0x8000_0000 >= 0x0080_0000 && short.parse::<f32>() == Ok(value) {
+    match (FloatBits { bits }).get() {
+        Some(value) => put_finite_float(alloc, out, value, size >= FLOAT_NORMAL),
+        None => out.extend_from_slice(b"nan"),
+    }
+}
+
+fn put_finite_float(
+    alloc: Global,
+    out: &mut Vec<u8>,
+    value: f32,
+    is_normal: bool,
+) -> Result<(), AllocError>
+    ensures { OnOk result ((text : List ℕ) × (out.new.items ≡ out.old.items ++ text)) }
+{
+    let short = format!(in alloc; "{value:.5e}")?;
+    if is_normal && short.parse::<f32>() == Ok(value) {
         return put_general(out, &short, 6);
     }
     put_general(out, &format!(in alloc; "{value:.8e}")?, 9)
 }
 
-fn put_infinite(out: &mut Vec<u8>, is_negative: bool) -> Result<(), AllocError> {
+fn put_infinite(out: &mut Vec<u8>, is_negative: bool) -> Result<(), AllocError>
+    ensures { OnOk result (out.new.items ≡ out.old.items
+        ++ (if is_negative then codes "-inf" else codes "inf")) }
+{
     out.extend_from_slice(if is_negative {
         b"-inf".as_slice()
     } else {
@@ -44,7 +93,9 @@ fn put_infinite(out: &mut Vec<u8>, is_negative: bool) -> Result<(), AllocError> 
 
 // Puts a number of so many digits, written as `-1.2345e-6`, as C's `%g` does: with an exponent
 // where that is below -4 or as large as the count of digits, and without the zeros at the end.
-fn put_general(out: &mut Vec<u8>, text: &str, digits: i32) -> Result<(), AllocError> {
+fn put_general(out: &mut Vec<u8>, text: &str, digits: i32) -> Result<(), AllocError>
+    ensures { OnOk result ((text : List ℕ) × (out.new.items ≡ out.old.items ++ text)) }
+{
     let (number, exponent) = text.split_once('e').unwrap_or((text, "0"));
     let exponent = exponent.parse::<i32>().unwrap_or(0);
     let (sign, number) = match number.strip_prefix('-') {
@@ -61,7 +112,8 @@ fn put_general(out: &mut Vec<u8>, text: &str, digits: i32) -> Result<(), AllocEr
         out.extend_from_slice(b"0.")?;
         put_zeros(out, exponent.unsigned_abs().saturating_sub(1))?;
         out.extend_from_slice(first.as_bytes())?;
-        return out.extend_from_slice(rest.as_bytes());
+        out.extend_from_slice(rest.as_bytes())?;
+        return Ok(());
     }
     put_plain(out, first, rest.as_bytes(), exponent.unsigned_abs())
 }
@@ -71,7 +123,9 @@ fn put_scientific(
     first: &str,
     rest: &str,
     exponent: i32,
-) -> Result<(), AllocError> {
+) -> Result<(), AllocError>
+    ensures { OnOk result ((text : List ℕ) × (out.new.items ≡ out.old.items ++ text)) }
+{
     out.extend_from_slice(first.as_bytes())?;
     if !rest.is_empty() {
         out.extend_from_slice(b".")?;
@@ -87,7 +141,9 @@ fn put_scientific(
 }
 
 // A number whose point stands so many digits behind the first.
-fn put_plain(out: &mut Vec<u8>, first: &str, rest: &[u8], exponent: u32) -> Result<(), AllocError> {
+fn put_plain(out: &mut Vec<u8>, first: &str, rest: &[u8], exponent: u32) -> Result<(), AllocError>
+    ensures { OnOk result ((text : List ℕ) × (out.new.items ≡ out.old.items ++ text)) }
+{
     out.extend_from_slice(first.as_bytes())?;
     let exponent = exponent as usize;
     if rest.len() <= exponent {
@@ -99,7 +155,9 @@ fn put_plain(out: &mut Vec<u8>, first: &str, rest: &[u8], exponent: u32) -> Resu
     out.extend_from_slice(&rest[exponent..])
 }
 
-fn put_zeros(out: &mut Vec<u8>, count: u32) -> Result<(), AllocError> {
+fn put_zeros(out: &mut Vec<u8>, count: u32) -> Result<(), AllocError>
+    ensures { OnOk result ((text : List ℕ) × (out.new.items ≡ out.old.items ++ text)) }
+{
     for _ in 0..count {
         out.push(b'0')?;
     }

@@ -6,6 +6,9 @@ use wire_codec::DecodeError;
 use wire_dynamic::{Told, Walk};
 use wire_read::{Reader, Value, laws};
 
+/// What is said of a record that is no value of its field's type.
+pub(crate) const TYPE_CAUSE: &str = "no value of its type";
+
 /// Why a record does not fit its field.
 #[derive(Debug, Drop)]
 pub(crate) enum Cause {
@@ -22,7 +25,7 @@ pub(crate) enum Cause {
 impl fmt::Display for Cause {
     fn fmt<W: fmt::Write>(&self, f: &mut fmt::Formatter<W>) -> fmt::Result {
         match self {
-            Cause::Type => f.write_str("no value of its type"),
+            Cause::Type => f.write_str(TYPE_CAUSE),
             Cause::Text => f.write_str("no UTF-8 text"),
             Cause::Depth => f.write_str("too many levels"),
             Cause::Fault(error, place) => write!(f, "{error} at {place}"),

@@ -1,19 +1,31 @@
 //! The lines of all records of a message whose type is known.
-ghost use Rattle.std.specs.Prelude.{◌≡◌, ◌+◌, ◌^◌, ◌<◌, ◌≤◌, length};
+ghost use Rattle.std.specs.Prelude.{◌≡◌, ◌+◌, ◌^◌, ◌<◌, ◌≤◌, ℕ, IsTrue, OnOk, IfOk, IfSome, IfNone, Err, Some, length};
+ghost use Rattle.std.specs.Option.{option_copied};
+ghost use Rattle.wire_base.specs.Field.{bytes};
+ghost use Rattle.wire_base.specs.Items.{IsItem};
+ghost use Rattle.wire_read.specs.declared.event.Fault.{Fault};
+ghost use Rattle.wire_read.specs.Reading.{item, limits_of, Begins};
+ghost use Rattle.wire_dynamic.specs.declared.field.Kind.TheVariants as kinds;
+ghost use Rattle.wire_dynamic.specs.Told.{reader_of, root_of, schema_of};
+ghost use Rattle.wire_dump.specs.declared.misfit.Misfit.{Misfit};
 ghost use Rattle.wire_dump.specs.declared.typed.Halt.TheVariants as halts;
+ghost use Rattle.wire_dump.specs.declared.typed_record.Unput.TheVariants as unputs;
+ghost use Rattle.wire_dump.specs.Dumps.{SpellsRecord};
+ghost use Rattle.wire_dump.specs.Shown.{payload_of, AreRecords, IsRecord, IsShownFront, IsUnfit, ItemSpans, PutsSpans};
+ghost use Rattle.wire_dump.specs.Shows.{ShowsRecord};
 
-use crate::dump::put_records;
-use crate::field_name::{put_field_name, shown_name};
-use crate::layout::{Layout, Margin};
-use crate::line::{put_closing, put_indentation, put_margin, put_number, put_opening};
+use crate::dump::put_item;
+use crate::layout::Layout;
+use crate::line::put_closing;
 use crate::misfit::{Cause, Misfit, step_to};
-use crate::stop::Stop;
-use crate::typed_value::{Fit, put_number_of, put_quoted};
+use crate::output::{Output, Typed};
+use crate::typed_line::FieldLine;
+use crate::typed_record::{Record, Spot, Unput};
 use std::alloc::{AllocError, Global};
-use std::str;
-use wire_codec::decode_varint;
-use wire_dynamic::{Field, Kind, Schema, Told, Walk};
-use wire_read::{Fault, Reader, Value, laws};
+use wire_base::laws as grammar;
+use wire_codec::WireType;
+use wire_dynamic::{Kind, Told, Walk};
+use wire_read::{Fault, Value, laws};
 
 /// Why the lines of a message end before its bytes do.
 #[derive(Drop)]
@@ -23,48 +35,6 @@ pub(crate) enum Halt {
     /// A record does not fit its field, and nothing is to be put then.
     Misfit(Misfit),
     OutOfMemory,
-}
-
-/// How lines are put with a schema.
-#[derive(Drop)]
-pub(crate) struct Typed<'s> {
-    pub(crate) alloc: Global,
-    pub(crate) schema: &'s Schema,
-    pub(crate) has_offsets: bool,
-    /// Whether a record that does not fit its field ends the lines.
-    pub(crate) is_strict: bool,
-    /// Whether a record did not fit its field.
-    pub(crate) has_misfit: bool,
-}
-
-/// Where a message stands: how far its lines are indented, how many levels may stand in it, and the
-/// byte of the input at which it begins.
-#[derive(Clone, Copy, Debug)]
-pub(crate) struct Spot {
-    pub(crate) level: u32,
-    pub(crate) depth: u32,
-    pub(crate) place: usize,
-}
-
-// A record that is no group: its field, its bytes, of which those from `behind` on stand behind its
-// tag, and where it stands.
-#[derive(Drop)]
-struct Record<'a, 's> {
-    field: &'s Field,
-    value: Value<'a>,
-    text: &'a [u8],
-    behind: usize,
-    spot: Spot,
-}
-
-// What a record is for its field.
-#[derive(Drop)]
-enum Verdict {
-    /// Its lines are put.
-    Fits,
-    /// The enum, which is closed, has no such value.
-    Unknown,
-    Unfit(Cause),
 }
 
 impl From<AllocError> for Halt {
@@ -84,275 +54,256 @@ impl From<Fault> for Halt {
 }
 
 impl Typed<'_> {
-    /// Puts the lines of all records of a message. It calls itself for messages in it, within the
-    /// depth of the spot.
+    /// Puts the lines of all records of a message. Where a fault stands, those of the records
+    /// before it are put. It calls itself for messages in it, within the depth of the spot.
     #[cycle(typed)]
     pub(crate) fn put_message(
-        &mut self,
-        out: &mut Vec<u8>,
+        &self,
+        out: &mut Output,
         spot: Spot,
         walk: &mut Walk<'_>,
         bytes: &[u8],
     ) -> Result<(), Halt>
+        requires begins { Begins (limits_of (reader_of walk.old)) (reader_of walk.old) }
+        requires schema { schema_of walk.old ≡ self.now.schema.now }
+        requires shallow { spot.depth ≤ 100 }
         requires bounded { spot.level + spot.depth ≤ 200 }
         requires placed { spot.place + length bytes.now < 2 ^ 64 }
+        ensures ok { OnOk result (PutsSpans self.now spot.place
+            (AreRecords self.now.schema.now spot.depth spot.level (root_of walk.old)
+            (limits_of (reader_of walk.old)) bytes.now) bytes.now
+            out.old.text.items out.old.has_note out.new) }
+        ensures fault { (f : Fault) → result ≡ Err (halts.Fault f)
+            → IsShownFront self.now spot.depth spot.level (root_of walk.old) spot.place
+            (limits_of (reader_of walk.old)) bytes.now f
+            out.old.text.items out.old.has_note out.new }
+        ensures misfit { (m : Misfit) → result ≡ Err (halts.Misfit m)
+            → IsTrue self.now.is_strict }
     {
+        laws::reader_begins();
+        laws::reader_goes_on();
         laws::reader_moves_on();
+        laws::reader_is_done();
+        laws::reader_stops();
+        laws::items_tell_records();
         while let Some(told) = walk.next(bytes)? {
             let count = walk.reader().open_groups().len() as u32;
             let text = &bytes[told.event.start..told.event.end];
             let place = spot.place + told.event.start;
             match self.put_told(out, spot, count, place, &told, text) {
                 Ok(()) => {}
-                Err(halt) => return Err(halt_within(self.alloc, walk, &told, bytes, halt)),
+                Err(unput) => return Err(halt_within(self.alloc, walk, &told, bytes, unput)),
             }
         }
         Ok(())
     }
 
-    // Puts the lines of an event, behind which so many groups are open. This text is its bytes.
+    // Puts the lines of an event, which is this text, and behind which so many groups are open.
     #[cycle(typed)]
     fn put_told(
-        &mut self,
-        out: &mut Vec<u8>,
+        &self,
+        out: &mut Output,
         spot: Spot,
         count: u32,
         place: usize,
         told: &Told<'_, '_>,
         text: &[u8],
-    ) -> Result<(), Halt>
+    ) -> Result<(), Unput>
+        requires shallow { spot.depth ≤ 100 }
         requires bounded { spot.level + spot.depth ≤ 200 }
         requires few { count ≤ 100 }
         requires placed { place + length text.now < 2 ^ 64 }
+        requires is { IsItem (item told.now.event.number told.now.event.value) text.now }
+        ensures ok { OnOk result (PutsSpans self.now place
+            (ItemSpans self.now.schema.now spot.depth spot.level count
+            (option_copied told.now.field)
+            (item told.now.event.number told.now.event.value) text.now)
+            text.now out.old.text.items out.old.has_note out.new) }
+        ensures misfit { (m : Misfit) → result ≡ Err (unputs.Misfit m)
+            → IsTrue self.now.is_strict }
     {
-        let event = &told.event;
+        let event = told.event;
         let level = spot.level + count;
-        let layout = Layout::new(self.has_offsets, level);
-        let margin = layout.margin(place, place + text.len());
         let outside = spot.level + count.saturating_sub(1);
-        match (event.value, told.field) {
-            (Value::GroupStart, Some(field)) => {
-                self.put_group_opening(out, outside, field, event.number, margin)
+        match event.value {
+            Value::GroupStart => {
+                self.put_group_opening(out, outside, told.field, event.number, place, text)
             }
-            (Value::GroupStart, None) => Ok(put_opening(out, margin, outside, event.number)?),
-            (Value::GroupEnd, _) => Ok(put_closing(out, margin, level)?),
-            (_, None) => put_untyped(out, layout, place, text),
-            (value, Some(field)) => {
+            Value::GroupEnd => {
+                let margin = self.margin(place, text);
+                Ok(put_closing(&mut out.text, margin, level)?)
+            }
+            Value::Varint(_) | Value::Fixed64(_) | Value::Fixed32(_) | Value::Bytes(_) => {
+                let depth = spot.depth.saturating_sub(count);
+                let spot = Spot {
+                    level,
+                    depth,
+                    place,
+                };
+                self.put_flat(out, spot, told, text)
+            }
+        }
+    }
+
+    // Puts the lines of a record that is no group, and may have no field.
+    #[cycle(typed)]
+    fn put_flat(
+        &self,
+        out: &mut Output,
+        spot: Spot,
+        told: &Told<'_, '_>,
+        text: &[u8],
+    ) -> Result<(), Unput>
+        requires shallow { spot.depth ≤ 100 }
+        requires room { spot.level ≤ 300 }
+        requires bounded { 0 < spot.depth → spot.level + spot.depth ≤ 200 }
+        requires placed { spot.place + length text.now < 2 ^ 64 }
+        requires is { IsRecord told.now.event.number (payload_of told.now.event.value) text.now }
+        ensures ok { OnOk result (PutsSpans self.now spot.place
+            (ShowsRecord self.now.schema.now spot.depth spot.level (option_copied told.now.field)
+            told.now.event.number (payload_of told.now.event.value) text.now)
+            text.now out.old.text.items out.old.has_note out.new) }
+        ensures misfit { (m : Misfit) → result ≡ Err (unputs.Misfit m)
+            → IsTrue self.now.is_strict }
+    {
+        match told.field {
+            None => {
+                let layout = Layout::new(self.has_offsets, spot.level);
+                Ok(put_item(&mut out.text, layout, 0, &told.event, spot.place, text)?)
+            }
+            Some(field) => {
                 let record = Record {
                     field,
-                    value,
+                    event: told.event,
                     text,
-                    behind: event.payload.saturating_sub(event.start),
-                    spot: Spot {
-                        level,
-                        depth: spot.depth.saturating_sub(count),
-                        place,
-                    },
+                    spot,
                 };
                 self.put_record(out, &record)
             }
         }
     }
 
-    // Puts the line before what stands in a group, by its name where it is one for the schema.
-    fn put_group_opening(
-        &mut self,
-        out: &mut Vec<u8>,
-        level: u32,
-        field: &Field,
-        number: u32,
-        margin: Margin,
-    ) -> Result<(), Halt> {
-        if let Kind::Group(_) = field.kind {
-            put_margin(out, margin)?;
-            put_indentation(out, level)?;
-            put_field_name(out, self.schema, field)?;
-            return Ok(out.extend_from_slice(b" {\n")?);
-        }
-        if self.is_strict {
-            return Err(Halt::Misfit(Misfit::new(self.alloc, margin.start, Cause::Type)));
-        }
-        put_opening(out, margin, level, number)?;
-        self.put_note(out, field, &Cause::Type)
-    }
-
     // Puts the lines of a record that is no group.
     #[cycle(typed)]
-    fn put_record(&mut self, out: &mut Vec<u8>, found: &Record<'_, '_>) -> Result<(), Halt>
+    fn put_record(&self, out: &mut Output, found: &Record<'_, '_>) -> Result<(), Unput>
+        requires shallow { found.now.spot.depth ≤ 100 }
         requires room { found.now.spot.level ≤ 300 }
         requires bounded { 0 < found.now.spot.depth
             → found.now.spot.level + found.now.spot.depth ≤ 200 }
         requires placed { found.now.spot.place + length found.now.text.now < 2 ^ 64 }
+        requires is { IsRecord found.now.event.number (payload_of found.now.event.value)
+            found.now.text.now }
+        ensures ok { OnOk result (PutsSpans self.now found.now.spot.place
+            (ShowsRecord self.now.schema.now found.now.spot.depth found.now.spot.level
+            (Some found.now.field.now) found.now.event.number (payload_of found.now.event.value)
+            found.now.text.now) found.now.text.now out.old.text.items out.old.has_note out.new) }
+        ensures misfit { (m : Misfit) → result ≡ Err (unputs.Misfit m)
+            → IsTrue self.now.is_strict }
     {
-        let start = out.len();
-        let verdict = self.put_fitting(out, found)?;
-        if let Verdict::Fits = verdict {
+        let start = out.text.len();
+        let Some(cause) = self.put_fitting(out, found)? else {
             return Ok(());
-        }
-        out.truncate(start);
-        let layout = Layout::new(self.has_offsets, found.spot.level);
-        let Verdict::Unfit(cause) = verdict else {
-            return put_untyped(out, layout, found.spot.place, found.text);
         };
-        if self.is_strict {
-            return Err(Halt::Misfit(Misfit::new(self.alloc, found.spot.place, cause)));
-        }
-        put_untyped(out, layout, found.spot.place, found.text)?;
-        self.put_note(out, found.field, &cause)
-    }
-
-    // Puts a note behind the last line.
-    fn put_note(&mut self, out: &mut Vec<u8>, field: &Field, cause: &Cause) -> Result<(), Halt> {
-        self.has_misfit = true;
-        out.truncate(out.len().saturating_sub(1));
-        out.extend_from_slice(b"  # ")?;
-        out.extend_from_slice(shown_name(field).as_bytes())?;
-        let note = format!(in self.alloc; ": {cause}\n")?;
-        Ok(out.extend_from_slice(note.as_bytes())?)
+        out.text.truncate(start);
+        self.put_unfit(out, found, cause)
     }
 
     // Puts the lines of a record as its field has it, or some of them, where it does not fit.
     #[cycle(typed)]
-    fn put_fitting(&mut self, out: &mut Vec<u8>, found: &Record<'_, '_>) -> Result<Verdict, Halt>
+    fn put_fitting(&self, out: &mut Output, found: &Record<'_, '_>) -> Result<Option<Cause>, Unput>
+        requires shallow { found.now.spot.depth ≤ 100 }
         requires room { found.now.spot.level ≤ 300 }
         requires bounded { 0 < found.now.spot.depth
             → found.now.spot.level + found.now.spot.depth ≤ 200 }
         requires placed { found.now.spot.place + length found.now.text.now < 2 ^ 64 }
+        requires is { IsRecord found.now.event.number (payload_of found.now.event.value)
+            found.now.text.now }
+        ensures fits { IfOk result (λ cause. IfNone cause (PutsSpans self.now found.now.spot.place
+            (ShowsRecord self.now.schema.now found.now.spot.depth found.now.spot.level
+            (Some found.now.field.now) found.now.event.number (payload_of found.now.event.value)
+            found.now.text.now) found.now.text.now out.old.text.items out.old.has_note out.new)) }
+        ensures unfit { IfOk result (λ cause. IfSome cause (λ _. IsUnfit found.now.spot.depth
+            found.now.field.now (payload_of found.now.event.value) out.old.text.items out.new)) }
+        ensures misfit { (m : Misfit) → result ≡ Err (unputs.Misfit m)
+            → IsTrue self.now.is_strict }
     {
-        let field = found.field;
-        match (field.kind, found.value) {
+        match (found.field.kind, found.event.value) {
             (Kind::Message(root), Value::Bytes(payload)) => {
                 self.put_embedded(out, found, root, payload)
             }
-            (Kind::Text, Value::Bytes(payload)) if field.is_checked && !is_text(payload) => {
-                Ok(Verdict::Unfit(Cause::Text))
-            }
             (Kind::Text | Kind::Blob, Value::Bytes(payload)) => {
-                self.put_head(out, found)?;
-                put_quoted(out, payload)?;
-                out.extend_from_slice(b"\n")?;
-                Ok(Verdict::Fits)
+                self.put_string(out, found, payload)
             }
-            (kind, Value::Bytes(payload)) if field.is_repeated && is_packable(kind) => {
-                self.put_packed(out, found, payload)
+            (_, Value::Bytes(payload)) => self.put_packed(out, found, payload),
+            (_, Value::Varint(number)) => { self.put_single(out, found, WireType::Varint, number) }
+            (_, Value::Fixed64(number)) => {
+                self.put_single(out, found, WireType::Fixed64, number)
             }
-            (kind, value) if is_of(kind, value) => {
-                let mut rest = &found.text[found.behind.min(found.text.len())..];
-                self.put_number(out, found, &mut rest)
+            (_, Value::Fixed32(number)) => {
+                self.put_single(out, found, WireType::Fixed32, u64::from(number))
             }
-            _ => Ok(Verdict::Unfit(Cause::Type)),
+            (_, Value::GroupStart | Value::GroupEnd) => Ok(Some(Cause::Type)),
         }
     }
 
     // Puts the lines of a message in a message.
     #[cycle(typed)]
     fn put_embedded(
-        &mut self,
-        out: &mut Vec<u8>,
+        &self,
+        out: &mut Output,
         found: &Record<'_, '_>,
         root: usize,
         payload: &[u8],
-    ) -> Result<Verdict, Halt>
+    ) -> Result<Option<Cause>, Unput>
+        requires shallow { found.now.spot.depth ≤ 100 }
         requires room { found.now.spot.level ≤ 300 }
         requires bounded { 0 < found.now.spot.depth
             → found.now.spot.level + found.now.spot.depth ≤ 200 }
         requires placed { found.now.spot.place + length found.now.text.now < 2 ^ 64 }
+        requires kind { found.now.field.now.kind ≡ kinds.Message root }
+        requires is { SpellsRecord found.now.event.number (bytes payload.now) found.now.text.now }
+        ensures fits { IfOk result (λ cause. IfNone cause (PutsSpans self.now found.now.spot.place
+            (ShowsRecord self.now.schema.now found.now.spot.depth found.now.spot.level
+            (Some found.now.field.now) found.now.event.number (bytes payload.now)
+            found.now.text.now) found.now.text.now out.old.text.items out.old.has_note out.new)) }
+        ensures unfit { IfOk result (λ cause. IfSome cause (λ _. IsUnfit found.now.spot.depth
+            found.now.field.now (bytes payload.now) out.old.text.items out.new)) }
+        ensures misfit { (m : Misfit) → result ≡ Err (unputs.Misfit m)
+            → IsTrue self.now.is_strict }
     {
         if found.spot.depth == 0 {
-            return Ok(Verdict::Unfit(Cause::Depth));
+            return Ok(Some(Cause::Depth));
         }
+        grammar::whole_input();
+        grammar::no_list_beside_fault();
         let end = found.spot.place + found.text.len();
         let place = end.saturating_sub(payload.len());
         let layout = Layout::new(self.has_offsets, found.spot.level);
-        put_margin(out, layout.margin(found.spot.place, place))?;
-        put_indentation(out, layout.level)?;
-        put_field_name(out, self.schema, found.field)?;
-        out.extend_from_slice(b" {\n")?;
+        let line = FieldLine {
+            schema: &*self.schema,
+            field: &*found.field,
+            level: layout.level,
+            margin: layout.margin(found.spot.place, place),
+        };
+        line.put_opening(&mut out.text)?;
         let spot = Spot {
             level: found.spot.level + 1,
             depth: found.spot.depth - 1,
             place,
         };
-        let mut walk = Walk::new(self.schema, root, spot.depth);
+        let mut walk = Walk::new(&*self.schema, root, spot.depth);
         match self.put_message(out, spot, &mut walk, payload) {
             Ok(()) => {
-                put_closing(out, layout.margin(end, end), layout.level)?;
-                Ok(Verdict::Fits)
+                put_closing(&mut out.text, layout.margin(end, end), layout.level)?;
+                Ok(None)
             }
-            Err(Halt::Fault(fault)) => Ok(Verdict::Unfit(Cause::Fault(
+            Err(Halt::Fault(fault)) => Ok(Some(Cause::Fault(
                 fault.error,
                 place.saturating_add(fault.part_place),
             ))),
-            Err(halt) => Err(halt),
+            Err(Halt::Misfit(misfit)) => Err(Unput::Misfit(misfit)),
+            Err(Halt::OutOfMemory) => Err(Unput::OutOfMemory),
         }
-    }
-
-    // Puts a line for each number of a packed list.
-    fn put_packed(
-        &mut self,
-        out: &mut Vec<u8>,
-        found: &Record<'_, '_>,
-        payload: &[u8],
-    ) -> Result<Verdict, Halt> {
-        let mut rest = payload;
-        while !rest.is_empty() {
-            let front = rest;
-            let start = out.len();
-            match self.put_number(out, found, &mut rest)? {
-                Verdict::Fits => {}
-                Verdict::Unknown => {
-                    out.truncate(start);
-                    self.put_unknown_number(out, found, front)?;
-                }
-                verdict => return Ok(verdict),
-            }
-            if rest.len() >= front.len() {
-                return Ok(Verdict::Unfit(Cause::Type));
-            }
-        }
-        Ok(Verdict::Fits)
-    }
-
-    // Puts the line of a number that a closed enum lacks.
-    fn put_unknown_number(
-        &mut self,
-        out: &mut Vec<u8>,
-        found: &Record<'_, '_>,
-        bytes: &[u8],
-    ) -> Result<(), Halt> {
-        let mut rest = bytes;
-        let number = decode_varint(&mut rest).unwrap_or(0);
-        let layout = Layout::new(self.has_offsets, found.spot.level);
-        let end = found.spot.place.saturating_add(found.text.len());
-        let margin = layout.margin(found.spot.place, end);
-        Ok(put_number(out, margin, layout.level, found.field.number, number)?)
-    }
-
-    // Puts the line of the number at the front of bytes, and takes it off.
-    fn put_number(
-        &mut self,
-        out: &mut Vec<u8>,
-        found: &Record<'_, '_>,
-        bytes: &mut &[u8],
-    ) -> Result<Verdict, Halt> {
-        self.put_head(out, found)?;
-        let fit = put_number_of(self.alloc, self.schema, out, found.field.kind, bytes)?;
-        out.extend_from_slice(b"\n")?;
-        Ok(match fit {
-            Fit::Put => Verdict::Fits,
-            Fit::Unknown => Verdict::Unknown,
-            Fit::Unfit => Verdict::Unfit(Cause::Type),
-        })
-    }
-
-    // Puts what stands before the value of a line of a record.
-    fn put_head(&self, out: &mut Vec<u8>, found: &Record<'_, '_>) -> Result<(), AllocError> {
-        let layout = Layout::new(self.has_offsets, found.spot.level);
-        let end = found.spot.place.saturating_add(found.text.len());
-        put_margin(out, layout.margin(found.spot.place, end))?;
-        put_indentation(out, found.spot.level)?;
-        put_field_name(out, self.schema, found.field)?;
-        out.extend_from_slice(b": ")
     }
 }
 
@@ -362,10 +313,14 @@ fn halt_within(
     walk: &Walk<'_>,
     told: &Told<'_, '_>,
     bytes: &[u8],
-    halt: Halt,
-) -> Halt {
-    let Halt::Misfit(misfit) = halt else {
-        return halt;
+    unput: Unput,
+) -> Halt
+    ensures fault { (f : Fault) → result ≡ halts.Fault f → ⊥ }
+    ensures misfit { (m : Misfit) → result ≡ halts.Misfit m
+        → (n : Misfit) × (unput ≡ unputs.Misfit n) }
+{
+    let Unput::Misfit(misfit) = unput else {
+        return Halt::OutOfMemory;
     };
     let Ok(step) = step_to(alloc, walk, told, bytes) else {
         return Halt::OutOfMemory;
@@ -374,50 +329,4 @@ fn halt_within(
         Ok(misfit) => Halt::Misfit(misfit),
         Err(_) => Halt::OutOfMemory,
     }
-}
-
-// Puts the lines of a record that is no group as without a schema.
-fn put_untyped(out: &mut Vec<u8>, layout: Layout, place: usize, text: &[u8]) -> Result<(), Halt>
-    requires room { layout.level ≤ 300 }
-    requires budget { layout.budget ≡ 10 }
-    requires placed { place + length text.now < 2 ^ 64 }
-{
-    let mut reader = Reader::new(0);
-    match put_records(out, layout, place, &mut reader, text) {
-        Ok(()) => Ok(()),
-        Err(Stop::Fault(fault)) => Err(Halt::Fault(fault)),
-        Err(Stop::OutOfMemory) => Err(Halt::OutOfMemory),
-    }
-}
-
-// Whether numbers of this kind can stand in a packed list.
-fn is_packable(kind: Kind) -> bool {
-    !matches!(
-        kind,
-        Kind::Text | Kind::Blob | Kind::Message(_) | Kind::Group(_)
-    )
-}
-
-// Whether a value is of the wire type of numbers of this kind.
-fn is_of(kind: Kind, value: Value<'_>) -> bool {
-    match value {
-        Value::Fixed64(_) => matches!(kind, Kind::Double | Kind::Fixed64 | Kind::Sfixed64),
-        Value::Fixed32(_) => matches!(kind, Kind::Float | Kind::Fixed32 | Kind::Sfixed32),
-        Value::Varint(_) => matches!(
-            kind,
-            Kind::Int64
-                | Kind::Uint64
-                | Kind::Int32
-                | Kind::Bool
-                | Kind::Uint32
-                | Kind::Enum(_)
-                | Kind::Sint32
-                | Kind::Sint64
-        ),
-        _ => false,
-    }
-}
-
-fn is_text(bytes: &[u8]) -> bool {
-    str::from_utf8(bytes).is_ok()
 }

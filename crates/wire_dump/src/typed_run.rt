@@ -1,18 +1,33 @@
 //! Runs with a schema.
-ghost use Rattle.std.specs.Prelude.{◌+◌, ◌^◌, ◌<◌, length};
+ghost use Rattle.std.specs.Prelude.{◌≡◌, ◌≤◌, ◌+◌, ◌^◌, ◌<◌, length};
+ghost use Rattle.wire_read.specs.Reading.{limits_of, Begins};
+ghost use Rattle.wire_dynamic.specs.Told.{reader_of, schema_of};
 
 use crate::fault_line::{RecordsPlace, tell_fault};
 use crate::input::{input, read};
 use crate::layout::Layout;
 use crate::line::{put_closing, put_frame_opening};
+use crate::missing::Missing;
 use crate::options::Options;
-use crate::typed::{Halt, Spot, Typed};
+use crate::output::{Output, Typed};
+use crate::typed::Halt;
+use crate::typed_record::Spot;
 use bytes::Bytes;
 use std::fs;
 use std::io::Write;
 use wire_dynamic::{Schema, SchemaError, Walk};
 use wire_frames::{FrameDecoder, Framing};
 use wire_run::{FramePlace, RunError, open_error, write_error};
+
+// A run with a schema, for messages of the type at this place.
+#[derive(Drop)]
+struct TypedRun<'a> {
+    rt: &'a HostRuntime,
+    options: &'a Options<'a>,
+    root: usize,
+    typed: Typed<'a>,
+    missing: Missing<'a>,
+}
 
 /// The schema of the descriptor set in this file. Why there is none is told.
 pub(crate) fn schema_in(rt: &HostRuntime, path: &str, size: u64) -> Result<Schema, RunError> {
@@ -39,23 +54,33 @@ pub(crate) fn run_typed(
     let Some(name) = options.type_name else {
         return list_types(rt, schema);
     };
-    let root = root_of(rt, options, schema, name)?;
-    let bytes = input(rt, options)?;
-    let mut typed = Typed {
-        alloc: rt.alloc(),
-        schema,
-        has_offsets: options.has_offsets,
-        is_strict: options.is_strict,
-        has_misfit: false,
+    let Ok(missing) = Missing::of(rt.alloc(), schema) else {
+        return Err(RunError::OutOfMemory);
     };
-    let mut out = Vec::new(rt.alloc());
+    let run = TypedRun {
+        rt,
+        options,
+        root: root_of(rt, options, schema, name)?,
+        typed: Typed {
+            alloc: rt.alloc(),
+            schema,
+            has_offsets: options.has_offsets,
+            is_strict: options.is_strict,
+        },
+        missing,
+    };
+    let bytes = input(rt, options)?;
+    let mut out = Output {
+        text: Vec::new(rt.alloc()),
+        has_note: false,
+    };
     if options.is_delimited {
-        put_log(rt, options, &mut typed, root, bytes, &mut out)?;
+        run.put_log(bytes, &mut out)?;
     } else {
-        put_whole(rt, options, &mut typed, root, &bytes, &mut out)?;
+        run.put_whole(&bytes, &mut out)?;
     }
-    send(rt, &out)?;
-    if typed.has_misfit {
+    send(rt, &out.text)?;
+    if out.has_note {
         let source = options.source;
         let _ = eprintln!(rt; "wire_dump: {source}: some records do not fit their fields");
         return Err(RunError::Unfit);
@@ -110,96 +135,107 @@ fn root_of(
     Err(RunError::NoType)
 }
 
-fn put_whole(
-    rt: &HostRuntime,
-    options: &Options<'_>,
-    typed: &mut Typed<'_>,
-    root: usize,
-    bytes: &[u8],
-    out: &mut Vec<u8>,
-) -> Result<(), RunError> {
-    let spot = Spot {
-        level: 0,
-        depth: options.context.depth().min(100),
-        place: 0,
-    };
-    let mut walk = Walk::within(typed.schema, root, &options.context);
-    let records = RecordsPlace {
-        source: options.source,
-        frame: None,
-        place: 0,
-    };
-    match typed.put_message(out, spot, &mut walk, bytes) {
-        Ok(()) => Ok(()),
-        Err(halt) => Err(halted(rt, out, &records, &halt, &walk)),
-    }
-}
-
-fn put_log(
-    rt: &HostRuntime,
-    options: &Options<'_>,
-    typed: &mut Typed<'_>,
-    root: usize,
-    bytes: Vec<u8>,
-    out: &mut Vec<u8>,
-) -> Result<(), RunError> {
-    let total = bytes.len();
-    let mut decoder = FrameDecoder::new(rt.alloc(), Framing::Delimited, usize::MAX);
-    let fed = decoder.feed(Bytes::from_vec(bytes)?);
-    fed.or(Err(RunError::OutOfMemory))?;
-    // Each turn but the last takes a byte.
-    for number in 0..u64::MAX {
-        let start = total.saturating_sub(decoder.unread_len());
-        let frame = FramePlace {
-            number,
-            start: start as u64,
-        };
-        let payload = match decoder.next_at_end() {
-            Ok(Some(frame)) => frame.payload,
-            Ok(None) => break,
-            Err(error) => return Err(crate::cut(rt, out, options.source, frame, &error)),
-        };
-        let end = total.saturating_sub(decoder.unread_len());
-        let place = end.saturating_sub(payload.len());
+impl TypedRun<'_> {
+    fn put_whole(&self, bytes: &[u8], out: &mut Output) -> Result<(), RunError> {
         let records = RecordsPlace {
-            source: options.source,
-            frame: Some(frame),
-            place,
+            source: self.options.source,
+            frame: None,
+            place: 0,
         };
-        let mut walk = Walk::within(typed.schema, root, &options.context);
-        let put = put_frame(typed, out, options, &records, &mut walk, payload.as_slice());
-        if let Err(halt) = put {
-            return Err(halted(rt, out, &records, &halt, &walk));
+        let mut walk = Walk::within(self.typed.schema, self.root, &self.options.context);
+        match self
+            .typed
+            .put_message(out, self.spot(0, 0), &mut walk, bytes)
+        {
+            Ok(()) => self.tell_missing(&records, bytes),
+            Err(halt) => Err(halted(self.rt, &out.text, &records, &halt, &walk)),
         }
     }
-    Ok(())
-}
 
-// Puts the lines of a frame, between that of its prefix and one of no bytes.
-fn put_frame(
-    typed: &mut Typed<'_>,
-    out: &mut Vec<u8>,
-    options: &Options<'_>,
-    records: &RecordsPlace<'_>,
-    walk: &mut Walk<'_>,
-    payload: &[u8],
-) -> Result<(), Halt>
-    requires placed { records.now.place + length payload.now < 2 ^ 64 }
-{
-    let layout = Layout::new(options.has_offsets, 0);
-    let Some(frame) = records.frame else {
-        return Ok(());
-    };
-    let start = usize::try_from(frame.start).unwrap_or(0);
-    put_frame_opening(out, layout.margin(start, records.place), frame.number)?;
-    let spot = Spot {
-        level: 1,
-        depth: options.context.depth().min(100),
-        place: records.place,
-    };
-    typed.put_message(out, spot, walk, payload)?;
-    let end = records.place.saturating_add(payload.len());
-    Ok(put_closing(out, layout.margin(end, end), 0)?)
+    fn put_log(&self, bytes: Vec<u8>, out: &mut Output) -> Result<(), RunError> {
+        let source = self.options.source;
+        let total = bytes.len();
+        let mut decoder = FrameDecoder::new(self.rt.alloc(), Framing::Delimited, usize::MAX);
+        let fed = decoder.feed(Bytes::from_vec(bytes)?);
+        fed.or(Err(RunError::OutOfMemory))?;
+        // Each turn but the last takes a byte.
+        for number in 0..u64::MAX {
+            let start = total.saturating_sub(decoder.unread_len());
+            let frame = FramePlace {
+                number,
+                start: start as u64,
+            };
+            let payload = match decoder.next_at_end() {
+                Ok(Some(frame)) => frame.payload,
+                Ok(None) => break,
+                Err(error) => return Err(crate::cut(self.rt, &out.text, source, frame, &error)),
+            };
+            let end = total.saturating_sub(decoder.unread_len());
+            let place = end.saturating_sub(payload.len());
+            let records = RecordsPlace {
+                source,
+                frame: Some(frame),
+                place,
+            };
+            let mut walk = Walk::within(self.typed.schema, self.root, &self.options.context);
+            match self.put_frame(out, &records, &mut walk, payload.as_slice()) {
+                Ok(()) => self.tell_missing(&records, payload.as_slice())?,
+                Err(halt) => return Err(halted(self.rt, &out.text, &records, &halt, &walk)),
+            }
+        }
+        Ok(())
+    }
+
+    // Puts the lines of a frame, between that of its prefix and one of no bytes.
+    fn put_frame(
+        &self,
+        out: &mut Output,
+        records: &RecordsPlace<'_>,
+        walk: &mut Walk<'_>,
+        payload: &[u8],
+    ) -> Result<(), Halt>
+        requires begins { Begins (limits_of (reader_of walk.old)) (reader_of walk.old) }
+        requires schema { schema_of walk.old ≡ self.now.typed.schema.now }
+        requires placed { records.now.place + length payload.now < 2 ^ 64 }
+    {
+        let layout = Layout::new(self.options.has_offsets, 0);
+        let Some(frame) = records.frame else {
+            return Ok(());
+        };
+        let start = usize::try_from(frame.start).unwrap_or(0);
+        let margin = layout.margin(start, records.place);
+        put_frame_opening(&mut out.text, margin, frame.number)?;
+        let spot = self.spot(1, records.place);
+        self.typed.put_message(out, spot, walk, payload)?;
+        let end = records.place.saturating_add(payload.len());
+        Ok(put_closing(&mut out.text, layout.margin(end, end), 0)?)
+    }
+
+    fn spot(&self, level: u32, place: usize) -> Spot
+        ensures depth { result.depth ≤ 100 }
+        ensures level { result.level ≡ level }
+        ensures place { result.place ≡ place }
+    {
+        Spot {
+            level,
+            depth: self.options.context.depth().min(100),
+            place,
+        }
+    }
+
+    // Tells the required fields that a message lacks.
+    fn tell_missing(&self, records: &RecordsPlace<'_>, bytes: &[u8]) -> Result<(), RunError> {
+        let depth = self.options.context.depth().min(100);
+        let Ok(paths) = self.missing.in_message(self.root, depth, bytes) else {
+            return Err(RunError::OutOfMemory);
+        };
+        if !paths.is_empty() {
+            let _ = eprintln!(self.rt;
+                "wire_dump: {records}: required fields are missing: {paths}"
+            );
+        }
+        Ok(())
+    }
 }
 
 // Where lines end before the bytes do: those that are put are written, and then the cause is told.
