@@ -1,8 +1,9 @@
 -- A field as its descriptor tells it.
-use Rattle.std.specs.Prelude.{◌≡◌, ℕ, ℤ, pos, negsuc, Bool, false, not, ◌&&◌, ◌||◌, List, Option, None, Some, option_map, nat_eq, string_bytes, slice_get, if◌then◌else◌}
+use Rattle.std.specs.Prelude.{◌≡◌, ◌≤◌, ℕ, ℤ, pos, negsuc, Bool, false, not, ◌&&◌, ◌||◌, List, Option, None, Some, count_by, option_map, nat_eq, string_bytes, slice_get, if◌then◌else◌}
 use Rattle.std.specs.Ordering.{int_eq}
 use Rattle.std.specs.BTreeMap.{get_by_text}
 use Rattle.std.specs.Option.{option_map_or}
+use Rattle.std.specs.Str.{bytes_eq}
 use Rattle.std.specs.Prelude.{Box, box_value}
 use Rattle.std.specs.declared.alloc.Global.{Global}
 use Rattle.wire_descriptor.specs.declared.field_descriptor_proto.FieldDescriptorProto.{FieldDescriptorProto}
@@ -25,6 +26,14 @@ number_of (negsuc n) = 0
 -- whether a field has this number
 abbrev pub has_number : ℕ → FieldDescriptorProto → Bool
 has_number n d = nat_eq (number_of d.number) n
+
+-- no two fields have one number
+abbrev pub AreNumberedApart : List FieldDescriptorProto → Type 0
+AreNumberedApart ds = (n : ℕ) → count_by (has_number n) ds ≤ 1
+
+-- whether a field has this name
+abbrev pub field_has_name : List ℕ → FieldDescriptorProto → Bool
+field_has_name name d = bytes_eq name (string_bytes d.name)
 
 -- the features of a field, within those of what it stands in
 abbrev pub field_features : Features → Option (Box FieldOptions Global) → Features

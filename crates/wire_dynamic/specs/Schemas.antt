@@ -15,7 +15,7 @@ use Rattle.wire_dynamic.specs.declared.schema.Schema.{Schema}
 use Rattle.wire_dynamic.specs.Declares.{IsDeclaredBy}
 use Rattle.wire_dynamic.specs.Enums.{IsEnum}
 use Rattle.wire_dynamic.specs.Extensions.{extends, place_cmp, IsExtension}
-use Rattle.wire_dynamic.specs.Messages.{IsMessage}
+use Rattle.wire_dynamic.specs.Messages.{own_field_named, IsMessage}
 use Rattle.wire_dynamic.specs.Places.{ArePlaces}
 use Rattle.wire_dynamic.specs.Table.{IsTableOf}
 
@@ -35,6 +35,10 @@ abbrev pub field_of : Schema → ℕ → ℕ → Option Field
 field_of s place n = option_and_then
     (λ m. option_or (get nat_cmp m.fields n) (get place_cmp s.extensions (place, n)))
     (message_at s place)
+
+-- the field of this name that the message type at this place has of its own
+abbrev pub field_named : Schema → ℕ → List ℕ → Option Field
+field_named s place name = option_and_then (λ m. own_field_named m name) (message_at s place)
 
 -- all that is declared, and nothing else
 pub record IsSchema (declared : Declared) (s : Schema) : Type 0 where

@@ -1,5 +1,5 @@
 -- Which field a record is of, by the groups that it stands in.
-use Rattle.std.specs.Prelude.{ℕ, List, [], ◌∷◌, Option, None, Some, option_and_then}
+use Rattle.std.specs.Prelude.{ℕ, List, [], ◌∷◌, Option, None, Some, option_and_then, reverse, slice_get, take}
 use Rattle.wire_read.specs.declared.event.Value.{Value}
 use Rattle.wire_read.specs.declared.event.Value.TheVariants.{GroupEnd}
 use Rattle.wire_dynamic.specs.declared.field.Field.{Field}
@@ -23,6 +23,13 @@ abbrev pub innermost : Schema → ℕ → List ℕ → Option ℕ
 innermost s root [] = Some root
 innermost s root (n ∷ outside) =
     option_and_then (λ (f : Field). group_of f.kind) (field_in s n (innermost s root outside))
+
+-- the field of the group that stands within so many others, where groups of these numbers are open,
+-- the outermost first
+abbrev pub group_field : Schema → ℕ → List ℕ → ℕ → Option Field
+group_field s root groups count =
+    option_and_then (λ n. field_in s n (innermost s root (reverse (take count groups))))
+    (slice_get groups count)
 
 -- the groups in which an event is told, of those that are open before it and behind it
 abbrev pub told_in : Value → List ℕ → List ℕ → List ℕ

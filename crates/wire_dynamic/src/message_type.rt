@@ -1,10 +1,11 @@
-//! A message type, with its fields by their numbers.
-ghost use Rattle.std.specs.Prelude.{◌≡◌, ◌≢◌, string_bytes, IfErr, IfOk};
-ghost use Rattle.std.specs.BTreeMap.{get};
+//! A message type, with its fields by their numbers and by their names.
+ghost use Rattle.std.specs.Prelude.{◌≡◌, ◌≢◌, string_bytes, IfErr, IfOk, OnOk};
+ghost use Rattle.std.specs.BTreeMap.{get, get_by_text};
+ghost use Rattle.std.specs.Option.{option_copied};
 ghost use Rattle.std.specs.Ordering.{nat_cmp};
 ghost use Rattle.wire_dynamic.specs.declared.error.SchemaError.TheVariants.{OutOfMemory};
-ghost use Rattle.wire_dynamic.specs.Fields.{has_number};
-ghost use Rattle.wire_dynamic.specs.Messages.{IsMessage, IsOwnField};
+ghost use Rattle.wire_dynamic.specs.Fields.{has_number, field_has_name, number_of, AreNumberedApart};
+ghost use Rattle.wire_dynamic.specs.Messages.{own_field_named, IsMessage, IsOwnField};
 ghost use Rattle.wire_dynamic.specs.Refusals.{OwnFault};
 ghost use Rattle.wire_dynamic.specs.Table.{IsTableOf};
 
@@ -12,8 +13,9 @@ use crate::declared::{Declared, DeclaredMessage};
 use crate::error::SchemaError;
 use crate::field::Field;
 use crate::places::Places;
-use std::alloc::Global;
+use std::alloc::{AllocError, Global};
 use std::collections::BTreeMap;
+use wire_descriptor::FieldDescriptorProto;
 
 /// A message type of a schema.
 #[derive(Drop)]
@@ -21,6 +23,7 @@ pub struct MessageType {
     name: String,
     is_entry: bool,
     pub(crate) fields: BTreeMap<u32, Field>,
+    pub(crate) numbers: BTreeMap<String, u32>,
 }
 
 impl MessageType {
@@ -38,10 +41,12 @@ impl MessageType {
         let name = message.name.clone()?;
         let is_entry = message.is_entry();
         let fields = fields_of(alloc, message, declared, places)?;
+        let numbers = numbers_of(alloc, &message.descriptor.field)?;
         Ok(MessageType {
             name,
             is_entry,
             fields,
+            numbers,
         })
     }
 
@@ -63,6 +68,13 @@ impl MessageType {
     pub fn fields(&self) -> &BTreeMap<u32, Field> {
         &self.fields
     }
+
+    /// The field of this name, where it has one; no extension. Of several the first counts.
+    pub fn field_named(&self, name: &str) -> Option<&Field>
+        ensures { option_copied result ≡ own_field_named self.now name.now }
+    {
+        self.fields.get(self.numbers.get(name)?)
+    }
 }
 
 // The fields of a message type, by their numbers.
@@ -75,6 +87,7 @@ fn fields_of(
     ensures ok { IfOk result (λ fields. IsTableOf has_number
         (IsOwnField declared.now places.now message.now.features)
         message.now.descriptor.field.items (get nat_cmp fields)) }
+    ensures apart { OnOk result (AreNumberedApart message.now.descriptor.field.items) }
     ensures err { IfErr result (λ e. e ≢ OutOfMemory → OwnFault declared.now places.now
         message.now e) }
 {
@@ -88,4 +101,23 @@ fn fields_of(
         }
     }
     Ok(fields)
+}
+
+// The numbers of fields by their names.
+fn numbers_of(
+    alloc: Global,
+    fields: &[FieldDescriptorProto],
+) -> Result<BTreeMap<String, u32>, AllocError>
+    ensures { IfOk result (λ numbers. IsTableOf field_has_name
+        (λ d number. number ≡ number_of d.number) fields.now (get_by_text numbers)) }
+{
+    let mut numbers = BTreeMap::new(alloc);
+    for field in fields {
+        if numbers.contains_key(field.name.as_str()) {
+            continue;
+        }
+        let number = u32::try_from(field.number).unwrap_or(0);
+        numbers.insert(field.name.clone()?, number)?;
+    }
+    Ok(numbers)
 }

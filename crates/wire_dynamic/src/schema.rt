@@ -6,7 +6,7 @@ ghost use Rattle.wire_dynamic.specs.declared.error.SchemaError.TheVariants.{OutO
 ghost use Rattle.wire_dynamic.specs.Enums.{IsEnum};
 ghost use Rattle.wire_dynamic.specs.Messages.{IsMessage};
 ghost use Rattle.wire_dynamic.specs.Refusals.{BytesHaveNoSchema, HasNoSchema, MessagesFault, SchemaFault};
-ghost use Rattle.wire_dynamic.specs.Schemas.{enum_at, field_of, message_at, place_of, IsDecodedSchema, IsSchema, IsSchemaOf};
+ghost use Rattle.wire_dynamic.specs.Schemas.{enum_at, field_named, field_of, message_at, place_of, IsDecodedSchema, IsSchema, IsSchemaOf};
 
 use crate::declared::Declared;
 use crate::enum_type::EnumType;
@@ -103,6 +103,14 @@ impl Schema {
             Some(field) => Some(field),
             None => self.extensions.get(&(place, number)),
         }
+    }
+
+    /// The field of this name of the message type at this place, among its own. An extension is
+    /// not found by its name.
+    pub fn field_named(&self, place: usize, name: &str) -> Option<&Field>
+        ensures { option_copied result ≡ field_named self.now place name.now }
+    {
+        self.messages.get(place)?.field_named(name)
     }
 }
 

@@ -42,6 +42,30 @@ fn fields_are_found(rt: HostRuntime) -> Result<(), Fail> {
     Ok(())
 }
 
+// Types, names, and the numbers of the fields that have them, or 0.
+const NAMES: [(&str, &str, u32); 6] = [
+    (".a.M", "e", 4),
+    (".a.M", "of", 5),
+    (".a.M", "x", 0),
+    (".a.M", ".a.more", 0),
+    (".a.M.G", "x", 3),
+    (".a.M.OfEntry", "value", 2),
+];
+
+#[test]
+fn fields_are_found_by_their_names(rt: HostRuntime) -> Result<(), Fail> {
+    let schema = Schema::decode(rt.alloc(), SET)?;
+    for (of, name, number) in NAMES {
+        let place = schema.message_place(of).ok_or("no type")?;
+        let found = match schema.field_named(place, name) {
+            Some(field) => field.number,
+            None => 0,
+        };
+        assert_eq!(rt; found, number);
+    }
+    Ok(())
+}
+
 #[test]
 fn values_are_found(rt: HostRuntime) -> Result<(), Fail> {
     let schema = Schema::decode(rt.alloc(), SET)?;

@@ -5,7 +5,7 @@ ghost use Rattle.wire_base.specs.Limits.{uncounted};
 ghost use Rattle.wire_read.specs.Budget.{read_limits};
 ghost use Rattle.wire_read.specs.Reading.{at, groups_of, Begins, Gives, IsDone, Stops};
 ghost use Rattle.wire_dynamic.specs.Told.{reader_of, root_of, schema_of, IsSameWalk};
-ghost use Rattle.wire_dynamic.specs.Walks.{field_in, group_of, innermost, told_in};
+ghost use Rattle.wire_dynamic.specs.Walks.{field_in, group_field, group_of, innermost, told_in};
 
 use crate::field::{Field, Kind};
 use crate::schema::Schema;
@@ -67,7 +67,8 @@ impl<'s> Walk<'s> {
 
     /// The next event in these bytes, which are those of each call before, with its field: that of
     /// its number in the message that it stands in. The end of a group is told with the field of
-    /// its start. Events, the end and a fault are those of the reader.
+    /// its start. Events, the end and a fault are those of the reader, which stays as it was at the
+    /// last two.
     pub fn next<'a>(&mut self, bytes: &'a [u8]) -> Result<Option<Told<'a, 's>>, Fault>
         ensures event { IfOk result (λ next. IfSome next (λ told. Gives told.event bytes.now
             (at (reader_of self.old) bytes.now) (at (reader_of self.new) bytes.now))) }
@@ -77,8 +78,11 @@ impl<'s> Walk<'s> {
             (groups_of (reader_of self.old)) (groups_of (reader_of self.new)))))) }
         ensures end { IfOk result (λ next. IfNone next (IsDone (at (reader_of self.old)
             bytes.now))) }
+        ensures unmoved { IfOk result (λ next. IfNone next
+            (reader_of self.new ≡ reader_of self.old)) }
         ensures fault { IfErr result (λ fault. Stops fault bytes.now
             (at (reader_of self.old) bytes.now)) }
+        ensures kept { OnErr result (reader_of self.new ≡ reader_of self.old) }
         ensures same { IsSameWalk self.old self.new }
     {
         let Some(event) = self.reader.next(bytes)? else {
@@ -95,7 +99,10 @@ impl<'s> Walk<'s> {
     }
 
     /// The field of the group that is open within so many others, where the schema has one.
-    pub fn group(&self, count: usize) -> Option<&'s Field> {
+    pub fn group(&self, count: usize) -> Option<&'s Field>
+        ensures { option_copied result ≡ group_field (schema_of self.now) (root_of self.now)
+            (reverse (groups_of (reader_of self.now))) count }
+    {
         let groups = self.reader.open_groups();
         let number = groups.get(count)?;
         let outside = self

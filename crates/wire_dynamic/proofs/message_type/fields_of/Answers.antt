@@ -1,5 +1,5 @@
 use Rattle.std.proofs.Common.{rules, ◌≡◌, ◌+◌, true, nat_eq, [], ◌∷◌, ◌++◌, take, arith, string_bytes, refl, subst, sym, get_or}
-use Rattle.std.specs.Prelude.{◌<◌, Contains, IsSome, cond, find, length, Some, None}
+use Rattle.std.specs.Prelude.{ℕ, ◌<◌, ◌≤◌, Contains, count_by, IsSome, cond, find, length, Some, None}
 use Rattle.std.proofs.lemmas.Bool.Decides.{nat_tests}
 use Rattle.std.proofs.lemmas.Grind.{common_steps}
 use Rattle.std.specs.BTreeMap.{get}
@@ -7,13 +7,13 @@ use Rattle.std.specs.Ordering.{nat_cmp}
 use Rattle.wire_dynamic.specs.Fields.{has_number, number_of, IsField}
 use Rattle.wire_dynamic.specs.Messages.{IsOwnField}
 use Rattle.std.proofs.lemmas.Result.{err_from_is_err_and}
-use Rattle.wire_dynamic.proofs.Counts.{found_some, found_twice, matched}
+use Rattle.wire_dynamic.proofs.Counts.{found_some, found_twice, matched, pushed_once, unmatched}
 use Rattle.wire_dynamic.proofs.Refused.{own_fault}
 use Rattle.wire_dynamic.proofs.Tables.{matches_pushed}
 use Rattle.wire_dynamic.proofs.message_type.fields_of.Goals as goal
 
 pub loop-descriptor-preserved : goal.loop-descriptor-preserved
-loop-descriptor-preserved c = λ k.
+loop-descriptor-preserved c =
     let d = c.descriptor-item.result in
     let f = c.in_ok-field.field in
     let ds = c.args.message.now.descriptor.field.items in
@@ -23,9 +23,13 @@ loop-descriptor-preserved c = λ k.
     let same : string_bytes c.in_ok-name.name ≡ string_bytes d.name = search rules in
     let tells : Tells d f = subst (λ n. IsField c.args.declared.now c.args.places.now c.args.message.now.features n d f) same c.in_ok-field.ensures.ok in
     let number : number_of d.number ≡ f.number = rw (tells.number) refl in
-    let absent : nat_eq (number_of d.number) k ≡ true → get nat_cmp c.loop-descriptor.fields k ≡ None = λ e. grind (arith, nat_tests, common_steps, e, number, c.in_ok-insert.ensures.old, c.is_some.ensures, c.if-is_some.false) in
-    let new : get nat_cmp c.insert.new.self k ≡ cond (nat_eq (number_of d.number) k) (Some f) (get nat_cmp c.loop-descriptor.fields k) = grind (arith, nat_tests, common_steps, number, c.in_ok-insert.ensures.updates.0 k) in
-    rw step (matches_pushed Tells d (take i ds) f (has_number k) (get nat_cmp c.loop-descriptor.fields k) (get nat_cmp c.insert.new.self k) (c.loop-descriptor.invariant k) tells absent new)
+    let old = λ (k : ℕ). get nat_cmp c.loop-descriptor.fields k in
+    let absent : (k : ℕ) → nat_eq (number_of d.number) k ≡ true → old k ≡ None = λ k e. grind (arith, nat_tests, common_steps, e, number, c.in_ok-insert.ensures.old, c.is_some.ensures, c.if-is_some.false) in
+    let new : (k : ℕ) → get nat_cmp c.insert.new.self k ≡ cond (nat_eq (number_of d.number) k) (Some f) (old k) = λ k. grind (arith, nat_tests, common_steps, number, c.in_ok-insert.ensures.updates.0 k) in
+    record {
+      table = λ k. rw step (matches_pushed Tells d (take i ds) f (has_number k) (old k) (get nat_cmp c.insert.new.self k) (c.loop-descriptor.invariant.table k) tells (absent k) (new k));
+      apart = λ k. rw step (pushed_once (has_number k) (take i ds) d (c.loop-descriptor.invariant.apart k) (λ e. unmatched Tells (find (has_number k) (take i ds)) (old k) (c.loop-descriptor.invariant.table k) (absent k e)));
+    }
 
 pub returns-in_err-field-clause-err : goal.returns-in_err-field-clause-err
 returns-in_err-field-clause-err c =
@@ -50,6 +54,12 @@ returns-then-is_some-clause-err c = λ other.
     let name : string_bytes c.in_ok-clone.field-0 ≡ string_bytes d.name = search rules in
     let number : n ≡ f.number = rw (c.in_ok-field.ensures.ok.number) refl in
     let some : IsSome (get nat_cmp c.loop-descriptor.fields n) = subst (λ q. IsSome (get nat_cmp c.loop-descriptor.fields q)) (sym number) (found_some _ _ _ c.in_ok-insert.ensures.old c.is_some.ensures c.if-is_some.true) in
-    let before : IsSome (find (has_number n) (take i ds)) = matched Tells (find (has_number n) (take i ds)) (get nat_cmp c.loop-descriptor.fields n) (c.loop-descriptor.invariant n) some in
+    let before : IsSome (find (has_number n) (take i ds)) = matched Tells (find (has_number n) (take i ds)) (get nat_cmp c.loop-descriptor.fields n) (c.loop-descriptor.invariant.table n) some in
     let passes : has_number n d ≡ true = grind (arith, nat_tests) in
     (d, (i, within, sym is), name, found_twice (has_number n) ds i d within is before passes)
+
+pub returns-clause-apart : goal.returns-clause-apart
+returns-clause-apart c = λ k.
+    let ds = c.args.message.now.descriptor.field.items in
+    let all : take c.loop-descriptor.descriptor-index ds ≡ ds = grind (arith, common_steps) in
+    subst (λ l. count_by (has_number k) l ≤ 1) all (c.loop-descriptor.invariant.apart k)

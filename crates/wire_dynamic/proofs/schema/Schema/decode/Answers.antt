@@ -1,5 +1,5 @@
 use Rattle.std.specs.Prelude.{◌≢◌}
-use Rattle.std.proofs.Common.{ap, inl, inr, subst, sym, ◌∙◌}
+use Rattle.std.proofs.Common.{ap, inl, inr, ◌∙◌}
 use Rattle.std.proofs.lemmas.Result.{err_from_is_err_and, IfErr-weaker, IfOk-weaker}
 use Rattle.wire_dynamic.specs.declared.error.SchemaError.TheVariants.{OutOfMemory}
 use Rattle.wire_dynamic.specs.Errors.{decode_failed}
