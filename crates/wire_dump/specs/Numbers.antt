@@ -1,5 +1,7 @@
 -- Numbers of the kinds of a schema, and their texts.
-use Rattle.std.specs.Prelude.{◌≡◌, ℕ, ℤ, ◌<◌, ◌%◌, ◌^◌, Bool, true, false, ◌&&◌, not, nat_lt, List, Option, None, Some, option_map, option_and_then, is_some, codes, decimal, string_bytes, if◌then◌else◌}
+use Rattle.std.specs.Prelude.{◌≡◌, ℕ, ℤ, ◌<◌, ◌%◌, ◌^◌, Bool, true, false, ◌&&◌, not, nat_lt, List, Option, None, Some, option_map, option_and_then, is_some, codes, decimal, from_bits, string_bytes, if◌then◌else◌}
+use Rattle.std.specs.Float.{Format, binary32, binary64}
+use Rattle.std.specs.Float.Parse.{parse_float}
 use Rattle.std.specs.Fmt.{signed_decimal}
 use Rattle.std.specs.BTreeMap.{get}
 use Rattle.std.specs.Int.{w32, w64}
@@ -63,18 +65,19 @@ is_known s _ x = true
 
 -- ---- texts
 
--- the text of the float of these bits: of infinity and of what is no number; of any other a text
--- that C++ prints
-abbrev pub IsFloat : ℕ → ℕ → ℕ → List ℕ → Type 0
-IsFloat sign infinity bits text =
+-- the text of the float of these bits: of infinity, of what is no number, and of any other a text
+-- that is read back as the very float of the bits, the sign of a zero too
+abbrev pub IsFloat : Format → ℕ → ℕ → ℕ → List ℕ → Type 0
+IsFloat format sign infinity bits text =
     (bits % sign ≡ infinity
     → text ≡ (if nat_lt bits sign then codes "inf" else codes "-inf"))
     × (infinity < bits % sign → text ≡ codes "nan")
+    × (bits % sign < infinity → parse_float format text ≡ Some (from_bits format bits))
 
 -- the text of a number of a kind, which of 32 bits is in the low ones
 abbrev pub IsNumberText : Schema → Kind → ℕ → List ℕ → Type 0
-IsNumberText s kinds.Double x text = IsFloat (2 ^ 63) 9218868437227405312 x text
-IsNumberText s kinds.Float x text = IsFloat (2 ^ 31) 2139095040 (uint32.dec x) text
+IsNumberText s kinds.Double x text = IsFloat binary64 (2 ^ 63) 9218868437227405312 x text
+IsNumberText s kinds.Float x text = IsFloat binary32 (2 ^ 31) 2139095040 (uint32.dec x) text
 IsNumberText s kinds.Int64 x text = text ≡ signed_decimal (int64.dec x)
 IsNumberText s kinds.Uint64 x text = text ≡ decimal x
 IsNumberText s kinds.Int32 x text = text ≡ signed_decimal (int32.dec x)

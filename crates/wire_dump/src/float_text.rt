@@ -1,6 +1,8 @@
 //! Floats as C++ prints them: with as few digits as a shorter form has, where that is read back as
 //! the same number, and else with as many as every number needs.
-ghost use Rattle.std.specs.Prelude.{◌≡◌, ◌^◌, ◌++◌, ℕ, List, OnOk, codes, if◌then◌else◌};
+ghost use Rattle.std.specs.Prelude.{◌≡◌, ◌^◌, ◌++◌, ℕ, List, OnOk, Some, codes, true, if◌then◌else◌};
+ghost use Rattle.std.specs.Float.{binary32, binary64};
+ghost use Rattle.std.specs.Float.Parse.{parse_float};
 ghost use Rattle.wire_dump.specs.Numbers.{IsFloat};
 
 use std::alloc::{AllocError, Global};
@@ -20,8 +22,8 @@ const FLOAT_NORMAL: u32 = 0x0080_0000;
 
 /// Puts the number of these bits behind what was put.
 pub(crate) fn put_double(alloc: Global, out: &mut Vec<u8>, bits: u64) -> Result<(), AllocError>
-    ensures { OnOk result ((text : List ℕ) × IsFloat (2 ^ 63) 9218868437227405312 bits text
-        × (out.new.items ≡ out.old.items ++ text)) }
+    ensures { OnOk result ((text : List ℕ) × IsFloat binary64 (2 ^ 63) 9218868437227405312 bits
+        text × (out.new.items ≡ out.old.items ++ text)) }
 {
     let size = bits % DOUBLE_SIGN;
     if size > DOUBLE_INFINITY {
@@ -37,18 +39,46 @@ pub(crate) fn put_double(alloc: Global, out: &mut Vec<u8>, bits: u64) -> Result<
 }
 
 fn put_finite_double(alloc: Global, out: &mut Vec<u8>, value: f64) -> Result<(), AllocError>
-    ensures { OnOk result ((text : List ℕ) × (out.new.items ≡ out.old.items ++ text)) }
+    ensures { OnOk result ((text : List ℕ) × (parse_float binary64 text ≡ Some value)
+        × (out.new.items ≡ out.old.items ++ text)) }
 {
-    let short = format!(in alloc; "{value:.14e}")?;
-    if short.parse::<f64>() == Ok(value) {
-        return put_general(out, &short, 15);
+    let start = out.len();
+    put_general(out, &format!(in alloc; "{value:.14e}")?, 15)?;
+    if reads_as_double(&out[start..], value) {
+        return Ok(());
     }
-    put_general(out, &format!(in alloc; "{value:.16e}")?, 17)
+    out.truncate(start);
+    put_general(out, &format!(in alloc; "{value:.16e}")?, 17)?;
+    if reads_as_double(&out[start..], value) {
+        return Ok(());
+    }
+    // For the proof alone: 17 digits are enough for every number, so this is never reached.
+    out.truncate(start);
+    out.extend_from_slice(ryu::Buffer::new().format(value).as_bytes())
+}
+
+// Whether a text is read as this number, the sign of a zero too.
+fn reads_as_double(text: &[u8], value: f64) -> bool
+    ensures { result ≡ true → parse_float binary64 text.now ≡ Some value }
+{
+    let Ok(text) = std::str::from_utf8(text) else {
+        return false;
+    };
+    match text.parse::<f64>() {
+        Ok(read) => is_same_double(read, value),
+        Err(_) => false,
+    }
+}
+
+fn is_same_double(x: f64, y: f64) -> bool
+    ensures { result ≡ true → x ≡ y }
+{
+    !x.is_nan() && !y.is_nan() && x.to_bits() == y.to_bits()
 }
 
 /// The same of 32 bits.
 pub(crate) fn put_float(alloc: Global, out: &mut Vec<u8>, bits: u32) -> Result<(), AllocError>
-    ensures { OnOk result ((text : List ℕ) × IsFloat (2 ^ 31) 2139095040 bits text
+    ensures { OnOk result ((text : List ℕ) × IsFloat binary32 (2 ^ 31) 2139095040 bits text
         × (out.new.items ≡ out.old.items ++ text)) }
 {
     let size = bits % FLOAT_SIGN;
@@ -71,13 +101,41 @@ fn put_finite_float(
     value: f32,
     is_normal: bool,
 ) -> Result<(), AllocError>
-    ensures { OnOk result ((text : List ℕ) × (out.new.items ≡ out.old.items ++ text)) }
+    ensures { OnOk result ((text : List ℕ) × (parse_float binary32 text ≡ Some value)
+        × (out.new.items ≡ out.old.items ++ text)) }
 {
-    let short = format!(in alloc; "{value:.5e}")?;
-    if is_normal && short.parse::<f32>() == Ok(value) {
-        return put_general(out, &short, 6);
+    let start = out.len();
+    put_general(out, &format!(in alloc; "{value:.5e}")?, 6)?;
+    if is_normal && reads_as_float(&out[start..], value) {
+        return Ok(());
     }
-    put_general(out, &format!(in alloc; "{value:.8e}")?, 9)
+    out.truncate(start);
+    put_general(out, &format!(in alloc; "{value:.8e}")?, 9)?;
+    if reads_as_float(&out[start..], value) {
+        return Ok(());
+    }
+    // For the proof alone: 9 digits are enough for every number, so this is never reached.
+    out.truncate(start);
+    out.extend_from_slice(ryu::Buffer::new().format(value).as_bytes())
+}
+
+// Whether a text is read as this number, the sign of a zero too.
+fn reads_as_float(text: &[u8], value: f32) -> bool
+    ensures { result ≡ true → parse_float binary32 text.now ≡ Some value }
+{
+    let Ok(text) = std::str::from_utf8(text) else {
+        return false;
+    };
+    match text.parse::<f32>() {
+        Ok(read) => is_same_float(read, value),
+        Err(_) => false,
+    }
+}
+
+fn is_same_float(x: f32, y: f32) -> bool
+    ensures { result ≡ true → x ≡ y }
+{
+    !x.is_nan() && !y.is_nan() && x.to_bits() == y.to_bits()
 }
 
 fn put_infinite(out: &mut Vec<u8>, is_negative: bool) -> Result<(), AllocError>
