@@ -3,6 +3,7 @@ pub mod Open
 pub mod Texts
 pub mod Put
 pub mod Walk
+pub mod Sent
 pub mod One
 pub mod Escaped
 pub mod Front

@@ -58,7 +58,7 @@ message_shown t d k n root place inner end f l payload text old before one two t
     let both : PutsSpans t place (Is (first_line ++ put.spans)) (head ++ payload) old before two =
     puts_more t place inner (Is first_line)
     (AreRecords s (d - 1) (k + 1) root l payload) (Is (first_line ++ put.spans)) head payload old
-    before one two first at_head put
+    before one.text.items one.has_note two.text.items two.has_note first at_head put
     (ap (λ (x : List Span). x ++ put.spans) first.are) in
     let last : PutsSpans t end (Is last_line) [] two.text.items two.has_note three =
     one_line t end (Is last_line) [] (closing k) two.text.items two.has_note three refl
@@ -77,8 +77,8 @@ message_shown t d k n root place inner end f l payload text old before one two t
     let all : PutsSpans t place (ShowsRecord s d k (Some f) n (bytes payload) text)
     ((head ++ payload) ++ []) old before three =
     puts_more t place end (Is (first_line ++ put.spans)) (Is last_line)
-    (ShowsRecord s d k (Some f) n (bytes payload) text) (head ++ payload) [] old before two three
-    both at_both last
+    (ShowsRecord s d k (Some f) n (bytes payload) text) (head ++ payload) [] old before
+    two.text.items two.has_note three.text.items three.has_note both at_both last
     (message put.are.fields head put.spans is parts kind within put.are.shown spans_are) in
     let text_is : (head ++ payload) ++ [] ≡ text = append-nil (head ++ payload) ∙ sym parts in
     subst (λ (x : List ℕ). PutsSpans t place

@@ -3,7 +3,7 @@ use Rattle.std.proofs.Common.{◌≡◌, ℕ, ◌+◌, ◌-◌, ◌<◌, Bool, t
 use Rattle.wire_dump.specs.declared.output.Output.{Output}
 use Rattle.wire_dump.specs.declared.output.Typed.{Typed}
 use Rattle.wire_dump.specs.Places.{Line, printed, range_text, width_of as width_of_lines}
-use Rattle.wire_dump.specs.Shown.{PutsSpans, each_printed, has_note, shown, width_of}
+use Rattle.wire_dump.specs.Shown.{PutsSpans, PutsText, each_printed, has_note, shown, width_of}
 use Rattle.wire_dump.specs.Shows.{Span, line_span, noted, span_of}
 
 -- ---- lists of spans
@@ -49,12 +49,13 @@ both_false false b e f = f
 
 -- lines behind lines
 pub puts_more : (t : Typed) (place at : ℕ) (First Second Both : List Span → Type 0)
-    (one two : List ℕ) (old : List ℕ) (before : Bool) (mid new : Output)
-    → (first : PutsSpans t place First one old before mid) → at ≡ place + length one
-    → (second : PutsSpans t at Second two mid.text.items mid.has_note new)
+    (one two : List ℕ) (old : List ℕ) (before : Bool) (mid : List ℕ) (half : Bool) (new : List ℕ)
+    (after : Bool) (first : PutsText t place First one old before mid half)
+    → at ≡ place + length one → (second : PutsText t at Second two mid half new after)
     → Both (first.spans ++ second.spans)
-    → PutsSpans t place Both (one ++ two) old before new
-puts_more t place at First Second Both one two old before mid new first at_is second are =
+    → PutsText t place Both (one ++ two) old before new after
+puts_more t place at First Second Both one two old before mid half new after first at_is second
+    are =
     let o = t.has_offsets in
     let here : at ≡ place + width_of first.spans = omega (arith, at_is, first.covers) in
     record {

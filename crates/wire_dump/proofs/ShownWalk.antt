@@ -18,7 +18,7 @@ use Rattle.wire_dynamic.specs.Walks.{field_in, innermost, told_in}
 use Rattle.wire_dump.specs.declared.output.Output.{Output}
 use Rattle.wire_dump.specs.declared.output.Typed.{Typed}
 use Rattle.wire_dump.specs.Lines.{closing}
-use Rattle.wire_dump.specs.Shown.{AreRecords, IsShownFront, ItemSpans, PutsSpans}
+use Rattle.wire_dump.specs.Shown.{AreRecords, IsFrontText, ItemSpans, PutsText}
 use Rattle.wire_dump.specs.Shows.{ShowsOpen, ShowsRecord, Span, group_opening, line_span, nothing}
 use Rattle.wire_dump.proofs.ShownOpen.{field_inside, open_end, open_record, open_start}
 use Rattle.wire_dump.proofs.ShownPut.{or_false, puts_more}
@@ -31,16 +31,17 @@ pub record AreItems (s : Schema) (d k root : ℕ) (items : List Item) (front : L
 
 -- the lines of the items so far are put
 pub record Sofar (t : Typed) (d k root place : ℕ) (l : Limits) (all : List ℕ) (s : At)
-    (old : List ℕ) (before : Bool) (new : Output) : Type 0 where
+    (old : List ℕ) (before : Bool) (new : List ℕ) (after : Bool) : Type 0 where
   pub items : List Item
   pub front : List ℕ
   pub stands : IsAt l all items s
   pub parts : all ≡ front ++ s.rest
-  pub puts : PutsSpans t place (AreItems t.schema.now d k root items front) front old before new
+  pub puts : PutsText t place (AreItems t.schema.now d k root items front) front old before new
+      after
 
 pub begun : (t : Typed) (d k root place : ℕ) (l : Limits) (all : List ℕ) (s : At) (out : Output)
     → IsAt l all [] s → all ≡ s.rest
-    → Sofar t d k root place l all s out.text.items out.has_note out
+    → Sofar t d k root place l all s out.text.items out.has_note out.text.items out.has_note
 begun t d k root place l all s out stands whole_rest = record {
   items = [];
   front = [];
@@ -129,15 +130,15 @@ one_item t d k root found (whole n p) levels fs a b behind front text spans more
 
 pub next_item : ItemsTellRecords → ReaderGoesOn → (t : Typed) (d k root place : ℕ) (l : Limits)
     (all : List ℕ) (n : ℕ) (v : Value) (found : Option Field) (a b : At) (behind text old : List ℕ)
-    (before : Bool) (mid new : Output) (at : ℕ)
-    (h : Sofar t d k root place l all a old before mid) → Moves (item n v) a behind b
+    (before : Bool) (mid : List ℕ) (half : Bool) (new : List ℕ) (after : Bool) (at : ℕ)
+    (h : Sofar t d k root place l all a old before mid half) → Moves (item n v) a behind b
     → a.rest ≡ text ++ b.rest → IsItem (item n v) text → at ≡ place + length h.front
     → found ≡ field_in t.schema.now n (innermost t.schema.now root (told_in v a.groups b.groups))
-    → PutsSpans t at (ItemSpans t.schema.now d k (length b.groups) found (item n v) text) text
-    mid.text.items mid.has_note new
-    → Sofar t d k root place l all b old before new
-next_item tell goes_on t d k root place l all n v found a b behind text old before mid new at h
-    moves parts is at_is tells puts =
+    → PutsText t at (ItemSpans t.schema.now d k (length b.groups) found (item n v) text) text
+    mid half new after
+    → Sofar t d k root place l all b old before new after
+next_item tell goes_on t d k root place l all n v found a b behind text old before mid half new
+    after at h moves parts is at_is tells puts =
     let i = item n v in
     let s = t.schema.now in
     let r = rebuilt h.items in
@@ -151,7 +152,7 @@ next_item tell goes_on t d k root place l all n v found a b behind text old befo
       puts = puts_more t place at (AreItems s d k root h.items h.front)
           (ItemSpans s d k (length b.groups) found i text)
           (AreItems s d k root (h.items ++ i ∷ []) (h.front ++ text)) h.front text old before mid
-          new h.puts at_is puts
+          half new after h.puts at_is puts
           (record {
             shown = subst (λ (x : Records). Holds s d k root x (h.front ++ text)
                 (h.puts.spans ++ puts.spans))
@@ -165,10 +166,10 @@ next_item tell goes_on t d k root place l all n v found a b behind text old befo
 -- ---- the end, and a fault
 
 pub finished : ItemsTellRecords → ReaderIsDone → (t : Typed) (d k root place : ℕ) (l : Limits)
-    (all : List ℕ) (a : At) (old : List ℕ) (before : Bool) (new : Output)
-    → Sofar t d k root place l all a old before new → IsDone a
-    → PutsSpans t place (AreRecords t.schema.now d k root l all) all old before new
-finished tell is_done t d k root place l all a old before new h done =
+    (all : List ℕ) (a : At) (old : List ℕ) (before : Bool) (new : List ℕ) (after : Bool)
+    → Sofar t d k root place l all a old before new after → IsDone a
+    → PutsText t place (AreRecords t.schema.now d k root l all) all old before new after
+finished tell is_done t d k root place l all a old before new after h done =
     let s = t.schema.now in
     let (fs, spelled, fits, is) = is_done l all h.items a h.stands done in
     let all_shown : rebuilt h.items ≡ with [] fs = ap rebuilt is ∙ tell [] fs in
@@ -192,10 +193,10 @@ finished tell is_done t d k root place l all a old before new h done =
     }
 
 pub stopped : ItemsTellRecords → ReaderStops → (t : Typed) (d k root place : ℕ) (l : Limits)
-    (all : List ℕ) (a : At) (f : Fault) (old : List ℕ) (before : Bool) (new : Output)
-    → Sofar t d k root place l all a old before new → Stops f all a
-    → IsShownFront t d k root place l all f old before new
-stopped tell law t d k root place l all a f old before new h stops =
+    (all : List ℕ) (a : At) (f : Fault) (old : List ℕ) (before : Bool) (new : List ℕ)
+    (after : Bool) → Sofar t d k root place l all a old before new after → Stops f all a
+    → IsFrontText t d k root place l all f old before new after
+stopped tell law t d k root place l all a f old before new after h stops =
     let s = t.schema.now in
     let (is, here, groups, items) = law l all h.items a f h.stands stops in
     record {

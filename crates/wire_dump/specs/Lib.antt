@@ -5,6 +5,7 @@ pub mod Dumps
 pub mod Refused
 pub mod Dumped
 pub mod Front
+pub mod Parts
 pub mod Frames
 pub mod Shortened
 pub mod Laws

@@ -43,14 +43,18 @@ has_note (s ∷ spans) = s.has_note || has_note spans
 
 -- Lines of these bytes are put, and it is kept whether one of them has a note, which none has where
 -- that is not allowed.
-pub record PutsSpans (t : Typed) (place : ℕ) (AreSpans : List Span → Type 0) (text : List ℕ)
-    (old : List ℕ) (before : Bool) (new : Output) : Type 0 where
+pub record PutsText (t : Typed) (place : ℕ) (AreSpans : List Span → Type 0) (text : List ℕ)
+    (old : List ℕ) (before : Bool) (new : List ℕ) (behind : Bool) : Type 0 where
   pub spans : List Span
   pub are : AreSpans spans
   pub covers : width_of spans ≡ length text
-  pub written : new.text.items ≡ old ++ shown t.has_offsets place spans
-  pub kept : new.has_note ≡ (before || has_note spans)
+  pub written : new ≡ old ++ shown t.has_offsets place spans
+  pub kept : behind ≡ (before || has_note spans)
   pub strict : t.is_strict ≡ true → has_note spans ≡ false
+
+abbrev pub PutsSpans : Typed → ℕ → (List Span → Type 0) → List ℕ → List ℕ → Bool → Output → Type 0
+PutsSpans t place AreSpans text old before new =
+    PutsText t place AreSpans text old before new.text.items new.has_note
 
 -- the lines of all of these bytes, which spell records of a message within the limits
 pub record AreRecords (s : Schema) (depth level root : ℕ) (l : Limits) (all : List ℕ)
@@ -96,9 +100,14 @@ pub record AreFront (s : Schema) (depth level root : ℕ) (l : Limits) (all : Li
   pub shown : ShowsOpen s depth level root refused.is.levels refused.is.fields front spans
 
 -- the bytes have this fault, and the lines of what stands before it are put
-pub record IsShownFront (t : Typed) (depth level root place : ℕ) (l : Limits) (all : List ℕ)
-    (fault : Fault) (old : List ℕ) (before : Bool) (new : Output) : Type 0 where
+pub record IsFrontText (t : Typed) (depth level root place : ℕ) (l : Limits) (all : List ℕ)
+    (fault : Fault) (old : List ℕ) (before : Bool) (new : List ℕ) (behind : Bool) : Type 0 where
   pub groups : List ℕ
   pub front : List ℕ
-  pub puts : PutsSpans t place (AreFront t.schema.now depth level root l all fault groups front)
-      front old before new
+  pub puts : PutsText t place (AreFront t.schema.now depth level root l all fault groups front)
+      front old before new behind
+
+abbrev pub IsShownFront : Typed → ℕ → ℕ → ℕ → ℕ → Limits → List ℕ → Fault → List ℕ → Bool → Output
+    → Type 0
+IsShownFront t depth level root place l all fault old before new =
+    IsFrontText t depth level root place l all fault old before new.text.items new.has_note

@@ -15,22 +15,24 @@ mod missing;
 mod number;
 mod options;
 mod output;
+mod parts;
 mod record;
 mod shortest;
 mod stop;
 mod string;
 mod typed;
 mod typed_line;
+mod typed_parts;
 mod typed_record;
 mod typed_run;
 
 use bytes::Bytes;
-use dump::put_records;
 use fault_line::{RecordsPlace, tell_fault, tell_frame_error};
-use frames::put_frame;
+use frames::write_frame;
 use input::input;
 use layout::Layout;
 use options::Options;
+use parts::{Cut, write_records};
 use shortest::{reader_at_stop, shortest_text};
 use std::io::Write;
 use std::process::ExitCode;
@@ -82,13 +84,10 @@ fn run(rt: &HostRuntime, options: &Options<'_>) -> Result<(), RunError> {
 fn print(rt: &HostRuntime, options: &Options<'_>, bytes: &[u8]) -> Result<(), RunError> {
     let mut reader = Reader::within(&options.context);
     let layout = Layout::new(options.has_offsets, 0);
-    // Most lines are longer than their bytes; what is not written to takes no memory.
-    let Ok(mut out) = Vec::with_capacity(rt.alloc(), bytes.len().saturating_mul(2)) else {
-        return Err(RunError::OutOfMemory);
-    };
-    match put_records(&mut out, layout, 0, &mut reader, bytes) {
+    let mut out = Vec::new(rt.alloc());
+    match write_records(&mut rt.stdout(), &mut out, layout, 0, &mut reader, bytes) {
         Ok(()) => send(rt, &out),
-        Err(stop) => Err(stopped(rt, &out, &all_of(options.source), &stop, &reader)),
+        Err(cut) => Err(stopped(rt, &out, &all_of(options.source), cut, &reader)),
     }
 }
 
@@ -97,7 +96,8 @@ fn print_shortest(rt: &HostRuntime, options: &Options<'_>, bytes: &[u8]) -> Resu
         Ok(text) => send(rt, &text),
         Err(stop) => {
             let reader = reader_at_stop(&options.context, bytes);
-            Err(stopped(rt, &[], &all_of(options.source), &stop, &reader))
+            let cut = Cut::Stop(stop);
+            Err(stopped(rt, &[], &all_of(options.source), cut, &reader))
         }
     }
 }
@@ -125,13 +125,24 @@ fn print_log(rt: &HostRuntime, options: &Options<'_>, bytes: Vec<u8>) -> Result<
         let layout = Layout::new(options.has_offsets, 1);
         let mut reader = Reader::within(&options.context);
         let bytes = payload.as_slice();
-        if let Err(stop) = put_frame(&mut out, layout, number, start, place, &mut reader, bytes) {
+        let sink = &mut rt.stdout();
+        let written = write_frame(
+            sink,
+            &mut out,
+            layout,
+            number,
+            start,
+            place,
+            &mut reader,
+            bytes,
+        );
+        if let Err(cut) = written {
             let records = RecordsPlace {
                 source: options.source,
                 frame: Some(frame),
                 place,
             };
-            return Err(stopped(rt, &out, &records, &stop, &reader));
+            return Err(stopped(rt, &out, &records, cut, &reader));
         }
     }
     send(rt, &out)
@@ -158,15 +169,17 @@ fn stopped(
     rt: &HostRuntime,
     out: &[u8],
     records: &RecordsPlace<'_>,
-    stop: &Stop,
+    cut: Cut<Stop>,
     reader: &Reader,
 ) -> RunError {
-    let Stop::Fault(fault) = stop else {
-        return RunError::OutOfMemory;
+    let fault = match cut {
+        Cut::Stop(Stop::Fault(fault)) => fault,
+        Cut::Stop(Stop::OutOfMemory) => return RunError::OutOfMemory,
+        Cut::Unsent(error) => return error,
     };
     match send(rt, out) {
         Ok(()) => {
-            tell_fault(rt, records, fault, reader);
+            tell_fault(rt, records, &fault, reader);
             RunError::Broken
         }
         Err(error) => error,

@@ -60,13 +60,12 @@ const TYPE: &str = "The full name of the type of the messages, as package.Type; 
     types of the descriptor set are listed";
 
 // Each flag, the one that it does not go with, if there is one, and its help.
-const FLAGS: [(&str, &str, &str); 6] = [
+const FLAGS: [(&str, &str, &str); 5] = [
     ("hex", "base64", HEX),
     ("base64", "", BASE64),
     ("offsets", "shortest", OFFSETS),
     ("shortest", "", SHORTEST),
     ("delimited", "shortest", DELIMITED),
-    ("strict", "shortest", STRICT),
 ];
 
 const MOST: &str = "18446744073709551615";
@@ -122,7 +121,8 @@ fn matches<'a>(alloc: Global, words: &'a [String]) -> Result<ArgMatches<'a>, Err
         .about(ABOUT)
         .arg(file)?
         .arg(named(alloc, "descriptor_set", "FILE", SET)?)?
-        .arg(named(alloc, "type", "NAME", TYPE)?.requires_arg("descriptor_set")?)?;
+        .arg(named(alloc, "type", "NAME", TYPE)?.requires_arg("descriptor_set")?)?
+        .arg(flag(alloc, "strict", "shortest", STRICT)?.requires_arg("descriptor_set")?)?;
     let command = with_flags(alloc, command)?;
     with_limits(alloc, command)?.try_get_matches_from(words)
 }

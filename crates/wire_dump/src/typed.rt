@@ -98,9 +98,9 @@ impl Typed<'_> {
         Ok(())
     }
 
-    // Puts the lines of an event, which is this text, and behind which so many groups are open.
+    /// Puts the lines of an event, which is this text, and behind which so many groups are open.
     #[cycle(typed)]
-    fn put_told(
+    pub(crate) fn put_told(
         &self,
         out: &mut Output,
         spot: Spot,
@@ -307,8 +307,8 @@ impl Typed<'_> {
     }
 }
 
-// What ends the lines of a message, where an event did.
-fn halt_within(
+/// What ends the lines of a message, where an event did.
+pub(crate) fn halt_within(
     alloc: Global,
     walk: &Walk<'_>,
     told: &Told<'_, '_>,

@@ -3,19 +3,21 @@ ghost use Rattle.std.specs.Prelude.{◌≡◌, ◌≤◌, ◌+◌, ◌^◌, ◌<
 ghost use Rattle.wire_read.specs.Reading.{limits_of, Begins};
 ghost use Rattle.wire_dynamic.specs.Told.{reader_of, schema_of};
 
-use crate::fault_line::{RecordsPlace, tell_fault};
+use crate::fault_line::{RecordsPlace, tell_named_fault};
 use crate::input::{input, read};
 use crate::layout::Layout;
 use crate::line::{put_closing, put_frame_opening};
 use crate::missing::Missing;
 use crate::options::Options;
 use crate::output::{Output, Typed};
+use crate::parts::Cut;
 use crate::typed::Halt;
 use crate::typed_record::Spot;
 use bytes::Bytes;
 use std::fs;
 use std::io::Write;
-use wire_dynamic::{Schema, SchemaError, Walk};
+use wire_codec::{Tag, WireType};
+use wire_dynamic::{Field, Schema, SchemaError, Walk};
 use wire_frames::{FrameDecoder, Framing};
 use wire_run::{FramePlace, RunError, open_error, write_error};
 
@@ -143,12 +145,11 @@ impl TypedRun<'_> {
             place: 0,
         };
         let mut walk = Walk::within(self.typed.schema, self.root, &self.options.context);
-        match self
-            .typed
-            .put_message(out, self.spot(0, 0), &mut walk, bytes)
-        {
+        let spot = self.spot(0, 0);
+        let sink = &mut self.rt.stdout();
+        match self.typed.write_message(sink, out, spot, &mut walk, bytes) {
             Ok(()) => self.tell_missing(&records, bytes),
-            Err(halt) => Err(halted(self.rt, &out.text, &records, &halt, &walk)),
+            Err(cut) => Err(self.halted(&out.text, &records, cut, &walk, bytes)),
         }
     }
 
@@ -178,22 +179,23 @@ impl TypedRun<'_> {
                 place,
             };
             let mut walk = Walk::within(self.typed.schema, self.root, &self.options.context);
-            match self.put_frame(out, &records, &mut walk, payload.as_slice()) {
-                Ok(()) => self.tell_missing(&records, payload.as_slice())?,
-                Err(halt) => return Err(halted(self.rt, &out.text, &records, &halt, &walk)),
+            let bytes = payload.as_slice();
+            match self.write_frame(out, &records, &mut walk, bytes) {
+                Ok(()) => self.tell_missing(&records, bytes)?,
+                Err(cut) => return Err(self.halted(&out.text, &records, cut, &walk, bytes)),
             }
         }
         Ok(())
     }
 
-    // Puts the lines of a frame, between that of its prefix and one of no bytes.
-    fn put_frame(
+    // Writes the lines of a frame, between that of its prefix and one of no bytes.
+    fn write_frame(
         &self,
         out: &mut Output,
         records: &RecordsPlace<'_>,
         walk: &mut Walk<'_>,
         payload: &[u8],
-    ) -> Result<(), Halt>
+    ) -> Result<(), Cut<Halt>>
         requires begins { Begins (limits_of (reader_of walk.old)) (reader_of walk.old) }
         requires schema { schema_of walk.old ≡ self.now.typed.schema.now }
         requires placed { records.now.place + length payload.now < 2 ^ 64 }
@@ -206,7 +208,8 @@ impl TypedRun<'_> {
         let margin = layout.margin(start, records.place);
         put_frame_opening(&mut out.text, margin, frame.number)?;
         let spot = self.spot(1, records.place);
-        self.typed.put_message(out, spot, walk, payload)?;
+        let sink = &mut self.rt.stdout();
+        self.typed.write_message(sink, out, spot, walk, payload)?;
         let end = records.place.saturating_add(payload.len());
         Ok(put_closing(&mut out.text, layout.margin(end, end), 0)?)
     }
@@ -223,6 +226,54 @@ impl TypedRun<'_> {
         }
     }
 
+    // Where lines end before the bytes do: those that are put are written, and then the cause is
+    // told.
+    fn halted(
+        &self,
+        out: &[u8],
+        records: &RecordsPlace<'_>,
+        cut: Cut<Halt>,
+        walk: &Walk<'_>,
+        bytes: &[u8],
+    ) -> RunError {
+        let halt = match cut {
+            Cut::Stop(Halt::OutOfMemory) => return RunError::OutOfMemory,
+            Cut::Stop(halt) => halt,
+            Cut::Unsent(error) => return error,
+        };
+        if let Err(error) = send(self.rt, out) {
+            return error;
+        }
+        match halt {
+            Halt::Fault(fault) => {
+                let field = self.field_at(walk, bytes, fault.record_place);
+                tell_named_fault(self.rt, records, &fault, walk, field);
+                RunError::Broken
+            }
+            Halt::Misfit(misfit) => {
+                let _ = eprintln!(self.rt;
+                    "wire_dump: {records}: {} at {}: {}",
+                    misfit.path, misfit.place, misfit.cause
+                );
+                RunError::Unfit
+            }
+            Halt::OutOfMemory => RunError::OutOfMemory,
+        }
+    }
+
+    // The field of the record that begins at a place of a message, where a walk stands.
+    fn field_at(&self, walk: &Walk<'_>, bytes: &[u8], place: usize) -> Option<&Field> {
+        let mut rest = bytes.get(place..)?;
+        match Tag::decode(&mut rest) {
+            Ok(tag) if tag.wire_type() != WireType::EndGroup => {
+                self.typed
+                    .schema
+                    .field(walk.innermost()?, tag.field_number())
+            }
+            _ => None,
+        }
+    }
+
     // Tells the required fields that a message lacks.
     fn tell_missing(&self, records: &RecordsPlace<'_>, bytes: &[u8]) -> Result<(), RunError> {
         let depth = self.options.context.depth().min(100);
@@ -235,36 +286,6 @@ impl TypedRun<'_> {
             );
         }
         Ok(())
-    }
-}
-
-// Where lines end before the bytes do: those that are put are written, and then the cause is told.
-fn halted(
-    rt: &HostRuntime,
-    out: &[u8],
-    records: &RecordsPlace<'_>,
-    halt: &Halt,
-    walk: &Walk<'_>,
-) -> RunError {
-    if let Halt::OutOfMemory = halt {
-        return RunError::OutOfMemory;
-    }
-    if let Err(error) = send(rt, out) {
-        return error;
-    }
-    match halt {
-        Halt::Fault(fault) => {
-            tell_fault(rt, records, fault, walk.reader());
-            RunError::Broken
-        }
-        Halt::Misfit(misfit) => {
-            let _ = eprintln!(rt;
-                "wire_dump: {records}: {} at {}: {}",
-                misfit.path, misfit.place, misfit.cause
-            );
-            RunError::Unfit
-        }
-        Halt::OutOfMemory => RunError::OutOfMemory,
     }
 }
 

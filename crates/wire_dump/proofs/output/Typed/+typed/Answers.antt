@@ -72,8 +72,9 @@ put_embedded-returns-in_ok-put_closing-in-Ok-clause-fits t c =
     payload one c.args.out.now.has_note two) c.new-walk.ensures.root c.in-Ok.ensures.ok in
     message_shown y d k r.event.number c.args.root place inner end f l payload r.text.now old
     c.args.out.now.has_note
-    (record { text = c.put_opening.new.out; has_note = c.args.out.now.has_note }) two _ some
-    c.requires.kind limits c.requires.is refl at_inner opened refl put closed refl
+    (record { text = c.put_opening.new.out; has_note = c.args.out.now.has_note }) two
+    (record { text = c.put_closing.new.out; has_note = two.has_note }) some c.requires.kind limits
+    c.requires.is refl at_inner opened refl put closed refl
 
 pub put_embedded-returns-in-Err-Fault-clause-unfit :
     goal.put_embedded-returns-in-Err-Fault-clause-unfit
@@ -106,7 +107,8 @@ put_flat-returns-in_ok-put_item-in-None-clause-ok t c =
     let told = c.args.told.now in
     guessed_put c.args.self.now c.args.spot.depth c.args.spot.level told.event.number
     c.args.spot.place told.event.value (option_copied told.field) c.args.text.now
-    c.args.out.now.text.items c.args.out.now.has_note _ c.new-layout.result
+    c.args.out.now.text.items c.args.out.now.has_note
+    (record { text = c.put_item.new.out; has_note = c.args.out.now.has_note }) c.new-layout.result
     c.new-layout.ensures (ap option_copied c.in-None.is) c.requires.is
     c.in_ok-put_item-in-None.ensures refl
 
@@ -126,7 +128,8 @@ put_told-returns-in_ok-put_closing-in-GroupEnd-clause-ok t c =
     one_line y c.args.place
     (ItemSpans y.schema.now c.args.spot.depth c.args.spot.level c.args.count
     (option_copied told.field) (item n v) c.args.text.now) c.args.text.now (closing level) old
-    c.args.out.now.has_note _
+    c.args.out.now.has_note
+    (record { text = c.put_closing.new.out; has_note = c.args.out.now.has_note })
     (end_lines y.schema.now c.args.spot.depth c.args.spot.level c.args.count n
     (option_copied told.field) v c.args.text.now c.in-GroupEnd.is) put refl
 
@@ -199,7 +202,8 @@ put_message-loop-told-preserved t c =
       next_item c.items_tell_records.ensures c.reader_goes_on.ensures y d k root
           c.args.spot.place (limits_of (reader_of c.args.walk.now)) all n v
           (option_copied told.field) a b given.behind text c.args.out.now.text.items
-          c.args.out.now.has_note c.loop-told.out c.put_told.new.out place h given.moves cut.parts
+          c.args.out.now.has_note c.loop-told.out.text.items c.loop-told.out.has_note
+          c.put_told.new.out.text.items c.put_told.new.out.has_note place h given.moves cut.parts
           cut.is (ap (λ (x : ℕ). c.args.spot.place + x) cut.start) tells puts,
       c.next.ensures.same.schema ∙ same_schema,
       c.next.ensures.same.root ∙ same_root,
@@ -213,7 +217,8 @@ put_message-returns-clause-ok t c =
     finished c.items_tell_records.ensures c.reader_is_done.ensures c.args.self.now
     c.args.spot.depth c.args.spot.level (root_of c.args.walk.now) c.args.spot.place
     (limits_of (reader_of c.args.walk.now)) all a c.args.out.now.text.items
-    c.args.out.now.has_note c.loop-told.out c.loop-told.invariant.0 done
+    c.args.out.now.has_note c.loop-told.out.text.items c.loop-told.out.has_note
+    c.loop-told.invariant.0 done
 
 pub put_message-returns-in_err-told-clause-fault :
     goal.put_message-returns-in_err-told-clause-fault
@@ -230,4 +235,5 @@ put_message-returns-in_err-told-clause-fault t c =
     stopped c.items_tell_records.ensures c.reader_stops.ensures c.args.self.now
     c.args.spot.depth c.args.spot.level (root_of c.args.walk.now) c.args.spot.place
     (limits_of (reader_of c.args.walk.now)) all a f c.args.out.now.text.items
-    c.args.out.now.has_note c.loop-told.out c.loop-told.invariant.0 stops_here
+    c.args.out.now.has_note c.loop-told.out.text.items c.loop-told.out.has_note
+    c.loop-told.invariant.0 stops_here

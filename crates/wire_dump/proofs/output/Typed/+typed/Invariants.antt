@@ -26,7 +26,7 @@ abbrev pub invariant-put_message-loop-told : goal.invariant-put_message-loop-tol
 invariant-put_message-loop-told l =
     Sofar l.fn.self l.fn.spot.depth l.fn.spot.level (root_of l.fn.walk) l.fn.spot.place
     (limits_of (reader_of l.fn.walk)) l.fn.bytes (at (reader_of l.walk) l.fn.bytes)
-    l.fn.out.text.items l.fn.out.has_note l.out
+    l.fn.out.text.items l.fn.out.has_note l.out.text.items l.out.has_note
     × (schema_of l.walk ≡ l.fn.self.schema.now)
     × (root_of l.walk ≡ root_of l.fn.walk)
 

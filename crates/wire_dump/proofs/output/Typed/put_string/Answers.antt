@@ -24,6 +24,7 @@ returns-clause-fits c =
     one_line t r.spot.place
     (ShowsRecord s r.spot.depth r.spot.level (Some r.field.now) r.event.number
     (bytes c.args.payload.now) r.text.now) r.text.now
-    (value_line s r.spot.level r.field.now text) old c.args.out.now.has_note _
+    (value_line s r.spot.level r.field.now text) old c.args.out.now.has_note
+    (record { text = c.put_string.new.out; has_note = c.args.out.now.has_note })
     (string c.requires.is c.requires.kind (c.if-not-is_string_of.ensures.yes refl r.spot.depth) refl)
     put refl
