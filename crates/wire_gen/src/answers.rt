@@ -1,8 +1,7 @@
 //! The proofs of a message type: why a record that a field refuses is refused by the message.
 use crate::choice_answers::put_choice;
-use crate::imports::definition_imports;
 use crate::rest_answers::put_rest;
-use crate::tree::Tree;
+use wire_definitions::{Tree, definition_imports};
 use wire_schema::{Field, GenerateError, Template, Words};
 
 const USES: &str = "\

@@ -1,9 +1,8 @@
 //! The code of a oneof of which some variants are rows.
-use crate::choice_names::put_others;
 use crate::code::put_field_comment;
-use crate::comments::set_heading;
-use crate::imports::{code_imports, ghost_imports};
-use crate::required_oneof::put_choice_requirement;
+use wire_definitions::{
+    code_imports, ghost_imports, put_choice_requirement, put_others, set_heading,
+};
 use wire_schema::{Field, GenerateError, Oneof, Schema, Template, Words};
 
 const DECLARED: [Template; 4] = [

@@ -1,12 +1,12 @@
 //! The code of a message type.
 use crate::arms::put_arm;
-use crate::comments::{put_comment, set_heading};
 use crate::copies::set_clone;
 use crate::defaults::{put_defaults, use_defaults};
 use crate::field_rows::put_rows;
-use crate::imports::{code_imports, ghost_imports};
-use crate::required::{DOCUMENTED, put_required, use_asked};
-use crate::tree::Tree;
+use wire_definitions::{
+    DOCUMENTED, Tree, code_imports, ghost_imports, put_comment, put_required, set_heading,
+    use_asked,
+};
 use wire_schema::{Field, GenerateError, MessageType, Schema, Template, Words};
 
 const USES: &str = "\

@@ -1,7 +1,6 @@
 //! Copies of a message: a clone, which contracts see as they see its source.
 use crate::code::put_in_braces;
-use crate::imports::ghost_imports;
-use crate::tree::{Node, Tree};
+use wire_definitions::{Node, Tree, copied_part, ghost_imports};
 use wire_schema::{Field, Template, Words};
 
 const CLONE: &str = "
@@ -57,15 +56,6 @@ const COPIES_LET: &str = "        let $copies_type$ {
 $part_names$        } = self.copied_$low$_to_$high$()?;
 ";
 
-const DEFINITION: &str = "\
-abbrev pub $copies_words$ : $copies_type$ → $part_value$
-$copies_words$ m = $seen$
-
-";
-
-const USES_OF_DEFINITION: &str =
-    "Rattle.$crate$.specs.declared.$module$.$copies_type$ $copies_type$\n";
-
 const NO_PART: [Template; 3] = [("held_copies", ""), ("part_copied", ""), ("part_names", "")];
 
 const OF_PART: [Template; 4] = [
@@ -74,9 +64,6 @@ const OF_PART: [Template; 4] = [
     ("part_names", "            $field$,\n"),
     ("copied", "            $field$,\n"),
 ];
-
-// The most copies that may be refused one behind another: each has all before it to drop.
-const MOST_REFUSALS: usize = 12;
 
 // The widest field of a struct in one line.
 const SHORT: usize = 18;
@@ -89,7 +76,7 @@ pub(crate) fn set_clone(page: &mut Words, fields: &[Field], tree: &Tree) {
     for (place, field) in fields.iter().enumerate() {
         page.copy(&field.words, &["field", "held", "copy"]);
         put_use(page, field);
-        match part_at(fields, tree, place) {
+        match copied_part(fields, tree, place) {
             Some(part) => {
                 page.append_all(&OF_PART);
                 if part.behind == place.saturating_add(1) {
@@ -106,17 +93,6 @@ pub(crate) fn set_clone(page: &mut Words, fields: &[Field], tree: &Tree) {
     page.fill("ghosts", GHOSTS);
     ghost_imports(page, "    ");
     page.fill("clone", CLONE);
-}
-
-// The part that the field at this place is copied in, where a message has many that may be refused.
-fn part_at<'a>(fields: &[Field], tree: &'a Tree, place: usize) -> Option<&'a Node> {
-    let refused = fields
-        .iter()
-        .filter(|it| it.words.get("copy").ends_with('?'));
-    if refused.count() > MOST_REFUSALS {
-        return tree.outermost(place);
-    }
-    None
 }
 
 // What a copy calls.
@@ -147,19 +123,4 @@ fn close(page: &mut Words) {
         return page.fill("copied", " $only$ ");
     }
     put_in_braces(page, "copied");
-}
-
-/// Puts what the parts are as contracts see them that are copied by themselves.
-pub(crate) fn put_copies(page: &mut Words, fields: &[Field], tree: &Tree) {
-    for place in 0..fields.len() {
-        if let Some(part) = part_at(fields, tree, place) {
-            if part.first == place {
-                page.copy(
-                    &part.words,
-                    &["copies_type", "copies_words", "part_value", "seen"],
-                );
-                page.append_all(&[("values", DEFINITION), ("uses", USES_OF_DEFINITION)]);
-            }
-        }
-    }
 }

@@ -1,6 +1,5 @@
 //! Getters of the fields that have a default value in the schema.
-use crate::choice_names::put_others;
-use crate::imports::ghost_imports;
+use wire_definitions::{ghost_imports, put_others};
 use wire_schema::{Field, Template, Words};
 
 const GHOSTS: &str = "\

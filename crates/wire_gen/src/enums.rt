@@ -1,7 +1,5 @@
 //! The code and the definitions of an enum.
-use crate::comments::{put_comment, set_heading};
-use crate::imports::ghost_imports;
-use crate::laws_pages::has_laws;
+use wire_definitions::{ghost_imports, has_laws, put_comment, set_heading};
 use wire_schema::{EnumType, GenerateError, NamedValue, Schema, Template, Words, values_of};
 
 const ENUM: &str = "\

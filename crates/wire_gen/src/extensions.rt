@@ -1,6 +1,5 @@
 //! Extensions: a function each, which is the extension's number and its kind.
-use crate::comments::{put_comment, set_heading};
-use crate::imports::{code_imports, ghost_imports};
+use wire_definitions::{code_imports, ghost_imports, put_comment, set_heading};
 use wire_schema::{Extension, GenerateError, Schema, Words, features_of, set_field, started};
 
 const HEAD: &str = "\

@@ -1,6 +1,5 @@
 //! The code of message types that hold one another: the enums of all of them pass on what is asked.
-use crate::comments::set_heading;
-use crate::imports::code_imports;
+use wire_definitions::{code_imports, set_heading};
 use wire_schema::{GenerateError, Template, Words};
 
 const FAMILY_USES: &str = "\

@@ -1,5 +1,5 @@
 //! The rows of a message type, one a field, from which its calls are read.
-use crate::tree::{Node, Tree};
+use wire_definitions::{Node, Tree};
 use wire_schema::{Field, Words};
 
 const ROWS: &str = "

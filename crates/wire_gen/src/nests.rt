@@ -1,22 +1,16 @@
 //! The files of message types that hold themselves or one another.
 use crate::answers::answers_of;
 use crate::choice_code::choice_code;
-use crate::choice_names::put_all_variants;
 use crate::family::{set_alone, set_family};
 use crate::family_code::family_code;
-use crate::family_definitions::family_definitions;
-use crate::laws_pages::has_laws;
-use crate::leaf::set_leaf;
-use crate::member_definitions::{MEMBER_MERGE, member_definitions};
-use crate::nest_stays::{family_stays, member_stays, nest_stays, put_leaf_stays};
-use crate::oneof_definitions::oneof_definitions;
-use crate::oneof_stays::oneof_stays;
 use crate::package::Package;
 use crate::recursive::recursive_code;
-use crate::recursive_definitions::{recursive_definitions, table_page};
 use crate::row_answers::{held_answers, row_answers};
-use crate::rows::{is_row, leaf_tree};
-use crate::tree::Tree;
+use wire_definitions::{
+    MEMBER_MERGE, Tree, family_definitions, family_stays, has_laws, is_row, leaf_tree,
+    member_definitions, member_stays, nest_stays, oneof_definitions, oneof_stays, put_all_variants,
+    put_leaf_stays, recursive_definitions, set_leaf, table_page,
+};
 use wire_schema::{Field, GenerateError, MessageType, Oneof, Schema, Template, Words, fields_of};
 
 // Where the proofs of a message type that holds itself are, and of one of a family.

@@ -1,8 +1,7 @@
 //! The code of a oneof.
-use crate::closing::OF_CLOSED_VARIANT;
-use crate::comments::set_heading;
-use crate::imports::{code_imports, ghost_imports};
-use crate::required_oneof::{put_requirement, use_variants};
+use wire_definitions::{
+    OF_CLOSED_VARIANT, code_imports, ghost_imports, put_requirement, set_heading, use_variants,
+};
 use wire_schema::{GenerateError, Oneof, Template, Words};
 
 // The widest line of code.

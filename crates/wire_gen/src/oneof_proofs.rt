@@ -1,6 +1,6 @@
 //! The proofs of a oneof: that a variant refuses what its kind refuses, of the value that stands,
 //! or of a value of no records where this variant does not stand.
-use crate::imports::definition_imports;
+use wire_definitions::definition_imports;
 use wire_schema::{GenerateError, Oneof, Template, Words};
 
 const USES: &str = "\

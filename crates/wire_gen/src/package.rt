@@ -1,22 +1,19 @@
 //! The files of a crate.
 use crate::answers::answers_of;
-use crate::closing::closed_answers;
 use crate::code::code_of;
-use crate::definitions::definitions_of;
 use crate::enums::enum_files;
 use crate::extensions::extensions_of;
-use crate::laws_pages::has_laws;
 use crate::layout::laid_out;
 use crate::oneof::oneof_code;
-use crate::oneof_definitions::oneof_definitions;
 use crate::oneof_proofs::merge_answers;
-use crate::oneof_stays::oneof_stays;
 use crate::services::services_of;
-use crate::stays::stays_of;
-use crate::tree::{Tree, tree_of};
 use crate::written::{FieldAnswers, written_answers};
 use std::alloc::Global;
 use wire_codec::{DecodeOptions, Message};
+use wire_definitions::{
+    Tree, closed_answers, definitions_of, has_laws, oneof_definitions, oneof_stays, stays_of,
+    tree_of,
+};
 use wire_descriptor::{CodeGeneratorRequest, CodeGeneratorResponse, CodeGeneratorResponseFile};
 use wire_schema::{
     EnumType, FIRST_EDITION, Field, GenerateError, LAST_EDITION, MessageType, Oneof, Schema, Words,

@@ -1,13 +1,13 @@
 //! The code of a message type that holds itself: its fields of its own type, or of those that hold
 //! it, are rows, and all others its leaf, which is written in runs between the rows.
 use crate::choice_code::{ONCE_OF_CHOICE, put_declared, put_ghosts, put_no_rows, put_plain};
-use crate::choice_names::set_names;
 use crate::code::{put_field_comment, put_head, put_leaf_field, set_leaf_rest};
 use crate::defaults::{put_defaults, use_defaults};
 use crate::member::{ALONE, ALONE_OF, EACH, MEMBER, MEMBER_OF, ONCE};
-use crate::required_rows::{put_required_rows, use_asked_rows};
-use crate::rows::{is_row, place_of};
-use crate::runs::{put_field_in_run, put_part_head, put_run};
+use wire_definitions::{
+    is_row, place_of, put_field_in_run, put_part_head, put_required_rows, put_run, set_names,
+    use_asked_rows,
+};
 use wire_schema::{Field, GenerateError, MessageType, Schema, Words};
 
 const USES: &str = "\

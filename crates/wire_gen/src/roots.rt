@@ -1,13 +1,10 @@
 //! The files of a crate that name the others, and its laws.
-use crate::comments::set_heading;
-use crate::imports::ghost_imports;
-use crate::laws_pages::{
-    ACCOUNT_USE, CHARGE_USES, CHARGED_LAW, CHARGED_LAW_ANSWERS, LAW, LAW_ANSWERS, LAW_USES, LAWS,
-    STAY_LAW, STAY_LAW_ANSWERS, has_laws,
-};
 use crate::package::Package;
 use crate::split::WHOLE;
-use crate::stays::put_accounted_range;
+use wire_definitions::{
+    ACCOUNT_USE, CHARGE_USES, CHARGED_LAW, CHARGED_LAW_ANSWERS, LAW, LAW_ANSWERS, LAW_USES, LAWS,
+    STAY_LAW, STAY_LAW_ANSWERS, ghost_imports, has_laws, put_accounted_range, set_heading,
+};
 use wire_schema::{GenerateError, Words};
 
 const README: &str = "\

@@ -1,6 +1,5 @@
 //! The proofs of the rows of message types that hold themselves or one another.
-use crate::member_definitions::{MEMBER_PUSH, MEMBER_PUSH_HEAD, MEMBER_ROW, MEMBER_ROW_HEAD};
-use crate::rows::is_row;
+use wire_definitions::{MEMBER_PUSH, MEMBER_PUSH_HEAD, MEMBER_ROW, MEMBER_ROW_HEAD, is_row};
 use wire_schema::{Field, GenerateError, Words};
 
 const ROW_HEAD: &str = "\

@@ -1,5 +1,5 @@
 //! Services: a type each, with a constant for each method, and a type for each method.
-use crate::comments::{put_comment, set_heading};
+use wire_definitions::{put_comment, set_heading};
 use wire_descriptor::MethodDescriptorProto;
 use wire_schema::{
     GenerateError, Schema, ServiceType, Template, TypeNames, Words, apart, constant_name,

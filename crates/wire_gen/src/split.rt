@@ -1,6 +1,6 @@
 //! Several crates of one schema: some message types each, and one that passes all on.
 use crate::package::Package;
-use crate::view::has_view;
+use wire_definitions::has_view;
 use wire_schema::{GenerateError, Schema, Words, order_key, set_part};
 
 const LINE: &str = "    $crate$: wire_codec wire_fields$needs$ bytes\n";

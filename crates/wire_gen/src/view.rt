@@ -2,20 +2,15 @@
 use crate::answers::view_answers_of;
 use crate::oneof_proofs::view_merge_answers;
 use crate::package::Package;
-use crate::tree::Tree;
 use crate::view_code::view_code_of;
 use crate::view_oneof::oneof_view_code;
+use wire_definitions::{Tree, has_view};
 use wire_schema::{Field, GenerateError, Oneof, Schema, Words};
 
 // What the README says of views.
 const VIEWED: &str =
     " A view is read just where its message is, as the\nsame value, and `own` makes the \
                       message of it.";
-
-/// Whether a type has a view, or a oneof.
-pub(crate) fn has_view(words: &Words) -> bool {
-    !words.get("view_name").is_empty()
-}
 
 impl Package {
     /// The view of a message, where it has one.

@@ -1,7 +1,6 @@
 //! The code of the view of a message type.
 use crate::code::{put_field_comment, put_in_braces};
-use crate::comments::set_heading;
-use crate::imports::{code_imports, ghost_imports};
+use wire_definitions::{code_imports, ghost_imports, set_heading};
 use wire_schema::{Field, GenerateError, Schema, Template, Words};
 
 const USES: &str = "\

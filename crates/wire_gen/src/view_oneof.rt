@@ -1,6 +1,5 @@
 //! The code of the view of a oneof.
-use crate::comments::set_heading;
-use crate::imports::{code_imports, ghost_imports};
+use wire_definitions::{code_imports, ghost_imports, set_heading};
 use wire_schema::{GenerateError, Oneof, Template, Words};
 
 const USES: &str = "\

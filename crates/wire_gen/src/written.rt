@@ -1,7 +1,7 @@
 //! The proofs of what measures and writes fields among which are closed enums. Of one that stands
 //! once the code has a number that is seen, and the definitions the number itself: of many of
 //! these, among other kinds, the search does not find that both are written alike.
-use crate::tree::{Node, Tree};
+use wire_definitions::{Node, Tree};
 use wire_schema::{Field, GenerateError, Template, Words};
 
 const HEAD: &str = "\

@@ -206,7 +206,7 @@ const OF_VARIANT: [Template; 3] = [
 ];
 
 /// The value of a oneof, its table, and what each variant is.
-pub(crate) fn oneof_definitions(base: &Words, oneof: &Oneof) -> Result<String, GenerateError> {
+pub fn oneof_definitions(base: &Words, oneof: &Oneof) -> Result<String, GenerateError> {
     let is_read_back = has_laws(base);
     let mut page = Words::like(base);
     let is_whole = page.get("in_choice").is_empty();

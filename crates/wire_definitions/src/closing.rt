@@ -54,7 +54,7 @@ Rattle.$crate$.specs.$name$ $word$-of-$module$-closed
 ";
 
 /// What that function brings in.
-pub(crate) const OF_CLOSED_VARIANT: [Template; 3] = [
+pub const OF_CLOSED_VARIANT: [Template; 3] = [
     ("variants", CLOSED_VARIANT),
     ("uses", "wire_codec UnknownFields\n"),
     ("ghosts", GHOSTS),
@@ -166,7 +166,7 @@ returns-in_err-merge_closed-clause-err g c =
 ";
 
 /// The proof of that function.
-pub(crate) fn closed_answers(base: &Words, variant: &Words) -> Result<String, GenerateError> {
+pub fn closed_answers(base: &Words, variant: &Words) -> Result<String, GenerateError> {
     let mut page = Words::like(base);
     page.copy(variant, &["word", "of_specs", "of_name", "of_module"]);
     page.fill("text", ANSWERS);

@@ -3,7 +3,7 @@ use wire_schema::Words;
 
 /// Of the lines of the word `uses`, the word `imports`: lines `use MODULE.{a, b}`, of at most a
 /// hundred columns where a name leaves room.
-pub(crate) fn definition_imports(page: &mut Words) {
+pub fn definition_imports(page: &mut Words) {
     let uses = page.take("uses");
     page.fill_all(&[("use", "use "), ("shut", "}\n")]);
     put_imports(page, &uses);
@@ -12,7 +12,7 @@ pub(crate) fn definition_imports(page: &mut Words) {
 
 /// Of the lines of the word `ghosts`, the word `ghost_imports`, as clauses bring names in, behind
 /// such a margin.
-pub(crate) fn ghost_imports(page: &mut Words, margin: &str) {
+pub fn ghost_imports(page: &mut Words, margin: &str) {
     let ghosts = page.take("ghosts");
     page.set("use", margin);
     page.append("use", "ghost use ");
@@ -51,7 +51,7 @@ fn end_import(page: &mut Words) {
 
 /// Of the lines of the word `uses`, the word `imports`, as code brings names in, in the order of
 /// the formatter: the crate's own modules first.
-pub(crate) fn code_imports(page: &mut Words) {
+pub fn code_imports(page: &mut Words) {
     let uses = page.take("uses");
     let lines = page.ordered(&uses);
     page.fill("imports", "");

@@ -61,7 +61,7 @@ pub(crate) fn set_requiring(page: &mut Words, oneof: &Oneof) {
 }
 
 /// The arms of a oneof, as the word `asked`, and what they bring in.
-pub(crate) fn use_variants(page: &mut Words, oneof: &Oneof) {
+pub fn use_variants(page: &mut Words, oneof: &Oneof) {
     set_requiring(page, oneof);
     if page.get("requiring").is_empty() {
         return;
@@ -74,7 +74,7 @@ pub(crate) fn use_variants(page: &mut Words, oneof: &Oneof) {
 }
 
 /// Puts the call of a oneof behind the text so far, of the arms that are there.
-pub(crate) fn put_requirement(page: &mut Words) {
+pub fn put_requirement(page: &mut Words) {
     if !page.get("requiring").is_empty() {
         page.fill("ghosts", GHOSTS_OF_ONE);
         ghost_imports(page, "    ");
@@ -146,7 +146,7 @@ Rattle.$crate$.specs.$home$ $choice_module$-value
 
 /// Puts what is asked of such a oneof behind the parts so far, where one of its messages that are
 /// of the leaf has required fields, or holds such.
-pub(crate) fn put_choice_requirement(page: &mut Words, oneof: &Oneof) {
+pub fn put_choice_requirement(page: &mut Words, oneof: &Oneof) {
     let mut variants = oneof.variants.iter();
     if !variants.any(|it| !it.get("of_requiring").is_empty()) {
         return;

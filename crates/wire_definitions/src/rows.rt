@@ -5,13 +5,13 @@ use crate::tree::{Tree, tree_of};
 use wire_schema::{Field, GenerateError, Template, Words};
 
 /// Whether a field is of its message's own type, or of one of its family.
-pub(crate) fn is_row(field: &Field) -> bool {
+pub fn is_row(field: &Field) -> bool {
     !field.words.get("is_row").is_empty()
 }
 
 /// Tells the fields of these types that they are rows, and makes the tree of the others. The word
 /// `family` of the base is ` A B `, the types, or ` A ` where a type holds itself alone.
-pub(crate) fn leaf_tree(
+pub fn leaf_tree(
     base: &mut Words,
     fields: Vec<Field>,
 ) -> Result<(Vec<Field>, Tree), GenerateError> {
@@ -112,7 +112,7 @@ pub(crate) fn is_bare(fields: &[Field]) -> bool {
 }
 
 /// Where records of a row go: of one message or of many, which are groups or not.
-pub(crate) fn place_of(field: &Field) -> &'static str {
+pub fn place_of(field: &Field) -> &'static str {
     let kind = field.words.get("kind");
     if kind.starts_with("EachGroup<") {
         "EachGrouped"

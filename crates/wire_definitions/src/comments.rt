@@ -5,7 +5,7 @@ use wire_schema::Words;
 const WIDTH: usize = 100;
 
 /// Makes the word `heading` what a file is, as a comment with this mark, and what it comes from.
-pub(crate) fn set_heading(page: &mut Words, mark: &str, what: &str) {
+pub fn set_heading(page: &mut Words, mark: &str, what: &str) {
     page.fill("heading_text", what);
     page.append(
         "heading_text",
@@ -27,7 +27,7 @@ pub(crate) fn set_heading(page: &mut Words, mark: &str, what: &str) {
 }
 
 /// Puts a comment behind the word of this name, behind so many spaces.
-pub(crate) fn put_comment(page: &mut Words, name: &'static str, margin: &str, comment: &str) {
+pub fn put_comment(page: &mut Words, name: &'static str, margin: &str, comment: &str) {
     if comment.is_empty() {
         return;
     }

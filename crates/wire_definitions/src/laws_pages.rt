@@ -2,11 +2,11 @@
 use wire_schema::Words;
 
 /// Whether they are asked for.
-pub(crate) fn has_laws(base: &Words) -> bool {
+pub fn has_laws(base: &Words) -> bool {
     base.get("without_laws").is_empty()
 }
 
-pub(crate) const LAWS: &str = "\
+pub const LAWS: &str = "\
 $heading$$charge_uses$ghost use Rattle.wire_fields.specs.Returned.{ReadsBack};
 ghost use Rattle.wire_fields.specs.Stays.{DecodesInRange};
 $ghost_imports$
@@ -14,12 +14,12 @@ use wire_codec::laws::text_decodes;
 use wire_fields::laws::grounds;
 $laws$";
 
-pub(crate) const LAW_USES: &str = "\
+pub const LAW_USES: &str = "\
 Rattle.$crate$.specs.$name$ $module$-range
 Rattle.$crate$.specs.$name$ $module$-shape
 ";
 
-pub(crate) const LAW: &str = "
+pub const LAW: &str = "
 /// What is written of each `$name$` in range decodes to it, where the limits suffice.
 pub fn $module$_reads_back()
     ensures { ReadsBack $module$-shape $module$-range }
@@ -29,7 +29,7 @@ pub fn $module$_reads_back()
 }
 ";
 
-pub(crate) const STAY_LAW: &str = "
+pub const STAY_LAW: &str = "
 /// What bytes decode to as `$name$` is in range, where each message and group
 /// within it takes at most 2,147,483,647 bytes and any other payload less than 2^64.
 pub fn $module$_decodes_in_range()
@@ -39,7 +39,7 @@ pub fn $module$_decodes_in_range()
 }
 ";
 
-pub(crate) const STAY_LAW_ANSWERS: &str = "\
+pub const STAY_LAW_ANSWERS: &str = "\
 use Rattle.$crate$.specs.$name$Stays.{$module$-stays}
 use Rattle.wire_fields.specs.Stays.{decodes_in_range}
 use Rattle.$crate$.proofs.laws.$module$_decodes_in_range.Goals as goal
@@ -49,7 +49,7 @@ returns c = decodes_in_range c.grounds.ensures ($module$-stays c.grounds.ensures
 ";
 
 /// The same where it follows from what records are charged that are left.
-pub(crate) const CHARGED_LAW: &str = "
+pub const CHARGED_LAW: &str = "
 /// What is written of each `$name$` in range decodes to it, whatever each record is charged that a map
 /// of a closed enum left, where the limits suffice.
 pub fn $module$_reads_back()
@@ -61,17 +61,17 @@ pub fn $module$_reads_back()
 }
 ";
 
-pub(crate) const ACCOUNT_USE: &str = "\
+pub const ACCOUNT_USE: &str = "\
 Rattle.$crate$.specs.$name$ $module$-account
 ";
 
-pub(crate) const CHARGE_USES: &str = "\
+pub const CHARGE_USES: &str = "\
 ghost use Rattle.std.specs.Prelude.{ℕ, List};
 ghost use Rattle.wire_codec.specs.Field.{Payload};
 ghost use Rattle.wire_codec.specs.Limits.{Charge};
 ";
 
-pub(crate) const CHARGED_LAW_ANSWERS: &str = "\
+pub const CHARGED_LAW_ANSWERS: &str = "\
 use Rattle.$crate$.specs.$name$.{$module$-returned}
 use Rattle.wire_fields.specs.Returned.{reads_back}
 use Rattle.$crate$.proofs.laws.$module$_reads_back.Goals as goal
@@ -81,7 +81,7 @@ returns c =
     λ charges. reads_back ($module$-returned charges c.grounds.ensures) c.text_decodes.ensures
 ";
 
-pub(crate) const LAW_ANSWERS: &str = "\
+pub const LAW_ANSWERS: &str = "\
 use Rattle.$crate$.specs.$name$.{$module$-returned}
 use Rattle.wire_fields.specs.Returned.{reads_back}
 use Rattle.$crate$.proofs.laws.$module$_reads_back.Goals as goal

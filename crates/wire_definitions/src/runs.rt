@@ -131,7 +131,7 @@ fn put_parts(fields: &[Field], run: Span, parts: &mut Vec<Span>) -> Result<(), G
 }
 
 /// Puts a field behind those of the run so far, or of the part that it stands in.
-pub(crate) fn put_field_in_run(page: &mut Words, field: &Words) {
+pub fn put_field_in_run(page: &mut Words, field: &Words) {
     let is_choice = !field.get("in_choice").is_empty();
     if field.get("in_part").is_empty() {
         page.append("run_lets", if is_choice { RUN_CHOICE } else { RUN_FIELD });
@@ -164,7 +164,7 @@ fn put_part(page: &mut Words) {
 }
 
 /// What the records of a oneof are called of which some variants are rows.
-pub(crate) fn put_part_head(page: &mut Words, field: &Words) {
+pub fn put_part_head(page: &mut Words, field: &Words) {
     page.copy(field, &["number"]);
     page.fill("part_records", "$module$-records-$number$");
     put_part_ghosts(page);
@@ -215,7 +215,7 @@ fn put_in_run(page: &mut Words, part: &str) {
 }
 
 /// Puts the arms of a run that ends.
-pub(crate) fn put_run(page: &mut Words, is_last: bool) {
+pub fn put_run(page: &mut Words, is_last: bool) {
     if is_last && page.get("unknown") == "drop" {
         put_in_run(page, "Dropped");
     } else if is_last {

@@ -1,6 +1,6 @@
 //! The definitions of a message type.
 use crate::comments::set_heading;
-use crate::copies::put_copies;
+use crate::copied_parts::put_copies;
 use crate::imports::definition_imports;
 use crate::laws_pages::has_laws;
 use crate::required::{define_asked, put_missing};
@@ -132,7 +132,7 @@ $field$-of-$module$ m = m.0$path$
 ";
 
 /// The value of a message type, its table, and a word for each field.
-pub(crate) fn definitions_of(
+pub fn definitions_of(
     base: &Words,
     fields: &[Field],
     tree: &Tree,

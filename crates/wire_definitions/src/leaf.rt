@@ -91,7 +91,7 @@ Rattle.wire_fields.specs.LeavingLeaf dropping_leaf_range
 ";
 
 /// Tells the page of such a message, of these fields, what its leaf does with other records.
-pub(crate) fn set_leaf(page: &mut Words, fields: &[Field]) {
+pub fn set_leaf(page: &mut Words, fields: &[Field]) {
     page.fill_all(&[("leaf_kind", ""), ("leaf_uses", "")]);
     page.fill_all(&KEEPING);
     if fields.iter().any(is_leaving) {

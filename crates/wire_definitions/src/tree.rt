@@ -6,7 +6,7 @@ use wire_schema::{Field, GenerateError, Template, Words};
 
 /// The fields of a message as a tree. Its words are those of the root but for its numbers.
 #[derive(Drop)]
-pub(crate) struct Tree {
+pub struct Tree {
     pub words: Words,
     /// Where there are many fields, those in a row that have a type of their own, an inner one
     /// before the one that it is in.
@@ -20,7 +20,7 @@ pub(crate) struct Tree {
 /// `returned`, why decoding gives such, `stays`, and why a number `h` that is one of it is none of
 /// others, `apart`.
 #[derive(Drop)]
-pub(crate) struct Node {
+pub struct Node {
     pub first: usize,
     pub behind: usize,
     pub words: Words,
@@ -41,7 +41,7 @@ impl Node {
 impl Tree {
     /// Whether fields in a row stand in a part, or in the whole where that is none, and in no part
     /// within that.
-    pub(crate) fn has(&self, part: Option<&Node>, first: usize, behind: usize) -> bool {
+    pub fn has(&self, part: Option<&Node>, first: usize, behind: usize) -> bool {
         match part {
             Some(part) => {
                 let mut inner = self.parts.iter().filter(|it| it.is_in(part));
@@ -52,7 +52,7 @@ impl Tree {
     }
 
     /// The same of a part.
-    pub(crate) fn has_part(&self, part: Option<&Node>, inner: &Node) -> bool {
+    pub fn has_part(&self, part: Option<&Node>, inner: &Node) -> bool {
         let mut between = self.parts.iter().filter(|it| inner.is_in(it));
         match part {
             Some(part) => inner.is_in(part) && !between.any(|it| it.is_in(part)),
@@ -61,7 +61,7 @@ impl Tree {
     }
 
     /// The part of the field at this place that is in no other.
-    pub(crate) fn outermost(&self, place: usize) -> Option<&Node> {
+    pub fn outermost(&self, place: usize) -> Option<&Node> {
         let behind = place.saturating_add(1);
         self.parts.iter().filter(|it| it.has(place, behind)).last()
     }
@@ -157,11 +157,7 @@ const SECOND: [Template; 3] = [
 /// The tree of these fields, with parts by themselves where they may be: of each part, and of the
 /// whole, what stands there is paired with its neighbour, and so are the pairs. Each field is told
 /// its `path`.
-pub(crate) fn tree_of(
-    base: &Words,
-    fields: &mut [Field],
-    has_parts: bool,
-) -> Result<Tree, GenerateError> {
+pub fn tree_of(base: &Words, fields: &mut [Field], has_parts: bool) -> Result<Tree, GenerateError> {
     let alloc = base.alloc();
     let mut parts = Vec::new(alloc);
     let mut nodes = Vec::new(alloc);

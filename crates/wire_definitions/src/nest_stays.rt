@@ -165,11 +165,7 @@ Rattle.$crate$.specs.$family_name$Stays family-stays
 ";
 
 /// The page of a message that holds itself.
-pub(crate) fn nest_stays(
-    base: &Words,
-    fields: &[Field],
-    tree: &Tree,
-) -> Result<String, GenerateError> {
+pub fn nest_stays(base: &Words, fields: &[Field], tree: &Tree) -> Result<String, GenerateError> {
     let mut page = Words::like(base);
     page.fill("home_specs", HOME);
     put_account_of(&mut page, "$module$-account");
@@ -181,7 +177,7 @@ pub(crate) fn nest_stays(
 }
 
 /// Tells the page of the table of one of several types the proof of its leaf, the word `leaf_stays`.
-pub(crate) fn put_leaf_stays(page: &mut Words, fields: &[Field], tree: &Tree) {
+pub fn put_leaf_stays(page: &mut Words, fields: &[Field], tree: &Tree) {
     page.fill("home_specs", "Rattle.$crate$.specs.$family_name$");
     put_account_of(page, "family-account");
     put_leaf(page, fields, tree);
@@ -198,7 +194,7 @@ pub(crate) fn put_leaf_stays(page: &mut Words, fields: &[Field], tree: &Tree) {
 }
 
 /// The page of all of them, of which each has a page of a table.
-pub(crate) fn family_stays(base: &Words, members: &[Words]) -> Result<String, GenerateError> {
+pub fn family_stays(base: &Words, members: &[Words]) -> Result<String, GenerateError> {
     let mut page = Words::like(base);
     put_account_of(&mut page, "family-account");
     page.set("leaves", "");
@@ -243,7 +239,7 @@ const OF_MEMBER: [Template; 3] = [
 ];
 
 /// The page of one of them.
-pub(crate) fn member_stays(base: &Words) -> Result<String, GenerateError> {
+pub fn member_stays(base: &Words) -> Result<String, GenerateError> {
     let mut page = Words::like(base);
     put_accounted_range(&mut page);
     page.append("named", NAMED_OF_FACE);

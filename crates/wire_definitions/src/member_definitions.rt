@@ -101,7 +101,7 @@ Rattle.wire_fields.specs.Returned Returned
 ";
 
 /// The page of one of them.
-pub(crate) fn member_definitions(base: &Words) -> Result<String, GenerateError> {
+pub fn member_definitions(base: &Words) -> Result<String, GenerateError> {
     let mut page = Words::like(base);
     let is_read_back = has_laws(base);
     page.fill("uses", FACE_USES);
@@ -125,7 +125,7 @@ pub(crate) fn member_definitions(base: &Words) -> Result<String, GenerateError> 
     page.finish("text")
 }
 
-pub(crate) const MEMBER_ROW_HEAD: &str = "\
+pub const MEMBER_ROW_HEAD: &str = "\
 use Rattle.std.proofs.Common.{◌∙◌, ap, map, sym}
 use Rattle.wire_fields.specs.Nest.{listed_row}
 use Rattle.$crate$.specs.$family_name$ as family
@@ -133,14 +133,14 @@ use Rattle.$crate$.specs.declared.$module$.$name$.{fold_out-$name$}
 use Rattle.$crate$.proofs.$module$.$name$.row.Goals as goal
 ";
 
-pub(crate) const MEMBER_ROW: &str = "
+pub const MEMBER_ROW: &str = "
 pub returns-in-$row$-clause-messages : goal.returns-in-$row$-clause-messages
 returns-in-$row$-clause-messages c =
     rw (c.in-$row$.is, fold_out-$name$$their_trees$$their_ones$ c.args.self.now)
     (ap (map family.$of_module$-value) $call$.ensures.value ∙ sym (listed_row _))
 ";
 
-pub(crate) const MEMBER_PUSH_HEAD: &str = "\
+pub const MEMBER_PUSH_HEAD: &str = "\
 use Rattle.std.proofs.Common.{◌∙◌}
 use Rattle.std.proofs.lemmas.Result.{on_ok_weaker}
 use Rattle.wire_fields.specs.Nest.{listed_row, row_pushed}
@@ -152,7 +152,7 @@ use Rattle.$crate$.specs.declared.$first_type$.TheFolds.{map-$name$}
 use Rattle.$crate$.proofs.$module$.$name$RecursiveMemberFamilyHeld.push.Goals as goal
 ";
 
-pub(crate) const MEMBER_PUSH: &str = "
+pub const MEMBER_PUSH: &str = "
 pub returns-in-$row$-$of_name$-clause-ok : goal.returns-in-$row$-$of_name$-clause-ok
 returns-in-$row$-$of_name$-clause-ok c =
     λ here many kind. on_ok_weaker $call$.result (λ pushed. rw (
@@ -166,7 +166,7 @@ returns-in-$row$-$of_name$-clause-ok c =
     _ _ c.in-$row$-$of_name$.message (listed_row _) pushed)) $call$.ensures.ok
 ";
 
-pub(crate) const MEMBER_MERGE: &str = "\
+pub const MEMBER_MERGE: &str = "\
 use Rattle.std.proofs.Common.{sym}
 use Rattle.$crate$.proofs.$module$.$name$MessageFields.merge_field.Goals as goal
 

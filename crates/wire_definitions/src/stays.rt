@@ -95,11 +95,7 @@ Rattle.$crate$.specs.$name$ $module$-shape
 pub(crate) const HOME: &str = "Rattle.$crate$.specs.$name$";
 
 /// The page of a message that holds neither itself nor others that hold it.
-pub(crate) fn stays_of(
-    base: &Words,
-    fields: &[Field],
-    tree: &Tree,
-) -> Result<String, GenerateError> {
+pub fn stays_of(base: &Words, fields: &[Field], tree: &Tree) -> Result<String, GenerateError> {
     let mut page = Words::like(base);
     page.fill("home_specs", HOME);
     put_fields(&mut page, fields, tree);
@@ -126,7 +122,7 @@ pub(crate) fn put_fields(page: &mut Words, fields: &[Field], tree: &Tree) {
 }
 
 /// The range, for what the account says where one is asked for.
-pub(crate) fn put_accounted_range(page: &mut Words) {
+pub fn put_accounted_range(page: &mut Words) {
     let is_charged = !page.get("charged").is_empty();
     page.fill(
         "accounted_range",

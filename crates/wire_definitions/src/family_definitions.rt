@@ -291,7 +291,7 @@ const OF_BACK: [Template; 3] = [
 ];
 
 /// The page of all of them, of which each has a page of a table.
-pub(crate) fn family_definitions(base: &Words, members: &[Words]) -> Result<String, GenerateError> {
+pub fn family_definitions(base: &Words, members: &[Words]) -> Result<String, GenerateError> {
     let mut page = Words::like(base);
     page.fill("uses", USES);
     let is_read_back = has_laws(base);

@@ -2,7 +2,7 @@
 use wire_schema::{Field, Template, Words};
 
 /// Tells the page the names of all variants of such a oneof, the word `choice_names`.
-pub(crate) fn set_names(page: &mut Words, fields: &[Field]) {
+pub fn set_names(page: &mut Words, fields: &[Field]) {
     page.fill_all(&[("choice_names", ""), ("choice_ghosts", "")]);
     let is_alone = page.get("family_name").is_empty();
     page.fill("home", if is_alone { "$name$" } else { "$family_name$" });
@@ -21,7 +21,7 @@ pub(crate) fn set_names(page: &mut Words, fields: &[Field]) {
 }
 
 /// A line for each of the other variants of the one whose name this word is.
-pub(crate) fn put_others(page: &mut Words, own: &'static str, line: &'static Template) {
+pub fn put_others(page: &mut Words, own: &'static str, line: &'static Template) {
     let names = page.take("choice_names");
     for name in names.split(' ') {
         if !name.is_empty() && name != page.get(own) {
@@ -43,7 +43,7 @@ pub(crate) fn set_opened(page: &mut Words, name: &str) {
 }
 
 /// Puts the names of the variants of a oneof of which some are rows behind the word `all_variants`.
-pub(crate) fn put_all_variants(page: &mut Words, fields: &[Field]) {
+pub fn put_all_variants(page: &mut Words, fields: &[Field]) {
     for field in fields {
         if let Some(oneof) = &field.oneof {
             if !oneof.rows.is_empty() {

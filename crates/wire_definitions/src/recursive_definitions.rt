@@ -141,7 +141,7 @@ $module$-shape = record {
 $asked_table$$back$";
 
 /// The value of a message type that holds itself, and its table.
-pub(crate) fn recursive_definitions(
+pub fn recursive_definitions(
     base: &Words,
     fields: &[Field],
     tree: &Tree,
@@ -159,7 +159,7 @@ pub(crate) fn recursive_definitions(
 }
 
 /// The words of such a table, or of that of one type of a family.
-pub(crate) fn table_page(base: &Words, fields: &[Field], tree: &Tree) -> Words {
+pub fn table_page(base: &Words, fields: &[Field], tree: &Tree) -> Words {
     let is_read_back = has_laws(base);
     let mut page = Words::like(base);
     let is_member = !page.get("family_name").is_empty();

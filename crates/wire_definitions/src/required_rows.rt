@@ -163,7 +163,7 @@ $asked$            ),
 ";
 
 /// The arms of a type of rows, and what they bring in.
-pub(crate) fn use_asked_rows(page: &mut Words, fields: &[Field]) {
+pub fn use_asked_rows(page: &mut Words, fields: &[Field]) {
     if page.get("requiring").is_empty() {
         return;
     }
@@ -280,7 +280,7 @@ fn end_arms(page: &mut Words, rows: usize) {
 }
 
 /// Puts the calls of a type of rows behind the code so far, of the arms that are there.
-pub(crate) fn put_required_rows(page: &mut Words) {
+pub fn put_required_rows(page: &mut Words) {
     if page.get("requiring").is_empty() {
         return;
     }

@@ -114,7 +114,7 @@ Rattle.$crate$.specs.$name$ $word$-of-$module$-kind
 ";
 
 /// The page of a oneof.
-pub(crate) fn oneof_stays(base: &Words, oneof: &Oneof) -> Result<String, GenerateError> {
+pub fn oneof_stays(base: &Words, oneof: &Oneof) -> Result<String, GenerateError> {
     let mut page = Words::like(base);
     page.set("here", "anywhere");
     for variant in oneof.variants.iter().rev() {

@@ -4,7 +4,7 @@ use crate::imports::ghost_imports;
 use wire_schema::{Field, Template, Words};
 
 /// What the documentation of such a type says besides.
-pub(crate) const DOCUMENTED: &str = "\
+pub const DOCUMENTED: &str = "\
 ///
 /// It has required fields, or holds messages that have: `parse_from_slice` of `Parse` refuses
 /// bytes that lack one, and `decode_from_slice` takes them.
@@ -161,7 +161,7 @@ const ROW: &str = "            \"$proto$\" => $field$: $requirement$,\n";
 
 /// The rows of a message type, as the word `asked`, with the parts that are `asked_apart` where
 /// there are many, and what they bring in.
-pub(crate) fn use_asked(page: &mut Words, fields: &[Field]) {
+pub fn use_asked(page: &mut Words, fields: &[Field]) {
     if page.get("requiring").is_empty() {
         return;
     }
@@ -292,7 +292,7 @@ fn set_span(page: &mut Words, field: &Field) {
 }
 
 /// Puts the call behind the code so far, of the rows that are there.
-pub(crate) fn put_required(page: &mut Words) {
+pub fn put_required(page: &mut Words) {
     if !page.get("requiring").is_empty() {
         page.fill("ghosts", GHOSTS);
         ghost_imports(page, "    ");

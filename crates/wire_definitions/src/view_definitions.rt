@@ -1,7 +1,6 @@
 //! The definitions of views: how one is seen by contracts, as the value of its message.
 use crate::oneof_definitions::put_values;
 use crate::tree::Tree;
-use crate::view::has_view;
 use wire_schema::{Field, Oneof, Template, Words};
 
 const USES: &str = "\
@@ -29,6 +28,11 @@ abbrev pub $module$-view_value : $view_name$ → $name$-Value
 $module$-view_value m = fields_of m.unknown.items
 
 ";
+
+/// Whether a type has a view, or a oneof.
+pub fn has_view(words: &Words) -> bool {
+    !words.get("view_name").is_empty()
+}
 
 /// Puts how the view of a message is seen, where it has one: the word `view_value`, and names that
 /// are brought in.

@@ -1,0 +1,64 @@
+//! The definitions that are written of a message type: the pages of its `specs/`, what the parts of
+//! its table and of its code are called, and the laws that it has. Every function ends and is safe,
+//! for all descriptors; none has a contract, since what is written is proved by itself.
+#![tactic(auto)]
+
+mod account;
+mod choice;
+mod choice_laws;
+mod choice_names;
+mod closing;
+mod comments;
+mod copied_parts;
+mod definitions;
+mod family_definitions;
+mod imports;
+mod keeping;
+mod laws_pages;
+mod leaf;
+mod member_definitions;
+mod mentioned;
+mod nest_stays;
+mod oneof_definitions;
+mod oneof_stays;
+mod recursive_back;
+mod recursive_definitions;
+mod required;
+mod required_oneof;
+mod required_rows;
+mod required_tables;
+mod returned;
+mod rows;
+mod runs;
+mod spans;
+mod stays;
+mod tree;
+mod view_definitions;
+
+pub use choice_names::{put_all_variants, put_others, set_names};
+pub use closing::{OF_CLOSED_VARIANT, closed_answers};
+pub use comments::{put_comment, set_heading};
+pub use copied_parts::copied_part;
+pub use definitions::definitions_of;
+pub use family_definitions::family_definitions;
+pub use imports::{code_imports, definition_imports, ghost_imports};
+pub use laws_pages::{
+    ACCOUNT_USE, CHARGE_USES, CHARGED_LAW, CHARGED_LAW_ANSWERS, LAW, LAW_ANSWERS, LAW_USES, LAWS,
+    STAY_LAW, STAY_LAW_ANSWERS, has_laws,
+};
+pub use leaf::set_leaf;
+pub use member_definitions::{
+    MEMBER_MERGE, MEMBER_PUSH, MEMBER_PUSH_HEAD, MEMBER_ROW, MEMBER_ROW_HEAD, member_definitions,
+};
+pub use nest_stays::{family_stays, member_stays, nest_stays, put_leaf_stays};
+pub use oneof_definitions::oneof_definitions;
+pub use oneof_stays::oneof_stays;
+pub use recursive_definitions::{recursive_definitions, table_page};
+pub use required::{DOCUMENTED, put_required, use_asked};
+pub use required_oneof::{put_choice_requirement, put_requirement, use_variants};
+pub use required_rows::{put_required_rows, use_asked_rows};
+pub use rows::{is_row, leaf_tree, place_of};
+pub use runs::{put_field_in_run, put_part_head, put_run};
+pub use stays::{put_accounted_range, stays_of};
+pub use tree::{Node, Tree, tree_of};
+pub use view_definitions::has_view;
