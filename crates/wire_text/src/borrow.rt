@@ -6,6 +6,7 @@ ghost use Rattle.wire_base.specs.Read.{Reads};
 ghost use Rattle.wire_text.specs.BytesPayload.{PassesPayload};
 ghost use Rattle.wire_text.specs.StringPayload.{IsString, StringFault};
 
+use crate::payload::from_utf8;
 use wire_base::{DecodeError, decode_length};
 
 /// The bytes of a length-delimited payload. The slice then begins behind them. Refused as
@@ -34,5 +35,5 @@ pub fn borrow_str<'a>(buf: &mut &'a [u8]) -> Result<&'a str, DecodeError>
     ensures unchanged { IfErr result (λ e. e ≢ InvalidUtf8 → buf.new.now ≡ buf.old.now) }
 {
     let payload = borrow_bytes(buf)?;
-    simdutf8::basic::from_utf8(payload).or(Err(DecodeError::InvalidUtf8))
+    from_utf8(payload).or(Err(DecodeError::InvalidUtf8))
 }

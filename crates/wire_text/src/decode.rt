@@ -6,7 +6,7 @@ ghost use Rattle.wire_base.specs.Read.{Reads};
 ghost use Rattle.wire_text.specs.BytesPayload.{PassesPayload, BytesRefusal};
 ghost use Rattle.wire_text.specs.StringPayload.{IsString, StringRefusal};
 
-use crate::payload::{into_text, make_room, put_text, take_room};
+use crate::payload::{from_utf8, into_text, make_room, put_text, take_room};
 use bytes::{Buf, Bytes};
 use std::alloc::Global;
 use wire_base::{DecodeError, copy_bytes, decode_length, take_bytes};
@@ -73,6 +73,7 @@ pub fn merge_bytes<B: Buf>(
 /// keeps its room where it fits. A payload that is not UTF-8 is taken whole, leaves the empty text,
 /// and is `InvalidUtf8`; every other refusal is that of `decode_bytes`, and leaves the string as it
 /// was.
+#[inline(always)]
 pub fn merge_string<B: Buf>(
     alloc: Global,
     value: &mut String,
@@ -96,7 +97,7 @@ pub fn merge_string<B: Buf>(
         *value = into_text(payload)?;
         return Ok(());
     }
-    match simdutf8::basic::from_utf8(&chunk[..len]) {
+    match from_utf8(&chunk[..len]) {
         Ok(text) => {
             put_text(alloc, value, text)?;
             buf.advance(len);

@@ -1,11 +1,16 @@
 //! The bytes of a payload, copied once.
-ghost use Rattle.std.specs.Prelude.{◌≡◌, ◌≤◌, [], string_bytes, IsUtf8, OnOk, OnErr, IfOk, IfErr};
+ghost use Rattle.std.specs.Prelude.{◌≡◌, ◌≤◌, [], string_bytes, IsUtf8};
+ghost use Rattle.std.specs.Prelude.{MatchResult, OnOk, OnErr, IfOk, IfErr};
 ghost use Rattle.std.specs.Vec.{vec_capacity};
 ghost use Rattle.wire_base.specs.declared.error.DecodeError.TheVariants.{InvalidUtf8};
 
+use simdutf8::basic::Utf8Error;
 use std::alloc::{AllocError, Global};
 use std::mem;
 use wire_base::DecodeError;
+
+// Fewer bytes than these `simdutf8` leaves to std's loop.
+const SHORT: usize = 64;
 
 /// Empties a vector, which then has room for so many bytes. What it held is not copied.
 pub(crate) fn make_room(alloc: Global, value: &mut Vec<u8>, len: usize) -> Result<(), AllocError>
@@ -57,14 +62,27 @@ pub(crate) fn put_text(alloc: Global, value: &mut String, text: &str) -> Result<
     Ok(())
 }
 
+/// The text of the bytes. A short one is mostly ASCII, which is tested eight bytes at a time.
+#[inline(always)]
+pub(crate) fn from_utf8(bytes: &[u8]) -> Result<&str, Utf8Error>
+    ensures { MatchResult result (λ text. (text.now ≡ bytes.now) × IsUtf8 bytes.now)
+        (λ _. ¬ (IsUtf8 bytes.now)) }
+{
+    if bytes.len() < SHORT && bytes.is_ascii() {
+        return Ok(unsafe { std::str::from_utf8_unchecked(bytes) });
+    }
+    simdutf8::basic::from_utf8(bytes)
+}
+
 /// The text of these bytes, which are not copied.
+#[inline(always)]
 pub(crate) fn into_text(payload: Vec<u8>) -> Result<String, DecodeError>
     ensures ok { IfOk result (λ text. string_bytes text ≡ payload.items) }
     ensures utf8 { OnOk result (IsUtf8 payload.items) }
     ensures err { IfErr result (λ e. e ≡ InvalidUtf8) }
     ensures not_utf8 { OnErr result (¬ IsUtf8 payload.items) }
 {
-    match simdutf8::basic::from_utf8(&payload) {
+    match from_utf8(&payload) {
         Ok(_) => Ok(unsafe { String::from_utf8_unchecked(payload) }),
         Err(_) => Err(DecodeError::InvalidUtf8),
     }

@@ -2,6 +2,7 @@
 ghost use Rattle.std.specs.Prelude.{◌≡◌, ◌==◌, Bool, true, false, length, IsUtf8, OnOk, OnErr, IfOk, IfErr, IsOk};
 ghost use Rattle.wire_base.specs.declared.error.DecodeError.TheVariants.{InvalidUtf8, OutOfMemory};
 
+use crate::payload::from_utf8;
 use bytes::Bytes;
 use std::alloc::{AllocError, Global};
 use wire_base::DecodeError;
@@ -96,7 +97,7 @@ impl<'a> WirePayload<'a> {
         ensures err { IfErr result (λ e. e ≡ InvalidUtf8) }
         ensures not_utf8 { OnErr result (¬ IsUtf8 (payload_bytes self.now)) }
     {
-        simdutf8::basic::from_utf8(self.as_slice()).or(Err(DecodeError::InvalidUtf8))
+        from_utf8(self.as_slice()).or(Err(DecodeError::InvalidUtf8))
     }
 
     /// The bytes as a run of their own. Those of a lent payload are copied, and refused with
