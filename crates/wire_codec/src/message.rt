@@ -436,6 +436,7 @@ pub trait Message: Clone + PartialEq + Drop {
 
     /// The value of a length-delimited payload of at most 2,147,483,647 bytes, within the limits of
     /// `decode`. Refused as `merge_delimited`.
+    #[inline(always)]
     fn decode_length_delimited<B: Buf>(alloc: Global, buf: &mut B) -> Result<Self, DecodeError>
         ensures ok { IfOk result (λ message. (c : Charge) × TakesDelimited takes
             default_limits 2147483647 default (B.unread buf.old) c (view message)
@@ -455,6 +456,7 @@ pub trait Message: Clone + PartialEq + Drop {
 
     /// The value of the records of the whole buffer, which may have any length, within 100 levels,
     /// 1,000,000 unknown fields and 33,554,432 bytes for elements. Refused as `merge`.
+    #[inline(always)]
     fn decode<B: Buf>(alloc: Global, buf: &mut B) -> Result<Self, DecodeError>
         ensures ok { IfOk result (λ message. Decodes takes default_limits default
             (B.unread buf.old) (view message)) }
@@ -469,6 +471,7 @@ pub trait Message: Clone + PartialEq + Drop {
     }
 
     /// The value of the records of all the bytes. Limits and refusals are those of `decode`.
+    #[inline(always)]
     fn decode_from_slice(alloc: Global, bytes: &[u8]) -> Result<Self, DecodeError>
         ensures ok { IfOk result (λ message. Decodes takes default_limits default bytes.now
             (view message)) }
