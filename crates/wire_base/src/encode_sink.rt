@@ -9,10 +9,12 @@ ghost use Rattle.wire_base.specs.Varint.{shortest_varint};
 use crate::error::EncodeError;
 use crate::laws;
 use bytes::Bytes;
+use growth::{push_delimited, push_growing, push_varint};
 use std::alloc::AllocError;
 use std::mem;
 
 mod bytes_mut;
+mod growth;
 
 /// A growing list of bytes. A put appends all of its bytes or none: it answers `LengthOverflow`
 /// exactly where all bytes of the sink would then be more than it can count, and else `OutOfMemory`
@@ -112,8 +114,8 @@ pub trait EncodeSink {
         self.put_u32_le(value)
     }
 
-    /// Appends the shortest varint of a number, as a tag, and eight bytes, the lowest first. Refused
-    /// where a byte of the varint is, or the eight are, and then leaves what stands before.
+    /// Appends the shortest varint of a number, as a tag, and eight bytes, the lowest first.
+    /// Refused where a byte of the varint is, or the eight are, and then leaves what stands before.
     #[inline(always)]
     fn put_fixed64(&mut self, first: u64, value: u64) -> Result<(), EncodeError>
         ensures { Writes (shortest_varint first ++ to_le_bytes w64 value)
@@ -136,30 +138,34 @@ pub trait EncodeSink {
 impl EncodeSink for Vec<u8> {
     ghost held = { λ sink. in_memory sink.items };
 
+    #[inline(always)]
     fn put_u8(&mut self, value: u8) -> Result<(), EncodeError> {
-        self.push(value)?;
+        push_byte(value, self)?;
         Ok(())
     }
 
+    #[inline(always)]
     fn put_slice(&mut self, bytes: &[u8]) -> Result<(), EncodeError> {
-        self.extend_from_slice(bytes)?;
+        push_bytes(bytes, self)?;
         Ok(())
     }
 
+    #[inline(always)]
     fn put_u32_le(&mut self, value: u32) -> Result<(), EncodeError> {
-        self.extend_from_slice(&u32::to_le_bytes(value))?;
+        push_bytes(&u32::to_le_bytes(value), self)?;
         Ok(())
     }
 
+    #[inline(always)]
     fn put_u64_le(&mut self, value: u64) -> Result<(), EncodeError> {
-        self.extend_from_slice(&u64::to_le_bytes(value))?;
+        push_bytes(&u64::to_le_bytes(value), self)?;
         Ok(())
     }
 
     #[inline(always)]
     fn put_varint(&mut self, value: u64) -> Result<(), EncodeError> {
         if value < 0x80 {
-            self.push(value as u8)?;
+            push_byte(value as u8, self)?;
             return Ok(());
         }
         if self.len() + MOST_DIGITS > self.capacity() {
@@ -190,24 +196,26 @@ impl EncodeSink for Vec<u8> {
         Ok(())
     }
 
-    /// One put where the varint is a byte.
+    /// One put where the varint is a byte and there is room. The array is not that of the puts
+    /// behind, which may grow: it stays in registers.
     #[inline(always)]
     fn put_fixed32(&mut self, first: u64, value: u32) -> Result<(), EncodeError> {
         laws::two_parts();
         laws::put_is_a_write();
-        if first < 0x80 {
+        if first < 0x80 && 5 <= self.capacity() - self.len() {
             return self.put_slice(&tagged_fixed32(first as u8, value));
         }
         self.put_varint(first)?;
         self.put_u32_le(value)
     }
 
-    /// One put where the varint is a byte.
+    /// One put where the varint is a byte and there is room. The array is not that of the puts
+    /// behind, which may grow: it stays in registers.
     #[inline(always)]
     fn put_fixed64(&mut self, first: u64, value: u64) -> Result<(), EncodeError> {
         laws::two_parts();
         laws::put_is_a_write();
-        if first < 0x80 {
+        if first < 0x80 && 9 <= self.capacity() - self.len() {
             return self.put_slice(&tagged_fixed64(first as u8, value));
         }
         self.put_varint(first)?;
@@ -289,6 +297,19 @@ fn push_pair(first: u8, second: u8, bytes: &mut Vec<u8>)
     bytes.push_reserved(second);
 }
 
+// Appends a byte.
+#[inline(always)]
+fn push_byte(byte: u8, bytes: &mut Vec<u8>) -> Result<(), AllocError>
+    ensures ok { OnOk result (bytes.new.items ≡ bytes.old.items ++ byte ∷ []) }
+    ensures err { OnErr result (bytes.new.items ≡ bytes.old.items) }
+{
+    if bytes.len() == bytes.capacity() {
+        return push_growing(&[byte], bytes);
+    }
+    bytes.push_reserved(byte);
+    Ok(())
+}
+
 // Appends bytes. The test is that of the list, which then has no growth in line.
 #[inline(always)]
 fn push_bytes(more: &[u8], bytes: &mut Vec<u8>) -> Result<(), AllocError>
@@ -299,42 +320,4 @@ fn push_bytes(more: &[u8], bytes: &mut Vec<u8>) -> Result<(), AllocError>
         return push_growing(more, bytes);
     }
     bytes.extend_from_slice(more)
-}
-
-// Appends bytes for which there is no room.
-#[inline(never)]
-fn push_growing(more: &[u8], bytes: &mut Vec<u8>) -> Result<(), AllocError>
-    ensures ok { OnOk result (bytes.new.items ≡ bytes.old.items ++ more.now) }
-    ensures err { OnErr result (bytes.new.items ≡ bytes.old.items) }
-{
-    bytes.extend_from_slice(more)
-}
-
-// Appends the shortest varint of a number, and bytes behind their length.
-#[inline(never)]
-fn push_delimited(first: u64, more: &[u8], bytes: &mut Vec<u8>) -> Result<(), AllocError>
-    ensures ok { OnOk result (bytes.new.items
-        ≡ bytes.old.items ++ (shortest_varint first ++ delimited_text more.now)) }
-    ensures err { OnErr result (KeepsFront (in_memory bytes.old.items)
-        (shortest_varint first ++ delimited_text more.now) (in_memory bytes.new.items)) }
-{
-    push_two(first, more.len() as u64, bytes)?;
-    bytes.extend_from_slice(more)?;
-    Ok(())
-}
-
-// Appends the shortest varint of a number byte by byte.
-#[inline(never)]
-fn push_varint(value: u64, bytes: &mut Vec<u8>) -> Result<(), AllocError>
-    ensures ok { OnOk result (bytes.new.items ≡ bytes.old.items ++ shortest_varint value) }
-    ensures err { OnErr result (KeepsFront (in_memory bytes.old.items)
-        (shortest_varint value) (in_memory bytes.new.items)) }
-{
-    let mut rest = value;
-    while rest >= 0x80 {
-        bytes.push((rest % 0x80) as u8 + 0x80)?;
-        rest /= 0x80;
-    }
-    bytes.push(rest as u8)?;
-    Ok(())
 }

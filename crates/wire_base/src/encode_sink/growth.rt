@@ -1,0 +1,115 @@
+//! Bytes behind a vector that may have no room for them. A call that is not in line takes the
+//! vector by value and hands it back: one that is a local of the caller then has no address, and
+//! stays in registers.
+ghost use Rattle.std.specs.Prelude.{◌≡◌, true, false, ◌++◌, OnOk, OnErr};
+ghost use Rattle.wire_base.specs.Delimited.{delimited_text};
+ghost use Rattle.wire_base.specs.Sink.{KeepsFront, in_memory};
+ghost use Rattle.wire_base.specs.Varint.{shortest_varint};
+
+use super::push_two;
+use std::alloc::AllocError;
+use std::mem;
+
+/// Appends bytes for which there is no room.
+#[inline(always)]
+pub(super) fn push_growing(more: &[u8], bytes: &mut Vec<u8>) -> Result<(), AllocError>
+    ensures ok { OnOk result (bytes.new.items ≡ bytes.old.items ++ more.now) }
+    ensures err { OnErr result (bytes.new.items ≡ bytes.old.items) }
+{
+    let empty = Vec::new(*bytes.allocator());
+    let (held, is_whole) = extended(more, mem::replace(bytes, empty));
+    mem::forget(mem::replace(bytes, held));
+    if is_whole { Ok(()) } else { Err(AllocError) }
+}
+
+// The vector with the bytes behind it, and whether there was memory for them.
+#[inline(never)]
+fn extended(more: &[u8], bytes: Vec<u8>) -> (Vec<u8>, bool)
+    ensures ok { result.1 ≡ true → result.0.items ≡ bytes.items ++ more.now }
+    ensures err { result.1 ≡ false → result.0.items ≡ bytes.items }
+{
+    let mut held = bytes;
+    let is_whole = held.extend_from_slice(more).is_ok();
+    (held, is_whole)
+}
+
+/// Appends the shortest varint of a number, and bytes behind their length.
+#[inline(always)]
+pub(super) fn push_delimited(first: u64, more: &[u8], bytes: &mut Vec<u8>) -> Result<(), AllocError>
+    ensures ok { OnOk result (bytes.new.items
+        ≡ bytes.old.items ++ (shortest_varint first ++ delimited_text more.now)) }
+    ensures err { OnErr result (KeepsFront (in_memory bytes.old.items)
+        (shortest_varint first ++ delimited_text more.now) (in_memory bytes.new.items)) }
+{
+    let empty = Vec::new(*bytes.allocator());
+    let (held, is_whole) = with_delimited(first, more, mem::replace(bytes, empty));
+    mem::forget(mem::replace(bytes, held));
+    if is_whole { Ok(()) } else { Err(AllocError) }
+}
+
+// The vector with both behind it, and whether there was memory for them.
+#[inline(never)]
+fn with_delimited(first: u64, more: &[u8], bytes: Vec<u8>) -> (Vec<u8>, bool)
+    ensures ok { result.1 ≡ true → result.0.items
+        ≡ bytes.items ++ (shortest_varint first ++ delimited_text more.now) }
+    ensures err { result.1 ≡ false → KeepsFront (in_memory bytes.items)
+        (shortest_varint first ++ delimited_text more.now) (in_memory result.0.items) }
+{
+    let mut held = bytes;
+    let is_whole = push_both(first, more, &mut held).is_ok();
+    (held, is_whole)
+}
+
+// Appends the shortest varint of a number, and bytes behind their length.
+#[inline(always)]
+fn push_both(first: u64, more: &[u8], bytes: &mut Vec<u8>) -> Result<(), AllocError>
+    ensures ok { OnOk result (bytes.new.items
+        ≡ bytes.old.items ++ (shortest_varint first ++ delimited_text more.now)) }
+    ensures err { OnErr result (KeepsFront (in_memory bytes.old.items)
+        (shortest_varint first ++ delimited_text more.now) (in_memory bytes.new.items)) }
+{
+    push_two(first, more.len() as u64, bytes)?;
+    bytes.extend_from_slice(more)?;
+    Ok(())
+}
+
+/// Appends the shortest varint of a number.
+#[inline(always)]
+pub(super) fn push_varint(value: u64, bytes: &mut Vec<u8>) -> Result<(), AllocError>
+    ensures ok { OnOk result (bytes.new.items ≡ bytes.old.items ++ shortest_varint value) }
+    ensures err { OnErr result (KeepsFront (in_memory bytes.old.items)
+        (shortest_varint value) (in_memory bytes.new.items)) }
+{
+    let empty = Vec::new(*bytes.allocator());
+    let (held, is_whole) = with_varint(value, mem::replace(bytes, empty));
+    mem::forget(mem::replace(bytes, held));
+    if is_whole { Ok(()) } else { Err(AllocError) }
+}
+
+// The vector with the varint behind it, and whether there was memory for it.
+#[inline(never)]
+fn with_varint(value: u64, bytes: Vec<u8>) -> (Vec<u8>, bool)
+    ensures ok { result.1 ≡ true → result.0.items ≡ bytes.items ++ shortest_varint value }
+    ensures err { result.1 ≡ false → KeepsFront (in_memory bytes.items)
+        (shortest_varint value) (in_memory result.0.items) }
+{
+    let mut held = bytes;
+    let is_whole = push_each_digit(value, &mut held).is_ok();
+    (held, is_whole)
+}
+
+// Appends the shortest varint of a number byte by byte.
+#[inline(always)]
+fn push_each_digit(value: u64, bytes: &mut Vec<u8>) -> Result<(), AllocError>
+    ensures ok { OnOk result (bytes.new.items ≡ bytes.old.items ++ shortest_varint value) }
+    ensures err { OnErr result (KeepsFront (in_memory bytes.old.items)
+        (shortest_varint value) (in_memory bytes.new.items)) }
+{
+    let mut rest = value;
+    while rest >= 0x80 {
+        bytes.push((rest % 0x80) as u8 + 0x80)?;
+        rest /= 0x80;
+    }
+    bytes.push(rest as u8)?;
+    Ok(())
+}
