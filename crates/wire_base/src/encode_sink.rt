@@ -9,7 +9,7 @@ ghost use Rattle.wire_base.specs.Varint.{shortest_varint};
 use crate::error::EncodeError;
 use crate::laws;
 use bytes::Bytes;
-use growth::{push_delimited, push_growing, push_varint};
+use growth::{push_delimited, push_growing, push_varint, push_varints};
 use std::alloc::AllocError;
 use std::mem;
 
@@ -263,7 +263,8 @@ fn push_digits(value: u64, bytes: &mut Vec<u8>)
 }
 
 // Appends the shortest varints of two numbers. With room for both, the vector is a local of the
-// compiled code, so that its length stays in a register.
+// compiled code, so that its length stays in a register. One of just the size of a small message
+// has less room, and takes the small numbers of its fields.
 #[inline(always)]
 fn push_two(first: u64, second: u64, bytes: &mut Vec<u8>) -> Result<(), AllocError>
     ensures ok { OnOk result (bytes.new.items
@@ -272,9 +273,11 @@ fn push_two(first: u64, second: u64, bytes: &mut Vec<u8>) -> Result<(), AllocErr
         (shortest_varint first ++ shortest_varint second) (in_memory bytes.new.items)) }
 {
     if bytes.len() + 2 * MOST_DIGITS > bytes.capacity() {
-        laws::two_parts();
-        push_varint(first, bytes)?;
-        return push_varint(second, bytes);
+        if first < 0x80 && second < 0x80 && bytes.len() + 2 <= bytes.capacity() {
+            push_pair(first as u8, second as u8, bytes);
+            return Ok(());
+        }
+        return push_varints(first, second, bytes);
     }
     let empty = Vec::new(*bytes.allocator());
     let mut held = mem::replace(bytes, empty);

@@ -7,6 +7,7 @@ ghost use Rattle.wire_base.specs.Sink.{KeepsFront, in_memory};
 ghost use Rattle.wire_base.specs.Varint.{shortest_varint};
 
 use super::push_two;
+use crate::laws;
 use std::alloc::AllocError;
 use std::mem;
 
@@ -17,14 +18,14 @@ pub(super) fn push_growing(more: &[u8], bytes: &mut Vec<u8>) -> Result<(), Alloc
     ensures err { OnErr result (bytes.new.items ≡ bytes.old.items) }
 {
     let empty = Vec::new(*bytes.allocator());
-    let (held, is_whole) = extended(more, mem::replace(bytes, empty));
+    let (held, is_whole) = with_bytes(more, mem::replace(bytes, empty));
     mem::forget(mem::replace(bytes, held));
     if is_whole { Ok(()) } else { Err(AllocError) }
 }
 
 // The vector with the bytes behind it, and whether there was memory for them.
 #[inline(never)]
-fn extended(more: &[u8], bytes: Vec<u8>) -> (Vec<u8>, bool)
+fn with_bytes(more: &[u8], bytes: Vec<u8>) -> (Vec<u8>, bool)
     ensures ok { result.1 ≡ true → result.0.items ≡ bytes.items ++ more.now }
     ensures err { result.1 ≡ false → result.0.items ≡ bytes.items }
 {
@@ -56,13 +57,13 @@ fn with_delimited(first: u64, more: &[u8], bytes: Vec<u8>) -> (Vec<u8>, bool)
         (shortest_varint first ++ delimited_text more.now) (in_memory result.0.items) }
 {
     let mut held = bytes;
-    let is_whole = push_both(first, more, &mut held).is_ok();
+    let is_whole = append_delimited(first, more, &mut held).is_ok();
     (held, is_whole)
 }
 
-// Appends the shortest varint of a number, and bytes behind their length.
+// Appends the same, to a vector that may grow in place.
 #[inline(always)]
-fn push_both(first: u64, more: &[u8], bytes: &mut Vec<u8>) -> Result<(), AllocError>
+fn append_delimited(first: u64, more: &[u8], bytes: &mut Vec<u8>) -> Result<(), AllocError>
     ensures ok { OnOk result (bytes.new.items
         ≡ bytes.old.items ++ (shortest_varint first ++ delimited_text more.now)) }
     ensures err { OnErr result (KeepsFront (in_memory bytes.old.items)
@@ -94,13 +95,13 @@ fn with_varint(value: u64, bytes: Vec<u8>) -> (Vec<u8>, bool)
         (shortest_varint value) (in_memory result.0.items) }
 {
     let mut held = bytes;
-    let is_whole = push_each_digit(value, &mut held).is_ok();
+    let is_whole = append_varint(value, &mut held).is_ok();
     (held, is_whole)
 }
 
 // Appends the shortest varint of a number byte by byte.
 #[inline(always)]
-fn push_each_digit(value: u64, bytes: &mut Vec<u8>) -> Result<(), AllocError>
+fn append_varint(value: u64, bytes: &mut Vec<u8>) -> Result<(), AllocError>
     ensures ok { OnOk result (bytes.new.items ≡ bytes.old.items ++ shortest_varint value) }
     ensures err { OnErr result (KeepsFront (in_memory bytes.old.items)
         (shortest_varint value) (in_memory bytes.new.items)) }
@@ -112,4 +113,44 @@ fn push_each_digit(value: u64, bytes: &mut Vec<u8>) -> Result<(), AllocError>
     }
     bytes.push(rest as u8)?;
     Ok(())
+}
+
+/// Appends the shortest varints of two numbers.
+#[inline(always)]
+pub(super) fn push_varints(first: u64, second: u64, bytes: &mut Vec<u8>) -> Result<(), AllocError>
+    ensures ok { OnOk result (bytes.new.items
+        ≡ bytes.old.items ++ shortest_varint first ++ shortest_varint second) }
+    ensures err { OnErr result (KeepsFront (in_memory bytes.old.items)
+        (shortest_varint first ++ shortest_varint second) (in_memory bytes.new.items)) }
+{
+    let empty = Vec::new(*bytes.allocator());
+    let (held, is_whole) = with_varints(first, second, mem::replace(bytes, empty));
+    mem::forget(mem::replace(bytes, held));
+    if is_whole { Ok(()) } else { Err(AllocError) }
+}
+
+// The vector with both varints behind it, and whether there was memory for them.
+#[inline(never)]
+fn with_varints(first: u64, second: u64, bytes: Vec<u8>) -> (Vec<u8>, bool)
+    ensures ok { result.1 ≡ true → result.0.items
+        ≡ bytes.items ++ shortest_varint first ++ shortest_varint second }
+    ensures err { result.1 ≡ false → KeepsFront (in_memory bytes.items)
+        (shortest_varint first ++ shortest_varint second) (in_memory result.0.items) }
+{
+    let mut held = bytes;
+    let is_whole = append_varints(first, second, &mut held).is_ok();
+    (held, is_whole)
+}
+
+// Appends the shortest varints of two numbers byte by byte.
+#[inline(always)]
+fn append_varints(first: u64, second: u64, bytes: &mut Vec<u8>) -> Result<(), AllocError>
+    ensures ok { OnOk result (bytes.new.items
+        ≡ bytes.old.items ++ shortest_varint first ++ shortest_varint second) }
+    ensures err { OnErr result (KeepsFront (in_memory bytes.old.items)
+        (shortest_varint first ++ shortest_varint second) (in_memory bytes.new.items)) }
+{
+    laws::two_parts();
+    append_varint(first, bytes)?;
+    append_varint(second, bytes)
 }

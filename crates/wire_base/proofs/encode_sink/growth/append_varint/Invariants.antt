@@ -1,7 +1,7 @@
 use Rattle.std.proofs.Common.{◌^◌, ◌<◌}
 use Rattle.wire_base.specs.Sink.{IsWrittenTo, in_memory}
 use Rattle.wire_base.specs.Varint.{shortest_varint}
-use Rattle.wire_base.proofs.encode_sink.growth.push_each_digit.Given as goal
+use Rattle.wire_base.proofs.encode_sink.growth.append_varint.Given as goal
 
 abbrev pub invariant-loop-rest : goal.invariant-loop-rest
 invariant-loop-rest l = record {

@@ -3,7 +3,7 @@ use Rattle.std.proofs.lemmas.Result.{err_from_is_err_and}
 use Rattle.wire_base.specs.Sink.{KeepsFront, in_memory}
 use Rattle.wire_base.specs.Varint.{shortest_varint}
 use Rattle.wire_base.proofs.Sinks.{front_of_first, only_first}
-use Rattle.wire_base.proofs.encode_sink.growth.push_both.Goals as goal
+use Rattle.wire_base.proofs.encode_sink.growth.append_delimited.Goals as goal
 
 pub returns-in_err-push_two-clause-err : goal.returns-in_err-push_two-clause-err
 returns-in_err-push_two-clause-err c =

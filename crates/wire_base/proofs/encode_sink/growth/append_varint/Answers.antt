@@ -2,7 +2,7 @@ use Rattle.std.proofs.Common.{◌+◌, ◌%◌, [], ◌∷◌, Ok, ap, arith}
 use Rattle.wire_base.specs.Sink.{Held}
 use Rattle.wire_base.proofs.Sinks.{start, more, last, in_vector}
 use Rattle.wire_base.proofs.Varints.{shortest_varint-last, shortest_varint-more}
-use Rattle.wire_base.proofs.encode_sink.growth.push_each_digit.Goals as goal
+use Rattle.wire_base.proofs.encode_sink.growth.append_varint.Goals as goal
 
 pub loop-rest-init : goal.loop-rest-init
 loop-rest-init c = record { fits = omega arith; written = start _ _ }
