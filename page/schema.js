@@ -74,7 +74,7 @@ class Schema {
       const name = file.text(2), outer = name ? `.${name}` : '';
       const of = {
         isChecked: file.text(12) === 'proto3' || file.number(14) === EDITION_2023,
-        isDelimited: file.inner(8).some((it) => this.isDelimited(it, 50))
+        isDelimited: this.isDelimited(file.inner(8), 50, false)
       };
       for (const it of file.inner(5)) this.addEnum(it, outer);
       for (const it of file.inner(4)) this.addMessage(it, outer, of, extensions, 0);
@@ -84,8 +84,11 @@ class Schema {
     for (const message of this.messages.values())
       for (const field of message.fields.values()) this.resolve(field);
   }
-  // Features of an edition: messages in groups.
-  isDelimited(options, number) { return options.inner(number).some((it) => it.number(5) === 2n); }
+  // Features of an edition: whether messages are groups, by these options, or else as outside.
+  isDelimited(options, number, outside) {
+    const said = options.flatMap((it) => it.inner(number)).map((it) => it.number(5));
+    return said.some((it) => it !== 0n) ? said.findLast((it) => it !== 0n) === 2n : outside;
+  }
   addEnum(it, outer) {
     const names = new Map();
     for (const value of it.inner(2)) {
@@ -100,7 +103,7 @@ class Schema {
     const full = `${outer}.${it.text(1)}`, fields = new Map();
     const isEntry = it.isSet(7, 7) === 1n;
     for (const field of it.inner(2)) {
-      const made = this.field(field, of);
+      const made = this.field(field, isEntry ? {...of, isEntry} : of);
       fields.set(made.number, made);
     }
     if (!this.messages.has(full)) this.messages.set(full, {name: full.slice(1), fields, isEntry});
@@ -109,12 +112,13 @@ class Schema {
     extensions.push(...it.inner(6).map((inner) => [inner, full, of]));
   }
   field(it, of) {
-    const says = it.inner(8).some((options) => this.isDelimited(options, 21));
+    // (what stands in an entry of a map is no group)
+    const isGroup = !of.isEntry && this.isDelimited(it.inner(8), 21, of.isDelimited);
     const type = TYPES[Number(it.number(5))] ?? '';
     return {
       name: it.text(1),
       number: Number(it.number(3)),
-      type: type === 'message' && (says || of.isDelimited) ? 'group' : type,
+      type: type === 'message' && isGroup ? 'group' : type,
       of: it.text(6),
       isRepeated: it.number(4) === BigInt(REPEATED),
       isChecked: of.isChecked,

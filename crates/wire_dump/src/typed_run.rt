@@ -1,5 +1,5 @@
 //! Runs with a schema.
-ghost use Rattle.std.specs.Prelude.{◌≡◌, ◌≤◌, ◌+◌, ◌^◌, ◌<◌, length};
+ghost use Rattle.std.specs.Prelude.{◌≡◌, ◌+◌, ◌^◌, ◌<◌, length, min};
 ghost use Rattle.wire_read.specs.Reading.{limits_of, Begins};
 ghost use Rattle.wire_dynamic.specs.Told.{reader_of, schema_of};
 
@@ -215,7 +215,7 @@ impl TypedRun<'_> {
     }
 
     fn spot(&self, level: u32, place: usize) -> Spot
-        ensures depth { result.depth ≤ 100 }
+        ensures depth { result.depth ≡ min self.now.options.now.context.depth 100 }
         ensures level { result.level ≡ level }
         ensures place { result.place ≡ place }
     {

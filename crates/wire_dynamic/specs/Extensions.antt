@@ -8,7 +8,7 @@ use Rattle.wire_dynamic.specs.declared.declared.Declared.{Declared}
 use Rattle.wire_dynamic.specs.declared.declared.DeclaredExtension.{DeclaredExtension}
 use Rattle.wire_dynamic.specs.declared.field.Field.{Field}
 use Rattle.wire_dynamic.specs.declared.places.Places.{Places}
-use Rattle.wire_dynamic.specs.Fields.{number_of, IsField}
+use Rattle.wire_dynamic.specs.Fields.{field_features, number_of, IsField}
 
 -- the order of places of message types and numbers of fields
 abbrev pub place_cmp : ℕ × ℕ → ℕ × ℕ → Ordering
@@ -23,4 +23,5 @@ extends places at e =
 
 abbrev pub IsExtension : Declared → Places → DeclaredExtension → Field → Type 0
 IsExtension declared places e f =
-    IsField declared places e.features (string_bytes e.name) e.descriptor f
+    IsField declared places (field_features e.features e.descriptor.options) (string_bytes e.name)
+    e.descriptor f

@@ -39,6 +39,15 @@ is_checked features = int_eq features.strings (pos 2)
 abbrev pub is_delimited : Features → Bool
 is_delimited features = int_eq features.encoding (pos 2)
 
+-- the same with messages behind their length
+abbrev pub prefixed : Features → Features
+prefixed features = record {
+  presence = features.presence;
+  enum_type = features.enum_type;
+  strings = features.strings;
+  encoding = pos 1;
+}
+
 -- ---- the features of a file
 
 -- those with this presence of fields (1 is explicit and 2 implicit), these enums (1 is open and 2

@@ -1,5 +1,5 @@
 -- A field as its descriptor tells it.
-use Rattle.std.specs.Prelude.{◌≡◌, ◌≤◌, ℕ, ℤ, pos, negsuc, Bool, false, not, ◌&&◌, ◌||◌, List, Option, None, Some, count_by, option_map, nat_eq, string_bytes, slice_get, if◌then◌else◌}
+use Rattle.std.specs.Prelude.{◌≡◌, ◌<◌, ◌≤◌, ℕ, ℤ, pos, negsuc, Bool, false, not, ◌&&◌, ◌||◌, List, [], Option, None, Some, count_by, option_map, nat_eq, string_bytes, slice_get, if◌then◌else◌}
 use Rattle.std.specs.Ordering.{int_eq}
 use Rattle.std.specs.BTreeMap.{get_by_text}
 use Rattle.std.specs.Option.{option_map_or}
@@ -16,7 +16,7 @@ use Rattle.wire_dynamic.specs.declared.field.Field.{Field}
 use Rattle.wire_dynamic.specs.declared.field.Kind.{Kind}
 use Rattle.wire_dynamic.specs.declared.field.Kind.TheVariants as kinds
 use Rattle.wire_dynamic.specs.declared.places.Places.{Places}
-use Rattle.wire_dynamic.specs.Features.{features_with, is_checked, is_delimited, is_legacy_required}
+use Rattle.wire_dynamic.specs.Features.{features_with, is_checked, is_delimited, is_legacy_required, prefixed}
 
 -- the number of a field, or 0 where it is below that
 abbrev pub number_of : ℤ → ℕ
@@ -47,6 +47,12 @@ says_entry (Some options) = (box_value options).map_entry
 
 abbrev pub is_entry : DeclaredMessage → Bool
 is_entry message = says_entry message.descriptor.options
+
+-- the features of a field of a message type: what stands in an entry of a map is no group
+abbrev pub own_features : DeclaredMessage → FieldDescriptorProto → Features
+own_features m d =
+    if is_entry m then prefixed (field_features m.features d.options)
+    else field_features m.features d.options
 
 -- the kind of a field of this type, which is no message and no enum
 abbrev pub scalar_of : ℤ → Option Kind
@@ -89,14 +95,16 @@ kind_of declared places features d =
     then option_map kinds.Enum (get_by_text places.enums (string_bytes d.type_name))
     else scalar_of d.type_))
 
--- A field of this name as its descriptor tells it, where what it stands in has these features. Of
--- the labels 2 is required, and 3 repeated.
-pub record IsField (declared : Declared) (places : Places) (outer : Features) (name : List ℕ)
+-- A field of this name and these features as its descriptor tells it. Of the labels 2 is required,
+-- and 3 repeated.
+pub record IsField (declared : Declared) (places : Places) (features : Features) (name : List ℕ)
     (d : FieldDescriptorProto) (f : Field) : Type 0 where
   pub number : d.number ≡ pos f.number
+  pub positive : 0 < f.number
+  pub within : f.number ≤ 536870911
   pub named : string_bytes f.name ≡ name
-  pub kind : kind_of declared places (field_features outer d.options) d ≡ Some f.kind
+  pub kind : kind_of declared places features d ≡ Some f.kind
+  pub extension : f.is_extension ≡ not (bytes_eq (string_bytes d.extendee) [])
   pub repeated : f.is_repeated ≡ int_eq d.label (pos 3)
-  pub required : f.is_required
-      ≡ (int_eq d.label (pos 2) || is_legacy_required (field_features outer d.options))
-  pub checked : f.is_checked ≡ is_checked (field_features outer d.options)
+  pub required : f.is_required ≡ (int_eq d.label (pos 2) || is_legacy_required features)
+  pub checked : f.is_checked ≡ is_checked features

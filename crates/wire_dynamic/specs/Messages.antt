@@ -5,16 +5,17 @@ use Rattle.std.specs.BTreeMap.{get, get_by_text}
 use Rattle.wire_descriptor.specs.declared.field_descriptor_proto.FieldDescriptorProto.{FieldDescriptorProto}
 use Rattle.wire_dynamic.specs.declared.declared.Declared.{Declared}
 use Rattle.wire_dynamic.specs.declared.declared.DeclaredMessage.{DeclaredMessage}
-use Rattle.wire_dynamic.specs.declared.features.Features.{Features}
 use Rattle.wire_dynamic.specs.declared.field.Field.{Field}
 use Rattle.wire_dynamic.specs.declared.message_type.MessageType.{MessageType}
 use Rattle.wire_dynamic.specs.declared.places.Places.{Places}
-use Rattle.wire_dynamic.specs.Fields.{field_has_name, has_number, is_entry, number_of, AreNumberedApart, IsField}
+use Rattle.wire_dynamic.specs.Fields.{field_has_name, has_number, is_entry, number_of, own_features, AreNumberedApart, IsField}
 use Rattle.wire_dynamic.specs.Table.{IsTableOf}
 
--- a field of a message type of these features
-abbrev pub IsOwnField : Declared → Places → Features → FieldDescriptorProto → Field → Type 0
-IsOwnField declared places outer d f = IsField declared places outer (string_bytes d.name) d f
+-- a field of a message type
+abbrev pub IsOwnField : Declared → Places → DeclaredMessage → FieldDescriptorProto → Field
+    → Type 0
+IsOwnField declared places m d f =
+    IsField declared places (own_features m d) (string_bytes d.name) d f
 
 -- the field that a type has at the number that it has at this name
 abbrev pub own_field_named : MessageType → List ℕ → Option Field
@@ -27,9 +28,9 @@ pub record IsMessage (declared : Declared) (places : Places) (message : Declared
   pub named : string_bytes m.name ≡ string_bytes message.name
   pub entry : m.is_entry ≡ is_entry message
   pub apart : AreNumberedApart message.descriptor.field.items
-  pub fields : IsTableOf has_number (IsOwnField declared places message.features)
+  pub fields : IsTableOf has_number (IsOwnField declared places message)
       message.descriptor.field.items (get nat_cmp m.fields)
   pub numbers : IsTableOf field_has_name (λ d number. number ≡ number_of d.number)
       message.descriptor.field.items (get_by_text m.numbers)
-  pub by_name : IsTableOf field_has_name (IsOwnField declared places message.features)
+  pub by_name : IsTableOf field_has_name (IsOwnField declared places message)
       message.descriptor.field.items (own_field_named m)

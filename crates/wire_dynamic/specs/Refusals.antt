@@ -16,7 +16,7 @@ use Rattle.wire_dynamic.specs.declared.places.Places.{Places}
 use Rattle.wire_dynamic.specs.Declares.{IsDeclaredBy}
 use Rattle.wire_dynamic.specs.DeclaresFault.{SetFault}
 use Rattle.wire_dynamic.specs.Extensions.{extends}
-use Rattle.wire_dynamic.specs.Fields.{field_features, has_number, kind_of, number_of}
+use Rattle.wire_dynamic.specs.Fields.{field_features, has_number, kind_of, number_of, own_features}
 use Rattle.wire_dynamic.specs.Places.{enum_has_name, message_has_name, ArePlaces}
 
 -- several of these have the name that the error tells
@@ -45,13 +45,13 @@ IsWantOfKind name d (errors.NoType named) =
     (string_bytes named ≡ string_bytes d.type_name) × (names_type d.type_ ≡ true)
 IsWantOfKind name d _ = ⊥
 
--- a field of this name has no number, or no kind
+-- a field of this name and these features has no number, or no kind
 abbrev pub FieldFault : Declared → Places → Features → List ℕ → FieldDescriptorProto
     → SchemaError → Type 0
-FieldFault declared places outer name d (errors.NoNumber field) =
+FieldFault declared places features name d (errors.NoNumber field) =
     (string_bytes field ≡ name) × IsNoNumber d.number
-FieldFault declared places outer name d e =
-    IsWantOfKind name d e × (kind_of declared places (field_features outer d.options) d ≡ None)
+FieldFault declared places features name d e =
+    IsWantOfKind name d e × (kind_of declared places features d ≡ None)
 
 -- a field of a message type has a fault, or the error the name of one whose number several have
 abbrev pub OwnFault : Declared → Places → DeclaredMessage → SchemaError → Type 0
@@ -60,7 +60,7 @@ OwnFault declared places m (errors.NumberTwice field) =
     × (string_bytes field ≡ string_bytes d.name)
     × (2 ≤ count_by (has_number (number_of d.number)) m.descriptor.field.items)
 OwnFault declared places m e = (d : FieldDescriptorProto) × Contains m.descriptor.field.items d
-    × FieldFault declared places m.features (string_bytes d.name) d e
+    × FieldFault declared places (own_features m d) (string_bytes d.name) d e
 
 -- what an extension extends is not declared
 abbrev pub ExtendsNothing : Places → DeclaredExtension → SchemaError → Type 0
@@ -75,12 +75,14 @@ abbrev pub ExtensionFault : Declared → Places → SchemaError → Type 0
 ExtensionFault declared places (errors.NumberTwice field) =
     (x : DeclaredExtension) × Contains declared.extensions.items x
     × (string_bytes field ≡ string_bytes x.name) × (place : ℕ)
+    × (extends places (place, number_of x.descriptor.number) x ≡ true)
     × (2 ≤ count_by (extends places (place, number_of x.descriptor.number))
     declared.extensions.items)
 ExtensionFault declared places e =
     (x : DeclaredExtension) × Contains declared.extensions.items x
     × (ExtendsNothing places x e
-    ⊎ FieldFault declared places x.features (string_bytes x.name) x.descriptor e)
+    ⊎ FieldFault declared places (field_features x.features x.descriptor.options)
+    (string_bytes x.name) x.descriptor e)
 
 -- a message type has such a fault
 abbrev pub MessagesFault : Declared → Places → SchemaError → Type 0
@@ -100,9 +102,14 @@ abbrev pub HasNoSchema : FileDescriptorSet → SchemaError → Type 0
 HasNoSchema set e = SetFault set e
     ⊎ ((declared : Declared) × IsDeclaredBy set declared × SchemaFault declared e)
 
--- the same of the set that bytes are, where they are one
+-- the error of bytes that are no set
+abbrev pub SaysNoSet : SchemaError → Type 0
+SaysNoSet (errors.NotDecoded e) = Unit {0}
+SaysNoSet _ = ⊥
+
+-- the bytes are no set, or the set that they are has no schema
 abbrev pub BytesHaveNoSchema : List ℕ → SchemaError → Type 0
-BytesHaveNoSchema bytes e = NotDecodedAs file_descriptor_set-shape bytes
+BytesHaveNoSchema bytes e = (NotDecodedAs file_descriptor_set-shape bytes × SaysNoSet e)
     ⊎ ((set : FileDescriptorSet)
     × DecodesAs file_descriptor_set-shape bytes (file_descriptor_set-value set)
     × HasNoSchema set e)

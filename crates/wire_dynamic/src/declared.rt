@@ -4,11 +4,12 @@ ghost use Rattle.std.specs.Prelude.{◌≡◌, ◌≢◌, ◌<◌, ◌≤◌, If
 ghost use Rattle.wire_dynamic.specs.Declares.{enum_features, full_name, message_features, scope_of, IsDeclaredBy, IsEnumOf, IsExtensionOf, IsMessageIn, IsNestedIn};
 ghost use Rattle.wire_dynamic.specs.DeclaresFault.{FileFault, MessageFault, NestedFault, SetFault};
 ghost use Rattle.wire_dynamic.specs.declared.error.SchemaError.TheVariants.{OutOfMemory};
-ghost use Rattle.wire_dynamic.specs.Fields.{is_entry};
+ghost use Rattle.wire_dynamic.specs.Fields.{is_entry, own_features};
 ghost use Rattle.wire_dynamic.specs.Gained.{GainsAll, GainsFile, GainsMessage};
 
 use crate::error::SchemaError;
 use crate::features::Features;
+use crate::field::features_of;
 use std::alloc::{AllocError, Global};
 use wire_codec::Message;
 use wire_descriptor::{
@@ -91,6 +92,18 @@ impl DeclaredMessage {
         let level = self.level + 1;
         let message = DeclaredMessage::of(alloc, &self.name, descriptor, self.features, level)?;
         Ok(message)
+    }
+
+    /// The features of a field of it. What stands in an entry of a map is no group.
+    pub(crate) fn features_of(&self, descriptor: &FieldDescriptorProto) -> Features
+        ensures { result ≡ own_features self.now descriptor.now }
+    {
+        let features = features_of(descriptor, self.features);
+        if self.is_entry() {
+            features.prefixed()
+        } else {
+            features
+        }
     }
 
     /// Whether it is the type of a map's entries.

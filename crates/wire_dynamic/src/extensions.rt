@@ -8,7 +8,7 @@ ghost use Rattle.wire_dynamic.specs.Table.{IsTableOf};
 
 use crate::declared::Declared;
 use crate::error::SchemaError;
-use crate::field::Field;
+use crate::field::{Field, features_of};
 use crate::places::Places;
 use std::alloc::Global;
 use std::collections::BTreeMap;
@@ -35,7 +35,8 @@ pub(crate) fn extensions_of(
             return Err(SchemaError::NoType(descriptor.extendee.clone()?));
         };
         let name = extension.name.clone()?;
-        let field = Field::of(name, descriptor, extension.features, declared, places)?;
+        let features = features_of(descriptor, extension.features);
+        let field = Field::of(name, descriptor, features, declared, places)?;
         let number = field.number;
         if extensions.insert((place, number), field)?.is_some() {
             return Err(SchemaError::NumberTwice(extension.name.clone()?));

@@ -1,6 +1,6 @@
 //! What the syntax or the edition of a file leaves to its parts, as fields of a `FeatureSet`.
 ghost use Rattle.std.specs.Prelude.{◌≡◌};
-ghost use Rattle.wire_dynamic.specs.Features.{features_but_for, features_with, file_features, is_checked, is_closed, is_delimited, is_legacy_required, length_prefixed, or_else, syntax_features};
+ghost use Rattle.wire_dynamic.specs.Features.{features_but_for, features_with, file_features, is_checked, is_closed, is_delimited, is_legacy_required, length_prefixed, or_else, prefixed, syntax_features};
 
 use wire_descriptor::{FeatureSet, FileDescriptorProto};
 
@@ -80,6 +80,16 @@ impl Features {
         match set {
             Some(set) => self.but_for(set),
             None => self,
+        }
+    }
+
+    /// The same with messages behind their length.
+    pub(crate) fn prefixed(self) -> Features
+        ensures { result ≡ prefixed self }
+    {
+        Features {
+            encoding: LENGTH_PREFIXED,
+            ..self
         }
     }
 

@@ -75,24 +75,22 @@ pub(crate) fn number_of(descriptor: &FieldDescriptorProto) -> Option<u32>
 }
 
 impl Field {
-    /// The field of this name that a descriptor tells, in a message type or a file of these
-    /// features.
+    /// The field of this name and these features that a descriptor tells.
     pub(crate) fn of(
         name: String,
         descriptor: &FieldDescriptorProto,
-        outer: Features,
+        features: Features,
         declared: &Declared,
         places: &Places,
     ) -> Result<Field, SchemaError>
-        ensures ok { IfOk result (IsField declared.now places.now outer (string_bytes name)
+        ensures ok { IfOk result (IsField declared.now places.now features (string_bytes name)
             descriptor.now) }
         ensures err { IfErr result (λ e. e ≢ OutOfMemory → FieldFault declared.now places.now
-            outer (string_bytes name) descriptor.now e) }
+            features (string_bytes name) descriptor.now e) }
     {
         let Some(number) = number_of(descriptor) else {
             return Err(SchemaError::NoNumber(name));
         };
-        let features = features_of(descriptor, outer);
         let Some(kind) = kind_of(descriptor, features, declared, places) else {
             return Err(no_kind(name, descriptor)?);
         };
@@ -108,8 +106,8 @@ impl Field {
     }
 }
 
-// The features of a field, within those of what it stands in.
-fn features_of(descriptor: &FieldDescriptorProto, outer: Features) -> Features
+/// The features of a field, within those of what it stands in.
+pub(crate) fn features_of(descriptor: &FieldDescriptorProto, outer: Features) -> Features
     ensures { result ≡ field_features outer descriptor.now.options }
 {
     match &descriptor.options {

@@ -85,7 +85,7 @@ fn fields_of(
     places: &Places,
 ) -> Result<BTreeMap<u32, Field>, SchemaError>
     ensures ok { IfOk result (λ fields. IsTableOf has_number
-        (IsOwnField declared.now places.now message.now.features)
+        (IsOwnField declared.now places.now message.now)
         message.now.descriptor.field.items (get nat_cmp fields)) }
     ensures apart { OnOk result (AreNumberedApart message.now.descriptor.field.items) }
     ensures err { IfErr result (λ e. e ≢ OutOfMemory → OwnFault declared.now places.now
@@ -94,7 +94,8 @@ fn fields_of(
     let mut fields = BTreeMap::new(alloc);
     for descriptor in &message.descriptor.field {
         let name = descriptor.name.clone()?;
-        let field = Field::of(name, descriptor, message.features, declared, places)?;
+        let features = message.features_of(descriptor);
+        let field = Field::of(name, descriptor, features, declared, places)?;
         let number = field.number;
         if fields.insert(number, field)?.is_some() {
             return Err(SchemaError::NumberTwice(descriptor.name.clone()?));

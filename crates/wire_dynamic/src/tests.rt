@@ -15,13 +15,13 @@ const SET: &[u8] =
     \x07\n\x03ONE\x10\x01*\x05\x08d\x10\xc9\x01:\x1e\n\x04more\x12\x04.a.M\x18d \x03(\x0b2\
     \x04.a.MR\x04more";
 
-// Types, numbers, and the names of the fields that have them.
+// Types, numbers, and the names of the fields that have them, an extension's in brackets.
 const FIELDS: [(&str, u32, &str); 9] = [
     (".a.M", 1, ""),
     (".a.M", 2, "g"),
     (".a.M", 4, "e"),
     (".a.M", 5, "of"),
-    (".a.M", 100, ".a.more"),
+    (".a.M", 100, "[.a.more]"),
     (".a.M", 101, ""),
     (".a.M.G", 3, "x"),
     (".a.M.OfEntry", 2, "value"),
@@ -34,10 +34,11 @@ fn fields_are_found(rt: HostRuntime) -> Result<(), Fail> {
     for (of, number, name) in FIELDS {
         let place = schema.message_place(of).ok_or("no type")?;
         let found = match schema.field(place, number) {
-            Some(field) => field.name.as_str(),
-            None => "",
+            Some(field) if field.is_extension => format!(in rt.alloc(); "[{}]", field.name)?,
+            Some(field) => field.name.clone()?,
+            None => String::new(rt.alloc()),
         };
-        assert_eq!(rt; found, name);
+        assert_eq!(rt; found.as_str(), name);
     }
     Ok(())
 }
@@ -111,6 +112,31 @@ fn features_reach_nested_types(rt: HostRuntime) -> Result<(), Fail> {
     let place = schema.message_place(".M.N").ok_or("no type")?;
     let field = schema.field(place, 1).ok_or("no field")?;
     assert_eq!(rt; field.kind, Kind::Group(place));
+    Ok(())
+}
+
+// That of `edition = "2023"; option features.message_encoding = DELIMITED; message M {
+// map<int32, N> m = 1; } message N { N n = 1; }`, where the type of the entries is called `E`.
+const DELIMITED_MAP: &[u8] =
+    b"\nj\n\x01f\"=\n\x01M\x12\x0f\n\x01m\x18\x01 \x03(\x0b2\x04.M.E\x1a'\n\x01E\x12\x0b\n\
+    \x03key\x18\x01 \x01(\x05\x12\x11\n\x05value\x18\x02 \x01(\x0b2\x02.N:\x028\x01\"\x12\n\x01N\x12\
+    \x0d\n\x01n\x18\x01 \x01(\x0b2\x02.NB\x05\x92\x03\x02(\x02b\x08editionsp\xe8\x07";
+
+#[test]
+fn maps_are_never_groups(rt: HostRuntime) -> Result<(), Fail> {
+    let schema = Schema::decode(rt.alloc(), DELIMITED_MAP)?;
+    let inner = schema.message_place(".N").ok_or("no type")?;
+    let entry = schema.message_place(".M.E").ok_or("no type")?;
+    let kinds = [
+        (".M", 1, Kind::Message(entry)),
+        (".M.E", 2, Kind::Message(inner)),
+        (".N", 1, Kind::Group(inner)),
+    ];
+    for (of, number, kind) in kinds {
+        let place = schema.message_place(of).ok_or("no type")?;
+        let field = schema.field(place, number).ok_or("no field")?;
+        assert_eq!(rt; field.kind, kind);
+    }
     Ok(())
 }
 

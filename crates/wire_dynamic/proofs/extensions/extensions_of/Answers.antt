@@ -3,8 +3,9 @@ use Rattle.std.specs.Prelude.{◌<◌, Contains, IsSome, cond, find, length, Som
 use Rattle.std.proofs.lemmas.Bool.Decides.{nat_tests}
 use Rattle.std.proofs.lemmas.Grind.{common_steps}
 use Rattle.std.specs.BTreeMap.{get, get_by_text}
+use Rattle.wire_dynamic.specs.Refusals.{FieldFault}
 use Rattle.wire_dynamic.specs.Extensions.{extends, place_cmp, IsExtension}
-use Rattle.wire_dynamic.specs.Fields.{number_of, IsField}
+use Rattle.wire_dynamic.specs.Fields.{field_features, number_of, IsField}
 use Rattle.wire_dynamic.proofs.Found.{none_found, same_place}
 use Rattle.std.proofs.Common.{◌∙◌, ap, get_or, inl, sym}
 use Rattle.std.specs.Ordering.{is_eq}
@@ -23,7 +24,8 @@ loop-extension-preserved c = λ k.
     let Tells = IsExtension c.args.declared.now c.args.places.now in
     let step : take (i + 1) ds ≡ take i ds ++ d ∷ [] = grind (arith, common_steps) in
     let same : string_bytes c.in_ok-name.name ≡ string_bytes d.name = search rules in
-    let tells : Tells d f = subst (λ n. IsField c.args.declared.now c.args.places.now d.features n d.descriptor f) same c.in_ok-field.ensures.ok in
+    let told = subst (λ q. IsField c.args.declared.now c.args.places.now q (string_bytes c.in_ok-name.name) d.descriptor f) c.features_of.ensures c.in_ok-field.ensures.ok in
+    let tells : Tells d f = subst (λ n. IsField c.args.declared.now c.args.places.now (field_features d.features d.descriptor.options) n d.descriptor f) same told in
     let number : number_of d.descriptor.number ≡ f.number = rw (tells.number) refl in
     let place : get_by_text c.args.places.now.messages (string_bytes d.descriptor.extendee) ≡ Some c.in-Some.place = search rules in
     let old = get place_cmp c.loop-extension.extensions k in
@@ -55,7 +57,7 @@ returns-in_err-field-clause-err c =
     let same : string_bytes c.in_ok-name.name ≡ string_bytes x.name = search rules in
     let r = c.from_residual-in_err-field in
     let p = err_from_is_err_and r.result r.ensures.1 in
-    rw (p.1, p.2) (λ other. extension_fault c.args.declared.now c.args.places.now x (string_bytes c.in_ok-name.name) _ own same ((c.in_err-field).ensures.err other))
+    rw (p.1, p.2) (λ other. extension_fault c.args.declared.now c.args.places.now x (string_bytes c.in_ok-name.name) _ own same (subst (λ q. FieldFault c.args.declared.now c.args.places.now q (string_bytes c.in_ok-name.name) x.descriptor p.0) c.features_of.ensures ((c.in_err-field).ensures.err other)))
 
 pub returns-then-is_some-clause-err : goal.returns-then-is_some-clause-err
 returns-then-is_some-clause-err c = λ other.
@@ -74,4 +76,4 @@ returns-then-is_some-clause-err c = λ other.
     let some : IsSome (get place_cmp c.loop-extension.extensions (p, n)) = subst (λ q. IsSome (get place_cmp c.loop-extension.extensions (p, q))) (sym number) (found_some _ _ _ c.in_ok-insert.ensures.old c.is_some.ensures c.if-is_some.true) in
     let before : IsSome (find (extends places (p, n)) (take i xs)) = matched (IsExtension c.args.declared.now places) (find (extends places (p, n)) (take i xs)) (get place_cmp c.loop-extension.extensions (p, n)) (c.loop-extension.invariant (p, n)) some in
     let passes : extends places (p, n) x ≡ true = rw place (grind (arith, nat_tests)) in
-    (x, (i, within, sym is), name, p, found_twice (extends places (p, n)) xs i x within is before passes)
+    (x, (i, within, sym is), name, p, passes, found_twice (extends places (p, n)) xs i x within is before passes)

@@ -12,7 +12,7 @@ use Rattle.wire_dynamic.proofs.message_type.MessageType.of.Goals as goal
 pub returns-clause-ok : goal.returns-clause-ok
 returns-clause-ok c =
     let ds = c.args.message.now.descriptor.field.items in
-    let Tells = IsOwnField c.args.declared.now c.args.places.now c.args.message.now.features in
+    let Tells = IsOwnField c.args.declared.now c.args.places.now c.args.message.now in
     let fields = c.in_ok-fields.fields in
     let numbers = c.in_ok-numbers.numbers in
     let table = c.in_ok-fields.ensures.ok in

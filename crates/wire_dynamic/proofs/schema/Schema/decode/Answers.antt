@@ -5,12 +5,13 @@ use Rattle.wire_dynamic.specs.declared.error.SchemaError.TheVariants.{OutOfMemor
 use Rattle.wire_dynamic.specs.Errors.{decode_failed}
 use Rattle.wire_dynamic.specs.Refusals.{BytesHaveNoSchema, HasNoSchema}
 use Rattle.wire_dynamic.specs.Schemas.{IsDecodedSchema, IsSchemaOf}
+use Rattle.wire_dynamic.proofs.Refused.{no_set}
 use Rattle.wire_dynamic.proofs.schema.Schema.decode.Goals as goal
 
 pub returns-in_err-set-clause-err : goal.returns-in_err-set-clause-err
 returns-in_err-set-clause-err c =
     let p = err_from_is_err_and c.from_residual.result c.from_residual.ensures.1 in
-    rw p.1 (λ other. inl ((c.in_err-set).ensures.err (λ none. other (p.2 ∙ ap decode_failed none))))
+    rw p.1 (λ other. inl ((c.in_err-set).ensures.err (λ none. other (p.2 ∙ ap decode_failed none)), no_set _ p.0 p.2 other))
 
 pub returns-clause-ok : goal.returns-clause-ok
 returns-clause-ok c =
