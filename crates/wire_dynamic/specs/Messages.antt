@@ -17,6 +17,10 @@ abbrev pub IsOwnField : Declared → Places → DeclaredMessage → FieldDescrip
 IsOwnField declared places m d f =
     IsField declared places (own_features m d) (string_bytes d.name) d f
 
+-- the field that a type has of its own at this number
+abbrev pub own_field : MessageType → ℕ → Option Field
+own_field m n = get nat_cmp m.fields n
+
 -- the field that a type has at the number that it has at this name
 abbrev pub own_field_named : MessageType → List ℕ → Option Field
 own_field_named m name = option_and_then (get nat_cmp m.fields) (get_by_text m.numbers name)

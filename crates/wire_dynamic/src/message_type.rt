@@ -1,11 +1,11 @@
 //! A message type, with its fields by their numbers and by their names.
-ghost use Rattle.std.specs.Prelude.{◌≡◌, ◌≢◌, string_bytes, IfErr, IfOk, OnOk};
+ghost use Rattle.std.specs.Prelude.{◌≡◌, ◌≢◌, ℕ, string_bytes, IfErr, IfOk, OnOk};
 ghost use Rattle.std.specs.BTreeMap.{get, get_by_text};
 ghost use Rattle.std.specs.Option.{option_copied};
 ghost use Rattle.std.specs.Ordering.{nat_cmp};
 ghost use Rattle.wire_dynamic.specs.declared.error.SchemaError.TheVariants.{OutOfMemory};
 ghost use Rattle.wire_dynamic.specs.Fields.{has_number, field_has_name, number_of, AreNumberedApart};
-ghost use Rattle.wire_dynamic.specs.Messages.{own_field_named, IsMessage, IsOwnField};
+ghost use Rattle.wire_dynamic.specs.Messages.{own_field, own_field_named, IsMessage, IsOwnField};
 ghost use Rattle.wire_dynamic.specs.Refusals.{OwnFault};
 ghost use Rattle.wire_dynamic.specs.Table.{IsTableOf};
 
@@ -65,7 +65,9 @@ impl MessageType {
     }
 
     /// Its fields by their numbers, without extensions.
-    pub fn fields(&self) -> &BTreeMap<u32, Field> {
+    pub fn fields(&self) -> &BTreeMap<u32, Field>
+        ensures { (n : ℕ) → get nat_cmp result.now n ≡ own_field self.now n }
+    {
         &self.fields
     }
 

@@ -1,5 +1,6 @@
 //! The types of a descriptor set.
-ghost use Rattle.std.specs.Prelude.{◌≡◌, ◌≢◌, IfErr, IfOk};
+ghost use Rattle.std.specs.Prelude.{◌≡◌, ◌≢◌, ℕ, List, IfErr, IfOk};
+ghost use Rattle.std.specs.BTreeMap.{get_by_text};
 ghost use Rattle.std.specs.List.{AllZip};
 ghost use Rattle.std.specs.Option.{option_copied};
 ghost use Rattle.wire_dynamic.specs.declared.error.SchemaError.TheVariants.{OutOfMemory};
@@ -70,7 +71,9 @@ impl Schema {
     }
 
     /// The places of the message types, in the order of their full names.
-    pub fn message_places(&self) -> &BTreeMap<String, usize> {
+    pub fn message_places(&self) -> &BTreeMap<String, usize>
+        ensures { (name : List ℕ) → get_by_text result.now name ≡ place_of self.now name }
+    {
         &self.places.messages
     }
 
