@@ -1,7 +1,7 @@
 //! A oneof of which some variants are messages of the type itself or of its family: these are rows,
 //! and the others a field of the leaf.
 use crate::choice_names::set_opened;
-use crate::oneof_definitions::put_values;
+use crate::oneofs::put_values;
 use crate::rows::is_row;
 use wire_schema::{Field, Oneof, Template, Words};
 

@@ -1,5 +1,5 @@
 //! Closed enums in a oneof: a number that the enum does not have goes to the unknown fields.
-use crate::oneof_definitions::put_values;
+use crate::oneofs::put_values;
 use wire_schema::{GenerateError, Template, Words};
 
 /// The function of a variant of a closed enum.

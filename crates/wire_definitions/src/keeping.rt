@@ -1,5 +1,5 @@
 //! What is written of a oneof, where records of other wire types are left.
-use crate::oneof_definitions::put_values;
+use crate::oneofs::put_values;
 use wire_schema::{Template, Words};
 
 // That what is written of a oneof has the wire types of its variants.

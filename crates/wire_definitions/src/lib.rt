@@ -11,18 +11,18 @@ mod closing;
 mod comments;
 mod copied_parts;
 mod definitions;
-mod family_definitions;
+mod families;
 mod imports;
 mod keeping;
 mod laws_pages;
 mod leaf;
-mod member_definitions;
+mod members;
 mod mentioned;
-mod nest_stays;
-mod oneof_definitions;
-mod oneof_stays;
+mod nests_stay;
+mod oneofs;
+mod oneofs_stay;
+mod recursion;
 mod recursive_back;
-mod recursive_definitions;
 mod required;
 mod required_oneof;
 mod required_rows;
@@ -40,20 +40,20 @@ pub use closing::{OF_CLOSED_VARIANT, closed_answers};
 pub use comments::{put_comment, set_heading};
 pub use copied_parts::copied_part;
 pub use definitions::definitions_of;
-pub use family_definitions::family_definitions;
+pub use families::family_definitions;
 pub use imports::{code_imports, definition_imports, ghost_imports};
 pub use laws_pages::{
     ACCOUNT_USE, CHARGE_USES, CHARGED_LAW, CHARGED_LAW_ANSWERS, LAW, LAW_ANSWERS, LAW_USES, LAWS,
     STAY_LAW, STAY_LAW_ANSWERS, has_laws,
 };
 pub use leaf::set_leaf;
-pub use member_definitions::{
+pub use members::{
     MEMBER_MERGE, MEMBER_PUSH, MEMBER_PUSH_HEAD, MEMBER_ROW, MEMBER_ROW_HEAD, member_definitions,
 };
-pub use nest_stays::{family_stays, member_stays, nest_stays, put_leaf_stays};
-pub use oneof_definitions::oneof_definitions;
-pub use oneof_stays::oneof_stays;
-pub use recursive_definitions::{recursive_definitions, table_page};
+pub use nests_stay::{family_stays, member_stays, nest_stays, put_leaf_stays};
+pub use oneofs::oneof_definitions;
+pub use oneofs_stay::oneof_stays;
+pub use recursion::{recursive_definitions, table_page};
 pub use required::{DOCUMENTED, put_required, use_asked};
 pub use required_oneof::{put_choice_requirement, put_requirement, use_variants};
 pub use required_rows::{put_required_rows, use_asked_rows};

@@ -1,7 +1,7 @@
 //! What is read back of a message that holds itself.
 use crate::account::{ACCOUNT, put_account};
 use crate::choice_laws::put_choice_laws;
-use crate::member_definitions::MEMBER_RANGE;
+use crate::members::MEMBER_RANGE;
 use crate::returned::{put_returned, put_sides, under_charges};
 use crate::rows::{NO_FIELDS_BACK, is_bare, is_row};
 use crate::tree::Tree;

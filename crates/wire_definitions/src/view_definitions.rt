@@ -1,5 +1,5 @@
 //! The definitions of views: how one is seen by contracts, as the value of its message.
-use crate::oneof_definitions::put_values;
+use crate::oneofs::put_values;
 use crate::tree::Tree;
 use wire_schema::{Field, Oneof, Template, Words};
 

@@ -9,6 +9,7 @@ use Rattle.wire_dynamic.specs.declared.declared.DeclaredExtension.{DeclaredExten
 use Rattle.wire_dynamic.specs.declared.declared.DeclaredMessage.{DeclaredMessage}
 use Rattle.wire_dynamic.specs.declared.error.SchemaError.{SchemaError}
 use Rattle.wire_dynamic.specs.declared.error.SchemaError.TheVariants as errors
+use Rattle.wire_dynamic.specs.declared.features.Features.{Features}
 use Rattle.wire_dynamic.specs.declared.places.Places.{Places}
 use Rattle.wire_dynamic.specs.Fields.{field_features, own_features}
 use Rattle.wire_dynamic.specs.Errors.{decode_failed}
@@ -34,10 +35,13 @@ module _ (declared : Declared) (places : Places) where
   own_cases m d e own fault = (d, own, fault)
 
   pub own_fault : (m : DeclaredMessage) (d : FieldDescriptorProto) (name : List ℕ)
-      (e : SchemaError) → Contains m.descriptor.field.items d → name ≡ string_bytes d.name
-      → FieldFault declared places (own_features m d) name d e → OwnFault declared places m e
-  own_fault m d name e own same fault =
-      own_cases m d e own (subst (λ n. FieldFault declared places (own_features m d) n d e) same fault)
+      (features : Features) (e : SchemaError) → Contains m.descriptor.field.items d
+      → name ≡ string_bytes d.name → features ≡ own_features m d
+      → FieldFault declared places features name d e → OwnFault declared places m e
+  own_fault m d name features e own same is fault =
+      own_cases m d e own
+      (subst (λ n. FieldFault declared places (own_features m d) n d e) same
+      (subst (λ q. FieldFault declared places q name d e) is fault))
 
   extension_cases : (x : DeclaredExtension) (e : SchemaError)
       → Contains declared.extensions.items x
@@ -47,10 +51,13 @@ module _ (declared : Declared) (places : Places) where
   extension_cases x (errors.NumberTwice field) own fault = absurd fault.0
   extension_cases x e own fault = (x, own, inr fault)
 
-  pub extension_fault : (x : DeclaredExtension) (name : List ℕ) (e : SchemaError)
-      → Contains declared.extensions.items x → name ≡ string_bytes x.name
-      → FieldFault declared places (field_features x.features x.descriptor.options) name x.descriptor e
+  pub extension_fault : (x : DeclaredExtension) (name : List ℕ) (features : Features)
+      (e : SchemaError) → Contains declared.extensions.items x → name ≡ string_bytes x.name
+      → features ≡ field_features x.features x.descriptor.options
+      → FieldFault declared places features name x.descriptor e
       → ExtensionFault declared places e
-  extension_fault x name e own same fault =
+  extension_fault x name features e own same is fault =
       extension_cases x e own
-      (subst (λ n. FieldFault declared places (field_features x.features x.descriptor.options) n x.descriptor e) same fault)
+      (subst (λ n. FieldFault declared places (field_features x.features x.descriptor.options) n
+      x.descriptor e) same
+      (subst (λ q. FieldFault declared places q name x.descriptor e) is fault))

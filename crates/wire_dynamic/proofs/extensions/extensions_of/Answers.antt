@@ -3,7 +3,6 @@ use Rattle.std.specs.Prelude.{◌<◌, Contains, IsSome, cond, find, length, Som
 use Rattle.std.proofs.lemmas.Bool.Decides.{nat_tests}
 use Rattle.std.proofs.lemmas.Grind.{common_steps}
 use Rattle.std.specs.BTreeMap.{get, get_by_text}
-use Rattle.wire_dynamic.specs.Refusals.{FieldFault}
 use Rattle.wire_dynamic.specs.Extensions.{extends, place_cmp, IsExtension}
 use Rattle.wire_dynamic.specs.Fields.{field_features, number_of, IsField}
 use Rattle.wire_dynamic.proofs.Found.{none_found, same_place}
@@ -24,7 +23,7 @@ loop-extension-preserved c = λ k.
     let Tells = IsExtension c.args.declared.now c.args.places.now in
     let step : take (i + 1) ds ≡ take i ds ++ d ∷ [] = grind (arith, common_steps) in
     let same : string_bytes c.in_ok-name.name ≡ string_bytes d.name = search rules in
-    let told = subst (λ q. IsField c.args.declared.now c.args.places.now q (string_bytes c.in_ok-name.name) d.descriptor f) c.features_of.ensures c.in_ok-field.ensures.ok in
+    let told = subst (λ q. IsField c.args.declared.now c.args.places.now q (string_bytes c.in_ok-name.name) d.descriptor f) c.features_of-features.ensures c.in_ok-field.ensures.ok in
     let tells : Tells d f = subst (λ n. IsField c.args.declared.now c.args.places.now (field_features d.features d.descriptor.options) n d.descriptor f) same told in
     let number : number_of d.descriptor.number ≡ f.number = rw (tells.number) refl in
     let place : get_by_text c.args.places.now.messages (string_bytes d.descriptor.extendee) ≡ Some c.in-Some.place = search rules in
@@ -57,7 +56,7 @@ returns-in_err-field-clause-err c =
     let same : string_bytes c.in_ok-name.name ≡ string_bytes x.name = search rules in
     let r = c.from_residual-in_err-field in
     let p = err_from_is_err_and r.result r.ensures.1 in
-    rw (p.1, p.2) (λ other. extension_fault c.args.declared.now c.args.places.now x (string_bytes c.in_ok-name.name) _ own same (subst (λ q. FieldFault c.args.declared.now c.args.places.now q (string_bytes c.in_ok-name.name) x.descriptor p.0) c.features_of.ensures ((c.in_err-field).ensures.err other)))
+    rw (p.1, p.2) (λ other. extension_fault c.args.declared.now c.args.places.now x (string_bytes c.in_ok-name.name) _ _ own same c.features_of-features.ensures ((c.in_err-field).ensures.err other))
 
 pub returns-then-is_some-clause-err : goal.returns-then-is_some-clause-err
 returns-then-is_some-clause-err c = λ other.

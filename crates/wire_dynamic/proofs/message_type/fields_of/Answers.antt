@@ -5,7 +5,6 @@ use Rattle.std.proofs.lemmas.Grind.{common_steps}
 use Rattle.std.specs.BTreeMap.{get}
 use Rattle.std.specs.Ordering.{nat_cmp}
 use Rattle.wire_dynamic.specs.Fields.{has_number, number_of, own_features, IsField}
-use Rattle.wire_dynamic.specs.Refusals.{FieldFault}
 use Rattle.wire_dynamic.specs.Messages.{IsOwnField}
 use Rattle.std.proofs.lemmas.Result.{err_from_is_err_and}
 use Rattle.wire_dynamic.proofs.Counts.{found_some, found_twice, matched, pushed_once, unmatched}
@@ -22,7 +21,7 @@ loop-descriptor-preserved c =
     let Tells = IsOwnField c.args.declared.now c.args.places.now c.args.message.now in
     let step : take (i + 1) ds ≡ take i ds ++ d ∷ [] = grind (arith, common_steps) in
     let same : string_bytes c.in_ok-name.name ≡ string_bytes d.name = search rules in
-    let told = subst (λ q. IsField c.args.declared.now c.args.places.now q (string_bytes c.in_ok-name.name) d f) c.features_of.ensures c.in_ok-field.ensures.ok in
+    let told = subst (λ q. IsField c.args.declared.now c.args.places.now q (string_bytes c.in_ok-name.name) d f) c.features_of-features.ensures c.in_ok-field.ensures.ok in
     let tells : Tells d f = subst (λ n. IsField c.args.declared.now c.args.places.now (own_features c.args.message.now d) n d f) same told in
     let number : number_of d.number ≡ f.number = rw (tells.number) refl in
     let old = λ (k : ℕ). get nat_cmp c.loop-descriptor.fields k in
@@ -41,7 +40,7 @@ returns-in_err-field-clause-err c =
     let same : string_bytes c.in_ok-name.name ≡ string_bytes d.name = search rules in
     let r = c.from_residual-in_err-field in
     let p = err_from_is_err_and r.result r.ensures.1 in
-    rw (p.1, p.2) (λ other. own_fault c.args.declared.now c.args.places.now c.args.message.now d (string_bytes c.in_ok-name.name) _ own same (subst (λ q. FieldFault c.args.declared.now c.args.places.now q (string_bytes c.in_ok-name.name) d p.0) c.features_of.ensures ((c.in_err-field).ensures.err other)))
+    rw (p.1, p.2) (λ other. own_fault c.args.declared.now c.args.places.now c.args.message.now d (string_bytes c.in_ok-name.name) _ _ own same c.features_of-features.ensures ((c.in_err-field).ensures.err other))
 
 pub returns-then-is_some-clause-err : goal.returns-then-is_some-clause-err
 returns-then-is_some-clause-err c = λ other.

@@ -4,7 +4,7 @@ use crate::comments::set_heading;
 use crate::definitions::put_field_range;
 use crate::laws_pages::has_laws;
 use crate::leaf::is_leaving;
-use crate::member_definitions::MEMBER_USES;
+use crate::members::MEMBER_USES;
 use crate::mentioned::use_mentioned_of;
 use crate::recursive_back::put_back;
 use crate::required_tables::{NESTED, define_asked_rows};

@@ -1,5 +1,5 @@
 //! That what decoding leaves of a oneof is in range.
-use crate::oneof_definitions::put_values;
+use crate::oneofs::put_values;
 use crate::stays::{put_accounted_range, stays_page};
 use wire_schema::{GenerateError, Oneof, Template, Words};
 

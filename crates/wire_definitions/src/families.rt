@@ -4,7 +4,7 @@ use crate::choice_laws::{STANDS, USES_OF_STANDS};
 use crate::comments::set_heading;
 use crate::laws_pages::has_laws;
 use crate::mentioned::use_mentioned_of;
-use crate::recursive_definitions::ALIASES;
+use crate::recursion::ALIASES;
 use crate::required_tables::{ASKED, NESTED, OF_ASKED};
 use crate::returned::under_charges;
 use wire_schema::{GenerateError, Template, Words};
