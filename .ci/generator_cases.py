@@ -2,6 +2,8 @@
 it writes of others."""
 TYPE = "message A { int32 x = 1; }"
 LONG = "Elephant" * 11
+MANY_OF_FLAT = (".A: more than 80 fields of a message that has a view or required fields, or that "
+                "holds itself or another that holds it, or with unknown=drop or mismatch=keep")
 # A schema, further parameters, and what is said of it on protoc's channel for errors.
 REFUSED = [
     ("proto3", 'import "google/protobuf/empty.proto";' + TYPE
@@ -29,8 +31,14 @@ REFUSED = [
      ".A.b: encoded= wants a field of messages behind their length"),
     ("proto2", "message A { extensions 4; } extend A { optional int32 x = 4; }", ",unknown=drop",
      ".x: extensions are not generated with unknown=drop"),
-    ("proto3", "message A {" + "".join(f"int32 x{it} = {it};" for it in range(1, 82)) + "}", "",
-     ".A: more than 80 fields"),
+    ("proto3", "message A {" + "".join(f"int32 x{it} = {it};" for it in range(1, 130)) + "}", "",
+     ".A: more than 128 fields"),
+    *(("proto3", "message A {" + "".join(f"int32 x{it} = {it};" for it in range(1, 82)) + "}",
+       options, MANY_OF_FLAT) for options in (",views=true", ",unknown=drop", ",mismatch=keep")),
+    ("proto3", "message A { A a = 100; "
+     + "".join(f"int32 x{it} = {it};" for it in range(1, 81)) + "}", "", MANY_OF_FLAT),
+    ("proto2", "message A { required int32 x = 100; "
+     + "".join(f"optional int32 x{it} = {it};" for it in range(1, 81)) + "}", "", MANY_OF_FLAT),
     ("proto3", 'import "google/protobuf/timestamp.proto";'
      "message A { google.protobuf.Timestamp x = 1; }", "",
      ".A.x: .google.protobuf.Timestamp is of a file of no crate that is named, as "

@@ -20,7 +20,7 @@ pub fn copied_part<'a>(fields: &[Field], tree: &'a Tree, place: usize) -> Option
     let refused = fields
         .iter()
         .filter(|it| it.words.get("copy").ends_with('?'));
-    if refused.count() > MOST_REFUSALS {
+    if tree.has_groups || refused.count() > MOST_REFUSALS {
         return tree.outermost(place);
     }
     None

@@ -59,6 +59,7 @@ pub use required_oneof::{put_choice_requirement, put_requirement, use_variants};
 pub use required_rows::{put_required_rows, use_asked_rows};
 pub use rows::{is_row, leaf_tree, place_of};
 pub use runs::{put_field_in_run, put_part_head, put_run};
+pub use spans::has_groups;
 pub use stays::{put_accounted_range, stays_of};
 pub use tree::{Node, Tree, tree_of};
 pub use view_definitions::has_view;

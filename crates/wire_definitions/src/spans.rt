@@ -10,6 +10,12 @@ const PART_OF_MAPS: usize = 4;
 
 const PART_OF_CLOSED_MAPS: usize = 2;
 
+// The most fields of a message whose records one function takes, and the fields of a group where
+// there are more: parts that are a part.
+const MOST_FLAT: usize = 80;
+
+const GROUP: usize = 64;
+
 /// Fields in a row, and how many of them are maps.
 #[derive(Clone, Copy)]
 pub(crate) struct Span {
@@ -53,11 +59,27 @@ impl Span {
     }
 }
 
+/// Whether the fields of a message of so many stand in groups.
+pub fn has_groups(count: usize) -> bool {
+    count > MOST_FLAT
+}
+
+/// Whether a part of these fields is no group of such.
+pub(crate) fn is_few(first: usize, behind: usize) -> bool {
+    behind.saturating_sub(first) <= PART
+}
+
+/// Whether this is a group behind which others stand.
+pub(crate) fn is_before_others(span: Span, count: usize) -> bool {
+    has_groups(count) && span.len() == GROUP && span.behind < count
+}
+
 /// The parts by themselves, an inner one before the one that it is in.
 pub(crate) fn parts_of(alloc: Global, fields: &[Field]) -> Result<Vec<Span>, GenerateError> {
     let mut parts = Vec::new(alloc);
     let mut spans = Vec::new(alloc);
     let mut is_leaving = false;
+    let is_grouped = has_groups(fields.len());
     for (place, field) in fields.iter().enumerate() {
         spans.push(Span::of(place, field))?;
         is_leaving |= field.words.get("both") == "both_leaving";
@@ -75,12 +97,15 @@ pub(crate) fn parts_of(alloc: Global, fields: &[Field]) -> Result<Vec<Span>, Gen
                 continue;
             };
             // (with a closed enum the search finds only what a part by itself has)
-            if is_leaving && first.len() >= PART && span.len() < PART {
+            if (is_leaving || is_grouped) && first.len() >= PART && span.len() < PART {
+                put_part(span, &mut parts)?;
+            }
+            if is_grouped && first.len() >= GROUP && span.len() < GROUP {
                 put_part(span, &mut parts)?;
             }
             let both = first.with(span);
             let is_part = both.len() == both.most() || both.len() == PART;
-            if is_part && both.most() < fields.len() {
+            if is_part && both.most() < fields.len() || is_grouped && both.len() == GROUP {
                 put_part(both, &mut parts)?;
             }
             next.push(both)?;

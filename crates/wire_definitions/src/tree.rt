@@ -1,7 +1,7 @@
 //! The fields of a message as a balanced tree of pairs, which its code, its definitions and its
 //! proofs have alike.
 use crate::choice::{SPOT, SPOT_IN_FIRST, SPOT_IN_SECOND};
-use crate::spans::parts_of;
+use crate::spans::{Span, has_groups, is_before_others, is_few, parts_of};
 use wire_schema::{Field, GenerateError, Template, Words};
 
 /// The fields of a message as a tree. Its words are those of the root but for its numbers.
@@ -11,6 +11,9 @@ pub struct Tree {
     /// Where there are many fields, those in a row that have a type of their own, an inner one
     /// before the one that it is in.
     pub parts: Vec<Node>,
+    /// Whether those that are in no other are groups, of which each has a function that takes its
+    /// records.
+    pub has_groups: bool,
 }
 
 /// Fields in a row, as one part of the tree. Its words are the first and the last number, `low` and
@@ -60,10 +63,22 @@ impl Tree {
         }
     }
 
-    /// The part of the field at this place that is in no other.
+    /// Whether this part is a group.
+    pub fn is_group(&self, part: &Node) -> bool {
+        self.has_groups && self.has_part(None, part)
+    }
+
+    /// The group behind this one.
+    pub fn next_group(&self, group: &Node) -> Option<&Node> {
+        let mut behind = self.parts.iter().filter(|it| it.first == group.behind);
+        behind.find(|it| self.is_group(it))
+    }
+
+    /// The part of the field at this place that is in no other but a group.
     pub fn outermost(&self, place: usize) -> Option<&Node> {
         let behind = place.saturating_add(1);
-        self.parts.iter().filter(|it| it.has(place, behind)).last()
+        let parts = self.parts.iter().filter(|it| it.has(place, behind));
+        parts.filter(|it| is_few(it.first, it.behind)).last()
     }
 }
 
@@ -140,6 +155,9 @@ const NAMED: [Template; 4] = [
     ("table", "$part_words$"),
 ];
 
+// Behind the function that takes the records of a group, a record is none of these.
+const NONE_OF_GROUP: &str = "c.requires.others_$low$_to_$high$ p";
+
 // How the fields are reached that stand in the first of a pair, and in the second: the `path`, the
 // same with first parts alone, and the proof that a step is taken there.
 const FIRST: [Template; 3] = [
@@ -171,30 +189,60 @@ pub fn tree_of(base: &Words, fields: &mut [Field], has_parts: bool) -> Result<Tr
         Vec::new(alloc)
     };
     for span in spans {
-        let mut outer = Vec::new(alloc);
-        let mut inner = Vec::new(alloc);
-        for node in nodes {
-            if node.first < span.first || span.behind < node.behind {
-                outer.push(node)?;
-                continue;
-            }
-            let is_last = node.behind == span.behind;
-            inner.push(node)?;
-            if is_last {
-                let within = std::mem::replace(&mut inner, Vec::new(alloc));
-                if let Some(whole) = joined(within, fields)? {
-                    outer.push(named(whole, &mut parts)?)?;
-                }
-            }
-        }
-        nodes = outer;
+        nodes = gathered(nodes, span, fields, &mut parts)?;
     }
     let mut words = Words::new(alloc);
     if let Some(root) = joined(nodes, fields)? {
         words.set_all(&root.words);
     }
     words.ended()?;
-    Ok(Tree { words, parts })
+    Ok(Tree {
+        words,
+        parts,
+        has_groups: has_parts && has_groups(fields.len()),
+    })
+}
+
+// The same with those in a span as a part, which stands behind the `parts` there are.
+fn gathered(
+    nodes: Vec<Node>,
+    span: Span,
+    fields: &mut [Field],
+    parts: &mut Vec<Node>,
+) -> Result<Vec<Node>, GenerateError> {
+    let alloc = *nodes.allocator();
+    let mut outer = Vec::new(alloc);
+    let mut inner = Vec::new(alloc);
+    for node in nodes {
+        if node.first < span.first || span.behind < node.behind {
+            outer.push(node)?;
+            continue;
+        }
+        let is_last = node.behind == span.behind;
+        inner.push(node)?;
+        if is_last {
+            let within = std::mem::replace(&mut inner, Vec::new(alloc));
+            if let Some(whole) = joined(within, fields)? {
+                let mut part = named(whole, parts)?;
+                keep_path(span, fields);
+                if is_before_others(span, fields.len()) {
+                    part.words.fill("unlike", NONE_OF_GROUP);
+                }
+                outer.push(part)?;
+            }
+        }
+    }
+    Ok(outer)
+}
+
+// The way to each field from the part that it is in, that in no other but a group at last.
+fn keep_path(span: Span, fields: &mut [Field]) {
+    for (place, field) in fields.iter_mut().enumerate() {
+        let has = span.first <= place && place < span.behind;
+        if has && is_few(span.first, span.behind) {
+            field.words.fill("own_path", "$path$");
+        }
+    }
 }
 
 // All of these as one, where there are any.

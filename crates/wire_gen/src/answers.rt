@@ -1,7 +1,7 @@
 //! The proofs of a message type: why a record that a field refuses is refused by the message.
 use crate::choice_answers::put_choice;
-use crate::rest_answers::put_rest;
-use wire_definitions::{Tree, definition_imports};
+use crate::rest_answers::{put_handed_on, put_rest};
+use wire_definitions::{Node, Tree, definition_imports};
 use wire_schema::{Field, GenerateError, Template, Words};
 
 const USES: &str = "\
@@ -107,11 +107,23 @@ const OF_VIEW: [Template; 6] = [
     ("keeper", "keep_span"),
 ];
 
+// The same of a group of fields: of the first one, and of another.
+const OF_GROUP: [Template; 3] = [
+    ("of_call", "c.merged"),
+    ("numbered", "c.field_number"),
+    ("rest_call", "(c.merged-in_default)"),
+];
+
+const OF_LATER_GROUP: [Template; 2] = [
+    ("of_goals", "$module$"),
+    ("goals", "$name$.merge_from_$low$"),
+];
+
 const REFUSED: &str = "
 pub returns-in-$number$-clause-err : goal.returns-in-$number$-clause-err
 returns-in-$number$-clause-err $given$ =
     $before$arm_err $whole$.takes $step$ $number$ _
-    (sym $of_call$field_number.ensures.number ∙ c.in-$number$.is) _ _
+    (sym $numbered$.ensures.number ∙ c.in-$number$.is) _ _
     (λ charge z p h. ($seen$)) _ _ _
     $call$.result $call$.ensures.err$behind$
 ";
@@ -120,7 +132,7 @@ const TAKEN: &str = "
 pub returns-in-$number$-clause-ok : goal.returns-in-$number$-clause-ok
 returns-in-$number$-clause-ok $given$ =
     $taken_by$ $all_takes$ $step$ $number$ _
-    (sym $of_call$field_number.ensures.number ∙ c.in-$number$.is) _ _$levels$ _ _
+    (sym $numbered$.ensures.number ∙ c.in-$number$.is) _ _$levels$ _ _
     (λ charge p h. $taken$) _ _ _ _ _
     $call$.result $call$.ensures.ok
 ";
@@ -178,6 +190,36 @@ pub(crate) fn view_answers_of(
     written(page, fields, tree)
 }
 
+/// The answers of the function that takes the records of a group of fields.
+pub(crate) fn group_answers_of(
+    base: &Words,
+    fields: &[Field],
+    tree: &Tree,
+    group: &Node,
+) -> Result<String, GenerateError> {
+    let mut page = Words::like(base);
+    put_whole(&mut page, false);
+    page.fill_all(&OF_GROUP);
+    if group.first > 0 {
+        page.copy(&group.words, &["low"]);
+        page.fill_all(&OF_LATER_GROUP);
+    }
+    page.append("uses", USES_OF_FIELDS);
+    for (place, field) in fields.iter().enumerate() {
+        if group.first <= place && place < group.behind {
+            put_field(&mut page, field);
+        }
+    }
+    match tree.next_group(group) {
+        Some(next) => put_handed_on(&mut page, fields, group, next),
+        None => {
+            page.copy(&tree.words, &["unlike"]);
+            put_rest(&mut page, fields);
+        }
+    }
+    finished(page)
+}
+
 fn written(mut page: Words, fields: &[Field], tree: &Tree) -> Result<String, GenerateError> {
     page.copy(&tree.words, &["unlike"]);
     page.append(
@@ -192,6 +234,11 @@ fn written(mut page: Words, fields: &[Field], tree: &Tree) -> Result<String, Gen
         put_field(&mut page, field);
     }
     put_rest(&mut page, fields);
+    finished(page)
+}
+
+// The page of what there is so far.
+fn finished(mut page: Words) -> Result<String, GenerateError> {
     definition_imports(&mut page);
     let is_member = !page.get("family_name").is_empty();
     page.append("imports", if is_member { FAMILY } else { "" });
@@ -217,6 +264,7 @@ fn put_whole(page: &mut Words, is_recursive: bool) {
     } else {
         &OF_WHOLE
     });
+    page.set("numbered", "");
     page.fill(
         "specs_of_own",
         if is_member { "$family_name$" } else { "$name$" },
@@ -237,6 +285,9 @@ fn put_field(page: &mut Words, field: &Field) {
         &field.words,
         &["field", "kind", "definition", "specs", "step", "shape"],
     );
+    if page.get("numbered").is_empty() {
+        page.fill("numbered", "$of_call$field_number");
+    }
     page.copy(&field.words, &["path", "firsts", "taken", "sort"]);
     let is_beside = page.get("sort") == "Leaving";
     page.fill("seen", if is_beside { BESIDE } else { INSIDE });
@@ -292,6 +343,9 @@ fn put_closing(page: &mut Words) {
 // What is to be shown of the record of one number; the first call of a function has no number in
 // its name.
 fn put_arm(page: &mut Words) {
+    if page.get("of_call") == "c.merged" {
+        page.set("call", "");
+    }
     page.fill("this", " $call$ ");
     let is_first = !page.get("calls").contains(page.get("this"));
     page.append("calls", "$this$");

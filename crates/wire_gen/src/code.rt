@@ -3,6 +3,7 @@ use crate::arms::put_arm;
 use crate::copies::set_clone;
 use crate::defaults::{put_defaults, use_defaults};
 use crate::field_rows::put_rows;
+use crate::groups::set_groups;
 use wire_definitions::{
     DOCUMENTED, Tree, code_imports, ghost_imports, put_comment, put_required, set_heading,
     use_asked,
@@ -216,6 +217,9 @@ pub(crate) fn code_of(
     if !tree.parts.is_empty() {
         page.append("uses", "wire_fields Parts\n");
     }
+    if tree.has_groups {
+        set_groups(&mut page, fields, tree);
+    }
     if message.is_twin {
         set_clone(&mut page, fields, tree);
     }
@@ -237,7 +241,7 @@ pub(crate) fn code_of(
         ghost_imports(&mut page, "    ");
         page.append("code", PART);
     }
-    page.append("code", "$copied_apart$");
+    page.append("code", "$copied_apart$$merged_apart$");
     put_required(&mut page);
     page.finish("code")
 }

@@ -58,12 +58,18 @@ $part_names$        } = self.copied_$low$_to_$high$()?;
 
 const NO_PART: [Template; 3] = [("held_copies", ""), ("part_copied", ""), ("part_names", "")];
 
-const OF_PART: [Template; 4] = [
+const OF_PART: [Template; 3] = [
     ("held_copies", "    $field$: $held$,\n"),
     ("part_copied", "            $field$: $copy$,\n"),
     ("part_names", "            $field$,\n"),
-    ("copied", "            $field$,\n"),
 ];
+
+const OF_FEW: &str = "            $field$,\n";
+
+// Of many parts the copies stay in their structs until they are in the message.
+const PART_LET: &str = "        let fields_$low$_to_$high$ = self.copied_$low$_to_$high$()?;\n";
+
+const OF_MANY: &str = "            $field$: fields_$low$_to_$high$.$field$,\n";
 
 // The widest field of a struct in one line.
 const SHORT: usize = 18;
@@ -79,8 +85,10 @@ pub(crate) fn set_clone(page: &mut Words, fields: &[Field], tree: &Tree) {
         match copied_part(fields, tree, place) {
             Some(part) => {
                 page.append_all(&OF_PART);
+                page.copy(&part.words, &["low", "high"]);
+                page.append("copied", if tree.has_groups { OF_MANY } else { OF_FEW });
                 if part.behind == place.saturating_add(1) {
-                    put_part(page, part);
+                    put_part(page, tree, part);
                 }
             }
             None => page.append("copied", "            $field$: $copy$,\n"),
@@ -104,12 +112,18 @@ fn put_use(page: &mut Words, field: &Field) {
     }
 }
 
-fn put_part(page: &mut Words, part: &Node) {
+fn put_part(page: &mut Words, tree: &Tree, part: &Node) {
     page.copy(
         &part.words,
         &["low", "high", "copies_type", "copies_words", "part_words"],
     );
-    page.append_all(&[("copies", COPIES_LET), ("copied_apart", COPIES)]);
+    let copies = if tree.has_groups {
+        PART_LET
+    } else {
+        COPIES_LET
+    };
+    page.append("copies", copies);
+    page.append("copied_apart", COPIES);
     page.fill_all(&NO_PART);
 }
 

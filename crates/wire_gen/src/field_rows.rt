@@ -64,9 +64,10 @@ fn set_rows(page: &mut Words, fields: &[Field], tree: &Tree, part: Option<&Node>
     }
 }
 
-// The numbers of a field, each with the way in which its records are taken.
-fn set_numbers(page: &mut Words, field: &Words) {
-    page.set("all_numbers", "");
+/// The numbers of a field, each with the way in which its records are taken: `all_numbers` as a row
+/// has them, and `taken`, a line for each.
+pub(crate) fn set_numbers(page: &mut Words, field: &Words) {
+    page.fill_all(&[("all_numbers", ""), ("taken", "")]);
     let mut types = field.get("all_types").split(' ');
     let mut calls = field.get("all_calls").split(' ');
     for number in field.get("numbers").split(' ') {
@@ -76,18 +77,33 @@ fn set_numbers(page: &mut Words, field: &Words) {
         page.append("all_numbers", if is_first { "" } else { " | " });
         let is_map = field.get("kind").starts_with("Map<");
         page.set("call", or_else(calls.next(), field.get("call")));
+        set_way(page, is_map);
+        let has_way = !page.get("way").is_empty();
         page.append(
             "all_numbers",
-            match page.get("call") {
-                "merge" => "$number$",
-                "merge_closed" if is_map => "$number$ [closed_map]",
-                "merge_closed" => "$number$ [closed]",
-                "merge_closed_each" => "$number$ [closed_each]",
-                "merge_or_keep" => "$number$ [types OwnTypes::$own_types$]",
-                _ => "$number$ [$call$]",
+            if has_way {
+                "$number$ [$way$]"
+            } else {
+                "$number$"
             },
         );
+        page.append("taken", "$number$\t$way$\n");
     }
+}
+
+// The way in which the records of a number are taken, by its call: none, where it is the kind's.
+fn set_way(page: &mut Words, is_map: bool) {
+    page.fill(
+        "way",
+        match page.get("call") {
+            "merge" => "",
+            "merge_closed" if is_map => "closed_map",
+            "merge_closed" => "closed",
+            "merge_closed_each" => "closed_each",
+            "merge_or_keep" => "types OwnTypes::$own_types$",
+            _ => "$call$",
+        },
+    );
 }
 
 // The word of one number of a oneof, or that of the whole field.

@@ -11,8 +11,8 @@ use crate::written::{FieldAnswers, written_answers};
 use std::alloc::Global;
 use wire_codec::{DecodeOptions, Message};
 use wire_definitions::{
-    Tree, closed_answers, definitions_of, has_laws, oneof_definitions, oneof_stays, stays_of,
-    tree_of,
+    Tree, closed_answers, definitions_of, has_groups, has_laws, has_view, oneof_definitions,
+    oneof_stays, stays_of, tree_of,
 };
 use wire_descriptor::{CodeGeneratorRequest, CodeGeneratorResponse, CodeGeneratorResponseFile};
 use wire_schema::{
@@ -21,7 +21,12 @@ use wire_schema::{
 };
 
 // The most fields of a message, of which it was seen that they are proved.
-const MOST_FIELDS: usize = 80;
+const MOST_FIELDS: usize = 128;
+
+// Of such a message the fields stand in no groups.
+const MANY_OF_FLAT: &str = "$full$: more than 80 fields of a message that has a view or required \
+                            fields, or that holds itself or another that holds it, or with \
+                            unknown=drop or mismatch=keep";
 
 // Features of a plug-in, as protoc asks for them.
 const OPTIONAL_OF_PROTO3: u64 = 1;
@@ -70,6 +75,19 @@ fn files_of(
         package.add_all(&schema)?;
     }
     Ok(package.files)
+}
+
+// Refuses more fields than it was seen that they are proved.
+fn stop_on_many(page: &mut Words, count: usize, holds_itself: bool) -> Result<(), GenerateError> {
+    let is_plain = page.get("unknown") == "keep" && page.get("mismatch") == "refuse";
+    let is_flat = holds_itself || has_view(page) || !page.get("requiring").is_empty();
+    if has_groups(count) && (is_flat || !is_plain) {
+        return Err(page.refused(MANY_OF_FLAT));
+    }
+    if count > MOST_FIELDS {
+        return Err(page.refused("$full$: more than 128 fields"));
+    }
+    Ok(())
 }
 
 // The files so far. The words of the roots are lines of the files that name the others.
@@ -155,10 +173,9 @@ impl Package {
     fn add_message(&mut self, schema: &Schema, message: &MessageType) -> Result<(), GenerateError> {
         let mut page = self.page(&message.words);
         let mut fields = fields_of(&self.base, schema, message)?;
-        if fields.len() > MOST_FIELDS {
-            return Err(page.refused("$full$: more than 80 fields"));
-        }
-        if message.is_recursive || message.family.is_some() {
+        let holds_itself = message.is_recursive || message.family.is_some();
+        stop_on_many(&mut page, fields.len(), holds_itself)?;
+        if holds_itself {
             return self.add_recursive(schema, message, fields);
         }
         if !page.get("requiring").is_empty() {
@@ -178,6 +195,9 @@ impl Package {
         self.add_view(&page, schema, &fields, &tree)?;
         if fields.is_empty() {
             return Ok(());
+        }
+        if tree.has_groups {
+            return self.add_groups(&mut page, &fields, &tree);
         }
         let answers = answers_of(&page, &fields, &tree, false)?;
         let path = "proofs/$module$/$name$MessageFields/merge_field/Answers.antt";
