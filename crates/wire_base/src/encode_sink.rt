@@ -9,7 +9,7 @@ ghost use Rattle.wire_base.specs.Varint.{shortest_varint};
 use crate::error::EncodeError;
 use crate::laws;
 use bytes::Bytes;
-use growth::{push_delimited, push_growing, push_varint, push_varints};
+use growth::{push_growing, push_varint, push_varints};
 use std::alloc::AllocError;
 use std::mem;
 
@@ -187,11 +187,6 @@ impl EncodeSink for Vec<u8> {
 
     #[inline(always)]
     fn put_delimited(&mut self, first: u64, bytes: &[u8]) -> Result<(), EncodeError> {
-        if first < 0x80 && bytes.len() < 0x80 && self.len() + 2 <= self.capacity() {
-            push_pair(first as u8, bytes.len() as u8, self);
-            push_bytes(bytes, self)?;
-            return Ok(());
-        }
         push_delimited(first, bytes, self)?;
         Ok(())
     }
@@ -323,4 +318,17 @@ fn push_bytes(more: &[u8], bytes: &mut Vec<u8>) -> Result<(), AllocError>
         return push_growing(more, bytes);
     }
     bytes.extend_from_slice(more)
+}
+
+// Appends the shortest varint of a number, as a tag, and bytes behind their length.
+#[inline(always)]
+fn push_delimited(first: u64, more: &[u8], bytes: &mut Vec<u8>) -> Result<(), AllocError>
+    ensures ok { OnOk result (bytes.new.items
+        ≡ bytes.old.items ++ (shortest_varint first ++ delimited_text more.now)) }
+    ensures err { OnErr result (KeepsFront (in_memory bytes.old.items)
+        (shortest_varint first ++ delimited_text more.now) (in_memory bytes.new.items)) }
+{
+    push_two(first, more.len() as u64, bytes)?;
+    push_bytes(more, bytes)?;
+    Ok(())
 }
