@@ -164,18 +164,7 @@ impl EncodeSink for Vec<u8> {
 
     #[inline(always)]
     fn put_varint(&mut self, value: u64) -> Result<(), EncodeError> {
-        if value < 0x80 {
-            push_byte(value as u8, self)?;
-            return Ok(());
-        }
-        if self.len() + MOST_DIGITS > self.capacity() {
-            push_varint(value, self)?;
-            return Ok(());
-        }
-        let empty = Vec::new(*self.allocator());
-        let mut bytes = mem::replace(self, empty);
-        push_digits(value, &mut bytes);
-        mem::forget(mem::replace(self, bytes));
+        push_one(value, self)?;
         Ok(())
     }
 
@@ -191,31 +180,72 @@ impl EncodeSink for Vec<u8> {
         Ok(())
     }
 
-    /// One put where the varint is a byte and there is room. The array is not that of the puts
-    /// behind, which may grow: it stays in registers.
     #[inline(always)]
     fn put_fixed32(&mut self, first: u64, value: u32) -> Result<(), EncodeError> {
-        laws::two_parts();
-        laws::put_is_a_write();
-        if first < 0x80 && 5 <= self.capacity() - self.len() {
-            return self.put_slice(&tagged_fixed32(first as u8, value));
-        }
-        self.put_varint(first)?;
-        self.put_u32_le(value)
+        push_fixed32(first, value, self)?;
+        Ok(())
     }
 
-    /// One put where the varint is a byte and there is room. The array is not that of the puts
-    /// behind, which may grow: it stays in registers.
     #[inline(always)]
     fn put_fixed64(&mut self, first: u64, value: u64) -> Result<(), EncodeError> {
-        laws::two_parts();
-        laws::put_is_a_write();
-        if first < 0x80 && 9 <= self.capacity() - self.len() {
-            return self.put_slice(&tagged_fixed64(first as u8, value));
-        }
-        self.put_varint(first)?;
-        self.put_u64_le(value)
+        push_fixed64(first, value, self)?;
+        Ok(())
     }
+}
+
+// Appends the shortest varint of a number. With room for the longest, the vector is a local of the
+// compiled code.
+#[inline(always)]
+fn push_one(value: u64, bytes: &mut Vec<u8>) -> Result<(), AllocError>
+    ensures ok { OnOk result (bytes.new.items ≡ bytes.old.items ++ shortest_varint value) }
+    ensures err { OnErr result (KeepsFront (in_memory bytes.old.items)
+        (shortest_varint value) (in_memory bytes.new.items)) }
+{
+    if value < 0x80 {
+        return push_byte(value as u8, bytes);
+    }
+    if bytes.len() + MOST_DIGITS > bytes.capacity() {
+        return push_varint(value, bytes);
+    }
+    let empty = Vec::new(*bytes.allocator());
+    let mut held = mem::replace(bytes, empty);
+    push_digits(value, &mut held);
+    mem::forget(mem::replace(bytes, held));
+    Ok(())
+}
+
+// Appends the shortest varint of a number, as a tag, and four bytes, the lowest first: one put
+// where the varint is a byte and there is room. The array is not that of the puts behind, which
+// may grow: it stays in registers.
+#[inline(always)]
+fn push_fixed32(first: u64, value: u32, bytes: &mut Vec<u8>) -> Result<(), AllocError>
+    ensures ok { OnOk result (bytes.new.items
+        ≡ bytes.old.items ++ (shortest_varint first ++ to_le_bytes w32 value)) }
+    ensures err { OnErr result (KeepsFront (in_memory bytes.old.items)
+        (shortest_varint first ++ to_le_bytes w32 value) (in_memory bytes.new.items)) }
+{
+    if first < 0x80 && 5 <= bytes.capacity() - bytes.len() {
+        return push_bytes(&tagged_fixed32(first as u8, value), bytes);
+    }
+    push_one(first, bytes)?;
+    push_bytes(&u32::to_le_bytes(value), bytes)?;
+    Ok(())
+}
+
+// The same of eight bytes.
+#[inline(always)]
+fn push_fixed64(first: u64, value: u64, bytes: &mut Vec<u8>) -> Result<(), AllocError>
+    ensures ok { OnOk result (bytes.new.items
+        ≡ bytes.old.items ++ (shortest_varint first ++ to_le_bytes w64 value)) }
+    ensures err { OnErr result (KeepsFront (in_memory bytes.old.items)
+        (shortest_varint first ++ to_le_bytes w64 value) (in_memory bytes.new.items)) }
+{
+    if first < 0x80 && 9 <= bytes.capacity() - bytes.len() {
+        return push_bytes(&tagged_fixed64(first as u8, value), bytes);
+    }
+    push_one(first, bytes)?;
+    push_bytes(&u64::to_le_bytes(value), bytes)?;
+    Ok(())
 }
 
 // A varint of one byte, and four bytes behind it, the lowest first.
@@ -320,9 +350,30 @@ fn push_bytes(more: &[u8], bytes: &mut Vec<u8>) -> Result<(), AllocError>
     bytes.extend_from_slice(more)
 }
 
-// Appends the shortest varint of a number, as a tag, and bytes behind their length.
+// Appends the shortest varint of a number, as a tag, and bytes behind their length. With room for
+// both varints, the vector is a local of the compiled code until all is put.
 #[inline(always)]
 fn push_delimited(first: u64, more: &[u8], bytes: &mut Vec<u8>) -> Result<(), AllocError>
+    ensures ok { OnOk result (bytes.new.items
+        ≡ bytes.old.items ++ (shortest_varint first ++ delimited_text more.now)) }
+    ensures err { OnErr result (KeepsFront (in_memory bytes.old.items)
+        (shortest_varint first ++ delimited_text more.now) (in_memory bytes.new.items)) }
+{
+    if bytes.len() + 2 * MOST_DIGITS > bytes.capacity() {
+        return push_in_parts(first, more, bytes);
+    }
+    let empty = Vec::new(*bytes.allocator());
+    let mut held = mem::replace(bytes, empty);
+    push_digits(first, &mut held);
+    push_digits(more.len() as u64, &mut held);
+    let pushed = push_bytes(more, &mut held);
+    mem::forget(mem::replace(bytes, held));
+    pushed
+}
+
+// Appends the same, the varints first.
+#[inline(always)]
+fn push_in_parts(first: u64, more: &[u8], bytes: &mut Vec<u8>) -> Result<(), AllocError>
     ensures ok { OnOk result (bytes.new.items
         ≡ bytes.old.items ++ (shortest_varint first ++ delimited_text more.now)) }
     ensures err { OnErr result (KeepsFront (in_memory bytes.old.items)
