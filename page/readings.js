@@ -139,23 +139,27 @@ function readingsOf(list, i, most) {
   return numberReadings(kind, list.value[i]);
 }
 
-// The lines as wire_dump prints them, of what its budget opens.
+// The lines as wire_dump prints them, of what its budget opens: ten levels of messages that no
+// schema tells, groups that it lacks counted.
 function dumpText(list, budget = BUDGET, margin = '') {
   const lines = [];
   const inside = (i) => margin + '  '.repeat(list.depth[i]);
+  let unknown = 0;
   for (let i = 0; i < list.size; i++) {
     const field = fieldOf(list, i), fits = !!field && !misfitOf(list, i, field);
     const kind = list.kind(i), name = inside(i) + (fits ? field.name : list.number(i));
-    if (kind === START)
+    const left = fits || kind === FRAME ? BUDGET : budget - unknown - 1;
+    if (kind === START) {
       lines.push(`${name} {`);
-    else if (kind === END)
+      if (unknown || !fits) unknown += 1;
+    } else if (kind === END) {
       lines.push(`${inside(i)}}`);
-    else if (fits && !field.message)
+      if (unknown) unknown -= 1;
+    } else if (fits && !field.message)
       lines.push(...typedText(list, i, field).map((value) => `${name}: ${value}`));
-    else if (fits || opensUntyped(list, i, field, budget - list.depth[i])) {
+    else if (fits || opensUntyped(list, i, field, left + 1)) {
       const child = list.children.get(i) || readChild(list, i, 0);
-      lines.push(`${name} {`, ...dumpText(child, budget - list.depth[i] - 1, inside(i) + '  '),
-        `${inside(i)}}`);
+      lines.push(`${name} {`, ...dumpText(child, left, inside(i) + '  '), `${inside(i)}}`);
     } else
       lines.push(`${name}: ${untypedText(list, i)}`);
   }

@@ -59,10 +59,23 @@ def shop():
     return held(1, new) + held(1, file)
 
 
+ORDER = "08 11 12 07 0a 03 41 2d 37 10 03 18 01"
+
+
+def in_unknown_groups(count, lines):
+    """A payload within so many groups that the schema lacks, and the lines of all."""
+    digits = ["5b"] * count + ["0a 04 0a 02 08 01"] + ["5c"] * count
+    starts = ["  " * k + "11 {" for k in range(count)]
+    ends = ["  " * k + "}" for k in reversed(range(count))]
+    return " ".join(digits), "shop.Order", starts + ["  " * count + it for it in lines] + ends, None
+
+
 # A message, its type, what is copied of it, and what is said of a record that does not fit.
 SAID = [
+    in_unknown_groups(9, ["1 {", r'  1: "\010\001"', "}"]),
+    in_unknown_groups(10, [r'1: "\n\002\010\001"']),
     (
-        "08 11 12 07 0a 03 41 2d 37 10 03 18 01",
+        ORDER,
         "shop.Order",
         ["number: 17", "lines {", '  article: "A-7"', "  quantity: 3", "}", "state: PAID"],
         None,
@@ -145,7 +158,7 @@ def try_typed(page, room):
 
 def try_names_of_rows(page):
     choose(page, "shop.Order")
-    page.put(SAID[0][0], "hex")
+    page.put(ORDER, "hex")
     alike(
         "names of rows",
         [row["number"] for row in page.rows()],
@@ -162,7 +175,7 @@ def try_names_of_rows(page):
     page.put("02 08 11 04 08 11 18 01", "hex", True)
     check("names in a log", "state" in [row["number"] for row in page.rows()])
     choose(page, "")
-    page.put(SAID[0][0], "hex")
+    page.put(ORDER, "hex")
     check("no type, no names", [row["number"] for row in page.rows()][0] == "1")
 
 

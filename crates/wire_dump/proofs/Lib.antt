@@ -10,6 +10,7 @@ pub mod Front
 pub mod Decimal
 pub mod ShownOpen
 pub mod ShownPut
+pub mod Spots
 pub mod ShownWalk
 pub mod ShownRecord
 pub mod ShownMessage

@@ -25,7 +25,7 @@ abbrev Is : List Span → List Span → Type 0
 Is wanted spans = spans ≡ wanted
 
 -- a message between two lines
-pub message_shown : (t : Typed) (d k n root place inner end : ℕ) (f : Field) (l : Limits)
+pub message_shown : (t : Typed) (d b k n root place inner end : ℕ) (f : Field) (l : Limits)
     (payload text old : List ℕ) (before : Bool) (one two three : Output)
     → 0 < d → f.kind ≡ kinds.Message root → l ≡ uncounted (d - 1)
     → SpellsRecord n (bytes payload) text → end ≡ place + length text
@@ -37,9 +37,9 @@ pub message_shown : (t : Typed) (d k n root place inner end : ℕ) (f : Field) (
     one.text.items one.has_note two
     → three.text.items ≡ two.text.items ++ (range_text t.has_offsets end end ++ closing k)
     → three.has_note ≡ two.has_note
-    → PutsSpans t place (ShowsRecord t.schema.now d k (Some f) n (bytes payload) text) text old
+    → PutsSpans t place (ShowsRecord t.schema.now d b k (Some f) n (bytes payload) text) text old
     before three
-message_shown t d k n root place inner end f l payload text old before one two three some kind
+message_shown t d b k n root place inner end f l payload text old before one two three some kind
     limits is at_end at_inner opened kept put closed kept_too =
     let s = t.schema.now in
     let o = t.has_offsets in
@@ -74,15 +74,15 @@ message_shown t d k n root place inner end f l payload text old before one two t
     ap (λ (x : List Span). x ++ last.spans) both.are
     ∙ ap (λ (x : List Span). (first_line ++ put.spans) ++ x) last.are
     ∙ append_assoc first_line put.spans last_line in
-    let all : PutsSpans t place (ShowsRecord s d k (Some f) n (bytes payload) text)
+    let all : PutsSpans t place (ShowsRecord s d b k (Some f) n (bytes payload) text)
     ((head ++ payload) ++ []) old before three =
     puts_more t place end (Is (first_line ++ put.spans)) (Is last_line)
-    (ShowsRecord s d k (Some f) n (bytes payload) text) (head ++ payload) [] old before
+    (ShowsRecord s d b k (Some f) n (bytes payload) text) (head ++ payload) [] old before
     two.text.items two.has_note three.text.items three.has_note both at_both last
     (message put.are.fields head put.spans is parts kind within put.are.shown spans_are) in
     let text_is : (head ++ payload) ++ [] ≡ text = append-nil (head ++ payload) ∙ sym parts in
     subst (λ (x : List ℕ). PutsSpans t place
-    (ShowsRecord s d k (Some f) n (bytes payload) text) x old before three) text_is all
+    (ShowsRecord s d b k (Some f) n (bytes payload) text) x old before three) text_is all
 
 pub of_message : (d root : ℕ) (f : Field) (payload : List ℕ) → f.kind ≡ kinds.Message root
     → FitsField d f (bytes payload) → IsMessageWithin d payload

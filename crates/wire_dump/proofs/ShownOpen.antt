@@ -1,28 +1,34 @@
 -- The lines of records with a schema, one record or one open group more.
-use Rattle.std.proofs.Common.{◌≡◌, ℕ, suc, ◌+◌, ◌-◌, List, [], ◌∷◌, ◌++◌, length, refl, sym, ap, ◌∙◌, subst, append_assoc, append-nil, arith, Option, Some}
+use Rattle.std.proofs.Common.{◌≡◌, ℕ, suc, ◌+◌, ◌-◌, List, [], ◌∷◌, ◌++◌, length, refl, sym, ap, ◌∙◌, subst, append_assoc, append-nil, arith, Option, None, Some}
 use Rattle.wire_base.specs.declared.tag.WireType.TheVariants.{StartGroup, EndGroup}
 use Rattle.wire_base.specs.Field.{Payload, group, Fields, none, field, push}
 use Rattle.wire_base.specs.Tag.{IsTagSpelling}
 use Rattle.wire_read.specs.Opened.{Group, numbers}
 use Rattle.wire_dynamic.specs.declared.field.Field.{Field}
 use Rattle.wire_dynamic.specs.declared.schema.Schema.{Schema}
-use Rattle.wire_dynamic.specs.Walks.{field_in, innermost}
+use Rattle.wire_dynamic.specs.Walks.{count_unknown, field_in, innermost, unknown_groups}
 use Rattle.wire_dump.specs.Lines.{closing}
-use Rattle.wire_dump.specs.Shows.{Shows, ShowsOpen, ShowsRecord, Span, block, group_opening, line_span, more, nothing, type_in}
+use Rattle.wire_dump.specs.Shows.{Shows, ShowsOpen, ShowsRecord, Span, block, budget_at, group_opening, guesses, guesses_in, line_span, more, nothing, type_in}
 
 -- a record at the end of a list
-pub shows_push : (s : Schema) (d k n : ℕ) (m : Option ℕ) (p : Payload) (fs : Fields) (t u : List ℕ)
-    (ls ms : List Span) → Shows s d k m fs t ls → ShowsRecord s d k (field_in s n m) n p u ms
-    → Shows s d k m (push fs n p) (t ++ u) (ls ++ ms)
-shows_push s d k n m p none t u ls ms (nothing e f) h =
+pub shows_push : (s : Schema) (d b k n : ℕ) (m : Option ℕ) (p : Payload) (fs : Fields) (t u : List ℕ)
+    (ls ms : List Span) → Shows s d b k m fs t ls
+    → ShowsRecord s d b k (field_in s n m) n p u ms → Shows s d b k m (push fs n p) (t ++ u) (ls ++ ms)
+shows_push s d b k n m p none t u ls ms (nothing e f) h =
     more u [] ms [] h (nothing refl refl)
     (ap (λ (x : List ℕ). x ++ u) e ∙ sym (append-nil u))
     (ap (λ (x : List Span). x ++ ms) f ∙ sym (append-nil ms))
-shows_push s d k n m p (field o q others) t u ls ms (more first rest above below one all e f) h =
+shows_push s d b k n m p (field o q others) t u ls ms (more first rest above below one all e f) h =
     more first (rest ++ u) above (below ++ ms) one
-    (shows_push s d k n m p others rest u below ms all h)
+    (shows_push s d b k n m p others rest u below ms all h)
     (ap (λ (x : List ℕ). x ++ u) e ∙ append_assoc first rest u)
     (ap (λ (x : List Span). x ++ ms) f ∙ append_assoc above below ms)
+
+-- how deep payloads are read as messages in a group more
+budget_inside : (m : Option ℕ) (count : ℕ)
+    → guesses - count_unknown m count ≡ guesses_in m (guesses - count)
+budget_inside None count = omega arith
+budget_inside (Some place) count = refl
 
 -- the field of a number in the innermost of the groups
 abbrev pub field_inside : Schema → ℕ → List Group → ℕ → Option Field
@@ -31,16 +37,17 @@ field_inside s root levels n = field_in s n (innermost s root (numbers levels))
 -- a record at the end of the innermost list
 pub open_record : (s : Schema) (d k root n : ℕ) (p : Payload) (levels : List Group) (fs : Fields)
     (t u : List ℕ) (ls ms : List Span) → ShowsOpen s d k root levels fs t ls
-    → ShowsRecord s (d - length levels) (k + length levels) (field_inside s root levels n) n p u ms
+    → ShowsRecord s (d - length levels) (budget_at s root (numbers levels)) (k + length levels)
+    (field_inside s root levels n) n p u ms
     → ShowsOpen s d k root levels (push fs n p) (t ++ u) (ls ++ ms)
 open_record s d k root n p [] fs t u ls ms h r =
     let no_less : d - 0 ≡ d = omega arith in
     let no_more : k + 0 ≡ k = omega arith in
     let found = field_inside s root [] n in
-    let here : ShowsRecord s d k found n p u ms =
-    subst (λ (x : ℕ). ShowsRecord s x k found n p u ms) no_less
-    (subst (λ (x : ℕ). ShowsRecord s (d - 0) x found n p u ms) no_more r) in
-    shows_push s d k n (Some root) p fs t u ls ms h here
+    let here : ShowsRecord s d guesses k found n p u ms =
+    subst (λ (x : ℕ). ShowsRecord s x guesses k found n p u ms) no_less
+    (subst (λ (x : ℕ). ShowsRecord s (d - 0) guesses x found n p u ms) no_more r) in
+    shows_push s d guesses k n (Some root) p fs t u ls ms h here
 open_record s d k root n p (g ∷ outside) fs t u ls ms
     (before, start, body, above, inside, outer, tag, inner, e, f) r =
     let head = group_opening s (k + length outside) g.number
@@ -52,8 +59,8 @@ open_record s d k root n p (g ∷ outside) fs t u ls ms
       inside ++ ms,
       outer,
       tag,
-      shows_push s (d - suc (length outside)) (k + suc (length outside)) n
-          (innermost s root (numbers (g ∷ outside))) p fs body u inside ms inner r,
+      shows_push s (d - suc (length outside)) (budget_at s root (numbers (g ∷ outside)))
+          (k + suc (length outside)) n (innermost s root (numbers (g ∷ outside))) p fs body u inside ms inner r,
       ap (λ (x : List ℕ). x ++ u) e ∙ append_assoc before (start ++ body) u
           ∙ ap (λ (x : List ℕ). before ++ x) (append_assoc start body u),
       ap (λ (x : List Span). x ++ ms) f ∙ append_assoc above (head ++ inside) ms
@@ -93,9 +100,14 @@ open_end s d k root g outside fs t u ls
     let tail = line_span u (closing (k + count)) in
     let less : d - suc count ≡ (d - count) - 1 = omega arith in
     let deeper : k + suc count ≡ (k + count) + 1 = omega arith in
-    let within : Shows s ((d - count) - 1) ((k + count) + 1) (type_in found) fs body inside =
-    subst (λ (x : ℕ). Shows s x ((k + count) + 1) (type_in found) fs body inside) less
-    (subst (λ (x : ℕ). Shows s (d - suc count) x (type_in found) fs body inside) deeper inner) in
+    let around = budget_at s root (numbers outside) in
+    let budget = budget_inside (type_in found) (unknown_groups s root (numbers outside)) in
+    let b = guesses_in (type_in found) around in
+    let within : Shows s ((d - count) - 1) b ((k + count) + 1) (type_in found) fs body inside =
+    subst (λ (x : ℕ). Shows s x b ((k + count) + 1) (type_in found) fs body inside) less
+    (subst (λ (x : ℕ). Shows s (d - suc count) b x (type_in found) fs body inside) deeper
+    (subst (λ (x : ℕ). Shows s (d - suc count) x (k + suc count) (type_in found) fs body inside)
+    budget inner)) in
     let bytes_are : t ++ u ≡ before ++ (start ++ (body ++ u)) =
     ap (λ (x : List ℕ). x ++ u) e ∙ append_assoc before (start ++ body) u
     ∙ ap (λ (x : List ℕ). before ++ x) (append_assoc start body u) in

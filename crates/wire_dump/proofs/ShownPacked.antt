@@ -67,13 +67,13 @@ one_more t k n place end x f w payload rest more old line before mid new h read 
       kept = kept ∙ h.kept;
     }
 
-pub finished : (t : Typed) (d k n place : ℕ) (f : Field) (w : WireType)
+pub finished : (t : Typed) (d b k n place : ℕ) (f : Field) (w : WireType)
     (payload rest text old : List ℕ) (before : Bool) (out : Output)
     → Sofar t k n place (place + length text) f w payload rest old before out → rest ≡ []
     → SpellsRecord n (bytes payload) text → f.is_repeated ≡ true → number_type f.kind ≡ Some w
-    → PutsSpans t place (ShowsRecord t.schema.now d k (Some f) n (bytes payload) text) text old
+    → PutsSpans t place (ShowsRecord t.schema.now d b k (Some f) n (bytes payload) text) text old
     before out
-finished t d k n place f w payload rest text old before out h none is repeated kind =
+finished t d b k n place f w payload rest text old before out h none is repeated kind =
     let all : payload ≡ h.front =
     h.parts ∙ ap (λ (z : List ℕ). h.front ++ z) none ∙ append-nil h.front in
     let spelled = subst (λ (z : List ℕ). SpellsEach (IsNumber w) h.numbers z) (sym all) h.spelled in

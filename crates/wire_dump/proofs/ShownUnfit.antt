@@ -19,23 +19,23 @@ use Rattle.wire_dump.specs.Shows.{FitsField, ShowsRecord, group_line, group_open
 use Rattle.wire_dump.proofs.ShownPut.{but_last, full_printed, noted-note, noted-printed, noted-width, or_false, or_true, plain-note, plain-printed, plain-width}
 use Rattle.wire_dump.proofs.ShownRecord.{line_full, record_full, record_lines}
 
-pub unfit_put : (t : Typed) (d k n place : ℕ) (f : Field) (v : Value)
+pub unfit_put : (t : Typed) (d b k n place : ℕ) (f : Field) (v : Value)
     (text old mid cause : List ℕ) (before : Bool) (new : Output) (y : Layout)
-    → y ≡ record { has_offsets = t.has_offsets; level = k; budget = 10 }
+    → y ≡ record { has_offsets = t.has_offsets; level = k; budget = b }
     → IsRecord n (payload_of v) text → (FitsField d f (payload_of v) → ⊥)
     → t.is_strict ≡ false
     → Puts y place (ItemLines y 0 (item n v) text) text old mid
     → new.text.items ≡ take (length mid - 1) mid ++ note_of f cause
     → new.has_note ≡ true
-    → PutsSpans t place (ShowsRecord t.schema.now d k (Some f) n (payload_of v) text) text old
+    → PutsSpans t place (ShowsRecord t.schema.now d b k (Some f) n (payload_of v) text) text old
     before new
-unfit_put t d k n place f v text old mid cause before new y y_is is never loose puts e kept =
+unfit_put t d b k n place f v text old mid cause before new y y_is is never loose puts e kept =
     let o = t.has_offsets in
-    let z : Layout = record { has_offsets = o; level = k; budget = 10 } in
+    let z : Layout = record { has_offsets = o; level = k; budget = b } in
     let h = subst (λ (x : Layout). Puts x place (ItemLines x 0 (item n v) text) text old mid)
     y_is puts in
     let shows = record_lines z n v text h.lines is h.are in
-    let full = record_full 10 k n (payload_of v) text h.lines shows in
+    let full = record_full b k n (payload_of v) text h.lines shows in
     let note = note_of f cause in
     let put = printed o place h.lines in
     let cut = take (length put - 1) put in
@@ -123,24 +123,24 @@ group_noted t place level n f found text old mid before new m is other loose m_i
     }
 
 -- a record that the schema lacks
-pub guessed_put : (t : Typed) (d k n place : ℕ) (v : Value) (found : Option Field)
+pub guessed_put : (t : Typed) (d b k n place : ℕ) (v : Value) (found : Option Field)
     (text old : List ℕ) (before : Bool) (new : Output) (y : Layout)
-    → y ≡ record { has_offsets = t.has_offsets; level = k; budget = 10 } → found ≡ None
+    → y ≡ record { has_offsets = t.has_offsets; level = k; budget = b } → found ≡ None
     → IsRecord n (payload_of v) text
     → Puts y place (ItemLines y 0 (item n v) text) text old new.text.items
     → new.has_note ≡ before
-    → PutsSpans t place (ShowsRecord t.schema.now d k found n (payload_of v) text) text old before
-    new
-guessed_put t d k n place v found text old before new y y_is lacks is puts kept =
+    → PutsSpans t place (ShowsRecord t.schema.now d b k found n (payload_of v) text) text old
+    before new
+guessed_put t d b k n place v found text old before new y y_is lacks is puts kept =
     let o = t.has_offsets in
-    let z : Layout = record { has_offsets = o; level = k; budget = 10 } in
+    let z : Layout = record { has_offsets = o; level = k; budget = b } in
     let h = subst (λ (x : Layout). Puts x place (ItemLines x 0 (item n v) text) text old
     new.text.items) y_is puts in
     let shows = record_lines z n v text h.lines is h.are in
     let spans = map span_of h.lines in
     record {
       spans = spans;
-      are = subst (λ (x : Option Field). ShowsRecord t.schema.now d k x n (payload_of v) text
+      are = subst (λ (x : Option Field). ShowsRecord t.schema.now d b k x n (payload_of v) text
           spans) (sym lacks) (guessed h.lines is.flat shows refl);
       covers = plain-width h.lines ∙ h.covers;
       written = h.written ∙ ap (λ (x : List ℕ). old ++ x) (sym (plain-printed o place h.lines));
@@ -150,9 +150,9 @@ guessed_put t d k n place v found text old before new y y_is lacks is puts kept 
     }
 
 -- the end of a group
-pub end_lines : (s : Schema) (d k count n : ℕ) (found : Option Field) (v : Value)
+pub end_lines : (s : Schema) (d b k count n : ℕ) (found : Option Field) (v : Value)
     (text : List ℕ) → v ≡ values.GroupEnd
-    → ItemSpans s d k count found (item n v) text (line_span text (closing (k + count)))
-end_lines s d k count n found v text e =
-    subst (λ (w : Value). ItemSpans s d k count found (item n w) text
+    → ItemSpans s d b k count found (item n v) text (line_span text (closing (k + count)))
+end_lines s d b k count n found v text e =
+    subst (λ (w : Value). ItemSpans s d b k count found (item n w) text
     (line_span text (closing (k + count)))) (sym e) refl

@@ -19,7 +19,7 @@ use Rattle.wire_dump.specs.declared.output.Output.{Output}
 use Rattle.wire_dump.specs.declared.output.Typed.{Typed}
 use Rattle.wire_dump.specs.Lines.{closing}
 use Rattle.wire_dump.specs.Shown.{AreRecords, IsFrontText, ItemSpans, PutsText}
-use Rattle.wire_dump.specs.Shows.{ShowsOpen, ShowsRecord, Span, group_opening, line_span, nothing}
+use Rattle.wire_dump.specs.Shows.{ShowsOpen, ShowsRecord, Span, budget_at, group_opening, line_span, nothing}
 use Rattle.wire_dump.proofs.ShownOpen.{field_inside, open_end, open_record, open_start}
 use Rattle.wire_dump.proofs.ShownPut.{or_false, puts_more}
 use Rattle.wire_dump.proofs.Walk.{length-numbers, open_count, put_all-append}
@@ -86,7 +86,7 @@ one_item : (t : Schema) (d k root : ℕ) (found : Option Field) (i : Item) (leve
     → a.groups ≡ numbers levels → Moves i a behind b → IsItem i text
     → IsTold t root found i a.groups
     → ShowsOpen t d k root levels fs front spans
-    → ItemSpans t d k (length b.groups) found i text more
+    → ItemSpans t d (budget_at t root b.groups) k (length b.groups) found i text more
     → Holds t d k root (put i (with levels fs)) (front ++ text) (spans ++ more)
 one_item t d k root found (start n) levels fs a b behind front text spans more same
     (opens, is, groups, limits) tag tells h are =
@@ -123,10 +123,13 @@ one_item t d k root found (whole n p) levels fs a b behind front text spans more
     omega (arith, ap length groups, ap length same, length-numbers levels) in
     let in_it : found ≡ field_inside t root levels n =
     tells ∙ ap (λ (x : List ℕ). field_in t n (innermost t root x)) same in
+    let budget = budget_at t root (numbers levels) in
     open_record t d k root n p levels fs front text spans more h
-    (subst (λ (x : Option Field). ShowsRecord t (d - length levels) (k + length levels) x n p text
-    more) in_it
-    (subst (λ (x : ℕ). ShowsRecord t (d - x) (k + x) found n p text more) count are))
+    (subst (λ (x : Option Field). ShowsRecord t (d - length levels) budget (k + length levels) x n p
+    text more) in_it
+    (subst (λ (x : ℕ). ShowsRecord t (d - x) budget (k + x) found n p text more) count
+    (subst (λ (x : List ℕ). ShowsRecord t (d - length b.groups) (budget_at t root x)
+    (k + length b.groups) found n p text more) (groups ∙ same) are)))
 
 pub next_item : ItemsTellRecords → ReaderGoesOn → (t : Typed) (d k root place : ℕ) (l : Limits)
     (all : List ℕ) (n : ℕ) (v : Value) (found : Option Field) (a b : At) (behind text old : List ℕ)
@@ -134,8 +137,8 @@ pub next_item : ItemsTellRecords → ReaderGoesOn → (t : Typed) (d k root plac
     (h : Sofar t d k root place l all a old before mid half) → Moves (item n v) a behind b
     → a.rest ≡ text ++ b.rest → IsItem (item n v) text → at ≡ place + length h.front
     → found ≡ field_in t.schema.now n (innermost t.schema.now root (told_in v a.groups b.groups))
-    → PutsText t at (ItemSpans t.schema.now d k (length b.groups) found (item n v) text) text
-    mid half new after
+    → PutsText t at (ItemSpans t.schema.now d (budget_at t.schema.now root b.groups) k
+    (length b.groups) found (item n v) text) text mid half new after
     → Sofar t d k root place l all b old before new after
 next_item tell goes_on t d k root place l all n v found a b behind text old before mid half new
     after at h moves parts is at_is tells puts =
@@ -150,7 +153,7 @@ next_item tell goes_on t d k root place l all n v found a b behind text old befo
       parts = h.parts ∙ ap (λ (x : List ℕ). h.front ++ x) parts
           ∙ sym (append_assoc h.front text b.rest);
       puts = puts_more t place at (AreItems s d k root h.items h.front)
-          (ItemSpans s d k (length b.groups) found i text)
+          (ItemSpans s d (budget_at s root b.groups) k (length b.groups) found i text)
           (AreItems s d k root (h.items ++ i ∷ []) (h.front ++ text)) h.front text old before mid
           half new after h.puts at_is puts
           (record {

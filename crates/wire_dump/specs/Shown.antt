@@ -17,7 +17,7 @@ use Rattle.wire_dump.specs.Dumps.{SpellsRecord}
 use Rattle.wire_dump.specs.Lines.{closing}
 use Rattle.wire_dump.specs.Places.{range_text}
 use Rattle.wire_dump.specs.Refused.{IsRefused}
-use Rattle.wire_dump.specs.Shows.{FitsField, Shows, ShowsOpen, ShowsRecord, Span, group_opening, line_span}
+use Rattle.wire_dump.specs.Shows.{FitsField, Shows, ShowsOpen, ShowsRecord, Span, group_opening, guesses, line_span}
 
 -- each line of bytes from the first place to before the second, behind these places
 abbrev pub each_printed : Bool → ℕ → ℕ → List (List ℕ) → List ℕ
@@ -62,7 +62,7 @@ pub record AreRecords (s : Schema) (depth level root : ℕ) (l : Limits) (all : 
   pub fields : Fields
   pub spelled : Spells fields all
   pub fits : Fits (charge fields) l
-  pub shown : Shows s depth level (Some root) fields all spans
+  pub shown : Shows s depth guesses level (Some root) fields all spans
 
 -- the payload of an event that is a record
 abbrev pub payload_of : Value → Payload
@@ -84,13 +84,13 @@ pub record IsUnfit (depth : ℕ) (f : Field) (p : Payload) (old : List ℕ) (new
   pub written : new.text.items ≡ old ++ more
 
 -- the lines of an item of a message, behind which so many groups are open, for its field
-abbrev pub ItemSpans : Schema → ℕ → ℕ → ℕ → Option Field → Item → List ℕ → List Span → Type 0
-ItemSpans s depth level count found (start n) text spans =
+abbrev pub ItemSpans : Schema → ℕ → ℕ → ℕ → ℕ → Option Field → Item → List ℕ → List Span → Type 0
+ItemSpans s depth budget level count found (start n) text spans =
     spans ≡ group_opening s (level + (count - 1)) n found text
-ItemSpans s depth level count found (end n) text spans =
+ItemSpans s depth budget level count found (end n) text spans =
     spans ≡ line_span text (closing (level + count))
-ItemSpans s depth level count found (whole n p) text spans =
-    ShowsRecord s (depth - count) (level + count) found n p text spans
+ItemSpans s depth budget level count found (whole n p) text spans =
+    ShowsRecord s (depth - count) budget (level + count) found n p text spans
 
 -- the lines of what stands before the fault of the bytes
 pub record AreFront (s : Schema) (depth level root : ℕ) (l : Limits) (all : List ℕ)

@@ -14,7 +14,7 @@ use Rattle.wire_dynamic.specs.declared.field.Field.{Field}
 use Rattle.wire_dynamic.specs.declared.field.Kind.{Kind}
 use Rattle.wire_dynamic.specs.declared.field.Kind.TheVariants as kinds
 use Rattle.wire_dynamic.specs.declared.schema.Schema.{Schema}
-use Rattle.wire_dynamic.specs.Walks.{field_in, group_of, innermost}
+use Rattle.wire_dynamic.specs.Walks.{field_in, group_of, innermost, unknown_groups}
 use Rattle.wire_dump.specs.Dumps.{DumpsRecord, SpellsRecord}
 use Rattle.wire_dump.specs.Lines.{closing, escaped, indented, number_line, opening}
 use Rattle.wire_dump.specs.Names.{field_name, shown_name}
@@ -131,78 +131,97 @@ abbrev pub FitsField : ℕ → Field → Payload → Type 0
 FitsField depth f (bytes b) = BytesFit depth f f.kind b
 FitsField depth f p = number_type f.kind ≡ Some (type_of p)
 
+-- ---- payloads that have no field
+
+-- how deep payloads are read as messages in a message whose type the schema tells
+abbrev pub guesses : ℕ
+guesses = 10
+
+-- how deep in a group, whose type is that at this place, if the schema tells it: else one less than
+-- around it
+abbrev pub guesses_in : Option ℕ → ℕ → ℕ
+guesses_in None budget = budget - 1
+guesses_in (Some place) budget = guesses
+
+-- how deep where groups of these numbers are open, the innermost first
+abbrev pub budget_at : Schema → ℕ → List ℕ → ℕ
+budget_at s root groups = guesses - unknown_groups s root groups
+
 -- ---- records
 
 mutual
   -- The lines of a record with number n in a message, which these bytes spell, for its field, if it
-  -- has one. So many levels may stand in the message.
-  pub data ShowsRecord : Schema → ℕ → ℕ → Option Field → ℕ → Payload → List ℕ → List Span
+  -- has one. So many levels may stand in the message, and a budget says how deep payloads that have
+  -- no field are read as messages.
+  pub data ShowsRecord : Schema → ℕ → ℕ → ℕ → Option Field → ℕ → Payload → List ℕ → List Span
       → Type 0 where
-    guessed : {s : Schema} {depth level n : ℕ} {p : Payload} {text : List ℕ} {spans : List Span}
+    guessed : {s : Schema} {depth budget level n : ℕ} {p : Payload} {text : List ℕ} {spans : List Span}
         (lines : List Line)
-        → type_of p ≢ StartGroup → DumpsRecord 10 level n p text lines
+        → type_of p ≢ StartGroup → DumpsRecord budget level n p text lines
         → spans ≡ map span_of lines
-        → ShowsRecord s depth level None n p text spans
-    unfit : {s : Schema} {depth level n : ℕ} {f : Field} {p : Payload} {text : List ℕ}
+        → ShowsRecord s depth budget level None n p text spans
+    unfit : {s : Schema} {depth budget level n : ℕ} {f : Field} {p : Payload} {text : List ℕ}
         {spans : List Span} (lines : List Line) (cause : List ℕ)
         → type_of p ≢ StartGroup → (FitsField depth f p → ⊥)
-        → DumpsRecord 10 level n p text lines → spans ≡ noted (note_of f cause) lines
-        → ShowsRecord s depth level (Some f) n p text spans
-    number : {s : Schema} {depth level n x : ℕ} {f : Field} {p : Payload} {text : List ℕ}
+        → DumpsRecord budget level n p text lines → spans ≡ noted (note_of f cause) lines
+        → ShowsRecord s depth budget level (Some f) n p text spans
+    number : {s : Schema} {depth budget level n x : ℕ} {f : Field} {p : Payload} {text : List ℕ}
         {spans : List Span} (line : List ℕ)
         → SpellsRecord n p text → FitsField depth f p → number_in p ≡ Some x
         → IsNumberLine s level n f x line → spans ≡ line_span text line
-        → ShowsRecord s depth level (Some f) n p text spans
-    packed : {s : Schema} {depth level n : ℕ} {f : Field} {payload text : List ℕ}
+        → ShowsRecord s depth budget level (Some f) n p text spans
+    packed : {s : Schema} {depth budget level n : ℕ} {f : Field} {payload text : List ℕ}
         {spans : List Span} (xs : List ℕ) (texts : List (List ℕ))
         → SpellsRecord n (bytes payload) text → f.is_repeated ≡ true
         → IsPackedOf f.kind xs payload → AllZip (IsNumberLine s level n f) xs texts
         → spans ≡ record { width = length text; texts = texts; has_note = false } ∷ []
-        → ShowsRecord s depth level (Some f) n (bytes payload) text spans
-    string : {s : Schema} {depth level n : ℕ} {f : Field} {payload text : List ℕ}
+        → ShowsRecord s depth budget level (Some f) n (bytes payload) text spans
+    string : {s : Schema} {depth budget level n : ℕ} {f : Field} {payload text : List ℕ}
         {spans : List Span}
         → SpellsRecord n (bytes payload) text → IsString f.kind
         → BytesFit depth f f.kind payload
         → spans ≡ line_span text (value_line s level f (string_value payload))
-        → ShowsRecord s depth level (Some f) n (bytes payload) text spans
-    message : {s : Schema} {depth level n place : ℕ} {f : Field} {payload text : List ℕ}
+        → ShowsRecord s depth budget level (Some f) n (bytes payload) text spans
+    message : {s : Schema} {depth budget level n place : ℕ} {f : Field} {payload text : List ℕ}
         {spans : List Span} (fs : Fields) (head : List ℕ) (inside : List Span)
         → SpellsRecord n (bytes payload) text → text ≡ head ++ payload
         → f.kind ≡ kinds.Message place → IsMessageWithin depth payload
-        → Shows s (depth - 1) (level + 1) (Some place) fs payload inside
+        → Shows s (depth - 1) guesses (level + 1) (Some place) fs payload inside
         → spans ≡ line_span head (field_opening s level f)
         ++ (inside ++ line_span [] (closing level))
-        → ShowsRecord s depth level (Some f) n (bytes payload) text spans
-    block : {s : Schema} {depth level n : ℕ} {found : Option Field} {fs : Fields}
+        → ShowsRecord s depth budget level (Some f) n (bytes payload) text spans
+    block : {s : Schema} {depth budget level n : ℕ} {found : Option Field} {fs : Fields}
         {text : List ℕ} {spans : List Span} (start body end : List ℕ) (inside : List Span)
         → IsTagSpelling n StartGroup start
-        → Shows s (depth - 1) (level + 1) (type_in found) fs body inside
+        → Shows s (depth - 1) (guesses_in (type_in found) budget) (level + 1) (type_in found) fs
+        body inside
         → IsTagSpelling n EndGroup end → text ≡ start ++ (body ++ end)
         → spans ≡ group_opening s level n found start ++ (inside ++ line_span end (closing level))
-        → ShowsRecord s depth level found n (group fs) text spans
+        → ShowsRecord s depth budget level found n (group fs) text spans
 
   -- the lines of records, which these bytes spell, in a message of the type at this place, if the
   -- schema tells it
-  pub data Shows : Schema → ℕ → ℕ → Option ℕ → Fields → List ℕ → List Span → Type 0 where
-    nothing : {s : Schema} {depth level : ℕ} {place : Option ℕ} {text : List ℕ}
+  pub data Shows : Schema → ℕ → ℕ → ℕ → Option ℕ → Fields → List ℕ → List Span → Type 0 where
+    nothing : {s : Schema} {depth budget level : ℕ} {place : Option ℕ} {text : List ℕ}
         {spans : List Span}
-        → text ≡ [] → spans ≡ [] → Shows s depth level place none text spans
-    more : {s : Schema} {depth level n : ℕ} {place : Option ℕ} {p : Payload} {others : Fields}
+        → text ≡ [] → spans ≡ [] → Shows s depth budget level place none text spans
+    more : {s : Schema} {depth budget level n : ℕ} {place : Option ℕ} {p : Payload} {others : Fields}
         {text : List ℕ} {spans : List Span} (first rest : List ℕ) (above below : List Span)
-        → ShowsRecord s depth level (field_in s n place) n p first above
-        → Shows s depth level place others rest below
+        → ShowsRecord s depth budget level (field_in s n place) n p first above
+        → Shows s depth budget level place others rest below
         → text ≡ first ++ rest → spans ≡ above ++ below
-        → Shows s depth level place (field n p others) text spans
+        → Shows s depth budget level place (field n p others) text spans
 
 -- the lines of records where groups are open, the innermost first
 abbrev pub ShowsOpen : Schema → ℕ → ℕ → ℕ → List Group → Fields → List ℕ → List Span → Type 0
-ShowsOpen s depth level root [] fs text spans = Shows s depth level (Some root) fs text spans
+ShowsOpen s depth level root [] fs text spans =
+    Shows s depth guesses level (Some root) fs text spans
 ShowsOpen s depth level root (g ∷ outside) fs text spans =
     (before start body : List ℕ) × (above inside : List Span)
     × ShowsOpen s depth level root outside g.before before above
     × IsTagSpelling g.number StartGroup start
-    × Shows s (depth - suc (length outside)) (level + suc (length outside))
-    (innermost s root (numbers (g ∷ outside))) fs body inside
+    × Shows s (depth - suc (length outside)) (budget_at s root (numbers (g ∷ outside)))
+    (level + suc (length outside)) (innermost s root (numbers (g ∷ outside))) fs body inside
     × (text ≡ before ++ (start ++ body))
     × (spans ≡ above ++ (group_opening s (level + length outside) g.number
     (field_in s g.number (innermost s root (numbers outside))) start ++ inside))

@@ -14,7 +14,7 @@ pub(crate) struct Layout {
 }
 
 /// How deep payloads are read as messages, and groups stand inside one another in them.
-const BUDGET: u32 = 10;
+pub(crate) const BUDGET: u32 = 10;
 
 /// What stands before a line: the places of its bytes, where they are shown.
 #[derive(Clone, Copy, Debug)]
@@ -29,10 +29,17 @@ impl Layout {
     pub(crate) fn new(has_offsets: bool, level: u32) -> Layout
         ensures { result ≡ record { has_offsets = has_offsets; level = level; budget = 10 } }
     {
+        Layout::guessing(has_offsets, level, BUDGET)
+    }
+
+    /// Of lines so many levels further in, and of messages in payloads so deep.
+    pub(crate) fn guessing(has_offsets: bool, level: u32, budget: u32) -> Layout
+        ensures { result ≡ record { has_offsets = has_offsets; level = level; budget = budget } }
+    {
         Layout {
             has_offsets,
             level,
-            budget: BUDGET,
+            budget,
         }
     }
 

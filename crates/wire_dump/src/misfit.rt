@@ -3,7 +3,7 @@ use crate::field_name::shown_name;
 use std::alloc::{AllocError, Global};
 use std::fmt;
 use wire_codec::DecodeError;
-use wire_dynamic::{Told, Walk};
+use wire_dynamic::{Field, Told, Walk};
 use wire_read::{Reader, Value, laws};
 
 /// What is said of a record that is no value of its field's type.
@@ -63,49 +63,80 @@ impl Misfit {
     }
 }
 
-/// The step of a path to an event: the names of the groups that it stands in, and its own, with its
-/// index where there may be more of its field.
+/// The step of a path to an event: the names of the groups that it stands in, and its own, each with
+/// its index where there may be more of its field.
 pub(crate) fn step_to(
     alloc: Global,
     walk: &Walk<'_>,
     told: &Told<'_, '_>,
     bytes: &[u8],
 ) -> Result<String, AllocError> {
+    let front = &bytes[..told.event.start.min(bytes.len())];
+    let open = walk.reader().open_groups();
     let mut step = String::new(alloc);
-    let mut groups = walk.reader().open_groups().len();
+    let mut groups = open.len();
     if let Value::GroupStart = told.event.value {
         groups = groups.saturating_sub(1);
     }
     for count in 0..groups {
-        if let Some(field) = walk.group(count) {
-            step.push_str(shown_name(field))?;
+        if let (Some(field), Some(number)) = (walk.group(count), open.get(count)) {
+            let before = Before {
+                front,
+                number: *number,
+                groups: count,
+            };
+            push_name(alloc, &mut step, field, &before)?;
             step.push('.')?;
         }
     }
     if let Some(field) = told.field {
-        step.push_str(shown_name(field))?;
-        if field.is_repeated {
-            let front = &bytes[..told.event.start.min(bytes.len())];
-            let index = index_of(front, told.event.number, groups);
-            step.push_str(&format!(in alloc; "[{index}]")?)?;
-        }
+        let before = Before {
+            front,
+            number: told.event.number,
+            groups,
+        };
+        push_name(alloc, &mut step, field, &before)?;
     }
     Ok(step)
 }
 
-// How many records of this number stand in the groups that are open at the end of bytes.
-fn index_of(front: &[u8], number: u32, groups: usize) -> usize {
-    laws::reader_moves_on();
-    let mut reader = Reader::new(100);
-    let mut index: usize = 0;
-    while let Ok(Some(event)) = reader.next(front) {
-        let open = reader.open_groups().len();
-        let is_start = matches!(event.value, Value::GroupStart);
-        if open < groups {
-            index = 0;
-        } else if open == groups && event.number == number && !is_start {
-            index = index.saturating_add(1);
-        }
+// Puts the name of a field, with the index of its record where there may be more of them.
+fn push_name(
+    alloc: Global,
+    step: &mut String,
+    field: &Field,
+    before: &Before<'_>,
+) -> Result<(), AllocError> {
+    step.push_str(shown_name(field))?;
+    if field.is_repeated {
+        let index = before.count();
+        step.push_str(&format!(in alloc; "[{index}]")?)?;
     }
-    index
+    Ok(())
+}
+
+// What stands before a record: the bytes, its number, and how many groups it stands in.
+struct Before<'a> {
+    front: &'a [u8],
+    number: u32,
+    groups: usize,
+}
+
+impl Before<'_> {
+    // How many records of the number stand in the innermost of the groups.
+    fn count(&self) -> usize {
+        laws::reader_moves_on();
+        let mut reader = Reader::new(100);
+        let mut count: usize = 0;
+        while let Ok(Some(event)) = reader.next(self.front) {
+            let open = reader.open_groups().len();
+            let is_start = matches!(event.value, Value::GroupStart);
+            if open < self.groups {
+                count = 0;
+            } else if open == self.groups && event.number == self.number && !is_start {
+                count = count.saturating_add(1);
+            }
+        }
+        count
+    }
 }

@@ -15,7 +15,7 @@ ghost use Rattle.wire_dump.specs.Shown.{payload_of, AreRecords, IsRecord, IsShow
 ghost use Rattle.wire_dump.specs.Shows.{ShowsRecord};
 
 use crate::dump::put_item;
-use crate::layout::Layout;
+use crate::layout::{BUDGET, Layout};
 use crate::line::put_closing;
 use crate::misfit::{Cause, Misfit, step_to};
 use crate::output::{Output, Typed};
@@ -90,7 +90,8 @@ impl Typed<'_> {
             let count = walk.reader().open_groups().len() as u32;
             let text = &bytes[told.event.start..told.event.end];
             let place = spot.place + told.event.start;
-            match self.put_told(out, spot, count, place, &told, text) {
+            let here = spot.within(walk.unknown_groups());
+            match self.put_told(out, here, count, place, &told, text) {
                 Ok(()) => {}
                 Err(unput) => return Err(halt_within(self.alloc, walk, &told, bytes, unput)),
             }
@@ -111,11 +112,12 @@ impl Typed<'_> {
     ) -> Result<(), Unput>
         requires shallow { spot.depth ≤ 100 }
         requires bounded { spot.level + spot.depth ≤ 200 }
+        requires guesses { spot.budget ≤ 10 }
         requires few { count ≤ 100 }
         requires placed { place + length text.now < 2 ^ 64 }
         requires is { IsItem (item told.now.event.number told.now.event.value) text.now }
         ensures ok { OnOk result (PutsSpans self.now place
-            (ItemSpans self.now.schema.now spot.depth spot.level count
+            (ItemSpans self.now.schema.now spot.depth spot.budget spot.level count
             (option_copied told.now.field)
             (item told.now.event.number told.now.event.value) text.now)
             text.now out.old.text.items out.old.has_note out.new) }
@@ -134,10 +136,10 @@ impl Typed<'_> {
                 Ok(put_closing(&mut out.text, margin, level)?)
             }
             Value::Varint(_) | Value::Fixed64(_) | Value::Fixed32(_) | Value::Bytes(_) => {
-                let depth = spot.depth.saturating_sub(count);
                 let spot = Spot {
                     level,
-                    depth,
+                    depth: spot.depth.saturating_sub(count),
+                    budget: spot.budget,
                     place,
                 };
                 self.put_flat(out, spot, told, text)
@@ -156,11 +158,13 @@ impl Typed<'_> {
     ) -> Result<(), Unput>
         requires shallow { spot.depth ≤ 100 }
         requires room { spot.level ≤ 300 }
+        requires guesses { spot.budget ≤ 10 }
         requires bounded { 0 < spot.depth → spot.level + spot.depth ≤ 200 }
         requires placed { spot.place + length text.now < 2 ^ 64 }
         requires is { IsRecord told.now.event.number (payload_of told.now.event.value) text.now }
         ensures ok { OnOk result (PutsSpans self.now spot.place
-            (ShowsRecord self.now.schema.now spot.depth spot.level (option_copied told.now.field)
+            (ShowsRecord self.now.schema.now spot.depth spot.budget spot.level
+            (option_copied told.now.field)
             told.now.event.number (payload_of told.now.event.value) text.now)
             text.now out.old.text.items out.old.has_note out.new) }
         ensures misfit { (m : Misfit) → result ≡ Err (unputs.Misfit m)
@@ -168,7 +172,7 @@ impl Typed<'_> {
     {
         match told.field {
             None => {
-                let layout = Layout::new(self.has_offsets, spot.level);
+                let layout = Layout::guessing(self.has_offsets, spot.level, spot.budget);
                 Ok(put_item(&mut out.text, layout, 0, &told.event, spot.place, text)?)
             }
             Some(field) => {
@@ -188,14 +192,16 @@ impl Typed<'_> {
     fn put_record(&self, out: &mut Output, found: &Record<'_, '_>) -> Result<(), Unput>
         requires shallow { found.now.spot.depth ≤ 100 }
         requires room { found.now.spot.level ≤ 300 }
+        requires guesses { found.now.spot.budget ≤ 10 }
         requires bounded { 0 < found.now.spot.depth
             → found.now.spot.level + found.now.spot.depth ≤ 200 }
         requires placed { found.now.spot.place + length found.now.text.now < 2 ^ 64 }
         requires is { IsRecord found.now.event.number (payload_of found.now.event.value)
             found.now.text.now }
         ensures ok { OnOk result (PutsSpans self.now found.now.spot.place
-            (ShowsRecord self.now.schema.now found.now.spot.depth found.now.spot.level
-            (Some found.now.field.now) found.now.event.number (payload_of found.now.event.value)
+            (ShowsRecord self.now.schema.now found.now.spot.depth found.now.spot.budget
+            found.now.spot.level (Some found.now.field.now) found.now.event.number
+            (payload_of found.now.event.value)
             found.now.text.now) found.now.text.now out.old.text.items out.old.has_note out.new) }
         ensures misfit { (m : Misfit) → result ≡ Err (unputs.Misfit m)
             → IsTrue self.now.is_strict }
@@ -213,14 +219,16 @@ impl Typed<'_> {
     fn put_fitting(&self, out: &mut Output, found: &Record<'_, '_>) -> Result<Option<Cause>, Unput>
         requires shallow { found.now.spot.depth ≤ 100 }
         requires room { found.now.spot.level ≤ 300 }
+        requires guesses { found.now.spot.budget ≤ 10 }
         requires bounded { 0 < found.now.spot.depth
             → found.now.spot.level + found.now.spot.depth ≤ 200 }
         requires placed { found.now.spot.place + length found.now.text.now < 2 ^ 64 }
         requires is { IsRecord found.now.event.number (payload_of found.now.event.value)
             found.now.text.now }
         ensures fits { IfOk result (λ cause. IfNone cause (PutsSpans self.now found.now.spot.place
-            (ShowsRecord self.now.schema.now found.now.spot.depth found.now.spot.level
-            (Some found.now.field.now) found.now.event.number (payload_of found.now.event.value)
+            (ShowsRecord self.now.schema.now found.now.spot.depth found.now.spot.budget
+            found.now.spot.level (Some found.now.field.now) found.now.event.number
+            (payload_of found.now.event.value)
             found.now.text.now) found.now.text.now out.old.text.items out.old.has_note out.new)) }
         ensures unfit { IfOk result (λ cause. IfSome cause (λ _. IsUnfit found.now.spot.depth
             found.now.field.now (payload_of found.now.event.value) out.old.text.items out.new)) }
@@ -257,14 +265,16 @@ impl Typed<'_> {
     ) -> Result<Option<Cause>, Unput>
         requires shallow { found.now.spot.depth ≤ 100 }
         requires room { found.now.spot.level ≤ 300 }
+        requires guesses { found.now.spot.budget ≤ 10 }
         requires bounded { 0 < found.now.spot.depth
             → found.now.spot.level + found.now.spot.depth ≤ 200 }
         requires placed { found.now.spot.place + length found.now.text.now < 2 ^ 64 }
         requires kind { found.now.field.now.kind ≡ kinds.Message root }
         requires is { SpellsRecord found.now.event.number (bytes payload.now) found.now.text.now }
         ensures fits { IfOk result (λ cause. IfNone cause (PutsSpans self.now found.now.spot.place
-            (ShowsRecord self.now.schema.now found.now.spot.depth found.now.spot.level
-            (Some found.now.field.now) found.now.event.number (bytes payload.now)
+            (ShowsRecord self.now.schema.now found.now.spot.depth found.now.spot.budget
+            found.now.spot.level (Some found.now.field.now) found.now.event.number
+            (bytes payload.now)
             found.now.text.now) found.now.text.now out.old.text.items out.old.has_note out.new)) }
         ensures unfit { IfOk result (λ cause. IfSome cause (λ _. IsUnfit found.now.spot.depth
             found.now.field.now (bytes payload.now) out.old.text.items out.new)) }
@@ -289,6 +299,7 @@ impl Typed<'_> {
         let spot = Spot {
             level: found.spot.level + 1,
             depth: found.spot.depth - 1,
+            budget: BUDGET,
             place,
         };
         let mut walk = Walk::new(&*self.schema, root, spot.depth);

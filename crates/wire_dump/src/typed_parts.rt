@@ -73,7 +73,8 @@ impl Typed<'_> {
             let count = walk.reader().open_groups().len() as u32;
             let text = &bytes[told.event.start..told.event.end];
             let place = spot.place + told.event.start;
-            if let Err(unput) = self.put_told(out, spot, count, place, &told, text) {
+            let here = spot.within(walk.unknown_groups());
+            if let Err(unput) = self.put_told(out, here, count, place, &told, text) {
                 return Err(Cut::Stop(halt_within(self.alloc, walk, &told, bytes, unput)));
             }
             if let Err(error) = send_part(sink, &mut out.text) {

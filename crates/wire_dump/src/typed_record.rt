@@ -1,5 +1,5 @@
 //! The lines of records whose fields are known.
-ghost use Rattle.std.specs.Prelude.{◌≡◌, ◌+◌, ◌++◌, ◌^◌, ◌<◌, ◌≤◌, ℕ, Bool, List, IsTrue, IsFalse, OnOk, IfOk, IfSome, IfNone, Err, Some, length, is_some, true};
+ghost use Rattle.std.specs.Prelude.{◌≡◌, ◌+◌, ◌-◌, ◌++◌, ◌^◌, ◌<◌, ◌≤◌, ℕ, Bool, List, IsTrue, IsFalse, OnOk, IfOk, IfSome, IfNone, Err, Some, length, is_some, true};
 ghost use Rattle.std.specs.Option.{option_copied};
 ghost use Rattle.std.specs.Str.{IsUtf8};
 ghost use Rattle.wire_base.specs.Field.{bytes, type_of};
@@ -12,7 +12,7 @@ ghost use Rattle.wire_dump.specs.Shown.{payload_of, IsRecord, IsUnfit, PutsSpans
 ghost use Rattle.wire_dump.specs.Shows.{group_opening, BytesFit, FitsField, IsNumberLine, IsNoString, IsString, ShowsRecord};
 
 use crate::dump::put_item;
-use crate::layout::{Layout, Margin};
+use crate::layout::{BUDGET, Layout, Margin};
 use crate::line::put_opening;
 use crate::misfit::{Cause, Misfit, TYPE_CAUSE};
 use crate::number::{number_type, take_number};
@@ -34,12 +34,33 @@ pub(crate) enum Unput {
 }
 
 /// Where a message or a record stands: how far its lines are indented, how many levels may stand in
-/// it, and the byte of the input at which it begins.
+/// it, how deep payloads that have no field are read as messages, and the byte of the input at which
+/// it begins.
 #[derive(Clone, Copy, Debug)]
 pub(crate) struct Spot {
     pub(crate) level: u32,
     pub(crate) depth: u32,
+    pub(crate) budget: u32,
     pub(crate) place: usize,
+}
+
+impl Spot {
+    /// The same where so many groups are open that the schema lacks.
+    pub(crate) fn within(self, unknown_groups: usize) -> Spot
+        ensures { result ≡ record {
+          level = self.level;
+          depth = self.depth;
+          budget = 10 - unknown_groups;
+          place = self.place;
+        } }
+    {
+        Spot {
+            level: self.level,
+            depth: self.depth,
+            budget: BUDGET - unknown_groups.min(BUDGET as usize) as u32,
+            place: self.place,
+        }
+    }
 }
 
 /// A record that is no group, with its field and its bytes.
@@ -109,14 +130,16 @@ impl Typed<'_> {
         cause: Cause,
     ) -> Result<(), Unput>
         requires room { found.now.spot.level ≤ 300 }
+        requires guesses { found.now.spot.budget ≤ 10 }
         requires placed { found.now.spot.place + length found.now.text.now < 2 ^ 64 }
         requires is { IsRecord found.now.event.number (payload_of found.now.event.value)
             found.now.text.now }
         requires never { FitsField found.now.spot.depth found.now.field.now
             (payload_of found.now.event.value) → ⊥ }
         ensures ok { OnOk result ((before : Bool) → PutsSpans self.now found.now.spot.place
-            (ShowsRecord self.now.schema.now found.now.spot.depth found.now.spot.level
-            (Some found.now.field.now) found.now.event.number (payload_of found.now.event.value)
+            (ShowsRecord self.now.schema.now found.now.spot.depth found.now.spot.budget
+            found.now.spot.level (Some found.now.field.now) found.now.event.number
+            (payload_of found.now.event.value)
             found.now.text.now) found.now.text.now out.old.text.items before out.new) }
         ensures misfit { (m : Misfit) → result ≡ Err (unputs.Misfit m)
             → IsTrue self.now.is_strict }
@@ -124,7 +147,7 @@ impl Typed<'_> {
         if self.is_strict {
             return Err(Unput::Misfit(Misfit::new(self.alloc, found.spot.place, cause)));
         }
-        let layout = Layout::new(self.has_offsets, found.spot.level);
+        let layout = Layout::guessing(self.has_offsets, found.spot.level, found.spot.budget);
         let note = format!(in self.alloc; "{cause}")?;
         put_item(
             &mut out.text,
@@ -150,8 +173,9 @@ impl Typed<'_> {
         requires kind { IsString found.now.field.now.kind }
         requires is { SpellsRecord found.now.event.number (bytes payload.now) found.now.text.now }
         ensures fits { IfOk result (λ cause. IfNone cause (PutsSpans self.now found.now.spot.place
-            (ShowsRecord self.now.schema.now found.now.spot.depth found.now.spot.level
-            (Some found.now.field.now) found.now.event.number (bytes payload.now)
+            (ShowsRecord self.now.schema.now found.now.spot.depth found.now.spot.budget
+            found.now.spot.level (Some found.now.field.now) found.now.event.number
+            (bytes payload.now)
             found.now.text.now) found.now.text.now out.old.text.items out.old.has_note out.new)) }
         ensures unfit { IfOk result (λ cause. IfSome cause (λ _. IsUnfit found.now.spot.depth
             found.now.field.now (bytes payload.now) out.old.text.items out.new)) }
@@ -179,8 +203,9 @@ impl Typed<'_> {
         requires number { number_in (payload_of found.now.event.value) ≡ Some number }
         requires type_is { type_of (payload_of found.now.event.value) ≡ wire_type }
         ensures fits { IfOk result (λ cause. IfNone cause (PutsSpans self.now found.now.spot.place
-            (ShowsRecord self.now.schema.now found.now.spot.depth found.now.spot.level
-            (Some found.now.field.now) found.now.event.number (payload_of found.now.event.value)
+            (ShowsRecord self.now.schema.now found.now.spot.depth found.now.spot.budget
+            found.now.spot.level (Some found.now.field.now) found.now.event.number
+            (payload_of found.now.event.value)
             found.now.text.now) found.now.text.now out.old.text.items out.old.has_note out.new)) }
         ensures unfit { IfOk result (λ cause. IfSome cause (λ _. IsUnfit found.now.spot.depth
             found.now.field.now (payload_of found.now.event.value) out.old.text.items out.new)) }
@@ -204,8 +229,9 @@ impl Typed<'_> {
         requires kind { IsNoString found.now.field.now.kind }
         requires is { SpellsRecord found.now.event.number (bytes payload.now) found.now.text.now }
         ensures fits { IfOk result (λ cause. IfNone cause (PutsSpans self.now found.now.spot.place
-            (ShowsRecord self.now.schema.now found.now.spot.depth found.now.spot.level
-            (Some found.now.field.now) found.now.event.number (bytes payload.now)
+            (ShowsRecord self.now.schema.now found.now.spot.depth found.now.spot.budget
+            found.now.spot.level (Some found.now.field.now) found.now.event.number
+            (bytes payload.now)
             found.now.text.now) found.now.text.now out.old.text.items out.old.has_note out.new)) }
         ensures unfit { IfOk result (λ cause. IfSome cause (λ _. IsUnfit found.now.spot.depth
             found.now.field.now (bytes payload.now) out.old.text.items out.new)) }

@@ -5,7 +5,7 @@ ghost use Rattle.wire_dynamic.specs.Told.{reader_of, schema_of};
 
 use crate::fault_line::{RecordsPlace, tell_named_fault};
 use crate::input::{input, read};
-use crate::layout::Layout;
+use crate::layout::{BUDGET, Layout};
 use crate::line::{put_closing, put_frame_opening};
 use crate::missing::Missing;
 use crate::options::Options;
@@ -222,6 +222,7 @@ impl TypedRun<'_> {
         Spot {
             level,
             depth: self.options.context.depth().min(100),
+            budget: BUDGET,
             place,
         }
     }

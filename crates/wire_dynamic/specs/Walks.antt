@@ -1,5 +1,5 @@
 -- Which field a record is of, by the groups that it stands in.
-use Rattle.std.specs.Prelude.{ℕ, List, [], ◌∷◌, Option, None, Some, option_and_then, reverse, slice_get, take}
+use Rattle.std.specs.Prelude.{ℕ, suc, List, [], ◌∷◌, Option, None, Some, option_and_then, reverse, slice_get, take}
 use Rattle.wire_read.specs.declared.event.Value.{Value}
 use Rattle.wire_read.specs.declared.event.Value.TheVariants.{GroupEnd}
 use Rattle.wire_dynamic.specs.declared.field.Field.{Field}
@@ -23,6 +23,19 @@ abbrev pub innermost : Schema → ℕ → List ℕ → Option ℕ
 innermost s root [] = Some root
 innermost s root (n ∷ outside) =
     option_and_then (λ (f : Field). group_of f.kind) (field_in s n (innermost s root outside))
+
+-- how many groups the schema lacks behind a group more, whose type is that at this place, if it has
+-- one, where so many are lacking around it
+abbrev pub count_unknown : Option ℕ → ℕ → ℕ
+count_unknown None count = suc count
+count_unknown (Some place) count = 0
+
+-- How many groups are open from the outermost on that the schema lacks, where groups of these
+-- numbers are, the innermost first: it lacks what stands in one that it lacks.
+abbrev pub unknown_groups : Schema → ℕ → List ℕ → ℕ
+unknown_groups s root [] = 0
+unknown_groups s root (n ∷ outside) =
+    count_unknown (innermost s root (n ∷ outside)) (unknown_groups s root outside)
 
 -- the field of the group that stands within so many others, where groups of these numbers are open,
 -- the outermost first

@@ -5,7 +5,7 @@ ghost use Rattle.wire_base.specs.Limits.{uncounted};
 ghost use Rattle.wire_read.specs.Budget.{read_limits};
 ghost use Rattle.wire_read.specs.Reading.{at, groups_of, Begins, Gives, IsDone, Stops};
 ghost use Rattle.wire_dynamic.specs.Told.{reader_of, root_of, schema_of, IsSameWalk};
-ghost use Rattle.wire_dynamic.specs.Walks.{field_in, group_field, group_of, innermost, told_in};
+ghost use Rattle.wire_dynamic.specs.Walks.{field_in, group_field, group_of, innermost, told_in, unknown_groups};
 
 use crate::field::{Field, Kind};
 use crate::schema::Schema;
@@ -33,6 +33,7 @@ impl<'s> Walk<'s> {
             root,
             reader: Reader::within(context),
             innermost: Some(root),
+            known: 0,
         }
     }
 
@@ -47,6 +48,7 @@ impl<'s> Walk<'s> {
             root,
             reader: Reader::new(depth),
             innermost: Some(root),
+            known: 0,
         }
     }
 
@@ -63,6 +65,15 @@ impl<'s> Walk<'s> {
             (groups_of (reader_of self.now)) }
     {
         self.innermost
+    }
+
+    /// How many groups are open from the outermost on that the schema lacks: none where it tells
+    /// the type of the message that stands innermost.
+    pub fn unknown_groups(&self) -> usize
+        ensures { result ≡ unknown_groups (schema_of self.now) (root_of self.now)
+            (groups_of (reader_of self.now)) }
+    {
+        self.reader.open_groups().len() - self.known
     }
 
     /// The next event in these bytes, which are those of each call before, with its field: that of
@@ -88,13 +99,18 @@ impl<'s> Walk<'s> {
         let Some(event) = self.reader.next(bytes)? else {
             return Ok(None);
         };
-        if let Value::GroupEnd = event.value {
-            self.innermost = self.schema.innermost(self.root, self.reader.open_groups());
-        }
-        let field = field_of(self.schema, self.innermost, event.number);
-        if let Value::GroupStart = event.value {
-            self.innermost = group_place(field);
-        }
+        let around = match event.value {
+            Value::GroupEnd => self.schema.innermost(self.root, self.reader.open_groups()),
+            _ => self.innermost,
+        };
+        let field = field_of(self.schema, around, event.number);
+        let innermost = match event.value {
+            Value::GroupStart => group_place(field),
+            _ => around,
+        };
+        let known = known_groups(innermost, self.known, self.reader.open_groups().len());
+        self.innermost = innermost;
+        self.known = known;
         Ok(Some(Told { event, field }))
     }
 
@@ -132,6 +148,18 @@ fn field_of(schema: &Schema, place: Option<usize>, number: u32) -> Option<&Field
     ensures { option_copied result ≡ field_in schema.now number place }
 {
     schema.field(place?, number)
+}
+
+// How many groups are open up to the first that the schema lacks, of so many, where the type that
+// stands innermost is that at this place, and where there were so many before.
+fn known_groups(innermost: Option<usize>, known: usize, count: usize) -> usize
+    ensures yes { IfSome innermost (λ _. result ≡ count) }
+    ensures no { IfNone innermost (result ≡ known) }
+{
+    match innermost {
+        Some(_) => count,
+        None => known,
+    }
 }
 
 // The place of the type of a field that is a group.

@@ -10,6 +10,7 @@ use Rattle.wire_dynamic.specs.Walks.{field_in, innermost, told_in}
 use Rattle.wire_dump.specs.declared.layout.Layout.{Layout}
 use Rattle.wire_dump.specs.declared.layout.Margin.{Margin}
 use Rattle.wire_dump.specs.declared.typed.Halt.TheVariants as halts
+use Rattle.wire_dump.specs.declared.typed_record.Spot.{Spot}
 use Rattle.wire_dump.specs.Lines.{closing}
 use Rattle.wire_dump.specs.Places.{range_text}
 use Rattle.wire_dump.specs.Shown.{AreRecords, IsShownFront, ItemSpans, PutsSpans}
@@ -19,6 +20,7 @@ use Rattle.wire_dump.proofs.ShownMessage.{broken_inside, message_shown}
 use Rattle.wire_dump.proofs.ShownPut.{one_line}
 use Rattle.wire_dump.proofs.ShownUnfit.{end_lines, guessed_put}
 use Rattle.wire_dump.proofs.ShownWalk.{begun, finished, next_item, stopped}
+use Rattle.wire_dump.proofs.Spots.{spot_within, within_here}
 use Rattle.wire_dump.proofs.Texts.{cut_out, event_text}
 use Rattle.wire_dump.proofs.Walk.{counted_open, few_open}
 use Rattle.wire_dump.proofs.output.Typed.+typed.Goals as goal
@@ -70,7 +72,7 @@ put_embedded-returns-in_ok-put_closing-in-Ok-clause-fits t c =
     tail c.in_ok-put_closing-in-Ok.ensures) in
     let put = subst (λ (x : ℕ). PutsSpans y inner (AreRecords s (d - 1) (k + 1) x l payload)
     payload one c.args.out.now.has_note two) c.new-walk.ensures.root c.in-Ok.ensures.ok in
-    message_shown y d k r.event.number c.args.root place inner end f l payload r.text.now old
+    message_shown y d r.spot.budget k r.event.number c.args.root place inner end f l payload r.text.now old
     c.args.out.now.has_note
     (record { text = c.put_opening.new.out; has_note = c.args.out.now.has_note }) two
     (record { text = c.put_closing.new.out; has_note = two.has_note }) some c.requires.kind limits
@@ -105,11 +107,11 @@ pub put_flat-returns-in_ok-put_item-in-None-clause-ok :
     goal.put_flat-returns-in_ok-put_item-in-None-clause-ok
 put_flat-returns-in_ok-put_item-in-None-clause-ok t c =
     let told = c.args.told.now in
-    guessed_put c.args.self.now c.args.spot.depth c.args.spot.level told.event.number
-    c.args.spot.place told.event.value (option_copied told.field) c.args.text.now
+    guessed_put c.args.self.now c.args.spot.depth c.args.spot.budget c.args.spot.level
+    told.event.number c.args.spot.place told.event.value (option_copied told.field) c.args.text.now
     c.args.out.now.text.items c.args.out.now.has_note
-    (record { text = c.put_item.new.out; has_note = c.args.out.now.has_note }) c.new-layout.result
-    c.new-layout.ensures (ap option_copied c.in-None.is) c.requires.is
+    (record { text = c.put_item.new.out; has_note = c.args.out.now.has_note }) c.guessing.result
+    c.guessing.ensures (ap option_copied c.in-None.is) c.requires.is
     c.in_ok-put_item-in-None.ensures refl
 
 pub put_told-returns-in_ok-put_closing-in-GroupEnd-clause-ok :
@@ -126,11 +128,11 @@ put_told-returns-in_ok-put_closing-in-GroupEnd-clause-ok t c =
     ≡ old ++ (range_text m.is_shown m.start m.end ++ closing level)) c.margin-margin.ensures
     c.in_ok-put_closing-in-GroupEnd.ensures in
     one_line y c.args.place
-    (ItemSpans y.schema.now c.args.spot.depth c.args.spot.level c.args.count
+    (ItemSpans y.schema.now c.args.spot.depth c.args.spot.budget c.args.spot.level c.args.count
     (option_copied told.field) (item n v) c.args.text.now) c.args.text.now (closing level) old
     c.args.out.now.has_note
     (record { text = c.put_closing.new.out; has_note = c.args.out.now.has_note })
-    (end_lines y.schema.now c.args.spot.depth c.args.spot.level c.args.count n
+    (end_lines y.schema.now c.args.spot.depth c.args.spot.budget c.args.spot.level c.args.count n
     (option_copied told.field) v c.args.text.now c.in-GroupEnd.is) put refl
 
 -- ---- messages
@@ -164,7 +166,9 @@ put_message-put_told-requires t c =
     let few = few_open new c.open_groups.result.now
     (c.open_groups.ensures ∙ ap groups_of c.reader.ensures) in
     let placed : place + length text < 2 ^ 64 = omega (arith, cut.within, c.requires.placed) in
-    (search rules, (c.requires.shallow, (c.requires.bounded, (few, (placed, cut.is)))))
+    let within = spot_within c.args.spot c.unknown_groups.result c.within.result c.within.ensures in
+    let (shallow, bounded, guesses) = within c.requires.shallow c.requires.bounded in
+    (search rules, (shallow, (bounded, (guesses, (few, (placed, cut.is))))))
 
 pub put_message-loop-told-preserved : goal.put_message-loop-told-preserved
 put_message-loop-told-preserved t c =
@@ -195,10 +199,14 @@ put_message-loop-told-preserved t c =
     ∙ ap (λ (x : ℕ). field_in s n (innermost s x (told_in v a.groups b.groups))) same_root in
     let count = counted_open (reader_of c.next.new.self) c.open_groups.result.now
     (c.open_groups.ensures ∙ ap groups_of c.reader.ensures) in
-    let puts = subst (λ (x : ℕ). PutsSpans y place
-    (ItemSpans s d k x (option_copied told.field) (item n v) text) text
-    c.loop-told.out.text.items c.loop-told.out.has_note c.put_told.new.out) count
-    c.in-Ok.ensures.ok in (
+    let Puts = λ (x : Spot) (groups : ℕ). PutsSpans y place
+    (ItemSpans s x.depth x.budget x.level groups (option_copied told.field) (item n v) text) text
+    c.loop-told.out.text.items c.loop-told.out.has_note c.put_told.new.out in
+    let here = within_here s root c.args.spot c.next.new.self c.unknown_groups.result
+    c.within.result c.within.ensures c.unknown_groups.ensures
+    (c.next.ensures.same.schema ∙ same_schema) (c.next.ensures.same.root ∙ same_root) in
+    let puts = subst (λ (x : Spot). Puts x (length b.groups)) here
+    (subst (λ (x : ℕ). Puts c.within.result x) count c.in-Ok.ensures.ok) in (
       next_item c.items_tell_records.ensures c.reader_goes_on.ensures y d k root
           c.args.spot.place (limits_of (reader_of c.args.walk.now)) all n v
           (option_copied told.field) a b given.behind text c.args.out.now.text.items

@@ -38,7 +38,8 @@ returns-clause-fits c =
     nat_eq-true (length c.loop-rest.rest.now) 0 (sym c.is_empty.ensures ∙ empty) in
     let none = nothing_in c.loop-rest.rest.now zero in
     let repeated : r.field.now.is_repeated ≡ true = search rules in
-    finished c.args.self.now r.spot.depth r.spot.level r.event.number r.spot.place r.field.now
+    finished c.args.self.now r.spot.depth r.spot.budget r.spot.level r.event.number r.spot.place
+    r.field.now
     c.in-Some.wire_type c.args.payload.now c.loop-rest.rest.now r.text.now
     c.args.out.now.text.items c.args.out.now.has_note c.loop-rest.out c.loop-rest.invariant none
     c.requires.is repeated (sym c.number_type.ensures ∙ c.in-Some.is)

@@ -14,8 +14,8 @@ returns-clause-fits c =
     let kind : number_type r.field.now.kind ≡ Some c.args.wire_type = search rules in
     let (line, is, put) = c.in_ok-put_number.ensures in
     one_line t r.spot.place
-    (ShowsRecord t.schema.now r.spot.depth r.spot.level (Some r.field.now) r.event.number p
-    r.text.now) r.text.now line c.args.out.now.text.items c.args.out.now.has_note
+    (ShowsRecord t.schema.now r.spot.depth r.spot.budget r.spot.level (Some r.field.now)
+    r.event.number p r.text.now) r.text.now line c.args.out.now.text.items c.args.out.now.has_note
     (record { text = c.put_number.new.out; has_note = c.args.out.now.has_note })
     (number line c.requires.is.spelled
     (single_fits r.spot.depth c.args.number r.field.now p c.requires.number

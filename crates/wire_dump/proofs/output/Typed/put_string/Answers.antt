@@ -22,7 +22,7 @@ returns-clause-fits c =
     let put = subst (λ (m : Margin). new ≡ old ++ (range_text m.is_shown m.start m.end
     ++ value_line s r.spot.level r.field.now text)) c.margin.ensures of_line in
     one_line t r.spot.place
-    (ShowsRecord s r.spot.depth r.spot.level (Some r.field.now) r.event.number
+    (ShowsRecord s r.spot.depth r.spot.budget r.spot.level (Some r.field.now) r.event.number
     (bytes c.args.payload.now) r.text.now) r.text.now
     (value_line s r.spot.level r.field.now text) old c.args.out.now.has_note
     (record { text = c.put_string.new.out; has_note = c.args.out.now.has_note })

@@ -8,9 +8,12 @@ use Rattle.wire_dynamic.specs.Told.{reader_of, root_of, schema_of}
 use Rattle.wire_dynamic.specs.Walks.{field_in, innermost, told_in}
 use Rattle.wire_dump.specs.declared.parts.Cut.TheVariants as cuts
 use Rattle.wire_dump.specs.declared.typed.Halt.TheVariants as halts
+use Rattle.wire_dump.specs.declared.typed_record.Spot.{Spot}
 use Rattle.wire_dump.specs.Shown.{ItemSpans, PutsSpans}
+use Rattle.wire_dump.specs.Shows.{budget_at}
 use Rattle.wire_dump.proofs.Sent.{more_sent, none_sent, spans_behind}
 use Rattle.wire_dump.proofs.ShownWalk.{Sofar, begun, finished, next_item, stopped}
+use Rattle.wire_dump.proofs.Spots.{spot_within, within_here}
 use Rattle.wire_dump.proofs.Texts.{cut_out, event_text}
 use Rattle.wire_dump.proofs.Walk.{counted_open, few_open}
 use Rattle.wire_dump.proofs.output.Typed.write_message.Goals as goal
@@ -49,9 +52,12 @@ put_told-requires g c =
     let few = few_open new c.open_groups.result.now
     (c.open_groups.ensures ∙ ap groups_of c.reader.ensures) in
     let placed : place + length text < 2 ^ 64 = omega (arith, cut.within, c.requires.placed) in
+    let within = spot_within c.args.spot c.unknown_groups.result c.within.result c.within.ensures in
+    let (shallow, bounded, guesses) = within c.requires.shallow c.requires.bounded in
     record {
-      shallow = c.requires.shallow;
-      bounded = c.requires.bounded;
+      shallow = shallow;
+      bounded = bounded;
+      guesses = guesses;
       few = few;
       placed = placed;
       is = cut.is;
@@ -90,9 +96,14 @@ loop-told-preserved g c =
     ∙ ap (λ (x : ℕ). field_in s n (innermost s x (told_in v a.groups b.groups))) same_root in
     let count = counted_open (reader_of c.next.new.self) c.open_groups.result.now
     (c.open_groups.ensures ∙ ap groups_of c.reader.ensures) in
-    let puts = subst (λ (x : ℕ). PutsSpans y place
-    (ItemSpans s d k x (option_copied told.field) (item n v) text) text mid.text.items mid.has_note
-    new) count c.in_default-put_told.ensures.ok in (
+    let Puts = λ (x : Spot) (groups : ℕ). PutsSpans y place
+    (ItemSpans s x.depth x.budget x.level groups (option_copied told.field) (item n v) text) text
+    mid.text.items mid.has_note new in
+    let here = within_here s root c.args.spot c.next.new.self c.unknown_groups.result
+    c.within.result c.within.ensures c.unknown_groups.ensures
+    (c.next.ensures.same.schema ∙ same_schema) (c.next.ensures.same.root ∙ same_root) in
+    let puts = subst (λ (x : Spot). Puts x (length b.groups)) here
+    (subst (λ (x : ℕ). Puts c.within.result x) count c.in_default-put_told.ensures.ok) in (
       more_sent (g.W.Write.contents c.args.sink.now) (g.W.Write.contents c.loop-told.sink)
           (g.W.Write.contents c.send_part.new.sink) sent new.text.items c.send_part.new.out.items
           (λ (x : List ℕ). Sofar y d k root c.args.spot.place l all b old.text.items old.has_note x
@@ -103,7 +114,8 @@ loop-told-preserved g c =
           (sent ++ new.text.items) new.has_note place h given.moves cut.parts cut.is
           (ap (λ (x : ℕ). c.args.spot.place + x) cut.start) tells
           (spans_behind y place
-          (ItemSpans s d k (length b.groups) (option_copied told.field) (item n v) text) text sent
+          (ItemSpans s d (budget_at s root b.groups) k (length b.groups)
+          (option_copied told.field) (item n v) text) text sent
           mid.text.items mid.has_note new.text.items new.has_note puts)),
       c.next.ensures.same.schema ∙ same_schema,
       c.next.ensures.same.root ∙ same_root,

@@ -1,5 +1,0 @@
-use Rattle.std.proofs.Common.{drop, length}
-use Rattle.wire_dump.proofs.misfit.index_of.Given as goal
-
-abbrev pub decreases-loop-event : goal.decreases-loop-event
-decreases-loop-event l = length (drop l.reader.place l.front)
