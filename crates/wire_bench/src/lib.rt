@@ -10,6 +10,7 @@
 
 mod messages;
 mod puts;
+mod reports;
 mod ropes;
 mod strings;
 mod unknown;

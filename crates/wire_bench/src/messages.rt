@@ -6,8 +6,8 @@ use std::alloc::Global;
 use wire_codec::{DecodeError, Message, borrow_bytes};
 use wire_samples::{Node, Person};
 
-// The texts of the persons of a log.
-fn payloads(alloc: Global, log: &[u8]) -> Result<Vec<&[u8]>, DecodeError> {
+/// The texts of the messages of a log.
+pub(crate) fn payloads(alloc: Global, log: &[u8]) -> Result<Vec<&[u8]>, DecodeError> {
     let mut payloads = Vec::new(alloc);
     let mut rest = log;
     while !rest.is_empty() {
