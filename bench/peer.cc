@@ -1,5 +1,4 @@
-// The same work by C++ protobuf. Each function does its work so many times and answers what the
-// last round gave: 0 where it was refused.
+// The same work by C++ protobuf.
 #include <google/protobuf/io/coded_stream.h>
 #include <google/protobuf/io/zero_copy_stream.h>
 #include <google/protobuf/io/zero_copy_stream_impl_lite.h>
@@ -16,6 +15,7 @@
 #include <vector>
 
 #include "node.pb.h"
+#include "peer.h"
 #include "person.pb.h"
 
 using google::protobuf::UnknownFieldSet;
@@ -32,13 +32,6 @@ using wire::samples::Numbers;
 using wire::samples::Person;
 
 namespace {
-
-template <typename Round>
-uint64_t Repeat(uint32_t rounds, Round round) {
-  uint64_t answer = 0;
-  for (uint32_t i = 0; i < rounds; ++i) answer = round();
-  return answer;
-}
 
 // How many bytes each round writes into an array with so much room.
 template <typename Write>
@@ -62,20 +55,6 @@ uint64_t RepeatPutting(const uint8_t* bytes, size_t len, uint32_t rounds, Put pu
   return RepeatWriting(rounds, values.size() * 64, [&](CodedOutputStream* out) {
     for (uint64_t each : values) put(each, out);
   });
-}
-
-// The room is taken at once, so that its growth is not the most that a run holds.
-std::vector<std::string_view> Payloads(const uint8_t* bytes, size_t len) {
-  CodedInputStream in(bytes, static_cast<int>(len));
-  std::vector<std::string_view> payloads;
-  payloads.reserve(len);
-  uint32_t size;
-  while (in.ReadVarint32(&size)) {
-    const char* at = reinterpret_cast<const char*>(bytes) + in.CurrentPosition();
-    payloads.emplace_back(at, size);
-    in.Skip(static_cast<int>(size));
-  }
-  return payloads;
 }
 
 bool IsText(const char* at, size_t size) {

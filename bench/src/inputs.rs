@@ -1,7 +1,9 @@
 //! The inputs, made from fixed seeds: the same bytes in each run.
+use crate::random::Random;
+use crate::report_inputs;
 
-const VARINT: u64 = 0;
-const FIXED64: u64 = 1;
+pub const VARINT: u64 = 0;
+pub const FIXED64: u64 = 1;
 const DELIMITED: u64 = 2;
 const GROUP_START: u64 = 3;
 const GROUP_END: u64 = 4;
@@ -13,64 +15,7 @@ pub struct Input {
     pub units: u64,
 }
 
-/// Numbers that look random, by splitmix64.
-struct Random(u64);
-
-impl Random {
-    fn number(&mut self) -> u64 {
-        self.0 = self.0.wrapping_add(0x9E37_79B9_7F4A_7C15);
-        let mut mixed = self.0;
-        mixed = (mixed ^ (mixed >> 30)).wrapping_mul(0xBF58_476D_1CE4_E5B9);
-        mixed = (mixed ^ (mixed >> 27)).wrapping_mul(0x94D0_49BB_1331_11EB);
-        mixed ^ (mixed >> 31)
-    }
-
-    fn between(&mut self, least: u64, most: u64) -> u64 {
-        least + self.number() % (most - least + 1)
-    }
-
-    fn of_bits(&mut self, bits: u64) -> u64 {
-        (self.number() | 1 << 63) >> (64 - bits)
-    }
-
-    // A number whose shortest varint has so many bytes.
-    fn of_width(&mut self, width: u64) -> u64 {
-        let bits = self.between(7 * width - 6, (7 * width).min(64));
-        self.of_bits(bits)
-    }
-
-    // A number of one to 64 bits, a short one more often than a long one.
-    fn mixed(&mut self) -> u64 {
-        let most = self.between(1, 64);
-        let bits = self.between(1, most);
-        self.of_bits(bits)
-    }
-
-    fn ascii(&mut self, least: u64, most: u64) -> String {
-        let len = self.between(least, most);
-        (0..len)
-            .map(|_| self.between(0x20, 0x7E) as u8 as char)
-            .collect()
-    }
-
-    // Characters of one to four bytes.
-    fn text(&mut self, least: u64, most: u64) -> String {
-        let len = self.between(least, most);
-        (0..len).map(|_| self.character()).collect()
-    }
-
-    fn character(&mut self) -> char {
-        let code = match self.between(0, 9) {
-            0..=3 => self.between(0x20, 0x7E),
-            4..=6 => self.between(0x3B1, 0x44F),
-            7..=8 => self.between(0x4E00, 0x9FFF),
-            _ => self.between(0x1F600, 0x1F64F),
-        };
-        char::from_u32(code as u32).unwrap()
-    }
-}
-
-fn put_varint(value: u64, text: &mut Vec<u8>) {
+pub fn put_varint(value: u64, text: &mut Vec<u8>) {
     let mut rest = value;
     while rest >= 0x80 {
         text.push(rest as u8 | 0x80);
@@ -79,16 +24,16 @@ fn put_varint(value: u64, text: &mut Vec<u8>) {
     text.push(rest as u8);
 }
 
-fn put_tag(number: u64, wire_type: u64, text: &mut Vec<u8>) {
+pub fn put_tag(number: u64, wire_type: u64, text: &mut Vec<u8>) {
     put_varint(number << 3 | wire_type, text);
 }
 
-fn put_delimited(payload: &[u8], text: &mut Vec<u8>) {
+pub fn put_delimited(payload: &[u8], text: &mut Vec<u8>) {
     put_varint(payload.len() as u64, text);
     text.extend(payload);
 }
 
-fn put_payload(number: u64, payload: &[u8], text: &mut Vec<u8>) {
+pub fn put_payload(number: u64, payload: &[u8], text: &mut Vec<u8>) {
     put_tag(number, DELIMITED, text);
     put_delimited(payload, text);
 }
@@ -109,7 +54,7 @@ pub fn named(name: &str) -> Input {
         "persons" => persons(11, false),
         "newer" => persons(12, true),
         "tree" => tree(13),
-        _ => unreachable!("no input {name}"),
+        _ => report_inputs::named(name),
     }
 }
 

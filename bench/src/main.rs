@@ -4,11 +4,17 @@
 //!   driver check FOLDER                   stops where answers differ, and else writes for each row
 //!                                         its label, input, unit, units and workers
 //!   driver work WORKER LABEL FILE ROUNDS  does the work of a row on the file
+//!   driver time LABEL FILE                writes for each worker of a row the label, its name, and
+//!                                         the nanoseconds that a round takes
 mod inputs;
 mod prost_peer;
+mod prost_reports;
+mod random;
+mod report_inputs;
 mod rows;
+mod times;
 
-use rows::{Row, ROWS};
+use rows::Row;
 use std::error::Error;
 use std::fs;
 use std::path::Path;
@@ -33,12 +39,13 @@ fn run(args: &[String]) -> Result<(), Box<dyn Error>> {
         ["inputs", folder, largest] => write_inputs(Path::new(folder), largest.parse()?),
         ["check", folder] => check(Path::new(folder)),
         ["work", worker, label, file, rounds] => work(worker, label, file, rounds.parse()?),
+        ["time", label, file] => time(label, file),
         _ => Err("what it does stands at the head of main.rs".into()),
     }
 }
 
 fn write_inputs(folder: &Path, largest: usize) -> Result<(), Box<dyn Error>> {
-    for row in ROWS {
+    for row in Row::all() {
         fs::write(folder.join(row.input), inputs::named(row.input).bytes)?;
     }
     for levels in LEVELS {
@@ -57,7 +64,7 @@ fn write_inputs(folder: &Path, largest: usize) -> Result<(), Box<dyn Error>> {
 }
 
 fn check(folder: &Path) -> Result<(), Box<dyn Error>> {
-    for row in ROWS {
+    for row in Row::all() {
         agree(row, &folder.join(row.input))?;
         let workers: Vec<&str> = row.works().map(|(worker, _)| worker).collect();
         let workers = workers.join(" ");
@@ -95,5 +102,14 @@ fn work(worker: &str, label: &str, file: &str, rounds: u32) -> Result<(), Box<dy
     let work = row.work_of(worker).ok_or("no such worker")?;
     let bytes = fs::read(file)?;
     std::hint::black_box(work(&bytes, rounds));
+    Ok(())
+}
+
+fn time(label: &str, file: &str) -> Result<(), Box<dyn Error>> {
+    let row = Row::labelled(label).ok_or("no such row")?;
+    let bytes = fs::read(file)?;
+    for (worker, nanoseconds) in times::times(row, &bytes) {
+        println!("{label}\t{worker}\t{nanoseconds:.0}");
+    }
     Ok(())
 }

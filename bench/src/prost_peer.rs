@@ -26,7 +26,7 @@ struct Node {
 }
 
 // The answer of the last round, and 0 where one was refused or there was none.
-fn repeat<A>(rounds: u32, mut round: impl FnMut() -> Result<A, DecodeError>) -> u64
+pub fn repeat<A>(rounds: u32, mut round: impl FnMut() -> Result<A, DecodeError>) -> u64
 where
     A: TryInto<u64>,
 {
@@ -41,7 +41,7 @@ where
 }
 
 // The length of what each round writes into a vector that was cleared.
-fn repeat_writing(rounds: u32, mut write: impl FnMut(&mut Vec<u8>)) -> u64 {
+pub fn repeat_writing(rounds: u32, mut write: impl FnMut(&mut Vec<u8>)) -> u64 {
     let mut sink = Vec::new();
     repeat(rounds, || {
         sink.clear();
@@ -59,7 +59,7 @@ fn numbers(bytes: &[u8]) -> Vec<u64> {
     values
 }
 
-fn payloads(bytes: &[u8]) -> Vec<&[u8]> {
+pub fn payloads(bytes: &[u8]) -> Vec<&[u8]> {
     let mut rest = bytes;
     let mut payloads = Vec::new();
     while !rest.is_empty() {

@@ -1,14 +1,15 @@
-//! The rows of the table: each a piece of work, its input, and who can do it.
+//! The rows of the tables: each a piece of work, its input, and who can do it.
 use crate::prost_peer as prost;
+use crate::prost_reports::{self as reports, HashReport, TreeReport};
 
 /// Does the work on the bytes so many times, and answers what the last round gave: 0 where it was
 /// refused.
 pub type Work = fn(&[u8], u32) -> u64;
 
-/// Those who work, in the order of the table.
-pub const WORKERS: [&str; 3] = ["here", "prost", "cpp"];
+/// Those who work, in the order of the tables: `tree` is prost with trees for maps.
+const WORKERS: [&str; 4] = ["here", "prost", "tree", "cpp"];
 
-type Works = [Option<Work>; 3];
+type Works = [Option<Work>; 4];
 
 pub struct Row {
     pub label: &'static str,
@@ -18,8 +19,12 @@ pub struct Row {
 }
 
 impl Row {
+    pub fn all() -> impl Iterator<Item = &'static Row> {
+        CALLS.iter().chain(REPORTS)
+    }
+
     pub fn labelled(label: &str) -> Option<&'static Row> {
-        ROWS.iter().find(|row| row.label == label)
+        Row::all().find(|row| row.label == label)
     }
 
     /// Those who have this work.
@@ -51,10 +56,13 @@ macro_rules! native {
 
 macro_rules! works {
     ($here:ident, -, $cpp:ident) => {
-        [native!($here), None, native!($cpp)]
+        [native!($here), None, None, native!($cpp)]
     };
     ($here:ident, $prost:path, $cpp:ident) => {
-        [native!($here), Some($prost), native!($cpp)]
+        [native!($here), Some($prost), None, native!($cpp)]
+    };
+    ($here:ident, $prost:path, $tree:path, $cpp:ident) => {
+        [native!($here), Some($prost), Some($tree), native!($cpp)]
     };
 }
 
@@ -82,6 +90,23 @@ const NEWER_DECODE: Works = works! { wb_person_decode, -, cpp_person_decode };
 const NEWER_ENCODE: Works = works! { wb_person_encode, -, cpp_person_encode };
 const NODE_DECODE: Works = works! { wb_node_decode, prost::node_decode, cpp_node_decode };
 const NODE_ENCODE: Works = works! { wb_node_encode, prost::node_encode, cpp_node_encode };
+const REPORT_DECODE: Works = works! {
+    wb_report_decode,
+    reports::decode::<HashReport>, reports::decode::<TreeReport>,
+    cpp_report_decode
+};
+const REPORT_ENCODE: Works = works! {
+    wb_report_encode,
+    reports::encode::<HashReport>, reports::encode::<TreeReport>,
+    cpp_report_encode
+};
+const REPORT_HOLD: Works = works! {
+    wb_report_hold,
+    reports::hold::<HashReport>, reports::hold::<TreeReport>,
+    cpp_report_hold
+};
+const UNKNOWN_REPORT_DECODE: Works = works! { wb_report_decode, -, cpp_report_decode };
+const UNKNOWN_REPORT_ENCODE: Works = works! { wb_report_encode, -, cpp_report_encode };
 
 const fn row(label: &'static str, input: &'static str, unit: &'static str, works: Works) -> Row {
     Row {
@@ -92,7 +117,7 @@ const fn row(label: &'static str, input: &'static str, unit: &'static str, works
     }
 }
 
-pub const ROWS: &[Row] = &[
+const CALLS: &[Row] = &[
     row("decode varint, 1 byte", "varint1", "varint", VARINTS),
     row("decode varint, 2 bytes", "varint2", "varint", VARINTS),
     row("decode varint, 5 bytes", "varint5", "varint", VARINTS),
@@ -128,3 +153,49 @@ pub const ROWS: &[Row] = &[
     row("decode node", "tree", "node", NODE_DECODE),
     row("encode node", "tree", "node", NODE_ENCODE),
 ];
+
+// The decoding and the encoding of the reports of each input.
+macro_rules! report_rows {
+    ($($input:literal: $unit:literal, $decode:ident, $encode:ident;)*) => {
+        &[
+            $(report_row!("decode", $input, $unit, $decode),)*
+            $(report_row!("encode", $input, $unit, $encode),)*
+            report_row!("hold", "mixed", "report", REPORT_HOLD),
+        ]
+    };
+}
+
+macro_rules! report_row {
+    ($work:literal, $input:literal, $unit:literal, $works:ident) => {
+        row(
+            concat!($work, " report, ", $input),
+            concat!("report_", $input),
+            $unit,
+            $works,
+        )
+    };
+}
+
+const REPORTS: &[Row] = report_rows! {
+    "mixed": "report", REPORT_DECODE, REPORT_ENCODE;
+    "small": "report", REPORT_DECODE, REPORT_ENCODE;
+    "empty": "report", REPORT_DECODE, REPORT_ENCODE;
+    "host": "report", REPORT_DECODE, REPORT_ENCODE;
+    "sent_at": "report", REPORT_DECODE, REPORT_ENCODE;
+    "level": "report", REPORT_DECODE, REPORT_ENCODE;
+    "load": "report", REPORT_DECODE, REPORT_ENCODE;
+    "samples": "sample", REPORT_DECODE, REPORT_ENCODE;
+    "samples1": "sample", REPORT_DECODE, REPORT_ENCODE;
+    "labels": "entry", REPORT_DECODE, REPORT_ENCODE;
+    "labels1": "entry", REPORT_DECODE, REPORT_ENCODE;
+    "last": "entry", REPORT_DECODE, REPORT_ENCODE;
+    "offsets": "number", REPORT_DECODE, REPORT_ENCODE;
+    "ports": "number", REPORT_DECODE, REPORT_ENCODE;
+    "notes": "string", REPORT_DECODE, REPORT_ENCODE;
+    "signature": "report", REPORT_DECODE, REPORT_ENCODE;
+    "worst": "report", REPORT_DECODE, REPORT_ENCODE;
+    "origin_file": "report", REPORT_DECODE, REPORT_ENCODE;
+    "origin_dev": "report", REPORT_DECODE, REPORT_ENCODE;
+    "origin_sample": "report", REPORT_DECODE, REPORT_ENCODE;
+    "unknown": "record", UNKNOWN_REPORT_DECODE, UNKNOWN_REPORT_ENCODE;
+};
