@@ -1,3 +1,4 @@
 pub mod Failures
 pub mod Known
 pub mod Results
+pub mod Shortening

@@ -1,3 +1,4 @@
 pub mod Counted
 pub mod Outcome
 pub mod Run
+pub mod Shorten

@@ -1,9 +1,10 @@
 //! Why a run fails.
-ghost use Rattle.std.specs.Prelude.{◌≡◌, ◌≢◌, ◌⊎◌};
+ghost use Rattle.std.specs.Prelude.{◌≡◌};
 
 use std::alloc::AllocError;
 use thiserror::Error;
 use wire_codec::DecodeError;
+use wire_read::Fault;
 
 /// Why a run fails. `{}` shows the line for standard error.
 #[derive(Debug, PartialEq, Drop, Error)]
@@ -50,18 +51,12 @@ impl From<AllocError> for RunError {
     }
 }
 
-/// Want of memory is no fault of the input.
-impl From<DecodeError> for RunError {
-    ghost use Rattle.wire_codec.specs.DecodeError.TheVariants as decode;
-    ghost use Rattle.wire_min.specs.declared.error.RunError.TheVariants.{Refused, OutOfMemory};
+impl From<Fault> for RunError {
+    ghost use Rattle.wire_min.specs.declared.error.RunError.TheVariants.{Refused};
 
-    ghost from_gives = { λ error e. ((error ≡ decode.OutOfMemory) × (e ≡ OutOfMemory))
-        ⊎ ((error ≢ decode.OutOfMemory) × (e ≡ Refused error)) };
+    ghost from_gives = { λ fault e. e ≡ Refused fault.error };
 
-    fn from(error: DecodeError) -> RunError {
-        match error {
-            DecodeError::OutOfMemory => RunError::OutOfMemory,
-            error => RunError::Refused(error),
-        }
+    fn from(fault: Fault) -> RunError {
+        RunError::Refused(fault.error)
     }
 }

@@ -1,6 +1,7 @@
 //! One run, from all of the input to the text.
-ghost use Rattle.std.specs.Prelude.{◌≡◌, ◌≢◌, ◌+◌, ◌<◌, ◌⊎◌, Ok, Err, IfOk, IfErr, OnOk, OnErr, IfSome};
+ghost use Rattle.std.specs.Prelude.{◌≡◌, ◌≢◌, ◌+◌, ◌/◌, ◌<◌, ◌≤◌, ◌⊎◌, max, Ok, Err, IfOk, IfErr, OnOk, OnErr, IfSome};
 ghost use Rattle.std.specs.Io.KnownBytes.{Appends, Keeps};
+ghost use Rattle.std.specs.Vec.{vec_capacity, vec_len};
 ghost use Rattle.wire_codec.specs.DecodeError.{DecodeError};
 ghost use Rattle.wire_min.specs.Counted.{device_of, failures_of};
 ghost use Rattle.wire_min.specs.Outcome.{failed_reads, failed_writes};
@@ -8,16 +9,18 @@ ghost use Rattle.wire_min.specs.Run.{AppendsFront, HasFault, IsShortest, WritesF
 
 use crate::counted::Counted;
 use crate::error::RunError;
-use std::alloc::Global;
+use crate::shorten::shorten;
+use std::alloc::{AllocError, Global};
 use std::io::{Read, Write};
-use wire_codec::UnknownFields;
 
 const CHUNK: usize = 8 * 1024;
 
-/// Reads all of the input, decodes it as unknown fields, writes their shortest text and flushes.
+/// Reads all of the input, goes over it as unknown fields, writes their shortest text and flushes.
 /// The first error of the reader or the writer ends it, an interrupted call too, and so does a
 /// write that takes no byte. A failed run may have read a part of the input. Input that
 /// `UnknownFields::decode_from_slice` refuses is `Refused`, and `OutOfMemory` where memory ran out.
+/// The text takes the place of the input, so that no more is held than the input, with room for a
+/// quarter more, and a chunk.
 pub fn run<R: Read, W: Write>(
     alloc: Global,
     reader: &mut Counted<R>,
@@ -45,9 +48,9 @@ pub fn run<R: Read, W: Write>(
     ensures writer_failures { failures_of writer.new
         ≡ failures_of writer.old + failed_writes result }
 {
-    let input = read_to_end(alloc, reader)?;
-    let output = shortest_text(alloc, &input)?;
-    send(writer, &output)
+    let mut input = read_to_end(alloc, reader)?;
+    let len = shorten(&mut input)?;
+    send(writer, &input[..len])
 }
 
 // All that the reader has left.
@@ -66,23 +69,24 @@ fn read_to_end<R: Read>(alloc: Global, reader: &mut Counted<R>) -> Result<Vec<u8
         if count == 0 {
             return Ok(bytes);
         }
+        make_room(&mut bytes, count)?;
         bytes.extend_from_slice(&chunk[..count])?;
     }
     unreachable!()
 }
 
-// The shortest text of what the input spells.
-fn shortest_text(alloc: Global, input: &[u8]) -> Result<Vec<u8>, RunError>
-    ensures ok { IfOk result (λ output. IsShortest input.now output.items) }
-    ensures refused { (e : DecodeError) → result ≡ Err (RunError.Refused e)
-        → HasFault input.now e }
-    ensures failures { (failed_reads result ≡ 0) × (failed_writes result ≡ 0) }
+// Makes room for so many bytes more, where there is none: for a quarter of what is held, or for
+// these alone. A vector that grows by itself doubles.
+fn make_room(bytes: &mut Vec<u8>, count: usize) -> Result<(), AllocError>
+    ensures items { bytes.new.items ≡ bytes.old.items }
+    ensures room { OnOk result (vec_len bytes.old + count ≤ vec_capacity bytes.new) }
+    ensures no_more { vec_capacity bytes.new ≤ max (vec_capacity bytes.old)
+        (vec_len bytes.old + max count (vec_len bytes.old / 4)) }
 {
-    let fields = UnknownFields::decode_from_slice(alloc, input)?;
-    let mut output = Vec::new(alloc);
-    // A vector is refused bytes for want of memory alone.
-    fields.write_to(&mut output).or(Err(RunError::OutOfMemory))?;
-    Ok(output)
+    if bytes.capacity() - bytes.len() < count {
+        bytes.reserve_exact(count.max(bytes.len() / 4))?;
+    }
+    Ok(())
 }
 
 // Writes all of the bytes, and flushes.

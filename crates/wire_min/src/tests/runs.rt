@@ -34,7 +34,7 @@ const fn refused(error: DecodeError) -> Result<(), RunError> {
     Err(RunError::Refused(error))
 }
 
-fn rows() -> [Row; 24] {
+fn rows() -> [Row; 25] {
     let well = WILLING;
     let short = || refused(DecodeError::UnexpectedEof);
     let no_type = refused(DecodeError::InvalidWireType(7));
@@ -50,6 +50,14 @@ fn rows() -> [Row; 24] {
             b"\x0b\x08\x00\x0c",
         ),
         (PAIR, well, well, Ok(()), PAIR_TEXT),
+        // A payload that moves by less than its length.
+        (
+            b"\x92\x00\x8a\x00abcdefghij",
+            well,
+            well,
+            Ok(()),
+            b"\x12\x0aabcdefghij",
+        ),
         (b"\x08", well, well, short(), b""),
         (b"\x0f", well, well, no_type, b""),
         // The pair, and a tag alone.
