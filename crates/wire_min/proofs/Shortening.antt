@@ -12,7 +12,7 @@ use Rattle.wire_base.specs.TagLaws.{NoTagTextIsShorter}
 use Rattle.wire_base.specs.Text.{payload_text, record_text, text_of}
 use Rattle.wire_base.specs.Tag.{tag_text}
 use Rattle.wire_base.specs.Varint.{shortest_varint}
-use Rattle.wire_base.specs.WriteLaws.{FillsSlice, spliced}
+use Rattle.wire_base.specs.WriteLaws.{FillsSlice}
 use Rattle.wire_read.specs.declared.event.Value.{Value}
 use Rattle.wire_read.specs.declared.event.Value.TheVariants as values
 use Rattle.wire_read.specs.declared.reader.Reader.{Reader}
@@ -28,38 +28,39 @@ use Rattle.wire_min.specs.Shorten.{Takes, head_text, item_of, kind_of, payload_l
 
 -- ---- a text in the stead of others
 
-module _ (place : ℕ) (text all : List ℕ) (within : place ≤ length all) where
-  front_length : length (take place all ++ text) ≡ place + length text
+module _ (text old new : List ℕ) (place behind : ℕ) (h : FillsSlice text place old new behind) where
+  front_length : length (take place old ++ text) ≡ place + length text
   front_length =
-      length-append (take place all) text
-      ∙ ap (λ (n : ℕ). n + length text) (length-take-le place all within)
+      length-append (take place old) text
+      ∙ ap (λ (n : ℕ). n + length text) (length-take-le place old (omega (arith, h.room)))
 
-  pub take_spliced : take (place + length text) (spliced place text all) ≡ take place all ++ text
-  take_spliced =
-      take_at (take place all ++ text) (drop (place + length text) all) (place + length text)
-      front_length
+  pub take_filled : take behind new ≡ take place old ++ text
+  take_filled =
+      ap (λ (x : List ℕ). take behind x) h.written
+      ∙ take_at (take place old ++ text) (drop (place + length text) old) behind
+      (front_length ∙ sym h.moved)
 
-  pub drop_spliced : (n : ℕ) → place + length text ≤ n
-      → drop n (spliced place text all) ≡ drop n all
-  drop_spliced n past =
+  pub drop_filled : (n : ℕ) → place + length text ≤ n → drop n new ≡ drop n old
+  drop_filled n past =
       let m = place + length text in
       let k = n - m in
       let parts : m + k ≡ n = omega (arith, past) in
-      let behind = drop m all in
-      ap (λ (x : ℕ). drop x (spliced place text all)) (sym parts)
-      ∙ sym (drop-drop k m (spliced place text all))
-      ∙ ap (λ (x : List ℕ). drop k x) (drop_at (take place all ++ text) behind m front_length)
-      ∙ drop-drop k m all ∙ ap (λ (x : ℕ). drop x all) parts
+      let front = take place old ++ text in
+      ap (λ (x : List ℕ). drop n x) h.written
+      ∙ ap (λ (x : ℕ). drop x (front ++ drop m old)) (sym parts)
+      ∙ sym (drop-drop k m (front ++ drop m old))
+      ∙ ap (λ (x : List ℕ). drop k x) (drop_at front (drop m old) m front_length)
+      ∙ drop-drop k m old ∙ ap (λ (x : ℕ). drop x old) parts
 
-  pub length-spliced : place + length text ≤ length all
-      → length (spliced place text all) ≡ length all
-  length-spliced room =
+  pub length_filled : length new ≡ length old
+  length_filled =
       omega (
         arith,
+        ap length h.written,
         front_length,
-        length-append (take place all ++ text) (drop (place + length text) all),
-        length-drop (place + length text) all,
-        room,
+        length-append (take place old ++ text) (drop (place + length text) old),
+        length-drop (place + length text) old,
+        h.room,
       )
 
 -- a payload is moved behind its head
@@ -70,32 +71,28 @@ pub moved_behind : (head old mid new : List ℕ) (place behind last count : ℕ)
 moved_behind head old mid new place behind last count h room within is =
     let from = last - count in
     let payload = take count (drop from old) in
-    let there : place ≤ length old = omega (arith, room, within) in
     let long : length payload ≡ count =
     length-take-le count (drop from old) (omega (arith, length-drop from old, room, within)) in
     let both : length (head ++ payload) ≡ length head + count =
     length-append head payload ∙ ap (λ (n : ℕ). length head + n) long in
-    let mid_drop = λ (n : ℕ) (past : place + length head ≤ n). ap (λ (x : List ℕ). drop n x) h.written
-    ∙ drop_spliced place head old there n past in
-    let first : take behind mid ≡ take place old ++ head =
-    ap (λ (x : List ℕ). take behind x) h.written
-    ∙ ap (λ (n : ℕ). take n (spliced place head old)) h.moved
-    ∙ take_spliced place head old there in
-    let second : take (last - from) (drop from mid) ≡ payload =
-    ap (λ (x : List ℕ). take (last - from) x) (mid_drop from (omega (arith, room)))
+    let moved = take (last - from) (drop from mid) in
+    let rest = drop (behind + (last - from)) mid in
+    let moved_is : moved ≡ payload =
+    ap (λ (x : List ℕ). take (last - from) x)
+    (drop_filled head old mid place behind h from (omega (arith, room)))
     ∙ ap (λ (n : ℕ). take n (drop from old)) (omega (arith, room)) in
     let past : behind + (last - from) ≡ place + length (head ++ payload) =
     omega (arith, h.moved, both, room) in
-    let third : drop (behind + (last - from)) mid ≡ drop (place + length (head ++ payload)) old =
-    mid_drop (behind + (last - from)) (omega (arith, h.moved))
+    let rest_is : rest ≡ drop (place + length (head ++ payload)) old =
+    drop_filled head old mid place behind h (behind + (last - from)) (omega (arith, h.moved))
     ∙ ap (λ (n : ℕ). drop n old) past in
     record {
       room = omega (arith, both, room, within);
       moved = omega (arith, both, h.moved);
       written = is
-          ∙ ap (λ (x : List ℕ). x ++ take (last - from) (drop from mid) ++ drop (behind + (last - from)) mid) first
-          ∙ ap (λ (x : List ℕ). (take place old ++ head) ++ x ++ drop (behind + (last - from)) mid) second
-          ∙ ap (λ (x : List ℕ). (take place old ++ head) ++ payload ++ x) third
+          ∙ ap (λ (x : List ℕ). x ++ moved ++ rest) (take_filled head old mid place behind h)
+          ∙ ap (λ (x : List ℕ). (take place old ++ head) ++ x ++ rest) moved_is
+          ∙ ap (λ (x : List ℕ). (take place old ++ head) ++ payload ++ x) rest_is
           ∙ ap (λ (x : List ℕ). x ++ drop (place + length (head ++ payload)) old)
           (append_assoc (take place old) head payload);
     }
@@ -190,8 +187,10 @@ pub taken_from : (n : ℕ) (v : Value) (all front : List ℕ) (s t : At) (behind
     → Takes (record { number = n; kind = kind_of v; end = last }) all s t
 taken_from n (values.Bytes b) all front s t behind last parts moves is =
     let (head, at_rest) = payload_last n b.now s t behind moves in
-    let (count, cut) = payload_before all (front ++ head) b.now t.rest last (parts
-    ∙ ap (λ (x : List ℕ). front ++ x) at_rest ∙ sym (append_assoc front head (b.now ++ t.rest))) is in
+    let all_parts : all ≡ (front ++ head) ++ (b.now ++ t.rest) =
+    parts ∙ ap (λ (x : List ℕ). front ++ x) at_rest
+    ∙ sym (append_assoc front head (b.now ++ t.rest)) in
+    let (count, cut) = payload_before all (front ++ head) b.now t.rest last all_parts is in
     record {
       behind = behind;
       moves = subst (λ (x : List ℕ). Moves (whole n (bytes x)) s behind t) (sym cut) moves;
@@ -263,23 +262,19 @@ module _ (tag : NoTagTextIsShorter) (text : NoTextIsShorter) (l : Limits) (all n
       (fills : FillsSlice (item_text (item_of taken now)) len now new behind) where
     pub same_rest : drop t.place new ≡ drop t.place now
     same_rest =
-        ap (λ (x : List ℕ). drop t.place x) fills.written
-        ∙ drop_spliced len (item_text (item_of taken now)) now (omega (arith, h.within)) t.place
+        drop_filled (item_text (item_of taken now)) now new len behind fills t.place
         (omega (arith, h.within, fits, length-drop t.place now))
 
     pub one_more : ReaderGoesOn → Sofar l all new t behind
     one_more law =
         let i = item_of taken now in
         let more = item_text i in
-        let there : len ≤ length now = omega (arith, h.within) in
         let place = law l all h.items i (at r now) (at t now) takes.behind h.place takes.moves in
         record {
           items = h.items ++ i ∷ [];
           place = subst (λ (x : List ℕ). IsAt l all (h.items ++ i ∷ []) (facing t x))
               (sym same_rest) place;
-          is = ap (λ (x : List ℕ). take behind x) fills.written
-              ∙ ap (λ (n : ℕ). take n (spliced len more now)) fills.moved
-              ∙ take_spliced len more now there
+          is = take_filled more now new len behind fills
               ∙ ap (λ (x : List ℕ). x ++ more) h.is
               ∙ ap (λ (x : List ℕ). items_text h.items ++ x) (sym (append-nil more))
               ∙ sym (items_text-append h.items (i ∷ []));
@@ -289,7 +284,7 @@ module _ (tag : NoTagTextIsShorter) (text : NoTextIsShorter) (l : Limits) (all n
             fits,
             fills.moved,
             ap length same_rest,
-            ap length fills.written ∙ length-spliced len more now there fills.room,
+            length_filled more now new len behind fills,
           );
         }
 
