@@ -1,5 +1,5 @@
 -- Where a record stands that is told within groups.
-use Rattle.std.proofs.Common.{◌≡◌, ℕ, ◌+◌, ◌-◌, ◌≤◌, ap, refl, sym, ◌∙◌, subst, arith}
+use Rattle.std.proofs.Common.{◌≡◌, ℕ, ◌+◌, ◌-◌, ◌≤◌, ap, sym, ◌∙◌, subst, arith}
 use Rattle.wire_read.specs.Reading.{groups_of}
 use Rattle.wire_dynamic.specs.declared.schema.Schema.{Schema}
 use Rattle.wire_dynamic.specs.declared.walk.Walk.{Walk}

@@ -116,6 +116,7 @@ fn push_name(
 }
 
 // What stands before a record: the bytes, its number, and how many groups it stands in.
+#[derive(Drop)]
 struct Before<'a> {
     front: &'a [u8],
     number: u32,

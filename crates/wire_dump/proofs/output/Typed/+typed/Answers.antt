@@ -110,8 +110,8 @@ put_flat-returns-in_ok-put_item-in-None-clause-ok t c =
     guessed_put c.args.self.now c.args.spot.depth c.args.spot.budget c.args.spot.level
     told.event.number c.args.spot.place told.event.value (option_copied told.field) c.args.text.now
     c.args.out.now.text.items c.args.out.now.has_note
-    (record { text = c.put_item.new.out; has_note = c.args.out.now.has_note }) c.guessing.result
-    c.guessing.ensures (ap option_copied c.in-None.is) c.requires.is
+    (record { text = c.put_item.new.out; has_note = c.args.out.now.has_note }) c.guessing-layout.result
+    c.guessing-layout.ensures (ap option_copied c.in-None.is) c.requires.is
     c.in_ok-put_item-in-None.ensures refl
 
 pub put_told-returns-in_ok-put_closing-in-GroupEnd-clause-ok :
@@ -166,7 +166,7 @@ put_message-put_told-requires t c =
     let few = few_open new c.open_groups.result.now
     (c.open_groups.ensures ∙ ap groups_of c.reader.ensures) in
     let placed : place + length text < 2 ^ 64 = omega (arith, cut.within, c.requires.placed) in
-    let within = spot_within c.args.spot c.unknown_groups.result c.within.result c.within.ensures in
+    let within = spot_within c.args.spot c.unknown_groups.result c.within-here.result c.within-here.ensures in
     let (shallow, bounded, guesses) = within c.requires.shallow c.requires.bounded in
     (search rules, (shallow, (bounded, (guesses, (few, (placed, cut.is))))))
 
@@ -203,10 +203,10 @@ put_message-loop-told-preserved t c =
     (ItemSpans s x.depth x.budget x.level groups (option_copied told.field) (item n v) text) text
     c.loop-told.out.text.items c.loop-told.out.has_note c.put_told.new.out in
     let here = within_here s root c.args.spot c.next.new.self c.unknown_groups.result
-    c.within.result c.within.ensures c.unknown_groups.ensures
+    c.within-here.result c.within-here.ensures c.unknown_groups.ensures
     (c.next.ensures.same.schema ∙ same_schema) (c.next.ensures.same.root ∙ same_root) in
     let puts = subst (λ (x : Spot). Puts x (length b.groups)) here
-    (subst (λ (x : ℕ). Puts c.within.result x) count c.in-Ok.ensures.ok) in (
+    (subst (λ (x : ℕ). Puts c.within-here.result x) count c.in-Ok.ensures.ok) in (
       next_item c.items_tell_records.ensures c.reader_goes_on.ensures y d k root
           c.args.spot.place (limits_of (reader_of c.args.walk.now)) all n v
           (option_copied told.field) a b given.behind text c.args.out.now.text.items

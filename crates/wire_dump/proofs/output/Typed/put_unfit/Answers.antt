@@ -9,4 +9,4 @@ returns-clause-ok c = λ before.
     r.field.now
     r.event.value r.text.now c.args.out.now.text.items c.put_item.new.out.items
     c.deref.result.now before (record { text = c.put_note.new.out; has_note = true })
-    c.new-layout.result c.new-layout.ensures c.requires.is c.requires.never (search rules) c.in_ok-put_item.ensures c.in_ok-put_note.ensures refl
+    c.guessing-layout.result c.guessing-layout.ensures c.requires.is c.requires.never (search rules) c.in_ok-put_item.ensures c.in_ok-put_note.ensures refl

@@ -52,7 +52,7 @@ put_told-requires g c =
     let few = few_open new c.open_groups.result.now
     (c.open_groups.ensures ∙ ap groups_of c.reader.ensures) in
     let placed : place + length text < 2 ^ 64 = omega (arith, cut.within, c.requires.placed) in
-    let within = spot_within c.args.spot c.unknown_groups.result c.within.result c.within.ensures in
+    let within = spot_within c.args.spot c.unknown_groups.result c.within-here.result c.within-here.ensures in
     let (shallow, bounded, guesses) = within c.requires.shallow c.requires.bounded in
     record {
       shallow = shallow;
@@ -100,10 +100,10 @@ loop-told-preserved g c =
     (ItemSpans s x.depth x.budget x.level groups (option_copied told.field) (item n v) text) text
     mid.text.items mid.has_note new in
     let here = within_here s root c.args.spot c.next.new.self c.unknown_groups.result
-    c.within.result c.within.ensures c.unknown_groups.ensures
+    c.within-here.result c.within-here.ensures c.unknown_groups.ensures
     (c.next.ensures.same.schema ∙ same_schema) (c.next.ensures.same.root ∙ same_root) in
     let puts = subst (λ (x : Spot). Puts x (length b.groups)) here
-    (subst (λ (x : ℕ). Puts c.within.result x) count c.in_default-put_told.ensures.ok) in (
+    (subst (λ (x : ℕ). Puts c.within-here.result x) count c.in_default-put_told.ensures.ok) in (
       more_sent (g.W.Write.contents c.args.sink.now) (g.W.Write.contents c.loop-told.sink)
           (g.W.Write.contents c.send_part.new.sink) sent new.text.items c.send_part.new.out.items
           (λ (x : List ℕ). Sofar y d k root c.args.spot.place l all b old.text.items old.has_note x
