@@ -1,5 +1,5 @@
 //! Where encoded bytes go.
-ghost use Rattle.std.specs.Prelude.{◌≡◌, ◌+◌, ◌<◌, ◌≤◌, [], ◌∷◌, ◌++◌, OnOk, OnErr};
+ghost use Rattle.std.specs.Prelude.{◌≡◌, ◌+◌, ◌<◌, ◌≤◌, [], ◌∷◌, ◌++◌, OnOk, OnErr, length};
 ghost use Rattle.std.specs.Int.{w32, w64, cast_unsigned, to_le_bytes};
 ghost use Rattle.std.specs.Vec.{vec_len, vec_capacity};
 ghost use Rattle.wire_base.specs.Delimited.{delimited_text};
@@ -9,7 +9,7 @@ ghost use Rattle.wire_base.specs.Varint.{shortest_varint};
 use crate::error::EncodeError;
 use crate::laws;
 use bytes::Bytes;
-use growth::{push_growing, push_varint, push_varints};
+use growth::{push_behind_length, push_behind_tag, push_growing, push_varint, push_varints};
 use std::alloc::AllocError;
 use std::mem;
 
@@ -164,7 +164,11 @@ impl EncodeSink for Vec<u8> {
 
     #[inline(always)]
     fn put_varint(&mut self, value: u64) -> Result<(), EncodeError> {
-        push_one(value, self)?;
+        if value < 0x80 {
+            push_byte(value as u8, self)?;
+            return Ok(());
+        }
+        push_long(value, self)?;
         Ok(())
     }
 
@@ -193,17 +197,14 @@ impl EncodeSink for Vec<u8> {
     }
 }
 
-// Appends the shortest varint of a number. With room for the longest, the vector is a local of the
-// compiled code.
+// Appends the shortest varint of a number, as one of several bytes. With room for the longest, the
+// vector is a local of the compiled code.
 #[inline(always)]
-fn push_one(value: u64, bytes: &mut Vec<u8>) -> Result<(), AllocError>
+fn push_long(value: u64, bytes: &mut Vec<u8>) -> Result<(), AllocError>
     ensures ok { OnOk result (bytes.new.items ≡ bytes.old.items ++ shortest_varint value) }
     ensures err { OnErr result (KeepsFront (in_memory bytes.old.items)
         (shortest_varint value) (in_memory bytes.new.items)) }
 {
-    if value < 0x80 {
-        return push_byte(value as u8, bytes);
-    }
     if bytes.len() + MOST_DIGITS > bytes.capacity() {
         return push_varint(value, bytes);
     }
@@ -227,9 +228,7 @@ fn push_fixed32(first: u64, value: u32, bytes: &mut Vec<u8>) -> Result<(), Alloc
     if first < 0x80 && 5 <= bytes.capacity() - bytes.len() {
         return push_bytes(&tagged_fixed32(first as u8, value), bytes);
     }
-    push_one(first, bytes)?;
-    push_bytes(&u32::to_le_bytes(value), bytes)?;
-    Ok(())
+    push_behind_tag(first, &u32::to_le_bytes(value), bytes)
 }
 
 // The same of eight bytes.
@@ -243,9 +242,7 @@ fn push_fixed64(first: u64, value: u64, bytes: &mut Vec<u8>) -> Result<(), Alloc
     if first < 0x80 && 9 <= bytes.capacity() - bytes.len() {
         return push_bytes(&tagged_fixed64(first as u8, value), bytes);
     }
-    push_one(first, bytes)?;
-    push_bytes(&u64::to_le_bytes(value), bytes)?;
-    Ok(())
+    push_behind_tag(first, &u64::to_le_bytes(value), bytes)
 }
 
 // A varint of one byte, and four bytes behind it, the lowest first.
@@ -318,8 +315,10 @@ fn push_pair(first: u8, second: u8, bytes: &mut Vec<u8>)
     requires room { vec_len bytes.old + 2 ≤ vec_capacity bytes.old }
     requires first { first < 128 }
     requires second { second < 128 }
-    ensures { bytes.new.items
+    ensures items { bytes.new.items
         ≡ bytes.old.items ++ shortest_varint first ++ shortest_varint second }
+    ensures len { vec_len bytes.new ≡ vec_len bytes.old + 2 }
+    ensures capacity { vec_capacity bytes.new ≡ vec_capacity bytes.old }
 {
     bytes.push_reserved(first);
     bytes.push_reserved(second);
@@ -350,8 +349,8 @@ fn push_bytes(more: &[u8], bytes: &mut Vec<u8>) -> Result<(), AllocError>
     bytes.extend_from_slice(more)
 }
 
-// Appends the shortest varint of a number, as a tag, and bytes behind their length. With room for
-// both varints, the vector is a local of the compiled code until all is put.
+// Appends the shortest varint of a number, as a tag, and bytes behind their length. What has a byte
+// each for both varints, and room for all, is put in line, and all else by one call.
 #[inline(always)]
 fn push_delimited(first: u64, more: &[u8], bytes: &mut Vec<u8>) -> Result<(), AllocError>
     ensures ok { OnOk result (bytes.new.items
@@ -359,27 +358,32 @@ fn push_delimited(first: u64, more: &[u8], bytes: &mut Vec<u8>) -> Result<(), Al
     ensures err { OnErr result (KeepsFront (in_memory bytes.old.items)
         (shortest_varint first ++ delimited_text more.now) (in_memory bytes.new.items)) }
 {
-    if bytes.len() + 2 * MOST_DIGITS > bytes.capacity() {
-        return push_in_parts(first, more, bytes);
+    if first < 0x80 && more.len() < 0x80 && more.len() + 2 <= bytes.capacity() - bytes.len() {
+        push_short(first as u8, more, bytes);
+        return Ok(());
     }
-    let empty = Vec::new(*bytes.allocator());
-    let mut held = mem::replace(bytes, empty);
-    push_digits(first, &mut held);
-    push_digits(more.len() as u64, &mut held);
-    let pushed = push_bytes(more, &mut held);
-    mem::forget(mem::replace(bytes, held));
-    pushed
+    push_behind_length(first, more, bytes)
 }
 
-// Appends the same, the varints first.
+// Appends a varint of one byte, and bytes behind their length of one byte, to bytes with room for
+// them. The vector is a local of the compiled code. The test that can't hold is that of the list,
+// which then has no growth in line.
 #[inline(always)]
-fn push_in_parts(first: u64, more: &[u8], bytes: &mut Vec<u8>) -> Result<(), AllocError>
-    ensures ok { OnOk result (bytes.new.items
-        ≡ bytes.old.items ++ (shortest_varint first ++ delimited_text more.now)) }
-    ensures err { OnErr result (KeepsFront (in_memory bytes.old.items)
-        (shortest_varint first ++ delimited_text more.now) (in_memory bytes.new.items)) }
+fn push_short(first: u8, more: &[u8], bytes: &mut Vec<u8>)
+    requires room { vec_len bytes.old + (length more.now + 2) ≤ vec_capacity bytes.old }
+    requires first { first < 128 }
+    requires more { length more.now < 128 }
+    ensures { bytes.new.items
+        ≡ bytes.old.items ++ (shortest_varint first ++ delimited_text more.now) }
 {
-    push_two(first, more.len() as u64, bytes)?;
-    push_bytes(more, bytes)?;
-    Ok(())
+    let empty = Vec::new(*bytes.allocator());
+    let mut held = mem::replace(bytes, empty);
+    push_pair(first, more.len() as u8, &mut held);
+    if held.capacity() - held.len() < more.len() {
+        unreachable!();
+    }
+    let Ok(()) = held.extend_from_slice(more) else {
+        unreachable!();
+    };
+    mem::forget(mem::replace(bytes, held));
 }
