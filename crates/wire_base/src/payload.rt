@@ -86,6 +86,24 @@ pub fn copy_bytes<B: Buf>(buf: &mut B, len: usize, bytes: &mut Vec<u8>)
     ensures rest { B.unread buf.new ≡ drop len (B.unread buf.old) }
     ensures kept { B.kept buf.new ≡ B.kept buf.old }
 {
+    let chunk = buf.chunk();
+    if chunk.len() < len {
+        return copy_chunks(buf, len, bytes);
+    }
+    bytes.extend_from_slice(&chunk[..len]).unwrap();
+    buf.advance(len);
+}
+
+// Copies bytes that lie in several chunks.
+#[inline(never)]
+fn copy_chunks<B: Buf>(buf: &mut B, len: usize, bytes: &mut Vec<u8>)
+    requires empty { bytes.old.items ≡ [] }
+    requires room { len ≤ vec_capacity bytes.old }
+    requires there { len ≤ length (B.unread buf.old) }
+    ensures items { bytes.new.items ≡ take len (B.unread buf.old) }
+    ensures rest { B.unread buf.new ≡ drop len (B.unread buf.old) }
+    ensures kept { B.kept buf.new ≡ B.kept buf.old }
+{
     while bytes.len() < len {
         let chunk = buf.chunk();
         let count = chunk.len().min(len - bytes.len());
