@@ -32,7 +32,7 @@ impl UnknownFields {
     fn write_fields<S: EncodeSink>(&self, sink: &mut S) -> Result<(), EncodeError>
         ensures { Writes (text_of self.now) (S.held sink.old) (S.held sink.new) result }
     {
-        for field in &self.fields {
+        for field in self.fields.as_slice() {
             field.write_record(sink)?;
         }
         Ok(())
