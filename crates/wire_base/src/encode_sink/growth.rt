@@ -6,6 +6,7 @@ ghost use Rattle.wire_base.specs.Delimited.{delimited_text};
 ghost use Rattle.wire_base.specs.Sink.{KeepsFront, in_memory};
 ghost use Rattle.wire_base.specs.Varint.{shortest_varint};
 
+use super::{push_long, push_two};
 use crate::laws;
 use std::alloc::AllocError;
 use std::mem;
@@ -145,7 +146,7 @@ fn with_tagged(first: u64, more: &[u8], bytes: Vec<u8>) -> (Vec<u8>, bool)
     (held, is_whole)
 }
 
-// Appends the shortest varint of a number, byte by byte, and bytes.
+// Appends the shortest varint of a number, and bytes.
 #[inline(always)]
 fn append_tagged(first: u64, more: &[u8], bytes: &mut Vec<u8>) -> Result<(), AllocError>
     ensures ok { OnOk result (bytes.new.items
@@ -153,7 +154,7 @@ fn append_tagged(first: u64, more: &[u8], bytes: &mut Vec<u8>) -> Result<(), All
     ensures err { OnErr result (KeepsFront (in_memory bytes.old.items)
         (shortest_varint first ++ more.now) (in_memory bytes.new.items)) }
 {
-    append_varint(first, bytes)?;
+    push_long(first, bytes)?;
     bytes.extend_from_slice(more)?;
     Ok(())
 }
@@ -189,7 +190,7 @@ fn with_delimited(first: u64, more: &[u8], bytes: Vec<u8>) -> (Vec<u8>, bool)
     (held, is_whole)
 }
 
-// Appends the varints byte by byte, and the bytes.
+// Appends the varints, and the bytes.
 #[inline(always)]
 fn append_delimited(first: u64, more: &[u8], bytes: &mut Vec<u8>) -> Result<(), AllocError>
     ensures ok { OnOk result (bytes.new.items
@@ -197,7 +198,7 @@ fn append_delimited(first: u64, more: &[u8], bytes: &mut Vec<u8>) -> Result<(), 
     ensures err { OnErr result (KeepsFront (in_memory bytes.old.items)
         (shortest_varint first ++ delimited_text more.now) (in_memory bytes.new.items)) }
 {
-    append_varints(first, more.len() as u64, bytes)?;
+    push_two(first, more.len() as u64, bytes)?;
     bytes.extend_from_slice(more)?;
     Ok(())
 }
