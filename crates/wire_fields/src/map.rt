@@ -141,8 +141,29 @@ where
     }
 }
 
-// How many bytes the records of the entries take.
+// How many bytes the records of the entries take. Most messages have no entry.
+#[inline(always)]
 fn entries_len<K: Scalar, V: EntryValue>(
+    number: u32,
+    held: &BTreeMap<K::Held, V::Held>,
+    cache: &mut SizeCache,
+) -> Result<u64, EncodeError>
+where
+    K::Held: Ord,
+    requires { IsFieldNumber number }
+    ensures ok { IfOk result (λ len. Measures
+        (each_entry K.scalar V.kind number (viewed K.view V.view held.now.entries))
+        cache.old cache.new len) }
+    ensures err { IfErr result (λ e. e ≡ OutOfMemory) }
+{
+    if held.is_empty() {
+        return Ok(0);
+    }
+    each_entry_len::<K, V>(number, held, cache)
+}
+
+// How many bytes they take, one after another.
+fn each_entry_len<K: Scalar, V: EntryValue>(
     number: u32,
     held: &BTreeMap<K::Held, V::Held>,
     cache: &mut SizeCache,
@@ -163,8 +184,35 @@ where
     Ok(size)
 }
 
-// Writes the records of the entries.
+// Writes the records of the entries. Most messages have no entry.
+#[inline(always)]
 fn put_entries<K: Scalar, V: EntryValue, S: EncodeSink>(
+    number: u32,
+    held: &BTreeMap<K::Held, V::Held>,
+    cache: &mut SizeCache,
+    sink: &mut S,
+) -> Result<(), EncodeError>
+where
+    K::Held: Ord,
+    requires number { IsFieldNumber number }
+    requires sizes { NextAre (sizes
+        (each_entry K.scalar V.kind number (viewed K.view V.view held.now.entries))) cache.old }
+    requires size { text_size
+        (each_entry K.scalar V.kind number (viewed K.view V.view held.now.entries)) ≤ 2147483647 }
+    ensures written { Writes (text (each_entry K.scalar V.kind number (viewed K.view V.view held.now.entries)))
+        (S.held sink.old) (S.held sink.new) result }
+    ensures read { OnOk result (cache.new ≡ advanced cache.old (length (sizes
+        (each_entry K.scalar V.kind number (viewed K.view V.view held.now.entries))))) }
+{
+    laws::piece_by_piece();
+    if held.is_empty() {
+        return Ok(());
+    }
+    put_each_entry::<K, V, S>(number, held, cache, sink)
+}
+
+// Writes them one after another.
+fn put_each_entry<K: Scalar, V: EntryValue, S: EncodeSink>(
     number: u32,
     held: &BTreeMap<K::Held, V::Held>,
     cache: &mut SizeCache,

@@ -1,6 +1,6 @@
 use Rattle.wire_fields.specs.Maps.{each_entry, viewed}
 use Rattle.wire_fields.proofs.Putting.{IsPutTo}
-use Rattle.wire_fields.proofs.map.put_entries.Given as goal
+use Rattle.wire_fields.proofs.map.put_each_entry.Given as goal
 
 -- the entries so far are written
 abbrev pub invariant-loop-key : goal.invariant-loop-key

@@ -3,7 +3,7 @@ use Rattle.std.proofs.lemmas.Map.Iter.{rest_more}
 use Rattle.std.specs.Map.Iter.{deref_pair}
 use Rattle.wire_fields.proofs.Maps.{next_entry}
 use Rattle.wire_fields.proofs.Putting as put
-use Rattle.wire_fields.proofs.map.put_entries.Goals as goal
+use Rattle.wire_fields.proofs.map.put_each_entry.Goals as goal
 
 pub returns-in_err-put_entry-clause-written : goal.returns-in_err-put_entry-clause-written
 returns-in_err-put_entry-clause-written g c =

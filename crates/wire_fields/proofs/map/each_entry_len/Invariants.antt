@@ -1,6 +1,6 @@
 use Rattle.wire_fields.specs.Maps.{each_entry, viewed}
 use Rattle.wire_fields.proofs.Measuring.{IsMeasuredTo}
-use Rattle.wire_fields.proofs.map.entries_len.Given as goal
+use Rattle.wire_fields.proofs.map.each_entry_len.Given as goal
 
 -- the entries so far are measured
 abbrev pub invariant-loop-key : goal.invariant-loop-key
