@@ -315,10 +315,8 @@ fn push_pair(first: u8, second: u8, bytes: &mut Vec<u8>)
     requires room { vec_len bytes.old + 2 ≤ vec_capacity bytes.old }
     requires first { first < 128 }
     requires second { second < 128 }
-    ensures items { bytes.new.items
+    ensures { bytes.new.items
         ≡ bytes.old.items ++ shortest_varint first ++ shortest_varint second }
-    ensures len { vec_len bytes.new ≡ vec_len bytes.old + 2 }
-    ensures capacity { vec_capacity bytes.new ≡ vec_capacity bytes.old }
 {
     bytes.push_reserved(first);
     bytes.push_reserved(second);
@@ -349,8 +347,8 @@ fn push_bytes(more: &[u8], bytes: &mut Vec<u8>) -> Result<(), AllocError>
     bytes.extend_from_slice(more)
 }
 
-// Appends the shortest varint of a number, as a tag, and bytes behind their length. What has a byte
-// each for both varints, and room for all, is put in line, and all else by one call.
+// Appends the shortest varint of a number, as a tag, and bytes behind their length. Varints of a
+// byte each are put in line where there is room for both, and all else by one call.
 #[inline(always)]
 fn push_delimited(first: u64, more: &[u8], bytes: &mut Vec<u8>) -> Result<(), AllocError>
     ensures ok { OnOk result (bytes.new.items
@@ -358,32 +356,28 @@ fn push_delimited(first: u64, more: &[u8], bytes: &mut Vec<u8>) -> Result<(), Al
     ensures err { OnErr result (KeepsFront (in_memory bytes.old.items)
         (shortest_varint first ++ delimited_text more.now) (in_memory bytes.new.items)) }
 {
-    if first < 0x80 && more.len() < 0x80 && more.len() + 2 <= bytes.capacity() - bytes.len() {
-        push_short(first as u8, more, bytes);
-        return Ok(());
+    if first < 0x80 && more.len() < 0x80 && bytes.len() + 2 <= bytes.capacity() {
+        return push_short(first as u8, more, bytes);
     }
     push_behind_length(first, more, bytes)
 }
 
 // Appends a varint of one byte, and bytes behind their length of one byte, to bytes with room for
-// them. The vector is a local of the compiled code. The test that can't hold is that of the list,
-// which then has no growth in line.
+// both varints. The vector is a local of the compiled code until all is put.
 #[inline(always)]
-fn push_short(first: u8, more: &[u8], bytes: &mut Vec<u8>)
-    requires room { vec_len bytes.old + (length more.now + 2) ≤ vec_capacity bytes.old }
+fn push_short(first: u8, more: &[u8], bytes: &mut Vec<u8>) -> Result<(), AllocError>
+    requires room { vec_len bytes.old + 2 ≤ vec_capacity bytes.old }
     requires first { first < 128 }
     requires more { length more.now < 128 }
-    ensures { bytes.new.items
-        ≡ bytes.old.items ++ (shortest_varint first ++ delimited_text more.now) }
+    ensures ok { OnOk result (bytes.new.items
+        ≡ bytes.old.items ++ (shortest_varint first ++ delimited_text more.now)) }
+    ensures err { OnErr result (KeepsFront (in_memory bytes.old.items)
+        (shortest_varint first ++ delimited_text more.now) (in_memory bytes.new.items)) }
 {
     let empty = Vec::new(*bytes.allocator());
     let mut held = mem::replace(bytes, empty);
     push_pair(first, more.len() as u8, &mut held);
-    if held.capacity() - held.len() < more.len() {
-        unreachable!();
-    }
-    let Ok(()) = held.extend_from_slice(more) else {
-        unreachable!();
-    };
+    let pushed = push_bytes(more, &mut held);
     mem::forget(mem::replace(bytes, held));
+    pushed
 }
