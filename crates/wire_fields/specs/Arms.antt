@@ -13,7 +13,7 @@ use Rattle.wire_codec.specs.Limits.{Limits, Charge}
 use Rattle.wire_codec.specs.Taking.{TakesRecord, IsCharged, NotTaken}
 use Rattle.wire_codec.specs.WireType.{WireType}
 use Rattle.wire_fields.specs.Messages.{or_else}
-use Rattle.wire_fields.specs.Oneof.{choice, within}
+use Rattle.wire_fields.specs.Oneof.{choice, takes_variant}
 use Rattle.wire_fields.specs.Shape.{FieldKind, Owns, on, either}
 
 -- a record of field number k, which the message gives to this step of the field's value t
@@ -95,7 +95,7 @@ unlike n k h = elim (eqb_tells n k) [ inl e ↦ absurd (h e.1) | inr e ↦ e.0 ]
 pub anew_untaken : {V T : Type 0} (takes : Step V) (f : FieldKind T) (get : V → Option T)
     (set : T → V) (k n : ℕ) → n ≡ k → (m : V) → or_else f.default (get m) ≡ f.default
     → ((c : Charge) (z : V) (p : Payload) → takes m k p c z
-    → within f.default get set f.takes m k p c z)
+    → takes_variant f.default get set f.takes m k p c z)
     → (l : Limits) (w : WireType) (old : List ℕ)
     → NotTaken (TakesRecord f.takes l n w f.default old) → NotTaken (TakesRecord takes l n w m old)
 anew_untaken takes f get set k n is m none own =

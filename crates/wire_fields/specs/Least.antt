@@ -37,7 +37,7 @@ abbrev pub all_at_some : {S V : Type 0} → (ℕ → Steps S V) → Steps S V
 all_at_some chain s = at_some (λ h. chain h s)
 
 -- how the steps of the types follow from the steps of what they hold
-pub record Grows {S V : Type 0} (f : Steps S V → Steps S V) : Type 1 where
+pub record IsMonotone {S V : Type 0} (f : Steps S V → Steps S V) : Type 1 where
   pub more : (a b : Steps S V) → AllWithin a b → AllWithin (f a) (f b)
   pub single : (a : Steps S V) → AllSingle a → AllSingle (f a)
   pub finite : (chain : ℕ → Steps S V) → AllRising chain
@@ -51,7 +51,7 @@ up_to f (suc h) s m n p c z = f (up_to f h) s m n p c z
 abbrev pub least : {S V : Type 0} → (Steps S V → Steps S V) → Steps S V
 least f = all_at_some (up_to f)
 
-module _ {S V : Type 0} (f : Steps S V → Steps S V) (grows : Grows f) where
+module _ {S V : Type 0} (f : Steps S V → Steps S V) (grows : IsMonotone f) where
   one_up : (h : ℕ) → AllWithin (up_to f h) (up_to f (suc h))
   one_up zero s m z n p c t = absurd t
   one_up (suc h) s m z n p c t =

@@ -47,14 +47,14 @@ leaving_none = leaving_other (λ n p. true)
 -- ---- two parts
 
 -- what the first part makes of a record, and the second
-abbrev pub first_of : {A B : Type 0} → Step (A × Fields) → Step ((A × B) × Fields)
-first_of step m n p c z = step (m.0.0, m.1) n p c (z.0.0, z.1) × (z.0.1 ≡ m.0.1)
+abbrev pub on_first : {A B : Type 0} → Step (A × Fields) → Step ((A × B) × Fields)
+on_first step m n p c z = step (m.0.0, m.1) n p c (z.0.0, z.1) × (z.0.1 ≡ m.0.1)
 
-abbrev pub second_of : {A B : Type 0} → Step (B × Fields) → Step ((A × B) × Fields)
-second_of step m n p c z = step (m.0.1, m.1) n p c (z.0.1, z.1) × (z.0.0 ≡ m.0.0)
+abbrev pub on_second : {A B : Type 0} → Step (B × Fields) → Step ((A × B) × Fields)
+on_second step m n p c z = step (m.0.1, m.1) n p c (z.0.1, z.1) × (z.0.0 ≡ m.0.0)
 
 pub single_first : {A B : Type 0} (step : Step (A × Fields)) → IsSingle step
-    → IsSingle (first_of {A = A} {B = B} step)
+    → IsSingle (on_first {A = A} {B = B} step)
 single_first {A} {B} step single m u z w n p c d h k =
     let same = single (m.0.0, m.1) (u.0.0, u.1) (z.0.0, z.1) (w.0.0, w.1) n p c d h.0 k.0 in (
       same.0,
@@ -66,7 +66,7 @@ single_first {A} {B} step single m u z w n p c d h k =
     )
 
 pub single_second : {A B : Type 0} (step : Step (B × Fields)) → IsSingle step
-    → IsSingle (second_of {A = A} {B = B} step)
+    → IsSingle (on_second {A = A} {B = B} step)
 single_second {A} {B} step single m u z w n p c d h k =
     let same = single (m.0.1, m.1) (u.0.1, u.1) (z.0.1, z.1) (w.0.1, w.1) n p c d h.0 k.0 in (
       same.0,
@@ -83,8 +83,8 @@ both_leaving a b = record {
   owns = λ n p. a.owns n p || b.owns n p;
   default = (a.default, b.default);
   records = λ m. joined_records (a.records m.0) (b.records m.1);
-  takes = choice a.owns (first_of a.takes) (second_of b.takes);
-  single = λ reading. single_choice a.owns (first_of a.takes) (second_of b.takes)
+  takes = choice a.owns (on_first a.takes) (on_second b.takes);
+  single = λ reading. single_choice a.owns (on_first a.takes) (on_second b.takes)
       (single_first a.takes (a.single reading)) (single_second b.takes (b.single reading));
 }
 

@@ -13,7 +13,7 @@ use Rattle.wire_fields.specs.Back.{fitting_joined, numbered_joined, plain_joined
 use Rattle.wire_fields.specs.Back.{or_left, or_right}
 use Rattle.wire_fields.specs.Grounds.{Grounds}
 use Rattle.wire_fields.specs.Leaving.{Leaving, leaving_other, leaving_none, both_leaving}
-use Rattle.wire_fields.specs.Leaving.{first_of, second_of, with_unknown, keeps_beside}
+use Rattle.wire_fields.specs.Leaving.{on_first, on_second, with_unknown, keeps_beside}
 use Rattle.wire_fields.specs.Ranges.{Range, pair_range}
 use Rattle.wire_fields.specs.Returned.{Returned}
 use Rattle.wire_fields.specs.Shape.{Owns, on, Shape, keeps}
@@ -169,8 +169,8 @@ module _ {A B : Type 0} {c : Charge} (a : Leaving A) (b : Leaving B) (n : ℕ) (
   leaves_first h = record {
     own = or_left (a.owns n p) (b.owns n p) h.own;
     left = λ m u. subst
-        (λ t. on t (first_of a.takes (m, u) n p c (m, push u n p))
-        (second_of b.takes (m, u) n p c (m, push u n p))) (sym h.own)
+        (λ t. on t (on_first a.takes (m, u) n p c (m, push u n p))
+        (on_second b.takes (m, u) n p c (m, push u n p))) (sym h.own)
         (h.left m.0 u, refl);
   }
 
@@ -178,8 +178,8 @@ module _ {A B : Type 0} {c : Charge} (a : Leaving A) (b : Leaving B) (n : ℕ) (
   leaves_second apart h = record {
     own = or_right (a.owns n p) (b.owns n p) h.own;
     left = λ m u. subst
-        (λ t. on t (first_of a.takes (m, u) n p c (m, push u n p))
-        (second_of b.takes (m, u) n p c (m, push u n p))) (sym apart)
+        (λ t. on t (on_first a.takes (m, u) n p c (m, push u n p))
+        (on_second b.takes (m, u) n p c (m, push u n p))) (sym apart)
         (h.left m.1 u, refl);
   }
 

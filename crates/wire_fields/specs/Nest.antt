@@ -41,9 +41,9 @@ abbrev pub boxed_row : {V : Type 0} → Option (Box V Global) → List V
 boxed_row None = []
 boxed_row (Some boxed) = box_value boxed ∷ []
 
-abbrev pub first_of : {V : Type 0} → List V → Option V
-first_of [] = None
-first_of (v ∷ vs) = Some v
+abbrev pub first_in : {V : Type 0} → List V → Option V
+first_in [] = None
+first_in (v ∷ vs) = Some v
 
 -- ---- parts
 

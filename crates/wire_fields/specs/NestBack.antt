@@ -19,7 +19,7 @@ use Rattle.wire_fields.specs.MessageBack.{EncodingBack, prefixed_back, delimited
 use Rattle.wire_fields.specs.Messages.{length_prefixed, or_else}
 use Rattle.wire_fields.specs.Nest.{Nest, nest, Rows, done, row, Row, end, ahead, listed, row_of}
 use Rattle.wire_fields.specs.Nest.{listed_row, row_listed, rows_row, set_rows, count_rows}
-use Rattle.wire_fields.specs.Nest.{empty_rows, with_row, first_of}
+use Rattle.wire_fields.specs.Nest.{empty_rows, with_row, first_in}
 use Rattle.wire_fields.specs.NestParts.{fold_split, all_split, fitting_split, numbered_split}
 use Rattle.wire_fields.specs.NestParts.{swapped, paired, IsFitBehind, fit_behind, IsKept, kept_behind}
 use Rattle.wire_fields.specs.NestRange.{Beside, any_beside, FamilyHolds, nest_range, RowsHold}
@@ -27,7 +27,7 @@ use Rattle.wire_fields.specs.NestRange.{RowHolds, price, family_charge, beside_r
 use Rattle.wire_fields.specs.NestRange.{rows_charge, row_charge, family_range, runs_from, IsPlaceOf}
 use Rattle.wire_fields.specs.NestRange.{LeafBeside, LeafBack}
 use Rattle.wire_fields.specs.NestRows.{set_same, set_again, row_set, row_behind, count_set}
-use Rattle.wire_fields.specs.NestRows.{within_set, no_messages, count_empty, filled, all_filled}
+use Rattle.wire_fields.specs.NestRows.{within_set, no_messages, count_empty, with_rows, with_all_rows}
 use Rattle.wire_fields.specs.NestTable.{Family, is_grouped, encoding_of, encoding_at, empty_of}
 use Rattle.wire_fields.specs.NestTable.{family_records, rows_records, row_records, placed, takes_at}
 use Rattle.wire_fields.specs.NestTable.{level, family_takes, grows, owned, new_in, one_in, with_one}
@@ -119,7 +119,7 @@ module _ {S L : Type 0} (g : Grounds) (family : Family S L) (r : S → Range L)
         c,
         (encoding_back grouped).holds written inner.fitting inner.numbered short,
         subst (λ x. Folds (family_takes family (family.holds s i)) x (plain written) c m)
-            (sym (ap (λ (ms : List (Nest L)). or_else (new_in family s i) (first_of ms))
+            (sym (ap (λ (ms : List (Nest L)). or_else (new_in family s i) (first_in ms))
             (row_is ∙ nothing))) inner.folded,
         refl,
       ),
@@ -219,7 +219,7 @@ module _ {S L : Type 0} (g : Grounds) (family : Family S L) (r : S → Range L)
               lifted.0
               (subst (λ x. Folds (family_takes family s) (nest u start) behind_records
               (both (rows_charge family r s 0 rows) last) (nest l x))
-              (ap (λ k. filled 0 rows (empty_rows k)) (sym holds.1) ∙ all_filled rows)
+              (ap (λ k. with_rows 0 rows (empty_rows k)) (sym holds.1) ∙ with_all_rows rows)
               more.folded));
         })
 
@@ -235,7 +235,7 @@ module _ {S L : Type 0} (g : Grounds) (family : Family S L) (r : S → Range L)
         (count_rows rs))) c z
         → AllAre ((h s).Has z) (plain (runs_from (family.table s) z (suc i) (count_rows rs)))
         → FoldsBack (family_takes family s) (nest l into) (plain (rows_records family s z i rs))
-        (both (rows_charge family r s i rs) c) (nest z (filled i rs into))
+        (both (rows_charge family r s i rs) c) (nest z (with_rows i rs into))
     rows_folded s i done into all l z c held stand rest way within holds empty count size fitting
         numbered folded has = record {
           fitting = tt;
@@ -275,7 +275,7 @@ module _ {S L : Type 0} (g : Grounds) (family : Family S L) (r : S → Range L)
         let row_total = row_charge family r held (t.place n) q in
         let total = rows_charge family r s (suc i) rs in
         subst (λ fs. FoldsBack (family_takes family s) (nest l into) fs
-        (both (both row_total total) c) (nest z (filled (suc i) rs next)))
+        (both (both row_total total) c) (nest z (with_rows (suc i) rs next)))
         (sym (plain_joined (row_records family held (encoding_at t n) n q)
         (joined_records (t.run (suc i) z) (rows_records family s z (suc i) rs))
         ∙ ap (joined here) (plain_joined (t.run (suc i) z) (rows_records family s z (suc i) rs))))
@@ -286,16 +286,16 @@ module _ {S L : Type 0} (g : Grounds) (family : Family S L) (r : S → Range L)
               (numbered_joined run others num.0 more.numbered);
           folded = subst (λ d. Folds (family_takes family s) (nest l into) (joined here
               (joined run others)) d
-              (nest z (filled (suc i) rs next)))
+              (nest z (with_rows (suc i) rs next)))
               (paired g.charges row_total first total last
               ∙ ap (both (both row_total total)) (sym sum))
               (fold_on (family_takes family s) g.charges here (joined run others) (nest l into)
               (nest l next)
-              (nest z (filled (suc i) rs next)) row_total (both first (both total last))
+              (nest z (with_rows (suc i) rs next)) row_total (both first (both total last))
               (subst (λ x. Folds (family_takes family s) (nest l into) here row_total
               (nest l (set_rows i x into))) (row_listed q) one.folded)
               (fold_on (family_takes family s) g.charges run others (nest l next) (nest u next)
-              (nest z (filled (suc i) rs next)) first (both total last)
+              (nest z (with_rows (suc i) rs next)) first (both total last)
               lifted.0 more.folded));
         })
 

@@ -56,17 +56,17 @@ count_empty L zero = refl
 count_empty L (suc k) = ap suc (count_empty L k)
 
 -- the rows from the one at i on, put into a value one after another
-abbrev pub filled : {L : Type 0} → ℕ → Rows L → Rows L → Rows L
-filled i done into = into
-filled i (row r rs) into = filled (suc i) rs (set_rows i r into)
+abbrev pub with_rows : {L : Type 0} → ℕ → Rows L → Rows L → Rows L
+with_rows i done into = into
+with_rows i (row r rs) into = with_rows (suc i) rs (set_rows i r into)
 
 filled_behind : {L : Type 0} (i : ℕ) (rs : Rows L) (r : Row L) (into : Rows L)
-    → filled (suc i) rs (row r into) ≡ row r (filled i rs into)
+    → with_rows (suc i) rs (row r into) ≡ row r (with_rows i rs into)
 filled_behind i done r into = refl
 filled_behind i (row q rs) r into = filled_behind (suc i) rs r (set_rows i q into)
 
-pub all_filled : {L : Type 0} (rs : Rows L) → filled 0 rs (empty_rows (count_rows rs)) ≡ rs
-all_filled done = refl
-all_filled {L} (row r rs) =
+pub with_all_rows : {L : Type 0} (rs : Rows L) → with_rows 0 rs (empty_rows (count_rows rs)) ≡ rs
+with_all_rows done = refl
+with_all_rows {L} (row r rs) =
     filled_behind 0 rs r (empty_rows (count_rows rs))
-    ∙ ap (λ (x : Rows L). row r x) (all_filled rs)
+    ∙ ap (λ (x : Rows L). row r x) (with_all_rows rs)

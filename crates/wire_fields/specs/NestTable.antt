@@ -9,11 +9,11 @@ use Rattle.wire_codec.specs.TakingLaws.{OneReading}
 use Rattle.wire_fields.specs.declared.recursive.Place.{Place}
 use Rattle.wire_fields.specs.declared.recursive.Place.TheVariants.{Leaf, Once, Each, Grouped, EachGrouped}
 use Rattle.wire_fields.specs.Least.{Within, at_some, Rising, Steps, AllWithin, AllSingle, AllRising}
-use Rattle.wire_fields.specs.Least.{all_at_some, Grows, least, least_single, inside_more, inside_finite}
+use Rattle.wire_fields.specs.Least.{all_at_some, IsMonotone, least, least_single, inside_more, inside_finite}
 use Rattle.wire_fields.specs.Messages.{Encoding, length_prefixed, delimited, inside, or_else}
 use Rattle.wire_fields.specs.Messages.{inside_single, message_record}
 use Rattle.wire_fields.specs.Nest.{Nest, nest, Rows, done, row, Row, end, ahead, leaf_of, rows_of}
-use Rattle.wire_fields.specs.Nest.{row_at, with_row, first_of, row_count, empty_rows, same_nest}
+use Rattle.wire_fields.specs.Nest.{row_at, with_row, first_in, row_count, empty_rows, same_nest}
 use Rattle.wire_fields.specs.NestRows.{count_empty}
 
 -- The fields whose messages are of the family are embedded messages or groups, each with a row of
@@ -132,7 +132,7 @@ new_in family s i = empty_of (family.table (family.holds s i))
 
 -- the message of a row that has one at most, or a new one
 abbrev pub one_in : {S L : Type 0} → Family S L → S → ℕ → Nest L → Nest L
-one_in family s i m = or_else (new_in family s i) (first_of (row_at i m))
+one_in family s i m = or_else (new_in family s i) (first_in (row_at i m))
 
 abbrev pub with_one : {L : Type 0} → Table L → ℕ → Nest L → Nest L → Nest L
 with_one t i m after = with_row i (after ∷ []) (t.beside i m)
@@ -271,7 +271,7 @@ module _ {S L : Type 0} (family : Family S L) (reading : OneReading)
       owned_single delimited (λ m. new_in family s i) (with_more i) (placed bytes) reading (a held)
       (one held) m u z w n p c d h k
 
-  pub grows : Grows (level family)
+  pub grows : IsMonotone (level family)
   grows = record {
     more = λ a b on s m z n p c h. at_more s ((family.table s).place n) a b on m z n p c h;
     single = λ a one s m u z w n p c d h k. at_single s ((family.table s).place n) a one m u z w n p

@@ -17,8 +17,8 @@ pub record Variants (V : Type 0) : Type 1 where
 
 -- the value of the variant that stands takes the record, or a default one where another stands;
 -- then this variant stands
-abbrev pub within : {V T : Type 0} → T → (V → Option T) → (T → V) → Step T → Step V
-within {V} {T} start get set step m n p c z =
+abbrev pub takes_variant : {V T : Type 0} → T → (V → Option T) → (T → V) → Step T → Step V
+takes_variant {V} {T} start get set step m n p c z =
     (t : T) × step (or_else start (get m)) n p c t × (z ≡ set t)
 
 -- a record that the first variants own is for these, and any other for the second
@@ -26,7 +26,7 @@ abbrev pub choice : {V : Type 0} → Owns → Step V → Step V → Step V
 choice owns one other m n p c z = on (owns n p) (one m n p c z) (other m n p c z)
 
 pub single_within : {V T : Type 0} (start : T) (get : V → Option T) (set : T → V) (step : Step T)
-    → IsSingle step → IsSingle (within start get set step)
+    → IsSingle step → IsSingle (takes_variant start get set step)
 single_within start get set step single m u z w n p c d (t, h, is) (s, k, is_2) =
     let same = single (or_else start (get m)) (or_else start (get u)) t s n p c d h k in
     (same.0, λ e. is ∙ ap set (same.1 (ap (or_else start) (ap get e))) ∙ sym is_2)
@@ -48,7 +48,7 @@ single_choice owns one other one_single other_single m u z w n p c d h k =
 abbrev pub variant : {V T : Type 0} → ℕ → Lawful T → (V → Option T) → (T → V) → Variants V
 variant n f get set = record {
   owns = λ k p. k == n;
-  takes = within f.kind.default get set f.kind.takes;
+  takes = takes_variant f.kind.default get set f.kind.takes;
   single = λ reading. single_within f.kind.default get set f.kind.takes (f.single reading);
 }
 

@@ -8,7 +8,7 @@ use Rattle.wire_codec.specs.Limits.{Charge}
 use Rattle.wire_codec.specs.Records.{of_fields}
 use Rattle.wire_fields.specs.Leaving.{Leaving, leaving_other, leaving_none, leaving_types}
 use Rattle.wire_fields.specs.Leaving.{of_types, both_leaving, with_unknown, keeps_beside}
-use Rattle.wire_fields.specs.Leaving.{first_of, second_of}
+use Rattle.wire_fields.specs.Leaving.{on_first, on_second}
 use Rattle.wire_fields.specs.declared.leaving.OwnTypes.{OwnTypes}
 use Rattle.wire_fields.specs.LeavingBack.{IsLeftFor, AreLeftFor, LeavesFor, leaves_left}
 use Rattle.wire_fields.specs.LeavingBack.{leaves_first, leaves_second, left_range, charged_range}
@@ -100,7 +100,7 @@ module _ {A B : Type 0} {a : Leaving A} {b : Leaving B} {r : Range A} {q : Range
       (c : Charge) (m z : (A × B) × Fields) (sound : IsSound n p) (here : Here n)
       (h : StandsBeside BothAre Left m) where
     part_takes : (t u : Bool) → a.owns n p ≡ t → b.owns n p ≡ u → (t || u) ≡ true
-        → on t (first_of a.takes m n p c z) (second_of b.takes m n p c z)
+        → on t (on_first a.takes m n p c z) (on_second b.takes m n p c z)
         → StandsBeside BothAre Left z
     part_takes true u first second own taken =
         let after = x.step Left n p (λ k leaves. on_left k (leaves_first a b n k leaves)) c

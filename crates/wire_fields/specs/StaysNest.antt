@@ -13,7 +13,7 @@ use Rattle.wire_fields.specs.Least.{Steps, up_to}
 use Rattle.wire_fields.specs.Messages.{inside, or_else}
 use Rattle.wire_fields.specs.Nest.{Nest, nest, Rows, done, row, Row, end, ahead, listed, row_of}
 use Rattle.wire_fields.specs.Nest.{leaf_of, rows_of, rows_row, set_rows, count_rows}
-use Rattle.wire_fields.specs.Nest.{empty_rows, first_of, with_row}
+use Rattle.wire_fields.specs.Nest.{empty_rows, first_in, with_row}
 use Rattle.wire_fields.specs.NestRange.{IsFit, Beside, any_beside, FamilyHolds, RowsHold, RowHolds}
 use Rattle.wire_fields.specs.NestRange.{beside_range, nest_range, runs_from, all_runs, GoesToLeaf}
 use Rattle.wire_fields.specs.NestRows.{count_set, count_empty}
@@ -146,12 +146,12 @@ module _ {S L : Type 0} (g : Grounds) (family : Family S L) (r : S → Range L)
 
   -- the row at i, which is that at j of the rows from k on
   first_of_row : (s : S) (i : ℕ) (q : Row L) → IsRow (family.holds s i) q
-      → IsMessage (family.holds s i) (or_else (new_in family s i) (first_of (listed q)))
+      → IsMessage (family.holds s i) (or_else (new_in family s i) (first_in (listed q)))
   first_of_row s i end is = empty_is (family.holds s i)
   first_of_row s i (ahead m ms) is = is.0
 
   first_is : (s : S) (k j i : ℕ) (rows : Rows L) → i ≡ k + j → AreRows s k rows
-      → IsMessage (family.holds s i) (or_else (new_in family s i) (first_of (rows_row j rows)))
+      → IsMessage (family.holds s i) (or_else (new_in family s i) (first_in (rows_row j rows)))
   first_is s k j i done at are = empty_is (family.holds s i)
   first_is s k zero i (row q rs) at are =
       first_of_row s i q (subst (λ x. IsRow (family.holds s x) q)

@@ -2,7 +2,7 @@
 use Rattle.std.proofs.Common.{◌⊎◌, inl, inr}
 use Rattle.std.specs.Option.{option_or}
 use Rattle.std.specs.Prelude.{ℕ, suc, List, [], ◌∷◌, None}
-use Rattle.wire_fields.specs.Nest.{Nest, nest, Rows, done, row, Row, end, ahead, first_of}
+use Rattle.wire_fields.specs.Nest.{Nest, nest, Rows, done, row, Row, end, ahead, first_in}
 use Rattle.wire_fields.specs.NestTable.{Family}
 use Rattle.wire_required.specs.Missing.{Missing, needs, within, within_each}
 
@@ -22,9 +22,9 @@ pub record Asked (S L : Type 0) : Type 0 where
 -- what a row lacks whose messages lack these
 abbrev pub row_missing : AskedRow → List Missing → Missing
 row_missing (each name) found = within_each name (λ m. m) found
-row_missing (once name) found = within name (λ m. m) (first_of found)
+row_missing (once name) found = within name (λ m. m) (first_in found)
 row_missing (needed name) found =
-    option_or (needs name (first_of found)) (within name (λ m. m) (first_of found))
+    option_or (needs name (first_in found)) (within name (λ m. m) (first_in found))
 
 abbrev mutual
   -- the first required field that is not there
