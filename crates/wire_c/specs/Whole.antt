@@ -20,27 +20,27 @@ use Rattle.wire_read.specs.Numbers.{status_of, told_fault}
 use Rattle.wire_write.specs.declared.shortest.ShortestError.{ShortestError}
 use Rattle.wire_write.specs.declared.shortest.ShortestError.TheVariants as errors
 use Rattle.wire_base.specs.WriteLaws.{FillsSlice}
-use Rattle.wire_write.specs.Shortest.{Decodes, ShortestFault}
+use Rattle.wire_write.specs.Shortest.{SpellsIn, ShortestFault}
 
 -- the limits have at most 100 levels, and the call does as is said; or they have more, and nothing
 -- changes
-abbrev pub Within : LimitNumbers → Type 0 → ℕ → Type 0 → Type 0
-Within limits does status unchanged =
+abbrev pub WithLevels : LimitNumbers → Type 0 → ℕ → Type 0 → Type 0
+WithLevels limits does status unchanged =
     ((limits.depth ≤ 100) × does) ⊎ ((100 < limits.depth) × (status ≡ 33) × unchanged)
 
 -- all of the bytes spell records within the limits, or the fault is told
 pub record Validates (l : Limits) (all : List ℕ) (before after : FaultNumbers)
     (status : ℕ) : Type 0 where
   pub checked : Result (Unit {0}) Fault
-  pub ok : OnOk checked ((fs : Fields) × Decodes l fs all × (status ≡ 0) × (after ≡ before))
+  pub ok : OnOk checked ((fs : Fields) × SpellsIn l fs all × (status ≡ 0) × (after ≡ before))
   pub fault : IfErr checked (IsFault l all)
   pub told : IfErr checked (λ f. (after ≡ told_fault f) × (status ≡ status_of f.error))
 
 -- the length of the shortest encoding is told, or the fault
-pub record Measures (l : Limits) (all : List ℕ) (len len_then : ℕ) (before after : FaultNumbers)
+pub record TellsSize (l : Limits) (all : List ℕ) (len len_then : ℕ) (before after : FaultNumbers)
     (status : ℕ) : Type 0 where
   pub measured : Result ℕ Fault
-  pub ok : IfOk measured (λ n. (fs : Fields) × Decodes l fs all × (n ≡ size fs))
+  pub ok : IfOk measured (λ n. (fs : Fields) × SpellsIn l fs all × (n ≡ size fs))
   pub fault : IfErr measured (IsFault l all)
   pub told_ok : IfOk measured (λ n. (len_then ≡ n) × (after ≡ before) × (status ≡ 0))
   pub told_fault : IfErr measured
@@ -57,7 +57,7 @@ ToldError (errors.NoRoom wanted) len len_then before after status =
 pub record Shortens (l : Limits) (all old new : List ℕ) (len len_then : ℕ)
     (before after : FaultNumbers) (status : ℕ) : Type 0 where
   pub written : Result ℕ ShortestError
-  pub ok : IfOk written (λ n. (fs : Fields) × Decodes l fs all × FillsSlice (text_of fs) 0 old new n)
+  pub ok : IfOk written (λ n. (fs : Fields) × SpellsIn l fs all × FillsSlice (text_of fs) 0 old new n)
   pub err : IfErr written (ShortestFault l all old)
   pub unchanged : OnErr written (new ≡ old)
   pub told_ok : IfOk written (λ n. (len_then ≡ n) × (after ≡ before) × (status ≡ 0))

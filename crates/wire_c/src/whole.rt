@@ -2,7 +2,7 @@
 ghost use Rattle.std.specs.Prelude.{◌≡◌, ◌<◌, ◌≤◌, ◌⊎◌};
 ghost use Rattle.wire_read.specs.Budget.{read_limits};
 ghost use Rattle.wire_read.specs.Numbers.{context_of};
-ghost use Rattle.wire_c.specs.Whole.{Finds, Measures, Shortens, Validates, Within, told_range};
+ghost use Rattle.wire_c.specs.Whole.{Finds, TellsSize, Shortens, Validates, WithLevels, told_range};
 
 use crate::status::{DEPTH_TOO_LARGE, NO_ROOM, NOT_FOUND, OK};
 use wire_read::numbers::{FaultNumbers, LimitNumbers, context_of, status_of, tell_fault};
@@ -12,7 +12,7 @@ use wire_write::ShortestError;
 /// Whether all of the bytes are records within the limits: `OK`, or the status of the fault.
 #[unsafe(no_mangle)]
 pub extern "C" fn gtv_validate(bytes: &[u8], limits: &LimitNumbers, fault: &mut FaultNumbers) -> u32
-    ensures { Within limits.now
+    ensures { WithLevels limits.now
         (Validates (read_limits (context_of limits.now)) bytes.now fault.old fault.new result)
         result (fault.new ≡ fault.old) }
 {
@@ -78,8 +78,8 @@ pub extern "C" fn gtv_shortest_len(
     len: &mut usize,
     fault: &mut FaultNumbers,
 ) -> u32
-    ensures { Within limits.now
-        (Measures (read_limits (context_of limits.now)) bytes.now len.old len.new
+    ensures { WithLevels limits.now
+        (TellsSize (read_limits (context_of limits.now)) bytes.now len.old len.new
         fault.old fault.new result)
         result ((len.new ≡ len.old) × (fault.new ≡ fault.old)) }
 {
@@ -108,7 +108,7 @@ pub extern "C" fn gtv_shortest(
     len: &mut usize,
     fault: &mut FaultNumbers,
 ) -> u32
-    ensures { Within limits.now
+    ensures { WithLevels limits.now
         (Shortens (read_limits (context_of limits.now)) bytes.now room.old room.new len.old len.new
         fault.old fault.new result)
         result ((room.new ≡ room.old) × (len.new ≡ len.old) × (fault.new ≡ fault.old)) }

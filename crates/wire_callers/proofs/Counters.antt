@@ -25,7 +25,7 @@ use Rattle.wire_codec.specs.WireType.{WireType}
 use Rattle.wire_codec.specs.WireType.TheVariants as types
 use Rattle.wire_callers.specs.declared.counter.Counter.{Counter}
 use Rattle.wire_callers.specs.Counter.{CounterTakes, value, other, value_record, counter_records}
-use Rattle.wire_callers.specs.Counter.{levels_of}
+use Rattle.wire_callers.specs.Counter.{levels_alone}
 
 -- ---- writing
 
@@ -71,7 +71,7 @@ module _ (l : Limits) (n : ℕ) (w : WireType) (m : Counter) (old : List ℕ) wh
       → TakesPayload (payload_charge p) (uncounted levels) n w p old new
       → IsCharged l l (λ c. TakesRecord CounterTakes l n w m old c m new)
   passed limits levels p new all is h = record {
-    charge = levels_of p;
+    charge = levels_alone p;
     taken = record {
       payload = p;
       read = record {

@@ -15,8 +15,8 @@ abbrev pub counter_records : Counter → Records
 counter_records m = value_record m.value
 
 -- what is passed over takes levels for the groups in it, and no count
-abbrev pub levels_of : grammar.Payload → Charge
-levels_of p = record { depth = (payload_charge p).depth; counts = no_counts }
+abbrev pub levels_alone : grammar.Payload → Charge
+levels_alone p = record { depth = (payload_charge p).depth; counts = no_counts }
 
 -- the last record of field 1 sets the number, and has to be a varint; a record of another field is
 -- passed over
@@ -24,4 +24,4 @@ pub data CounterTakes (m : Counter) (n : ℕ) (p : grammar.Payload) (c : Charge)
     : Type 0 where
   value : (v : ℕ) → n ≡ 1 → p ≡ grammar.varint v → c ≡ no_charge → z ≡ record { value = v }
       → CounterTakes m n p c z
-  other : n ≢ 1 → c ≡ levels_of p → z ≡ m → CounterTakes m n p c z
+  other : n ≢ 1 → c ≡ levels_alone p → z ≡ m → CounterTakes m n p c z

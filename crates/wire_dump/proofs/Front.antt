@@ -16,9 +16,9 @@ use Rattle.wire_base.specs.TagLaws.{OneTag}
 use Rattle.wire_dump.specs.declared.layout.Layout.{Layout}
 use Rattle.wire_dump.specs.declared.layout.Margin.{Margin}
 use Rattle.wire_dump.specs.Dumps.{Dumps, SpellsRecord, nothing, more}
-use Rattle.wire_dump.specs.Dumped.{IsDumped, Puts, RecordLines}
-use Rattle.wire_dump.specs.Front.{IsNoGuess, PutsFront, TakesRecord}
-use Rattle.wire_dump.specs.Places.{Line, line_of, printed, range_text, width_of}
+use Rattle.wire_dump.specs.Dumped.{IsDumped, Prints, RecordLines}
+use Rattle.wire_dump.specs.Front.{IsNoGuess, PrintsFront, PrintsRecord}
+use Rattle.wire_dump.specs.Places.{Line, line_of, printed, range_text, all_width}
 use Rattle.wire_dump.proofs.Open.{dumps_push}
 use Rattle.wire_dump.proofs.Put.{IsMargin, line_put, printed-append, width-append}
 
@@ -70,7 +70,7 @@ pub line_taken : (y : Layout) (place n count : ℕ) (p : Payload)
     → ((text : List ℕ) → SpellsRecord n p text → RecordLines y n p text (line_of text line))
     → IsMargin y place (place + count) m
     → new ≡ old ++ (range_text m.is_shown m.start m.end ++ line)
-    → TakesRecord y place all count old new
+    → PrintsRecord y place all count old new
 line_taken y place n count p all behind rest line old new m flat tag payload is lines margin e =
     let h = stands n p all behind rest count tag payload is in
     let text = take count all in
@@ -96,15 +96,15 @@ pub payload_taken : (y : Layout) (place n count len : ℕ)
     → Reads behind (IsDelimited (take len mid)) (drop len mid)
     → count ≡ length all - length (drop len mid)
     → text ≡ take count all → payload ≡ take len mid
-    → Puts y place (RecordLines y n (bytes payload) text) text old new
-    → TakesRecord y place all count old new
+    → Prints y place (RecordLines y n (bytes payload) text) text old new
+    → PrintsRecord y place all count old new
 payload_taken y place n count len all behind mid text payload old new tag read is text_is
     payload_is puts =
     let p = bytes (take len mid) in
     let h = stands n p all behind (drop len mid) count tag read is in
-    let here : Puts y place (RecordLines y n p (take count all)) (take count all) old new =
-    subst (λ (x : List ℕ). Puts y place (RecordLines y n p x) x old new) text_is
-    (subst (λ (x : List ℕ). Puts y place (RecordLines y n (bytes x) text) text old new) payload_is
+    let here : Prints y place (RecordLines y n p (take count all)) (take count all) old new =
+    subst (λ (x : List ℕ). Prints y place (RecordLines y n p x) x old new) text_is
+    (subst (λ (x : List ℕ). Prints y place (RecordLines y n (bytes x) text) text old new) payload_is
     puts) in
     record {
       within = h.within;
@@ -134,7 +134,7 @@ flat_payload (fixed32 v) flat = refl
 flat_payload (bytes b) flat = refl
 flat_payload (group fs) flat = absurd (flat refl)
 
-pub front_begun : (y : Layout) (place : ℕ) (all old : List ℕ) → PutsFront y place all 0 old old
+pub front_begun : (y : Layout) (place : ℕ) (all old : List ℕ) → PrintsFront y place all 0 old old
 front_begun y place all old = record {
   within = omega arith;
   fields = none;
@@ -148,7 +148,7 @@ front_begun y place all old = record {
 
 -- lines behind lines
 written_on : (o : Bool) (place count : ℕ) (xs ys : List Line) (old mid new : List ℕ)
-    → width_of xs ≡ count → mid ≡ old ++ printed o place xs
+    → all_width xs ≡ count → mid ≡ old ++ printed o place xs
     → new ≡ mid ++ printed o (place + count) ys → new ≡ old ++ printed o place (xs ++ ys)
 written_on o place count xs ys old mid new width first second =
     second ∙ ap (λ (x : List ℕ). x ++ printed o (place + count) ys) first
@@ -157,9 +157,9 @@ written_on o place count xs ys old mid new width first second =
     ∙ ap (λ (x : List ℕ). old ++ x) (sym (printed-append o place xs ys))
 
 pub front_more : JoinedTextsSpell → JoinedAddsUp → (y : Layout) (place count len : ℕ)
-    (all old mid new : List ℕ) → PutsFront y place all count old mid
-    → TakesRecord y (place + count) (drop count all) len mid new → 0 < len
-    → PutsFront y place all (count + len) old new
+    (all old mid new : List ℕ) → PrintsFront y place all count old mid
+    → PrintsRecord y (place + count) (drop count all) len mid new → 0 < len
+    → PrintsFront y place all (count + len) old new
 front_more spell adds_up y place count len all old mid new h taken some =
     let r = taken.some some in
     let one = field r.number r.payload none in
@@ -210,7 +210,7 @@ dumps_joined b k (field n p others) gs t u ls ms (more first rest above below on
 
 -- the bytes behind the records spell records, too
 pub front_and_rest : JoinedTextsSpell → JoinedAddsUp → (y : Layout) (place count : ℕ)
-    (all old mid new : List ℕ) → PutsFront y place all count old mid
+    (all old mid new : List ℕ) → PrintsFront y place all count old mid
     → IsDumped y (place + count) (uncounted (y.budget + 1)) (drop count all) mid new
     → IsDumped y place (uncounted (y.budget + 1)) all old new
 front_and_rest spell adds_up y place count all old mid new h rest =
@@ -298,7 +298,7 @@ splits one_tag one_payload (field n p gs) (field m q fs) t u (behind, rest, tag,
 
 -- the bytes behind the records spell none
 pub front_no_guess : OneTag → OnePayload → JoinedAddsUp → (y : Layout) (place count : ℕ)
-    (all old mid new : List ℕ) → PutsFront y place all count old mid
+    (all old mid new : List ℕ) → PrintsFront y place all count old mid
     → IsNoGuess y (drop count all) mid new → IsNoGuess y all old new
 front_no_guess one_tag one_payload adds_up y place count all old mid new h guess =
     let whole : take count all ++ drop count all ≡ all = take-append-drop count all in

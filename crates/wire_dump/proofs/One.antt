@@ -12,7 +12,7 @@ use Rattle.wire_base.specs.TagLaws.{OneTag}
 use Rattle.wire_base.specs.Text.{text_of}
 use Rattle.wire_dump.specs.Dumps.{Dumps, DumpsRecord, SpellsRecord, number, eight_bytes, four_bytes, message, string, block, nothing, more}
 use Rattle.wire_dump.specs.Laws.{OneDump, OneShortened}
-use Rattle.wire_dump.specs.Lines.{number_line, fixed_line, string_line, opening, closing}
+use Rattle.wire_dump.specs.Lines.{number_line, fixed_line, string_line, opening, end_line}
 use Rattle.wire_dump.specs.Places.{Line, line_of, printed}
 
 same_front : (t u x : List ℕ) → t ++ x ≡ u ++ x → t ≡ u
@@ -110,7 +110,7 @@ module _ (tags : OneTag) (payloads : OnePayload) (spelled : OneSpelled) where
         let inner = one_list (b - 1) (k + 1) fs c c [] [] inside inside2 d
         (subst (λ (z : Fields). Dumps (b - 1) (k + 1) z c inside2) fields_are d2) refl in (
           one.0,
-          between head head2 [] [] (opening k n) (closing k) inside inside2 ls ms heads refl
+          between head head2 [] [] (opening k n) (end_line k) inside inside2 ls ms heads refl
               inner.1 e f,
           one.1,
         )
@@ -128,7 +128,7 @@ module _ (tags : OneTag) (payloads : OnePayload) (spelled : OneSpelled) where
         d d2 starts.1 in
         let ends = tag_text n EndGroup end end2 x y last last2 inner.2 in (
           same_front t u x (h ∙ ap (λ (z : List ℕ). u ++ z) (sym ends.1)),
-          between start start2 end end2 (opening k n) (closing k) inside inside2 ls ms starts.0
+          between start start2 end end2 (opening k n) (end_line k) inside inside2 ls ms starts.0
               ends.0 inner.1 e f,
           ends.1,
         )

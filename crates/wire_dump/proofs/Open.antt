@@ -5,7 +5,7 @@ use Rattle.wire_base.specs.Field.{Payload, group, Fields, none, field, push}
 use Rattle.wire_base.specs.Tag.{IsTagSpelling}
 use Rattle.wire_read.specs.Opened.{Group}
 use Rattle.wire_dump.specs.Dumps.{Dumps, DumpsOpen, DumpsRecord, nothing, more, block}
-use Rattle.wire_dump.specs.Lines.{opening, closing}
+use Rattle.wire_dump.specs.Lines.{opening, end_line}
 use Rattle.wire_dump.specs.Places.{Line, line_of}
 
 -- a record at the end of a list
@@ -75,12 +75,12 @@ pub open_end : (b k : ℕ) (g : Group) (outside : List Group) (fs : Fields) (t u
     (ls : List Line)
     → DumpsOpen b k (g ∷ outside) fs t ls → IsTagSpelling g.number EndGroup u
     → DumpsOpen b k outside (push g.before g.number (group fs)) (t ++ u)
-    (ls ++ line_of u (closing (k + length outside)))
+    (ls ++ line_of u (end_line (k + length outside)))
 open_end b k g outside fs t u ls
     (before, start, body, above, inside, outer, tag, inner, e, f) last =
     let count = length outside in
     let head = line_of start (opening (k + count) g.number) in
-    let tail = line_of u (closing (k + count)) in
+    let tail = line_of u (end_line (k + count)) in
     let less : b - suc count ≡ (b - count) - 1 = omega arith in
     let deeper : k + suc count ≡ (k + count) + 1 = omega arith in
     let within : Dumps ((b - count) - 1) ((k + count) + 1) fs body inside =

@@ -17,11 +17,12 @@ use Rattle.wire_read.specs.declared.event.Value.TheVariants as values
 use Rattle.wire_dump.specs.declared.layout.Layout.{Layout}
 use Rattle.wire_dump.specs.declared.layout.Margin.{Margin}
 use Rattle.wire_base.specs.Spells.{Spells}
-use Rattle.wire_dump.specs.Dumps.{IsMessage, SpellsRecord, number, eight_bytes, four_bytes, message, string}
-use Rattle.wire_dump.specs.Dumped.{IsDumped, IsDumpedFront, ItemLines, Puts, RecordLines, inside}
+use Rattle.wire_dump.specs.Dumps.{IsGuessedMessage, SpellsRecord, number, eight_bytes, four_bytes, message, string}
+use Rattle.wire_dump.specs.Dumped.{IsDumped, IsDumpedFront, ItemLines, Prints, RecordLines}
+use Rattle.wire_dump.specs.Dumped.{further_in}
 use Rattle.wire_dump.specs.Front.{IsNoGuess}
-use Rattle.wire_dump.specs.Lines.{number_line, fixed_line, string_line, opening, closing}
-use Rattle.wire_dump.specs.Places.{Line, line_of, printed, range_text, width_of}
+use Rattle.wire_dump.specs.Lines.{number_line, fixed_line, string_line, opening, end_line}
+use Rattle.wire_dump.specs.Places.{Line, line_of, printed, range_text, all_width}
 use Rattle.wire_dump.proofs.Texts.{payload_last}
 
 -- ---- lines
@@ -49,7 +50,7 @@ pub line_put : (y : Layout) (place : ℕ) (m : Margin) (text line old new : List
     (IsLines : List Line → Type 0)
     → IsLines (line_of text line) → IsMargin y place (place + length text) m
     → new ≡ old ++ (range_text m.is_shown m.start m.end ++ line)
-    → Puts y place IsLines text old new
+    → Prints y place IsLines text old new
 line_put y place m text line old new IsLines are is e = record {
   lines = line_of text line;
   are = are;
@@ -94,11 +95,11 @@ start_lines y count level n v text at_level e =
 
 pub end_lines : (y : Layout) (count level n : ℕ) (v : Value) (text : List ℕ)
     → level ≡ y.level + count → v ≡ values.GroupEnd
-    → ItemLines y count (item n v) text (line_of text (closing level))
+    → ItemLines y count (item n v) text (line_of text (end_line level))
 end_lines y count level n v text at_level e =
-    subst (λ (w : Value). ItemLines y count (item n w) text (line_of text (closing level)))
+    subst (λ (w : Value). ItemLines y count (item n w) text (line_of text (end_line level)))
     (sym e)
-    (ap (λ (k : ℕ). line_of text (closing k)) at_level)
+    (ap (λ (k : ℕ). line_of text (end_line k)) at_level)
 
 -- ---- payloads
 
@@ -119,33 +120,33 @@ pub no_records : (y : Layout) (n : ℕ) (payload text : List ℕ)
 no_records y n payload text never is = string is (λ fs m. never fs m.spelled) refl
 
 pub printed-append : (o : Bool) (place : ℕ) (xs ys : List Line)
-    → printed o place (xs ++ ys) ≡ printed o place xs ++ printed o (place + width_of xs) ys
+    → printed o place (xs ++ ys) ≡ printed o place xs ++ printed o (place + all_width xs) ys
 printed-append o place [] ys =
     let same : place ≡ place + 0 = omega arith in
     ap (λ (x : ℕ). printed o x ys) same
 printed-append o place (l ∷ xs) ys =
     let mid = place + l.width in
     let m = range_text o place mid in
-    let same : mid + width_of xs ≡ place + (l.width + width_of xs) = omega arith in
+    let same : mid + all_width xs ≡ place + (l.width + all_width xs) = omega arith in
     ap (λ (x : List ℕ). m ++ (l.text ++ x)) (printed-append o mid xs ys)
     ∙ ap (λ (x : List ℕ). m ++ x) (sym (append_assoc l.text (printed o mid xs)
-    (printed o (mid + width_of xs) ys)))
-    ∙ sym (append_assoc m (l.text ++ printed o mid xs) (printed o (mid + width_of xs) ys))
+    (printed o (mid + all_width xs) ys)))
+    ∙ sym (append_assoc m (l.text ++ printed o mid xs) (printed o (mid + all_width xs) ys))
     ∙ ap (λ (x : ℕ). (m ++ (l.text ++ printed o mid xs)) ++ printed o x ys) same
 
-pub width-append : (xs ys : List Line) → width_of (xs ++ ys) ≡ width_of xs + width_of ys
+pub width-append : (xs ys : List Line) → all_width (xs ++ ys) ≡ all_width xs + all_width ys
 width-append [] ys = omega arith
 width-append (l ∷ xs) ys = omega (arith, width-append xs ys)
 
 -- a message between two lines
 message_printed : (o : Bool) (place end : ℕ) (head first last : List ℕ) (lines : List Line)
-    → end ≡ (place + length head) + width_of lines
+    → end ≡ (place + length head) + all_width lines
     → printed o place (line_of head first ++ (lines ++ line_of [] last))
     ≡ range_text o place (place + length head)
     ++ (first ++ (printed o (place + length head) lines ++ (range_text o end end ++ last)))
 message_printed o place end head first last lines at_end =
     let mid = place + length head in
-    let q = mid + width_of lines in
+    let q = mid + all_width lines in
     let same : q ≡ end = sym at_end in
     let too : q + 0 ≡ end = omega (arith, at_end) in
     let tail : printed o q (line_of [] last) ≡ range_text o end end ++ last =
@@ -168,9 +169,9 @@ pub message_put : (y : Layout) (n place payload_place end : ℕ) (l : Limits)
     → payload_place ≡ end - length payload
     → IsMargin y place payload_place first → IsMargin y end end tail
     → mid ≡ old ++ (range_text first.is_shown first.start first.end ++ opening y.level n)
-    → IsDumped (inside 1 y) payload_place l payload mid last
-    → new ≡ last ++ (range_text tail.is_shown tail.start tail.end ++ closing y.level)
-    → Puts y place (RecordLines y n (bytes payload) text) text old new
+    → IsDumped (further_in 1 y) payload_place l payload mid last
+    → new ≡ last ++ (range_text tail.is_shown tail.start tail.end ++ end_line y.level)
+    → Prints y place (RecordLines y n (bytes payload) text) text old new
 message_put y n place payload_place end l payload text old mid last new first tail some full
     limits is at_end at_payload is_first is_tail puts_first h puts_tail =
     let o = y.has_offsets in
@@ -182,7 +183,7 @@ message_put y n place payload_place end l payload text old mid last new first ta
     let at_inner : payload_place ≡ inner = omega (arith, sizes, at_end, at_payload) in
     let within = subst (λ (x : ℕ). Fits (charge h.fields) (uncounted x)) all
     (subst (λ (x : Limits). Fits (charge h.fields) x) limits h.fits) in
-    let message_is : IsMessage y.budget payload h.fields = record {
+    let message_is : IsGuessedMessage y.budget payload h.fields = record {
       allowed = some;
       nonempty = full;
       spelled = h.spelled;
@@ -191,29 +192,29 @@ message_put y n place payload_place end l payload text old mid last new first ta
     let begun : mid ≡ old ++ (range_text o place inner ++ opening y.level n) =
     with_margin y place payload_place first (opening y.level n) old mid is_first puts_first
     ∙ ap (λ (x : ℕ). old ++ (range_text o place x ++ opening y.level n)) at_inner in
-    let ended : new ≡ last ++ (range_text o end end ++ closing y.level) =
-    with_margin y end end tail (closing y.level) last new is_tail puts_tail in
+    let ended : new ≡ last ++ (range_text o end end ++ end_line y.level) =
+    with_margin y end end tail (end_line y.level) last new is_tail puts_tail in
     let all_put : new ≡ old ++ (range_text o place inner ++ (opening y.level n
-    ++ (printed o inner h.lines ++ (range_text o end end ++ closing y.level)))) =
+    ++ (printed o inner h.lines ++ (range_text o end end ++ end_line y.level)))) =
     ended
-    ∙ ap (λ (x : List ℕ). x ++ (range_text o end end ++ closing y.level))
+    ∙ ap (λ (x : List ℕ). x ++ (range_text o end end ++ end_line y.level))
     (h.written ∙ ap (λ (x : List ℕ). x ++ printed o payload_place h.lines) begun
     ∙ ap (λ (x : ℕ). (old ++ (range_text o place inner ++ opening y.level n))
     ++ printed o x h.lines) at_inner)
     ∙ five old (range_text o place inner) (opening y.level n) (printed o inner h.lines)
-    (range_text o end end ++ closing y.level) in
-    let behind : end ≡ inner + width_of h.lines = omega (arith, sizes, at_end, h.covers) in
+    (range_text o end end ++ end_line y.level) in
+    let behind : end ≡ inner + all_width h.lines = omega (arith, sizes, at_end, h.covers) in
     record {
-      lines = line_of head (opening y.level n) ++ (h.lines ++ line_of [] (closing y.level));
+      lines = line_of head (opening y.level n) ++ (h.lines ++ line_of [] (end_line y.level));
       are = message h.fields head h.lines is parts message_is h.dumped refl;
       covers = omega (
         arith,
         sizes,
         h.covers,
-        width-append h.lines (line_of [] (closing y.level)),
+        width-append h.lines (line_of [] (end_line y.level)),
       );
       written = all_put ∙ ap (λ (x : List ℕ). old ++ x)
-          (sym (message_printed o place end head (opening y.level n) (closing y.level) h.lines
+          (sym (message_printed o place end head (opening y.level n) (end_line y.level) h.lines
           behind));
     }
 
@@ -226,14 +227,14 @@ cut_back start old more e =
 pub no_guess_put : (y : Layout) (n place start : ℕ) (payload text old mid last cut new : List ℕ)
     (head : List ℕ) (whole : Margin) → 0 < y.budget → start ≡ length old → mid ≡ old ++ head
     → SpellsRecord n (bytes payload) text → IsMargin y place (place + length text) whole
-    → IsNoGuess (inside 1 y) payload mid last → cut ≡ take start last
+    → IsNoGuess (further_in 1 y) payload mid last → cut ≡ take start last
     → new
     ≡ cut ++ (range_text whole.is_shown whole.start whole.end ++ string_line y.level n payload)
-    → Puts y place (RecordLines y n (bytes payload) text) text old new
+    → Prints y place (RecordLines y n (bytes payload) text) text old new
 no_guess_put y n place start payload text old mid last cut new head whole some at_start begun is
     is_whole h back puts =
     let levels : y.budget - 1 + 1 ≡ y.budget = omega (arith, some) in
-    let no_message : (fs : Fields) → IsMessage y.budget payload fs → ⊥ =
+    let no_message : (fs : Fields) → IsGuessedMessage y.budget payload fs → ⊥ =
     λ fs m. h.never fs m.spelled
     (subst (λ (x : ℕ). Fits (charge fs) (uncounted x)) (sym levels) m.within) in
     let whole_end : last ≡ old ++ (head ++ h.more) =

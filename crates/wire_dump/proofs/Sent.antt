@@ -3,7 +3,7 @@ use Rattle.std.proofs.Common.{◌≡◌, ℕ, Bool, List, [], ◌++◌, Option, 
 use Rattle.std.specs.Io.KnownBytes.{Appends}
 use Rattle.wire_dump.specs.declared.layout.Layout.{Layout}
 use Rattle.wire_dump.specs.declared.output.Typed.{Typed}
-use Rattle.wire_dump.specs.Dumped.{Puts}
+use Rattle.wire_dump.specs.Dumped.{Prints}
 use Rattle.wire_dump.specs.Parts.{InParts}
 use Rattle.wire_dump.specs.Places.{Line, printed}
 use Rattle.wire_dump.specs.Shown.{PutsText, shown}
@@ -43,7 +43,7 @@ more_sent a b c sent new left Are h (more, gone, is) are =
 -- ---- lines behind what went out
 
 pub lines_behind : (y : Layout) (at : ℕ) (Are : List Line → Type 0) (text sent old new : List ℕ)
-    → Puts y at Are text old new → Puts y at Are text (sent ++ old) (sent ++ new)
+    → Prints y at Are text old new → Prints y at Are text (sent ++ old) (sent ++ new)
 lines_behind y at Are text sent old new h = record {
   lines = h.lines;
   are = h.are;

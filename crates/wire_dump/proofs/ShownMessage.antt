@@ -14,7 +14,7 @@ use Rattle.wire_dynamic.specs.declared.field.Kind.TheVariants as kinds
 use Rattle.wire_dump.specs.declared.output.Output.{Output}
 use Rattle.wire_dump.specs.declared.output.Typed.{Typed}
 use Rattle.wire_dump.specs.Dumps.{SpellsRecord}
-use Rattle.wire_dump.specs.Lines.{closing}
+use Rattle.wire_dump.specs.Lines.{end_line}
 use Rattle.wire_dump.specs.Places.{range_text}
 use Rattle.wire_dump.specs.Shown.{AreRecords, IsShownFront, IsUnfit, PutsSpans, shown}
 use Rattle.wire_dump.specs.Shows.{BytesFit, FitsField, IsMessageWithin, ShowsRecord, Span, field_opening, line_span, message}
@@ -35,7 +35,7 @@ pub message_shown : (t : Typed) (d b k n root place inner end : ℕ) (f : Field)
     → one.has_note ≡ before
     → PutsSpans t inner (AreRecords t.schema.now (d - 1) (k + 1) root l payload) payload
     one.text.items one.has_note two
-    → three.text.items ≡ two.text.items ++ (range_text t.has_offsets end end ++ closing k)
+    → three.text.items ≡ two.text.items ++ (range_text t.has_offsets end end ++ end_line k)
     → three.has_note ≡ two.has_note
     → PutsSpans t place (ShowsRecord t.schema.now d b k (Some f) n (bytes payload) text) text old
     before three
@@ -48,7 +48,7 @@ message_shown t d b k n root place inner end f l payload text old before one two
     ap length parts ∙ length-append head payload in
     let at_head : inner ≡ place + length head = omega (arith, sizes, at_end, at_inner) in
     let first_line = line_span head (field_opening s k f) in
-    let last_line = line_span [] (closing k) in
+    let last_line = line_span [] (end_line k) in
     let first : PutsSpans t place (Is first_line) head old before one =
     one_line t place (Is first_line) head (field_opening s k f) old before one refl
     (opened ∙ ap (λ (x : ℕ). old ++ (range_text o place x ++ field_opening s k f)) at_head) kept in
@@ -61,8 +61,8 @@ message_shown t d b k n root place inner end f l payload text old before one two
     before one.text.items one.has_note two.text.items two.has_note first at_head put
     (ap (λ (x : List Span). x ++ put.spans) first.are) in
     let last : PutsSpans t end (Is last_line) [] two.text.items two.has_note three =
-    one_line t end (Is last_line) [] (closing k) two.text.items two.has_note three refl
-    (closed ∙ ap (λ (x : ℕ). two.text.items ++ (range_text o end x ++ closing k)) no_more)
+    one_line t end (Is last_line) [] (end_line k) two.text.items two.has_note three refl
+    (closed ∙ ap (λ (x : ℕ). two.text.items ++ (range_text o end x ++ end_line k)) no_more)
     kept_too in
     let within : IsMessageWithin d payload = record {
       allowed = some;

@@ -7,7 +7,7 @@ use Rattle.wire_read.specs.Opened.{Group, numbers}
 use Rattle.wire_dynamic.specs.declared.field.Field.{Field}
 use Rattle.wire_dynamic.specs.declared.schema.Schema.{Schema}
 use Rattle.wire_dynamic.specs.Walks.{count_unknown, field_in, innermost, unknown_groups}
-use Rattle.wire_dump.specs.Lines.{closing}
+use Rattle.wire_dump.specs.Lines.{end_line}
 use Rattle.wire_dump.specs.Shows.{Shows, ShowsOpen, ShowsRecord, Span, block, budget_at, group_opening, guesses, guesses_in, line_span, more, nothing, type_in}
 
 -- a record at the end of a list
@@ -91,13 +91,13 @@ pub open_end : (s : Schema) (d k root : ℕ) (g : Group) (outside : List Group) 
     (t u : List ℕ) (ls : List Span)
     → ShowsOpen s d k root (g ∷ outside) fs t ls → IsTagSpelling g.number EndGroup u
     → ShowsOpen s d k root outside (push g.before g.number (group fs)) (t ++ u)
-    (ls ++ line_span u (closing (k + length outside)))
+    (ls ++ line_span u (end_line (k + length outside)))
 open_end s d k root g outside fs t u ls
     (before, start, body, above, inside, outer, tag, inner, e, f) last =
     let count = length outside in
     let found = field_inside s root outside g.number in
     let head = group_opening s (k + count) g.number found start in
-    let tail = line_span u (closing (k + count)) in
+    let tail = line_span u (end_line (k + count)) in
     let less : d - suc count ≡ (d - count) - 1 = omega arith in
     let deeper : k + suc count ≡ (k + count) + 1 = omega arith in
     let around = budget_at s root (numbers outside) in

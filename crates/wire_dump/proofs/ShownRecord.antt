@@ -18,11 +18,11 @@ use Rattle.wire_dynamic.specs.declared.field.Kind.TheVariants as kinds
 use Rattle.wire_dump.specs.declared.layout.Layout.{Layout}
 use Rattle.wire_dump.specs.Dumped.{ItemLines}
 use Rattle.wire_dump.specs.Dumps.{DumpsRecord, number, eight_bytes, four_bytes, message, string, block}
-use Rattle.wire_dump.specs.Lines.{closing, escaped, hexadecimal, indented, line, opening}
+use Rattle.wire_dump.specs.Lines.{end_line, escaped, hexadecimal, indented, line, opening}
 use Rattle.wire_dump.specs.Numbers.{IsNumber, number_in, number_type}
 use Rattle.wire_dump.specs.Places.{Line, line_of, range_text}
-use Rattle.wire_dump.specs.Shown.{IsRecord, each_printed, payload_of}
-use Rattle.wire_dump.specs.Shows.{BytesFit, FitsField, IsNoString, IsPackedOf, IsString}
+use Rattle.wire_dump.specs.Shown.{IsRecord, each_printed, event_payload}
+use Rattle.wire_dump.specs.Shows.{BytesFit, FitsField, IsNoString, IsPackedOf, IsQuoted}
 use Rattle.wire_dump.proofs.ShownPut.{EndsFull}
 
 -- ---- numbers in packed lists
@@ -118,7 +118,7 @@ IsFlat values.GroupEnd = ⊥
 IsFlat _ = Unit {0}
 
 pub flat_record : (n : ℕ) (v : Value) (text : List ℕ) → IsFlat v → IsItem (item n v) text
-    → IsRecord n (payload_of v) text
+    → IsRecord n (event_payload v) text
 flat_record n (values.Varint x) text flat is = record { flat = is.0; spelled = is.1 }
 flat_record n (values.Fixed64 x) text flat is = record { flat = is.0; spelled = is.1 }
 flat_record n (values.Fixed32 x) text flat is = record { flat = is.0; spelled = is.1 }
@@ -126,7 +126,7 @@ flat_record n (values.Bytes b) text flat is = record { flat = is.0; spelled = is
 flat_record n values.GroupStart text flat is = absurd flat
 flat_record n values.GroupEnd text flat is = absurd flat
 
-pub record_item : (n : ℕ) (v : Value) (text : List ℕ) → IsRecord n (payload_of v) text
+pub record_item : (n : ℕ) (v : Value) (text : List ℕ) → IsRecord n (event_payload v) text
     → IsItem (item n v) text
 record_item n (values.Varint x) text is = (is.flat, is.spelled)
 record_item n (values.Fixed64 x) text is = (is.flat, is.spelled)
@@ -146,8 +146,8 @@ unmoved y n p text lines h =
 
 -- the lines of a record as without a schema
 pub record_lines : (y : Layout) (n : ℕ) (v : Value) (text : List ℕ) (lines : List Line)
-    → IsRecord n (payload_of v) text → ItemLines y 0 (item n v) text lines
-    → DumpsRecord y.budget y.level n (payload_of v) text lines
+    → IsRecord n (event_payload v) text → ItemLines y 0 (item n v) text lines
+    → DumpsRecord y.budget y.level n (event_payload v) text lines
 record_lines y n (values.Varint x) text lines is h = unmoved y n (varint x) text lines h
 record_lines y n (values.Fixed64 x) text lines is h = unmoved y n (fixed64 x) text lines h
 record_lines y n (values.Fixed32 x) text lines is h = unmoved y n (fixed32 x) text lines h
@@ -173,14 +173,14 @@ full_behind (x ∷ []) [] full = absurd full
 full_behind (x ∷ []) (y ∷ ys) full = full
 full_behind (x ∷ (z ∷ xs)) ys full = full_behind (z ∷ xs) ys full
 
-closing_full : (level : ℕ) → 0 < length (closing level)
+closing_full : (level : ℕ) → 0 < length (end_line level)
 closing_full level = omega (arith, length-append (indented level) (codes "}\n"))
 
 message_full : (first inside : List Line) (text : List ℕ) (level : ℕ)
-    → EndsFull (first ++ (inside ++ line_of text (closing level)))
+    → EndsFull (first ++ (inside ++ line_of text (end_line level)))
 message_full first inside text level =
-    full_behind first (inside ++ line_of text (closing level))
-    (full_behind inside (line_of text (closing level)) (closing_full level))
+    full_behind first (inside ++ line_of text (end_line level))
+    (full_behind inside (line_of text (end_line level)) (closing_full level))
 
 pub record_full : (b k n : ℕ) (p : Payload) (text : List ℕ) (lines : List Line)
     → DumpsRecord b k n p text lines → EndsFull lines
@@ -237,7 +237,7 @@ single_unfit depth x f (fixed32 v) is other e = other e
 single_unfit depth x f (bytes b) is other e = absurd (cc is)
 single_unfit depth x f (group fs) is other e = absurd (cc is)
 
-pub string_fits : (depth : ℕ) (f : Field) (kind : Kind) (b : List ℕ) → IsString kind
+pub string_fits : (depth : ℕ) (f : Field) (kind : Kind) (b : List ℕ) → IsQuoted kind
     → (kind ≡ kinds.Text → f.is_checked ≡ false) → BytesFit depth f kind b
 string_fits depth f kinds.Text b is unchecked = λ checked. absurd (cc (checked, unchecked refl))
 string_fits depth f kinds.Blob b is unchecked = tt

@@ -11,10 +11,10 @@ use Rattle.wire_dump.specs.declared.layout.Layout.{Layout}
 use Rattle.wire_dump.specs.declared.layout.Margin.{Margin}
 use Rattle.wire_dump.specs.declared.output.Output.{Output}
 use Rattle.wire_dump.specs.declared.output.Typed.{Typed}
-use Rattle.wire_dump.specs.Dumped.{ItemLines, Puts}
-use Rattle.wire_dump.specs.Lines.{closing, opening}
+use Rattle.wire_dump.specs.Dumped.{ItemLines, Prints}
+use Rattle.wire_dump.specs.Lines.{end_line, opening}
 use Rattle.wire_dump.specs.Places.{printed, range_text}
-use Rattle.wire_dump.specs.Shown.{IsRecord, ItemSpans, PutsSpans, has_note, payload_of}
+use Rattle.wire_dump.specs.Shown.{IsRecord, ItemSpans, PutsSpans, has_note, event_payload}
 use Rattle.wire_dump.specs.Shows.{FitsField, ShowsRecord, group_line, group_opening, guessed, line_span, note_of, noted, span_of, type_cause, unfit, with_note}
 use Rattle.wire_dump.proofs.ShownPut.{but_last, full_printed, noted-note, noted-printed, noted-width, or_false, or_true, plain-note, plain-printed, plain-width}
 use Rattle.wire_dump.proofs.ShownRecord.{line_full, record_full, record_lines}
@@ -22,20 +22,20 @@ use Rattle.wire_dump.proofs.ShownRecord.{line_full, record_full, record_lines}
 pub unfit_put : (t : Typed) (d b k n place : ℕ) (f : Field) (v : Value)
     (text old mid cause : List ℕ) (before : Bool) (new : Output) (y : Layout)
     → y ≡ record { has_offsets = t.has_offsets; level = k; budget = b }
-    → IsRecord n (payload_of v) text → (FitsField d f (payload_of v) → ⊥)
+    → IsRecord n (event_payload v) text → (FitsField d f (event_payload v) → ⊥)
     → t.is_strict ≡ false
-    → Puts y place (ItemLines y 0 (item n v) text) text old mid
+    → Prints y place (ItemLines y 0 (item n v) text) text old mid
     → new.text.items ≡ take (length mid - 1) mid ++ note_of f cause
     → new.has_note ≡ true
-    → PutsSpans t place (ShowsRecord t.schema.now d b k (Some f) n (payload_of v) text) text old
+    → PutsSpans t place (ShowsRecord t.schema.now d b k (Some f) n (event_payload v) text) text old
     before new
 unfit_put t d b k n place f v text old mid cause before new y y_is is never loose puts e kept =
     let o = t.has_offsets in
     let z : Layout = record { has_offsets = o; level = k; budget = b } in
-    let h = subst (λ (x : Layout). Puts x place (ItemLines x 0 (item n v) text) text old mid)
+    let h = subst (λ (x : Layout). Prints x place (ItemLines x 0 (item n v) text) text old mid)
     y_is puts in
     let shows = record_lines z n v text h.lines is h.are in
-    let full = record_full b k n (payload_of v) text h.lines shows in
+    let full = record_full b k n (event_payload v) text h.lines shows in
     let note = note_of f cause in
     let put = printed o place h.lines in
     let cut = take (length put - 1) put in
@@ -126,21 +126,21 @@ group_noted t place level n f found text old mid before new m is other loose m_i
 pub guessed_put : (t : Typed) (d b k n place : ℕ) (v : Value) (found : Option Field)
     (text old : List ℕ) (before : Bool) (new : Output) (y : Layout)
     → y ≡ record { has_offsets = t.has_offsets; level = k; budget = b } → found ≡ None
-    → IsRecord n (payload_of v) text
-    → Puts y place (ItemLines y 0 (item n v) text) text old new.text.items
+    → IsRecord n (event_payload v) text
+    → Prints y place (ItemLines y 0 (item n v) text) text old new.text.items
     → new.has_note ≡ before
-    → PutsSpans t place (ShowsRecord t.schema.now d b k found n (payload_of v) text) text old
+    → PutsSpans t place (ShowsRecord t.schema.now d b k found n (event_payload v) text) text old
     before new
 guessed_put t d b k n place v found text old before new y y_is lacks is puts kept =
     let o = t.has_offsets in
     let z : Layout = record { has_offsets = o; level = k; budget = b } in
-    let h = subst (λ (x : Layout). Puts x place (ItemLines x 0 (item n v) text) text old
+    let h = subst (λ (x : Layout). Prints x place (ItemLines x 0 (item n v) text) text old
     new.text.items) y_is puts in
     let shows = record_lines z n v text h.lines is h.are in
     let spans = map span_of h.lines in
     record {
       spans = spans;
-      are = subst (λ (x : Option Field). ShowsRecord t.schema.now d b k x n (payload_of v) text
+      are = subst (λ (x : Option Field). ShowsRecord t.schema.now d b k x n (event_payload v) text
           spans) (sym lacks) (guessed h.lines is.flat shows refl);
       covers = plain-width h.lines ∙ h.covers;
       written = h.written ∙ ap (λ (x : List ℕ). old ++ x) (sym (plain-printed o place h.lines));
@@ -152,7 +152,7 @@ guessed_put t d b k n place v found text old before new y y_is lacks is puts kep
 -- the end of a group
 pub end_lines : (s : Schema) (d b k count n : ℕ) (found : Option Field) (v : Value)
     (text : List ℕ) → v ≡ values.GroupEnd
-    → ItemSpans s d b k count found (item n v) text (line_span text (closing (k + count)))
+    → ItemSpans s d b k count found (item n v) text (line_span text (end_line (k + count)))
 end_lines s d b k count n found v text e =
     subst (λ (w : Value). ItemSpans s d b k count found (item n w) text
-    (line_span text (closing (k + count)))) (sym e) refl
+    (line_span text (end_line (k + count)))) (sym e) refl

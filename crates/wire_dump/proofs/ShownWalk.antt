@@ -17,7 +17,7 @@ use Rattle.wire_dynamic.specs.declared.schema.Schema.{Schema}
 use Rattle.wire_dynamic.specs.Walks.{field_in, innermost, told_in}
 use Rattle.wire_dump.specs.declared.output.Output.{Output}
 use Rattle.wire_dump.specs.declared.output.Typed.{Typed}
-use Rattle.wire_dump.specs.Lines.{closing}
+use Rattle.wire_dump.specs.Lines.{end_line}
 use Rattle.wire_dump.specs.Shown.{AreRecords, IsFrontText, ItemSpans, PutsText}
 use Rattle.wire_dump.specs.Shows.{ShowsOpen, ShowsRecord, Span, budget_at, group_opening, line_span, nothing}
 use Rattle.wire_dump.proofs.ShownOpen.{field_inside, open_end, open_record, open_start}
@@ -111,8 +111,8 @@ one_item t d k root found (end n) (g ∷ outside) fs a b behind front text spans
     let number_is : g.number ≡ n = cc in
     let count : length b.groups ≡ length outside =
     omega (arith, ap length groups, ap length same, length-numbers outside) in
-    let line_is : more ≡ line_span text (closing (k + length outside)) =
-    are ∙ ap (λ (x : ℕ). line_span text (closing (k + x))) count in
+    let line_is : more ≡ line_span text (end_line (k + length outside)) =
+    are ∙ ap (λ (x : ℕ). line_span text (end_line (k + x))) count in
     subst (λ (x : List Span). Holds t d k root (put (end n) (with (g ∷ outside) fs))
     (front ++ text) (spans ++ x)) (sym line_is)
     (open_end t d k root g outside fs front text spans h

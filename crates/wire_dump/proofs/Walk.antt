@@ -14,9 +14,9 @@ use Rattle.wire_read.specs.declared.reader.Reader.{Reader}
 use Rattle.wire_read.specs.Rebuilt.{Records, put, put_all, rebuilt}
 use Rattle.wire_dump.specs.declared.layout.Layout.{Layout}
 use Rattle.wire_dump.specs.Dumps.{DumpsOpen, DumpsRecord, nothing}
-use Rattle.wire_dump.specs.Dumped.{IsDumped, IsDumpedFront, ItemLines, Puts}
-use Rattle.wire_dump.specs.Lines.{opening, closing}
-use Rattle.wire_dump.specs.Places.{Line, line_of, printed, width_of}
+use Rattle.wire_dump.specs.Dumped.{IsDumped, IsDumpedFront, ItemLines, Prints}
+use Rattle.wire_dump.specs.Lines.{opening, end_line}
+use Rattle.wire_dump.specs.Places.{Line, line_of, printed, all_width}
 use Rattle.wire_dump.proofs.Open.{open_end, open_record, open_start}
 use Rattle.wire_dump.proofs.Put.{printed-append, width-append}
 
@@ -29,7 +29,7 @@ pub record Sofar (y : Layout) (place : ℕ) (l : Limits) (all : List ℕ) (s : A
   pub stands : IsAt l all items s
   pub parts : all ≡ front ++ s.rest
   pub dumped : DumpsOpen y.budget y.level (rebuilt items).levels (rebuilt items).fields front lines
-  pub covers : width_of lines ≡ length front
+  pub covers : all_width lines ≡ length front
   pub written : new ≡ old ++ printed y.has_offsets place lines
 
 pub put_all-append : (items : List Item) (i : Item) (r : Records)
@@ -98,8 +98,8 @@ one_item y (end n) (g ∷ outside) fs s t behind front text lines more same (tag
     let number_is : g.number ≡ n = cc in
     let count : length t.groups ≡ length outside =
     omega (arith, ap length groups, ap length same, length-numbers outside) in
-    let line_is : more ≡ line_of text (closing (y.level + length outside)) =
-    are ∙ ap (λ (x : ℕ). line_of text (closing (y.level + x))) count in
+    let line_is : more ≡ line_of text (end_line (y.level + length outside)) =
+    are ∙ ap (λ (x : ℕ). line_of text (end_line (y.level + x))) count in
     subst (λ (x : List Line). Shows y (put (end n) (with (g ∷ outside) fs)) (front ++ text)
     (lines ++ x)) (sym line_is)
     (open_end y.budget y.level g outside fs front text lines h
@@ -115,13 +115,13 @@ pub next_item : ItemsTellRecords → ReaderGoesOn → (y : Layout) (place : ℕ)
     (all : List ℕ) (i : Item) (s t : At) (behind text old mid new : List ℕ) (at : ℕ)
     (h : Sofar y place l all s old mid) → Moves i s behind t → s.rest ≡ text ++ t.rest
     → IsItem i text → at ≡ place + length h.front
-    → Puts y at (ItemLines y (length t.groups) i text) text mid new
+    → Prints y at (ItemLines y (length t.groups) i text) text mid new
     → Sofar y place l all t old new
 next_item tell goes_on y place l all i s t behind text old mid new at h moves parts is at_is puts =
     let r = rebuilt h.items in
     let o = y.has_offsets in
     let same = open_count tell l all h.items s h.stands in
-    let here : at ≡ place + width_of h.lines = omega (arith, at_is, h.covers) in
+    let here : at ≡ place + all_width h.lines = omega (arith, at_is, h.covers) in
     record {
       items = h.items ++ i ∷ [];
       front = h.front ++ text;

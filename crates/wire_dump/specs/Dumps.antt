@@ -8,12 +8,12 @@ use Rattle.wire_base.specs.Limits.{Fits, uncounted}
 use Rattle.wire_base.specs.Spells.{Spells}
 use Rattle.wire_base.specs.Tag.{IsTagSpelling}
 use Rattle.wire_read.specs.Opened.{Group}
-use Rattle.wire_dump.specs.Lines.{number_line, fixed_line, string_line, opening, closing}
+use Rattle.wire_dump.specs.Lines.{number_line, fixed_line, string_line, opening, end_line}
 use Rattle.wire_dump.specs.Places.{Line, line_of}
 
 -- A payload is printed as a message of these records: it is not empty, and spells them, with no
 -- more groups inside one another than the budget.
-pub record IsMessage (budget : ℕ) (payload : List ℕ) (fs : Fields) : Type 0 where
+pub record IsGuessedMessage (budget : ℕ) (payload : List ℕ) (fs : Fields) : Type 0 where
   pub allowed : 0 < budget
   pub nonempty : payload ≢ []
   pub spelled : Spells fs payload
@@ -39,19 +39,19 @@ mutual
     message : {budget level n : ℕ} {payload text : List ℕ} {lines : List Line} (fs : Fields)
         (head : List ℕ) (inside : List Line)
         → SpellsRecord n (bytes payload) text → text ≡ head ++ payload
-        → IsMessage budget payload fs → Dumps (budget - 1) (level + 1) fs payload inside
-        → lines ≡ line_of head (opening level n) ++ (inside ++ line_of [] (closing level))
+        → IsGuessedMessage budget payload fs → Dumps (budget - 1) (level + 1) fs payload inside
+        → lines ≡ line_of head (opening level n) ++ (inside ++ line_of [] (end_line level))
         → DumpsRecord budget level n (bytes payload) text lines
     string : {budget level n : ℕ} {payload text : List ℕ} {lines : List Line}
         → SpellsRecord n (bytes payload) text
-        → ((fs : Fields) → IsMessage budget payload fs → ⊥)
+        → ((fs : Fields) → IsGuessedMessage budget payload fs → ⊥)
         → lines ≡ line_of text (string_line level n payload)
         → DumpsRecord budget level n (bytes payload) text lines
     block : {budget level n : ℕ} {fs : Fields} {text : List ℕ} {lines : List Line}
         (start body end : List ℕ) (inside : List Line)
         → IsTagSpelling n StartGroup start → Dumps (budget - 1) (level + 1) fs body inside
         → IsTagSpelling n EndGroup end → text ≡ start ++ (body ++ end)
-        → lines ≡ line_of start (opening level n) ++ (inside ++ line_of end (closing level))
+        → lines ≡ line_of start (opening level n) ++ (inside ++ line_of end (end_line level))
         → DumpsRecord budget level n (group fs) text lines
 
   -- the lines of records, which these bytes spell, at this level of indentation

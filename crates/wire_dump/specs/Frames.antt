@@ -3,7 +3,7 @@ use Rattle.std.specs.Prelude.{◌≡◌, ℕ, ◌+◌, Bool, List, ◌++◌, len
 use Rattle.wire_base.specs.Limits.{Limits}
 use Rattle.wire_dump.specs.declared.layout.Layout.{Layout}
 use Rattle.wire_dump.specs.Dumped.{IsDumped}
-use Rattle.wire_dump.specs.Lines.{closing}
+use Rattle.wire_dump.specs.Lines.{end_line}
 use Rattle.wire_dump.specs.Places.{range_text}
 
 -- the line before the records of the frame with this number
@@ -23,4 +23,4 @@ pub record IsDumpedFrame (layout : Layout) (index place payload_place : ℕ) (l 
   pub records : IsDumped layout payload_place l payload
       (frame_opened layout.has_offsets index place payload_place old) inner
   pub closed : new ≡ inner ++ (range_text layout.has_offsets (payload_place + length payload)
-      (payload_place + length payload) ++ closing 0)
+      (payload_place + length payload) ++ end_line 0)

@@ -7,8 +7,8 @@ use Rattle.wire_base.specs.Limits.{Fits, uncounted}
 use Rattle.wire_base.specs.Spells.{Spells}
 use Rattle.wire_dump.specs.declared.layout.Layout.{Layout}
 use Rattle.wire_dump.specs.Dumps.{Dumps, SpellsRecord}
-use Rattle.wire_dump.specs.Dumped.{Puts, RecordLines}
-use Rattle.wire_dump.specs.Places.{Line, printed, width_of}
+use Rattle.wire_dump.specs.Dumped.{Prints, RecordLines}
+use Rattle.wire_dump.specs.Places.{Line, printed, all_width}
 
 -- this text is a record that is no group, and its lines are put
 pub record PutsRecord (layout : Layout) (place : ℕ) (text old new : List ℕ) : Type 0 where
@@ -16,17 +16,17 @@ pub record PutsRecord (layout : Layout) (place : ℕ) (text old new : List ℕ) 
   pub payload : Payload
   pub flat : type_of payload ≢ StartGroup
   pub spelled : SpellsRecord number payload text
-  pub puts : Puts layout place (RecordLines layout number payload text) text old new
+  pub puts : Prints layout place (RecordLines layout number payload text) text old new
 
 -- the lines of a record of so many bytes at the front are put; of 0 bytes, nothing
-pub record TakesRecord (layout : Layout) (place : ℕ) (bytes : List ℕ) (count : ℕ)
+pub record PrintsRecord (layout : Layout) (place : ℕ) (bytes : List ℕ) (count : ℕ)
     (old new : List ℕ) : Type 0 where
   pub within : count ≤ length bytes
   pub none : count ≡ 0 → new ≡ old
   pub some : 0 < count → PutsRecord layout place (take count bytes) old new
 
 -- so many bytes at the front spell records of which none is a group, and their lines are put
-pub record PutsFront (layout : Layout) (place : ℕ) (bytes : List ℕ) (count : ℕ)
+pub record PrintsFront (layout : Layout) (place : ℕ) (bytes : List ℕ) (count : ℕ)
     (old new : List ℕ) : Type 0 where
   pub within : count ≤ length bytes
   pub fields : Fields
@@ -34,7 +34,7 @@ pub record PutsFront (layout : Layout) (place : ℕ) (bytes : List ℕ) (count :
   pub spelled : Spells fields (take count bytes)
   pub flat : (charge fields).depth ≡ 0
   pub dumped : Dumps layout.budget layout.level fields (take count bytes) lines
-  pub covers : width_of lines ≡ count
+  pub covers : all_width lines ≡ count
   pub written : new ≡ old ++ printed layout.has_offsets place lines
 
 -- The bytes spell no records with at most one more group inside one another than the budget, and

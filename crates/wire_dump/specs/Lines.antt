@@ -56,5 +56,5 @@ string_line level n bytes = line level n (codes ": \"" ++ (escaped bytes ++ code
 abbrev pub opening : ℕ → ℕ → List ℕ
 opening level n = line level n (codes " {")
 
-abbrev pub closing : ℕ → List ℕ
-closing level = indented level ++ codes "}\n"
+abbrev pub end_line : ℕ → List ℕ
+end_line level = indented level ++ codes "}\n"

@@ -6,7 +6,7 @@ use Rattle.wire_dynamic.specs.declared.field.Field.{Field}
 use Rattle.wire_dynamic.specs.declared.field.Kind.{Kind}
 use Rattle.wire_dynamic.specs.declared.field.Kind.TheVariants as kinds
 use Rattle.wire_dynamic.specs.declared.schema.Schema.{Schema}
-use Rattle.wire_dynamic.specs.Schemas.{message_at}
+use Rattle.wire_dynamic.specs.Schemas.{type_at}
 
 -- a name without the dot in front
 abbrev pub without_dot : List ℕ → List ℕ
@@ -33,7 +33,7 @@ group_name type_name name = if str_eq_ignore_ascii_case type_name name then type
 
 abbrev pub name_of_kind : Schema → Kind → List ℕ → List ℕ
 name_of_kind s (kinds.Group place) name =
-    option_map_or (λ m. group_name (last_part (string_bytes m.name)) name) (message_at s place) name
+    option_map_or (λ m. group_name (last_part (string_bytes m.name)) name) (type_at s place) name
 name_of_kind s _ name = name
 
 -- the name of a field in a line: that of an extension in brackets

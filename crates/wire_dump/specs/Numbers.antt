@@ -75,21 +75,21 @@ IsFloat format sign infinity bits text =
     × (bits % sign < infinity → parse_float format text ≡ Some (from_bits format bits))
 
 -- the text of a number of a kind, which of 32 bits is in the low ones
-abbrev pub IsNumberText : Schema → Kind → ℕ → List ℕ → Type 0
-IsNumberText s kinds.Double x text = IsFloat binary64 (2 ^ 63) 9218868437227405312 x text
-IsNumberText s kinds.Float x text = IsFloat binary32 (2 ^ 31) 2139095040 (uint32.dec x) text
-IsNumberText s kinds.Int64 x text = text ≡ signed_decimal (int64.dec x)
-IsNumberText s kinds.Uint64 x text = text ≡ decimal x
-IsNumberText s kinds.Int32 x text = text ≡ signed_decimal (int32.dec x)
-IsNumberText s kinds.Fixed64 x text = text ≡ decimal x
-IsNumberText s kinds.Fixed32 x text = text ≡ decimal x
-IsNumberText s kinds.Bool x text = text ≡ (if bool.dec x then codes "true" else codes "false")
-IsNumberText s kinds.Uint32 x text = text ≡ decimal (uint32.dec x)
-IsNumberText s (kinds.Enum place) x text =
+abbrev pub ShowsNumber : Schema → Kind → ℕ → List ℕ → Type 0
+ShowsNumber s kinds.Double x text = IsFloat binary64 (2 ^ 63) 9218868437227405312 x text
+ShowsNumber s kinds.Float x text = IsFloat binary32 (2 ^ 31) 2139095040 (uint32.dec x) text
+ShowsNumber s kinds.Int64 x text = text ≡ signed_decimal (int64.dec x)
+ShowsNumber s kinds.Uint64 x text = text ≡ decimal x
+ShowsNumber s kinds.Int32 x text = text ≡ signed_decimal (int32.dec x)
+ShowsNumber s kinds.Fixed64 x text = text ≡ decimal x
+ShowsNumber s kinds.Fixed32 x text = text ≡ decimal x
+ShowsNumber s kinds.Bool x text = text ≡ (if bool.dec x then codes "true" else codes "false")
+ShowsNumber s kinds.Uint32 x text = text ≡ decimal (uint32.dec x)
+ShowsNumber s (kinds.Enum place) x text =
     text ≡ option_map_or (λ name. name) (value_name s place (int32.dec x))
     (signed_decimal (int32.dec x))
-IsNumberText s kinds.Sfixed32 x text = text ≡ signed_decimal (int32.dec x)
-IsNumberText s kinds.Sfixed64 x text = text ≡ signed_decimal (int64.dec x)
-IsNumberText s kinds.Sint32 x text = text ≡ signed_decimal (sint32.dec x)
-IsNumberText s kinds.Sint64 x text = text ≡ signed_decimal (sint64.dec x)
-IsNumberText s _ x text = ⊥
+ShowsNumber s kinds.Sfixed32 x text = text ≡ signed_decimal (int32.dec x)
+ShowsNumber s kinds.Sfixed64 x text = text ≡ signed_decimal (int64.dec x)
+ShowsNumber s kinds.Sint32 x text = text ≡ signed_decimal (sint32.dec x)
+ShowsNumber s kinds.Sint64 x text = text ≡ signed_decimal (sint64.dec x)
+ShowsNumber s _ x text = ⊥

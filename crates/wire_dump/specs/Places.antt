@@ -11,9 +11,9 @@ abbrev pub line_of : List ℕ → List ℕ → List Line
 line_of bytes text = record { width = length bytes; text = text } ∷ []
 
 -- how many bytes all of the lines are of
-abbrev pub width_of : List Line → ℕ
-width_of [] = 0
-width_of (l ∷ lines) = l.width + width_of lines
+abbrev pub all_width : List Line → ℕ
+all_width [] = 0
+all_width (l ∷ lines) = l.width + all_width lines
 
 -- what stands before a line of the bytes from the first place to before the second: these places,
 -- where they are shown

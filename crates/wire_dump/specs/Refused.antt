@@ -6,6 +6,6 @@ use Rattle.wire_read.specs.Faults.{IsFault}
 use Rattle.wire_read.specs.Opened.{numbers}
 
 -- the fault of the bytes, and the groups that it stands in, the innermost first
-pub record IsRefused (l : Limits) (all : List ℕ) (fault : Fault) (groups : List ℕ) : Type 0 where
+pub record BreaksAt (l : Limits) (all : List ℕ) (fault : Fault) (groups : List ℕ) : Type 0 where
   pub is : IsFault l all fault
   pub groups_are : groups ≡ numbers is.levels

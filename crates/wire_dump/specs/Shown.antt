@@ -14,9 +14,9 @@ use Rattle.wire_dynamic.specs.declared.schema.Schema.{Schema}
 use Rattle.wire_dump.specs.declared.output.Output.{Output}
 use Rattle.wire_dump.specs.declared.output.Typed.{Typed}
 use Rattle.wire_dump.specs.Dumps.{SpellsRecord}
-use Rattle.wire_dump.specs.Lines.{closing}
+use Rattle.wire_dump.specs.Lines.{end_line}
 use Rattle.wire_dump.specs.Places.{range_text}
-use Rattle.wire_dump.specs.Refused.{IsRefused}
+use Rattle.wire_dump.specs.Refused.{BreaksAt}
 use Rattle.wire_dump.specs.Shows.{FitsField, Shows, ShowsOpen, ShowsRecord, Span, group_opening, guesses, line_span}
 
 -- each line of bytes from the first place to before the second, behind these places
@@ -65,12 +65,12 @@ pub record AreRecords (s : Schema) (depth level root : ℕ) (l : Limits) (all : 
   pub shown : Shows s depth guesses level (Some root) fields all spans
 
 -- the payload of an event that is a record
-abbrev pub payload_of : Value → Payload
-payload_of (values.Varint v) = varint v
-payload_of (values.Fixed64 v) = fixed64 v
-payload_of (values.Fixed32 v) = fixed32 v
-payload_of (values.Bytes b) = bytes b.now
-payload_of _ = group none
+abbrev pub event_payload : Value → Payload
+event_payload (values.Varint v) = varint v
+event_payload (values.Fixed64 v) = fixed64 v
+event_payload (values.Fixed32 v) = fixed32 v
+event_payload (values.Bytes b) = bytes b.now
+event_payload _ = group none
 
 -- the text is a record that is no group
 pub record IsRecord (n : ℕ) (p : Payload) (text : List ℕ) : Type 0 where
@@ -88,14 +88,14 @@ abbrev pub ItemSpans : Schema → ℕ → ℕ → ℕ → ℕ → Option Field �
 ItemSpans s depth budget level count found (start n) text spans =
     spans ≡ group_opening s (level + (count - 1)) n found text
 ItemSpans s depth budget level count found (end n) text spans =
-    spans ≡ line_span text (closing (level + count))
+    spans ≡ line_span text (end_line (level + count))
 ItemSpans s depth budget level count found (whole n p) text spans =
     ShowsRecord s (depth - count) budget (level + count) found n p text spans
 
 -- the lines of what stands before the fault of the bytes
 pub record AreFront (s : Schema) (depth level root : ℕ) (l : Limits) (all : List ℕ)
     (fault : Fault) (groups : List ℕ) (front : List ℕ) (spans : List Span) : Type 0 where
-  pub refused : IsRefused l all fault groups
+  pub refused : BreaksAt l all fault groups
   pub parts : all ≡ front ++ refused.is.rest
   pub shown : ShowsOpen s depth level root refused.is.levels refused.is.fields front spans
 

@@ -14,11 +14,11 @@ use Rattle.wire_dynamic.specs.declared.field.Field.{Field}
 use Rattle.wire_dynamic.specs.declared.field.Kind.{Kind}
 use Rattle.wire_dynamic.specs.declared.field.Kind.TheVariants as kinds
 use Rattle.wire_dynamic.specs.declared.schema.Schema.{Schema}
-use Rattle.wire_dynamic.specs.Walks.{field_in, group_of, innermost, unknown_groups}
+use Rattle.wire_dynamic.specs.Walks.{field_in, type_of_group, innermost, unknown_groups}
 use Rattle.wire_dump.specs.Dumps.{DumpsRecord, SpellsRecord}
-use Rattle.wire_dump.specs.Lines.{closing, escaped, indented, number_line, opening}
+use Rattle.wire_dump.specs.Lines.{end_line, escaped, indented, number_line, opening}
 use Rattle.wire_dump.specs.Names.{field_name, shown_name}
-use Rattle.wire_dump.specs.Numbers.{IsNumber, IsNumberText, is_known, number_in, number_type}
+use Rattle.wire_dump.specs.Numbers.{IsNumber, ShowsNumber, is_known, number_in, number_type}
 use Rattle.wire_dump.specs.Places.{Line}
 
 -- ---- lines
@@ -72,7 +72,7 @@ field_opening s level f = indented level ++ (field_name s f ++ codes " {\n")
 pub record IsNumberLine (s : Schema) (level n : ℕ) (f : Field) (x : ℕ) (line : List ℕ)
     : Type 0 where
   pub known : is_known s f.kind x ≡ true
-      → (text : List ℕ) × IsNumberText s f.kind x text × (line ≡ value_line s level f text)
+      → (text : List ℕ) × ShowsNumber s f.kind x text × (line ≡ value_line s level f text)
   pub unknown : is_known s f.kind x ≡ false → line ≡ number_line level n x
 
 -- the line before what stands in a group with this number, for its field, if it has one
@@ -91,7 +91,7 @@ group_opening s level n (Some f) start = group_line s level n f.kind f start
 
 -- the place of the type of a group, for its field
 abbrev pub type_in : Option Field → Option ℕ
-type_in found = option_and_then (λ (f : Field). group_of f.kind) found
+type_in found = option_and_then (λ (f : Field). type_of_group f.kind) found
 
 -- ---- records that fit their fields
 
@@ -102,10 +102,10 @@ pub record IsMessageWithin (depth : ℕ) (payload : List ℕ) : Type 0 where
   pub spelled : Spells fields payload
   pub within : Fits (charge fields) (uncounted (depth - 1))
 
-abbrev pub IsString : Kind → Type 0
-IsString kinds.Text = Unit {0}
-IsString kinds.Blob = Unit {0}
-IsString _ = ⊥
+abbrev pub IsQuoted : Kind → Type 0
+IsQuoted kinds.Text = Unit {0}
+IsQuoted kinds.Blob = Unit {0}
+IsQuoted _ = ⊥
 
 -- a kind of which bytes are at most a packed list
 abbrev pub IsNoString : Kind → Type 0
@@ -178,7 +178,7 @@ mutual
         → ShowsRecord s depth budget level (Some f) n (bytes payload) text spans
     string : {s : Schema} {depth budget level n : ℕ} {f : Field} {payload text : List ℕ}
         {spans : List Span}
-        → SpellsRecord n (bytes payload) text → IsString f.kind
+        → SpellsRecord n (bytes payload) text → IsQuoted f.kind
         → BytesFit depth f f.kind payload
         → spans ≡ line_span text (value_line s level f (string_value payload))
         → ShowsRecord s depth budget level (Some f) n (bytes payload) text spans
@@ -188,7 +188,7 @@ mutual
         → f.kind ≡ kinds.Message place → IsMessageWithin depth payload
         → Shows s (depth - 1) guesses (level + 1) (Some place) fs payload inside
         → spans ≡ line_span head (field_opening s level f)
-        ++ (inside ++ line_span [] (closing level))
+        ++ (inside ++ line_span [] (end_line level))
         → ShowsRecord s depth budget level (Some f) n (bytes payload) text spans
     block : {s : Schema} {depth budget level n : ℕ} {found : Option Field} {fs : Fields}
         {text : List ℕ} {spans : List Span} (start body end : List ℕ) (inside : List Span)
@@ -196,7 +196,7 @@ mutual
         → Shows s (depth - 1) (guesses_in (type_in found) budget) (level + 1) (type_in found) fs
         body inside
         → IsTagSpelling n EndGroup end → text ≡ start ++ (body ++ end)
-        → spans ≡ group_opening s level n found start ++ (inside ++ line_span end (closing level))
+        → spans ≡ group_opening s level n found start ++ (inside ++ line_span end (end_line level))
         → ShowsRecord s depth budget level found n (group fs) text spans
 
   -- the lines of records, which these bytes spell, in a message of the type at this place, if the

@@ -8,10 +8,10 @@ ghost use Rattle.wire_base.specs.Read.{Reads};
 ghost use Rattle.wire_base.specs.Spells.{Spells};
 ghost use Rattle.wire_base.specs.Tag.{IsTagSpelling};
 ghost use Rattle.wire_read.specs.declared.event.Fault.{Fault};
-ghost use Rattle.wire_read.specs.Reading.{item, groups_of, limits_of, Begins};
-ghost use Rattle.wire_dump.specs.Dumped.{IsDumped, IsDumpedFront, ItemLines, Puts, RecordLines};
+ghost use Rattle.wire_read.specs.Reading.{item, groups_of, limits_in, Begins};
+ghost use Rattle.wire_dump.specs.Dumped.{IsDumped, IsDumpedFront, ItemLines, Prints, RecordLines};
 ghost use Rattle.wire_dump.specs.Dumps.{SpellsRecord};
-ghost use Rattle.wire_dump.specs.Front.{IsNoGuess, PutsFront, TakesRecord};
+ghost use Rattle.wire_dump.specs.Front.{IsNoGuess, PrintsFront, PrintsRecord};
 
 use crate::layout::Layout;
 use crate::line::{put_closing, put_fixed, put_number, put_opening};
@@ -33,14 +33,14 @@ pub(crate) fn put_records(
     reader: &mut Reader,
     bytes: &[u8],
 ) -> Result<(), Stop>
-    requires begins { Begins (limits_of reader.old) reader.old }
+    requires begins { Begins (limits_in reader.old) reader.old }
     requires room { layout.level + 128 * layout.budget + 128 < 2 ^ 31 }
     requires shallow { layout.budget ≤ 100 }
     requires placed { place + length bytes.now < 2 ^ 64 }
-    ensures ok { OnOk result (IsDumped layout place (limits_of reader.old) bytes.now
+    ensures ok { OnOk result (IsDumped layout place (limits_in reader.old) bytes.now
         out.old.items out.new.items) }
     ensures fault { (f : Fault) → result ≡ Err (Stop.Fault f)
-        → IsDumpedFront layout place (limits_of reader.old) bytes.now f (groups_of reader.new)
+        → IsDumpedFront layout place (limits_in reader.old) bytes.now f (groups_of reader.new)
         out.old.items out.new.items }
 {
     laws::reader_begins();
@@ -72,7 +72,7 @@ pub(crate) fn put_item(
     requires few { count ≤ 100 }
     requires placed { place + length text.now < 2 ^ 64 }
     requires is { IsItem (item event.now.number event.now.value) text.now }
-    ensures { OnOk result (Puts layout place
+    ensures { OnOk result (Prints layout place
         (ItemLines layout count (item event.now.number event.now.value) text.now)
         text.now out.old.items out.new.items) }
 {
@@ -108,7 +108,7 @@ fn put_payload(
     requires shallow { layout.budget ≤ 100 }
     requires placed { place + length text.now < 2 ^ 64 }
     requires is { SpellsRecord number (bytes payload.now) text.now }
-    ensures { OnOk result (Puts layout place
+    ensures { OnOk result (Prints layout place
         (RecordLines layout number (bytes payload.now) text.now)
         text.now out.old.items out.new.items) }
 {
@@ -142,7 +142,7 @@ fn put_message(
     requires shallow { layout.budget ≤ 100 }
     requires placed { place + length text.now < 2 ^ 64 }
     requires is { SpellsRecord number (bytes payload.now) text.now }
-    ensures { OnOk result (Puts layout place
+    ensures { OnOk result (Prints layout place
         (RecordLines layout number (bytes payload.now) text.now)
         text.now out.old.items out.new.items) }
 {
@@ -237,7 +237,7 @@ fn put_front(
     requires room { layout.level + 128 * layout.budget + 28 < 2 ^ 31 }
     requires shallow { layout.budget ≤ 100 }
     requires placed { place + length bytes.now < 2 ^ 64 }
-    ensures { IfOk result (λ count. PutsFront layout place bytes.now count
+    ensures { IfOk result (λ count. PrintsFront layout place bytes.now count
         out.old.items out.new.items) }
 {
     grammar::joined_texts_spell();
@@ -266,7 +266,7 @@ fn put_record(
     requires room { layout.level + 128 * layout.budget + 28 < 2 ^ 31 }
     requires shallow { layout.budget ≤ 100 }
     requires placed { place + length bytes.now < 2 ^ 64 }
-    ensures { IfOk result (λ count. TakesRecord layout place bytes.now count
+    ensures { IfOk result (λ count. PrintsRecord layout place bytes.now count
         out.old.items out.new.items) }
 {
     let mut behind = bytes;
@@ -298,7 +298,7 @@ fn put_bytes(
     requires shallow { layout.budget ≤ 100 }
     requires placed { place + length bytes.now < 2 ^ 64 }
     requires tag { Reads bytes.now (IsTagSpelling number LengthDelimited) behind.now }
-    ensures { IfOk result (λ count. TakesRecord layout place bytes.now count
+    ensures { IfOk result (λ count. PrintsRecord layout place bytes.now count
         out.old.items out.new.items) }
 {
     let mut rest = behind;

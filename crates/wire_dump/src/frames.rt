@@ -1,7 +1,7 @@
 //! The lines of the frames of a log.
 ghost use Rattle.std.specs.Prelude.{◌≡◌, ◌+◌, ◌*◌, ◌^◌, ◌<◌, ◌≤◌, length, OnOk, Err};
 ghost use Rattle.wire_read.specs.declared.event.Fault.{Fault};
-ghost use Rattle.wire_read.specs.Reading.{groups_of, limits_of, Begins};
+ghost use Rattle.wire_read.specs.Reading.{groups_of, limits_in, Begins};
 ghost use Rattle.wire_dump.specs.declared.parts.Cut.TheVariants as cuts;
 ghost use Rattle.wire_dump.specs.Frames.{IsDumpedFrame, frame_opened};
 ghost use Rattle.wire_dump.specs.Dumped.{IsDumpedFront};
@@ -28,16 +28,16 @@ pub(crate) fn write_frame<W: Write>(
     reader: &mut Reader,
     payload: &[u8],
 ) -> Result<(), Cut<Stop>>
-    requires begins { Begins (limits_of reader.old) reader.old }
+    requires begins { Begins (limits_in reader.old) reader.old }
     requires room { layout.level + 128 * layout.budget + 128 < 2 ^ 31 }
     requires shallow { layout.budget ≤ 100 }
     requires placed { payload_place + length payload.now < 2 ^ 64 }
     ensures ok { OnOk result (InParts (W.contents sink.old) (W.contents sink.new) out.new.items
-        (IsDumpedFrame layout index place payload_place (limits_of reader.old) payload.now
+        (IsDumpedFrame layout index place payload_place (limits_in reader.old) payload.now
         out.old.items)) }
     ensures fault { (f : Fault) → result ≡ Err (cuts.Stop (Stop.Fault f))
         → InParts (W.contents sink.old) (W.contents sink.new) out.new.items
-        (IsDumpedFront layout payload_place (limits_of reader.old) payload.now f
+        (IsDumpedFront layout payload_place (limits_in reader.old) payload.now f
         (groups_of reader.new)
         (frame_opened layout.has_offsets index place payload_place out.old.items)) }
 {

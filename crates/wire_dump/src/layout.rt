@@ -1,6 +1,6 @@
 //! How lines are put.
 ghost use Rattle.std.specs.Prelude.{◌≡◌, ◌+◌, ◌^◌, ◌<◌};
-ghost use Rattle.wire_dump.specs.Dumped.{inside};
+ghost use Rattle.wire_dump.specs.Dumped.{further_in};
 
 /// How lines are put.
 #[derive(Clone, Copy, Debug)]
@@ -46,7 +46,7 @@ impl Layout {
     /// So many levels further in.
     pub(crate) fn inside(self, count: u32) -> Layout
         requires { self.level + count < 2 ^ 32 }
-        ensures { result ≡ inside count self }
+        ensures { result ≡ further_in count self }
     {
         Layout {
             has_offsets: self.has_offsets,

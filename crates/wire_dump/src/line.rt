@@ -1,7 +1,7 @@
 //! Lines of a dump, put behind what was put.
 ghost use Rattle.std.specs.Prelude.{◌≡◌, ◌+◌, ◌*◌, ◌^◌, ◌<◌, ◌≤◌, ◌/◌, ◌%◌, [], ◌∷◌, ◌++◌, codes, decimal, true, OnOk};
 ghost use Rattle.wire_dump.specs.Frames.{frame_opening};
-ghost use Rattle.wire_dump.specs.Lines.{closing, fixed_line, hexadecimal, hexadecimal_digit, indented, line, number_line, opening};
+ghost use Rattle.wire_dump.specs.Lines.{end_line, fixed_line, hexadecimal, hexadecimal_digit, indented, line, number_line, opening};
 ghost use Rattle.wire_dump.specs.Places.{range_text};
 
 use crate::layout::Margin;
@@ -276,7 +276,7 @@ pub(crate) fn put_frame_opening(
 #[inline(always)]
 pub(crate) fn put_closing(out: &mut Vec<u8>, margin: Margin, level: u32) -> Result<(), AllocError>
     ensures { OnOk result (out.new.items ≡ out.old.items
-        ++ (range_text margin.is_shown margin.start margin.end ++ closing level)) }
+        ++ (range_text margin.is_shown margin.start margin.end ++ end_line level)) }
 {
     put_margin(out, margin)?;
     put_indentation(out, level)?;

@@ -3,7 +3,7 @@ ghost use Rattle.std.specs.Prelude.{◌≡◌, ◌++◌, ℕ, List, IfSome, IfNo
 ghost use Rattle.std.specs.Fmt.{signed_decimal};
 ghost use Rattle.std.specs.Option.{option_map_or};
 ghost use Rattle.wire_base.specs.Read.{Reads};
-ghost use Rattle.wire_dump.specs.Numbers.{is_closed_at, is_known, number_type, value_name, IsNumber, IsNumberText};
+ghost use Rattle.wire_dump.specs.Numbers.{is_closed_at, is_known, number_type, value_name, IsNumber, ShowsNumber};
 
 use crate::float_text::{put_double, put_float};
 use itoa::Buffer;
@@ -88,7 +88,7 @@ pub(crate) fn put_number_value(
     number: u64,
 ) -> Result<(), AllocError>
     requires { is_some (number_type kind) ≡ true }
-    ensures { OnOk result ((text : List ℕ) × IsNumberText schema.now kind number text
+    ensures { OnOk result ((text : List ℕ) × ShowsNumber schema.now kind number text
         × (out.new.items ≡ out.old.items ++ text)) }
 {
     match kind {

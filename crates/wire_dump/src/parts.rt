@@ -1,7 +1,7 @@
 //! Lines that go out in parts, so that not all of them are held at once.
 ghost use Rattle.std.specs.Prelude.{◌≡◌, ◌+◌, ◌*◌, ◌^◌, ◌<◌, ◌≤◌, length, OnOk, Err};
 ghost use Rattle.wire_read.specs.declared.event.Fault.{Fault};
-ghost use Rattle.wire_read.specs.Reading.{groups_of, limits_of, Begins};
+ghost use Rattle.wire_read.specs.Reading.{groups_of, limits_in, Begins};
 ghost use Rattle.wire_dump.specs.declared.parts.Cut.TheVariants as cuts;
 ghost use Rattle.wire_dump.specs.declared.stop.Stop.TheVariants as stops;
 ghost use Rattle.wire_dump.specs.Dumped.{IsDumped, IsDumpedFront};
@@ -68,15 +68,15 @@ pub(crate) fn write_records<W: Write>(
     reader: &mut Reader,
     bytes: &[u8],
 ) -> Result<(), Cut<Stop>>
-    requires begins { Begins (limits_of reader.old) reader.old }
+    requires begins { Begins (limits_in reader.old) reader.old }
     requires room { layout.level + 128 * layout.budget + 128 < 2 ^ 31 }
     requires shallow { layout.budget ≤ 100 }
     requires placed { place + length bytes.now < 2 ^ 64 }
     ensures ok { OnOk result (InParts (W.contents sink.old) (W.contents sink.new) out.new.items
-        (IsDumped layout place (limits_of reader.old) bytes.now out.old.items)) }
+        (IsDumped layout place (limits_in reader.old) bytes.now out.old.items)) }
     ensures fault { (f : Fault) → result ≡ Err (cuts.Stop (stops.Fault f))
         → InParts (W.contents sink.old) (W.contents sink.new) out.new.items
-        (IsDumpedFront layout place (limits_of reader.old) bytes.now f (groups_of reader.new)
+        (IsDumpedFront layout place (limits_in reader.old) bytes.now f (groups_of reader.new)
         out.old.items) }
 {
     laws::reader_begins();

@@ -3,7 +3,7 @@ ghost use Rattle.std.specs.Prelude.{◌+◌, ◌^◌, ◌<◌, length, IfOk};
 ghost use Rattle.wire_base.specs.declared.tag.WireType.TheVariants.{Varint, Fixed64, Fixed32};
 ghost use Rattle.wire_base.specs.Read.{Reads};
 ghost use Rattle.wire_base.specs.Tag.{IsTagSpelling};
-ghost use Rattle.wire_dump.specs.Front.{TakesRecord};
+ghost use Rattle.wire_dump.specs.Front.{PrintsRecord};
 
 use crate::layout::Layout;
 use crate::line::{put_fixed, put_number};
@@ -23,7 +23,7 @@ pub(crate) fn put_varint(
 ) -> Result<usize, AllocError>
     requires placed { place + length bytes.now < 2 ^ 64 }
     requires tag { Reads bytes.now (IsTagSpelling number Varint) behind.now }
-    ensures { IfOk result (λ count. TakesRecord layout place bytes.now count
+    ensures { IfOk result (λ count. PrintsRecord layout place bytes.now count
         out.old.items out.new.items) }
 {
     let mut rest = behind;
@@ -48,7 +48,7 @@ pub(crate) fn put_fixed64(
 ) -> Result<usize, AllocError>
     requires placed { place + length bytes.now < 2 ^ 64 }
     requires tag { Reads bytes.now (IsTagSpelling number Fixed64) behind.now }
-    ensures { IfOk result (λ count. TakesRecord layout place bytes.now count
+    ensures { IfOk result (λ count. PrintsRecord layout place bytes.now count
         out.old.items out.new.items) }
 {
     let mut rest = behind;
@@ -73,7 +73,7 @@ pub(crate) fn put_fixed32(
 ) -> Result<usize, AllocError>
     requires placed { place + length bytes.now < 2 ^ 64 }
     requires tag { Reads bytes.now (IsTagSpelling number Fixed32) behind.now }
-    ensures { IfOk result (λ count. TakesRecord layout place bytes.now count
+    ensures { IfOk result (λ count. PrintsRecord layout place bytes.now count
         out.old.items out.new.items) }
 {
     let mut rest = behind;

@@ -4,7 +4,7 @@ ghost use Rattle.wire_read.specs.declared.event.Fault.{Fault};
 ghost use Rattle.wire_read.specs.Budget.{read_limits};
 ghost use Rattle.wire_read.specs.Faults.{IsFault};
 ghost use Rattle.wire_read.specs.Reading.{groups_of};
-ghost use Rattle.wire_dump.specs.Refused.{IsRefused};
+ghost use Rattle.wire_dump.specs.Refused.{BreaksAt};
 ghost use Rattle.wire_dump.specs.Shortened.{IsShortened};
 
 use crate::stop::Stop;
@@ -40,7 +40,7 @@ pub(crate) fn shortest_text(
 /// A reader where these bytes do not go on as records, or at their end.
 pub(crate) fn reader_at_stop(context: &DecodeContext, bytes: &[u8]) -> Reader
     ensures { (f : Fault) → IsFault (read_limits context.now) bytes.now f
-        → IsRefused (read_limits context.now) bytes.now f (groups_of result) }
+        → BreaksAt (read_limits context.now) bytes.now f (groups_of result) }
 {
     laws::reader_begins();
     laws::reader_goes_on();

@@ -4,14 +4,14 @@ ghost use Rattle.std.specs.Option.{option_copied};
 ghost use Rattle.wire_base.specs.Field.{bytes};
 ghost use Rattle.wire_base.specs.Items.{IsItem};
 ghost use Rattle.wire_read.specs.declared.event.Fault.{Fault};
-ghost use Rattle.wire_read.specs.Reading.{item, limits_of, Begins};
+ghost use Rattle.wire_read.specs.Reading.{item, limits_in, Begins};
 ghost use Rattle.wire_dynamic.specs.declared.field.Kind.TheVariants as kinds;
 ghost use Rattle.wire_dynamic.specs.Told.{reader_of, root_of, schema_of};
 ghost use Rattle.wire_dump.specs.declared.misfit.Misfit.{Misfit};
 ghost use Rattle.wire_dump.specs.declared.typed.Halt.TheVariants as halts;
 ghost use Rattle.wire_dump.specs.declared.typed_record.Unput.TheVariants as unputs;
 ghost use Rattle.wire_dump.specs.Dumps.{SpellsRecord};
-ghost use Rattle.wire_dump.specs.Shown.{payload_of, AreRecords, IsRecord, IsShownFront, IsUnfit, ItemSpans, PutsSpans};
+ghost use Rattle.wire_dump.specs.Shown.{event_payload, AreRecords, IsRecord, IsShownFront, IsUnfit, ItemSpans, PutsSpans};
 ghost use Rattle.wire_dump.specs.Shows.{ShowsRecord};
 
 use crate::dump::put_item;
@@ -64,18 +64,18 @@ impl Typed<'_> {
         walk: &mut Walk<'_>,
         bytes: &[u8],
     ) -> Result<(), Halt>
-        requires begins { Begins (limits_of (reader_of walk.old)) (reader_of walk.old) }
+        requires begins { Begins (limits_in (reader_of walk.old)) (reader_of walk.old) }
         requires schema { schema_of walk.old ≡ self.now.schema.now }
         requires shallow { spot.depth ≤ 100 }
         requires bounded { spot.level + spot.depth ≤ 200 }
         requires placed { spot.place + length bytes.now < 2 ^ 64 }
         ensures ok { OnOk result (PutsSpans self.now spot.place
             (AreRecords self.now.schema.now spot.depth spot.level (root_of walk.old)
-            (limits_of (reader_of walk.old)) bytes.now) bytes.now
+            (limits_in (reader_of walk.old)) bytes.now) bytes.now
             out.old.text.items out.old.has_note out.new) }
         ensures fault { (f : Fault) → result ≡ Err (halts.Fault f)
             → IsShownFront self.now spot.depth spot.level (root_of walk.old) spot.place
-            (limits_of (reader_of walk.old)) bytes.now f
+            (limits_in (reader_of walk.old)) bytes.now f
             out.old.text.items out.old.has_note out.new }
         ensures misfit { (m : Misfit) → result ≡ Err (halts.Misfit m)
             → IsTrue self.now.is_strict }
@@ -161,11 +161,11 @@ impl Typed<'_> {
         requires guesses { spot.budget ≤ 10 }
         requires bounded { 0 < spot.depth → spot.level + spot.depth ≤ 200 }
         requires placed { spot.place + length text.now < 2 ^ 64 }
-        requires is { IsRecord told.now.event.number (payload_of told.now.event.value) text.now }
+        requires is { IsRecord told.now.event.number (event_payload told.now.event.value) text.now }
         ensures ok { OnOk result (PutsSpans self.now spot.place
             (ShowsRecord self.now.schema.now spot.depth spot.budget spot.level
             (option_copied told.now.field)
-            told.now.event.number (payload_of told.now.event.value) text.now)
+            told.now.event.number (event_payload told.now.event.value) text.now)
             text.now out.old.text.items out.old.has_note out.new) }
         ensures misfit { (m : Misfit) → result ≡ Err (unputs.Misfit m)
             → IsTrue self.now.is_strict }
@@ -196,12 +196,12 @@ impl Typed<'_> {
         requires bounded { 0 < found.now.spot.depth
             → found.now.spot.level + found.now.spot.depth ≤ 200 }
         requires placed { found.now.spot.place + length found.now.text.now < 2 ^ 64 }
-        requires is { IsRecord found.now.event.number (payload_of found.now.event.value)
+        requires is { IsRecord found.now.event.number (event_payload found.now.event.value)
             found.now.text.now }
         ensures ok { OnOk result (PutsSpans self.now found.now.spot.place
             (ShowsRecord self.now.schema.now found.now.spot.depth found.now.spot.budget
             found.now.spot.level (Some found.now.field.now) found.now.event.number
-            (payload_of found.now.event.value)
+            (event_payload found.now.event.value)
             found.now.text.now) found.now.text.now out.old.text.items out.old.has_note out.new) }
         ensures misfit { (m : Misfit) → result ≡ Err (unputs.Misfit m)
             → IsTrue self.now.is_strict }
@@ -223,15 +223,15 @@ impl Typed<'_> {
         requires bounded { 0 < found.now.spot.depth
             → found.now.spot.level + found.now.spot.depth ≤ 200 }
         requires placed { found.now.spot.place + length found.now.text.now < 2 ^ 64 }
-        requires is { IsRecord found.now.event.number (payload_of found.now.event.value)
+        requires is { IsRecord found.now.event.number (event_payload found.now.event.value)
             found.now.text.now }
         ensures fits { IfOk result (λ cause. IfNone cause (PutsSpans self.now found.now.spot.place
             (ShowsRecord self.now.schema.now found.now.spot.depth found.now.spot.budget
             found.now.spot.level (Some found.now.field.now) found.now.event.number
-            (payload_of found.now.event.value)
+            (event_payload found.now.event.value)
             found.now.text.now) found.now.text.now out.old.text.items out.old.has_note out.new)) }
         ensures unfit { IfOk result (λ cause. IfSome cause (λ _. IsUnfit found.now.spot.depth
-            found.now.field.now (payload_of found.now.event.value) out.old.text.items out.new)) }
+            found.now.field.now (event_payload found.now.event.value) out.old.text.items out.new)) }
         ensures misfit { (m : Misfit) → result ≡ Err (unputs.Misfit m)
             → IsTrue self.now.is_strict }
     {

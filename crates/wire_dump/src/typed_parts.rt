@@ -1,7 +1,7 @@
 //! Lines with a schema that go out in parts.
 ghost use Rattle.std.specs.Prelude.{◌≡◌, ◌+◌, ◌^◌, ◌<◌, ◌≤◌, IsTrue, OnOk, Err, length};
 ghost use Rattle.wire_read.specs.declared.event.Fault.{Fault};
-ghost use Rattle.wire_read.specs.Reading.{limits_of, Begins};
+ghost use Rattle.wire_read.specs.Reading.{limits_in, Begins};
 ghost use Rattle.wire_dynamic.specs.Told.{reader_of, root_of, schema_of};
 ghost use Rattle.wire_dump.specs.declared.misfit.Misfit.{Misfit};
 ghost use Rattle.wire_dump.specs.declared.parts.Cut.TheVariants as cuts;
@@ -45,7 +45,7 @@ impl Typed<'_> {
         walk: &mut Walk<'_>,
         bytes: &[u8],
     ) -> Result<(), Cut<Halt>>
-        requires begins { Begins (limits_of (reader_of walk.old)) (reader_of walk.old) }
+        requires begins { Begins (limits_in (reader_of walk.old)) (reader_of walk.old) }
         requires schema { schema_of walk.old ≡ self.now.schema.now }
         requires shallow { spot.depth ≤ 100 }
         requires bounded { spot.level + spot.depth ≤ 200 }
@@ -53,12 +53,12 @@ impl Typed<'_> {
         ensures ok { OnOk result (InParts (W.contents sink.old) (W.contents sink.new)
             out.new.text.items (λ all. PutsText self.now spot.place
             (AreRecords self.now.schema.now spot.depth spot.level (root_of walk.old)
-            (limits_of (reader_of walk.old)) bytes.now) bytes.now
+            (limits_in (reader_of walk.old)) bytes.now) bytes.now
             out.old.text.items out.old.has_note all out.new.has_note)) }
         ensures fault { (f : Fault) → result ≡ Err (cuts.Stop (halts.Fault f))
             → InParts (W.contents sink.old) (W.contents sink.new) out.new.text.items
             (λ all. IsFrontText self.now spot.depth spot.level (root_of walk.old) spot.place
-            (limits_of (reader_of walk.old)) bytes.now f
+            (limits_in (reader_of walk.old)) bytes.now f
             out.old.text.items out.old.has_note all out.new.has_note) }
         ensures misfit { (m : Misfit) → result ≡ Err (cuts.Stop (halts.Misfit m))
             → IsTrue self.now.is_strict }

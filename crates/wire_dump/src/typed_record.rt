@@ -8,8 +8,8 @@ ghost use Rattle.wire_dump.specs.declared.typed_record.Unput.TheVariants as unpu
 ghost use Rattle.wire_dump.specs.Dumps.{SpellsRecord};
 ghost use Rattle.wire_dump.specs.Numbers.{number_in, number_type};
 ghost use Rattle.wire_dump.specs.Places.{range_text};
-ghost use Rattle.wire_dump.specs.Shown.{payload_of, IsRecord, IsUnfit, PutsSpans};
-ghost use Rattle.wire_dump.specs.Shows.{group_opening, BytesFit, FitsField, IsNumberLine, IsNoString, IsString, ShowsRecord};
+ghost use Rattle.wire_dump.specs.Shown.{event_payload, IsRecord, IsUnfit, PutsSpans};
+ghost use Rattle.wire_dump.specs.Shows.{group_opening, BytesFit, FitsField, IsNumberLine, IsNoString, IsQuoted, ShowsRecord};
 
 use crate::dump::put_item;
 use crate::layout::{BUDGET, Layout, Margin};
@@ -132,14 +132,14 @@ impl Typed<'_> {
         requires room { found.now.spot.level ≤ 300 }
         requires guesses { found.now.spot.budget ≤ 10 }
         requires placed { found.now.spot.place + length found.now.text.now < 2 ^ 64 }
-        requires is { IsRecord found.now.event.number (payload_of found.now.event.value)
+        requires is { IsRecord found.now.event.number (event_payload found.now.event.value)
             found.now.text.now }
         requires never { FitsField found.now.spot.depth found.now.field.now
-            (payload_of found.now.event.value) → ⊥ }
+            (event_payload found.now.event.value) → ⊥ }
         ensures ok { OnOk result ((before : Bool) → PutsSpans self.now found.now.spot.place
             (ShowsRecord self.now.schema.now found.now.spot.depth found.now.spot.budget
             found.now.spot.level (Some found.now.field.now) found.now.event.number
-            (payload_of found.now.event.value)
+            (event_payload found.now.event.value)
             found.now.text.now) found.now.text.now out.old.text.items before out.new) }
         ensures misfit { (m : Misfit) → result ≡ Err (unputs.Misfit m)
             → IsTrue self.now.is_strict }
@@ -170,7 +170,7 @@ impl Typed<'_> {
         payload: &[u8],
     ) -> Result<Option<Cause>, Unput>
         requires placed { found.now.spot.place + length found.now.text.now < 2 ^ 64 }
-        requires kind { IsString found.now.field.now.kind }
+        requires kind { IsQuoted found.now.field.now.kind }
         requires is { SpellsRecord found.now.event.number (bytes payload.now) found.now.text.now }
         ensures fits { IfOk result (λ cause. IfNone cause (PutsSpans self.now found.now.spot.place
             (ShowsRecord self.now.schema.now found.now.spot.depth found.now.spot.budget
@@ -198,17 +198,17 @@ impl Typed<'_> {
         number: u64,
     ) -> Result<Option<Cause>, Unput>
         requires placed { found.now.spot.place + length found.now.text.now < 2 ^ 64 }
-        requires is { IsRecord found.now.event.number (payload_of found.now.event.value)
+        requires is { IsRecord found.now.event.number (event_payload found.now.event.value)
             found.now.text.now }
-        requires number { number_in (payload_of found.now.event.value) ≡ Some number }
-        requires type_is { type_of (payload_of found.now.event.value) ≡ wire_type }
+        requires number { number_in (event_payload found.now.event.value) ≡ Some number }
+        requires type_is { type_of (event_payload found.now.event.value) ≡ wire_type }
         ensures fits { IfOk result (λ cause. IfNone cause (PutsSpans self.now found.now.spot.place
             (ShowsRecord self.now.schema.now found.now.spot.depth found.now.spot.budget
             found.now.spot.level (Some found.now.field.now) found.now.event.number
-            (payload_of found.now.event.value)
+            (event_payload found.now.event.value)
             found.now.text.now) found.now.text.now out.old.text.items out.old.has_note out.new)) }
         ensures unfit { IfOk result (λ cause. IfSome cause (λ _. IsUnfit found.now.spot.depth
-            found.now.field.now (payload_of found.now.event.value) out.old.text.items out.new)) }
+            found.now.field.now (event_payload found.now.event.value) out.old.text.items out.new)) }
         ensures misfit { (m : Misfit) → result ≡ Err (unputs.Misfit m) → ⊥ }
     {
         if number_type(found.field.kind) != Some(wire_type) {
@@ -309,7 +309,7 @@ impl Typed<'_> {
 
 // Whether bytes fit a field of strings or of bytes.
 fn is_string_of(field: &Field, bytes: &[u8]) -> bool
-    requires kind { IsString field.now.kind }
+    requires kind { IsQuoted field.now.kind }
     ensures yes { IsTrue result → (depth : ℕ) → BytesFit depth field.now field.now.kind bytes.now }
     ensures no { IsFalse result → (depth : ℕ)
         → BytesFit depth field.now field.now.kind bytes.now → ⊥ }

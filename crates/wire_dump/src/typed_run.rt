@@ -1,6 +1,6 @@
 //! Runs with a schema.
 ghost use Rattle.std.specs.Prelude.{◌≡◌, ◌+◌, ◌^◌, ◌<◌, length, min};
-ghost use Rattle.wire_read.specs.Reading.{limits_of, Begins};
+ghost use Rattle.wire_read.specs.Reading.{limits_in, Begins};
 ghost use Rattle.wire_dynamic.specs.Told.{reader_of, schema_of};
 
 use crate::fault_line::{RecordsPlace, tell_named_fault};
@@ -196,7 +196,7 @@ impl TypedRun<'_> {
         walk: &mut Walk<'_>,
         payload: &[u8],
     ) -> Result<(), Cut<Halt>>
-        requires begins { Begins (limits_of (reader_of walk.old)) (reader_of walk.old) }
+        requires begins { Begins (limits_in (reader_of walk.old)) (reader_of walk.old) }
         requires schema { schema_of walk.old ≡ self.now.typed.schema.now }
         requires placed { records.now.place + length payload.now < 2 ^ 64 }
     {

@@ -20,7 +20,7 @@ use Rattle.wire_dynamic.specs.declared.error.SchemaError.{SchemaError}
 use Rattle.wire_dynamic.specs.declared.error.SchemaError.TheVariants as errors
 use Rattle.wire_dynamic.specs.declared.features.Features.{Features}
 use Rattle.wire_dynamic.specs.Declares.{own_enums, own_extensions, at_descriptor, scope_of, standing, AllOf, none, one, AreNestedIn, FileDeclares, FilesDeclare, IsEnumOf, IsExtensionOf, IsNestedIn, IsOutermost, IsShallow, Parts, Standing}
-use Rattle.wire_dynamic.specs.DeclaresFault.{deeper, itself, FileFault, IsAtFault, MessageFault, NestedFault}
+use Rattle.wire_dynamic.specs.DeclaresFault.{deeper, itself, FileFault, IsAtFault, TypeFault, NestedFault}
 use Rattle.wire_dynamic.specs.Errors.{decode_failed}
 use Rattle.wire_dynamic.specs.Features.{file_features}
 use Rattle.wire_dynamic.specs.Gained.{AreWithin, Gains, GainsAll, GainsFile, GainsMessage}
@@ -218,7 +218,7 @@ message_gained m old mid new level all pushed enums extensions = (
 
 pub fault_here : (m : DeclaredMessage) (bytes : Vec ℕ Global) (read : List ℕ) (e : SchemaError)
     → Contains m.descriptor.nested_type.items bytes → read ≡ bytes.items
-    → NestedFault m read e → MessageFault m e
+    → NestedFault m read e → TypeFault m e
 fault_here m bytes read e is same fault = record {
   message = m;
   stands = itself;
@@ -229,7 +229,7 @@ fault_here m bytes read e is same fault = record {
 
 pub fault_deeper : (m n : DeclaredMessage) (bytes : Vec ℕ Global) (e : SchemaError)
     → Contains m.descriptor.nested_type.items bytes → IsNestedIn m bytes.items n
-    → MessageFault n e → MessageFault m e
+    → TypeFault n e → TypeFault m e
 fault_deeper m n bytes e is nested f = record {
   message = f.message;
   stands = deeper bytes is nested f.stands;

@@ -29,7 +29,7 @@ NestedFault m bytes (errors.TooMany name) =
 NestedFault m bytes _ = ⊥
 
 -- there is such a fault in a message type, at whatever level
-pub record MessageFault (outer : DeclaredMessage) (e : SchemaError) : Type 0 where
+pub record TypeFault (outer : DeclaredMessage) (e : SchemaError) : Type 0 where
   pub message : DeclaredMessage
   pub stands : StandsIn outer message
   pub bytes : Vec ℕ Global
@@ -44,7 +44,7 @@ pub record IsAtFault (file : FileDescriptorProto) (e : SchemaError) : Type 0 whe
   pub own : Contains file.message_type.items descriptor
   pub outermost : DeclaredMessage
   pub declared : IsOutermost file features descriptor outermost
-  pub fault : MessageFault outermost e
+  pub fault : TypeFault outermost e
 
 -- a file of a syntax or an edition that is not known, or with such a fault
 abbrev pub FileFault : FileDescriptorProto → SchemaError → Type 0

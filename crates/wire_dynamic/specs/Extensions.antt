@@ -8,7 +8,7 @@ use Rattle.wire_dynamic.specs.declared.declared.Declared.{Declared}
 use Rattle.wire_dynamic.specs.declared.declared.DeclaredExtension.{DeclaredExtension}
 use Rattle.wire_dynamic.specs.declared.field.Field.{Field}
 use Rattle.wire_dynamic.specs.declared.places.Places.{Places}
-use Rattle.wire_dynamic.specs.Fields.{field_features, number_of, IsField}
+use Rattle.wire_dynamic.specs.Fields.{field_features, as_number, IsField}
 
 -- the order of places of message types and numbers of fields
 abbrev pub place_cmp : ℕ × ℕ → ℕ × ℕ → Ordering
@@ -19,7 +19,7 @@ abbrev pub extends : Places → ℕ × ℕ → DeclaredExtension → Bool
 extends places at e =
     option_map_or (nat_eq at.0)
     (get_by_text places.messages (string_bytes e.descriptor.extendee)) false
-    && nat_eq (number_of e.descriptor.number) at.1
+    && nat_eq (as_number e.descriptor.number) at.1
 
 abbrev pub IsExtension : Declared → Places → DeclaredExtension → Field → Type 0
 IsExtension declared places e f =

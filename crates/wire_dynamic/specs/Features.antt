@@ -10,16 +10,16 @@ use Rattle.wire_descriptor.specs.declared.file_options.FileOptions.{FileOptions}
 use Rattle.wire_dynamic.specs.declared.features.Features.{Features}
 
 -- what is said, where something is said
-abbrev pub or_else : ℤ → ℤ → ℤ
-or_else said otherwise = if int_eq said (pos 0) then otherwise else said
+abbrev pub said_or : ℤ → ℤ → ℤ
+said_or said otherwise = if int_eq said (pos 0) then otherwise else said
 
 -- the features but for what a set says
 abbrev pub features_but_for : Features → FeatureSet → Features
 features_but_for outer set = record {
-  presence = or_else set.field_presence outer.presence;
-  enum_type = or_else set.enum_type outer.enum_type;
-  strings = or_else set.utf8_validation outer.strings;
-  encoding = or_else set.message_encoding outer.encoding;
+  presence = said_or set.field_presence outer.presence;
+  enum_type = said_or set.enum_type outer.enum_type;
+  strings = said_or set.utf8_validation outer.strings;
+  encoding = said_or set.message_encoding outer.encoding;
 }
 
 -- the features but for what a part says itself
@@ -52,8 +52,8 @@ prefixed features = record {
 
 -- those with this presence of fields (1 is explicit and 2 implicit), these enums (1 is open and 2
 -- closed) and this check of strings (2 is one and 3 none), where messages stand behind their length
-abbrev pub length_prefixed : ℤ → ℤ → ℤ → Features
-length_prefixed presence enum_type strings = record {
+abbrev pub length_prefixed_features : ℤ → ℤ → ℤ → Features
+length_prefixed_features presence enum_type strings = record {
   presence = presence;
   enum_type = enum_type;
   strings = strings;
@@ -62,15 +62,15 @@ length_prefixed presence enum_type strings = record {
 
 -- explicit presence, closed enums, and strings that may be no UTF-8
 abbrev pub proto2 : Features
-proto2 = length_prefixed (pos 1) (pos 2) (pos 3)
+proto2 = length_prefixed_features (pos 1) (pos 2) (pos 3)
 
 -- implicit presence, open enums, and strings that are UTF-8
 abbrev pub proto3 : Features
-proto3 = length_prefixed (pos 2) (pos 1) (pos 2)
+proto3 = length_prefixed_features (pos 2) (pos 1) (pos 2)
 
 -- explicit presence, open enums, and strings that are UTF-8
 abbrev pub edition_2023 : Features
-edition_2023 = length_prefixed (pos 1) (pos 1) (pos 2)
+edition_2023 = length_prefixed_features (pos 1) (pos 1) (pos 2)
 
 -- What a syntax leaves to a file, or an edition where the syntax says that there is one; the one
 -- that is known is 2023, whose number is 1000. A file that names no syntax is of proto2.

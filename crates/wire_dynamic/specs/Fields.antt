@@ -19,13 +19,13 @@ use Rattle.wire_dynamic.specs.declared.places.Places.{Places}
 use Rattle.wire_dynamic.specs.Features.{features_with, is_checked, is_delimited, is_legacy_required, prefixed}
 
 -- the number of a field, or 0 where it is below that
-abbrev pub number_of : ℤ → ℕ
-number_of (pos n) = n
-number_of (negsuc n) = 0
+abbrev pub as_number : ℤ → ℕ
+as_number (pos n) = n
+as_number (negsuc n) = 0
 
 -- whether a field has this number
 abbrev pub has_number : ℕ → FieldDescriptorProto → Bool
-has_number n d = nat_eq (number_of d.number) n
+has_number n d = nat_eq (as_number d.number) n
 
 -- no two fields have one number
 abbrev pub AreNumberedApart : List FieldDescriptorProto → Type 0
@@ -84,8 +84,8 @@ message_kind declared features place =
 
 -- what a field of these features holds, by its type and the name of that; 10 is a group, 11 a
 -- message and 14 an enum
-abbrev pub kind_of : Declared → Places → Features → FieldDescriptorProto → Option Kind
-kind_of declared places features d =
+abbrev pub kind_in : Declared → Places → Features → FieldDescriptorProto → Option Kind
+kind_in declared places features d =
     if int_eq d.type_ (pos 10)
     then option_map kinds.Group (get_by_text places.messages (string_bytes d.type_name))
     else (if int_eq d.type_ (pos 11)
@@ -103,7 +103,7 @@ pub record IsField (declared : Declared) (places : Places) (features : Features)
   pub positive : 0 < f.number
   pub within : f.number ≤ 536870911
   pub named : string_bytes f.name ≡ name
-  pub kind : kind_of declared places features d ≡ Some f.kind
+  pub kind : kind_in declared places features d ≡ Some f.kind
   pub extension : f.is_extension ≡ not (bytes_eq (string_bytes d.extendee) [])
   pub repeated : f.is_repeated ≡ int_eq d.label (pos 3)
   pub required : f.is_required ≡ (int_eq d.label (pos 2) || is_legacy_required features)

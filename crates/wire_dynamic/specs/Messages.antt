@@ -8,7 +8,7 @@ use Rattle.wire_dynamic.specs.declared.declared.DeclaredMessage.{DeclaredMessage
 use Rattle.wire_dynamic.specs.declared.field.Field.{Field}
 use Rattle.wire_dynamic.specs.declared.message_type.MessageType.{MessageType}
 use Rattle.wire_dynamic.specs.declared.places.Places.{Places}
-use Rattle.wire_dynamic.specs.Fields.{field_has_name, has_number, is_entry, number_of, own_features, AreNumberedApart, IsField}
+use Rattle.wire_dynamic.specs.Fields.{field_has_name, has_number, is_entry, as_number, own_features, AreNumberedApart, IsField}
 use Rattle.wire_dynamic.specs.Table.{IsTableOf}
 
 -- a field of a message type
@@ -27,14 +27,14 @@ own_field_named m name = option_and_then (get nat_cmp m.fields) (get_by_text m.n
 
 -- No two fields have one number. At each number the type has the first field that is declared with
 -- it, and at each name the first with that, by its number.
-pub record IsMessage (declared : Declared) (places : Places) (message : DeclaredMessage)
+pub record IsAsDeclared (declared : Declared) (places : Places) (message : DeclaredMessage)
     (m : MessageType) : Type 0 where
   pub named : string_bytes m.name ≡ string_bytes message.name
   pub entry : m.is_entry ≡ is_entry message
   pub apart : AreNumberedApart message.descriptor.field.items
   pub fields : IsTableOf has_number (IsOwnField declared places message)
       message.descriptor.field.items (get nat_cmp m.fields)
-  pub numbers : IsTableOf field_has_name (λ d number. number ≡ number_of d.number)
+  pub numbers : IsTableOf field_has_name (λ d number. number ≡ as_number d.number)
       message.descriptor.field.items (get_by_text m.numbers)
   pub by_name : IsTableOf field_has_name (IsOwnField declared places message)
       message.descriptor.field.items (own_field_named m)

@@ -16,7 +16,7 @@ use Rattle.wire_dynamic.specs.declared.places.Places.{Places}
 use Rattle.wire_dynamic.specs.Declares.{IsDeclaredBy}
 use Rattle.wire_dynamic.specs.DeclaresFault.{SetFault}
 use Rattle.wire_dynamic.specs.Extensions.{extends}
-use Rattle.wire_dynamic.specs.Fields.{field_features, has_number, kind_of, number_of, own_features}
+use Rattle.wire_dynamic.specs.Fields.{field_features, has_number, kind_in, as_number, own_features}
 use Rattle.wire_dynamic.specs.Places.{enum_has_name, message_has_name, ArePlaces}
 
 -- several of these have the name that the error tells
@@ -51,14 +51,14 @@ abbrev pub FieldFault : Declared → Places → Features → List ℕ → FieldD
 FieldFault declared places features name d (errors.NoNumber field) =
     (string_bytes field ≡ name) × IsNoNumber d.number
 FieldFault declared places features name d e =
-    IsWantOfKind name d e × (kind_of declared places features d ≡ None)
+    IsWantOfKind name d e × (kind_in declared places features d ≡ None)
 
 -- a field of a message type has a fault, or the error the name of one whose number several have
 abbrev pub OwnFault : Declared → Places → DeclaredMessage → SchemaError → Type 0
 OwnFault declared places m (errors.NumberTwice field) =
     (d : FieldDescriptorProto) × Contains m.descriptor.field.items d
     × (string_bytes field ≡ string_bytes d.name)
-    × (2 ≤ count_by (has_number (number_of d.number)) m.descriptor.field.items)
+    × (2 ≤ count_by (has_number (as_number d.number)) m.descriptor.field.items)
 OwnFault declared places m e = (d : FieldDescriptorProto) × Contains m.descriptor.field.items d
     × FieldFault declared places (own_features m d) (string_bytes d.name) d e
 
@@ -75,8 +75,8 @@ abbrev pub ExtensionFault : Declared → Places → SchemaError → Type 0
 ExtensionFault declared places (errors.NumberTwice field) =
     (x : DeclaredExtension) × Contains declared.extensions.items x
     × (string_bytes field ≡ string_bytes x.name) × (place : ℕ)
-    × (extends places (place, number_of x.descriptor.number) x ≡ true)
-    × (2 ≤ count_by (extends places (place, number_of x.descriptor.number))
+    × (extends places (place, as_number x.descriptor.number) x ≡ true)
+    × (2 ≤ count_by (extends places (place, as_number x.descriptor.number))
     declared.extensions.items)
 ExtensionFault declared places e =
     (x : DeclaredExtension) × Contains declared.extensions.items x

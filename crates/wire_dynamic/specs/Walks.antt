@@ -9,9 +9,9 @@ use Rattle.wire_dynamic.specs.declared.schema.Schema.{Schema}
 use Rattle.wire_dynamic.specs.Schemas.{field_of}
 
 -- the place of the type of a group
-abbrev pub group_of : Kind → Option ℕ
-group_of (kinds.Group place) = Some place
-group_of _ = None
+abbrev pub type_of_group : Kind → Option ℕ
+type_of_group (kinds.Group place) = Some place
+type_of_group _ = None
 
 -- the field of this number of the message type at a place, if there is one
 abbrev pub field_in : Schema → ℕ → Option ℕ → Option Field
@@ -22,7 +22,7 @@ field_in s n place = option_and_then (λ p. field_of s p n) place
 abbrev pub innermost : Schema → ℕ → List ℕ → Option ℕ
 innermost s root [] = Some root
 innermost s root (n ∷ outside) =
-    option_and_then (λ (f : Field). group_of f.kind) (field_in s n (innermost s root outside))
+    option_and_then (λ (f : Field). type_of_group f.kind) (field_in s n (innermost s root outside))
 
 -- how many groups the schema lacks behind a group more, whose type is that at this place, if it has
 -- one, where so many are lacking around it

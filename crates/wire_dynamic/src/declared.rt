@@ -2,7 +2,7 @@
 //! whatever level they stand, and extensions.
 ghost use Rattle.std.specs.Prelude.{◌≡◌, ◌≢◌, ◌<◌, ◌≤◌, IfErr, IfOk, OnOk, string_bytes};
 ghost use Rattle.wire_dynamic.specs.Declares.{enum_features, full_name, message_features, scope_of, IsDeclaredBy, IsEnumOf, IsExtensionOf, IsMessageIn, IsNestedIn};
-ghost use Rattle.wire_dynamic.specs.DeclaresFault.{FileFault, MessageFault, NestedFault, SetFault};
+ghost use Rattle.wire_dynamic.specs.DeclaresFault.{FileFault, TypeFault, NestedFault, SetFault};
 ghost use Rattle.wire_dynamic.specs.declared.error.SchemaError.TheVariants.{OutOfMemory};
 ghost use Rattle.wire_dynamic.specs.Fields.{is_entry, own_features};
 ghost use Rattle.wire_dynamic.specs.Gained.{GainsAll, GainsFile, GainsMessage};
@@ -171,7 +171,7 @@ impl Declared {
     fn add_message(&mut self, message: DeclaredMessage) -> Result<(), SchemaError>
         requires { message.level ≤ 100 }
         ensures ok { OnOk result (GainsMessage message self.old self.new) }
-        ensures err { IfErr result (λ e. e ≢ OutOfMemory → MessageFault message e) }
+        ensures err { IfErr result (λ e. e ≢ OutOfMemory → TypeFault message e) }
     {
         for bytes in &message.descriptor.nested_type {
             let nested = message.nested(self.alloc, bytes)?;

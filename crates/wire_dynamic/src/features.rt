@@ -1,6 +1,6 @@
 //! What the syntax or the edition of a file leaves to its parts, as fields of a `FeatureSet`.
 ghost use Rattle.std.specs.Prelude.{◌≡◌};
-ghost use Rattle.wire_dynamic.specs.Features.{features_but_for, features_with, file_features, is_checked, is_closed, is_delimited, is_legacy_required, length_prefixed, or_else, prefixed, syntax_features};
+ghost use Rattle.wire_dynamic.specs.Features.{features_but_for, features_with, file_features, is_checked, is_closed, is_delimited, is_legacy_required, length_prefixed_features, said_or, prefixed, syntax_features};
 
 use wire_descriptor::{FeatureSet, FileDescriptorProto};
 
@@ -63,7 +63,7 @@ impl Features {
     }
 
     fn new(presence: i32, enum_type: i32, strings: i32) -> Features
-        ensures { result ≡ length_prefixed presence enum_type strings }
+        ensures { result ≡ length_prefixed_features presence enum_type strings }
     {
         Features {
             presence,
@@ -136,7 +136,7 @@ impl Features {
 
 // What a set says, where it says something.
 fn or_else(said: i32, otherwise: i32) -> i32
-    ensures { result ≡ or_else said otherwise }
+    ensures { result ≡ said_or said otherwise }
 {
     if said == 0 { otherwise } else { said }
 }

@@ -2,7 +2,7 @@
 ghost use Rattle.std.specs.Prelude.{◌≡◌, ◌≢◌, ◌<◌, ◌≤◌, pos, false, string_bytes, slice_get, IfErr, IfNone, IfOk, IfSome};
 ghost use Rattle.std.specs.Option.{option_map_or};
 ghost use Rattle.wire_dynamic.specs.declared.error.SchemaError.TheVariants.{OutOfMemory};
-ghost use Rattle.wire_dynamic.specs.Fields.{field_features, is_entry, kind_of, message_kind, scalar_of, IsField};
+ghost use Rattle.wire_dynamic.specs.Fields.{field_features, is_entry, kind_in, message_kind, scalar_of, IsField};
 ghost use Rattle.wire_dynamic.specs.Refusals.{FieldFault, IsNoNumber, IsWantOfKind};
 
 use crate::declared::Declared;
@@ -133,7 +133,7 @@ fn kind_of(
     declared: &Declared,
     places: &Places,
 ) -> Option<Kind>
-    ensures { result ≡ kind_of declared.now places.now features descriptor.now }
+    ensures { result ≡ kind_in declared.now places.now features descriptor.now }
 {
     let number = descriptor.type_;
     if number == TYPE_GROUP {

@@ -4,8 +4,8 @@ ghost use Rattle.std.specs.BTreeMap.{get, get_by_text};
 ghost use Rattle.std.specs.Option.{option_copied};
 ghost use Rattle.std.specs.Ordering.{nat_cmp};
 ghost use Rattle.wire_dynamic.specs.declared.error.SchemaError.TheVariants.{OutOfMemory};
-ghost use Rattle.wire_dynamic.specs.Fields.{has_number, field_has_name, number_of, AreNumberedApart};
-ghost use Rattle.wire_dynamic.specs.Messages.{own_field, own_field_named, IsMessage, IsOwnField};
+ghost use Rattle.wire_dynamic.specs.Fields.{has_number, field_has_name, as_number, AreNumberedApart};
+ghost use Rattle.wire_dynamic.specs.Messages.{own_field, own_field_named, IsAsDeclared, IsOwnField};
 ghost use Rattle.wire_dynamic.specs.Refusals.{OwnFault};
 ghost use Rattle.wire_dynamic.specs.Table.{IsTableOf};
 
@@ -34,7 +34,7 @@ impl MessageType {
         declared: &Declared,
         places: &Places,
     ) -> Result<MessageType, SchemaError>
-        ensures ok { IfOk result (IsMessage declared.now places.now message.now) }
+        ensures ok { IfOk result (IsAsDeclared declared.now places.now message.now) }
         ensures err { IfErr result (λ e. e ≢ OutOfMemory → OwnFault declared.now places.now
             message.now e) }
     {
@@ -112,7 +112,7 @@ fn numbers_of(
     fields: &[FieldDescriptorProto],
 ) -> Result<BTreeMap<String, u32>, AllocError>
     ensures { IfOk result (λ numbers. IsTableOf field_has_name
-        (λ d number. number ≡ number_of d.number) fields.now (get_by_text numbers)) }
+        (λ d number. number ≡ as_number d.number) fields.now (get_by_text numbers)) }
 {
     let mut numbers = BTreeMap::new(alloc);
     for field in fields {

@@ -5,9 +5,9 @@ ghost use Rattle.std.specs.List.{AllZip};
 ghost use Rattle.std.specs.Option.{option_copied};
 ghost use Rattle.wire_dynamic.specs.declared.error.SchemaError.TheVariants.{OutOfMemory};
 ghost use Rattle.wire_dynamic.specs.Enums.{IsEnum};
-ghost use Rattle.wire_dynamic.specs.Messages.{IsMessage};
+ghost use Rattle.wire_dynamic.specs.Messages.{IsAsDeclared};
 ghost use Rattle.wire_dynamic.specs.Refusals.{BytesHaveNoSchema, HasNoSchema, MessagesFault, SchemaFault};
-ghost use Rattle.wire_dynamic.specs.Schemas.{enum_at, field_named, field_of, message_at, place_of, IsDecodedSchema, IsSchema, IsSchemaOf};
+ghost use Rattle.wire_dynamic.specs.Schemas.{enum_at, field_named, field_of, type_at, message_place, IsDecodedSchema, IsSchema, IsSchemaOf};
 
 use crate::declared::Declared;
 use crate::enum_type::EnumType;
@@ -72,21 +72,21 @@ impl Schema {
 
     /// The places of the message types, in the order of their full names.
     pub fn message_places(&self) -> &BTreeMap<String, usize>
-        ensures { (name : List ℕ) → get_by_text result.now name ≡ place_of self.now name }
+        ensures { (name : List ℕ) → get_by_text result.now name ≡ message_place self.now name }
     {
         &self.places.messages
     }
 
     /// The place of the message type of this full name, as `.package.Outer.Inner`.
     pub fn message_place(&self, name: &str) -> Option<usize>
-        ensures { result ≡ place_of self.now name.now }
+        ensures { result ≡ message_place self.now name.now }
     {
         self.places.messages.get(name).copied()
     }
 
     /// The message type at this place.
     pub fn message(&self, place: usize) -> Option<&MessageType>
-        ensures { option_copied result ≡ message_at self.now place }
+        ensures { option_copied result ≡ type_at self.now place }
     {
         self.messages.get(place)
     }
@@ -122,7 +122,7 @@ fn messages_of(
     declared: &Declared,
     places: &Places,
 ) -> Result<Vec<MessageType>, SchemaError>
-    ensures ok { IfOk result (λ messages. AllZip (IsMessage declared.now places.now)
+    ensures ok { IfOk result (λ messages. AllZip (IsAsDeclared declared.now places.now)
         declared.now.messages.items messages.items) }
     ensures err { IfErr result (λ e. e ≢ OutOfMemory
         → MessagesFault declared.now places.now e) }

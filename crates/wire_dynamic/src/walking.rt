@@ -5,7 +5,7 @@ ghost use Rattle.wire_base.specs.Limits.{uncounted};
 ghost use Rattle.wire_read.specs.Budget.{read_limits};
 ghost use Rattle.wire_read.specs.Reading.{at, groups_of, Begins, Gives, IsDone, Stops};
 ghost use Rattle.wire_dynamic.specs.Told.{reader_of, root_of, schema_of, IsSameWalk};
-ghost use Rattle.wire_dynamic.specs.Walks.{field_in, group_field, group_of, innermost, told_in, unknown_groups};
+ghost use Rattle.wire_dynamic.specs.Walks.{field_in, group_field, type_of_group, innermost, told_in, unknown_groups};
 
 use crate::field::{Field, Kind};
 use crate::schema::Schema;
@@ -165,7 +165,7 @@ fn known_groups(innermost: Option<usize>, known: usize, count: usize) -> usize
 // The place of the type of a field that is a group.
 fn group_place(field: Option<&Field>) -> Option<usize>
     ensures { result
-        ≡ option_and_then (λ f. group_of f.kind) (option_copied field.entry) }
+        ≡ option_and_then (λ f. type_of_group f.kind) (option_copied field.entry) }
 {
     match field?.kind {
         Kind::Group(place) => Some(place),

@@ -9,7 +9,7 @@ use Rattle.wire_fields.specs.Leaving.{has_type}
 use Rattle.wire_fields.specs.Shape.{Owns, on, either, keeps, same_pair}
 use Rattle.wire_extensions.proofs.Records.{either_way, own_is, own_not, others_own, others_not}
 use Rattle.wire_extensions.proofs.Records.{joined_none, push_joined}
-use Rattle.wire_extensions.specs.Extension.{owned, others}
+use Rattle.wire_extensions.specs.Extension.{picked, others}
 use Rattle.wire_extensions.specs.Laws.{AgreesWithMessage}
 
 module _ {V : Type 0} (takes : Step V) (owns : Owns) where
@@ -25,7 +25,7 @@ module _ {V : Type 0} (takes : Step V) (owns : Owns) where
 
   declared : (m z : V) (u w fs : Fields) (c : Charge)
       → Folds (either owns takes keeps) (m, u) fs c (z, w)
-      → (w ≡ joined u (others owns fs)) × ((d : Charge) × Folds takes m (owned owns fs) d z)
+      → (w ≡ joined u (others owns fs)) × ((d : Charge) × Folds takes m (picked owns fs) d z)
   declared m z u w none c h = (
     ap (λ (x : V × Fields). x.1) h.1 ∙ sym (joined_none u),
     (no_charge, (refl, ap (λ (x : V × Fields). x.0) h.1)),
@@ -51,12 +51,12 @@ module _ {V : Type 0} (takes : Step V) (owns : Owns) where
               (
                 next.1.0,
                 subst (λ x. Folds takes m x next.1.0 z) (sym (own_not owns n p fs e))
-                    (subst (λ x. Folds takes x (owned owns fs) next.1.0 z) other.1 next.1.1),
+                    (subst (λ x. Folds takes x (picked owns fs) next.1.0 z) other.1 next.1.1),
               ),
             )
       ]
 
-  undeclared : (m z : V) (u fs : Fields) (d : Charge) → Folds takes m (owned owns fs) d z
+  undeclared : (m z : V) (u fs : Fields) (d : Charge) → Folds takes m (picked owns fs) d z
       → (c : Charge) × Folds (either owns takes keeps) (m, u) fs c (z, joined u (others owns fs))
   undeclared m z u none d h =
       (no_charge, (refl, same_pair (z, joined u none) (m, u) h.1 (joined_none u)))

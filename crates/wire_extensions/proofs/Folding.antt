@@ -8,7 +8,7 @@ use Rattle.wire_codec.specs.LimitsLaws.{ChargesAddUp, LimitsAddUp}
 use Rattle.wire_codec.specs.Taking.{IsCharged}
 use Rattle.wire_fields.specs.Shape.{Owns, FieldKind}
 use Rattle.wire_extensions.proofs.Records.{one_leaves_others_lemma}
-use Rattle.wire_extensions.specs.Extension.{owned, IsValue, TakesOne, TakesNone}
+use Rattle.wire_extensions.specs.Extension.{picked, IsValue, TakesOne, TakesNone}
 use Rattle.wire_extensions.specs.Laws.{GetOfAdd}
 
 -- what a charge before it and this one make, where the value is reached in one way
@@ -105,7 +105,7 @@ module _ (limits : LimitsAddUp) (charges : ChargesAddUp) {V : Type 0} (takes : S
 
 -- what is reached in the end is the value
 pub as_value : {V : Type 0} (k : FieldKind V) (owns : Owns) (fs : Fields) (l after : Limits) (v : V)
-    → IsCharged l after (λ c. Folds k.takes k.default (owned owns fs) c v × Fits c l)
+    → IsCharged l after (λ c. Folds k.takes k.default (picked owns fs) c v × Fits c l)
     → IsCharged l after (λ c. IsValue k owns fs l c v)
 as_value k owns fs l after v h = record {
   charge = h.charge;
@@ -135,4 +135,4 @@ pub get_of_add_lemma : ChargesAddUp → {V : Type 0} (k : FieldKind V) → GetOf
 get_of_add_lemma charges k owns fs more v z c d own before behind =
     subst (λ x. Folds k.takes k.default x (both c d) z)
     (sym (one_leaves_others_lemma.added owns fs more own))
-    (folds_joined charges k.takes (owned owns fs) more k.default v z c d before behind)
+    (folds_joined charges k.takes (picked owns fs) more k.default v z c d before behind)

@@ -1,4 +1,4 @@
--- The records that are owned and all others, record by record.
+-- The records that are picked and all others, record by record.
 use Rattle.std.proofs.Common.{◌≡◌, ◌≢◌, ◌⊎◌, ℕ, Bool, true, false, cond, refl, sym, ap, ◌∙◌}
 use Rattle.std.proofs.Common.{List, [], ◌∷◌, inl, inr}
 use Rattle.std.proofs.lemmas.Bool.{eqb-true}
@@ -14,7 +14,7 @@ use Rattle.wire_fields.specs.declared.leaving.OwnTypes.{OwnTypes}
 use Rattle.wire_fields.specs.Back.{AllAre}
 use Rattle.wire_fields.specs.Leaving.{has_type}
 use Rattle.wire_fields.specs.Shape.{Owns}
-use Rattle.wire_extensions.specs.Extension.{owned, others, replaced, is_own}
+use Rattle.wire_extensions.specs.Extension.{picked, others, replaced, is_own}
 use Rattle.wire_extensions.specs.Laws.{AllOwned, OneLeavesOthers}
 
 pub either_way : (b : Bool) → (b ≡ true) ⊎ (b ≡ false)
@@ -24,11 +24,11 @@ either_way false = inr refl
 -- ---- one record
 
 module _ (owns : Owns) (n : ℕ) (p : Payload) (rest : Fields) where
-  pub own_is : owns n p ≡ true → owned owns (field n p rest) ≡ field n p (owned owns rest)
-  own_is h = ap (λ b. cond b (field n p (owned owns rest)) (owned owns rest)) h
+  pub own_is : owns n p ≡ true → picked owns (field n p rest) ≡ field n p (picked owns rest)
+  own_is h = ap (λ b. cond b (field n p (picked owns rest)) (picked owns rest)) h
 
-  pub own_not : owns n p ≡ false → owned owns (field n p rest) ≡ owned owns rest
-  own_not h = ap (λ b. cond b (field n p (owned owns rest)) (owned owns rest)) h
+  pub own_not : owns n p ≡ false → picked owns (field n p rest) ≡ picked owns rest
+  own_not h = ap (λ b. cond b (field n p (picked owns rest)) (picked owns rest)) h
 
   pub others_own : owns n p ≡ true → others owns (field n p rest) ≡ others owns rest
   others_own h = ap (λ b. cond b (others owns rest) (field n p (others owns rest))) h
@@ -72,11 +72,11 @@ push_joined none n p gs = refl
 push_joined (field k q rest) n p gs = ap (field k q) (push_joined rest n p gs)
 
 module _ (owns : Owns) where
-  none_left : (fs : Fields) → owned owns (others owns fs) ≡ none
+  none_left : (fs : Fields) → picked owns (others owns fs) ≡ none
   none_left none = refl
   none_left (field n p rest) = elim (either_way (owns n p)) [
-    | inl e ↦ ap (owned owns) (others_own owns n p rest e) ∙ none_left rest
-    | inr e ↦ ap (owned owns) (others_not owns n p rest e)
+    | inl e ↦ ap (picked owns) (others_own owns n p rest e) ∙ none_left rest
+    | inr e ↦ ap (picked owns) (others_not owns n p rest e)
         ∙ own_not owns n p (others owns rest) e ∙ none_left rest
   ]
 
@@ -91,13 +91,13 @@ module _ (owns : Owns) where
   ]
 
   pub owned_joined : (fs gs : Fields)
-      → owned owns (joined fs gs) ≡ joined (owned owns fs) (owned owns gs)
+      → picked owns (joined fs gs) ≡ joined (picked owns fs) (picked owns gs)
   owned_joined none gs = refl
   owned_joined (field n p rest) gs = elim (either_way (owns n p)) [
     | inl e ↦ own_is owns n p (joined rest gs) e ∙ ap (field n p) (owned_joined rest gs)
-        ∙ sym (ap (λ fs. joined fs (owned owns gs)) (own_is owns n p rest e))
+        ∙ sym (ap (λ fs. joined fs (picked owns gs)) (own_is owns n p rest e))
     | inr e ↦ own_not owns n p (joined rest gs) e ∙ owned_joined rest gs
-        ∙ sym (ap (λ fs. joined fs (owned owns gs)) (own_not owns n p rest e))
+        ∙ sym (ap (λ fs. joined fs (picked owns gs)) (own_not owns n p rest e))
   ]
 
   others_joined : (fs gs : Fields)
@@ -110,7 +110,7 @@ module _ (owns : Owns) where
         ∙ sym (ap (λ fs. joined fs (others owns gs)) (others_not owns n p rest e))
   ]
 
-  all_own : (fs : Fields) → AllOwned owns fs → owned owns fs ≡ fs
+  all_own : (fs : Fields) → AllOwned owns fs → picked owns fs ≡ fs
   all_own none h = refl
   all_own (field n p rest) h = own_is owns n p rest h.0 ∙ ap (field n p) (all_own rest h.1)
 
@@ -119,10 +119,10 @@ module _ (owns : Owns) where
   no_others (field n p rest) h = others_own owns n p rest h.0 ∙ no_others rest h.1
 
   pub own_replaced : (fs more : Fields) → AllOwned owns more
-      → owned owns (replaced owns fs more) ≡ more
+      → picked owns (replaced owns fs more) ≡ more
   own_replaced fs more h =
       owned_joined (others owns fs) more
-      ∙ ap (λ x. joined x (owned owns more)) (none_left fs) ∙ all_own more h
+      ∙ ap (λ x. joined x (picked owns more)) (none_left fs) ∙ all_own more h
 
   rest_replaced : (fs more : Fields) → AllOwned owns more
       → others owns (replaced owns fs more) ≡ others owns fs
@@ -131,11 +131,11 @@ module _ (owns : Owns) where
       ∙ ap (λ x. joined (others owns (others owns fs)) x) (no_others more h)
       ∙ joined_none (others owns (others owns fs)) ∙ twice fs
 
-  -- where nothing is owned, all are others
-  pub all_others : (fs : Fields) → owned owns fs ≡ none → others owns fs ≡ fs
+  -- where nothing is picked, all are others
+  pub all_others : (fs : Fields) → picked owns fs ≡ none → others owns fs ≡ fs
   all_others none h = refl
   all_others (field n p rest) h = elim (either_way (owns n p)) [
-    | inl e ↦ absurd (not_none n p (owned owns rest) (owned owns (field n p rest))
+    | inl e ↦ absurd (not_none n p (picked owns rest) (picked owns (field n p rest))
         (own_is owns n p rest e) h)
     | inr e ↦ others_not owns n p rest e
         ∙ ap (field n p) (all_others rest (sym (own_not owns n p rest e) ∙ h))
@@ -145,25 +145,25 @@ module _ (owns : Owns) where
 
 module _ (owns apart : Owns)
     (differ : (n : ℕ) (p : Payload) → owns n p ≡ true → apart n p ≡ false) where
-  left : (fs : Fields) → owned apart (others owns fs) ≡ owned apart fs
+  left : (fs : Fields) → picked apart (others owns fs) ≡ picked apart fs
   left none = refl
   left (field n p rest) = elim (either_way (owns n p)) [
-    | inl e ↦ ap (owned apart) (others_own owns n p rest e) ∙ left rest
+    | inl e ↦ ap (picked apart) (others_own owns n p rest e) ∙ left rest
         ∙ sym (own_not apart n p rest (differ n p e))
-    | inr e ↦ ap (owned apart) (others_not owns n p rest e)
+    | inr e ↦ ap (picked apart) (others_not owns n p rest e)
         ∙ ap (λ fs. cond (apart n p) (field n p fs) fs) (left rest)
   ]
 
-  no_own : (fs : Fields) → AllOwned owns fs → owned apart fs ≡ none
+  no_own : (fs : Fields) → AllOwned owns fs → picked apart fs ≡ none
   no_own none h = refl
   no_own (field n p rest) h = own_not apart n p rest (differ n p h.0) ∙ no_own rest h.1
 
   other_replaced : (fs more : Fields) → AllOwned owns more
-      → owned apart (replaced owns fs more) ≡ owned apart fs
+      → picked apart (replaced owns fs more) ≡ picked apart fs
   other_replaced fs more h =
       owned_joined apart (others owns fs) more
-      ∙ ap (λ x. joined (owned apart (others owns fs)) x) (no_own more h)
-      ∙ joined_none (owned apart (others owns fs)) ∙ left fs
+      ∙ ap (λ x. joined (picked apart (others owns fs)) x) (no_own more h)
+      ∙ joined_none (picked apart (others owns fs)) ∙ left fs
 
 first_of_both : (a b : Bool) → (a && b) ≡ true → a ≡ true
 first_of_both true b h = refl
@@ -203,10 +203,10 @@ numbered_one : (b : Bool) (n : ℕ) (p : Payload) (rest : Fields) → IsFieldNum
 numbered_one true n p rest number payload h = (number, payload, h)
 numbered_one false n p rest number payload h = h
 
-numbered : (owns : Owns) (fs : Fields) → AreNumbered fs → AreNumbered (owned owns fs)
+numbered : (owns : Owns) (fs : Fields) → AreNumbered fs → AreNumbered (picked owns fs)
 numbered owns none h = tt
 numbered owns (field n p rest) h =
-    numbered_one (owns n p) n p (owned owns rest) h.0 h.1 (numbered owns rest h.2)
+    numbered_one (owns n p) n p (picked owns rest) h.0 h.1 (numbered owns rest h.2)
 
 pub one_leaves_others_lemma : OneLeavesOthers
 one_leaves_others_lemma = record {
@@ -216,7 +216,7 @@ one_leaves_others_lemma = record {
   other = λ owns apart fs more differ h. other_replaced owns apart differ fs more h;
   cleared = none_left;
   added = λ owns fs more h. owned_joined owns fs more
-      ∙ ap (λ x. joined (owned owns fs) x) (all_own owns more h);
+      ∙ ap (λ x. joined (picked owns fs) x) (all_own owns more h);
   numbered = numbered;
   all = all_of_number;
   numbers = numbers_differ;

@@ -15,7 +15,7 @@ use Rattle.wire_codec.specs.Refusal.{ListRefusal}
 use Rattle.wire_codec.specs.Spells.{Spells}
 use Rattle.wire_fields.specs.Shape.{FieldKind}
 use Rattle.wire_extensions.proofs.Records.{own_replaced}
-use Rattle.wire_extensions.specs.Extension.{owned, replaced, NotStored}
+use Rattle.wire_extensions.specs.Extension.{picked, replaced, NotStored}
 use Rattle.wire_extensions.specs.Laws.{GetOfSet, StoredArePlain}
 
 -- what is refused is not there
@@ -46,7 +46,7 @@ pub get_of_set_lemma : StoredArePlain → {V : Type 0} (k : FieldKind V) → Get
 get_of_set_lemma are_plain k n owns l fs stored v c back own h =
     let rs = plain (k.records n v) in
     let same = are_plain (k.records n v) l stored back.fitting back.numbered h in
-    let is = ap (λ x. owned owns (replaced owns fs x)) same ∙ own_replaced owns fs rs own in
+    let is = ap (λ x. picked owns (replaced owns fs x)) same ∙ own_replaced owns fs rs own in
     record {
       numbered = subst AreNumbered (sym is) back.numbered;
       folded = subst (λ x. Folds k.takes k.default x c v) (sym is) back.folded;

@@ -12,17 +12,17 @@ use Rattle.wire_fields.specs.Shape.{Owns, FieldKind}
 
 -- ---- records
 
--- the records that are owned, in order
-abbrev pub owned : Owns → Fields → Fields
-owned owns none = none
-owned owns (field n p rest) = cond (owns n p) (field n p (owned owns rest)) (owned owns rest)
+-- the records that are picked, in order
+abbrev pub picked : Owns → Fields → Fields
+picked owns none = none
+picked owns (field n p rest) = cond (owns n p) (field n p (picked owns rest)) (picked owns rest)
 
 -- all others, in order
 abbrev pub others : Owns → Fields → Fields
 others owns none = none
 others owns (field n p rest) = cond (owns n p) (others owns rest) (field n p (others owns rest))
 
--- records in the place of those that are owned, behind all others
+-- records in the place of those that are picked, behind all others
 abbrev pub replaced : Owns → Fields → Fields → Fields
 replaced owns fs more = joined (others owns fs) more
 
@@ -37,7 +37,7 @@ is_own n (Some types) k p = k == n && has_type types (type_of p)
 -- the value that its own records make of the value of no records, for a charge within the limits
 pub record IsValue {V : Type 0} (k : FieldKind V) (owns : Owns) (fs : Fields) (l : Limits)
     (c : Charge) (v : V) : Type 0 where
-  pub folded : Folds k.takes k.default (owned owns fs) c v
+  pub folded : Folds k.takes k.default (picked owns fs) c v
   pub fits : Fits c l
 
 -- there is no such value

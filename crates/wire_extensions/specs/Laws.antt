@@ -11,9 +11,9 @@ use Rattle.wire_fields.specs.Back.{AllAre, FoldsBack}
 use Rattle.wire_fields.specs.Leaving.{has_type, or_kept, keeps_beside}
 use Rattle.wire_fields.specs.Oneof.{choice}
 use Rattle.wire_fields.specs.Shape.{Owns, FieldKind, either, keeps}
-use Rattle.wire_extensions.specs.Extension.{owned, others, replaced, is_own, Stores}
+use Rattle.wire_extensions.specs.Extension.{picked, others, replaced, is_own, Stores}
 
--- each record is owned
+-- each record is picked
 abbrev pub AllOwned : Owns → Fields → Type 0
 AllOwned owns none = Unit {0}
 AllOwned owns (field n p rest) = (owns n p ≡ true) × AllOwned owns rest
@@ -22,20 +22,20 @@ AllOwned owns (field n p rest) = (owns n p ≡ true) × AllOwned owns rest
 -- as they were, so that what was put before is gone, and another extension has what it had.
 pub record OneLeavesOthers : Type 0 where
   pub own : (owns : Owns) (fs more : Fields) → AllOwned owns more
-      → owned owns (replaced owns fs more) ≡ more
+      → picked owns (replaced owns fs more) ≡ more
   pub rest : (owns : Owns) (fs more : Fields) → AllOwned owns more
       → others owns (replaced owns fs more) ≡ others owns fs
   pub again : (owns : Owns) (fs first more : Fields) → AllOwned owns first
       → replaced owns (replaced owns fs first) more ≡ replaced owns fs more
   pub other : (owns apart : Owns) (fs more : Fields)
       → ((n : ℕ) (p : Payload) → owns n p ≡ true → apart n p ≡ false)
-      → AllOwned owns more → owned apart (replaced owns fs more) ≡ owned apart fs
-  pub cleared : (owns : Owns) (fs : Fields) → owned owns (others owns fs) ≡ none
+      → AllOwned owns more → picked apart (replaced owns fs more) ≡ picked apart fs
+  pub cleared : (owns : Owns) (fs : Fields) → picked owns (others owns fs) ≡ none
   -- what is added stands behind what was there
   pub added : (owns : Owns) (fs more : Fields) → AllOwned owns more
-      → owned owns (joined fs more) ≡ joined (owned owns fs) more
+      → picked owns (joined fs more) ≡ joined (picked owns fs) more
   -- records that were decoded have numbers in range, and so have those of one extension
-  pub numbered : (owns : Owns) (fs : Fields) → AreNumbered fs → AreNumbered (owned owns fs)
+  pub numbered : (owns : Owns) (fs : Fields) → AreNumbered fs → AreNumbered (picked owns fs)
   -- the records of its number are an extension's own where it names no wire types
   pub all : (n : ℕ) (fs : Fields) → AllAre (λ j. j ≡ n) fs → AllOwned (is_own n None) fs
   -- two extensions of different numbers are apart
@@ -51,9 +51,9 @@ StoredArePlain =
 -- of these records the extension makes this value, and no other
 pub record IsGot {V : Type 0} (k : FieldKind V) (owns : Owns) (fs : Fields) (c : Charge) (v : V)
     : Type 0 where
-  pub numbered : AreNumbered (owned owns fs)
-  pub folded : Folds k.takes k.default (owned owns fs) c v
-  pub only : IsSingle k.takes → (d : Charge) (u : V) → Folds k.takes k.default (owned owns fs) d u
+  pub numbered : AreNumbered (picked owns fs)
+  pub folded : Folds k.takes k.default (picked owns fs) c v
+  pub only : IsSingle k.takes → (d : Charge) (u : V) → Folds k.takes k.default (picked owns fs) d u
       → u ≡ v
 
 -- A value whose records are in range, fold back to it and are the extension's own is what `get`
@@ -69,8 +69,8 @@ GetOfSet {V} k =
 abbrev pub GetOfAdd : {V : Type 0} → FieldKind V → Type 0
 GetOfAdd {V} k =
     (owns : Owns) (fs more : Fields) (v z : V) (c d : Charge) → AllOwned owns more
-    → Folds k.takes k.default (owned owns fs) c v → Folds k.takes v more d z
-    → Folds k.takes k.default (owned owns (joined fs more)) (both c d) z
+    → Folds k.takes k.default (picked owns fs) c v → Folds k.takes v more d z
+    → Folds k.takes k.default (picked owns (joined fs more)) (both c d) z
 
 -- A message that declares the field makes of records what the extension makes of them: the field's
 -- value is the fold of the extension's records, and the unknown fields are all others. With
@@ -79,9 +79,9 @@ GetOfAdd {V} k =
 pub record AgreesWithMessage {V : Type 0} (takes : Step V) : Type 0 where
   pub declared : (owns : Owns) (m z : V) (u w fs : Fields) (c : Charge)
       → Folds (either owns takes keeps) (m, u) fs c (z, w)
-      → (w ≡ joined u (others owns fs)) × ((d : Charge) × Folds takes m (owned owns fs) d z)
+      → (w ≡ joined u (others owns fs)) × ((d : Charge) × Folds takes m (picked owns fs) d z)
   pub undeclared : (owns : Owns) (m z : V) (u fs : Fields) (d : Charge)
-      → Folds takes m (owned owns fs) d z
+      → Folds takes m (picked owns fs) d z
       → (c : Charge) × Folds (either owns takes keeps) (m, u) fs c (z, joined u (others owns fs))
   pub leaving : (n : ℕ) (types : OwnTypes) (m z : V × Fields) (fs : Fields) (c : Charge)
       → Folds (choice (λ k p. k == n) (or_kept (λ p. has_type types (type_of p)) takes)

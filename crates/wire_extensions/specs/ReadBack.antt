@@ -11,7 +11,7 @@ use Rattle.wire_codec.specs.Records.{plain}
 use Rattle.wire_codec.specs.Taking.{IsCharged}
 use Rattle.wire_fields.specs.Back.{KindBack}
 use Rattle.wire_fields.specs.Shape.{FieldKind}
-use Rattle.wire_extensions.specs.Extension.{is_own, owned, others, replaced, IsValue, NoValue, Stores}
+use Rattle.wire_extensions.specs.Extension.{is_own, picked, others, replaced, IsValue, NoValue, Stores}
 use Rattle.wire_extensions.specs.Laws.{AllOwned, GetOfSet, OneLeavesOthers, StoredArePlain}
 
 -- the records of v, which are of number n, were put among others
@@ -24,7 +24,7 @@ module _ {V : Type 0} (k : FieldKind V) (Holds : V → Type 0) (charge_of : V �
     own = law.all n (plain (k.records n v)) (back.has n v holds)
 
     pub value_read : GetOfSet k → IsSingle k.takes → (before after : Limits) (read : V)
-        → (AreNumbered (owned (is_own n None) (replaced (is_own n None) fs more))
+        → (AreNumbered (picked (is_own n None) (replaced (is_own n None) fs more))
         → IsCharged before after (λ c. IsValue k (is_own n None)
         (replaced (is_own n None) fs more) before c read)) → read ≡ v
     value_read get_of_set single before after read got =
@@ -34,7 +34,7 @@ module _ {V : Type 0} (k : FieldKind V) (Holds : V → Type 0) (charge_of : V �
         h.only single taken.charge read taken.taken.folded
 
     pub value_there : GetOfSet k → IsSingle k.takes → (before : Limits) → Fits (charge_of v) before
-        → (AreNumbered (owned (is_own n None) (replaced (is_own n None) fs more))
+        → (AreNumbered (picked (is_own n None) (replaced (is_own n None) fs more))
         → IsSingle k.takes → NoValue k (is_own n None) (replaced (is_own n None) fs more) before)
         → ⊥
     value_there get_of_set single before fits none =

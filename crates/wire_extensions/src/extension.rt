@@ -9,7 +9,7 @@ ghost use Rattle.wire_codec.specs.InRange.{AreNumbered};
 ghost use Rattle.wire_codec.specs.Limits.{NoCountGrew, counted};
 ghost use Rattle.wire_codec.specs.Taking.{IsCharged};
 ghost use Rattle.wire_codec.specs.UnknownFields.{payload_of};
-ghost use Rattle.wire_extensions.specs.Extension.{is_own, owned, others, replaced};
+ghost use Rattle.wire_extensions.specs.Extension.{is_own, picked, others, replaced};
 ghost use Rattle.wire_extensions.specs.Extension.{IsValue, NoValue, Stores, NotStored};
 
 use crate::putting::{append, put_behind, stored};
@@ -79,7 +79,7 @@ impl<K: Kind> Extension<K> {
     /// Whether the extension has a record of its own.
     pub fn has(&self, fields: &UnknownFields) -> bool
         ensures { IsTrue result
-            ↔ (owned (is_own self.now.number self.now.types) fields.now ≢ none) }
+            ↔ (picked (is_own self.now.number self.now.types) fields.now ≢ none) }
     {
         for field in fields.iter() {
             if self.owns(field) {
@@ -100,11 +100,11 @@ impl<K: Kind> Extension<K> {
         context: &mut DecodeContext,
     ) -> Result<K::Held, DecodeError>
         ensures ok { IfOk result (λ held.
-            AreNumbered (owned (is_own self.now.number self.now.types) fields.now)
+            AreNumbered (picked (is_own self.now.number self.now.types) fields.now)
             → IsCharged context.old context.new (λ c. IsValue K.kind
             (is_own self.now.number self.now.types) fields.now context.old c (K.view held))) }
         ensures err { IfErr result (λ e. e ≢ OutOfMemory
-            → AreNumbered (owned (is_own self.now.number self.now.types) fields.now)
+            → AreNumbered (picked (is_own self.now.number self.now.types) fields.now)
             → IsSingle K.kind.takes → NoValue K.kind
             (is_own self.now.number self.now.types) fields.now context.old) }
         ensures counts { NoCountGrew context.old context.new }

@@ -7,14 +7,14 @@ use Rattle.wire_base.specs.Read.{Reads}
 use Rattle.wire_frames.specs.declared.extent.Extent.{Extent}
 use Rattle.wire_frames.specs.declared.frame.FrameText.{FrameText}
 use Rattle.wire_frames.specs.declared.frame.Framing.{Framing}
-use Rattle.wire_frames.specs.Extent.{Stands, text_at}
+use Rattle.wire_frames.specs.Extent.{IsExtent, text_at}
 use Rattle.wire_frames.specs.Frames.{frame_of, IsFrame, IsUnfinished, IsWhole}
 use Rattle.wire_frames.specs.Laws.{UnfinishedHasNoNext}
 use Rattle.wire_frames.specs.Prefix.{IsPrefix}
 
 -- the text of the frame, and what follows it
 pub text_stands : (form : Framing) (limit : ℕ) (bytes : List ℕ) (x : Extent)
-    → Stands form limit bytes x → IsWhole form limit (text_at bytes x)
+    → IsExtent form limit bytes x → IsWhole form limit (text_at bytes x)
 text_stands form limit bytes x h =
     let run = take x.len bytes in
     let all : length run ≡ x.len = length-take-le x.len bytes h.there in
@@ -43,7 +43,7 @@ whole_stands form limit whole bytes rest h parts =
 
 -- the frame
 pub frame_stands : (form : Framing) (limit : ℕ) (bytes : List ℕ) (x : Extent)
-    → Stands form limit bytes x
+    → IsExtent form limit bytes x
     → Reads bytes (IsFrame form limit (frame_of (text_at bytes x))) (drop x.len bytes)
 frame_stands form limit bytes x h =
     whole_stands form limit (text_at bytes x) bytes (drop x.len bytes)
@@ -51,7 +51,7 @@ frame_stands form limit bytes x h =
 
 -- a frame that stands at the front of more bytes stands at the front of those that have all of it
 stands_in_front : (form : Framing) (limit : ℕ) (front more : List ℕ) (x : Extent)
-    → Stands form limit (front ++ more) x → x.len ≤ length front → Stands form limit front x
+    → IsExtent form limit (front ++ more) x → x.len ≤ length front → IsExtent form limit front x
 stands_in_front form limit front more x h there =
     let short : x.prefix ≤ length front = omega (arith, h.ordered) in
     record {
@@ -64,7 +64,7 @@ stands_in_front form limit front more x h there =
 
 -- what is held is less than the frame
 pub held_is_less : UnfinishedHasNoNext → (form : Framing) (limit : ℕ) (held chunk : List ℕ)
-    (x : Extent) → IsUnfinished form limit held → Stands form limit (held ++ chunk) x
+    (x : Extent) → IsUnfinished form limit held → IsExtent form limit (held ++ chunk) x
     → length held < x.len
 held_is_less none form limit held chunk x begun h = at_length (cases_lt (length held) x.len)
   where

@@ -8,7 +8,7 @@ use Rattle.wire_frames.specs.declared.frame.Frame.{Frame}
 use Rattle.wire_frames.specs.declared.frame.Framing.{Framing}
 use Rattle.wire_frames.specs.Encoding.{grpc_text}
 use Rattle.wire_frames.specs.Frames.{Frames, HoldsFrame, FrameFault, no_prefix, too_large}
-use Rattle.wire_frames.specs.Laws.{BytesBehind, FramesAddUp, OneFrame, OneList, FrameMovesOn, WrittenIsRead}
+use Rattle.wire_frames.specs.Laws.{BytesBehind, FramesAddUp, OneFrame, OneFrameList, FrameMovesOn, WrittenIsRead}
 use Rattle.wire_frames.specs.Prefix.{flag_of}
 use Rattle.wire_frames.proofs.Prefixes.{Reads-behind, fault_behind, prefix_is_some}
 
@@ -70,7 +70,7 @@ module _ (one : OneFrame) (form : Framing) (limit : ℕ) where
         behind.1,
       )
 
-pub one_list : OneFrame → OneList
+pub one_list : OneFrame → OneFrameList
 one_list one form limit = one_list_here one form limit
 
 -- ---- a byte at least

@@ -8,7 +8,7 @@ use Rattle.wire_frames.specs.declared.error.FrameError.TheVariants.{FrameTooLarg
 use Rattle.wire_frames.specs.declared.frame.Frame.{Frame}
 use Rattle.wire_frames.specs.declared.frame.Framing.{Framing}
 use Rattle.wire_frames.specs.Frames.{IsFrame, IsUnfinished, in_prefix, in_payload, no_prefix, too_large, HasNext}
-use Rattle.wire_frames.specs.Laws.{OneFrame, OneFault, NoFrameBesideFault, UnfinishedHasNoNext, NextOrUnfinished}
+use Rattle.wire_frames.specs.Laws.{OneFrame, OneFrameFault, NoFrameBesideFault, UnfinishedHasNoNext, NextOrUnfinished}
 use Rattle.wire_frames.specs.Prefix.{IsPrefix}
 use Rattle.wire_frames.proofs.Prefixes.{one_prefix, no_prefix_beside_begun, no_prefix_beside_fault, no_begun_beside_fault, one_prefix_fault, PrefixOutcome, prefix_outcome}
 
@@ -65,7 +65,7 @@ one_frame varint form limit x y bytes r s h k =
           ∙ drop_at y.payload s (length y.payload) refl,
     )
 
-pub one_fault : OneVarint → NoVarintBesideFault → OneFault
+pub one_fault : OneVarint → NoVarintBesideFault → OneFrameFault
 one_fault varint beside form limit bytes e f (no_prefix h) (no_prefix k) =
     one_prefix_fault form bytes e f h k
 one_fault varint beside form limit bytes e f (no_prefix h) (too_large c len behind k large is) =

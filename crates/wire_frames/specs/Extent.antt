@@ -6,7 +6,7 @@ use Rattle.wire_frames.specs.declared.frame.Framing.{Framing}
 use Rattle.wire_frames.specs.Prefix.{IsPrefix}
 
 -- so many bytes are a frame, and so many of these its prefix
-pub record Stands (form : Framing) (limit : ℕ) (bytes : List ℕ) (extent : Extent) : Type 0 where
+pub record IsExtent (form : Framing) (limit : ℕ) (bytes : List ℕ) (extent : Extent) : Type 0 where
   pub tells : IsPrefix form extent.compressed (extent.len - extent.prefix)
       (take extent.prefix bytes)
   pub ordered : extent.prefix ≤ extent.len

@@ -16,8 +16,8 @@ OneFrame = (form : Framing) (limit : ℕ) (x y : Frame) (bytes r s : List ℕ)
     → Reads bytes (IsFrame form limit x) r → Reads bytes (IsFrame form limit y) s
     → (x ≡ y) × (r ≡ s)
 
-abbrev pub OneFault : Type 0
-OneFault = (form : Framing) (limit : ℕ) (bytes : List ℕ) (e f : FrameError)
+abbrev pub OneFrameFault : Type 0
+OneFrameFault = (form : Framing) (limit : ℕ) (bytes : List ℕ) (e f : FrameError)
     → FrameFault form limit bytes e → FrameFault form limit bytes f → e ≡ f
 
 abbrev pub NoFrameBesideFault : Type 0
@@ -61,8 +61,8 @@ pub record FramesAddUp : Type 0 where
       → Frames form limit (xs ++ ys) old new
 
 -- up to a place where no whole frame stands, the frames are one list
-abbrev pub OneList : Type 0
-OneList = (form : Framing) (limit : ℕ) (xs ys : List Frame) (bytes r s : List ℕ)
+abbrev pub OneFrameList : Type 0
+OneFrameList = (form : Framing) (limit : ℕ) (xs ys : List Frame) (bytes r s : List ℕ)
     → Frames form limit xs bytes r → Frames form limit ys bytes s
     → (HoldsFrame form limit r → ⊥) → (HoldsFrame form limit s → ⊥)
     → (xs ≡ ys) × (r ≡ s)

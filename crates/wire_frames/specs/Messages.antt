@@ -34,7 +34,7 @@ pub data MessageFault {V : Type 0} (takes : Step V) (options : Options) (default
       → e ≡ errors.Decode why → MessageFault takes options default frame e
 
 -- a frame is taken off, and it is a message of this value
-pub record TakesMessage {V : Type 0} (takes : Step V) (options : Options) (default : V)
+pub record ReadsMessage {V : Type 0} (takes : Step V) (options : Options) (default : V)
     (old new : Stream) (value : V) : Type 0 where
   pub frame : Frame
   pub taken : Reads (unread old) (IsFrame old.framing old.limit frame) (unread new)

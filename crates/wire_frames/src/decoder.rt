@@ -2,7 +2,7 @@
 ghost use Rattle.std.specs.Prelude.{◌≡◌, ◌≢◌, ◌+◌, ◌<◌, ◌≤◌, ◌++◌, ◌↔◌, IsTrue, true, false, [], length, take, drop, OnOk, OnErr, IfOk, IfErr, IfSome, IfNone};
 ghost use Rattle.wire_base.specs.Read.{Reads};
 ghost use Rattle.wire_frames.specs.declared.error.UnfedCause.TheVariants.{NextWaits, OutOfMemory};
-ghost use Rattle.wire_frames.specs.Extent.{Stands, text_at};
+ghost use Rattle.wire_frames.specs.Extent.{IsExtent, text_at};
 ghost use Rattle.wire_frames.specs.Frames.{EndRefusal, FrameFault, FrameRefusal, HasNext, IsFrame, IsUnfinished, IsWhole};
 ghost use Rattle.wire_frames.specs.Stream.{empty_stream, fed, left, unread};
 
@@ -193,7 +193,7 @@ impl FrameDecoder {
     // The frame at the front of what is unread.
     fn find(&self) -> Result<Option<Extent>, FrameError>
         ensures some { IfOk result (λ found. IfSome found
-            (Stands self.now.framing self.now.limit (unread self.now))) }
+            (IsExtent self.now.framing self.now.limit (unread self.now))) }
         ensures none { IfOk result (λ found. IfNone found
             (IsUnfinished self.now.framing self.now.limit (unread self.now))) }
         ensures fault { IfErr result
@@ -209,7 +209,7 @@ impl FrameDecoder {
 
     // Takes the text of this frame off the front.
     fn take(&mut self, extent: Extent) -> Result<FrameText, AllocError>
-        requires { Stands self.old.framing self.old.limit (unread self.old) extent }
+        requires { IsExtent self.old.framing self.old.limit (unread self.old) extent }
         ensures text { IfOk result (λ whole. whole ≡ text_at (unread self.old) extent) }
         ensures rest { OnOk result
             (self.new ≡ left self.old (drop extent.len (unread self.old))) }

@@ -1,7 +1,7 @@
 //! Where a frame stands in bytes.
 ghost use Rattle.std.specs.Prelude.{◌≡◌, IfOk, IfErr, IfSome, IfNone};
 ghost use Rattle.wire_base.specs.Read.{Reads};
-ghost use Rattle.wire_frames.specs.Extent.{Stands};
+ghost use Rattle.wire_frames.specs.Extent.{IsExtent};
 ghost use Rattle.wire_frames.specs.Frames.{FrameFault, IsUnfinished};
 ghost use Rattle.wire_frames.specs.Prefix.{IsBegun, IsPrefix, PrefixFault};
 ghost use Rattle.wire_frames.specs.declared.frame.Framing.TheVariants.{Delimited, Grpc};
@@ -32,7 +32,7 @@ pub(crate) fn find_frame<B: Buf>(
     limit: usize,
     buf: &mut B,
 ) -> Result<Option<Extent>, FrameError>
-    ensures some { IfOk result (λ found. IfSome found (Stands framing limit (B.unread buf.old))) }
+    ensures some { IfOk result (λ found. IfSome found (IsExtent framing limit (B.unread buf.old))) }
     ensures none { IfOk result (λ found. IfNone found
         (IsUnfinished framing limit (B.unread buf.old))) }
     ensures fault { IfErr result (FrameFault framing limit (B.unread buf.old)) }

@@ -1,5 +1,5 @@
 //! Laws of frames: each function is a theorem, and does nothing.
-ghost use Rattle.wire_frames.specs.Laws.{OneFrame, OneFault, NoFrameBesideFault, UnfinishedHasNoNext, NextOrUnfinished, FrameMovesOn, UnfinishedIsShort, BytesBehind, FramesAddUp, OneList, WrittenIsRead};
+ghost use Rattle.wire_frames.specs.Laws.{OneFrame, OneFrameFault, NoFrameBesideFault, UnfinishedHasNoNext, NextOrUnfinished, FrameMovesOn, UnfinishedIsShort, BytesBehind, FramesAddUp, OneFrameList, WrittenIsRead};
 
 use wire_base::laws;
 
@@ -12,7 +12,7 @@ pub fn one_frame()
 
 /// The same bytes have one fault at most.
 pub fn one_fault()
-    ensures { OneFault }
+    ensures { OneFrameFault }
 {
     laws::one_varint();
     laws::no_varint_beside_fault();
@@ -64,7 +64,7 @@ pub fn frames_add_up()
 
 /// Up to where no whole frame stands, the frames are one list, however they came.
 pub fn one_list()
-    ensures { OneList }
+    ensures { OneFrameList }
 {
     one_frame();
 }

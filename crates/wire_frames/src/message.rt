@@ -1,7 +1,7 @@
 //! Messages off a stream of frames.
 ghost use Rattle.std.specs.Prelude.{◌≡◌, OnErr, IfOk, IfErr, IfSome, IfNone};
 ghost use Rattle.wire_frames.specs.Frames.{IsUnfinished};
-ghost use Rattle.wire_frames.specs.Messages.{IsMessage, MessageFault, MessageRefusal, TakesMessage};
+ghost use Rattle.wire_frames.specs.Messages.{IsMessage, MessageFault, MessageRefusal, ReadsMessage};
 ghost use Rattle.wire_frames.specs.Stream.{unread};
 
 use crate::decoder::FrameDecoder;
@@ -70,7 +70,7 @@ impl FrameDecoder {
         options: &DecodeOptions,
     ) -> Result<Option<M>, MessageError>
         ensures message { IfOk result (λ next. IfSome next (λ message.
-            TakesMessage M.takes options.now M.default self.old self.new (M.view message))) }
+            ReadsMessage M.takes options.now M.default self.old self.new (M.view message))) }
         ensures none { IfOk result (λ next. IfNone next
             (IsUnfinished self.old.framing self.old.limit (unread self.old))) }
         ensures unmoved { IfOk result (λ next. IfNone next (self.new ≡ self.old)) }

@@ -11,7 +11,7 @@ use Rattle.wire_frames.specs.Laws.{FramesAddUp, OneFrame, UnfinishedHasNoNext}
 use Rattle.wire_frames.specs.Stream.{Stream, unread}
 use Rattle.wire_log.specs.declared.entry.Stop.{Stop}
 use Rattle.wire_log.specs.declared.entry.Stop.TheVariants as stops
-use Rattle.wire_log.specs.Entries.{AreRecords, TakesEntry, HoldsEntry, StopsHere, no_memory}
+use Rattle.wire_log.specs.Entries.{HoldsRecords, TakesEntry, HoldsEntry, StopsHere, no_memory}
 use Rattle.wire_log.specs.Fronts.{HaveRecords, ReadsEntries, IsLongest, PutsFront, StopsBehind}
 
 pub at_none : {T : Type 0} (o : Option T) (P : Type 0) → ((x : T) → o ≡ Some x → ⊥) → IfNone o P → P
@@ -66,7 +66,7 @@ no_entry_unfinished none form limit bytes begun (frame, rest, fields, read, spel
 
 -- ---- what is put
 
-HaveRecords-push : (xs : List Frame) (x : Frame) → HaveRecords xs → AreRecords x.payload
+HaveRecords-push : (xs : List Frame) (x : Frame) → HaveRecords xs → HoldsRecords x.payload
     → HaveRecords (xs ++ x ∷ [])
 HaveRecords-push [] x h k = (k, tt)
 HaveRecords-push (y ∷ xs) x h k = (h.0, HaveRecords-push xs x h.1 k)

@@ -18,7 +18,7 @@ use Rattle.wire_log.specs.declared.entry.Broken.{Broken}
 use Rattle.wire_log.specs.declared.entry.LogReader.{LogReader}
 use Rattle.wire_log.specs.declared.entry.Stop.{Stop}
 use Rattle.wire_log.specs.declared.entry.Stop.TheVariants as stops
-use Rattle.wire_log.specs.Entries.{entry_limits, SpellsEntry, AreRecords, HoldsEntry, LeavesOut, StopsHere, no_frame, no_memory}
+use Rattle.wire_log.specs.Entries.{entry_limits, SpellsEntry, HoldsRecords, HoldsEntry, LeavesOut, StopsHere, no_frame, no_memory}
 use Rattle.wire_read.specs.declared.event.Fault.{Fault}
 use Rattle.wire_read.specs.Faults.{IsFault}
 
@@ -65,7 +65,7 @@ no_entry_refused beside form limit bytes error e (fault h) (inl (other, is)) not
 
 -- the fault of a payload leaves no records in it
 pub no_records_beside : NoListBesideFault → WholeInput → (payload : List ℕ) (fault : Fault)
-    → IsFault entry_limits payload fault → AreRecords payload → ⊥
+    → IsFault entry_limits payload fault → HoldsRecords payload → ⊥
 no_records_beside beside whole payload wrong is (fields, spelled) =
     beside entry_limits by_input payload [] wrong.error fields is.of_list
     ((whole (charge fields) entry_limits fields payload []).1
@@ -73,14 +73,14 @@ no_records_beside beside whole payload wrong is (fields, spelled) =
 
 pub none_at_fault : NoListBesideFault → WholeInput → (payload : List ℕ)
     (r : Result (Unit {0}) Fault) → IfErr r (IsFault entry_limits payload)
-    → OnErr r (AreRecords payload → ⊥)
+    → OnErr r (HoldsRecords payload → ⊥)
 none_at_fault beside whole payload (Ok done) h = h
 none_at_fault beside whole payload (Err wrong) h = no_records_beside beside whole payload wrong h
 
 -- no frame of records stands where one whose payload is none does
 pub no_entry_broken : OneFrame → (form : Framing) (limit : ℕ) (bytes rest : List ℕ)
     (frame : Frame) → Reads bytes (IsFrame form limit frame) rest
-    → (AreRecords frame.payload → ⊥) → HoldsEntry form limit bytes → ⊥
+    → (HoldsRecords frame.payload → ⊥) → HoldsEntry form limit bytes → ⊥
 no_entry_broken one form limit bytes rest frame read none (x, behind, fields, took, spelled) =
     let same = one form limit x frame bytes behind rest took read in
     none (fields, subst (λ (f : Frame). SpellsEntry fields f.payload) same.0 spelled)

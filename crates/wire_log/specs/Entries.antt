@@ -28,23 +28,23 @@ pub record SpellsEntry (fields : Fields) (payload : List ℕ) : Type 0 where
   pub within : Fits (charge fields) entry_limits
 
 -- the payload is some records within the limits
-abbrev pub AreRecords : List ℕ → Type 0
-AreRecords payload = (fields : Fields) × SpellsEntry fields payload
+abbrev pub HoldsRecords : List ℕ → Type 0
+HoldsRecords payload = (fields : Fields) × SpellsEntry fields payload
 
 -- how many frames stand before the next one, and the byte of the log at which it begins
-abbrev pub place_of : LogReader → FramePlace
-place_of log = record { number = log.taken; start = log.fed - length (unread log.decoder) }
+abbrev pub frame_place : LogReader → FramePlace
+frame_place log = record { number = log.taken; start = log.fed - length (unread log.decoder) }
 
 -- a frame of records is taken off as it stands
 pub record TakesEntry (old new : Stream) (whole : FrameText) : Type 0 where
   pub frame : IsWhole old.framing old.limit whole
   pub parts : unread old ≡ whole.text ++ unread new
   pub rest : new ≡ left old (unread new)
-  pub records : AreRecords (frame_of whole).payload
+  pub records : HoldsRecords (frame_of whole).payload
 
 -- the payload of a frame is no records within the limits, and this is told of it
 pub record IsBroken (whole : FrameText) (broken : Broken) : Type 0 where
-  pub no_records : AreRecords (frame_of whole).payload → ⊥
+  pub no_records : HoldsRecords (frame_of whole).payload → ⊥
   pub fault : IsFault entry_limits (frame_of whole).payload broken.fault
   pub prefix : broken.prefix ≡ whole.prefix
 
@@ -56,7 +56,7 @@ pub record LeavesOut (old new : LogReader) (broken : Broken) : Type 0 where
   pub rest : new.decoder ≡ left old.decoder (unread new.decoder)
   pub shorter : length (unread new.decoder) < length (unread old.decoder)
   pub is_broken : IsBroken whole broken
-  pub place : broken.place ≡ place_of old
+  pub place : broken.place ≡ frame_place old
 
 -- a frame of records stands at the front
 abbrev pub HoldsEntry : Framing → ℕ → List ℕ → Type 0

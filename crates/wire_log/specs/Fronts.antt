@@ -6,12 +6,12 @@ use Rattle.wire_frames.specs.Frames.{Frames}
 use Rattle.wire_frames.specs.Stream.{Stream, unread}
 use Rattle.wire_log.specs.declared.entry.Stop.{Stop}
 use Rattle.wire_log.specs.declared.entry.Stop.TheVariants as stops
-use Rattle.wire_log.specs.Entries.{AreRecords, StopsHere}
+use Rattle.wire_log.specs.Entries.{HoldsRecords, StopsHere}
 
 -- each payload is records within the limits
 abbrev pub HaveRecords : List Frame → Type 0
 HaveRecords [] = Unit {0}
-HaveRecords (frame ∷ frames) = AreRecords frame.payload × HaveRecords frames
+HaveRecords (frame ∷ frames) = HoldsRecords frame.payload × HaveRecords frames
 
 -- frames of records stand at the front, one after another, up to this rest
 pub record ReadsEntries (form : Framing) (limit : ℕ) (bytes rest : List ℕ) : Type 0 where

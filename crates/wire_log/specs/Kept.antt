@@ -8,7 +8,7 @@ use Rattle.wire_log.specs.declared.entry.Broken.{Broken}
 use Rattle.wire_log.specs.declared.entry.LogReader.{LogReader}
 use Rattle.wire_log.specs.declared.entry.Stop.{Stop}
 use Rattle.wire_log.specs.declared.entry.Stop.TheVariants as stops
-use Rattle.wire_log.specs.Entries.{AreRecords, IsBroken, StopsHere}
+use Rattle.wire_log.specs.Entries.{HoldsRecords, IsBroken, StopsHere}
 
 -- Frames stand at the front of the bytes, one after another, up to a rest. The text is of those
 -- whose payload is records within the limits, each as it stands, in order; the list tells of all
@@ -22,7 +22,7 @@ pub data Keeps : ℕ → Framing → ℕ → List ℕ → List ℕ → List ℕ 
       {left_out : List Broken} (whole : FrameText) (mid before : List ℕ)
       → Keeps fed form limit bytes mid before left_out
       → IsWhole form limit whole → mid ≡ whole.text ++ rest
-      → AreRecords (frame_of whole).payload → text ≡ before ++ whole.text
+      → HoldsRecords (frame_of whole).payload → text ≡ before ++ whole.text
       → Keeps fed form limit bytes rest text left_out
   -- one frame more, which is left out
   dropped : {fed : ℕ} {form : Framing} {limit : ℕ} {bytes rest text : List ℕ}

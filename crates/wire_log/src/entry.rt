@@ -4,7 +4,7 @@ ghost use Rattle.wire_base.specs.Field.{Fields, count_top};
 ghost use Rattle.wire_frames.specs.Frames.{IsUnfinished};
 ghost use Rattle.wire_frames.specs.Stream.{empty_stream, unread};
 ghost use Rattle.wire_read.specs.Faults.{IsFault};
-ghost use Rattle.wire_log.specs.Entries.{entry_limits, AreRecords, HoldsEntry, LeavesOut, SpellsEntry, StopsHere, TakesEntry, place_of};
+ghost use Rattle.wire_log.specs.Entries.{entry_limits, HoldsRecords, HoldsEntry, LeavesOut, SpellsEntry, StopsHere, TakesEntry, frame_place};
 ghost use Rattle.wire_log.specs.declared.entry.Broken.{Broken};
 
 use bytes::Bytes;
@@ -72,7 +72,7 @@ impl LogReader {
 
     /// Where the next frame stands.
     pub(crate) fn place(&self) -> FramePlace
-        ensures { result ≡ place_of self.now }
+        ensures { result ≡ frame_place self.now }
     {
         FramePlace {
             number: self.taken,
@@ -86,7 +86,7 @@ impl LogReader {
         ensures entry { IfOk result (λ next. IfSome next (λ entry.
             TakesEntry self.old.decoder self.new.decoder entry.whole)) }
         ensures place { IfOk result (λ next. IfSome next (λ entry.
-            entry.place ≡ place_of self.old)) }
+            entry.place ≡ frame_place self.old)) }
         ensures moves { IfOk result (λ next. IfSome next (λ _.
             length (unread self.new.decoder) < length (unread self.old.decoder))) }
         ensures none { IfOk result (λ next. IfNone next (IsUnfinished
@@ -127,9 +127,9 @@ impl LogReader {
 
 // Whether a payload is records within 100 levels and 1,000,000 records.
 fn check_records(payload: &[u8]) -> Result<(), Fault>
-    ensures ok { OnOk result (AreRecords payload.now) }
+    ensures ok { OnOk result (HoldsRecords payload.now) }
     ensures fault { IfErr result (IsFault entry_limits payload.now) }
-    ensures none { OnErr result (¬ AreRecords payload.now) }
+    ensures none { OnErr result (¬ HoldsRecords payload.now) }
 {
     grammar::no_list_beside_fault();
     grammar::whole_input();

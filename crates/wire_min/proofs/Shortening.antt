@@ -24,7 +24,7 @@ use Rattle.wire_min.specs.declared.shorten.Kind.{Kind}
 use Rattle.wire_min.specs.declared.shorten.Kind.TheVariants as kinds
 use Rattle.wire_min.specs.declared.shorten.Taken.{Taken}
 use Rattle.wire_min.specs.Run.{IsShortest, run_limits}
-use Rattle.wire_min.specs.Shorten.{Takes, head_text, item_of, kind_of, payload_len}
+use Rattle.wire_min.specs.Shorten.{Takes, head_text, item_of, read_kind, payload_len}
 
 -- ---- a text in the stead of others
 
@@ -184,7 +184,7 @@ payload_before all front b rest last parts is =
 -- what a reader gives, with its payload by its length
 pub taken_from : (n : ℕ) (v : Value) (all front : List ℕ) (s t : At) (behind : List ℕ) (last : ℕ)
     → all ≡ front ++ s.rest → Moves (item n v) s behind t → last ≡ place_of all t.rest
-    → Takes (record { number = n; kind = kind_of v; end = last }) all s t
+    → Takes (record { number = n; kind = read_kind v; end = last }) all s t
 taken_from n (values.Bytes b) all front s t behind last parts moves is =
     let (head, at_rest) = payload_last n b.now s t behind moves in
     let all_parts : all ≡ (front ++ head) ++ (b.now ++ t.rest) =

@@ -4,16 +4,16 @@ use Rattle.wire_min.specs.declared.error.RunError.{RunError}
 use Rattle.wire_min.specs.declared.error.RunError.TheVariants.{Refused, OutOfMemory, ReadFailed, WriteFailed}
 
 -- the exit status of a run that ends with this error
-abbrev pub status_of : RunError → ℕ
-status_of (Refused e) = 1
-status_of OutOfMemory = 2
-status_of ReadFailed = 2
-status_of WriteFailed = 2
+abbrev pub failure_status : RunError → ℕ
+failure_status (Refused e) = 1
+failure_status OutOfMemory = 2
+failure_status ReadFailed = 2
+failure_status WriteFailed = 2
 
 -- the exit status of a run that ends so
 abbrev pub exit_status_of : Result (Unit {0}) RunError → ℕ
 exit_status_of (Ok _) = 0
-exit_status_of (Err e) = status_of e
+exit_status_of (Err e) = failure_status e
 
 -- how many reads failed in a run that ends so
 abbrev pub failed_reads : {T : Type 0} → Result T RunError → ℕ

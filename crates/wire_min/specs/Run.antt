@@ -36,7 +36,7 @@ pub record AppendsFront (old new : Option (List ℕ)) (bytes : List ℕ) : Type 
   pub appended : Appends old new front
 
 -- a writer's known bytes grow by the shortest text of what the input spells
-pub record WritesShortest (input : List ℕ) (old new : Option (List ℕ)) : Type 0 where
+pub record OutputsShortest (input : List ℕ) (old new : Option (List ℕ)) : Type 0 where
   pub output : List ℕ
   pub shortest : IsShortest input output
   pub written : Appends old new output

@@ -14,13 +14,13 @@ use Rattle.wire_min.specs.declared.shorten.Kind.TheVariants as kinds
 use Rattle.wire_min.specs.declared.shorten.Taken.{Taken}
 
 -- what was read, a payload by its length
-abbrev pub kind_of : Value → Kind
-kind_of (values.Varint v) = kinds.Varint v
-kind_of (values.Fixed64 v) = kinds.Fixed64 v
-kind_of (values.Fixed32 v) = kinds.Fixed32 v
-kind_of (values.Bytes b) = kinds.Bytes (length b.now)
-kind_of values.GroupStart = kinds.GroupStart
-kind_of values.GroupEnd = kinds.GroupEnd
+abbrev pub read_kind : Value → Kind
+read_kind (values.Varint v) = kinds.Varint v
+read_kind (values.Fixed64 v) = kinds.Fixed64 v
+read_kind (values.Fixed32 v) = kinds.Fixed32 v
+read_kind (values.Bytes b) = kinds.Bytes (length b.now)
+read_kind values.GroupStart = kinds.GroupStart
+read_kind values.GroupEnd = kinds.GroupEnd
 
 -- how many bytes the payload has, where it is one behind its length
 abbrev pub payload_len : Kind → ℕ

@@ -28,11 +28,11 @@ pub enum RunError {
 }
 
 impl RunError {
-    ghost use Rattle.wire_min.specs.Outcome.{status_of};
+    ghost use Rattle.wire_min.specs.Outcome.{failure_status};
 
     /// The exit status: 1 for input that is refused, and 2 for the rest.
     pub fn status(&self) -> u8
-        ensures { result ≡ status_of self.now }
+        ensures { result ≡ failure_status self.now }
     {
         match self {
             RunError::Refused(_) => 1,

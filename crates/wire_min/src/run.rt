@@ -5,7 +5,7 @@ ghost use Rattle.std.specs.Vec.{vec_capacity, vec_len};
 ghost use Rattle.wire_codec.specs.DecodeError.{DecodeError};
 ghost use Rattle.wire_min.specs.Counted.{device_of, failures_of};
 ghost use Rattle.wire_min.specs.Outcome.{failed_reads, failed_writes};
-ghost use Rattle.wire_min.specs.Run.{AppendsFront, HasFault, IsShortest, WritesFront, WritesShortest};
+ghost use Rattle.wire_min.specs.Run.{AppendsFront, HasFault, IsShortest, WritesFront, OutputsShortest};
 
 use crate::counted::Counted;
 use crate::error::RunError;
@@ -30,7 +30,7 @@ pub fn run<R: Read, W: Write>(
     requires writer_countable { failures_of writer.old < u64.MAX }
 
     ensures ok { OnOk result (IfSome (R.remaining (device_of reader.old)) (λ input.
-        WritesShortest input (W.contents (device_of writer.old))
+        OutputsShortest input (W.contents (device_of writer.old))
         (W.contents (device_of writer.new)))) }
     ensures refused { (e : DecodeError) → result ≡ Err (RunError.Refused e)
         → IfSome (R.remaining (device_of reader.old)) (λ input. HasFault input e) }

@@ -8,7 +8,7 @@ ghost use Rattle.wire_base.specs.WriteLaws.{FillsSlice};
 ghost use Rattle.wire_read.specs.Reading.{at, IsDone, Stops};
 ghost use Rattle.wire_write.specs.Shortest.{item_text};
 ghost use Rattle.wire_min.specs.Run.{HasFault, IsShortest};
-ghost use Rattle.wire_min.specs.Shorten.{head_text, item_of, kind_of, payload_len, Takes};
+ghost use Rattle.wire_min.specs.Shorten.{head_text, item_of, read_kind, payload_len, Takes};
 
 use wire_base::laws as grammar;
 use wire_codec::{
@@ -80,7 +80,7 @@ fn next_item(reader: &mut Reader, bytes: &[u8]) -> Result<Option<Taken>, Fault>
 
 // What was read, without the bytes of a payload.
 fn kind_of(value: Value<'_>) -> Kind
-    ensures { result ≡ kind_of value.entry }
+    ensures { result ≡ read_kind value.entry }
 {
     match value {
         Value::Varint(value) => Kind::Varint(value),

@@ -15,13 +15,13 @@ Tells all (told ∷ more) s t =
     (e : Event) × (m : At) × Gives e all s m × (told ≡ told_event e) × Tells all more m t
 
 -- why a batch ends at t: the room is full, all is read, or a fault stands there
-pub data Ends : List ℕ → At → List Record → ℕ → FaultNumbers → Type 0 where
+pub data BatchEnds : List ℕ → At → List Record → ℕ → FaultNumbers → Type 0 where
   full : {all : List ℕ} {t : At} {room : List Record} {count : ℕ} {stop : FaultNumbers}
-      → count ≡ length room → stop ≡ stopped 0 → Ends all t room count stop
+      → count ≡ length room → stop ≡ stopped 0 → BatchEnds all t room count stop
   done : {all : List ℕ} {t : At} {room : List Record} {count : ℕ} {stop : FaultNumbers}
-      → IsDone t → stop ≡ stopped 1 → Ends all t room count stop
+      → IsDone t → stop ≡ stopped 1 → BatchEnds all t room count stop
   fault : {all : List ℕ} {t : At} {room : List Record} {count : ℕ} {stop : FaultNumbers} (f : Fault)
-      → Stops f all t → stop ≡ told_fault f → Ends all t room count stop
+      → Stops f all t → stop ≡ told_fault f → BatchEnds all t room count stop
 
 -- so many events stand at the front of the room, and all else of it is as it was
 pub record Fills (all : List ℕ) (s t : At) (old new : List Record) (count : ℕ) : Type 0 where
@@ -33,4 +33,4 @@ pub record Fills (all : List ℕ) (s t : At) (old new : List Record) (count : �
 pub record Batch (all : List ℕ) (s t : At) (old new : List Record) (count : ℕ)
     (stop : FaultNumbers) : Type 0 where
   pub fills : Fills all s t old new count
-  pub ends : Ends all t old count stop
+  pub ends : BatchEnds all t old count stop

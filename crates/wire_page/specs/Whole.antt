@@ -13,13 +13,13 @@ use Rattle.wire_read.specs.Numbers.{status_of, told_fault}
 use Rattle.wire_write.specs.declared.shortest.ShortestError.{ShortestError}
 use Rattle.wire_write.specs.declared.shortest.ShortestError.TheVariants as errors
 use Rattle.wire_base.specs.WriteLaws.{FillsSlice}
-use Rattle.wire_write.specs.Shortest.{Decodes, ShortestFault}
+use Rattle.wire_write.specs.Shortest.{SpellsIn, ShortestFault}
 use Rattle.wire_page.specs.Told.{stopped}
 
 -- all of the bytes spell records within the limits, or the fault is told
 pub record Validates (l : Limits) (all : List ℕ) (stop : FaultNumbers) : Type 0 where
   pub checked : Result (Unit {0}) Fault
-  pub ok : OnOk checked ((fs : Fields) × Decodes l fs all × (stop ≡ stopped 1))
+  pub ok : OnOk checked ((fs : Fields) × SpellsIn l fs all × (stop ≡ stopped 1))
   pub fault : IfErr checked (IsFault l all)
   pub told : IfErr checked (λ f. stop ≡ told_fault f)
 
@@ -32,7 +32,7 @@ ToldError (errors.NoRoom wanted) len stop = (len ≡ wanted) × (stop ≡ stoppe
 pub record Shortens (l : Limits) (all old new : List ℕ) (len : ℕ)
     (stop : FaultNumbers) : Type 0 where
   pub written : Result ℕ ShortestError
-  pub ok : IfOk written (λ n. (fs : Fields) × Decodes l fs all × FillsSlice (text_of fs) 0 old new n)
+  pub ok : IfOk written (λ n. (fs : Fields) × SpellsIn l fs all × FillsSlice (text_of fs) 0 old new n)
   pub err : IfErr written (ShortestFault l all old)
   pub unchanged : OnErr written (new ≡ old)
   pub told_ok : IfOk written (λ n. (len ≡ n) × (stop ≡ stopped 1))

@@ -21,12 +21,12 @@ use Rattle.wire_read.specs.declared.reader.Reader.{Reader}
 use Rattle.wire_read.specs.Budget.{budget, Spends}
 use Rattle.wire_read.specs.Opened.{ending_of}
 use Rattle.wire_read.specs.PartFault.{PartFault, PayloadPart}
-use Rattle.wire_read.specs.Reading.{At, Moves, Stands, Gives, at, facing, groups_of, levels_of, limits_of, item, place_of}
+use Rattle.wire_read.specs.Reading.{At, Moves, Stands, Gives, at, facing, groups_of, levels_in, limits_in, item, place_of}
 use Rattle.wire_read.proofs.Budgets.{room_none}
 
 -- ---- faults
 
-pub slot : (r : Reader) → HasRoom (budget r.unknown_fields) 1 → Fits one_field (limits_of r)
+pub slot : (r : Reader) → HasRoom (budget r.unknown_fields) 1 → Fits one_field (limits_in r)
 slot r room = record {
   depth = omega arith;
   counts = record {
@@ -43,7 +43,7 @@ record_tag (n ∷ groups) w other = other
 pub full_here : (r : Reader) (rest behind : List ℕ) (n : ℕ) (w : WireType)
     → Reads rest (IsTagSpelling n w) behind → w ≢ EndGroup
     → ¬ HasRoom (budget r.unknown_fields) 1
-    → PartFault (limits_of r) (ending_of (groups_of r)) rest parts.Tag rest UnknownFieldLimitExceeded
+    → PartFault (limits_in r) (ending_of (groups_of r)) rest parts.Tag rest UnknownFieldLimitExceeded
 full_here r rest behind n w tag other full =
     PartFault.no_slot n w behind tag (record_tag (groups_of r) w other)
     (λ fits. full fits.counts.unknown_fields)
@@ -152,7 +152,7 @@ moved_whole r t n w rest behind found tag other h spent same groups depth =
           parts = (h.read n).parts;
           spelled = record { kind = refl; spelled = (h.read n).spelled };
         };
-        fits = subst (λ c. Fits c (limits_of r)) (sym charged) (record {
+        fits = subst (λ c. Fits c (limits_in r)) (sym charged) (record {
           depth = omega arith;
           counts = record {
             unknown_fields = spent.0;
@@ -163,13 +163,13 @@ moved_whole r t n w rest behind found tag other h spent same groups depth =
       },
       flat,
       groups,
-      limits_are (levels_of t - length (groups_of t)) (levels_of r - length (groups_of r))
+      limits_are (levels_in t - length (groups_of t)) (levels_in r - length (groups_of r))
           (budget t.unknown_fields) (less (budget r.unknown_fields) 1)
           (budget t.unknown_bytes) (less (budget r.unknown_bytes) count)
           (omega (arith, depth, ap length groups))
           spent.1
           (ap budget same ∙ h.spent.1)
-          ∙ ap (left_after (limits_of r)) (sym charged),
+          ∙ ap (left_after (limits_in r)) (sym charged),
     )
 
 -- ---- events

@@ -14,7 +14,7 @@ use Rattle.wire_base.specs.Read.{Reads}
 use Rattle.wire_base.specs.RecordLaws.{RecordsOneByOne}
 use Rattle.wire_base.specs.Tag.{IsTagSpelling}
 use Rattle.wire_base.specs.Taken.{TakesFields, TakesPayload}
-use Rattle.wire_read.specs.Opened.{Group, Opens, TakesOpen, numbers, ending_of, inside, left_open, items_of, payload_items, items_open}
+use Rattle.wire_read.specs.Opened.{Group, Opens, TakesOpen, numbers, ending_of, in_group, left_open, items_of, payload_items, items_open}
 
 -- ---- a fault
 
@@ -49,7 +49,7 @@ pub opened : (records : RecordsOneByOne) (l : Limits) (levels : List Group) (fs 
     (all mid new : List ℕ) → TakesOpen l levels fs all mid → Opens (left_open l levels fs) n mid new
     → TakesOpen l (record { before = fs; number = n } ∷ levels) none all new
 opened records l levels fs n all mid new h opens =
-    (mid, new, h, opens, records.none (inside (left_open l levels fs)) new)
+    (mid, new, h, opens, records.none (in_group (left_open l levels fs)) new)
 
 charge-push : ChargesAddUp → (fs : Fields) (n : ℕ) (p : Payload)
     → charge (push fs n p) ≡ both (charge fs) (payload_charge p)
@@ -84,7 +84,7 @@ more charges records l (g ∷ outside) fs n w p all mid behind new
       inner_start,
       before,
       opens,
-      takes_more charges records (inside (left_open l outside g.before)) fs n w p inner_start mid behind
+      takes_more charges records (in_group (left_open l outside g.before)) fs n w p inner_start mid behind
           new taken tag payload,
     )
 
@@ -96,13 +96,13 @@ left-more charges limits l [] fs n p =
     limits.left_after_both l (charge fs) (payload_charge p)
     ∙ ap (left_after l) (sym (charge-push charges fs n p))
 left-more charges limits l (g ∷ outside) fs n p =
-    limits.left_after_both (inside (left_open l outside g.before)) (charge fs) (payload_charge p)
-    ∙ ap (left_after (inside (left_open l outside g.before))) (sym (charge-push charges fs n p))
+    limits.left_after_both (in_group (left_open l outside g.before)) (charge fs) (payload_charge p)
+    ∙ ap (left_after (in_group (left_open l outside g.before))) (sym (charge-push charges fs n p))
 
 -- the body of a group and its end tag are its payload
 group_payload : LimitsAddUp → LevelsAddUp
     → (l : Limits) (n : ℕ) (fs : Fields) (old mid new : List ℕ) → Fits one_field l → 0 < l.depth
-    → TakesFields (charge fs) (inside l) fs old mid → Reads mid (IsTagSpelling n EndGroup) new
+    → TakesFields (charge fs) (in_group l) fs old mid → Reads mid (IsTagSpelling n EndGroup) new
     → TakesPayload (payload_charge (group fs)) l n StartGroup (group fs) old new
 group_payload limits levels l n fs old mid new slot level h ended = record {
   read = record {

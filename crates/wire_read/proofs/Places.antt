@@ -20,7 +20,7 @@ use Rattle.wire_base.specs.Varint.{IsEnded}
 use Rattle.wire_base.specs.Taken.{TakesPayload}
 use Rattle.wire_read.specs.declared.event.Part.{Part}
 use Rattle.wire_read.specs.Laws.{ReaderBegins, ReaderGoesOn, ReaderIsDone, ReaderIsStuck}
-use Rattle.wire_read.specs.Opened.{Group, Opens, TakesOpen, numbers, left_open, items_of, payload_items, items_open, inside, ending_of}
+use Rattle.wire_read.specs.Opened.{Group, Opens, TakesOpen, numbers, left_open, items_of, payload_items, items_open, in_group, ending_of}
 use Rattle.wire_read.specs.PartFault.{PartFault, PayloadPart}
 use Rattle.wire_read.specs.Reading.{At, IsAt}
 use Rattle.wire_read.proofs.Payloads.{delimited_there}
@@ -81,8 +81,8 @@ module _ (charges : ChargesAddUp) (records : RecordsOneByOne) (limits : LimitsAd
         (subst (λ m. Opens m n s.rest t.rest) h.limits opens);
     items_are = ap (λ is. is ++ start n ∷ []) h.items_are;
     groups = groups ∙ ap (λ gs. n ∷ gs) h.groups;
-    limits = left ∙ ap inside h.limits
-        ∙ sym (limits.left_after_nothing (inside (left_open l h.levels h.fields)));
+    limits = left ∙ ap in_group h.limits
+        ∙ sym (limits.left_after_nothing (in_group (left_open l h.levels h.fields)));
   }
   goes_on l all items (end n) s t behind h (tag, same_place, groups, left) =
       ends l all items n s t h.levels h.fields h.taken h.items_are h.groups h.limits tag

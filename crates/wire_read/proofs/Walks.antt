@@ -14,7 +14,7 @@ use Rattle.wire_base.specs.Spells.{Spells, SpellsPayload, IsPayload}
 use Rattle.wire_base.specs.Tag.{IsTagSpelling}
 use Rattle.wire_base.specs.TagLaws.{OneTag}
 use Rattle.wire_base.specs.Varint.{IsEnded}
-use Rattle.wire_read.specs.Opened.{Group, TakesOpen, numbers, left_open, items_of, payload_items, items_open, inside}
+use Rattle.wire_read.specs.Opened.{Group, TakesOpen, numbers, left_open, items_of, payload_items, items_open, in_group}
 use Rattle.wire_read.specs.Reading.{At, Moves}
 
 abbrev pub at_with : List ℕ → List ℕ → Limits → At
@@ -77,11 +77,11 @@ module _ (limits : LimitsAddUp) (levels : LevelsAddUp) where
         let parts = (limits.both_fit l one_field (nested (charge fs))).0 fits in
         let deep = (levels.nested_fits (left_after l one_field) (charge fs)).0 parts.1 in
         let past : List ℕ = stop ++ new in (
-          at_with behind (n ∷ groups) (inside l),
+          at_with behind (n ∷ groups) (in_group l),
           behind,
           (record { tag = tag; slot = parts.0; level = deep.0 }, refl, refl, refl),
           walks-append (items_of fs) (end n ∷ []) _ _ _
-              (fields_walk fs (inside l) (n ∷ groups) behind past
+              (fields_walk fs (in_group l) (n ∷ groups) behind past
               (record {
                 text = body.text;
                 parts = h.parts ∙ ap (λ t. t ++ new) body.parts ∙ append_assoc body.text stop new;
@@ -137,10 +137,10 @@ module _ (limits : LimitsAddUp) (levels : LevelsAddUp) where
   open_walks l (g ∷ outside) fs all rest (here, behind, before, opens, taken) =
       walks-append (items_open outside g.before) (start g.number ∷ items_of fs) _ _ _
       (open_walks l outside g.before all here before) (
-        at_with behind (g.number ∷ numbers outside) (inside (left_open l outside g.before)),
+        at_with behind (g.number ∷ numbers outside) (in_group (left_open l outside g.before)),
         behind,
         (opens, refl, refl, refl),
-        fields_walk fs (inside (left_open l outside g.before)) (g.number ∷ numbers outside) behind
+        fields_walk fs (in_group (left_open l outside g.before)) (g.number ∷ numbers outside) behind
             rest taken.read taken.fits,
       )
 

@@ -26,13 +26,13 @@ ending_of [] = by_input
 ending_of (n ∷ outside) = by_tag n
 
 -- what is left behind the start tag of a group
-abbrev pub inside : Limits → Limits
-inside l = inner (left_after l one_field)
+abbrev pub in_group : Limits → Limits
+in_group l = inner (left_after l one_field)
 
 -- what is left behind the records fs of the innermost open list
 abbrev pub left_open : Limits → List Group → Fields → Limits
 left_open l [] fs = left_after l (charge fs)
-left_open l (g ∷ outside) fs = left_after (inside (left_open l outside g.before)) (charge fs)
+left_open l (g ∷ outside) fs = left_after (in_group (left_open l outside g.before)) (charge fs)
 
 -- a start tag for which there is a slot and a level
 pub record Opens (l : Limits) (n : ℕ) (old new : List ℕ) : Type 0 where
@@ -47,7 +47,7 @@ TakesOpen l [] fs old new = TakesFields (charge fs) l fs old new
 TakesOpen l (g ∷ outside) fs old new =
     (here : List ℕ) × (behind : List ℕ) × TakesOpen l outside g.before old here
     × Opens (left_open l outside g.before) g.number here behind
-    × TakesFields (charge fs) (inside (left_open l outside g.before)) fs behind new
+    × TakesFields (charge fs) (in_group (left_open l outside g.before)) fs behind new
 
 -- Of all fronts that spell records within the limits, open groups counted, the longest: rest is
 -- what follows it.

@@ -18,7 +18,7 @@ use Rattle.wire_read.specs.declared.event.Fault.{Fault}
 use Rattle.wire_read.specs.declared.payload.Found.{Found}
 use Rattle.wire_read.specs.declared.reader.Reader.{Reader}
 use Rattle.wire_read.specs.Budget.{budget, Spends}
-use Rattle.wire_read.specs.Opened.{Group, Opens, TakesOpen, numbers, ending_of, inside, left_open, items_open}
+use Rattle.wire_read.specs.Opened.{Group, Opens, TakesOpen, numbers, ending_of, in_group, left_open, items_open}
 use Rattle.wire_read.specs.PartFault.{PartFault}
 
 -- the bytes that are left, the numbers of the open groups, the innermost first, and what is left of
@@ -30,15 +30,15 @@ pub record At : Type 0 where
 
 -- A reader's levels are at most 100, and no more groups are open than it has levels, whatever its
 -- fields are.
-abbrev pub levels_of : Reader → ℕ
-levels_of r = min r.depth 100
+abbrev pub levels_in : Reader → ℕ
+levels_in r = min r.depth 100
 
 abbrev pub groups_of : Reader → List ℕ
-groups_of r = reverse (take (min r.group_count (levels_of r)) r.groups)
+groups_of r = reverse (take (min r.group_count (levels_in r)) r.groups)
 
-abbrev pub limits_of : Reader → Limits
-limits_of r = record {
-  depth = levels_of r - length (groups_of r);
+abbrev pub limits_in : Reader → Limits
+limits_in r = record {
+  depth = levels_in r - length (groups_of r);
   counts = record {
     unknown_fields = budget r.unknown_fields;
     element_memory = None;
@@ -48,7 +48,7 @@ limits_of r = record {
 
 -- a reader with these bytes before it
 abbrev pub facing : Reader → List ℕ → At
-facing r rest = record { rest = rest; groups = groups_of r; limits = limits_of r }
+facing r rest = record { rest = rest; groups = groups_of r; limits = limits_in r }
 
 -- a reader in these bytes
 abbrev pub at : Reader → List ℕ → At
@@ -58,7 +58,7 @@ at r all = facing r (drop r.place all)
 pub record Begins (l : Limits) (r : Reader) : Type 0 where
   pub place : r.place ≡ 0
   pub groups : groups_of r ≡ []
-  pub limits : limits_of r ≡ l
+  pub limits : limits_in r ≡ l
 
 -- the item of an event
 abbrev pub item : ℕ → Value → Item
@@ -82,7 +82,7 @@ pub record Stands (left : ℕ) (w : WireType) (old : List ℕ) (found : Found) :
 abbrev pub Moves : Item → At → List ℕ → At → Type 0
 Moves (start n) s behind t =
     Opens s.limits n s.rest t.rest × (behind ≡ t.rest)
-    × (t.groups ≡ n ∷ s.groups) × (t.limits ≡ inside s.limits)
+    × (t.groups ≡ n ∷ s.groups) × (t.limits ≡ in_group s.limits)
 Moves (end n) s behind t =
     Reads s.rest (IsTagSpelling n EndGroup) t.rest × (behind ≡ t.rest)
     × (s.groups ≡ n ∷ t.groups) × (t.limits ≡ outer s.limits)

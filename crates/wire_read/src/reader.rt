@@ -10,7 +10,7 @@ ghost use Rattle.wire_base.specs.TagView.{tag_number, tag_type};
 ghost use Rattle.wire_read.specs.Budget.{read_limits};
 ghost use Rattle.wire_read.specs.Opened.{ending_of};
 ghost use Rattle.wire_read.specs.PartFault.{PartFault};
-ghost use Rattle.wire_read.specs.Reading.{at, facing, groups_of, levels_of, limits_of, item, place_of, Begins, Gives, IsDone, Moves, Stops};
+ghost use Rattle.wire_read.specs.Reading.{at, facing, groups_of, levels_in, limits_in, item, place_of, Begins, Gives, IsDone, Moves, Stops};
 
 use crate::event::{Event, Fault, Part, Value};
 use crate::payload::{Broken, read_payload, spend};
@@ -128,7 +128,7 @@ impl Reader {
     fn step<'a>(&mut self, rest: &'a [u8]) -> Result<Step<'a>, Broken<'a>>
         ensures ok { IfOk result (λ s. Moves (item s.number s.value) (facing self.old rest.now)
             s.behind.now (facing self.new s.rest.now)) }
-        ensures fault { IfErr result (λ b. PartFault (limits_of self.old)
+        ensures fault { IfErr result (λ b. PartFault (limits_in self.old)
             (ending_of (groups_of self.old)) rest.now b.part b.place.now b.error) }
         ensures unchanged { OnErr result (self.new ≡ self.old) }
     {
@@ -163,7 +163,7 @@ impl Reader {
         requires { Reads rest.now (IsTagSpelling number StartGroup) behind.now }
         ensures ok { IfOk result (λ s. Moves (item s.number s.value) (facing self.old rest.now)
             s.behind.now (facing self.new s.rest.now)) }
-        ensures fault { IfErr result (λ b. PartFault (limits_of self.old)
+        ensures fault { IfErr result (λ b. PartFault (limits_in self.old)
             (ending_of (groups_of self.old)) rest.now b.part b.place.now b.error) }
         ensures unchanged { OnErr result (self.new ≡ self.old) }
     {
@@ -198,7 +198,7 @@ impl Reader {
         requires { Reads rest.now (IsTagSpelling number EndGroup) behind.now }
         ensures ok { IfOk result (λ s. Moves (item s.number s.value) (facing self.old rest.now)
             s.behind.now (facing self.new s.rest.now)) }
-        ensures fault { IfErr result (λ b. PartFault (limits_of self.old)
+        ensures fault { IfErr result (λ b. PartFault (limits_in self.old)
             (ending_of (groups_of self.old)) rest.now b.part b.place.now b.error) }
         ensures unchanged { OnErr result (self.new ≡ self.old) }
     {
@@ -241,7 +241,7 @@ impl Reader {
         requires end { tag_type tag ≢ EndGroup }
         ensures ok { IfOk result (λ s. Moves (item s.number s.value) (facing self.old rest.now)
             s.behind.now (facing self.new s.rest.now)) }
-        ensures fault { IfErr result (λ b. PartFault (limits_of self.old)
+        ensures fault { IfErr result (λ b. PartFault (limits_in self.old)
             (ending_of (groups_of self.old)) rest.now b.part b.place.now b.error) }
         ensures unchanged { OnErr result (self.new ≡ self.old) }
     {
@@ -262,7 +262,7 @@ impl Reader {
     // How many groups may be open.
     #[inline(always)]
     fn levels(&self) -> u32
-        ensures { result ≡ levels_of self.now }
+        ensures { result ≡ levels_in self.now }
     {
         self.depth.min(MAX_OPEN_GROUPS)
     }
@@ -270,7 +270,7 @@ impl Reader {
     // How many groups are open.
     #[inline(always)]
     fn open_count(&self) -> usize
-        ensures count { result ≡ min self.now.group_count (levels_of self.now) }
+        ensures count { result ≡ min self.now.group_count (levels_in self.now) }
         ensures length { result ≡ length (groups_of self.now) }
     {
         self.group_count.min(self.levels()) as usize
@@ -285,7 +285,7 @@ impl Reader {
     }
 
     fn push(&mut self, number: u32)
-        requires { length (groups_of self.old) < levels_of self.old }
+        requires { length (groups_of self.old) < levels_in self.old }
         ensures groups { groups_of self.new ≡ number ∷ groups_of self.old }
         ensures depth { self.new.depth ≡ self.old.depth }
         ensures bytes { self.new.unknown_bytes ≡ self.old.unknown_bytes }

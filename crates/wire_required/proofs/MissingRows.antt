@@ -8,7 +8,7 @@ use Rattle.wire_fields.specs.NestTable.{Table, Family, message_at, empty_of}
 use Rattle.wire_required.specs.Missing.{Missing, at, each_from}
 use Rattle.wire_required.specs.Nested.{Asked, AskedRow, family_missing, rows_missing, each_missing}
 use Rattle.wire_required.specs.Nested.{row_missing}
-use Rattle.wire_required.specs.Path.{Step, index}
+use Rattle.wire_required.specs.Path.{PathPart, index}
 
 abbrev rows_from : {L : Type 0} → ℕ → Rows L → Rows L
 rows_from zero rs = rs
@@ -80,7 +80,7 @@ next_message t lacks ms i h = rw add-one (next_from lacks ms i i (empty_of t) h)
 
 -- ---- what was found, and what was not
 
-pub found_here : (whole here rest : Missing) (path : List Step) → whole ≡ option_or here rest
+pub found_here : (whole here rest : Missing) (path : List PathPart) → whole ≡ option_or here rest
     → here ≡ Some path → Some path ≡ whole
 found_here whole here rest path is found =
     sym (is ∙ ap (λ (x : Missing). option_or x rest) found)

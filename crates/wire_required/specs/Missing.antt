@@ -1,11 +1,11 @@
 -- Which required field a value lacks.
 use Rattle.std.specs.Option.{option_or}
 use Rattle.std.specs.Prelude.{ℕ, suc, zero, List, [], ◌∷◌, Option, Some, None, option_map}
-use Rattle.wire_required.specs.Path.{Key, Step, field, index, key}
+use Rattle.wire_required.specs.Path.{Key, PathPart, field, index, key}
 
 -- the path to the first required field that is not there, where one is not
 abbrev pub Missing : Type 0
-Missing = Option (List Step)
+Missing = Option (List PathPart)
 
 -- what was found, or else the first of these
 abbrev pub found_or : Missing → List Missing → Missing
@@ -17,7 +17,7 @@ abbrev pub first_of : List Missing → Missing
 first_of = found_or None
 
 -- what is missing one step further in
-abbrev pub at : Step → Missing → Missing
+abbrev pub at : PathPart → Missing → Missing
 at step = option_map (λ path. step ∷ path)
 
 -- a required field of this name, which is not there where it holds nothing

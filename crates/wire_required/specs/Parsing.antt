@@ -10,11 +10,11 @@ use Rattle.wire_required.specs.declared.error.ParseError.TheVariants.{Decode, Mi
 
 -- The bytes do not decode within the limits, or they decode to a message which, as its value is
 -- seen, lacks the required field that the path leads to. Nothing is said of want of memory.
-abbrev pub IsRefused : {M V : Type 0} → Step V → Limits → V → (M → V) → (M → Missing) → List ℕ
+abbrev pub ParseIsRefused : {M V : Type 0} → Step V → Limits → V → (M → V) → (M → Missing) → List ℕ
     → ParseError → Type 0
-IsRefused takes l start view lacks bytes (Decode e) =
+ParseIsRefused takes l start view lacks bytes (Decode e) =
     e ≢ OutOfMemory → NotDecoded takes l start bytes
-IsRefused {M} takes l start view lacks bytes (MissingRequiredField path) =
+ParseIsRefused {M} takes l start view lacks bytes (MissingRequiredField path) =
     (m : M) × Decodes takes l start bytes (view m) × (lacks m ≡ Some path)
 
 -- memory runs out, or what is missing is the required field that the path leads to

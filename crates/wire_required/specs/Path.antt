@@ -10,7 +10,7 @@ pub data Key : Type 0 where
 
 -- the name that a field has in its schema, the index of an element of a list, or the key of an entry
 -- of a map
-pub data Step : Type 0 where
-  field : List ℕ → Step
-  index : ℕ → Step
-  key : Key → Step
+pub data PathPart : Type 0 where
+  field : List ℕ → PathPart
+  index : ℕ → PathPart
+  key : Key → PathPart

@@ -2,7 +2,7 @@
 use Rattle.std.specs.Prelude.{string_bytes}
 use Rattle.wire_required.specs.Nested.{AskedRow, each, once, needed}
 use Rattle.wire_required.specs.Path.{Key, int_key, uint_key, bool_key, text_key}
-use Rattle.wire_required.specs.Path.{Step, field, index, key}
+use Rattle.wire_required.specs.Path.{PathPart, field, index, key}
 use Rattle.wire_required.specs.declared.nested.RowRequirement.{RowRequirement}
 use Rattle.wire_required.specs.declared.nested.RowRequirement.TheVariants as rows
 use Rattle.wire_required.specs.declared.step.MapKey.{MapKey}
@@ -16,7 +16,7 @@ key_seen (Uint n) = uint_key n
 key_seen (Bool b) = bool_key b
 key_seen (Text t) = text_key (string_bytes t)
 
-abbrev pub step_seen : PathStep → Step
+abbrev pub step_seen : PathStep → PathPart
 step_seen (steps.Field name) = field name.now
 step_seen (steps.Index i) = index i
 step_seen (steps.Key k) = key (key_seen k)

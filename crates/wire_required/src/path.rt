@@ -17,10 +17,10 @@ pub struct FieldPath {
 
 impl Model for FieldPath {
     ghost use Rattle.std.specs.Prelude.{List, map};
-    ghost use Rattle.wire_required.specs.Path.{Step};
+    ghost use Rattle.wire_required.specs.Path.{PathPart};
     ghost use Rattle.wire_required.specs.Seen.{step_seen};
 
-    ghost Value = { List Step };
+    ghost Value = { List PathPart };
 
     ghost view = { λ path. map step_seen path.steps.items };
 }

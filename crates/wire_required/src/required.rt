@@ -4,7 +4,7 @@ ghost use Rattle.wire_codec.specs.DecodeError.TheVariants.{MessageTooLarge};
 ghost use Rattle.wire_codec.specs.Options.{default_limits, limits_of};
 ghost use Rattle.wire_codec.specs.Taking.{Decodes};
 ghost use Rattle.wire_required.specs.Missing.{Missing};
-ghost use Rattle.wire_required.specs.Parsing.{IsRefused, IsIncomplete};
+ghost use Rattle.wire_required.specs.Parsing.{ParseIsRefused, IsIncomplete};
 ghost use Rattle.wire_required.specs.declared.error.ParseError.TheVariants.{Decode};
 
 use crate::error::ParseError;
@@ -41,7 +41,7 @@ pub trait Parse: Message + Required {
         ensures decoded { IfOk result (λ message. Decodes Self.takes default_limits Self.default
             bytes.now (Self.view message)) }
         ensures complete { IfOk result (λ message. Self.missing (Self.seen message) ≡ None) }
-        ensures err { IfErr result (IsRefused Self.takes default_limits Self.default Self.view
+        ensures err { IfErr result (ParseIsRefused Self.takes default_limits Self.default Self.view
             (λ message. Self.missing (Self.seen message)) bytes.now) }
     {
         let message = Self::decode_from_slice(alloc, bytes)?;
@@ -61,7 +61,7 @@ pub trait Parse: Message + Required {
         ensures too_large { options.now.max_message_size < length bytes.now
             → IsErrAnd result (λ e. e ≡ Decode MessageTooLarge) }
         ensures err { length bytes.now ≤ options.now.max_message_size → IfErr result
-            (IsRefused Self.takes (limits_of options.now) Self.default Self.view
+            (ParseIsRefused Self.takes (limits_of options.now) Self.default Self.view
             (λ message. Self.missing (Self.seen message)) bytes.now) }
     {
         let message = options.decode_from_slice::<Self>(alloc, bytes)?;

@@ -20,6 +20,6 @@ error_status NoType = 13
 error_status Unfit = 14
 
 -- of any run
-abbrev pub status_of : Result (Unit {0}) RunError → ℕ
-status_of (Ok done) = 0
-status_of (Err e) = error_status e
+abbrev pub run_status : Result (Unit {0}) RunError → ℕ
+run_status (Ok done) = 0
+run_status (Err e) = error_status e

@@ -2,7 +2,7 @@
 ghost use Rattle.std.specs.Prelude.{◌≡◌, ◌≢◌};
 ghost use Rattle.std.specs.IoError.{error_kind};
 ghost use Rattle.std.specs.Process.{exit_status};
-ghost use Rattle.wire_run.specs.Outcome.{error_status, status_of};
+ghost use Rattle.wire_run.specs.Outcome.{error_status, run_status};
 
 use crate::source::Source;
 use std::alloc::AllocFailed;
@@ -44,7 +44,7 @@ pub fn report(
     source: Source<'_>,
     outcome: Result<(), RunError>,
 ) -> ExitCode
-    ensures { exit_status result ≡ status_of outcome }
+    ensures { exit_status result ≡ run_status outcome }
 {
     let Err(error) = outcome else {
         return ExitCode::SUCCESS;

@@ -12,11 +12,11 @@ use Rattle.wire_fields.specs.Sound.{HasBytes, IsSound, AreSound, first_is_sound,
 use Rattle.wire_fields.specs.Sound.{body_is_sound, spelled_are_sound}
 use Rattle.wire_fields.specs.StaysKinds.{sint64_fits}
 use Rattle.wire_samples.specs.FieldSteps.{SetsSint64}
-use Rattle.wire_samples.specs.Kept.{AreKept}
+use Rattle.wire_samples.specs.Kept.{AreUnknown}
 use Rattle.wire_samples.specs.Node.{NodeValue, MaybeNode, NodeList, node, absent, present, empty, ahead}
 use Rattle.wire_samples.specs.Node.{IsNode, IsMaybeNode, AreNodes, IsNodeOther, appended, or_default}
-use Rattle.wire_samples.specs.Node.{child_of, group_of, unknown_of, default_node, with_value, with_child}
-use Rattle.wire_samples.specs.Node.{with_another, with_group, with_unknown}
+use Rattle.wire_samples.specs.Node.{child_of, own_group, unknown_of, default_node, with_value, with_child}
+use Rattle.wire_samples.specs.Node.{with_another, with_group, keeping}
 use Rattle.wire_samples.specs.NodeSteps.{NodeTakes, value, child, another, grouped, unknown}
 use Rattle.wire_samples.specs.NodeSteps.{NodeMerges, merged, NodeFolds, no_more, one_more}
 use Rattle.wire_samples.proofs.Kept.{kept_more, none_kept}
@@ -33,7 +33,7 @@ or_default_in_range (present m) h = h
 child_in_range : (m : NodeValue) → IsNode m → IsNode (or_default (child_of m))
 child_in_range (node v one many body kept) h = or_default_in_range one h.1
 
-group_in_range : (m : NodeValue) → IsNode m → IsNode (or_default (group_of m))
+group_in_range : (m : NodeValue) → IsNode m → IsNode (or_default (own_group m))
 group_in_range (node v one many body kept) h = or_default_in_range body h.3
 
 one_node_more : (ms : NodeList) (m : NodeValue) → AreNodes ms → IsNode m
@@ -55,7 +55,7 @@ with_group_in_range : (m n : NodeValue) → IsNode m → IsNode n → IsNode (wi
 with_group_in_range (node v one many body kept) n h k = (h.0, h.1, h.2, k, h.4)
 
 unknown_in_range : (m : NodeValue) (fs : Fields) → IsNode m
-    → (AreKept IsNodeOther (unknown_of m) → AreKept IsNodeOther fs) → IsNode (with_unknown m fs)
+    → (AreUnknown IsNodeOther (unknown_of m) → AreUnknown IsNodeOther fs) → IsNode (keeping m fs)
 unknown_in_range (node v one many body kept) fs h more = (h.0, h.1, h.2, h.3, more h.4)
 
 -- ---- records

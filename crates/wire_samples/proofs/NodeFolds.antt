@@ -19,7 +19,7 @@ use Rattle.wire_codec.specs.Varint.{shortest_varint}
 use Rattle.wire_codec.specs.WireType.TheVariants.{LengthDelimited, StartGroup, EndGroup}
 use Rattle.wire_samples.proofs.PersonFolds.{joined-none, push_joined}
 use Rattle.wire_samples.specs.FieldRecords.{sint64_field}
-use Rattle.wire_samples.specs.Kept.{AreKept, AreOthers}
+use Rattle.wire_samples.specs.Kept.{AreUnknown, NumbersAre}
 use Rattle.wire_samples.specs.Node.{NodeValue, node, MaybeNode, absent, present, NodeList, empty}
 use Rattle.wire_samples.specs.Node.{ahead, appended, default_node, node_records, child_record}
 use Rattle.wire_samples.specs.Node.{children_records, group_record, IsNode, IsNodeOther}
@@ -144,7 +144,7 @@ module _ (charges : ChargesAddUp) (spells : ShortestTextSpells) where
       h refl
 
 unknown_fold : (v : ℤ) (child : MaybeNode) (children : NodeList) (group : MaybeNode)
-    (before fs : grammar.Fields) → AreOthers IsNodeOther fs
+    (before fs : grammar.Fields) → NumbersAre IsNodeOther fs
     → NodeFolds (node v child children group before) fs (charge fs)
     (node v child children group (grammar.joined before fs))
 unknown_fold v child children group before grammar.none others =
@@ -291,7 +291,7 @@ module _ (charges : ChargesAddUp) (spells : ShortestTextSpells) (joins : JoinedA
     (back : ReadsBack sint64 (FitsSigned w64)) (same : FieldsArePlain) where
   -- a node whose parts fold back
   level_back : (v : ℤ) (child : MaybeNode) (children : NodeList) (group : MaybeNode)
-      (kept : grammar.Fields) → FitsSigned w64 v → AreKept IsNodeOther kept
+      (kept : grammar.Fields) → FitsSigned w64 v → AreUnknown IsNodeOther kept
       → text_size (node_records (node v child children group kept)) ≤ 2147483647 → HeldBack child
       → ListBack children → HeldBack group → Back (node v child children group kept)
   level_back v child children group kept fits unknown small child_back children_back group_back =

@@ -28,11 +28,11 @@ use Rattle.wire_samples.proofs.PersonTable.{some, number_set, number_back}
 use Rattle.wire_samples.specs.FieldRecords.{sint64_field}
 use Rattle.wire_samples.specs.FieldSteps.{SetsSint64}
 use Rattle.wire_samples.specs.declared.node.Node.{Node}
-use Rattle.wire_samples.specs.Node.{node_value, listed}
+use Rattle.wire_samples.specs.Node.{node_value, node_list}
 use Rattle.wire_samples.specs.Node.{NodeValue, node, MaybeNode, absent, present, NodeList, empty}
-use Rattle.wire_samples.specs.Node.{ahead, appended, default_node, or_default, child_of, group_of}
+use Rattle.wire_samples.specs.Node.{ahead, appended, default_node, or_default, child_of, own_group}
 use Rattle.wire_samples.specs.Node.{unknown_of, with_value, with_child, with_another, with_group}
-use Rattle.wire_samples.specs.Node.{with_unknown, node_records, child_record, children_records}
+use Rattle.wire_samples.specs.Node.{keeping, node_records, child_record, children_records}
 use Rattle.wire_samples.specs.Node.{group_record, IsNodeOther}
 use Rattle.wire_samples.specs.NodeSteps.{NodeTakes, value, child, another, grouped, unknown}
 use Rattle.wire_samples.specs.NodeSteps.{NodeMerges, merged, NodeFolds, no_more, one_more}
@@ -120,7 +120,7 @@ child_start : (m : NodeValue) → one_of node_table 0 (as_nest m) ≡ as_nest (o
 child_start (node v absent kids own fs) = refl
 child_start (node v (present m) kids own fs) = refl
 
-group_start : (m : NodeValue) → one_of node_table 2 (as_nest m) ≡ as_nest (or_default (group_of m))
+group_start : (m : NodeValue) → one_of node_table 2 (as_nest m) ≡ as_nest (or_default (own_group m))
 group_start (node v kid kids absent fs) = refl
 group_start (node v kid kids (present m) fs) = refl
 
@@ -145,25 +145,25 @@ another_put (node v kid kids own fs) z =
 -- ---- the children, as they are held
 
 pub list_listed : (ns : List Node)
-    → nests.listed (list_row (listed (map node_value ns))) ≡ map node_nest ns
+    → nests.listed (list_row (node_list (map node_value ns))) ≡ map node_nest ns
 list_listed [] = refl
 list_listed (n ∷ ns) = ap (λ (ms : List NodeNest). node_nest n ∷ ms) (list_listed ns)
 
 children_pushed : (ns ks : List Node) (n : Node) → ks ≡ ns ++ n ∷ []
-    → list_row (listed (map node_value ks))
-    ≡ row_of (nests.listed (list_row (listed (map node_value ns))) ++ node_nest n ∷ [])
+    → list_row (node_list (map node_value ks))
+    ≡ row_of (nests.listed (list_row (node_list (map node_value ns))) ++ node_nest n ∷ [])
 children_pushed ns ks n is =
-    ap (λ (xs : List Node). list_row (listed (map node_value xs))) is ∙ pushed ns
+    ap (λ (xs : List Node). list_row (node_list (map node_value xs))) is ∙ pushed ns
   where
-    pushed : (xs : List Node) → list_row (listed (map node_value (xs ++ n ∷ [])))
-        ≡ row_of (nests.listed (list_row (listed (map node_value xs))) ++ node_nest n ∷ [])
+    pushed : (xs : List Node) → list_row (node_list (map node_value (xs ++ n ∷ [])))
+        ≡ row_of (nests.listed (list_row (node_list (map node_value xs))) ++ node_nest n ∷ [])
     pushed [] = refl
     pushed (x ∷ xs) = ap (nests.ahead (node_nest x)) (pushed xs)
 
 pub children_set : (v : ℤ) (kid : MaybeNode) (ns ks : List Node) (own : MaybeNode) (fs : Fields)
     (n : Node) → ks ≡ ns ++ n ∷ []
-    → as_nest (node v kid (listed (map node_value ks)) own fs)
-    ≡ with_more 1 (as_nest (node v kid (listed (map node_value ns)) own fs)) (node_nest n)
+    → as_nest (node v kid (node_list (map node_value ks)) own fs)
+    ≡ with_more 1 (as_nest (node v kid (node_list (map node_value ns)) own fs)) (node_nest n)
 children_set v kid ns ks own fs n is =
     ap (λ (r : Row NodeLeaf). nest (v, fs)
     (row (maybe_row kid) (row r (row (maybe_row own) done)))) (children_pushed ns ks n is)
@@ -189,7 +189,7 @@ module _ (step : Step NodeNest) where
 
   unknown_level : (m : NodeValue) (n : ℕ) (p : Payload) (c : Charge) → IsNodeOther n
       → c ≡ payload_charge p
-      → level (alone node_table) (λ s. step) tt (as_nest m) n p c (as_nest (with_unknown m (push
+      → level (alone node_table) (λ s. step) tt (as_nest m) n p c (as_nest (keeping m (push
       (unknown_of m) n p)))
   unknown_level (node w kid kids own fs) n p c is charged =
       rw (other_place n is, unlike n 1 is.value) (((charged, refl), refl), refl)
@@ -316,7 +316,7 @@ module _ (step : Step NodeNest) (back : StepBack step) where
   at_group : (m : NodeValue) (p : Payload) (c : Charge) (y : NodeNest)
       → level (alone node_table) (λ s. step) tt (as_nest m) 4 p c y → Made y (NodeTakes m 4 p c)
   at_group m p c y (after, one, (fs, within, has, folds, priced), charged, is) =
-      let all = folds_back (or_default (group_of m)) fs within after
+      let all = folds_back (or_default (own_group m)) fs within after
       (subst (λ x. Folds step x fs within after) (group_start m) folds) in
       record {
         value = with_group m all.value;

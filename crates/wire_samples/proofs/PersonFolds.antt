@@ -20,9 +20,9 @@ use Rattle.wire_codec.specs.VarintLaws.{ShortestReadsBack}
 use Rattle.wire_samples.proofs.Persons.{scores_fit, name_fits}
 use Rattle.wire_samples.specs.FieldRecords.{int32_field, bytes_field, packed_int32}
 use Rattle.wire_samples.specs.FieldRecords.{packed_int32_field}
-use Rattle.wire_samples.specs.Kept.{AreOthers}
+use Rattle.wire_samples.specs.Kept.{NumbersAre}
 use Rattle.wire_samples.specs.Person.{PersonValue, PersonTakes, id, name, scores, unknown}
-use Rattle.wire_samples.specs.Person.{with_id, with_name, with_scores, with_unknown}
+use Rattle.wire_samples.specs.Person.{with_id, with_name, with_scores, with_others}
 use Rattle.wire_samples.specs.Person.{IsPerson, IsPersonOther, default_person, person_records}
 
 enc_fits : (v : ℤ) → FitsSigned w32 v → int32.enc v < 2 ^ 64
@@ -115,19 +115,19 @@ module _ (charges : ChargesAddUp) where
             ∙ ap (λ (us : List ℤ). us ++ map int32.dec (map int32.enc (v ∷ vs))) (sym start);
       }) refl refl) h
 
-unknown_fold : (m : PersonValue) (fs : grammar.Fields) → AreOthers IsPersonOther fs
-    → Folds PersonTakes m fs (charge fs) (with_unknown m (grammar.joined m.unknown fs))
+unknown_fold : (m : PersonValue) (fs : grammar.Fields) → NumbersAre IsPersonOther fs
+    → Folds PersonTakes m fs (charge fs) (with_others m (grammar.joined m.unknown fs))
 unknown_fold m grammar.none others =
-    (refl, ap (with_unknown m) (joined-none m.unknown))
+    (refl, ap (with_others m) (joined-none m.unknown))
 unknown_fold m (grammar.field n p fs) others = (
-  with_unknown m (grammar.push m.unknown n p),
+  with_others m (grammar.push m.unknown n p),
   payload_charge p,
   charge fs,
   unknown others.0.0 others.0.1 others.0.2 refl refl,
   subst (λ (gs : grammar.Fields). Folds PersonTakes
-      (with_unknown m (grammar.push m.unknown n p)) fs (charge fs) (with_unknown m gs))
+      (with_others m (grammar.push m.unknown n p)) fs (charge fs) (with_others m gs))
       (push_joined m.unknown n p fs)
-      (unknown_fold (with_unknown m (grammar.push m.unknown n p)) fs others.1),
+      (unknown_fold (with_others m (grammar.push m.unknown n p)) fs others.1),
   refl,
 )
 

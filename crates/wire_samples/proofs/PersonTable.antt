@@ -19,9 +19,9 @@ use Rattle.wire_fields.specs.Shape.{keeps}
 use Rattle.wire_fields.specs.Texts.{SetsBytes, string}
 use Rattle.wire_samples.specs.FieldRecords.{int32_field, bytes_field, packed_int32}
 use Rattle.wire_samples.specs.FieldRecords.{packed_int32_field}
-use Rattle.wire_samples.specs.FieldSteps.{SetsNumber, SetsText, AppendsInt32}
+use Rattle.wire_samples.specs.FieldSteps.{SetsInteger, SetsText, AppendsInt32}
 use Rattle.wire_samples.specs.Person.{PersonValue, PersonTakes, id, name, scores, unknown}
-use Rattle.wire_samples.specs.Person.{person_records, with_id, with_name, with_scores, with_unknown}
+use Rattle.wire_samples.specs.Person.{person_records, with_id, with_name, with_scores, with_others}
 
 -- ---- records
 
@@ -66,10 +66,10 @@ same_records m h = rw (
 -- ---- what the fields make of payloads
 
 pub number_set : (map : ValueMap ℤ) (p : Payload) (v : ℤ) → kinds.SetsNumber Varint map p v
-    → SetsNumber map p v
-number_set map p v h = subst (λ q. SetsNumber map q v) (sym h.has) h.is
+    → SetsInteger map p v
+number_set map p v h = subst (λ q. SetsInteger map q v) (sym h.has) h.is
 
-pub number_back : (map : ValueMap ℤ) (p : Payload) (v : ℤ) → SetsNumber map p v
+pub number_back : (map : ValueMap ℤ) (p : Payload) (v : ℤ) → SetsInteger map p v
     → kinds.SetsNumber Varint map p v
 number_back map (varint x) v h = record { number = x; has = refl; is = h }
 number_back map (fixed64 x) v h = absurd h
@@ -146,8 +146,8 @@ module _ (m : PersonValue) where
 
   module _ (n : ℕ) (one : n ≢ 1) (two : n ≢ 2) (three : n ≢ 3) where
     pub unknown_taken : (fs : Fields) (c : Charge) (p : Payload) → keeps m.unknown n p c fs
-        → PersonTakes m n p c (with_unknown m fs)
-    unknown_taken fs c p h = unknown one two three h.0 (ap (with_unknown m) h.1)
+        → PersonTakes m n p c (with_others m fs)
+    unknown_taken fs c p h = unknown one two three h.0 (ap (with_others m) h.1)
 
     pub unknown_back : (c : Charge) (z : PersonValue) (p : Payload) → PersonTakes m n p c z
         → (fs : Fields) × keeps m.unknown n p c fs

@@ -6,18 +6,18 @@ use Rattle.wire_codec.specs.ValueMap.{ValueMap, int32, sint64}
 use Rattle.wire_codec.specs.Varint.{IsSpelling}
 
 -- a number is set
-abbrev pub SetsNumber : ValueMap ℤ → Payload → ℤ → Type 0
-SetsNumber map (varint x) value = value ≡ map.dec x
-SetsNumber map (fixed64 x) value = ⊥
-SetsNumber map (fixed32 x) value = ⊥
-SetsNumber map (bytes b) value = ⊥
-SetsNumber map (group fs) value = ⊥
+abbrev pub SetsInteger : ValueMap ℤ → Payload → ℤ → Type 0
+SetsInteger map (varint x) value = value ≡ map.dec x
+SetsInteger map (fixed64 x) value = ⊥
+SetsInteger map (fixed32 x) value = ⊥
+SetsInteger map (bytes b) value = ⊥
+SetsInteger map (group fs) value = ⊥
 
 abbrev pub SetsInt32 : Payload → ℤ → Type 0
-SetsInt32 = SetsNumber int32
+SetsInt32 = SetsInteger int32
 
 abbrev pub SetsSint64 : Payload → ℤ → Type 0
-SetsSint64 = SetsNumber sint64
+SetsSint64 = SetsInteger sint64
 
 -- a text is set, which has to be UTF-8
 abbrev pub SetsText : Payload → List ℕ → Type 0

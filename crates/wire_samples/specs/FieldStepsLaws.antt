@@ -4,22 +4,22 @@ use Rattle.std.specs.Prelude.{ℤ, map}
 use Rattle.wire_codec.specs.Field.{Payload, varint, fixed64, fixed32, bytes, group}
 use Rattle.wire_codec.specs.TakingLaws.{OneReading}
 use Rattle.wire_codec.specs.ValueMap.{ValueMap, int32}
-use Rattle.wire_samples.specs.FieldSteps.{SetsNumber, SetsText, AppendsInt32}
+use Rattle.wire_samples.specs.FieldSteps.{SetsInteger, SetsText, AppendsInt32}
 
-pub one_number : (map : ValueMap ℤ) (p : Payload) (v w : ℤ) → SetsNumber map p v
-    → SetsNumber map p w → v ≡ w
-one_number map (varint x) v w h k = h ∙ sym k
-one_number map (fixed64 x) v w h k = absurd h
-one_number map (fixed32 x) v w h k = absurd h
-one_number map (bytes b) v w h k = absurd h
-one_number map (group fs) v w h k = absurd h
+pub one_integer : (map : ValueMap ℤ) (p : Payload) (v w : ℤ) → SetsInteger map p v
+    → SetsInteger map p w → v ≡ w
+one_integer map (varint x) v w h k = h ∙ sym k
+one_integer map (fixed64 x) v w h k = absurd h
+one_integer map (fixed32 x) v w h k = absurd h
+one_integer map (bytes b) v w h k = absurd h
+one_integer map (group fs) v w h k = absurd h
 
-pub one_text : (p : Payload) (t u : List ℕ) → SetsText p t → SetsText p u → t ≡ u
-one_text (varint x) t u h k = absurd h
-one_text (fixed64 x) t u h k = absurd h
-one_text (fixed32 x) t u h k = absurd h
-one_text (bytes b) t u h k = h.1 ∙ sym k.1
-one_text (group fs) t u h k = absurd h
+pub one_string : (p : Payload) (t u : List ℕ) → SetsText p t → SetsText p u → t ≡ u
+one_string (varint x) t u h k = absurd h
+one_string (fixed64 x) t u h k = absurd h
+one_string (fixed32 x) t u h k = absurd h
+one_string (bytes b) t u h k = h.1 ∙ sym k.1
+one_string (group fs) t u h k = absurd h
 
 pub one_append : OneReading → (p : Payload) (before after other : List ℤ)
     → AppendsInt32 before p after → AppendsInt32 before p other → after ≡ other

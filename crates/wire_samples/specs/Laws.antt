@@ -26,7 +26,7 @@ pub record IsTable {T V : Type 0} (view table_view : T → V) (default table_def
 
 -- The records of a value have numbers and lengths in range, and fold back to it from the default
 -- for this charge.
-pub record FoldsBack {V : Type 0} (takes : Step V) (records : V → Records) (default m : V)
+pub record RecordsFoldBack {V : Type 0} (takes : Step V) (records : V → Records) (default m : V)
     (c : Charge) : Type 0 where
   pub fitting : AreFitting (plain (records m))
   pub numbered : AreNumbered (plain (records m))
@@ -47,21 +47,21 @@ pub record DecodedFoldsBack {V : Type 0} (takes : Step V) (records : V → Recor
     (IsInRange : V → Type 0) (charge_of : V → Charge) (bytes : List ℕ) : Type 0 where
   pub in_range : (l : Limits) (z : V) → Decodes takes l default bytes z → IsInRange z
   pub back : (l : Limits) (z : V) → Decodes takes l default bytes z
-      → text_size (records z) ≤ 2147483647 → FoldsBack takes records default z (charge_of z)
+      → text_size (records z) ≤ 2147483647 → RecordsFoldBack takes records default z (charge_of z)
 
 -- a person of a size that a message may have, charged for its unknown fields
 abbrev pub PersonsFoldBack : Step PersonValue → (PersonValue → Records) → PersonValue → Type 0
 PersonsFoldBack takes records default =
     (m : PersonValue) → IsPerson m → text_size (records m) ≤ 2147483647
-    → FoldsBack takes records default m (charge m.unknown)
+    → RecordsFoldBack takes records default m (charge m.unknown)
 
 -- a node of a size that a message may have, charged for what it holds and for its unknown fields
 abbrev pub NodesFoldBack : Step NodeValue → (NodeValue → Records) → NodeValue → Type 0
 NodesFoldBack takes records default =
     (m : NodeValue) → IsNode m → text_size (records m) ≤ 2147483647
-    → FoldsBack takes records default m (node_charge m)
+    → RecordsFoldBack takes records default m (node_charge m)
 
 -- all numbers of 64 bits
 abbrev pub RepeatsFoldBack : Step Repeat → (Repeat → Records) → Repeat → Type 0
 RepeatsFoldBack takes records default =
-    (m : Repeat) → m.times < 2 ^ 64 → FoldsBack takes records default m no_charge
+    (m : Repeat) → m.times < 2 ^ 64 → RecordsFoldBack takes records default m no_charge

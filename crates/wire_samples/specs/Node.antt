@@ -8,7 +8,7 @@ use Rattle.wire_codec.specs.Records as records
 use Rattle.wire_codec.specs.Records.{Records, joined_records, of_fields}
 use Rattle.wire_samples.specs.declared.node.Node.{Node, Node-F, fold-Node}
 use Rattle.wire_samples.specs.FieldRecords.{sint64_field}
-use Rattle.wire_samples.specs.Kept.{AreKept}
+use Rattle.wire_samples.specs.Kept.{AreUnknown}
 
 -- ---- values
 
@@ -29,13 +29,13 @@ abbrev pub held : Option (Box NodeValue Global) → MaybeNode
 held None = absent
 held (Some boxed) = present (box_value boxed)
 
-abbrev pub listed : List NodeValue → NodeList
-listed [] = empty
-listed (m ∷ ms) = ahead m (listed ms)
+abbrev pub node_list : List NodeValue → NodeList
+node_list [] = empty
+node_list (m ∷ ms) = ahead m (node_list ms)
 
 -- one node, with values in the places of those that it holds
 abbrev pub one_node : Node-F NodeValue → NodeValue
-one_node n = node n.value (held n.child) (listed n.children.items) (held n.group) n.unknown
+one_node n = node n.value (held n.child) (node_list n.children.items) (held n.group) n.unknown
 
 abbrev pub node_value : Node → NodeValue
 node_value = fold-Node NodeValue one_node
@@ -48,8 +48,8 @@ default_node = node (pos 0) absent empty absent Fields.none
 abbrev pub child_of : NodeValue → MaybeNode
 child_of (node v child children group unknown) = child
 
-abbrev pub group_of : NodeValue → MaybeNode
-group_of (node v child children group unknown) = group
+abbrev pub own_group : NodeValue → MaybeNode
+own_group (node v child children group unknown) = group
 
 abbrev pub unknown_of : NodeValue → Fields
 unknown_of (node v child children group unknown) = unknown
@@ -77,8 +77,8 @@ with_another (node v child children group unknown) m =
 abbrev pub with_group : NodeValue → NodeValue → NodeValue
 with_group (node v child children group unknown) m = node v child children (present m) unknown
 
-abbrev pub with_unknown : NodeValue → Fields → NodeValue
-with_unknown (node v child children group unknown) fs = node v child children group fs
+abbrev pub keeping : NodeValue → Fields → NodeValue
+keeping (node v child children group unknown) fs = node v child children group fs
 
 -- ---- records
 
@@ -120,7 +120,7 @@ abbrev mutual
   pub IsNode : NodeValue → Type 0
   IsNode (node v child children group unknown) =
       FitsSigned w64 v × IsMaybeNode child × AreNodes children × IsMaybeNode group
-      × AreKept IsNodeOther unknown
+      × AreUnknown IsNodeOther unknown
 
   pub IsMaybeNode : MaybeNode → Type 0
   IsMaybeNode absent = Unit {0}

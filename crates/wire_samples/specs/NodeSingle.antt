@@ -9,10 +9,10 @@ use Rattle.wire_codec.specs.Spells.{Spells}
 use Rattle.wire_codec.specs.TakingLaws.{OneReading}
 use Rattle.wire_codec.specs.ValueMap.{sint64}
 use Rattle.wire_samples.specs.FieldSteps.{SetsSint64}
-use Rattle.wire_samples.specs.FieldStepsLaws.{one_number}
-use Rattle.wire_samples.specs.Node.{NodeValue, default_node, or_default, child_of, group_of}
+use Rattle.wire_samples.specs.FieldStepsLaws.{one_integer}
+use Rattle.wire_samples.specs.Node.{NodeValue, default_node, or_default, child_of, own_group}
 use Rattle.wire_samples.specs.Node.{unknown_of, with_value, with_child, with_another, with_group}
-use Rattle.wire_samples.specs.Node.{with_unknown, IsNodeOther}
+use Rattle.wire_samples.specs.Node.{keeping, IsNodeOther}
 use Rattle.wire_samples.specs.NodeSteps.{NodeTakes, value, child, another, grouped, unknown}
 use Rattle.wire_samples.specs.NodeSteps.{another_charge}
 use Rattle.wire_samples.specs.NodeSteps.{NodeMerges, merged, NodeFolds, no_more, one_more}
@@ -26,7 +26,7 @@ pub record TakesNumber (m : NodeValue) (p : Payload) (c : Charge) (z : NodeValue
   pub is : z ≡ with_value m v
 
 -- the payload of an embedded message, which `from` takes
-pub record TakesMessage (from : NodeValue) (charge_of : Charge → Charge)
+pub record TakesNode (from : NodeValue) (charge_of : Charge → Charge)
     (made_of : NodeValue → NodeValue) (p : Payload) (c : Charge) (z : NodeValue) : Type 0 where
   pub b : List ℕ
   pub inside : Charge
@@ -41,15 +41,15 @@ pub record TakesGrouped (m : NodeValue) (p : Payload) (c : Charge) (z : NodeValu
   pub inside : Charge
   pub after : NodeValue
   pub payload : p ≡ group fs
-  pub folded : NodeFolds (or_default (group_of m)) fs inside after
+  pub folded : NodeFolds (or_default (own_group m)) fs inside after
   pub charged : c ≡ nested inside
   pub is : z ≡ with_group m after
 
 abbrev pub TakesChild : NodeValue → Payload → Charge → NodeValue → Type 0
-TakesChild m = TakesMessage (or_default (child_of m)) nested (with_child m)
+TakesChild m = TakesNode (or_default (child_of m)) nested (with_child m)
 
 abbrev pub TakesAnother : NodeValue → Payload → Charge → NodeValue → Type 0
-TakesAnother m = TakesMessage default_node another_charge (with_another m)
+TakesAnother m = TakesNode default_node another_charge (with_another m)
 
 pub at_value : {m z : NodeValue} {n : ℕ} {p : Payload} {c : Charge} → n ≡ 1
     → NodeTakes m n p c z → TakesNumber m p c z
@@ -109,7 +109,7 @@ at_group is (grouped fs inside after n_is p_is k charged z_is) = record {
 at_group is (unknown other charged z_is) = absurd (other.group is)
 
 pub at_other : {m z : NodeValue} {n : ℕ} {p : Payload} {c : Charge} → IsNodeOther n
-    → NodeTakes m n p c z → (c ≡ payload_charge p) × (z ≡ with_unknown m (push (unknown_of m) n p))
+    → NodeTakes m n p c z → (c ≡ payload_charge p) × (z ≡ keeping m (push (unknown_of m) n p))
 at_other is (value v n_is made charged z_is) = absurd (is.value n_is)
 at_other is (child b inside after n_is p_is k charged z_is) = absurd (is.child n_is)
 at_other is (another b inside after n_is p_is k charged z_is) = absurd (is.children n_is)
@@ -137,10 +137,10 @@ as_taken : {m z : NodeValue} {n k : ℕ} {p q : Payload} {c : Charge} → k ≡ 
 as_taken same_n same_p h = rw (sym same_n, sym same_p) h
 
 same_kept : {z w : NodeValue} (m other : NodeValue) (n : ℕ) (p : Payload) → m ≡ other
-    → z ≡ with_unknown m (push (unknown_of m) n p)
-    → w ≡ with_unknown other (push (unknown_of other) n p) → z ≡ w
+    → z ≡ keeping m (push (unknown_of m) n p)
+    → w ≡ keeping other (push (unknown_of other) n p) → z ≡ w
 same_kept m other n p e z_is w_is =
-    z_is ∙ ap (λ (x : NodeValue). with_unknown x (push (unknown_of x) n p)) e ∙ sym w_is
+    z_is ∙ ap (λ (x : NodeValue). keeping x (push (unknown_of x) n p)) e ∙ sym w_is
 
 -- what the nodes inside agree on, those that hold them agree on
 outside : {from other_from after other z w : NodeValue} {inside other_inside c d : Charge}
@@ -166,7 +166,7 @@ module _ (reading : OneReading) where
         let h = at_value n_is k in (
           charged ∙ sym h.charged,
           λ e.
-              z_is ∙ ap (with_value _) (one_number sint64 _ v h.v made h.made)
+              z_is ∙ ap (with_value _) (one_integer sint64 _ v h.v made h.made)
               ∙ ap (λ (x : NodeValue). with_value x h.v) e ∙ sym h.is,
         )
     takes_agree (child b inside after n_is p_is k charged z_is) j =
@@ -183,7 +183,7 @@ module _ (reading : OneReading) where
         let h = at_group n_is j in
         outside nested with_group _ h.after
         (folds_agree k h.folded (one_group (sym p_is ∙ h.payload)))
-        (λ e. ap (λ (x : NodeValue). or_default (group_of x)) e) charged h.charged z_is h.is
+        (λ e. ap (λ (x : NodeValue). or_default (own_group x)) e) charged h.charged z_is h.is
     takes_agree (unknown other charged z_is) j =
         let h = at_other other j in (charged ∙ sym h.0, λ e. same_kept _ _ _ _ e z_is h.1)
 

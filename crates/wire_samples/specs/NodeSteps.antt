@@ -6,9 +6,9 @@ use Rattle.wire_codec.specs.Folds.{Folds}
 use Rattle.wire_codec.specs.Limits.{Charge, no_charge, both, nested, element_of}
 use Rattle.wire_codec.specs.Spells.{Spells}
 use Rattle.wire_samples.specs.FieldSteps.{SetsSint64}
-use Rattle.wire_samples.specs.Node.{NodeValue, default_node, or_default, child_of, group_of}
+use Rattle.wire_samples.specs.Node.{NodeValue, default_node, or_default, child_of, own_group}
 use Rattle.wire_samples.specs.Node.{unknown_of, with_value, with_child, with_another, with_group}
-use Rattle.wire_samples.specs.Node.{with_unknown, IsNodeOther}
+use Rattle.wire_samples.specs.Node.{keeping, IsNodeOther}
 
 -- the charge of one of the children: 64 bytes of element memory, and what it takes, one level down
 abbrev pub another_charge : Charge → Charge
@@ -33,11 +33,11 @@ mutual
         → NodeTakes m n p c z
     grouped : {m : NodeValue} {n : ℕ} {p : Payload} {c : Charge} {z : NodeValue}
         (fs : Fields) (inside : Charge) (after : NodeValue) → n ≡ 4 → p ≡ group fs
-        → NodeFolds (or_default (group_of m)) fs inside after
+        → NodeFolds (or_default (own_group m)) fs inside after
         → c ≡ nested inside → z ≡ with_group m after
         → NodeTakes m n p c z
     unknown : {m : NodeValue} {n : ℕ} {p : Payload} {c : Charge} {z : NodeValue}
-        → IsNodeOther n → c ≡ payload_charge p → z ≡ with_unknown m (push (unknown_of m) n p)
+        → IsNodeOther n → c ≡ payload_charge p → z ≡ keeping m (push (unknown_of m) n p)
         → NodeTakes m n p c z
 
   -- the payload of an embedded message spells records, which the node takes

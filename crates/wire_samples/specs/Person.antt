@@ -8,7 +8,7 @@ use Rattle.wire_codec.specs.Limits.{Charge, no_charge}
 use Rattle.wire_codec.specs.Records.{Records, joined_records, of_fields}
 use Rattle.wire_samples.specs.declared.person.Person.{Person}
 use Rattle.wire_samples.specs.FieldRecords.{int32_field, bytes_field, packed_int32_field}
-use Rattle.wire_samples.specs.Kept.{AreKept}
+use Rattle.wire_samples.specs.Kept.{AreUnknown}
 use Rattle.wire_samples.specs.FieldSteps.{SetsInt32, SetsText, AppendsInt32}
 
 pub record PersonValue : Type 0 where
@@ -45,8 +45,8 @@ with_name m name = record { id = m.id; name = name; scores = m.scores; unknown =
 abbrev pub with_scores : PersonValue → List ℤ → PersonValue
 with_scores m scores = record { id = m.id; name = m.name; scores = scores; unknown = m.unknown }
 
-abbrev pub with_unknown : PersonValue → Fields → PersonValue
-with_unknown m unknown = record { id = m.id; name = m.name; scores = m.scores; unknown = unknown }
+abbrev pub with_others : PersonValue → Fields → PersonValue
+with_others m unknown = record { id = m.id; name = m.name; scores = m.scores; unknown = unknown }
 
 -- a record of a number that the type knows is for that field, and another is kept and charged
 pub data PersonTakes (m : PersonValue) (n : ℕ) (p : Payload) (c : Charge) (z : PersonValue)
@@ -58,7 +58,7 @@ pub data PersonTakes (m : PersonValue) (n : ℕ) (p : Payload) (c : Charge) (z :
   scores : (after : List ℤ) → n ≡ 3 → AppendsInt32 m.scores p after → c ≡ no_charge
       → z ≡ with_scores m after → PersonTakes m n p c z
   unknown : n ≢ 1 → n ≢ 2 → n ≢ 3 → c ≡ payload_charge p
-      → z ≡ with_unknown m (push m.unknown n p) → PersonTakes m n p c z
+      → z ≡ with_others m (push m.unknown n p) → PersonTakes m n p c z
 
 -- the number is none that the type knows
 abbrev pub IsPersonOther : ℕ → Type 0
@@ -69,4 +69,4 @@ pub record IsPerson (m : PersonValue) : Type 0 where
   pub id : FitsSigned w32 m.id
   pub name : IsUtf8 m.name
   pub scores : All (FitsSigned w32) m.scores
-  pub unknown : AreKept IsPersonOther m.unknown
+  pub unknown : AreUnknown IsPersonOther m.unknown

@@ -4,16 +4,16 @@ use Rattle.wire_codec.specs.Field.{push}
 use Rattle.wire_codec.specs.Folds.{IsSingle}
 use Rattle.wire_codec.specs.TakingLaws.{OneReading}
 use Rattle.wire_codec.specs.ValueMap.{int32}
-use Rattle.wire_samples.specs.FieldStepsLaws.{one_number, one_text, one_append}
+use Rattle.wire_samples.specs.FieldStepsLaws.{one_integer, one_string, one_append}
 use Rattle.wire_samples.specs.Person.{PersonValue, PersonTakes, id, name, scores, unknown}
-use Rattle.wire_samples.specs.Person.{with_id, with_name, with_scores, with_unknown}
+use Rattle.wire_samples.specs.Person.{with_id, with_name, with_scores, with_others}
 
 pub person_single : OneReading → IsSingle PersonTakes
 person_single reading m u z w n p c d (id v1 n1 p1 c1 z1) (id v2 n2 p2 c2 z2) = (
   c1 ∙ sym c2,
   λ same.
       z1
-      ∙ ap (with_id m) (one_number int32 p v1 v2 p1 p2)
+      ∙ ap (with_id m) (one_integer int32 p v1 v2 p1 p2)
       ∙ ap (λ (x : PersonValue). with_id x v2) same
       ∙ sym z2,
 )
@@ -29,7 +29,7 @@ person_single reading m u z w n p c d (name v1 n1 p1 c1 z1) (name v2 n2 p2 c2 z2
   c1 ∙ sym c2,
   λ same.
       z1
-      ∙ ap (with_name m) (one_text p v1 v2 p1 p2)
+      ∙ ap (with_name m) (one_string p v1 v2 p1 p2)
       ∙ ap (λ (x : PersonValue). with_name x v2) same
       ∙ sym z2,
 )
@@ -62,6 +62,6 @@ person_single reading m u z w n p c d (unknown one1 two1 three1 c1 z1)
       c1 ∙ sym c2,
       λ same.
           z1
-          ∙ ap (λ (x : PersonValue). with_unknown x (push x.unknown n p)) same
+          ∙ ap (λ (x : PersonValue). with_others x (push x.unknown n p)) same
           ∙ sym z2,
     )

@@ -6,9 +6,9 @@ use Rattle.wire_codec.specs.Records.{Records, none, field, varint, joined_record
 use Rattle.wire_samples.specs.declared.repeat.Repeat.{Repeat}
 
 -- so many records of field 1
-abbrev pub repeated : ℕ → Records
-repeated zero = none
-repeated (suc times) = field 1 (varint 0) (repeated times)
+abbrev pub zeros : ℕ → Records
+zeros zero = none
+zeros (suc times) = field 1 (varint 0) (zeros times)
 
 -- a record of field 2, where it is wanted
 abbrev pub extra_record : Bool → Records
@@ -16,7 +16,7 @@ extra_record false = none
 extra_record true = field 2 (varint 128) none
 
 abbrev pub repeat_records : Repeat → Records
-repeat_records m = joined_records (repeated m.times) (extra_record m.extra)
+repeat_records m = joined_records (zeros m.times) (extra_record m.extra)
 
 -- a record of field 1 counts, as far as 64 bits go, and a record of field 2 marks; each has one
 -- number only

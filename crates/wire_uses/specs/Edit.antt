@@ -12,8 +12,8 @@ use Rattle.wire_uses.specs.declared.edit.EditError.{EditError}
 use Rattle.wire_uses.specs.declared.edit.EditError.TheVariants.{NotDecoded, NotEncoded}
 
 -- the records of the report with this level, and with its other fields as they are
-abbrev pub records_at : ReportLevel → Report → Records
-records_at level report =
+abbrev pub records_with_level : ReportLevel → Report → Records
+records_with_level level report =
     report-shape.records (report-value (record report { level = Known level }))
 
 -- what each error says of the bytes, memory aside: they are no report; or they are one, which with
@@ -23,4 +23,4 @@ EditFault bytes level (NotDecoded e) = e ≢ decode.OutOfMemory → NotDecodedAs
 EditFault bytes level (NotEncoded e) = (report : Report)
     × DecodesAs report-shape bytes (report-value report)
     × (e ≢ encode.OutOfMemory → (e ≡ encode.MessageTooLarge)
-    × (2147483647 < text_size (records_at level report)))
+    × (2147483647 < text_size (records_with_level level report)))

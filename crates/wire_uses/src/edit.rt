@@ -4,7 +4,7 @@ ghost use Rattle.wire_codec.specs.Records.{text, text_size};
 ghost use Rattle.wire_fields.specs.Shape.{DecodesAs};
 ghost use Rattle.wire_report.specs.Report.{report-shape, report-value};
 ghost use Rattle.wire_report.specs.declared.report.Report.{Report};
-ghost use Rattle.wire_uses.specs.Edit.{EditFault, records_at};
+ghost use Rattle.wire_uses.specs.Edit.{EditFault, records_with_level};
 
 use std::alloc::Global;
 use wire_codec::{DecodeError, EncodeError, EnumValue, Message};
@@ -23,8 +23,8 @@ pub enum EditError {
 pub fn with_level(alloc: Global, bytes: &[u8], level: ReportLevel) -> Result<Vec<u8>, EditError>
     ensures ok { IfOk result (λ output. (report : Report)
         × DecodesAs report-shape bytes.now (report-value report)
-        × (output.items ≡ text (records_at level report))
-        × (text_size (records_at level report) ≤ 2147483647)) }
+        × (output.items ≡ text (records_with_level level report))
+        × (text_size (records_with_level level report) ≤ 2147483647)) }
     ensures fault { IfErr result (EditFault bytes.now level) }
 {
     let mut report = match Report::decode_from_slice(alloc, bytes) {

@@ -15,24 +15,24 @@ use Rattle.wire_base.specs.Varint.{IsSpelling}
 use Rattle.wire_base.specs.declared.error.DecodeError.{DecodeError}
 use Rattle.wire_base.specs.declared.tag.WireType.{WireType}
 use Rattle.wire_base.specs.declared.tag.WireType.TheVariants as types
-use Rattle.wire_views.specs.Passing.{PassesPayload, PassesGroup}
+use Rattle.wire_views.specs.Passing.{PassesUnknown, PassesGroup}
 
 module _ (l after : Limits) (n : ℕ) (w : WireType) (slot : Fits one_field l) where
   pub passes_varint : (v : ℕ) (old new : List ℕ) → w ≡ types.Varint → Reads old (IsSpelling v) new
-      → after ≡ left_after l one_field → PassesPayload l after n w old new
+      → after ≡ left_after l one_field → PassesUnknown l after n w old new
   passes_varint v old new kind h left =
       rw kind (varint v, takes_varint l n slot v old new h, left)
 
   pub passes_fixed64 : (r : Result (Unit {0}) DecodeError) (old new : List ℕ) → w ≡ types.Fixed64
       → OnOk r (new ≡ drop 8 old) → OnOk r (8 ≤ length old) → after ≡ left_after l one_field
-      → OnOk r (PassesPayload l after n w old new)
+      → OnOk r (PassesUnknown l after n w old new)
   passes_fixed64 (Ok u) old new kind e long left =
       rw kind (_, takes_fixed64 l n slot old new long e, left)
   passes_fixed64 (Err d) old new kind e long left = tt
 
   pub passes_fixed32 : (r : Result (Unit {0}) DecodeError) (old new : List ℕ) → w ≡ types.Fixed32
       → OnOk r (new ≡ drop 4 old) → OnOk r (4 ≤ length old) → after ≡ left_after l one_field
-      → OnOk r (PassesPayload l after n w old new)
+      → OnOk r (PassesUnknown l after n w old new)
   passes_fixed32 (Ok u) old new kind e long left =
       rw kind (_, takes_fixed32 l n slot old new long e, left)
   passes_fixed32 (Err d) old new kind e long left = tt
@@ -41,7 +41,7 @@ module _ (l after : Limits) (n : ℕ) (w : WireType) (slot : Fits one_field l) w
       → left ≡ left_after l one_field → Reads old (IsSpelling len) mid → len ≤ length mid
       → Fits (bytes_charge len) (left_after l one_field) → after ≡ left_after left (bytes_charge
       len)
-      → new ≡ drop len mid → PassesPayload l after n w old new
+      → new ≡ drop len mid → PassesUnknown l after n w old new
   passes_bytes left len old mid new kind first h there room second e =
       rw kind (
         bytes (take len mid),
@@ -51,7 +51,7 @@ module _ (l after : Limits) (n : ℕ) (w : WireType) (slot : Fits one_field l) w
 
   pub passes_group : (left end : Limits) (old new : List ℕ) → w ≡ types.StartGroup
       → 0 < l.depth → left ≡ inner (left_after l one_field) → PassesGroup left end n old new
-      → after ≡ outer end → PassesPayload l after n w old new
+      → after ≡ outer end → PassesUnknown l after n w old new
   passes_group left end old new kind level is (fs, body, ended) up =
       rw kind (
         group fs,

@@ -9,8 +9,8 @@ use Rattle.wire_base.specs.declared.tag.WireType.{WireType}
 
 -- behind a tag (n, w) a payload stands at the front of old within the limits, is charged as an
 -- unknown field, and new is what follows
-abbrev pub PassesPayload : Limits → Limits → ℕ → WireType → List ℕ → List ℕ → Type 0
-PassesPayload before after n w old new =
+abbrev pub PassesUnknown : Limits → Limits → ℕ → WireType → List ℕ → List ℕ → Type 0
+PassesUnknown before after n w old new =
     (p : Payload) × TakesPayload (payload_charge p) before n w p old new
     × (after ≡ left_after before (payload_charge p))
 

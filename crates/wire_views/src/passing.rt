@@ -5,7 +5,7 @@ ghost use Rattle.wire_codec.specs.Ending.{by_tag};
 ghost use Rattle.wire_codec.specs.Fault.{PayloadFault, ListFault};
 ghost use Rattle.wire_codec.specs.Limits.{NoCountGrew};
 ghost use Rattle.wire_codec.specs.TagView.{tag_number, tag_type};
-ghost use Rattle.wire_views.specs.Passing.{PassesPayload, PassesGroup};
+ghost use Rattle.wire_views.specs.Passing.{PassesUnknown, PassesGroup};
 
 use bytes::Buf;
 use wire_codec::{DecodeContext, DecodeError, Tag, WireType, decode_length, decode_varint};
@@ -19,7 +19,7 @@ pub fn pass_unknown_field<B: Buf>(
     buf: &mut B,
     context: &mut DecodeContext,
 ) -> Result<(), DecodeError>
-    ensures ok { OnOk result (PassesPayload context.old context.new (tag_number tag) (tag_type tag)
+    ensures ok { OnOk result (PassesUnknown context.old context.new (tag_number tag) (tag_type tag)
         (B.unread buf.old) (B.unread buf.new)) }
     ensures fault { IfErr result
         (PayloadFault context.old (tag_number tag) (tag_type tag) (B.unread buf.old)) }
@@ -36,7 +36,7 @@ fn pass_payload<B: Buf>(
     buf: &mut B,
     context: &mut DecodeContext,
 ) -> Result<(), DecodeError>
-    ensures ok { OnOk result (PassesPayload context.old context.new (tag_number tag) (tag_type tag)
+    ensures ok { OnOk result (PassesUnknown context.old context.new (tag_number tag) (tag_type tag)
         (B.unread buf.old) (B.unread buf.new)) }
     ensures fault { IfErr result
         (PayloadFault context.old (tag_number tag) (tag_type tag) (B.unread buf.old)) }

@@ -19,7 +19,7 @@ use Rattle.wire_read.specs.declared.reader.Reader.{Reader}
 use Rattle.wire_read.specs.Laws.{EventsAreInFront, ReaderGoesOn, ReaderIsDone, ReaderStops}
 use Rattle.wire_read.specs.Opened.{items_of, payload_items}
 use Rattle.wire_read.specs.Reading.{Gives, IsAt, IsDone, Stops, at, item}
-use Rattle.wire_write.specs.Shortest.{Decodes, item_text}
+use Rattle.wire_write.specs.Shortest.{SpellsIn, item_text}
 
 abbrev pub items_text : List Item → List ℕ
 items_text [] = []
@@ -75,7 +75,7 @@ seen_more law l all r t text next e h given is =
 
 pub all_seen : ReaderIsDone → (l : Limits) (all : List ℕ) (r : Reader) (text : List ℕ)
     → Seen l all r text → IsDone (at r all)
-    → (fs : Fields) × Decodes l fs all × (text ≡ text_of fs)
+    → (fs : Fields) × SpellsIn l fs all × (text ≡ text_of fs)
 all_seen law l all r text h done =
     let (fs, spelled, fits, is) = law l all h.items (at r all) h.place done in (
       fs,
@@ -87,7 +87,7 @@ all_seen law l all r text h done =
 pub all_counted : NoTextIsShorter → ReaderIsDone → (l : Limits) (all : List ℕ) (r : Reader)
     (text : List ℕ) (len : ℕ) → Seen l all r text → len ≡ min (length text) (2 ^ 64 - 1)
     → length all < 2 ^ 64 → IsDone (at r all)
-    → (fs : Fields) × Decodes l fs all × (len ≡ size fs)
+    → (fs : Fields) × SpellsIn l fs all × (len ≡ size fs)
 all_counted shorter law l all r text len h counted short done =
     let (fs, decodes, is) = all_seen law l all r text h done in
     (fs, decodes, omega (arith, counted, ap length is, shorter fs all decodes.spelled, short))
@@ -95,7 +95,7 @@ all_counted shorter law l all r text len h counted short done =
 -- an item that comes next is of the text of all, behind those before it
 pub ahead : EventsAreInFront → ReaderGoesOn
     → (l : Limits) (all : List ℕ) (fs : Fields) (r t : Reader) (text : List ℕ)
-    (e : Event) → Decodes l fs all → Seen l all r text → Gives e all (at r all) (at t all)
+    (e : Event) → SpellsIn l fs all → Seen l all r text → Gives e all (at r all) (at t all)
     → (rest : List ℕ) × (text_of fs ≡ (text ++ item_text (item e.number e.value)) ++ rest)
 ahead front law l all fs r t text e decodes h given =
     let more = seen_more law l all r t text _ e h given refl in
@@ -108,7 +108,7 @@ ahead front law l all fs r t text e decodes h given =
 -- where all of the bytes spell records no fault comes
 pub no_stop : ReaderStops → NoListBesideFault → WholeInput
     → (l : Limits) (all : List ℕ) (fs : Fields) (r : Reader) (text : List ℕ)
-    (f : Fault) → Decodes l fs all → Seen l all r text → Stops f all (at r all) → ⊥
+    (f : Fault) → SpellsIn l fs all → Seen l all r text → Stops f all (at r all) → ⊥
 no_stop law beside input l all fs r text f decodes h stops =
     beside l by_input all [] f.error fs
     (law l all h.items (at r all) f h.place stops).0.of_list

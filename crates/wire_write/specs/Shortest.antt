@@ -19,7 +19,7 @@ item_text (end n) = tag_text n EndGroup
 item_text (whole n p) = record_text n p
 
 -- all of the bytes spell these records, within the limits
-pub record Decodes (l : Limits) (fs : Fields) (all : List ℕ) : Type 0 where
+pub record SpellsIn (l : Limits) (fs : Fields) (all : List ℕ) : Type 0 where
   pub spelled : Spells fs all
   pub fits : Fits (charge fs) l
 
@@ -27,5 +27,5 @@ pub record Decodes (l : Limits) (fs : Fields) (all : List ℕ) : Type 0 where
 pub data ShortestFault : Limits → List ℕ → List ℕ → ShortestError → Type 0 where
   fault : {l : Limits} {all room : List ℕ} (f : Fault)
       → IsFault l all f → ShortestFault l all room (errors.Fault f)
-  no_room : {l : Limits} {all room : List ℕ} (fs : Fields) (len : ℕ) → Decodes l fs all
+  no_room : {l : Limits} {all room : List ℕ} (fs : Fields) (len : ℕ) → SpellsIn l fs all
       → len ≡ size fs → length room < len → ShortestFault l all room (errors.NoRoom len)

@@ -7,7 +7,7 @@ ghost use Rattle.wire_base.specs.Text.{size, text_of};
 ghost use Rattle.wire_base.specs.WriteLaws.{FillsSlice};
 ghost use Rattle.wire_read.specs.Budget.{read_limits};
 ghost use Rattle.wire_read.specs.Faults.{IsFault};
-ghost use Rattle.wire_write.specs.Shortest.{Decodes, ShortestFault};
+ghost use Rattle.wire_write.specs.Shortest.{SpellsIn, ShortestFault};
 
 use crate::item::{item_len, put};
 use wire_codec::{DecodeContext, EncodeError, Room, laws};
@@ -35,7 +35,7 @@ impl From<Fault> for ShortestError {
 /// How many bytes the shortest encoding of these records has. The limits are those of
 /// `Reader::within`.
 pub fn shortest_len(bytes: &[u8], context: &DecodeContext) -> Result<usize, Fault>
-    ensures ok { IfOk result (λ len. (fs : Fields) × Decodes (read_limits context.now) fs bytes.now
+    ensures ok { IfOk result (λ len. (fs : Fields) × SpellsIn (read_limits context.now) fs bytes.now
         × (len ≡ size fs)) }
     ensures fault { IfErr result (IsFault (read_limits context.now) bytes.now) }
 {
@@ -59,7 +59,7 @@ pub fn write_shortest(
     context: &DecodeContext,
     room: &mut [u8],
 ) -> Result<usize, ShortestError>
-    ensures ok { IfOk result (λ len. (fs : Fields) × Decodes (read_limits context.now) fs bytes.now
+    ensures ok { IfOk result (λ len. (fs : Fields) × SpellsIn (read_limits context.now) fs bytes.now
         × FillsSlice (text_of fs) 0 room.old room.new len) }
     ensures err { IfErr result (ShortestFault (read_limits context.now) bytes.now room.old) }
     ensures unchanged { OnErr result (room.new ≡ room.old) }
@@ -73,9 +73,9 @@ pub fn write_shortest(
 
 // Writes the shortest encoding of records for which there is room, and answers its length.
 fn write_all(bytes: &[u8], context: &DecodeContext, room: &mut [u8]) -> usize
-    requires { (fs : Fields) × Decodes (read_limits context.now) fs bytes.now
+    requires { (fs : Fields) × SpellsIn (read_limits context.now) fs bytes.now
         × (size fs ≤ length room.old) }
-    ensures { (fs : Fields) × Decodes (read_limits context.now) fs bytes.now
+    ensures { (fs : Fields) × SpellsIn (read_limits context.now) fs bytes.now
         × FillsSlice (text_of fs) 0 room.old room.new result }
 {
     wire_base::laws::one_spelled();
@@ -88,8 +88,8 @@ fn write_all(bytes: &[u8], context: &DecodeContext, room: &mut [u8]) -> usize
 
 // Writes the shortest encoding of records.
 fn put_all(bytes: &[u8], context: &DecodeContext, sink: &mut Room<'_>) -> Result<(), EncodeError>
-    requires { (fs : Fields) × Decodes (read_limits context.now) fs bytes.now }
-    ensures { (fs : Fields) × Decodes (read_limits context.now) fs bytes.now
+    requires { (fs : Fields) × SpellsIn (read_limits context.now) fs bytes.now }
+    ensures { (fs : Fields) × SpellsIn (read_limits context.now) fs bytes.now
         × Writes (text_of fs) (in_room sink.old) (in_room sink.new) result }
 {
     wire_read::laws::reader_begins();

@@ -6,13 +6,13 @@ use Rattle.std.proofs.lemmas.Result.{IfOk-weaker, err_from_is_err_and}
 use Rattle.wire_base.specs.Field.{Fields, bytes}
 use Rattle.wire_base.specs.Limits.{uncounted}
 use Rattle.wire_base.specs.Spells.{Spells}
-use Rattle.wire_read.specs.Reading.{At, Gives, IsAt, IsDone, Stops, at, groups_of, item, limits_of}
+use Rattle.wire_read.specs.Reading.{At, Gives, IsAt, IsDone, Stops, at, groups_of, item, limits_in}
 use Rattle.wire_read.specs.declared.event.Fault.{Fault}
 use Rattle.wire_dump.specs.declared.layout.Layout.{Layout}
 use Rattle.wire_dump.specs.declared.stop.Stop.TheVariants as stops
-use Rattle.wire_dump.specs.Dumped.{IsDumped, ItemLines, Puts, RecordLines, inside}
-use Rattle.wire_dump.specs.Front.{IsNoGuess, TakesRecord}
-use Rattle.wire_dump.specs.Lines.{closing, fixed_line, number_line, opening, string_line}
+use Rattle.wire_dump.specs.Dumped.{IsDumped, ItemLines, Prints, RecordLines, further_in}
+use Rattle.wire_dump.specs.Front.{IsNoGuess, PrintsRecord}
+use Rattle.wire_dump.specs.Lines.{end_line, fixed_line, number_line, opening, string_line}
 use Rattle.wire_dump.specs.Places.{range_text}
 use Rattle.wire_dump.proofs.Front.{front_and_rest, front_begun, front_more, front_no_guess, from_place, nothing_begins, payload_taken, stands}
 use Rattle.wire_dump.proofs.Put.{IsMargin, line_put, number_lines, eight_lines, four_lines, start_lines, end_lines, no_budget, no_bytes, no_records, message_put, no_guess_begins, no_guess_put}
@@ -123,7 +123,7 @@ put_item-returns-in-GroupEnd t c =
     } in
     on_ok_weaker c.put_closing.result
     (line_put y c.args.place c.margin-margin.result text
-    (closing level) c.args.out.now.items
+    (end_line level) c.args.out.now.items
     c.put_closing.new.out.items (ItemLines y count (item n v) text)
     (end_lines y count level n v text at_level c.in-GroupEnd.is) is)
     c.put_closing.ensures
@@ -219,7 +219,7 @@ put_message-returns-then-is_message t c =
     let given : IsDumped c.inside.result inner
     (uncounted (c.inside.result.budget + 1)) payload mid put =
     c.in_ok-is_message.ensures.message (search rules) in
-    let dumped : IsDumped (inside 1 y) inner levels payload mid put =
+    let dumped : IsDumped (further_in 1 y) inner levels payload mid put =
     subst (λ (z : Layout). IsDumped z inner (uncounted (z.budget + 1)) payload mid put)
     c.inside.ensures given in
     on_ok_weaker c.put_closing.result
@@ -244,7 +244,7 @@ put_message-returns t c =
     } in
     let given : IsNoGuess c.inside.result payload mid put =
     c.in_ok-is_message.ensures.none (search rules) in
-    let none : IsNoGuess (inside 1 y) payload mid put =
+    let none : IsNoGuess (further_in 1 y) payload mid put =
     subst (λ (z : Layout). IsNoGuess z payload mid put) c.inside.ensures given in
     on_ok_weaker c.put_string.result
     (no_guess_put y n c.args.place c.len-start.result payload text old mid put
@@ -313,7 +313,7 @@ put_rest-returns-in-Err-Fault-clause-none t c = λ _.
     let f = c.in-Err-Fault.field-0-0 in
     let was : c.put_records.result ≡ Err (stops.Fault f) = search rules in
     no_guess_begins c.whole_input.ensures c.no_list_beside_fault.ensures y c.args.place
-    (limits_of c.new-reader.result) all c.args.out.now.items c.put_records.new.out.items f
+    (limits_in c.new-reader.result) all c.args.out.now.items c.put_records.new.out.items f
     (groups_of c.put_records.new.reader) c.requires.shallow c.new-reader.ensures.limits
     (c.put_records.ensures.fault f was)
 
@@ -330,7 +330,7 @@ put_front-loop-count-preserved t c =
     let new = c.put_record.new.out.items in
     front_more c.joined_texts_spell.ensures c.joined_adds_up.ensures y c.args.place count
     c.in_ok-len.len all c.args.out.now.items mid new c.loop-count.invariant
-    (subst (λ (x : List ℕ). TakesRecord y (c.args.place + count) x c.in_ok-len.len mid new)
+    (subst (λ (x : List ℕ). PrintsRecord y (c.args.place + count) x c.in_ok-len.len mid new)
     (from_place count all) c.in_ok-len.ensures) (omega arith)
 
 pub put_bytes-put_payload-requires : goal.put_bytes-put_payload-requires
@@ -364,11 +364,11 @@ put_records-loop-event-init t c =
     let all = c.args.bytes.now in
     let r = c.args.reader.now in
     let whole : drop r.place all ≡ all = ap (λ (x : ℕ). drop x all) c.requires.begins.place in
-    let start : at r all ≡ record { rest = all; groups = groups_of r; limits = limits_of r } =
-    ap (λ (x : List ℕ). record { rest = x; groups = groups_of r; limits = limits_of r }) whole in
-    begun c.args.layout c.args.place (limits_of r) all (at r all) c.args.out.now.items
-    (subst (λ (x : At). IsAt (limits_of r) all [] x) (sym start)
-    (c.reader_begins.ensures (limits_of r) r all c.requires.begins)) (sym whole)
+    let start : at r all ≡ record { rest = all; groups = groups_of r; limits = limits_in r } =
+    ap (λ (x : List ℕ). record { rest = x; groups = groups_of r; limits = limits_in r }) whole in
+    begun c.args.layout c.args.place (limits_in r) all (at r all) c.args.out.now.items
+    (subst (λ (x : At). IsAt (limits_in r) all [] x) (sym start)
+    (c.reader_begins.ensures (limits_in r) r all c.requires.begins)) (sym whole)
 
 pub put_records-put_item-requires : goal.put_records-put_item-requires
 put_records-put_item-requires t c =
@@ -395,14 +395,14 @@ put_records-loop-event-preserved t c =
     let given : Gives e all (at c.loop-event.reader all) (at c.next.new.self all) = search rules in
     let cut = cut_out e all h.front (at c.loop-event.reader all) (at c.next.new.self all) h.parts
     given in
-    let puts : Puts y place (ItemLines y (length c.open_groups.result.now) i text) text
+    let puts : Prints y place (ItemLines y (length c.open_groups.result.now) i text) text
     c.loop-event.out.items c.put_item.new.out.items = c.in_ok-put_item.ensures in
     let same = counted_open c.next.new.self c.open_groups.result.now c.open_groups.ensures in
     next_item c.items_tell_records.ensures c.reader_goes_on.ensures y c.args.place
-    (limits_of c.args.reader.now) all i (at c.loop-event.reader all) (at c.next.new.self all)
+    (limits_in c.args.reader.now) all i (at c.loop-event.reader all) (at c.next.new.self all)
     given.behind text c.args.out.now.items c.loop-event.out.items c.put_item.new.out.items place h
     given.moves cut.parts cut.is (ap (λ (x : ℕ). c.args.place + x) cut.start)
-    (subst (λ (x : ℕ). Puts y place (ItemLines y x i text) text c.loop-event.out.items
+    (subst (λ (x : ℕ). Prints y place (ItemLines y x i text) text c.loop-event.out.items
     c.put_item.new.out.items) same puts)
 
 pub put_records-loop-event-smaller : goal.put_records-loop-event-smaller
@@ -418,7 +418,7 @@ put_records-returns-clause-ok t c =
     let all = c.args.bytes.now in
     let done : IsDone (at c.loop-event.reader all) = search rules in
     finished c.items_tell_records.ensures c.reader_is_done.ensures c.args.layout c.args.place
-    (limits_of c.args.reader.now) all (at c.loop-event.reader all) c.args.out.now.items
+    (limits_in c.args.reader.now) all (at c.loop-event.reader all) c.args.out.now.items
     c.loop-event.out.items c.loop-event.invariant done
 
 pub put_records-returns-in_err-event-clause-fault :
@@ -435,5 +435,5 @@ put_records-returns-in_err-event-clause-fault t c =
     c.in_err-event.ensures.fault in
     let kept : c.next.new.self ≡ c.loop-event.reader = search rules in
     rw kept (stopped c.items_tell_records.ensures c.reader_stops.ensures c.args.layout c.args.place
-    (limits_of c.args.reader.now) all (at c.loop-event.reader all) f c.args.out.now.items
+    (limits_in c.args.reader.now) all (at c.loop-event.reader all) f c.args.out.now.items
     c.loop-event.out.items c.loop-event.invariant stops_here)

@@ -1,6 +1,6 @@
 use Rattle.std.proofs.Common.{◌+◌, ◌-◌, ◌*◌, drop, length}
-use Rattle.wire_read.specs.Reading.{at, limits_of}
-use Rattle.wire_dump.specs.Front.{PutsFront}
+use Rattle.wire_read.specs.Reading.{at, limits_in}
+use Rattle.wire_dump.specs.Front.{PrintsFront}
 use Rattle.wire_dump.proofs.Walk.{Sofar}
 use Rattle.wire_dump.proofs.dump.+dump.Given as goal
 
@@ -33,7 +33,7 @@ decreases-put_bytes l = 8 * l.layout.budget + 3
 
 abbrev pub invariant-put_records-loop-event : goal.invariant-put_records-loop-event
 invariant-put_records-loop-event l =
-    Sofar l.fn.layout l.fn.place (limits_of l.fn.reader) l.fn.bytes (at l.reader l.fn.bytes)
+    Sofar l.fn.layout l.fn.place (limits_in l.fn.reader) l.fn.bytes (at l.reader l.fn.bytes)
     l.fn.out.items l.out.items
 
 abbrev pub decreases-put_records-loop-event : goal.decreases-put_records-loop-event
@@ -41,7 +41,7 @@ decreases-put_records-loop-event l = length (drop l.reader.place l.fn.bytes)
 
 abbrev pub invariant-put_front-loop-count : goal.invariant-put_front-loop-count
 invariant-put_front-loop-count l =
-    PutsFront l.fn.layout l.fn.place l.fn.bytes l.count l.fn.out.items l.out.items
+    PrintsFront l.fn.layout l.fn.place l.fn.bytes l.count l.fn.out.items l.out.items
 
 abbrev pub decreases-put_front-loop-count : goal.decreases-put_front-loop-count
 decreases-put_front-loop-count l = length l.fn.bytes - l.count

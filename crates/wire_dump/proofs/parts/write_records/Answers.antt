@@ -1,10 +1,10 @@
 use Rattle.std.proofs.Common.{◌≡◌, ℕ, ◌+◌, ◌^◌, ◌<◌, List, [], ◌++◌, length, drop, sym, ap, subst, arith, rules}
 use Rattle.std.proofs.lemmas.Result.{err_from_is_err_and}
 use Rattle.wire_read.specs.declared.event.Fault.{Fault}
-use Rattle.wire_read.specs.Reading.{At, Gives, IsAt, IsDone, Stops, at, groups_of, item, limits_of}
+use Rattle.wire_read.specs.Reading.{At, Gives, IsAt, IsDone, Stops, at, groups_of, item, limits_in}
 use Rattle.wire_dump.specs.declared.parts.Cut.TheVariants as cuts
 use Rattle.wire_dump.specs.declared.stop.Stop.TheVariants as stops
-use Rattle.wire_dump.specs.Dumped.{ItemLines, Puts}
+use Rattle.wire_dump.specs.Dumped.{ItemLines, Prints}
 use Rattle.wire_dump.proofs.Sent.{lines_behind, more_sent, none_sent}
 use Rattle.wire_dump.proofs.Texts.{cut_out, event_text}
 use Rattle.wire_dump.proofs.Walk.{Sofar, begun, counted_open, few_open, finished, next_item, stopped}
@@ -16,13 +16,13 @@ loop-event-init g c =
     let r = c.args.reader.now in
     let old = c.args.out.now.items in
     let whole : drop r.place all ≡ all = ap (λ (x : ℕ). drop x all) c.requires.begins.place in
-    let start : at r all ≡ record { rest = all; groups = groups_of r; limits = limits_of r } =
-    ap (λ (x : List ℕ). record { rest = x; groups = groups_of r; limits = limits_of r }) whole in
+    let start : at r all ≡ record { rest = all; groups = groups_of r; limits = limits_in r } =
+    ap (λ (x : List ℕ). record { rest = x; groups = groups_of r; limits = limits_in r }) whole in
     none_sent (g.W.Write.contents c.args.sink.now) old
-    (Sofar c.args.layout c.args.place (limits_of r) all (at r all) old)
-    (begun c.args.layout c.args.place (limits_of r) all (at r all) old
-    (subst (λ (x : At). IsAt (limits_of r) all [] x) (sym start)
-    (c.reader_begins.ensures (limits_of r) r all c.requires.begins)) (sym whole))
+    (Sofar c.args.layout c.args.place (limits_in r) all (at r all) old)
+    (begun c.args.layout c.args.place (limits_in r) all (at r all) old
+    (subst (λ (x : At). IsAt (limits_in r) all [] x) (sym start)
+    (c.reader_begins.ensures (limits_in r) r all c.requires.begins)) (sym whole))
 
 pub put_item-requires : goal.put_item-requires
 put_item-requires g c =
@@ -52,7 +52,7 @@ loop-event-preserved g c =
     let i = item e.number e.value in
     let text = event_text e all in
     let place = c.args.place + e.start in
-    let l = limits_of c.args.reader.now in
+    let l = limits_in c.args.reader.now in
     let a = at c.loop-event.reader all in
     let b = at c.next.new.self all in
     let old = c.args.out.now.items in
@@ -61,10 +61,10 @@ loop-event-preserved g c =
     let (sent, gone, h) = c.loop-event.invariant in
     let given : Gives e all a b = search rules in
     let cut = cut_out e all h.front a b h.parts given in
-    let puts : Puts y place (ItemLines y (length c.open_groups.result.now) i text) text mid new =
+    let puts : Prints y place (ItemLines y (length c.open_groups.result.now) i text) text mid new =
     c.in_ok-put_item.ensures in
     let same = counted_open c.next.new.self c.open_groups.result.now c.open_groups.ensures in
-    let counted = subst (λ (x : ℕ). Puts y place (ItemLines y x i text) text mid new) same puts in
+    let counted = subst (λ (x : ℕ). Prints y place (ItemLines y x i text) text mid new) same puts in
     more_sent (g.W.Write.contents c.args.sink.now) (g.W.Write.contents c.loop-event.sink)
     (g.W.Write.contents c.send_part.new.sink) sent new c.send_part.new.out.items
     (Sofar y c.args.place l all b old) gone c.in_default-send_part.ensures
@@ -89,7 +89,7 @@ returns-clause-ok g c =
       sent,
       gone,
       finished c.items_tell_records.ensures c.reader_is_done.ensures c.args.layout c.args.place
-          (limits_of c.args.reader.now) all (at c.loop-event.reader all) c.args.out.now.items
+          (limits_in c.args.reader.now) all (at c.loop-event.reader all) c.args.out.now.items
           (sent ++ c.loop-event.out.items) h done,
     )
 
@@ -109,6 +109,6 @@ returns-in_err-event-clause-fault g c =
       sent,
       gone,
       rw kept (stopped c.items_tell_records.ensures c.reader_stops.ensures c.args.layout
-          c.args.place (limits_of c.args.reader.now) all (at c.loop-event.reader all) f
+          c.args.place (limits_in c.args.reader.now) all (at c.loop-event.reader all) f
           c.args.out.now.items (sent ++ c.loop-event.out.items) h stops_here),
     )

@@ -4,7 +4,7 @@ use Rattle.wire_base.specs.Ending.{by_input}
 use Rattle.wire_read.specs.declared.event.Fault.{Fault}
 use Rattle.wire_read.specs.Budget.{read_limits}
 use Rattle.wire_read.specs.Reading.{Gives, IsDone, Stops, at, groups_of, item}
-use Rattle.wire_dump.specs.Refused.{IsRefused}
+use Rattle.wire_dump.specs.Refused.{BreaksAt}
 use Rattle.wire_dump.proofs.shortest.reader_at_stop.Goals as goal
 
 pub loop-event-preserved : goal.loop-event-preserved
@@ -37,5 +37,5 @@ returns-in_default-2 c = λ f is.
     stops in
     let same : c.in_default.field-0 ≡ f = c.one_fault.ensures _ _ _ _ found is in
     let kept : c.next.new.self ≡ r = search rules in
-    rw kept (subst (λ (x : Fault). IsRefused l all x (groups_of r)) same
+    rw kept (subst (λ (x : Fault). BreaksAt l all x (groups_of r)) same
     (record { is = found; groups_are = groups }))

@@ -4,7 +4,7 @@ use Rattle.std.proofs.lemmas.Bool.Decides.{nat_tests}
 use Rattle.std.proofs.lemmas.Grind.{common_steps}
 use Rattle.std.specs.BTreeMap.{get, get_by_text}
 use Rattle.wire_dynamic.specs.Extensions.{extends, place_cmp, IsExtension}
-use Rattle.wire_dynamic.specs.Fields.{field_features, number_of, IsField}
+use Rattle.wire_dynamic.specs.Fields.{field_features, as_number, IsField}
 use Rattle.wire_dynamic.proofs.Found.{none_found, same_place}
 use Rattle.std.proofs.Common.{◌∙◌, ap, get_or, inl, sym}
 use Rattle.std.specs.Ordering.{is_eq}
@@ -25,7 +25,7 @@ loop-extension-preserved c = λ k.
     let same : string_bytes c.in_ok-name.name ≡ string_bytes d.name = search rules in
     let told = subst (λ q. IsField c.args.declared.now c.args.places.now q (string_bytes c.in_ok-name.name) d.descriptor f) c.features_of-features.ensures c.in_ok-field.ensures.ok in
     let tells : Tells d f = subst (λ n. IsField c.args.declared.now c.args.places.now (field_features d.features d.descriptor.options) n d.descriptor f) same told in
-    let number : number_of d.descriptor.number ≡ f.number = rw (tells.number) refl in
+    let number : as_number d.descriptor.number ≡ f.number = rw (tells.number) refl in
     let place : get_by_text c.args.places.now.messages (string_bytes d.descriptor.extendee) ≡ Some c.in-Some.place = search rules in
     let old = get place_cmp c.loop-extension.extensions k in
     let p = c.in-Some.place in
@@ -66,7 +66,7 @@ returns-then-is_some-clause-err c = λ other.
     let xs = c.args.declared.now.extensions.items in
     let i = c.loop-extension.extension-index in
     let p = c.in-Some.place in
-    let n = number_of x.descriptor.number in
+    let n = as_number x.descriptor.number in
     let within : i < length xs = subst (λ l. i < length l) c.deref-extension-items.ensures.value c.loop-extension-test.true in
     let is : x ≡ get_or xs i x = subst (λ l. x ≡ get_or l i x) c.deref-extension-items.ensures.value c.extension-item.is in
     let name : string_bytes c.in_ok-clone-2.field-0 ≡ string_bytes x.name = search rules in

@@ -4,7 +4,7 @@ use Rattle.std.proofs.lemmas.Bool.Decides.{nat_tests}
 use Rattle.std.proofs.lemmas.Grind.{common_steps}
 use Rattle.std.specs.BTreeMap.{get}
 use Rattle.std.specs.Ordering.{nat_cmp}
-use Rattle.wire_dynamic.specs.Fields.{has_number, number_of, own_features, IsField}
+use Rattle.wire_dynamic.specs.Fields.{has_number, as_number, own_features, IsField}
 use Rattle.wire_dynamic.specs.Messages.{IsOwnField}
 use Rattle.std.proofs.lemmas.Result.{err_from_is_err_and}
 use Rattle.wire_dynamic.proofs.Counts.{found_some, found_twice, matched, pushed_once, unmatched}
@@ -23,10 +23,10 @@ loop-descriptor-preserved c =
     let same : string_bytes c.in_ok-name.name ≡ string_bytes d.name = search rules in
     let told = subst (λ q. IsField c.args.declared.now c.args.places.now q (string_bytes c.in_ok-name.name) d f) c.features_of-features.ensures c.in_ok-field.ensures.ok in
     let tells : Tells d f = subst (λ n. IsField c.args.declared.now c.args.places.now (own_features c.args.message.now d) n d f) same told in
-    let number : number_of d.number ≡ f.number = rw (tells.number) refl in
+    let number : as_number d.number ≡ f.number = rw (tells.number) refl in
     let old = λ (k : ℕ). get nat_cmp c.loop-descriptor.fields k in
-    let absent : (k : ℕ) → nat_eq (number_of d.number) k ≡ true → old k ≡ None = λ k e. grind (arith, nat_tests, common_steps, e, number, c.in_ok-insert.ensures.old, c.is_some.ensures, c.if-is_some.false) in
-    let new : (k : ℕ) → get nat_cmp c.insert.new.self k ≡ cond (nat_eq (number_of d.number) k) (Some f) (old k) = λ k. grind (arith, nat_tests, common_steps, number, c.in_ok-insert.ensures.updates.0 k) in
+    let absent : (k : ℕ) → nat_eq (as_number d.number) k ≡ true → old k ≡ None = λ k e. grind (arith, nat_tests, common_steps, e, number, c.in_ok-insert.ensures.old, c.is_some.ensures, c.if-is_some.false) in
+    let new : (k : ℕ) → get nat_cmp c.insert.new.self k ≡ cond (nat_eq (as_number d.number) k) (Some f) (old k) = λ k. grind (arith, nat_tests, common_steps, number, c.in_ok-insert.ensures.updates.0 k) in
     record {
       table = λ k. rw step (matches_pushed Tells d (take i ds) f (has_number k) (old k) (get nat_cmp c.insert.new.self k) (c.loop-descriptor.invariant.table k) tells (absent k) (new k));
       apart = λ k. rw step (pushed_once (has_number k) (take i ds) d (c.loop-descriptor.invariant.apart k) (λ e. unmatched Tells (find (has_number k) (take i ds)) (old k) (c.loop-descriptor.invariant.table k) (absent k e)));
@@ -48,7 +48,7 @@ returns-then-is_some-clause-err c = λ other.
     let f = c.in_ok-field.field in
     let ds = c.args.message.now.descriptor.field.items in
     let i = c.loop-descriptor.descriptor-index in
-    let n = number_of d.number in
+    let n = as_number d.number in
     let Tells = IsOwnField c.args.declared.now c.args.places.now c.args.message.now in
     let within : i < length ds = subst (λ l. i < length l) c.deref-descriptor-items.ensures.value c.loop-descriptor-test.true in
     let is : d ≡ get_or ds i d = subst (λ l. d ≡ get_or l i d) c.deref-descriptor-items.ensures.value c.descriptor-item.is in

@@ -1,6 +1,6 @@
 use Rattle.std.proofs.Common.{rules, ◌≡◌, ◌+◌, [], ◌∷◌, ◌++◌, take, arith, subst, sym}
 use Rattle.std.proofs.lemmas.Grind.{common_steps}
-use Rattle.wire_dynamic.specs.Messages.{IsMessage}
+use Rattle.wire_dynamic.specs.Messages.{IsAsDeclared}
 use Rattle.std.specs.Prelude.{Contains}
 use Rattle.std.proofs.lemmas.Result.{err_from_is_err_and}
 use Rattle.wire_dynamic.proofs.Tables.{zip_pushed}
@@ -13,7 +13,7 @@ loop-message-preserved c =
     let i = c.loop-message.message-index in
     let step : take (i + 1) xs ≡ take i xs ++ m ∷ [] = grind (arith, common_steps) in
     let pushed : c.push.new.self.items ≡ c.loop-message.messages.items ++ c.in_ok-of.field-0 ∷ [] = search rules in
-    rw (step, pushed) (zip_pushed (IsMessage c.args.declared.now c.args.places.now) (take i xs) c.loop-message.messages.items m c.in_ok-of.field-0 c.loop-message.invariant c.in_ok-of.ensures.ok)
+    rw (step, pushed) (zip_pushed (IsAsDeclared c.args.declared.now c.args.places.now) (take i xs) c.loop-message.messages.items m c.in_ok-of.field-0 c.loop-message.invariant c.in_ok-of.ensures.ok)
 
 pub returns-in_err-of-clause-err : goal.returns-in_err-of-clause-err
 returns-in_err-of-clause-err c =

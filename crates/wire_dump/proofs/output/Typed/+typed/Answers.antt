@@ -3,7 +3,7 @@ use Rattle.std.proofs.lemmas.Result.{err_from_is_err_and}
 use Rattle.std.specs.Option.{option_copied}
 use Rattle.wire_base.specs.Limits.{uncounted}
 use Rattle.wire_read.specs.declared.event.Fault.{Fault}
-use Rattle.wire_read.specs.Reading.{At, Gives, IsAt, IsDone, Stops, at, groups_of, item, limits_of}
+use Rattle.wire_read.specs.Reading.{At, Gives, IsAt, IsDone, Stops, at, groups_of, item, limits_in}
 use Rattle.wire_dynamic.specs.declared.schema.Schema.{Schema}
 use Rattle.wire_dynamic.specs.Told.{reader_of, root_of, schema_of}
 use Rattle.wire_dynamic.specs.Walks.{field_in, innermost, told_in}
@@ -11,7 +11,7 @@ use Rattle.wire_dump.specs.declared.layout.Layout.{Layout}
 use Rattle.wire_dump.specs.declared.layout.Margin.{Margin}
 use Rattle.wire_dump.specs.declared.typed.Halt.TheVariants as halts
 use Rattle.wire_dump.specs.declared.typed_record.Spot.{Spot}
-use Rattle.wire_dump.specs.Lines.{closing}
+use Rattle.wire_dump.specs.Lines.{end_line}
 use Rattle.wire_dump.specs.Places.{range_text}
 use Rattle.wire_dump.specs.Shown.{AreRecords, IsShownFront, ItemSpans, PutsSpans}
 use Rattle.wire_dump.specs.Shows.{field_opening}
@@ -45,7 +45,7 @@ put_embedded-returns-in_ok-put_closing-in-Ok-clause-fits t c =
     let two = c.put_message.new.out in
     let last = c.put_closing.new.out.items in
     let layout = c.new-layout.result in
-    let l = limits_of (reader_of c.new-walk.result) in
+    let l = limits_in (reader_of c.new-walk.result) in
     let at_inner : inner ≡ end - length payload = search rules in
     let fewer : min (d - 1) 100 ≡ d - 1 = omega (arith, c.requires.shallow) in
     let limits : l ≡ uncounted (d - 1) = c.new-walk.ensures.begins.limits ∙ ap uncounted fewer in
@@ -66,9 +66,9 @@ put_embedded-returns-in_ok-put_closing-in-Ok-clause-fits t c =
     (with_margin layout place inner c.margin.result (field_opening s layout.level f) old one first
     c.in_ok-put_opening.ensures) in
     let closed = subst (λ (z : Layout). last
-    ≡ two.text.items ++ (range_text z.has_offsets end end ++ closing z.level))
+    ≡ two.text.items ++ (range_text z.has_offsets end end ++ end_line z.level))
     c.new-layout.ensures
-    (with_margin layout end end c.margin-in-Ok.result (closing layout.level) two.text.items last
+    (with_margin layout end end c.margin-in-Ok.result (end_line layout.level) two.text.items last
     tail c.in_ok-put_closing-in-Ok.ensures) in
     let put = subst (λ (x : ℕ). PutsSpans y inner (AreRecords s (d - 1) (k + 1) x l payload)
     payload one c.args.out.now.has_note two) c.new-walk.ensures.root c.in-Ok.ensures.ok in
@@ -90,7 +90,7 @@ put_embedded-returns-in-Err-Fault-clause-unfit t c =
     let one = c.put_opening.new.out.items in
     let two = c.put_message.new.out in
     let fault = c.in-Err-Fault.fault in
-    let l = limits_of (reader_of c.new-walk.result) in
+    let l = limits_in (reader_of c.new-walk.result) in
     let fewer : min (d - 1) 100 ≡ d - 1 = omega (arith, c.requires.shallow) in
     let limits : l ≡ uncounted (d - 1) = c.new-walk.ensures.begins.limits ∙ ap uncounted fewer in
     let failed : c.put_message.result ≡ Err (halts.Fault fault) = search rules in
@@ -125,11 +125,11 @@ put_told-returns-in_ok-put_closing-in-GroupEnd-clause-ok t c =
     let old = c.args.out.now.text.items in
     let new = c.put_closing.new.out.items in
     let put = subst (λ (m : Margin). new
-    ≡ old ++ (range_text m.is_shown m.start m.end ++ closing level)) c.margin-margin.ensures
+    ≡ old ++ (range_text m.is_shown m.start m.end ++ end_line level)) c.margin-margin.ensures
     c.in_ok-put_closing-in-GroupEnd.ensures in
     one_line y c.args.place
     (ItemSpans y.schema.now c.args.spot.depth c.args.spot.budget c.args.spot.level c.args.count
-    (option_copied told.field) (item n v) c.args.text.now) c.args.text.now (closing level) old
+    (option_copied told.field) (item n v) c.args.text.now) c.args.text.now (end_line level) old
     c.args.out.now.has_note
     (record { text = c.put_closing.new.out; has_note = c.args.out.now.has_note })
     (end_lines y.schema.now c.args.spot.depth c.args.spot.budget c.args.spot.level c.args.count n
@@ -142,12 +142,12 @@ put_message-loop-told-init t c =
     let all = c.args.bytes.now in
     let r = reader_of c.args.walk.now in
     let whole : drop r.place all ≡ all = ap (λ (x : ℕ). drop x all) c.requires.begins.place in
-    let start : at r all ≡ record { rest = all; groups = groups_of r; limits = limits_of r } =
-    ap (λ (x : List ℕ). record { rest = x; groups = groups_of r; limits = limits_of r }) whole in (
+    let start : at r all ≡ record { rest = all; groups = groups_of r; limits = limits_in r } =
+    ap (λ (x : List ℕ). record { rest = x; groups = groups_of r; limits = limits_in r }) whole in (
       begun c.args.self.now c.args.spot.depth c.args.spot.level (root_of c.args.walk.now)
-          c.args.spot.place (limits_of r) all (at r all) c.args.out.now
-          (subst (λ (x : At). IsAt (limits_of r) all [] x) (sym start)
-          (c.reader_begins.ensures (limits_of r) r all c.requires.begins)) (sym whole),
+          c.args.spot.place (limits_in r) all (at r all) c.args.out.now
+          (subst (λ (x : At). IsAt (limits_in r) all [] x) (sym start)
+          (c.reader_begins.ensures (limits_in r) r all c.requires.begins)) (sym whole),
       c.requires.schema,
       refl,
     )
@@ -208,7 +208,7 @@ put_message-loop-told-preserved t c =
     let puts = subst (λ (x : Spot). Puts x (length b.groups)) here
     (subst (λ (x : ℕ). Puts c.within-here.result x) count c.in-Ok.ensures.ok) in (
       next_item c.items_tell_records.ensures c.reader_goes_on.ensures y d k root
-          c.args.spot.place (limits_of (reader_of c.args.walk.now)) all n v
+          c.args.spot.place (limits_in (reader_of c.args.walk.now)) all n v
           (option_copied told.field) a b given.behind text c.args.out.now.text.items
           c.args.out.now.has_note c.loop-told.out.text.items c.loop-told.out.has_note
           c.put_told.new.out.text.items c.put_told.new.out.has_note place h given.moves cut.parts
@@ -224,7 +224,7 @@ put_message-returns-clause-ok t c =
     let done : IsDone a = search rules in
     finished c.items_tell_records.ensures c.reader_is_done.ensures c.args.self.now
     c.args.spot.depth c.args.spot.level (root_of c.args.walk.now) c.args.spot.place
-    (limits_of (reader_of c.args.walk.now)) all a c.args.out.now.text.items
+    (limits_in (reader_of c.args.walk.now)) all a c.args.out.now.text.items
     c.args.out.now.has_note c.loop-told.out.text.items c.loop-told.out.has_note
     c.loop-told.invariant.0 done
 
@@ -242,6 +242,6 @@ put_message-returns-in_err-told-clause-fault t c =
     subst (λ (x : Fault). Stops x all a) is c.in_err-told.ensures.fault in
     stopped c.items_tell_records.ensures c.reader_stops.ensures c.args.self.now
     c.args.spot.depth c.args.spot.level (root_of c.args.walk.now) c.args.spot.place
-    (limits_of (reader_of c.args.walk.now)) all a f c.args.out.now.text.items
+    (limits_in (reader_of c.args.walk.now)) all a f c.args.out.now.text.items
     c.args.out.now.has_note c.loop-told.out.text.items c.loop-told.out.has_note
     c.loop-told.invariant.0 stops_here

@@ -1,5 +1,5 @@
 use Rattle.std.proofs.Common.{◌≡◌, ◌+◌, ◌*◌, drop, length}
-use Rattle.wire_read.specs.Reading.{at, limits_of}
+use Rattle.wire_read.specs.Reading.{at, limits_in}
 use Rattle.wire_dynamic.specs.Told.{reader_of, root_of, schema_of}
 use Rattle.wire_dump.proofs.ShownWalk.{Sofar}
 use Rattle.wire_dump.proofs.output.Typed.+typed.Given as goal
@@ -25,7 +25,7 @@ decreases-put_embedded l = 8 * l.found.now.spot.depth
 abbrev pub invariant-put_message-loop-told : goal.invariant-put_message-loop-told
 invariant-put_message-loop-told l =
     Sofar l.fn.self l.fn.spot.depth l.fn.spot.level (root_of l.fn.walk) l.fn.spot.place
-    (limits_of (reader_of l.fn.walk)) l.fn.bytes (at (reader_of l.walk) l.fn.bytes)
+    (limits_in (reader_of l.fn.walk)) l.fn.bytes (at (reader_of l.walk) l.fn.bytes)
     l.fn.out.text.items l.fn.out.has_note l.out.text.items l.out.has_note
     × (schema_of l.walk ≡ l.fn.self.schema.now)
     × (root_of l.walk ≡ root_of l.fn.walk)

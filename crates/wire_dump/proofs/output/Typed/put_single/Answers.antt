@@ -1,6 +1,6 @@
 use Rattle.std.proofs.Common.{◌≡◌, Some, refl, sym, ap, ◌∙◌, rules}
 use Rattle.wire_dump.specs.Numbers.{number_type}
-use Rattle.wire_dump.specs.Shown.{payload_of}
+use Rattle.wire_dump.specs.Shown.{event_payload}
 use Rattle.wire_dump.specs.Shows.{ShowsRecord, number}
 use Rattle.wire_dump.proofs.ShownPut.{one_line}
 use Rattle.wire_dump.proofs.ShownRecord.{single_fits}
@@ -10,7 +10,7 @@ pub returns-clause-fits : goal.returns-clause-fits
 returns-clause-fits c =
     let t = c.args.self.now in
     let r = c.args.found.now in
-    let p = payload_of r.event.value in
+    let p = event_payload r.event.value in
     let kind : number_type r.field.now.kind ≡ Some c.args.wire_type = search rules in
     let (line, is, put) = c.in_ok-put_number.ensures in
     one_line t r.spot.place

@@ -2,7 +2,7 @@ use Rattle.std.proofs.Common.{◌≡◌, ℕ, ◌+◌, ◌^◌, ◌<◌, List, [
 use Rattle.std.proofs.lemmas.Result.{err_from_is_err_and}
 use Rattle.std.specs.Option.{option_copied}
 use Rattle.wire_read.specs.declared.event.Fault.{Fault}
-use Rattle.wire_read.specs.Reading.{At, Gives, IsAt, IsDone, Stops, at, groups_of, item, limits_of}
+use Rattle.wire_read.specs.Reading.{At, Gives, IsAt, IsDone, Stops, at, groups_of, item, limits_in}
 use Rattle.wire_dynamic.specs.declared.schema.Schema.{Schema}
 use Rattle.wire_dynamic.specs.Told.{reader_of, root_of, schema_of}
 use Rattle.wire_dynamic.specs.Walks.{field_in, innermost, told_in}
@@ -24,16 +24,16 @@ loop-told-init g c =
     let r = reader_of c.args.walk.now in
     let out = c.args.out.now in
     let whole : drop r.place all ≡ all = ap (λ (x : ℕ). drop x all) c.requires.begins.place in
-    let start : at r all ≡ record { rest = all; groups = groups_of r; limits = limits_of r } =
-    ap (λ (x : List ℕ). record { rest = x; groups = groups_of r; limits = limits_of r }) whole in (
+    let start : at r all ≡ record { rest = all; groups = groups_of r; limits = limits_in r } =
+    ap (λ (x : List ℕ). record { rest = x; groups = groups_of r; limits = limits_in r }) whole in (
       none_sent (g.W.Write.contents c.args.sink.now) out.text.items
           (λ (x : List ℕ). Sofar c.args.self.now c.args.spot.depth c.args.spot.level
-          (root_of c.args.walk.now) c.args.spot.place (limits_of r) all (at r all) out.text.items
+          (root_of c.args.walk.now) c.args.spot.place (limits_in r) all (at r all) out.text.items
           out.has_note x out.has_note)
           (begun c.args.self.now c.args.spot.depth c.args.spot.level (root_of c.args.walk.now)
-          c.args.spot.place (limits_of r) all (at r all) out
-          (subst (λ (x : At). IsAt (limits_of r) all [] x) (sym start)
-          (c.reader_begins.ensures (limits_of r) r all c.requires.begins)) (sym whole)),
+          c.args.spot.place (limits_in r) all (at r all) out
+          (subst (λ (x : At). IsAt (limits_in r) all [] x) (sym start)
+          (c.reader_begins.ensures (limits_in r) r all c.requires.begins)) (sym whole)),
       c.requires.schema,
       refl,
     )
@@ -77,7 +77,7 @@ loop-told-preserved g c =
     let d = c.args.spot.depth in
     let k = c.args.spot.level in
     let root = root_of c.args.walk.now in
-    let l = limits_of (reader_of c.args.walk.now) in
+    let l = limits_in (reader_of c.args.walk.now) in
     let w = c.loop-told.walk in
     let old = c.args.out.now in
     let mid = c.loop-told.out in
@@ -131,7 +131,7 @@ returns-clause-ok g c =
       gone,
       finished c.items_tell_records.ensures c.reader_is_done.ensures c.args.self.now
           c.args.spot.depth c.args.spot.level (root_of c.args.walk.now) c.args.spot.place
-          (limits_of (reader_of c.args.walk.now)) all a c.args.out.now.text.items
+          (limits_in (reader_of c.args.walk.now)) all a c.args.out.now.text.items
           c.args.out.now.has_note (sent ++ c.loop-told.out.text.items) c.loop-told.out.has_note h
           done,
     )
@@ -152,7 +152,7 @@ returns-in_err-told-clause-fault g c =
       gone,
       stopped c.items_tell_records.ensures c.reader_stops.ensures c.args.self.now
           c.args.spot.depth c.args.spot.level (root_of c.args.walk.now) c.args.spot.place
-          (limits_of (reader_of c.args.walk.now)) all a f c.args.out.now.text.items
+          (limits_in (reader_of c.args.walk.now)) all a f c.args.out.now.text.items
           c.args.out.now.has_note (sent ++ c.loop-told.out.text.items) c.loop-told.out.has_note h
           stops_here,
     )

@@ -6,7 +6,7 @@ use Rattle.wire_codec.specs.InRange.{AreFitting, AreNumbered}
 use Rattle.wire_codec.specs.UnknownFields.{payload_of, fields_of}
 use Rattle.wire_extensions.proofs.Folding.{at_start, one_more, no_more, at_end, as_value}
 use Rattle.wire_extensions.proofs.Records.{own_is}
-use Rattle.wire_extensions.specs.Extension.{is_own, owned}
+use Rattle.wire_extensions.specs.Extension.{is_own, picked}
 use Rattle.wire_extensions.proofs.extension.Extension.get.Goals as goal
 
 pub loop-record-init : goal.loop-record-init
@@ -29,7 +29,7 @@ loop-record-preserved-in-Continue-1 g c =
     let rest = fields_of (iter_rest c.next.new.self) in
     let own : owns f.number (payload_of f.value) ≡ true = search rules in
     let steps = ap fields_of c.in-Some.ensures.steps in
-    let is = ap (owned owns) steps ∙ own_is owns f.number (payload_of f.value) rest own in
+    let is = ap (picked owns) steps ∙ own_is owns f.number (payload_of f.value) rest own in
     record {
       next = tt;
       finite = tt;
@@ -50,7 +50,7 @@ returns-in_err-take_record-clause-err g c =
     let owns = is_own c.args.self.now.number c.args.self.now.types in
     let rest = fields_of (iter_rest c.next.new.self) in
     let own : owns f.number (payload_of f.value) ≡ true = search rules in
-    let is = ap (owned owns) (ap fields_of c.in-Some.ensures.steps)
+    let is = ap (picked owns) (ap fields_of c.in-Some.ensures.steps)
     ∙ own_is owns f.number (payload_of f.value) rest own in
     rw (p.1, p.2) (λ other numbered single charge z h.
     let here = c.loop-record.invariant.follows numbered in
@@ -64,4 +64,4 @@ returns-clause-ok g c = λ numbered.
     let end = nil_from_length (iter_rest c.loop-record.record-iterator) c.in-None.ensures.steps.0 in
     as_value g.K.Kind.kind owns _ _ _ _ (at_end c.limits_add_up.ensures c.charges_add_up.ensures
     g.K.Kind.kind.takes _ _ _ _ _ _ (c.loop-record.invariant.follows numbered)
-    (ap (owned owns) (ap fields_of end)))
+    (ap (picked owns) (ap fields_of end)))

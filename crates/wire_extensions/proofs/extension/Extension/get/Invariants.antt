@@ -3,7 +3,7 @@ use Rattle.wire_codec.specs.InRange.{AreFitting, AreNumbered}
 use Rattle.wire_codec.specs.Limits.{NoCountGrew}
 use Rattle.wire_codec.specs.UnknownFields.{fields_of}
 use Rattle.wire_extensions.proofs.Folding.{Follows}
-use Rattle.wire_extensions.specs.Extension.{is_own, owned}
+use Rattle.wire_extensions.specs.Extension.{is_own, picked}
 use Rattle.wire_extensions.proofs.extension.Extension.get.Given as goal
 
 -- the value makes of the records that are left what the default makes of all
@@ -15,8 +15,8 @@ invariant-loop-record g l =
       next : (goal.iterator-loop-record g).can_next l.record-iterator;
       finite : (goal.iterator-loop-record g).is_finite l.record-iterator;
       fitting : AreFitting rest;
-      follows : AreNumbered (owned owns l.fn.fields)
+      follows : AreNumbered (picked owns l.fn.fields)
           → Follows g.K.Kind.kind.takes l.fn.context g.K.Kind.kind.default
-          (owned owns l.fn.fields) l.context (g.K.Kind.view l.held) (owned owns rest);
+          (picked owns l.fn.fields) l.context (g.K.Kind.view l.held) (picked owns rest);
       grew : NoCountGrew l.fn.context l.context;
     }

@@ -1,7 +1,7 @@
 use Rattle.std.proofs.Common.{ℕ, Bool, List, [], drop, sym, ap, subst, ◌∙◌, arith}
 use Rattle.wire_frames.specs.declared.frame.FrameText.{FrameText}
 use Rattle.wire_frames.specs.declared.frame.Framing.{Framing}
-use Rattle.wire_frames.specs.Extent.{Stands, text_at}
+use Rattle.wire_frames.specs.Extent.{IsExtent, text_at}
 use Rattle.wire_frames.specs.Frames.{in_prefix}
 use Rattle.wire_frames.specs.Stream.{Stream, left, unread}
 use Rattle.wire_frames.proofs.Extents.{held_is_less, run_is, rest_is}
@@ -19,7 +19,7 @@ stream_with framing limit held chunk =
 pub overflow_sub-more : goal.overflow_sub-more
 overflow_sub-more c =
     let inside = c.self.inside in
-    let stands = subst (λ (s : Stream). Stands s.framing s.limit (unread s) c.args.extent)
+    let stands = subst (λ (s : Stream). IsExtent s.framing s.limit (unread s) c.args.extent)
     (sym c.self.view_is) c.requires in
     let less = held_is_less c.unfinished_has_no_next.ensures inside.framing inside.limit
     inside.held.items inside.chunk c.args.extent c.self.invariant stands in
@@ -35,7 +35,7 @@ pub returns-clause-text : goal.returns-clause-text
 returns-clause-text c =
     let inside = c.self.inside in
     let x = c.args.extent in
-    let stands = subst (λ (s : Stream). Stands s.framing s.limit (unread s) x)
+    let stands = subst (λ (s : Stream). IsExtent s.framing s.limit (unread s) x)
     (sym c.self.view_is) c.requires in
     let less = held_is_less c.unfinished_has_no_next.ensures inside.framing inside.limit
     inside.held.items inside.chunk x c.self.invariant stands in
@@ -49,7 +49,7 @@ pub returns-clause-rest : goal.returns-clause-rest
 returns-clause-rest c =
     let inside = c.self.inside in
     let x = c.args.extent in
-    let stands = subst (λ (s : Stream). Stands s.framing s.limit (unread s) x)
+    let stands = subst (λ (s : Stream). IsExtent s.framing s.limit (unread s) x)
     (sym c.self.view_is) c.requires in
     let less = held_is_less c.unfinished_has_no_next.ensures inside.framing inside.limit
     inside.held.items inside.chunk x c.self.invariant stands in

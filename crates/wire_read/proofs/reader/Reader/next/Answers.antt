@@ -1,7 +1,7 @@
 use Rattle.std.proofs.Common.{◌≡◌, ◌≤◌, length, drop, min, rules, arith, refl, ap}
 use Rattle.std.proofs.lemmas.List.{length-drop}
 use Rattle.wire_read.specs.Opened.{ending_of}
-use Rattle.wire_read.specs.Reading.{groups_of, limits_of}
+use Rattle.wire_read.specs.Reading.{groups_of, limits_in}
 use Rattle.wire_read.proofs.Moving.{part_inside, rest_is, gives}
 use Rattle.wire_read.proofs.reader.Reader.next.Goals as goal
 
@@ -15,7 +15,7 @@ overflow_sub-result-in-Err-2 c =
       arith,
       few,
       ap length (rest_is all r.place c.min.result k),
-      part_inside (limits_of r) (ending_of (groups_of r)) _ _ _ _ c.in-Err.ensures.fault,
+      part_inside (limits_in r) (ending_of (groups_of r)) _ _ _ _ c.in-Err.ensures.fault,
     )
 
 pub returns-in-Ok-clause-event : goal.returns-in-Ok-clause-event

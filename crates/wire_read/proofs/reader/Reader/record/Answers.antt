@@ -4,7 +4,7 @@ use Rattle.wire_base.specs.Limits.{HasRoom}
 use Rattle.wire_base.specs.TagView.{tag_number, tag_type}
 use Rattle.wire_read.specs.Budget.{budget, Spends}
 use Rattle.wire_read.specs.PartFault.{PartFault}
-use Rattle.wire_read.specs.Reading.{limits_of}
+use Rattle.wire_read.specs.Reading.{limits_in}
 use Rattle.wire_read.proofs.Moving.{full_here, moved_whole, slot}
 use Rattle.wire_read.proofs.reader.Reader.record.Goals as goal
 
@@ -22,7 +22,7 @@ returns-in_err-found-clause-fault c =
     let r = c.args.self.now in
     let room : HasRoom (budget r.unknown_fields) 1 = search rules in
     rw (p.1, p.2) (PartFault.in_payload (tag_number c.args.tag) (tag_type c.args.tag) _ _ _
-    c.requires.tag (slot r room) (c.in_err-found.ensures.fault (limits_of r) refl))
+    c.requires.tag (slot r room) (c.in_err-found.ensures.fault (limits_in r) refl))
 
 pub returns-clause-ok : goal.returns-clause-ok
 returns-clause-ok c =

@@ -3,7 +3,7 @@ use Rattle.wire_base.specs.declared.tag.WireType.TheVariants.{StartGroup}
 use Rattle.wire_base.specs.Limits.{HasRoom}
 use Rattle.wire_read.specs.Budget.{budget}
 use Rattle.wire_read.specs.PartFault.{PartFault}
-use Rattle.wire_read.specs.Reading.{groups_of, levels_of}
+use Rattle.wire_read.specs.Reading.{groups_of, levels_in}
 use Rattle.wire_read.proofs.Moving.{full_here, slot}
 use Rattle.wire_read.proofs.reader.Reader.start_group.Goals as goal
 
@@ -19,5 +19,5 @@ pub returns-then-open_count-levels-clause-fault : goal.returns-then-open_count-l
 returns-then-open_count-levels-clause-fault c =
     let r = c.args.self.now in
     let room : HasRoom (budget r.unknown_fields) 1 = search rules in
-    let none : levels_of r - length (groups_of r) ≡ 0 = search (rules, arith) in
+    let none : levels_in r - length (groups_of r) ≡ 0 = search (rules, arith) in
     PartFault.no_level c.args.number _ c.requires (slot r room) none
