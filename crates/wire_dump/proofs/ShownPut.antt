@@ -2,26 +2,26 @@
 use Rattle.std.proofs.Common.{◌≡◌, ℕ, ◌+◌, ◌-◌, ◌<◌, Bool, true, false, ◌||◌, List, [], ◌∷◌, ◌++◌, suc, length, map, take, refl, sym, ap, ◌∙◌, append_assoc, append-nil, arith, length-append}
 use Rattle.wire_dump.specs.declared.output.Output.{Output}
 use Rattle.wire_dump.specs.declared.output.Typed.{Typed}
-use Rattle.wire_dump.specs.Places.{Line, printed, range_text, all_width as width_of_lines}
-use Rattle.wire_dump.specs.Shown.{PutsSpans, PutsText, each_printed, has_note, shown, all_width}
+use Rattle.wire_dump.specs.Places.{Line, printed, range_text, all_width}
+use Rattle.wire_dump.specs.Shown.{PutsSpans, PutsText, each_printed, has_note, shown, width_of}
 use Rattle.wire_dump.specs.Shows.{Span, line_span, noted, span_of}
 
 -- ---- lists of spans
 
 pub shown-append : (o : Bool) (place : ℕ) (xs ys : List Span)
-    → shown o place (xs ++ ys) ≡ shown o place xs ++ shown o (place + all_width xs) ys
+    → shown o place (xs ++ ys) ≡ shown o place xs ++ shown o (place + width_of xs) ys
 shown-append o place [] ys =
     let same : place ≡ place + 0 = omega arith in
     ap (λ (x : ℕ). shown o x ys) same
 shown-append o place (s ∷ xs) ys =
     let mid = place + s.width in
     let each = each_printed o place mid s.texts in
-    let same : mid + all_width xs ≡ place + (s.width + all_width xs) = omega arith in
+    let same : mid + width_of xs ≡ place + (s.width + width_of xs) = omega arith in
     ap (λ (x : List ℕ). each ++ x) (shown-append o mid xs ys)
-    ∙ sym (append_assoc each (shown o mid xs) (shown o (mid + all_width xs) ys))
+    ∙ sym (append_assoc each (shown o mid xs) (shown o (mid + width_of xs) ys))
     ∙ ap (λ (x : ℕ). (each ++ shown o mid xs) ++ shown o x ys) same
 
-pub width-append : (xs ys : List Span) → all_width (xs ++ ys) ≡ all_width xs + all_width ys
+pub width-append : (xs ys : List Span) → width_of (xs ++ ys) ≡ width_of xs + width_of ys
 width-append [] ys = omega arith
 width-append (s ∷ xs) ys = omega (arith, width-append xs ys)
 
@@ -57,7 +57,7 @@ pub puts_more : (t : Typed) (place at : ℕ) (First Second Both : List Span → 
 puts_more t place at First Second Both one two old before mid half new after first at_is second
     are =
     let o = t.has_offsets in
-    let here : at ≡ place + all_width first.spans = omega (arith, at_is, first.covers) in
+    let here : at ≡ place + width_of first.spans = omega (arith, at_is, first.covers) in
     record {
       spans = first.spans ++ second.spans;
       are = are;
@@ -112,7 +112,7 @@ plain-printed o place (l ∷ ls) =
     ∙ ap (λ (x : List ℕ). r ++ (x ++ rest)) (append-nil l.text)
     ∙ ap (λ (x : List ℕ). r ++ (l.text ++ x)) (plain-printed o (place + l.width) ls)
 
-pub plain-width : (ls : List Line) → all_width (map span_of ls) ≡ width_of_lines ls
+pub plain-width : (ls : List Line) → width_of (map span_of ls) ≡ all_width ls
 plain-width [] = refl
 plain-width (l ∷ ls) = ap (λ (x : ℕ). l.width + x) (plain-width ls)
 
@@ -122,7 +122,7 @@ plain-note (l ∷ ls) = plain-note ls
 
 -- ---- a note
 
-pub noted-width : (note : List ℕ) (ls : List Line) → all_width (noted note ls) ≡ width_of_lines ls
+pub noted-width : (note : List ℕ) (ls : List Line) → width_of (noted note ls) ≡ all_width ls
 noted-width note [] = refl
 noted-width note (l ∷ []) = refl
 noted-width note (l ∷ (m ∷ ls)) = ap (λ (x : ℕ). l.width + x) (noted-width note (m ∷ ls))
