@@ -2,8 +2,8 @@
 it writes of others."""
 TYPE = "message A { int32 x = 1; }"
 LONG = "Elephant" * 11
-MANY_OF_FLAT = (".A: more than 80 fields of a message that has a view or required fields, or that "
-                "holds itself or another that holds it, or with unknown=drop or mismatch=keep")
+MANY_OF_FLAT = (".A: more than 80 fields of a message that has a view, or that holds itself or "
+                "another that holds it, or with unknown=drop or mismatch=keep")
 # A schema, further parameters, and what is said of it on protoc's channel for errors.
 REFUSED = [
     ("proto3", 'import "google/protobuf/empty.proto";' + TYPE
@@ -37,8 +37,6 @@ REFUSED = [
        options, MANY_OF_FLAT) for options in (",views=true", ",unknown=drop", ",mismatch=keep")),
     ("proto3", "message A { A a = 100; "
      + "".join(f"int32 x{it} = {it};" for it in range(1, 81)) + "}", "", MANY_OF_FLAT),
-    ("proto2", "message A { required int32 x = 100; "
-     + "".join(f"optional int32 x{it} = {it};" for it in range(1, 81)) + "}", "", MANY_OF_FLAT),
     ("proto3", 'import "google/protobuf/timestamp.proto";'
      "message A { google.protobuf.Timestamp x = 1; }", "",
      ".A.x: .google.protobuf.Timestamp is of a file of no crate that is named, as "
@@ -127,6 +125,10 @@ CHOICES = [
      + " }", "",
      ["..ARequired1To7,\n            ..ARequired8To12,\n        )", "struct ARequired1To7;",
       "a-missing-1-to-7 m\n    ∷ a-missing-8-to-12 m\n    ∷ [])"]),
+    ("proto2", "message A { " + "".join(f"required bool x{it} = {it};" for it in (1, 82))
+     + "".join(f"optional int32 x{it} = {it};" for it in range(2, 82)) + " }", "",
+     ["            _ => self.merge_from_65(alloc, tag, buf, context),", "impl Required for A {",
+      '"x1" => x1: Needed<Optional<Bool>>,\n            "x82" => x82: Needed<Optional<Bool>>,']),
     ("proto2", "message A { required int32 x = 1; optional A y = 2; }", ",required=optional",
      ["    pub x: Option<i32>,", "chosen: wire_codec wire_fields bytes"]),
     ("proto2", "message A { required int32 x = 1; optional A y = 2; required B z = 3; } "

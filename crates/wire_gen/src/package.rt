@@ -24,9 +24,9 @@ use wire_schema::{
 const MOST_FIELDS: usize = 128;
 
 // Of such a message the fields stand in no groups.
-const MANY_OF_FLAT: &str = "$full$: more than 80 fields of a message that has a view or required \
-                            fields, or that holds itself or another that holds it, or with \
-                            unknown=drop or mismatch=keep";
+const MANY_OF_FLAT: &str = "\
+    $full$: more than 80 fields of a message that has a view, or that holds itself or another that \
+    holds it, or with unknown=drop or mismatch=keep";
 
 // Features of a plug-in, as protoc asks for them.
 const OPTIONAL_OF_PROTO3: u64 = 1;
@@ -80,7 +80,7 @@ fn files_of(
 // Refuses more fields than it was seen that they are proved.
 fn stop_on_many(page: &mut Words, count: usize, holds_itself: bool) -> Result<(), GenerateError> {
     let is_plain = page.get("unknown") == "keep" && page.get("mismatch") == "refuse";
-    let is_flat = holds_itself || has_view(page) || !page.get("requiring").is_empty();
+    let is_flat = holds_itself || has_view(page);
     if has_groups(count) && (is_flat || !is_plain) {
         return Err(page.refused(MANY_OF_FLAT));
     }
