@@ -1,0 +1,9 @@
+pub mod Answer
+pub mod Bytes
+pub mod Fault
+pub mod Json
+pub mod Kind
+pub mod Number
+pub mod Reading
+pub mod Text
+pub mod Written
