@@ -1,5 +1,6 @@
 -- What a call answers of a place in a text.
 use Rattle.std.specs.Prelude.{◌≡◌, ℕ, ◌<◌, ◌≤◌, List, length, drop, Result, Ok, Err}
+use Rattle.wire_json.specs.declared.escape.CodeUnit.{CodeUnit}
 use Rattle.wire_json.specs.declared.fault.Fault.{Fault}
 use Rattle.wire_json.specs.declared.fault.FaultKind.{FaultKind}
 use Rattle.wire_json.specs.declared.fault.FaultKind.TheVariants.{Syntax}
@@ -23,3 +24,9 @@ pub record IsOnward (at after : ℕ) (text : List ℕ) : Type 0 where
 -- a fault at its place
 abbrev pub FaultAt : List ℕ → Fault → (FaultKind → List ℕ → Type 0) → Type 0
 FaultAt text fault Stands = Stands fault.kind (drop fault.at text)
+
+-- a unit of UTF-16 with the place behind it, or the place of the fault
+abbrev pub AnswersUnit : List ℕ → Result CodeUnit Fault → Result (ℕ × List ℕ) (List ℕ) → Type 0
+AnswersUnit text (Ok unit) outcome = outcome ≡ Ok (unit.value, drop unit.after text)
+AnswersUnit text (Err fault) outcome =
+    (outcome ≡ Err (drop fault.at text)) × (fault.kind ≡ Syntax)

@@ -4,6 +4,7 @@ pub mod Fault
 pub mod Json
 pub mod Kind
 pub mod Number
+pub mod Part
 pub mod Reading
 pub mod Text
 pub mod Written

@@ -2,9 +2,11 @@
 #![tactic(auto)]
 
 mod bytes;
+mod escape;
 mod fault;
 mod kind;
 mod number;
+mod part;
 
 pub use bytes::skip_space;
 pub use fault::{Fault, FaultKind, JsonError};
