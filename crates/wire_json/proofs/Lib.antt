@@ -1,3 +1,4 @@
+pub mod Chars
 pub mod Numbers
 pub mod Runs
 pub mod Steps

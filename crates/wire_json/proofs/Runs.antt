@@ -4,7 +4,7 @@ use Rattle.std.proofs.lemmas.Bool.{cases_lt}
 use Rattle.std.proofs.lemmas.Bool.Decides.{nat_tests}
 use Rattle.std.proofs.lemmas.List.{append_cancel_right, drop-drop, drop-append-le, take-append-le, length-take-le}
 use Rattle.std.proofs.Math.Seq.{get_or-append_seam, take-append_seam, take-append-add}
-use Rattle.std.proofs.lemmas.Str.{encode_ascii, IsUtf8-append, IsUtf8-encode, inside_one, length-encode, len_utf8_bounds}
+use Rattle.std.proofs.lemmas.Str.{encode_ascii, IsUtf8-append, IsUtf8-encode, inside_one, char_from_byte, length-encode, len_utf8_bounds}
 use Rattle.std.specs.Prelude.{IsUtf8, encode_utf8, encode_utf8_all}
 use Rattle.std.specs.Char.{IsScalar, len_utf8}
 use lib.Utf8.{scalar}
@@ -100,8 +100,7 @@ pub unescaped_chars : (cs : List ℕ) → all_scalars cs ≡ true → Plain (enc
     → AllByRecursion IsUnescaped cs
 unescaped_chars [] scalars plain = tt
 unescaped_chars (c ∷ cs) scalars plain =
-    let (one, others) = both (scalar c) (all_scalars cs) scalars in
-    (
+    let (one, others) = both (scalar c) (all_scalars cs) scalars in (
       unescaped_by c one (plain_left (encode_utf8 c) (encode_utf8_all cs) plain) (cases_lt c 128),
       unescaped_chars cs others (plain_right (encode_utf8 c) (encode_utf8_all cs) plain),
     )
@@ -156,51 +155,51 @@ not_of_run c r (t ∷ tail) new stops parts u short =
 
 -- no character stands behind the longest front that is UTF-8
 module _ (s tail : List ℕ) (n : ℕ) (valid : IsValidUpTo s n) (stops : begins is_plain tail ≡ false)
-    where
-  longer : (c : ℕ) (new : List ℕ) → IsScalar c → drop n s ++ tail ≡ encode_utf8 c ++ new
-      → length (encode_utf8 c) ≤ length (drop n s) → ⊥
-  longer c new scalar parts fits =
-      let k = length (encode_utf8 c) in
-      let front = take n s in
-      let r = drop n s in
-      let char : take k r ≡ encode_utf8 c =
-      sym (take-append-le k r tail fits) ∙ ap (λ (l : List ℕ). take k l) parts
-      ∙ take-append_seam (encode_utf8 c) new in
-      let more : take (length front + k) s ≡ front ++ encode_utf8 c =
-      ap (λ (l : List ℕ). take (length front + k) l) (sym (take-append-drop n s))
-      ∙ take-append-add front r k ∙ ap (λ (l : List ℕ). front ++ l) char in
-      let some : 1 ≤ k =
-      omega (arith, length-encode c, (len_utf8_bounds c).0) in
-      valid.longest (length front + k) (omega (arith, length-take-le n s (omega (arith, valid.short)), some))
-      (subst IsUtf8 (sym more)
-      (IsUtf8-append front (encode_utf8 c) valid.front (IsUtf8-encode c scalar)))
+  where
+    longer : (c : ℕ) (new : List ℕ) → IsScalar c → drop n s ++ tail ≡ encode_utf8 c ++ new
+        → length (encode_utf8 c) ≤ length (drop n s) → ⊥
+    longer c new scalar parts fits =
+        let k = length (encode_utf8 c) in
+        let front = take n s in
+        let r = drop n s in
+        let char : take k r ≡ encode_utf8 c =
+        sym (take-append-le k r tail fits) ∙ ap (λ (l : List ℕ). take k l) parts
+        ∙ take-append_seam (encode_utf8 c) new in
+        let more : take (length front + k) s ≡ front ++ encode_utf8 c =
+        ap (λ (l : List ℕ). take (length front + k) l) (sym (take-append-drop n s))
+        ∙ take-append-add front r k ∙ ap (λ (l : List ℕ). front ++ l) char in
+        let some : 1 ≤ k =
+        omega (arith, length-encode c, (len_utf8_bounds c).0) in
+        valid.longest (length front + k) (omega (arith, length-take-le n s (omega (arith, valid.short)), some))
+        (subst IsUtf8 (sym more)
+        (IsUtf8-append front (encode_utf8 c) valid.front (IsUtf8-encode c scalar)))
 
-  no_char_behind : (c : ℕ) (new : List ℕ) → ReadsUnescaped c (drop n s ++ tail) new → ⊥
-  no_char_behind c new h =
-      elim (cases_lt (length (drop n s)) (length (encode_utf8 c))) [
-        inl short ↦ not_of_run c (drop n s) tail new stops h.parts h.unescaped short
-        | inr fits ↦ longer c new h.unescaped.scalar h.parts fits
-      ]
+    no_char_behind : (c : ℕ) (new : List ℕ) → ReadsUnescaped c (drop n s ++ tail) new → ⊥
+    no_char_behind c new h =
+        elim (cases_lt (length (drop n s)) (length (encode_utf8 c))) [
+          | inl short ↦ not_of_run c (drop n s) tail new stops h.parts h.unescaped short
+          | inr fits ↦ longer c new h.unescaped.scalar h.parts fits
+        ]
 
-  -- the first of the bytes behind it is plain
-  first_plain : (r : List ℕ) → Plain r → 0 < length r → (b : ℕ)
-      → is_plain b ≡ false → begins (is_byte b) (r ++ tail) ≡ false
-  first_plain [] plain some b is = absurd (omega arith)
-  first_plain (x ∷ r) (one, others) some b is = other_byte x b one is
+    -- the first of the bytes behind it is plain
+    first_plain : (r : List ℕ) → Plain r → 0 < length r → (b : ℕ)
+        → is_plain b ≡ false → begins (is_byte b) (r ++ tail) ≡ false
+    first_plain [] plain some b is = absurd (omega arith)
+    first_plain (x ∷ r) (one, others) some b is = other_byte x b one is
 
-  pub invalid_fault : Plain s → CharsFault (s ++ tail) Syntax (drop n s ++ tail)
-  invalid_fault plain =
-      let front = take n s in
-      let r = drop n s in
-      let parts : front ++ r ≡ s = take-append-drop n s in
-      let both_plain : Plain (front ++ r) = subst Plain (sym parts) plain in
-      let some : 0 < length r = omega (arith, length-drop n s, valid.short) in
-      let rest_plain = plain_right front r both_plain in
-      past_run front (s ++ tail) (r ++ tail) Syntax (r ++ tail)
-      (plain_run front (s ++ tail) (r ++ tail) (plain_left front r both_plain) valid.front
-      (ap (λ (l : List ℕ). l ++ tail) (sym parts) ∙ append_assoc front r tail))
-      (no_char (first_plain r rest_plain some 34 refl) (first_plain r rest_plain some 92 refl)
-      no_char_behind)
+    pub invalid_fault : Plain s → CharsFault (s ++ tail) Syntax (drop n s ++ tail)
+    invalid_fault plain =
+        let front = take n s in
+        let r = drop n s in
+        let parts : front ++ r ≡ s = take-append-drop n s in
+        let both_plain : Plain (front ++ r) = subst Plain (sym parts) plain in
+        let some : 0 < length r = omega (arith, length-drop n s, valid.short) in
+        let rest_plain = plain_right front r both_plain in
+        past_run front (s ++ tail) (r ++ tail) Syntax (r ++ tail)
+        (plain_run front (s ++ tail) (r ++ tail) (plain_left front r both_plain) valid.front
+        (ap (λ (l : List ℕ). l ++ tail) (sym parts) ∙ append_assoc front r tail))
+        (no_char (first_plain r rest_plain some 34 refl) (first_plain r rest_plain some 92 refl)
+        no_char_behind)
 
 stops_by : (test : Bool) (p : ℕ → Bool) (b : ℕ) (old : List ℕ) → p b ≡ test
     → begins p (past p old) ≡ false → begins p (cond test (past p old) (b ∷ old)) ≡ false
@@ -229,3 +228,26 @@ invalid_at text at end valid order stops h =
     subst (λ (old : List ℕ). P old (drop (at + valid) text)) parts
     (subst (λ (here : List ℕ). P (s ++ tail) here) left
     (invalid_fault s tail valid h ended (slice_plain text at end order stops)))
+
+-- neither a plain byte nor a mark that ends a part
+pub stopped : (rest : List ℕ) → begins is_plain rest ≡ false → begins (is_byte 34) rest ≡ false
+    → begins (is_byte 92) rest ≡ false → CharsFault rest Syntax rest
+stopped [] plain quote backslash =
+    no_char refl refl (λ c new h.
+    let none : length (encode_utf8 c ++ new) ≡ 0 = sym (ap length h.parts) in
+    absurd (omega (arith, none, length-append (encode_utf8 c) new, length-encode c, (len_utf8_bounds c).0)))
+stopped (b ∷ rest) plain quote backslash =
+    no_char quote backslash (λ c new h.
+    let is : c ≡ b = char_from_byte (b ∷ rest) new c h.parts (not_plain_ascii b plain)
+    (omega arith) in
+    let P : ℕ → Type 0 = λ x. is_plain x ≡ true in
+    let other : is_plain b ≡ true = subst P is (unescaped_plain c h.unescaped) in
+    absurd cc)
+
+-- the same behind a run
+pub stopped_at : (run old rest : List ℕ) → ReadsRun run old rest → rest ≡ past is_plain old
+    → begins (is_byte 34) rest ≡ false → begins (is_byte 92) rest ≡ false
+    → CharsFault old Syntax rest
+stopped_at run old rest r is quote backslash =
+    past_run run old rest Syntax rest r
+    (stopped rest (ap (begins is_plain) is ∙ past_stops is_plain old) quote backslash)

@@ -4,6 +4,8 @@ use Rattle.wire_json.specs.declared.escape.CodeUnit.{CodeUnit}
 use Rattle.wire_json.specs.declared.fault.Fault.{Fault}
 use Rattle.wire_json.specs.declared.fault.FaultKind.{FaultKind}
 use Rattle.wire_json.specs.declared.fault.FaultKind.TheVariants.{Syntax}
+use Rattle.wire_json.specs.declared.fault.JsonError.{JsonError}
+use Rattle.wire_json.specs.declared.fault.JsonError.TheVariants.{Refused, OutOfMemory}
 
 -- the place of what is left, or of the fault
 abbrev pub Answers : List ℕ → Result ℕ Fault → Result (List ℕ) (List ℕ) → Type 0
@@ -30,3 +32,8 @@ abbrev pub AnswersUnit : List ℕ → Result CodeUnit Fault → Result (ℕ × L
 AnswersUnit text (Ok unit) outcome = outcome ≡ Ok (unit.value, drop unit.after text)
 AnswersUnit text (Err fault) outcome =
     (outcome ≡ Err (drop fault.at text)) × (fault.kind ≡ Syntax)
+
+-- what holds of the fault, where it is no want of memory
+abbrev pub IfRefused : JsonError → (Fault → Type 0) → Type 0
+IfRefused (Refused fault) Holds = Holds fault
+IfRefused OutOfMemory Holds = Unit {0}
