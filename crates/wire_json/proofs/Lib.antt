@@ -1,4 +1,9 @@
 pub mod Chars
+pub mod Elements
+pub mod Members
+pub mod Names
+pub mod Nested
 pub mod Numbers
 pub mod Runs
+pub mod Scalars
 pub mod Steps

@@ -48,7 +48,8 @@ pub fn skip_space(text: &[u8], at: usize) -> usize
 /// Passes over a word.
 pub(crate) fn skip_word(text: &[u8], at: usize, word: &[u8]) -> Result<usize, Fault>
     ensures answer { Answers text.now result (word_end word.now (drop at text.now)) }
-    ensures onward { IfOk result (λ after. IsOnward at after text.now) }
+    ensures moves { IfOk result (λ after. after ≡ at + length word.now) }
+    ensures within { IfOk result (λ after. 0 < length word.now → after ≤ length text.now) }
 {
     let mut place = at;
     for byte in word {

@@ -1,5 +1,5 @@
 //! The kinds of values.
-ghost use Rattle.std.specs.Prelude.{◌≡◌, drop};
+ghost use Rattle.std.specs.Prelude.{◌≡◌, ◌<◌, length, drop, OnSome};
 ghost use Rattle.wire_json.specs.Kind.{kind_begun};
 
 use crate::bytes::byte_at;
@@ -18,7 +18,8 @@ pub enum Kind {
 
 /// The kind of value that begins at this byte, of which nothing more is looked at.
 pub fn kind_at(text: &[u8], at: usize) -> Option<Kind>
-    ensures { result ≡ kind_begun (drop at text.now) }
+    ensures kind { result ≡ kind_begun (drop at text.now) }
+    ensures within { OnSome result (at < length text.now) }
 {
     match byte_at(text, at)? {
         b'n' => Some(Kind::Null),

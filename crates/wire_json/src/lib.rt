@@ -2,15 +2,21 @@
 #![tactic(auto)]
 
 mod bytes;
+mod container;
 mod escape;
 mod fault;
 mod kind;
+mod name;
 mod number;
 mod part;
 mod text;
+mod value;
 
 pub use bytes::skip_space;
+pub use container::{Next, first_element, first_member, next_element, next_member, skip_colon};
 pub use fault::{Fault, FaultKind, JsonError};
 pub use kind::{Kind, kind_at};
+pub use name::{read_name, skip_name};
 pub use number::skip_number;
-pub use text::skip_string;
+pub use text::{StringRead, push_string, read_string, skip_string};
+pub use value::{check, skip_value};
