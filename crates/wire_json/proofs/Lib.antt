@@ -7,3 +7,4 @@ pub mod Numbers
 pub mod Runs
 pub mod Scalars
 pub mod Steps
+pub mod Writing

@@ -10,7 +10,7 @@ use Rattle.wire_json.specs.Fault.{MemberFault, MembersFault, MoreMembersFault, f
 use Rattle.wire_json.specs.Json.{Json, depth, Members, no_member, member, members_depth}
 use Rattle.wire_json.specs.Reading.{ReadsValue, ReadsMembers, ReadsMoreMembers}
 use Rattle.wire_json.specs.Text.{ReadsName}
-use Rattle.wire_json.specs.Written.{written, written_string, written_members, written_more_members}
+use Rattle.wire_json.specs.Written.{written, written_name, written_members, written_more_members}
 use Rattle.wire_json.proofs.Elements.{separator}
 
 -- the members from the start on, up to new, with their compact text
@@ -29,7 +29,7 @@ pub record ReadsMember (l : ℕ) (name : List ℕ) (e : Json) (item rest : List 
 
 -- the compact text of a member and of what follows it
 abbrev pub member_text : List ℕ → Json → List ℕ → List ℕ
-member_text name e more = written_string name ++ (58 ∷ (written e ++ more))
+member_text name e more = written_name name ++ (written e ++ more)
 
 -- Members with this compact text were read from the start on, and a member stands at the item: it
 -- and what follows it make all, and a fault of it or behind it is one of all.
@@ -65,18 +65,15 @@ at_first l start other = record {
   past = λ name e rest h k left f. past_member name h.value e rest h.named h.reads h.fits f;
 }
 
--- the compact text of a member, and what follows it
 regroup : (text name : List ℕ) (e : Json) (more : List ℕ)
-    → text ++ member_text name e more
-    ≡ (((text ++ written_string name) ++ 58 ∷ []) ++ written e) ++ more
+    → text ++ member_text name e more ≡ ((text ++ written_name name) ++ written e) ++ more
 regroup text name e more =
-    sym (append_assoc ((text ++ written_string name) ++ 58 ∷ []) (written e) more
-    ∙ append_assoc (text ++ written_string name) (58 ∷ []) (written e ++ more)
-    ∙ append_assoc text (written_string name) (58 ∷ (written e ++ more)))
+    sym (append_assoc (text ++ written_name name) (written e) more
+    ∙ append_assoc text (written_name name) (written e ++ more))
 
 pub behind_one : (l : ℕ) (start item text name : List ℕ) (e : Json) (rest : List ℕ)
     → AtMember l start item text → ReadsMember l name e item rest
-    → BehindMember l start rest (((text ++ written_string name) ++ 58 ∷ []) ++ written e)
+    → BehindMember l start rest ((text ++ written_name name) ++ written e)
 behind_one l start item text name e rest s h = record {
   read = λ ms new more fit.
       let all = s.read name e ms rest new h more fit in
@@ -139,8 +136,7 @@ opened l text start (End after) close = none_at_all l start (drop after text) cl
 
 -- what is written with a member more
 abbrev pub with_member : List ℕ → List ℕ → Json → List ℕ
-with_member written_text name e =
-    ((written_text ++ written_string name) ++ 58 ∷ []) ++ written e
+with_member written_text name e = (written_text ++ written_name name) ++ written e
 
 module _ (l : ℕ) (text start written_text : List ℕ) (place after : ℕ) (name : List ℕ) (e : Json)
     (s : AtMember l start (drop place text) written_text)

@@ -112,6 +112,7 @@ plain_run run old new plain (cs, (scalars, is)) parts = record {
   chars = cs;
   each = unescaped_chars cs scalars (subst Plain (sym is) plain);
   run_is = is;
+  plain = plain;
   parts = parts;
 }
 

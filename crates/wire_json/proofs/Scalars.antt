@@ -1,5 +1,6 @@
 -- Values that are no array and no object.
-use Rattle.std.proofs.Common.{◌≡◌, ℕ, ◌-◌, List, take, drop, Result, Ok, Err, Some, refl, sym, ap, ◌∙◌, subst, arith}
+use Rattle.std.proofs.Common.{◌≡◌, ℕ, ◌-◌, ◌≤◌, Bool, true, false, cond, List, [], ◌∷◌, ◌++◌, take, drop, Result, Ok, Err, Some, refl, sym, ap, ◌∙◌, subst, arith}
+use Rattle.std.proofs.lemmas.Bool.Decides.{nat_tests}
 use Rattle.std.specs.Prelude.{IfOk, IfErr}
 use Rattle.wire_json.specs.declared.fault.Fault.{Fault}
 use Rattle.wire_json.specs.declared.fault.FaultKind.{FaultKind}
@@ -7,19 +8,32 @@ use Rattle.wire_json.specs.declared.fault.FaultKind.TheVariants.{Syntax}
 use Rattle.wire_json.specs.declared.kind.Kind.{Kind}
 use Rattle.wire_json.specs.declared.kind.Kind.TheVariants as kinds
 use Rattle.wire_json.specs.Answer.{Answers, FaultAt, IsBehind}
-use Rattle.wire_json.specs.Bytes.{word_end}
+use Rattle.wire_json.specs.Bytes.{is_byte, word_end}
+use Rattle.wire_json.specs.Compact.{ReadsSimple}
 use Rattle.wire_json.specs.Fault.{StringFault, ValueFault, bad_word, bad_number, bad_string, word_of}
 use Rattle.wire_json.specs.Json.{Json, number, string, depth}
 use Rattle.wire_json.specs.Kind.{kind_begun}
 use Rattle.wire_json.specs.Number.{number_end}
 use Rattle.wire_json.specs.Reading.{ReadsValue}
 use Rattle.wire_json.specs.Text.{ReadsString}
+use Rattle.wire_json.specs.Written.{written}
 use Rattle.wire_json.proofs.Runs.{between_places}
 
--- a value with no value in it is read up to this place
-abbrev pub ReadsScalar : List ℕ → List ℕ → ℕ → Type 0
-ReadsScalar text old after =
-    (json : Json) × ReadsValue json old (drop after text) × (depth json ≡ 0)
+by_byte : (test : Bool) (c x : ℕ) (word rest new : List ℕ) → is_byte c x ≡ test
+    → ((left : List ℕ) → word_end word rest ≡ Ok left → rest ≡ word ++ left)
+    → cond test (word_end word rest) (Err (x ∷ rest)) ≡ Ok new → x ∷ rest ≡ c ∷ (word ++ new)
+by_byte true c x word rest new same others h =
+    let is : x ≡ c = grind (arith, nat_tests) in
+    let behind = others new h in
+    cc
+by_byte false c x word rest new same others h = absurd cc
+
+-- the word stands there
+pub word_parts : (word old new : List ℕ) → word_end word old ≡ Ok new → old ≡ word ++ new
+word_parts [] old new h = cc
+word_parts (c ∷ word) [] new h = absurd cc
+word_parts (c ∷ word) (x ∷ rest) new h =
+    by_byte (is_byte c x) c x word rest new refl (word_parts word rest) h
 
 -- a fault at any depth
 abbrev pub FaultAtAll : List ℕ → List ℕ → Fault → Type 0
@@ -34,10 +48,16 @@ as_syntax text old fault is h l =
 module _ (text old word : List ℕ) where
   pub word_value : (json : Json)
       → ((new : List ℕ) → word_end word old ≡ Ok new → ReadsValue json old new)
-      → depth json ≡ 0 → (r : Result ℕ Fault) → Answers text r (word_end word old)
-      → IfOk r (ReadsScalar text old)
-  word_value json spelled flat (Ok after) h = (json, spelled (drop after text) h, flat)
-  word_value json spelled flat (Err fault) h = tt
+      → depth json ≡ 0 → written json ≡ word → (r : Result ℕ Fault) → Answers text r (word_end word old)
+      → IfOk r (ReadsSimple text old)
+  word_value json spelled flat same (Ok after) h = (
+    json,
+    spelled (drop after text) h,
+    flat,
+    word_parts word old (drop after text) h
+        ∙ ap (λ (l : List ℕ). l ++ drop after text) (sym same),
+  )
+  word_value json spelled flat same (Err fault) h = tt
 
   pub word_fault : (kind : Kind) → kind_begun old ≡ Some kind → word_of kind ≡ Some word
       → (r : Result ℕ Fault) → Answers text r (word_end word old) → IfErr r (FaultAtAll text old)
@@ -47,12 +67,10 @@ module _ (text old word : List ℕ) where
 
 pub number_value : (text : List ℕ) (at : ℕ) (r : Result ℕ Fault)
     → Answers text r (number_end (drop at text)) → IfOk r (λ after. IsBehind at after text)
-    → IfOk r (ReadsScalar text (drop at text))
-number_value text at (Ok after) h behind = (
-  number (take (after - at) (drop at text)),
-  record { parts = between_places text at after (omega (arith, behind.forward)); ends = h },
-  refl,
-)
+    → IfOk r (ReadsSimple text (drop at text))
+number_value text at (Ok after) h behind =
+    let parts = between_places text at after (omega (arith, behind.forward)) in
+    (number (take (after - at) (drop at text)), record { parts = parts; ends = h }, refl, parts)
 number_value text at (Err fault) h behind = tt
 
 pub number_fault : (text old : List ℕ) → kind_begun old ≡ Some kinds.Number
@@ -61,14 +79,15 @@ number_fault text old begun (Ok after) h = tt
 number_fault text old begun (Err fault) (h, syntax) =
     as_syntax text old fault syntax (λ l. bad_number begun h)
 
-pub string_value : (text old : List ℕ) (r : Result ℕ Fault)
+pub string_value : (text old : List ℕ) (levels : ℕ) (r : Result ℕ Fault)
     → IfOk r (λ after. (bytes : List ℕ) × ReadsString bytes old (drop after text))
-    → IfOk r (ReadsScalar text old)
-string_value text old (Ok after) (bytes, h) = (string bytes, h, refl)
-string_value text old (Err fault) h = tt
+    → IfOk r (λ after. (json : Json) × ReadsValue json old (drop after text)
+    × (depth json ≤ levels))
+string_value text old levels (Ok after) (bytes, h) = (string bytes, h, omega arith)
+string_value text old levels (Err fault) h = tt
 
-pub string_fault : (text old : List ℕ) → kind_begun old ≡ Some kinds.String
+pub string_fault : (text old : List ℕ) (levels : ℕ) → kind_begun old ≡ Some kinds.String
     → (r : Result ℕ Fault) → IfErr r (λ fault. FaultAt text fault (StringFault old))
-    → IfErr r (FaultAtAll text old)
-string_fault text old begun (Ok after) h = tt
-string_fault text old begun (Err fault) h = λ l. bad_string begun h
+    → IfErr r (λ fault. FaultAt text fault (ValueFault levels old))
+string_fault text old levels begun (Ok after) h = tt
+string_fault text old levels begun (Err fault) h = bad_string begun h

@@ -1,5 +1,6 @@
 pub mod Answer
 pub mod Bytes
+pub mod Compact
 pub mod Container
 pub mod Fault
 pub mod Json

@@ -1,5 +1,5 @@
 -- Parts of a string: characters as they are, and then an escape or the closing quotation mark.
-use Rattle.std.specs.Prelude.{◌≡◌, ℕ, List, ◌∷◌, ◌++◌, Bool, not, ◌||◌, ◌==◌, nat_lt, Option, Some, None, encode_utf8_all}
+use Rattle.std.specs.Prelude.{◌≡◌, ℕ, List, ◌∷◌, ◌++◌, Bool, true, not, ◌||◌, ◌==◌, nat_lt, Option, Some, None, encode_utf8_all}
 use Rattle.std.specs.List.{AllByRecursion}
 use Rattle.wire_json.specs.Text.{IsUnescaped, ReadsEscape}
 
@@ -12,6 +12,7 @@ pub record ReadsRun (run old new : List ℕ) : Type 0 where
   pub chars : List ℕ
   pub each : AllByRecursion IsUnescaped chars
   pub run_is : encode_utf8_all chars ≡ run
+  pub plain : AllByRecursion (λ b. is_plain b ≡ true) run
   pub parts : old ≡ run ++ new
 
 -- what ends a part

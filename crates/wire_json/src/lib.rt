@@ -11,6 +11,7 @@ mod number;
 mod part;
 mod text;
 mod value;
+mod write;
 
 pub use bytes::skip_space;
 pub use container::{Next, first_element, first_member, next_element, next_member, skip_colon};
@@ -20,3 +21,4 @@ pub use name::{read_name, skip_name};
 pub use number::skip_number;
 pub use text::{StringRead, push_string, read_string, skip_string};
 pub use value::{check, skip_value};
+pub use write::{Mark, write_bool, write_mark, write_name, write_null, write_number, write_string};

@@ -48,7 +48,8 @@ pub(crate) fn read_part<'a>(text: &'a [u8], at: usize) -> Result<Part<'a>, Fault
     })
 }
 
-fn plain_end(text: &[u8], at: usize) -> usize
+/// Passes over plain bytes.
+pub(crate) fn plain_end(text: &[u8], at: usize) -> usize
     ensures plain { drop result text.now ≡ past is_plain (drop at text.now) }
     ensures onward { IsOnward at result text.now }
 {

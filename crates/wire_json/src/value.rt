@@ -5,6 +5,7 @@ ghost use Rattle.wire_json.specs.Bytes.{begins, is_byte};
 ghost use Rattle.wire_json.specs.Fault.{ValueFault, ElementsFault, MembersFault, TextFault};
 ghost use Rattle.wire_json.specs.Json.{Json, Elements, Members, depth, elements_depth, members_depth};
 ghost use Rattle.wire_json.specs.Kind.{kind_begun};
+ghost use Rattle.wire_json.specs.Compact.{ReadsSimple};
 ghost use Rattle.wire_json.specs.Reading.{ReadsValue, ReadsElements, ReadsMembers, Spells};
 
 use crate::bytes::{skip_space, skip_word, syntax};
@@ -39,7 +40,8 @@ pub fn skip_value(text: &[u8], at: usize, levels: u32) -> Result<usize, Fault>
             }
             skip_members(text, at, levels - 1)
         }
-        Some(kind) => skip_scalar(text, at, kind),
+        Some(Kind::String) => skip_string(text, at),
+        Some(kind) => skip_simple(text, at, kind),
     }
 }
 
@@ -90,13 +92,13 @@ fn skip_members(text: &[u8], at: usize, levels: u32) -> Result<usize, Fault>
     }
 }
 
-/// Passes over a value that is no array and no object.
-pub(crate) fn skip_scalar(text: &[u8], at: usize, kind: Kind) -> Result<usize, Fault>
+/// Passes over a number or a word, whose compact text it is.
+pub(crate) fn skip_simple(text: &[u8], at: usize, kind: Kind) -> Result<usize, Fault>
     requires kind { kind_begun (drop at text.now) ≡ Some kind }
+    requires no_string { kind ≢ Kind.String }
     requires no_array { kind ≢ Kind.Array }
     requires no_object { kind ≢ Kind.Object }
-    ensures ok { IfOk result (λ after. (json : Json)
-        × ReadsValue json (drop at text.now) (drop after text.now) × (depth json ≡ 0)) }
+    ensures ok { IfOk result (ReadsSimple text.now (drop at text.now)) }
     ensures behind { IfOk result (λ after. IsBehind at after text.now) }
     ensures fault { IfErr result (λ fault. (l : ℕ)
         → FaultAt text.now fault (ValueFault l (drop at text.now))) }
@@ -106,8 +108,7 @@ pub(crate) fn skip_scalar(text: &[u8], at: usize, kind: Kind) -> Result<usize, F
         Kind::True => skip_word(text, at, b"true"),
         Kind::False => skip_word(text, at, b"false"),
         Kind::Number => skip_number(text, at),
-        Kind::String => skip_string(text, at),
-        Kind::Array | Kind::Object => unreachable!(),
+        Kind::String | Kind::Array | Kind::Object => unreachable!(),
     }
 }
 

@@ -6,6 +6,7 @@ use Rattle.wire_json.specs.Kind.{kind_begun}
 use Rattle.wire_json.proofs.Elements as elements
 use Rattle.wire_json.proofs.Members as members
 use Rattle.wire_json.proofs.Nested.{behind_further, array_value, array_fault, object_value, object_fault}
+use Rattle.wire_json.proofs.Scalars.{string_value, string_fault}
 use Rattle.wire_json.proofs.value.+value.Goals as goal
 
 -- ---- arrays
@@ -174,3 +175,14 @@ pub skip_value-returns-in-None-clause-fault : goal.skip_value-returns-in-None-cl
 skip_value-returns-in-None-clause-fault t c =
     let none : kind_begun (drop c.args.at c.args.text.now) ≡ None = cc in
     rw c.syntax.ensures (no_value none)
+
+pub skip_value-returns-in-Some-String-clause-ok : goal.skip_value-returns-in-Some-String-clause-ok
+skip_value-returns-in-Some-String-clause-ok t c =
+    string_value c.args.text.now (drop c.args.at c.args.text.now) c.args.levels
+    c.skip_string.result c.skip_string.ensures.ok
+
+pub skip_value-returns-in-Some-String-clause-fault : goal.skip_value-returns-in-Some-String-clause-fault
+skip_value-returns-in-Some-String-clause-fault t c =
+    let begun : kind_begun (drop c.args.at c.args.text.now) ≡ Some kinds.String = cc in
+    string_fault c.args.text.now (drop c.args.at c.args.text.now) c.args.levels begun
+    c.skip_string.result c.skip_string.ensures.fault

@@ -2,13 +2,13 @@ use Rattle.std.proofs.Common.{Bool, true, false, ap, drop, refl, ◌∙◌, Some
 use Rattle.std.specs.Prelude.{codes}
 use Rattle.wire_json.specs.Json.{null, boolean}
 use Rattle.wire_json.specs.declared.kind.Kind.TheVariants as kinds
-use Rattle.wire_json.proofs.Scalars.{word_value, word_fault, number_value, number_fault, string_value, string_fault}
-use Rattle.wire_json.proofs.value.skip_scalar.Goals as goal
+use Rattle.wire_json.proofs.Scalars.{word_value, word_fault, number_value, number_fault}
+use Rattle.wire_json.proofs.value.skip_simple.Goals as goal
 
 pub returns-in-Null-clause-ok : goal.returns-in-Null-clause-ok
 returns-in-Null-clause-ok c =
     word_value c.args.text.now (drop c.args.at c.args.text.now) (codes "null") null (λ new h. h)
-    refl c.skip_word.result c.skip_word.ensures.answer
+    refl refl c.skip_word.result c.skip_word.ensures.answer
 
 pub returns-in-Null-clause-fault : goal.returns-in-Null-clause-fault
 returns-in-Null-clause-fault c =
@@ -18,7 +18,7 @@ returns-in-Null-clause-fault c =
 pub returns-in-True-clause-ok : goal.returns-in-True-clause-ok
 returns-in-True-clause-ok c =
     word_value c.args.text.now (drop c.args.at c.args.text.now) (codes "true") (boolean true) (λ new h. h)
-    refl c.skip_word-in-True.result c.skip_word-in-True.ensures.answer
+    refl refl c.skip_word-in-True.result c.skip_word-in-True.ensures.answer
 
 pub returns-in-True-clause-fault : goal.returns-in-True-clause-fault
 returns-in-True-clause-fault c =
@@ -28,7 +28,7 @@ returns-in-True-clause-fault c =
 pub returns-in-False-clause-ok : goal.returns-in-False-clause-ok
 returns-in-False-clause-ok c =
     word_value c.args.text.now (drop c.args.at c.args.text.now) (codes "false") (boolean false) (λ new h. h)
-    refl c.skip_word-in-False.result c.skip_word-in-False.ensures.answer
+    refl refl c.skip_word-in-False.result c.skip_word-in-False.ensures.answer
 
 pub returns-in-False-clause-fault : goal.returns-in-False-clause-fault
 returns-in-False-clause-fault c =
@@ -44,13 +44,3 @@ pub returns-in-Number-clause-fault : goal.returns-in-Number-clause-fault
 returns-in-Number-clause-fault c =
     number_fault c.args.text.now (drop c.args.at c.args.text.now)
     (c.requires.kind ∙ ap Some c.in-Number.is) c.skip_number.result c.skip_number.ensures.answer
-
-pub returns-in-String-clause-ok : goal.returns-in-String-clause-ok
-returns-in-String-clause-ok c =
-    string_value c.args.text.now (drop c.args.at c.args.text.now) c.skip_string.result
-    c.skip_string.ensures.ok
-
-pub returns-in-String-clause-fault : goal.returns-in-String-clause-fault
-returns-in-String-clause-fault c =
-    string_fault c.args.text.now (drop c.args.at c.args.text.now)
-    (c.requires.kind ∙ ap Some c.in-String.is) c.skip_string.result c.skip_string.ensures.fault

@@ -1,0 +1,58 @@
+-- The compact text of a string, run by run.
+use Rattle.std.proofs.Common.{◌≡◌, ℕ, ◌+◌, ◌-◌, ◌≤◌, Bool, true, false, List, [], ◌∷◌, ◌++◌, take, drop, refl, sym, ap, ◌∙◌, append_assoc, append-nil, arith}
+use Rattle.std.proofs.lemmas.Bool.Decides.{nat_tests}
+use Rattle.wire_json.specs.Bytes.{begins, past}
+use Rattle.wire_json.specs.Part.{is_plain}
+use Rattle.wire_json.specs.Written.{written_byte, written_bytes}
+use Rattle.wire_json.proofs.Runs.{Plain, between_places, past_stops, slice_plain}
+
+-- a plain byte is written as it is
+pub plain_written : (b : ℕ) → is_plain b ≡ true → written_byte b ≡ b ∷ []
+plain_written b h = grind (arith, nat_tests)
+
+pub run_written : (run rest : List ℕ) → Plain run
+    → written_bytes (run ++ rest) ≡ run ++ written_bytes rest
+run_written [] rest plain = refl
+run_written (b ∷ run) rest (one, others) =
+    ap (λ (l : List ℕ). l ++ written_bytes (run ++ rest)) (plain_written b one)
+    ∙ ap (λ (l : List ℕ). b ∷ l) (run_written run rest others)
+
+-- the bytes up to the next that is to be escaped
+pub run_between : (bytes : List ℕ) (place end : ℕ) → place ≤ end
+    → drop end bytes ≡ past is_plain (drop place bytes)
+    → written_bytes (drop place bytes)
+    ≡ take (end - place) (drop place bytes) ++ written_bytes (drop end bytes)
+run_between bytes place end order stops =
+    ap written_bytes (between_places bytes place end order)
+    ∙ run_written (take (end - place) (drop place bytes)) (drop end bytes)
+    (slice_plain bytes place end order stops)
+
+pub escape_next : (bytes : List ℕ) (place end byte : ℕ)
+    → drop end bytes ≡ past is_plain (drop place bytes)
+    → drop end bytes ≡ byte ∷ drop (end + 1) bytes → is_plain byte ≡ false
+escape_next bytes place end byte stops here =
+    ap (begins is_plain) (sym here ∙ stops) ∙ past_stops is_plain (drop place bytes)
+
+-- one run and one escape more
+pub goes_on : (bytes old now : List ℕ) (place end byte : ℕ) → place ≤ end
+    → drop end bytes ≡ past is_plain (drop place bytes)
+    → drop end bytes ≡ byte ∷ drop (end + 1) bytes
+    → now ++ written_bytes (drop place bytes) ≡ old ++ written_bytes bytes
+    → ((now ++ take (end - place) (drop place bytes)) ++ written_byte byte)
+    ++ written_bytes (drop (end + 1) bytes) ≡ old ++ written_bytes bytes
+goes_on bytes old now place end byte order stops here all =
+    let run = take (end - place) (drop place bytes) in
+    append_assoc (now ++ run) (written_byte byte) (written_bytes (drop (end + 1) bytes))
+    ∙ ap (λ (l : List ℕ). (now ++ run) ++ written_bytes l) (sym here)
+    ∙ append_assoc now run (written_bytes (drop end bytes))
+    ∙ ap (λ (l : List ℕ). now ++ l) (sym (run_between bytes place end order stops)) ∙ all
+
+pub ends : (bytes old now : List ℕ) (place end : ℕ) → place ≤ end
+    → drop end bytes ≡ past is_plain (drop place bytes) → drop end bytes ≡ []
+    → now ++ written_bytes (drop place bytes) ≡ old ++ written_bytes bytes
+    → now ++ take (end - place) (drop place bytes) ≡ old ++ written_bytes bytes
+ends bytes old now place end order stops here all =
+    let run = take (end - place) (drop place bytes) in
+    ap (λ (l : List ℕ). now ++ l) (sym (append-nil run)
+    ∙ ap (λ (l : List ℕ). run ++ written_bytes l) (sym here)
+    ∙ sym (run_between bytes place end order stops)) ∙ all
