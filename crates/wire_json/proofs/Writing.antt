@@ -56,3 +56,33 @@ ends bytes old now place end order stops here all =
     ap (λ (l : List ℕ). now ++ l) (sym (append-nil run)
     ∙ ap (λ (l : List ℕ). run ++ written_bytes l) (sym here)
     ∙ sym (run_between bytes place end order stops)) ∙ all
+
+-- the text of one part behind that of another
+pub written-append : (xs ys : List ℕ)
+    → written_bytes (xs ++ ys) ≡ written_bytes xs ++ written_bytes ys
+written-append [] ys = refl
+written-append (b ∷ xs) ys =
+    ap (λ (l : List ℕ). written_byte b ++ l) (written-append xs ys)
+    ∙ sym (append_assoc (written_byte b) (written_bytes xs) (written_bytes ys))
+
+pub plain_as_it_is : (run : List ℕ) → Plain run → written_bytes run ≡ run
+plain_as_it_is run plain =
+    ap written_bytes (sym (append-nil run)) ∙ run_written run [] plain ∙ append-nil run
+
+-- a run more
+pub run_more : (old bytes run : List ℕ) → Plain run
+    → (old ++ written_bytes bytes) ++ run ≡ old ++ written_bytes (bytes ++ run)
+run_more old bytes run plain =
+    append_assoc old (written_bytes bytes) run
+    ∙ ap (λ (l : List ℕ). old ++ l) (ap (λ (l : List ℕ). written_bytes bytes ++ l)
+    (sym (plain_as_it_is run plain)) ∙ sym (written-append bytes run))
+
+-- a run and a character more
+pub char_more : (old before bytes run char : List ℕ) → Plain run
+    → before ≡ old ++ written_bytes bytes
+    → (before ++ run) ++ written_bytes char ≡ old ++ written_bytes ((bytes ++ run) ++ char)
+char_more old before bytes run char plain is =
+    ap (λ (l : List ℕ). (l ++ run) ++ written_bytes char) is
+    ∙ ap (λ (l : List ℕ). l ++ written_bytes char) (run_more old bytes run plain)
+    ∙ append_assoc old (written_bytes (bytes ++ run)) (written_bytes char)
+    ∙ ap (λ (l : List ℕ). old ++ l) (sym (written-append (bytes ++ run) char))

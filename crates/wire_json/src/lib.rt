@@ -10,6 +10,7 @@ mod name;
 mod number;
 mod part;
 mod text;
+mod transcribe;
 mod value;
 mod write;
 

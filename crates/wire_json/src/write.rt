@@ -31,7 +31,7 @@ pub fn write_mark(out: &mut Vec<u8>, mark: Mark) -> Result<(), AllocError>
         Mark::EndObject => b'}',
         Mark::Comma => b',',
     };
-    Ok(out.push(byte)?)
+    write_byte(out, byte)
 }
 
 /// Writes `null`. Memory that is refused leaves the vector as it was.
@@ -68,9 +68,9 @@ pub fn write_string(out: &mut Vec<u8>, text: &str) -> Result<(), AllocError>
     ensures ok { OnOk result (out.new.items ≡ out.old.items ++ written_string text.now) }
     ensures err { OnErr result (Extends out.old.items out.new.items) }
 {
-    out.push(b'"')?;
+    write_byte(out, b'"')?;
     write_bytes(out, text.as_bytes())?;
-    Ok(out.push(b'"')?)
+    write_byte(out, b'"')
 }
 
 /// Writes the name of a member, and its colon. A front of it may stand in the vector where memory
@@ -80,7 +80,15 @@ pub fn write_name(out: &mut Vec<u8>, name: &str) -> Result<(), AllocError>
     ensures err { OnErr result (Extends out.old.items out.new.items) }
 {
     write_string(out, name)?;
-    Ok(out.push(b':')?)
+    write_byte(out, b':')
+}
+
+/// Writes one byte.
+pub(crate) fn write_byte(out: &mut Vec<u8>, byte: u8) -> Result<(), AllocError>
+    ensures ok { OnOk result (out.new.items ≡ out.old.items ++ byte ∷ []) }
+    ensures err { OnErr result (out.new.items ≡ out.old.items) }
+{
+    Ok(out.push(byte)?)
 }
 
 /// Writes bytes of a string, with escapes where they are wanted.
