@@ -5,7 +5,7 @@ use Rattle.wire_json.specs.declared.container.Next.TheVariants.{Item, End}
 use Rattle.wire_json.specs.declared.fault.FaultKind.{FaultKind}
 use Rattle.wire_json.specs.declared.fault.FaultKind.TheVariants.{Syntax}
 use Rattle.wire_json.specs.Bytes.{begins, is_byte, past_space}
-use Rattle.wire_json.specs.Container.{FirstItem, NextItem, NoNext}
+use Rattle.wire_json.specs.Container.{FirstItem, NextItem, NoNext, separator}
 use Rattle.wire_json.specs.Fault.{no_comma, ValueFault, ElementsFault, MoreElementsFault, first_element, past_element, next_element, past_next}
 use Rattle.wire_json.specs.Json.{Json, depth, Elements, no_element, element, elements_depth}
 use Rattle.wire_json.specs.Reading.{ReadsValue, ReadsElements, ReadsMoreElements}
@@ -107,11 +107,6 @@ opened l text start (Item place) (here, other) =
     let P : List ℕ → Type 0 = λ item. AtElement l start item [] in
     subst P (sym here) (at_first l start other)
 opened l text start (End after) close = none_at_all l start (drop after text) close
-
--- a comma, where an array or an object goes on
-abbrev pub separator : Next → List ℕ
-separator (Item place) = 44 ∷ []
-separator (End after) = []
 
 -- how much of the text is left there, and no less than 1 but at the end
 abbrev pub left_at : List ℕ → Next → ℕ

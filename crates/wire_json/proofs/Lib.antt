@@ -1,4 +1,5 @@
 pub mod Chars
+pub mod Compacting
 pub mod Elements
 pub mod Members
 pub mod Names

@@ -5,13 +5,12 @@ use Rattle.wire_json.specs.declared.container.Next.TheVariants.{Item, End}
 use Rattle.wire_json.specs.declared.fault.FaultKind.{FaultKind}
 use Rattle.wire_json.specs.declared.fault.FaultKind.TheVariants.{Syntax}
 use Rattle.wire_json.specs.Bytes.{begins, is_byte, past_space}
-use Rattle.wire_json.specs.Container.{FirstItem, NextItem, NoNext}
+use Rattle.wire_json.specs.Container.{FirstItem, NextItem, NoNext, separator}
 use Rattle.wire_json.specs.Fault.{MemberFault, MembersFault, MoreMembersFault, first_member, past_member, next_member, past_next_member, no_comma_or_brace}
 use Rattle.wire_json.specs.Json.{Json, depth, Members, no_member, member, members_depth}
 use Rattle.wire_json.specs.Reading.{ReadsValue, ReadsMembers, ReadsMoreMembers}
 use Rattle.wire_json.specs.Text.{ReadsName}
 use Rattle.wire_json.specs.Written.{written, written_name, written_members, written_more_members}
-use Rattle.wire_json.proofs.Elements.{separator}
 
 -- the members from the start on, up to new, with their compact text
 pub record Whole (l : ℕ) (start new text : List ℕ) : Type 0 where

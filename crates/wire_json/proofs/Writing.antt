@@ -2,6 +2,7 @@
 use Rattle.std.proofs.Common.{◌≡◌, ℕ, ◌+◌, ◌-◌, ◌≤◌, Bool, true, false, List, [], ◌∷◌, ◌++◌, take, drop, refl, sym, ap, ◌∙◌, append_assoc, append-nil, arith}
 use Rattle.std.proofs.lemmas.Bool.Decides.{nat_tests}
 use Rattle.wire_json.specs.Bytes.{begins, past}
+use Rattle.wire_json.specs.Compact.{Extends}
 use Rattle.wire_json.specs.Part.{is_plain}
 use Rattle.wire_json.specs.Written.{written_byte, written_bytes}
 use Rattle.wire_json.proofs.Runs.{Plain, between_places, past_stops, slice_plain}
@@ -86,3 +87,14 @@ char_more old before bytes run char plain is =
     ∙ ap (λ (l : List ℕ). l ++ written_bytes char) (run_more old bytes run plain)
     ∙ append_assoc old (written_bytes (bytes ++ run)) (written_bytes char)
     ∙ ap (λ (l : List ℕ). old ++ l) (sym (written-append (bytes ++ run) char))
+
+-- ---- what was put behind what there was
+
+pub grows : (old now sofar more : List ℕ) (first : ℕ) → now ≡ old ++ first ∷ sofar
+    → now ++ more ≡ old ++ first ∷ (sofar ++ more)
+grows old now sofar more first is =
+    ap (λ (l : List ℕ). l ++ more) is ∙ append_assoc old (first ∷ sofar) more
+
+pub extends_further : (old now new : List ℕ) → Extends old now → Extends now new → Extends old new
+extends_further old now new (front, is) (more, then) =
+    (front ++ more, then ∙ ap (λ (l : List ℕ). l ++ more) is ∙ append_assoc old front more)

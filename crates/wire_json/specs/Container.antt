@@ -1,5 +1,5 @@
 -- Steps through an array or an object.
-use Rattle.std.specs.Prelude.{◌≡◌, ℕ, ◌≤◌, false, List, ◌∷◌, drop}
+use Rattle.std.specs.Prelude.{◌≡◌, ℕ, ◌≤◌, false, List, [], ◌∷◌, drop}
 use Rattle.wire_json.specs.declared.container.Next.{Next}
 use Rattle.wire_json.specs.declared.container.Next.TheVariants.{Item, End}
 use Rattle.wire_json.specs.declared.fault.FaultKind.{FaultKind}
@@ -44,3 +44,8 @@ NoColon behind k left =
 abbrev pub NextIsBehind : ℕ → Next → List ℕ → Type 0
 NextIsBehind at (Item place) text = at ≤ place
 NextIsBehind at (End after) text = IsBehind at after text
+
+-- a comma, where an array or an object goes on
+abbrev pub separator : Next → List ℕ
+separator (Item place) = 44 ∷ []
+separator (End after) = []

@@ -2,6 +2,7 @@
 #![tactic(auto)]
 
 mod bytes;
+mod compaction;
 mod container;
 mod escape;
 mod fault;
@@ -15,6 +16,7 @@ mod value;
 mod write;
 
 pub use bytes::skip_space;
+pub use compaction::compact;
 pub use container::{Next, first_element, first_member, next_element, next_member, skip_colon};
 pub use fault::{Fault, FaultKind, JsonError};
 pub use kind::{Kind, kind_at};

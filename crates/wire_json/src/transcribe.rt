@@ -16,11 +16,7 @@ use crate::write::{write_byte, write_bytes};
 use std::alloc::AllocError;
 
 /// Reads a string and writes its compact text.
-pub(crate) fn copy_string(
-    text: &[u8],
-    at: usize,
-    out: &mut Vec<u8>,
-) -> Result<usize, JsonError>
+pub(crate) fn copy_string(text: &[u8], at: usize, out: &mut Vec<u8>) -> Result<usize, JsonError>
     ensures ok { IfOk result (λ after. PutsString (drop at text.now) (drop after text.now)
         out.old.items out.new.items) }
     ensures behind { IfOk result (λ after. IsBehind at after text.now) }

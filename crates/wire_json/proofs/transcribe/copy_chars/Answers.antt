@@ -14,8 +14,7 @@ returns-in-None-clause-ok c =
     let old = c.args.out.now.items in
     let read = rw c.in-None.is at c.in_ok-part.ensures.ok in
     let (chars, reads, is) = part_ends (drop c.args.at text) (drop c.loop-part.place text) bytes
-    run (drop part.after text) sofar read in
-    (
+    run (drop part.after text) sofar read in (
       chars,
       reads,
       c.in_ok-extend_from_slice.ensures.items
@@ -37,7 +36,7 @@ loop-part-preserved c =
       sofar = (
         (bytes ++ run) ++ char,
         part_more (drop c.args.at text) (drop c.loop-part.place text) bytes run
-        c.in-Some.character (drop part.after text) sofar read,
+            c.in-Some.character (drop part.after text) sofar read,
         c.in_ok-write_char-in-Some.ensures.ok
             ∙ ap (λ (l : List ℕ). l ++ written_bytes char)
             (c.in_ok-extend_from_slice.ensures.items
