@@ -5,6 +5,7 @@ pub mod Members
 pub mod Names
 pub mod Nested
 pub mod Numbers
+pub mod OneReading
 pub mod Runs
 pub mod Scalars
 pub mod Steps

@@ -5,6 +5,7 @@ pub mod Container
 pub mod Fault
 pub mod Json
 pub mod Kind
+pub mod Laws
 pub mod Number
 pub mod Part
 pub mod Reading

@@ -7,6 +7,7 @@ mod container;
 mod escape;
 mod fault;
 mod kind;
+pub mod laws;
 mod name;
 mod number;
 mod part;
