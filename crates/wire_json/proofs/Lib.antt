@@ -1,3 +1,4 @@
+pub mod Beside
 pub mod Chars
 pub mod Compacting
 pub mod Elements
@@ -5,8 +6,10 @@ pub mod Members
 pub mod Names
 pub mod Nested
 pub mod Numbers
+pub mod NumberTexts
 pub mod OneReading
 pub mod Runs
 pub mod Scalars
 pub mod Steps
+pub mod WrittenLaws
 pub mod Writing

@@ -1,5 +1,5 @@
 //! Laws of the definitions that the contracts cite: each function is a theorem, and does nothing.
-ghost use Rattle.wire_json.specs.Laws.{OneValue, OneReading};
+ghost use Rattle.wire_json.specs.Laws.{OneValue, OneReading, NoValueBesideFault, NoTextBesideFault, WrittenReadsBack, WrittenSpells};
 
 /// Of the same bytes one value is read, and one rest is left.
 pub fn one_value()
@@ -9,4 +9,25 @@ pub fn one_value()
 /// A text spells one value at most.
 pub fn one_reading()
     ensures { OneReading }
+{}
+
+/// Where a fault stands no value is read that nests so deep.
+pub fn no_value_beside_fault()
+    ensures { NoValueBesideFault }
+{}
+
+/// A text with a fault spells no value that nests so deep.
+pub fn no_text_beside_fault()
+    ensures { NoTextBesideFault }
+{}
+
+/// The compact text of a lawful value is read as that value, whatever follows, where that goes on
+/// no number.
+pub fn written_reads_back()
+    ensures { WrittenReadsBack }
+{}
+
+/// The compact text of a lawful value spells it.
+pub fn written_spells()
+    ensures { WrittenSpells }
 {}

@@ -11,6 +11,8 @@ pub mod laws;
 mod name;
 mod number;
 mod part;
+#[cfg(test)]
+mod tests;
 mod text;
 mod transcribe;
 mod value;

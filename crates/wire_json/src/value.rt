@@ -1,5 +1,5 @@
 //! Values that are passed over.
-ghost use Rattle.std.specs.Prelude.{◌≡◌, ◌≢◌, ◌≤◌, ◌∷◌, ℕ, List, true, Some, length, drop, OnOk, IfOk, IfErr};
+ghost use Rattle.std.specs.Prelude.{◌≡◌, ◌≢◌, ◌≤◌, ◌∷◌, ℕ, List, true, Some, length, drop, OnOk, OnErr, IfOk, IfErr};
 ghost use Rattle.wire_json.specs.Answer.{FaultAt, IsBehind};
 ghost use Rattle.wire_json.specs.Bytes.{begins, is_byte};
 ghost use Rattle.wire_json.specs.Fault.{ValueFault, ElementsFault, MembersFault, TextFault};
@@ -125,6 +125,7 @@ pub(crate) fn too_deep(at: usize) -> Fault
 /// objects stand in one another; else its first fault.
 pub fn check(text: &[u8], levels: u32) -> Result<(), Fault>
     ensures ok { OnOk result ((json : Json) × Spells text.now json × (depth json ≤ levels)) }
+    ensures refused { OnErr result ((json : Json) → Spells text.now json → depth json ≤ levels → ⊥) }
     ensures fault { IfErr result (λ fault.
         FaultAt text.now fault (TextFault levels text.now)) }
 {

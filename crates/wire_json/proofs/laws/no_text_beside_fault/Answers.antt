@@ -1,0 +1,5 @@
+use Rattle.wire_json.proofs.Beside.{no_text_beside_fault_lemma}
+use Rattle.wire_json.proofs.laws.no_text_beside_fault.Goals as goal
+
+pub returns : goal.returns
+returns c = no_text_beside_fault_lemma
