@@ -1,15 +1,15 @@
 -- No value is read where a fault stands.
-use Rattle.std.proofs.Common.{◌≡◌, inl, inr, ℕ, suc, ◌≤◌, Bool, true, false, List, [], ◌∷◌, Option, Some, None, Ok, Err, refl, sym, ap, ◌∙◌, subst, arith}
+use Rattle.std.proofs.Common.{◌≡◌, inl, inr, ℕ, ◌≤◌, Bool, true, false, List, [], ◌∷◌, Option, Some, None, Ok, Err, refl, sym, ap, ◌∙◌, subst, arith}
 use Rattle.std.specs.Prelude.{codes}
 use Rattle.wire_json.specs.declared.fault.FaultKind.{FaultKind}
 use Rattle.wire_json.specs.declared.kind.Kind.{Kind}
 use Rattle.wire_json.specs.declared.kind.Kind.TheVariants as kinds
 use Rattle.wire_json.specs.Bytes.{begins, is_byte, past_space, word_end}
-use Rattle.wire_json.specs.Fault.{CharsFault, no_char, bad_escape, past_char, StringFault, no_quote, in_string, NameFault, no_name, no_colon, ValueFault, no_value, bad_word, bad_number, bad_string, deep_array, deep_object, in_array, in_object, word_of, ElementsFault, first_element, past_element, MoreElementsFault, no_comma, next_element, past_next, MemberFault, bad_name, bad_value, MembersFault, first_member, past_member, MoreMembersFault, no_comma_or_brace, next_member, past_next_member, TextFault, in_value, behind_value}
+use Rattle.wire_json.specs.Fault.{CharsFault, no_char, bad_escape, past_char, StringFault, no_quote, in_string, NameFault, no_name, no_colon, ValueFault, no_value, bad_word, bad_number, bad_string, deep_array, deep_object, in_array, in_object, word_of, ElementsFault, first_element, past_element, MoreElementsFault, no_comma, next_element, past_next, MemberFault, bad_name, bad_value, MembersFault, first_member, past_member, MoreMembersFault, no_comma_or_brace, next_member, past_next_member, in_value, behind_value}
 use Rattle.wire_json.specs.Json.{Json, null, boolean, number, string, array, object, depth, Elements, no_element, element, elements_depth, Members, no_member, member, members_depth}
 use Rattle.wire_json.specs.Kind.{kind_begun}
 use Rattle.wire_json.specs.Laws.{NoValueBesideFault, NoTextBesideFault}
-use Rattle.wire_json.specs.Reading.{ReadsValue, ReadsElements, ReadsMoreElements, ReadsMembers, ReadsMoreMembers, Spells}
+use Rattle.wire_json.specs.Reading.{ReadsValue, ReadsElements, ReadsMoreElements, ReadsMembers, ReadsMoreMembers}
 use Rattle.wire_json.specs.Text.{ReadsChars, ReadsString, ReadsName}
 use Rattle.wire_json.proofs.OneReading.{no_char_at_quote, not_here, ok_or_err, one_char, one_head, one_name, one_string, one_tail, one_value_lemma, reads_shape, shape, shape_begun, shape_small, unescaped_byte}
 use Rattle.wire_json.proofs.Scalars.{word_parts}

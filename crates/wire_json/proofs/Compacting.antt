@@ -1,5 +1,5 @@
 -- Values that are written as they are read.
-use Rattle.std.proofs.Common.{◌≡◌, ℕ, ◌-◌, ◌<◌, ◌≤◌, List, ◌∷◌, ◌++◌, drop, Result, Ok, Err, Some, subst, arith}
+use Rattle.std.proofs.Common.{◌≡◌, ℕ, ◌-◌, ◌<◌, List, ◌∷◌, drop, Result, Ok, Err, Some, subst, arith}
 use Rattle.std.specs.Prelude.{IfOk, IfErr}
 use Rattle.wire_json.specs.declared.fault.Fault.{Fault}
 use Rattle.wire_json.specs.declared.fault.JsonError.{JsonError}

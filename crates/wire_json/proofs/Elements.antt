@@ -1,5 +1,5 @@
 -- The elements of an array so far.
-use Rattle.std.proofs.Common.{◌≡◌, ℕ, suc, ◌-◌, ◌≤◌, false, List, [], ◌∷◌, ◌++◌, length, drop, max, refl, sym, ap, subst, ◌∙◌, append_assoc, append-nil, arith}
+use Rattle.std.proofs.Common.{◌≡◌, ℕ, suc, ◌-◌, ◌≤◌, false, List, [], ◌∷◌, ◌++◌, length, drop, refl, sym, subst, ◌∙◌, append_assoc, append-nil, arith}
 use Rattle.wire_json.specs.declared.container.Next.{Next}
 use Rattle.wire_json.specs.declared.container.Next.TheVariants.{Item, End}
 use Rattle.wire_json.specs.declared.fault.FaultKind.{FaultKind}

@@ -1,12 +1,10 @@
 -- The name of a member, and its colon.
-use Rattle.std.proofs.Common.{◌≡◌, ℕ, List, drop, sym, subst}
-use Rattle.wire_json.specs.declared.fault.Fault.{Fault}
+use Rattle.std.proofs.Common.{ℕ, List, sym, subst}
 use Rattle.wire_json.specs.declared.fault.FaultKind.{FaultKind}
 use Rattle.wire_json.specs.declared.fault.FaultKind.TheVariants.{Syntax}
 use Rattle.wire_json.specs.declared.fault.JsonError.{JsonError}
 use Rattle.wire_json.specs.declared.fault.JsonError.TheVariants.{Refused, OutOfMemory}
 use Rattle.wire_json.specs.Answer.{FaultAt, IfRefused}
-use Rattle.wire_json.specs.Bytes.{past_space}
 use Rattle.wire_json.specs.Container.{NoColon}
 use Rattle.wire_json.specs.Fault.{StringFault, NameFault, no_name, no_colon}
 use Rattle.wire_json.specs.Text.{ReadsString}

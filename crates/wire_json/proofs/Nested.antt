@@ -4,7 +4,7 @@ use Rattle.std.specs.Prelude.{IfOk, IfErr}
 use Rattle.wire_json.specs.declared.container.Next.{Next}
 use Rattle.wire_json.specs.declared.container.Next.TheVariants.{Item, End}
 use Rattle.wire_json.specs.declared.fault.Fault.{Fault}
-use Rattle.wire_json.specs.Answer.{FaultAt, IsBehind}
+use Rattle.wire_json.specs.Answer.{FaultAt}
 use Rattle.wire_json.specs.Container.{NextIsBehind}
 use Rattle.wire_json.specs.Fault.{ValueFault, ElementsFault, MembersFault, in_array, in_object}
 use Rattle.wire_json.specs.Json.{Json, array, object, Elements, Members, depth, elements_depth, members_depth}

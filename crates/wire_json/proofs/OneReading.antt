@@ -1,5 +1,5 @@
 -- Of the same bytes one value is read.
-use Rattle.std.proofs.Common.{◌≡◌, ◌≢◌, ◌⊎◌, inl, inr, ℕ, ◌<◌, Bool, true, false, List, [], ◌∷◌, ◌++◌, length, get_or, Option, Some, None, Result, Ok, Err, refl, sym, ap, ◌∙◌, subst, arith}
+use Rattle.std.proofs.Common.{◌≡◌, ◌⊎◌, inl, inr, ℕ, ◌<◌, Bool, true, false, List, [], ◌∷◌, ◌++◌, length, get_or, Option, Some, None, Result, Ok, Err, refl, sym, ap, ◌∙◌, subst, arith}
 use Rattle.std.proofs.lemmas.Bool.Decides.{nat_tests}
 use Rattle.std.proofs.lemmas.List.{append_cancel_right}
 use Rattle.std.proofs.lemmas.Str.{char_from_byte, encode_same}
@@ -11,9 +11,9 @@ use Rattle.wire_json.specs.Bytes.{begins, is_byte, past_space, word_end}
 use Rattle.wire_json.specs.Json.{Json, null, boolean, number, string, array, object, Elements, no_element, element, Members, no_member, member}
 use Rattle.wire_json.specs.Kind.{kind_by, kind_begun}
 use Rattle.wire_json.specs.Laws.{OneValue, OneReading}
-use Rattle.wire_json.specs.Number.{ReadsNumber, number_end}
-use Rattle.wire_json.specs.Reading.{ReadsValue, ReadsElements, ReadsMoreElements, ReadsMembers, ReadsMoreMembers, Spells}
-use Rattle.wire_json.specs.Text.{ReadsUnescaped, ReadsEscape, ReadsChar, ReadsChars, ReadsString, ReadsName}
+use Rattle.wire_json.specs.Number.{number_end}
+use Rattle.wire_json.specs.Reading.{ReadsValue, ReadsElements, ReadsMoreElements, ReadsMembers, ReadsMoreMembers}
+use Rattle.wire_json.specs.Text.{ReadsUnescaped, ReadsChar, ReadsChars, ReadsString, ReadsName}
 use Rattle.wire_json.proofs.Scalars.{word_parts}
 
 pub one_ok : {A E : Type 0} (r : Result A E) (x y : A) → r ≡ Ok x → r ≡ Ok y → x ≡ y

@@ -6,7 +6,7 @@ use Rattle.std.proofs.lemmas.List.{append_cancel_right, drop-drop, drop-append-l
 use Rattle.std.proofs.Math.Seq.{get_or-append_seam, take-append_seam, take-append-add}
 use Rattle.std.proofs.lemmas.Str.{encode_ascii, IsUtf8-append, IsUtf8-encode, inside_one, char_from_byte, length-encode, len_utf8_bounds}
 use Rattle.std.specs.Prelude.{IsUtf8, encode_utf8, encode_utf8_all}
-use Rattle.std.specs.Char.{IsScalar, len_utf8}
+use Rattle.std.specs.Char.{IsScalar}
 use lib.Utf8.{scalar}
 use Rattle.std.specs.List.{AllByRecursion}
 use Rattle.std.specs.Str.{IsValidUpTo, all_scalars}

@@ -1,20 +1,20 @@
 -- The compact text of a value is read as that value.
-use Rattle.std.proofs.Common.{◌≡◌, ◌≢◌, ◌⊎◌, inl, inr, ℕ, zero, suc, ◌*◌, ◌+◌, ◌/◌, ◌%◌, ◌<◌, ◌≤◌, Bool, true, false, cond, eqb, ltb, List, [], ◌∷◌, ◌++◌, length, get_or, Ok, Err, refl, sym, ap, ◌∙◌, subst, append_assoc, append-nil, arith}
+use Rattle.std.proofs.Common.{◌≡◌, ◌≢◌, ◌⊎◌, inl, inr, ℕ, suc, ◌*◌, ◌+◌, ◌/◌, ◌%◌, ◌<◌, ◌≤◌, Bool, true, false, eqb, ltb, List, [], ◌∷◌, ◌++◌, length, get_or, Ok, refl, sym, ap, ◌∙◌, subst, append_assoc, append-nil, arith}
 use Rattle.std.proofs.lemmas.Bool.{cases_lt}
 use Rattle.std.proofs.lemmas.Bool.Decides.{nat_tests, eqb_tells}
 use Rattle.std.proofs.lemmas.Str.{encode_ascii, inside_one, digit_value-digit_char}
 use Rattle.std.specs.Char.{IsScalar, digit_char, digit_value, is_ascii_digit}
 use Rattle.std.specs.Char.Utf16.{is_high_surrogate, is_low_surrogate}
-use Rattle.std.specs.Prelude.{IsUtf8, codes, encode_utf8, encode_utf8_all}
+use Rattle.std.specs.Prelude.{IsUtf8, encode_utf8, encode_utf8_all}
 use Rattle.std.specs.Str.{all_scalars}
 use lib.Utf8.{scalar}
-use Rattle.wire_json.specs.Bytes.{◌>>=◌, begins, is_byte, is_space, past_space}
+use Rattle.wire_json.specs.Bytes.{begins, is_byte, is_space, past_space}
 use Rattle.wire_json.specs.Json.{Json, null, boolean, number, string, array, object, Elements, no_element, element, Members, no_member, member, IsLawful, AreLawful, AreLawfulMembers}
 use Rattle.wire_json.specs.Laws.{WrittenReadsBack, WrittenSpells}
 use Rattle.wire_json.specs.Number.{is_of_number, number_end}
 use Rattle.wire_json.specs.Part.{is_plain}
-use Rattle.wire_json.specs.Reading.{ReadsValue, ReadsElements, ReadsMoreElements, ReadsMembers, ReadsMoreMembers, Spells}
-use Rattle.wire_json.specs.Text.{IsUnescaped, ReadsChar, ReadsChars, ReadsEscape, ReadsName, ReadsString, character_of, escape_at, hex_at, is_hex_digit, unit_at}
+use Rattle.wire_json.specs.Reading.{ReadsValue, ReadsElements, ReadsMoreElements, ReadsMembers, ReadsMoreMembers}
+use Rattle.wire_json.specs.Text.{ReadsChar, ReadsChars, ReadsEscape, ReadsName, ReadsString, character_of, escape_at, hex_at, is_hex_digit, unit_at}
 use Rattle.wire_json.specs.Written.{written, written_byte, written_bytes, written_string, written_name, written_elements, written_more, written_members, written_more_members}
 use Rattle.wire_json.proofs.NumberTexts.{number_behind}
 use Rattle.wire_json.proofs.OneReading.{number_first}

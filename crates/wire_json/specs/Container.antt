@@ -4,7 +4,7 @@ use Rattle.wire_json.specs.declared.container.Next.{Next}
 use Rattle.wire_json.specs.declared.container.Next.TheVariants.{Item, End}
 use Rattle.wire_json.specs.declared.fault.FaultKind.{FaultKind}
 use Rattle.wire_json.specs.declared.fault.FaultKind.TheVariants.{Syntax}
-use Rattle.wire_json.specs.Answer.{IsBehind, IsOnward}
+use Rattle.wire_json.specs.Answer.{IsBehind}
 use Rattle.wire_json.specs.Bytes.{begins, is_byte, past_space}
 
 -- Behind the bracket or brace that opens it, what closes it stands behind white space, or something

@@ -1,6 +1,6 @@
 -- Where a text does not go on: the first fault from the left, with what is wrong and the bytes left
 -- at it.
-use Rattle.std.specs.Prelude.{◌≡◌, ◌≢◌, ◌⊎◌, ℕ, suc, ◌≤◌, true, false, List, [], ◌∷◌, codes, Option, Some, None, Err}
+use Rattle.std.specs.Prelude.{◌≡◌, ◌≢◌, ℕ, suc, ◌≤◌, true, false, List, [], ◌∷◌, codes, Option, Some, None, Err}
 use Rattle.wire_json.specs.declared.fault.FaultKind.{FaultKind}
 use Rattle.wire_json.specs.declared.fault.FaultKind.TheVariants.{Syntax, TooDeep}
 use Rattle.wire_json.specs.declared.kind.Kind.{Kind}
@@ -9,7 +9,7 @@ use Rattle.wire_json.specs.Bytes.{begins, is_byte, past_space, word_end}
 use Rattle.wire_json.specs.Json.{Json, depth}
 use Rattle.wire_json.specs.Kind.{kind_begun}
 use Rattle.wire_json.specs.Number.{number_end}
-use Rattle.wire_json.specs.Reading.{ReadsValue, Spells}
+use Rattle.wire_json.specs.Reading.{ReadsValue}
 use Rattle.wire_json.specs.Text.{ReadsUnescaped, ReadsChar, ReadsString, ReadsName, escape_at}
 
 -- characters, and then neither a character nor the closing quotation mark

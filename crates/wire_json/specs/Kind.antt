@@ -1,5 +1,5 @@
 -- The kinds of values, by the first byte.
-use Rattle.std.specs.Prelude.{ℕ, Bool, true, false, ◌||◌, ◌==◌, List, [], ◌∷◌, Option, Some, None, if◌then◌else◌}
+use Rattle.std.specs.Prelude.{ℕ, true, false, ◌||◌, ◌==◌, List, [], ◌∷◌, Option, Some, None, if◌then◌else◌}
 use Rattle.std.specs.Char.{is_ascii_digit}
 use Rattle.wire_json.specs.declared.kind.Kind.{Kind}
 use Rattle.wire_json.specs.declared.kind.Kind.TheVariants as kinds

@@ -1,5 +1,5 @@
 -- What holds of JSON. Each statement is proved as the contract of a law of src/laws.rt.
-use Rattle.std.specs.Prelude.{◌≡◌, ℕ, ◌≤◌, List, [], ◌++◌, false}
+use Rattle.std.specs.Prelude.{◌≡◌, ℕ, ◌≤◌, List, ◌++◌, false}
 use Rattle.wire_json.specs.declared.fault.FaultKind.{FaultKind}
 use Rattle.wire_json.specs.Bytes.{begins}
 use Rattle.wire_json.specs.Fault.{ValueFault, TextFault}

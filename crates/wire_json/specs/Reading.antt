@@ -1,7 +1,7 @@
 -- The grammar of JSON (RFC 8259): what is read from the front of bytes, and what is left.
-use Rattle.std.specs.Prelude.{◌≡◌, ℕ, ◌≤◌, true, false, List, [], ◌∷◌, ◌++◌, codes, Ok}
+use Rattle.std.specs.Prelude.{◌≡◌, ℕ, true, false, List, [], ◌∷◌, codes, Ok}
 use Rattle.wire_json.specs.Bytes.{past_space, word_end}
-use Rattle.wire_json.specs.Json.{Json, null, boolean, number, string, array, object, Elements, no_element, element, Members, no_member, member, depth}
+use Rattle.wire_json.specs.Json.{Json, null, boolean, number, string, array, object, Elements, no_element, element, Members, no_member, member}
 use Rattle.wire_json.specs.Number.{ReadsNumber}
 use Rattle.wire_json.specs.Text.{ReadsString, ReadsName}
 

@@ -1,5 +1,5 @@
 -- The compact text of a tree: no white space, and the fewest escapes.
-use Rattle.std.specs.Prelude.{ℕ, ◌+◌, ◌/◌, ◌%◌, Bool, true, false, ◌==◌, nat_lt, List, [], ◌∷◌, ◌++◌, codes, if◌then◌else◌}
+use Rattle.std.specs.Prelude.{ℕ, ◌/◌, ◌%◌, Bool, true, false, ◌==◌, nat_lt, List, [], ◌∷◌, ◌++◌, codes, if◌then◌else◌}
 use Rattle.std.specs.Char.{digit_char}
 use Rattle.wire_json.specs.declared.write.Mark.{Mark}
 use Rattle.wire_json.specs.declared.write.Mark.TheVariants.{BeginArray, EndArray, BeginObject, EndObject, Comma}

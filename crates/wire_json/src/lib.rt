@@ -1,7 +1,21 @@
-//! JSON texts.
+//! JSON texts (RFC 8259), read from the front of bytes and written compactly. `CALLING.md` shows its
+//! calls.
+//!
+//! A call takes a text and a place in it, and answers the place behind what it read: `read_string`,
+//! `skip_number`, `read_name`, `first_element` and `next_element`, `first_member` and `next_member`,
+//! and `skip_value` for what is of no interest. Nothing is kept between calls, and a place behind
+//! the text is its end. A fault has its byte. `check` looks at a whole text, and `compact` writes its
+//! compact text. What nests is limited by the caller, and calls that go into it recurse once for each
+//! level.
+//!
+//! Proved of every text: what is read is what the grammar reads (`Reading`), where a call refuses,
+//! the first fault of the grammar stands there (`Fault`), and no value that nests so deep is read
+//! beside a fault. A text has one reading, and the compact text of a value spells it (`laws`).
 #![tactic(auto)]
 
 mod bytes;
+#[cfg(test)]
+mod caller;
 mod compaction;
 mod container;
 mod escape;

@@ -159,7 +159,7 @@ fn fault_of(answer: Answer) -> Option<Fault> {
 }
 
 // What `compact` and `check` answer of a text.
-fn found(alloc: Global, text: &[u8], answer: Answer) -> Found {
+fn found_in(alloc: Global, text: &[u8], answer: Answer) -> Found {
     let mut out = Vec::new(alloc);
     let result = compact(text, LEVELS, &mut out);
     let own = match (result, check(text, LEVELS)) {
@@ -177,7 +177,7 @@ fn found(alloc: Global, text: &[u8], answer: Answer) -> Found {
 fn texts_are_checked_and_compacted(rt: HostRuntime) {
     for rows in [&TAKEN[..], &REFUSED[..], &LIMITED[..]] {
         for (text, answer) in rows {
-            let found = found(rt.alloc(), text, *answer);
+            let found = found_in(rt.alloc(), text, *answer);
             assert_eq!(rt; found, Found::Own, "{text:?}");
         }
     }
@@ -227,7 +227,8 @@ fn write_tokens(alloc: Global) -> Result<bool, AllocError> {
     write_string(&mut out, "\"\u{1}\u{e9}")?;
     write_mark(&mut out, Mark::EndArray)?;
     write_mark(&mut out, Mark::EndObject)?;
-    Ok(out.as_slice() == b"{\"k\\n\":[null,true,-1.5,\"\\\"\\u0001\xc3\xa9\"]}")
+    let wanted = b"{\"k\\n\":[null,true,-1.5,\"\\\"\\u0001\xc3\xa9\"]}";
+    Ok(out.as_slice() == wanted.as_slice())
 }
 
 #[test]

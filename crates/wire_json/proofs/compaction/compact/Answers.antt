@@ -3,7 +3,6 @@ use Rattle.std.proofs.lemmas.Result.{err_from_is_err_and}
 use Rattle.wire_json.specs.declared.fault.FaultKind.TheVariants.{Syntax}
 use Rattle.wire_json.specs.Bytes.{past_space}
 use Rattle.wire_json.specs.Fault.{TextFault, behind_value}
-use Rattle.wire_json.specs.Reading.{ReadsValue}
 use Rattle.wire_json.proofs.Compacting.{in_text}
 use Rattle.wire_json.proofs.compaction.compact.Goals as goal
 

@@ -1,6 +1,6 @@
 use Rattle.std.proofs.Common.{drop}
 use Rattle.std.proofs.lemmas.Result.{err_from_is_err_and}
-use Rattle.wire_json.proofs.Numbers.{integer_fault, fraction_fault, exponent_fault, number_parts}
+use Rattle.wire_json.proofs.Numbers.{integer_fault, fraction_fault, exponent_fault}
 use Rattle.wire_json.proofs.number.skip_number.Goals as goal
 
 pub returns-in_err-integer-clause-answer : goal.returns-in_err-integer-clause-answer

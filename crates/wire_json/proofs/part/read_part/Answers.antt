@@ -1,4 +1,4 @@
-use Rattle.std.proofs.Common.{◌∙◌, drop, sym}
+use Rattle.std.proofs.Common.{drop, sym}
 use Rattle.std.proofs.lemmas.Result.{err_from_is_err_and}
 use Rattle.wire_json.specs.Fault.{bad_escape}
 use Rattle.wire_json.proofs.Runs.{past_run, stopped_at}

@@ -1,6 +1,4 @@
-use Rattle.std.proofs.Common.{sym, ◌∙◌, ap, ◌++◌, ◌+◌, ◌-◌, List, ℕ, take, drop, subst, ◌≡◌, ◌<◌, arith, length-take-le}
-use Rattle.wire_json.specs.declared.fault.FaultKind.TheVariants.{Syntax}
-use Rattle.wire_json.specs.Fault.{CharsFault}
+use Rattle.std.proofs.Common.{drop}
 use Rattle.wire_json.proofs.Runs.{between_places, plain_run, slice_plain, invalid_at}
 use Rattle.wire_json.proofs.part.read_run.Goals as goal
 

@@ -1,7 +1,6 @@
 use Rattle.std.proofs.Common.{◌≡◌, ◌+◌, ◌++◌, ℕ, List, drop, refl, sym}
 use Rattle.std.proofs.lemmas.Result.{IfOk-weaker, IfErr-weaker}
 use Rattle.std.specs.Prelude.{encode_utf8_all, string_bytes}
-use Rattle.wire_json.specs.declared.fault.Fault.{Fault}
 use Rattle.wire_json.specs.declared.fault.JsonError.{JsonError}
 use Rattle.wire_json.specs.Answer.{FaultAt, IfRefused}
 use Rattle.wire_json.specs.Fault.{CharsFault, StringFault, no_quote}

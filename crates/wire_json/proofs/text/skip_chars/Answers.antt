@@ -1,4 +1,4 @@
-use Rattle.std.proofs.Common.{ℕ, ◌++◌, drop, arith}
+use Rattle.std.proofs.Common.{◌++◌, drop, arith}
 use Rattle.std.specs.Prelude.{encode_utf8}
 use Rattle.wire_json.proofs.Chars.{part_ends, part_more}
 use Rattle.wire_json.proofs.text.skip_chars.Goals as goal

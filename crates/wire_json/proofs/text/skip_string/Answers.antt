@@ -1,4 +1,4 @@
-use Rattle.std.proofs.Common.{◌≡◌, ℕ, ◌+◌, List, drop, refl, sym}
+use Rattle.std.proofs.Common.{ℕ, ◌+◌, List, drop, refl, sym}
 use Rattle.std.proofs.lemmas.Result.{IfOk-weaker, IfErr-weaker}
 use Rattle.std.specs.Prelude.{encode_utf8_all}
 use Rattle.wire_json.specs.declared.fault.Fault.{Fault}

@@ -1,9 +1,7 @@
-use Rattle.std.proofs.Common.{ℕ, ◌+◌, ◌++◌, ◌∷◌, [], List, drop, refl, sym, ap, ◌∙◌, append_assoc}
+use Rattle.std.proofs.Common.{◌+◌, drop, sym}
 use Rattle.std.proofs.lemmas.Result.{err_from_is_err_and}
-use Rattle.std.specs.Prelude.{encode_utf8_all}
 use Rattle.wire_json.specs.Fault.{no_quote}
-use Rattle.wire_json.specs.Written.{written_bytes}
-use Rattle.wire_json.proofs.Chars.{fault_in_string, string_of}
+use Rattle.wire_json.proofs.Chars.{fault_in_string}
 use Rattle.wire_json.proofs.transcribe.copy_string.Goals as goal
 
 pub returns-then-not-stands-clause-fault : goal.returns-then-not-stands-clause-fault

@@ -2,8 +2,7 @@ use Rattle.std.proofs.Common.{◌≡◌, ◌≢◌, ℕ, List, [], length, drop,
 use Rattle.std.proofs.lemmas.Result.{err_from_is_err_and}
 use Rattle.wire_json.specs.declared.fault.FaultKind.TheVariants.{Syntax}
 use Rattle.wire_json.specs.Bytes.{past_space}
-use Rattle.wire_json.specs.Fault.{TextFault, ValueFault, in_value, behind_value}
-use Rattle.wire_json.specs.Reading.{ReadsValue}
+use Rattle.wire_json.specs.Fault.{TextFault, in_value, behind_value}
 use Rattle.wire_json.proofs.Beside.{no_text_beside_fault_lemma}
 use Rattle.wire_json.proofs.value.check.Goals as goal
 

@@ -1,4 +1,4 @@
-use Rattle.std.proofs.Common.{Bool, true, false, ap, drop, refl, ◌∙◌, Some}
+use Rattle.std.proofs.Common.{true, false, ap, drop, refl, ◌∙◌, Some}
 use Rattle.std.specs.Prelude.{codes}
 use Rattle.wire_json.specs.Json.{null, boolean}
 use Rattle.wire_json.specs.declared.kind.Kind.TheVariants as kinds
