@@ -15,10 +15,10 @@ use Rattle.wire_json.proofs.OneReading.{no_char_at_quote, not_here, ok_or_err, o
 use Rattle.wire_json.proofs.Scalars.{word_parts}
 
 -- a test that has both answers
-both_answers : (test : Bool) → test ≡ true → test ≡ false → ⊥
+pub both_answers : (test : Bool) → test ≡ true → test ≡ false → ⊥
 both_answers test one other = absurd cc
 
-not_begun : (b : ℕ) (old rest : List ℕ) → old ≡ b ∷ rest → begins (is_byte b) (b ∷ rest) ≡ true
+pub not_begun : (b : ℕ) (old rest : List ℕ) → old ≡ b ∷ rest → begins (is_byte b) (b ∷ rest) ≡ true
     → begins (is_byte b) old ≡ false → ⊥
 not_begun b old rest is here other =
     both_answers (begins (is_byte b) old) (ap (begins (is_byte b)) is ∙ here) other
@@ -45,7 +45,7 @@ chars_beside (c ∷ cs) old new k left (rest, char, more) (past_char d other sam
     let P : List ℕ → Type 0 = λ l. ReadsChars cs l new in
     chars_beside cs other new k left (subst P (one_char c d old rest other char same).1 more) f
 
-string_beside : (bytes old new : List ℕ) (k : FaultKind) (left : List ℕ)
+pub string_beside : (bytes old new : List ℕ) (k : FaultKind) (left : List ℕ)
     → ReadsString bytes old new → StringFault old k left → ⊥
 string_beside bytes old new k left h (no_quote other) =
     not_begun 34 old h.inside h.opens refl other
@@ -54,7 +54,7 @@ string_beside bytes old new k left h (in_string inside opens f) =
     chars_beside h.chars inside new k left
     (subst P (one_tail 34 old h.inside inside h.opens opens) h.reads) f
 
-name_beside : (name old new : List ℕ) (k : FaultKind) (left : List ℕ)
+pub name_beside : (name old new : List ℕ) (k : FaultKind) (left : List ℕ)
     → ReadsName name old new → NameFault old k left → ⊥
 name_beside name old new k left h (no_name f) = string_beside name old h.behind k left h.reads f
 name_beside name old new k left h (no_colon other behind reads none) =
@@ -185,7 +185,7 @@ mutual
       let Q : List ℕ → Type 0 = λ x. ReadsMoreElements es x new in
       more_beside l es behind new k left (subst Q same more) (omega (arith, fits)) f
 
-  member_beside : (l : ℕ) (name : List ℕ) (e : Json) (old value rest : List ℕ) (k : FaultKind)
+  pub member_beside : (l : ℕ) (name : List ℕ) (e : Json) (old value rest : List ℕ) (k : FaultKind)
       (left : List ℕ) → ReadsName name old value → ReadsValue e value rest → depth e ≤ l
       → MemberFault l old k left → ⊥
   member_beside l name e old value rest k left named h fits (bad_name f) =

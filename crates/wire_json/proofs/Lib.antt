@@ -7,6 +7,7 @@ pub mod Names
 pub mod Nested
 pub mod Numbers
 pub mod NumberTexts
+pub mod OneFault
 pub mod OneReading
 pub mod Runs
 pub mod Scalars

@@ -39,3 +39,15 @@ WrittenReadsBack =
 -- the compact text of a value spells it
 abbrev pub WrittenSpells : Type 0
 WrittenSpells = (j : Json) → IsLawful j → Spells (written j) j
+
+-- the same bytes have one fault of a value that nests so deep, at most
+abbrev pub OneValueFault : Type 0
+OneValueFault =
+    (l : ℕ) (old : List ℕ) (k m : FaultKind) (a b : List ℕ) → ValueFault l old k a
+    → ValueFault l old m b → (k ≡ m) × (a ≡ b)
+
+-- a text has one fault at most
+abbrev pub OneTextFault : Type 0
+OneTextFault =
+    (l : ℕ) (text : List ℕ) (k m : FaultKind) (a b : List ℕ) → TextFault l text k a
+    → TextFault l text m b → (k ≡ m) × (a ≡ b)

@@ -2,7 +2,7 @@
 //! calls.
 //!
 //! A call takes a text and a place in it, and answers the place behind what it read: `read_string`,
-//! `skip_number`, `read_name`, `first_element` and `next_element`, `first_member` and `next_member`,
+//! `read_number`, `read_name`, `first_element` and `next_element`, `first_member` and `next_member`,
 //! and `skip_value` for what is of no interest. Nothing is kept between calls, and a place behind
 //! the text is its end. A fault has its byte. `check` looks at a whole text, and `compact` writes its
 //! compact text. What nests is limited by the caller, and calls that go into it recurse once for each
@@ -30,6 +30,7 @@ mod tests;
 mod text;
 mod transcribe;
 mod value;
+mod word;
 mod write;
 
 pub use bytes::skip_space;
@@ -38,7 +39,8 @@ pub use container::{Next, first_element, first_member, next_element, next_member
 pub use fault::{Fault, FaultKind, JsonError};
 pub use kind::{Kind, kind_at};
 pub use name::{read_name, skip_name};
-pub use number::skip_number;
+pub use number::{NumberRead, read_number, skip_number};
 pub use text::{StringRead, push_string, read_string, skip_string};
 pub use value::{check, skip_value};
+pub use word::{skip_bool, skip_null};
 pub use write::{Mark, write_bool, write_mark, write_name, write_null, write_number, write_string};

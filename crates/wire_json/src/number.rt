@@ -1,12 +1,38 @@
 //! Numbers, in place.
-ghost use Rattle.std.specs.Prelude.{◌≡◌, length, drop, IfOk, IfErr};
+ghost use Rattle.std.specs.Prelude.{◌≡◌, drop, Err, IfOk, IfErr};
 ghost use Rattle.std.specs.Char.{is_ascii_digit};
+ghost use Rattle.wire_json.specs.declared.fault.FaultKind.TheVariants.{Syntax};
 ghost use Rattle.wire_json.specs.Answer.{Answers, IsBehind, IsOnward};
 ghost use Rattle.wire_json.specs.Bytes.{past, past_one, is_byte};
-ghost use Rattle.wire_json.specs.Number.{digits_end, integer_end, fraction_end, exponent_end, number_end, apart, is_sign};
+ghost use Rattle.wire_json.specs.Number.{digits_end, integer_end, fraction_end, exponent_end, number_end, apart, is_sign, ReadsNumber};
 
 use crate::bytes::{byte_at, stands, syntax};
 use crate::fault::Fault;
+
+/// A number that was read, by its text, and the place behind it.
+#[derive(Clone, Copy, Debug)]
+pub struct NumberRead<'a> {
+    pub text: &'a [u8],
+    pub after: usize,
+}
+
+/// Reads a number, which is borrowed. It is refused as `skip_number` refuses it.
+pub fn read_number<'a>(text: &'a [u8], at: usize) -> Result<NumberRead<'a>, Fault>
+    ensures ok { IfOk result (λ read.
+        ReadsNumber read.text.now (drop at text.now) (drop read.after text.now)) }
+    ensures behind { IfOk result (λ read. IsBehind at read.after text.now) }
+    ensures fault { IfErr result (λ fault.
+        number_end (drop at text.now) ≡ Err (drop fault.at text.now)) }
+    ensures kind { IfErr result (λ fault. fault.kind ≡ Syntax) }
+{
+    match skip_number(text, at) {
+        Ok(after) => Ok(NumberRead {
+            text: &text[at..after],
+            after,
+        }),
+        Err(fault) => Err(fault),
+    }
+}
 
 /// Passes over a number. No character of numbers may follow it: so `01` is refused at its second
 /// byte.

@@ -1,8 +1,9 @@
 //! What is answered of texts, and what is written. A test that is refused a request for memory
 //! fails with `OutOfMemory` as what was found, or not at all.
 use crate::{
-    Fault, FaultKind, JsonError, Mark, check, compact, push_string, read_name, read_string,
-    write_bool, write_mark, write_name, write_null, write_number, write_string,
+    Fault, FaultKind, JsonError, Mark, check, compact, push_string, read_name, read_number,
+    read_string, skip_bool, skip_null, write_bool, write_mark, write_name, write_null,
+    write_number, write_string,
 };
 use std::alloc::{AllocError, Global};
 
@@ -25,10 +26,13 @@ enum Answer {
 
 use Answer::{Bad, Deep, Is, Lone};
 
+// A text, and what is answered of it.
+type Row = (&'static [u8], Answer);
+
 // How many arrays and objects may stand in one another in a row.
 const LEVELS: u32 = 3;
 
-const TAKEN: [(&[u8], Answer); 26] = [
+const TAKEN: [Row; 26] = [
     (b"null", Is(b"null")),
     (b" true\n", Is(b"true")),
     (b"\t\r\nfalse", Is(b"false")),
@@ -66,7 +70,7 @@ const TAKEN: [(&[u8], Answer); 26] = [
     (b"\"\\uFFFF\\u2028\"", Is(b"\"\xef\xbf\xbf\xe2\x80\xa8\"")),
 ];
 
-const REFUSED: [(&[u8], Answer); 66] = [
+const REFUSED: [Row; 66] = [
     (b"", Bad(0)),
     (b"  ", Bad(2)),
     (b"[", Bad(1)),
@@ -135,7 +139,7 @@ const REFUSED: [(&[u8], Answer); 66] = [
     (b"/**/1", Bad(0)),
 ];
 
-const LIMITED: [(&[u8], Answer); 10] = [
+const LIMITED: [Row; 10] = [
     (b"[[[[]]]]", Deep(3)),
     (b"[[[{}]]]", Deep(3)),
     (b"{\"a\":{\"b\":{\"c\":[", Deep(15)),
@@ -174,20 +178,34 @@ fn found_in(alloc: Global, text: &[u8], answer: Answer) -> Found {
 }
 
 #[test]
-fn texts_are_checked_and_compacted(rt: HostRuntime) {
-    for rows in [&TAKEN[..], &REFUSED[..], &LIMITED[..]] {
-        for (text, answer) in rows {
-            let found = found_in(rt.alloc(), text, *answer);
-            assert_eq!(rt; found, Found::Own, "{text:?}");
-        }
+fn texts_are_taken(rt: HostRuntime) {
+    for (place, row) in TAKEN.iter().enumerate() {
+        assert_eq!(rt; found_in(rt.alloc(), row.0, row.1), Found::Own, "{place}");
     }
 }
 
-// Three strings, of which two have an escape, and a name.
-fn read_strings(alloc: Global) -> Result<bool, JsonError> {
+#[test]
+fn texts_are_refused(rt: HostRuntime) {
+    for (place, row) in REFUSED.iter().enumerate() {
+        assert_eq!(rt; found_in(rt.alloc(), row.0, row.1), Found::Own, "{place}");
+    }
+}
+
+#[test]
+fn levels_and_surrogates_are_refused(rt: HostRuntime) {
+    for (place, row) in LIMITED.iter().enumerate() {
+        assert_eq!(rt; found_in(rt.alloc(), row.0, row.1), Found::Own, "{place}");
+    }
+}
+
+// Strings, of which two have an escape, a name, a number and words.
+fn read_tokens(alloc: Global) -> Result<bool, JsonError> {
     let plain = read_string(alloc, b"\"ab\",", 0)?;
     let escaped = read_string(alloc, b"\"a\\nb\",", 0)?;
     let name = read_name(alloc, b"{ \"k\" : 1}", 2)?;
+    let number = read_number(b"[-1.5e3,", 1)?;
+    let word = skip_bool(b"[true", 1, true)?;
+    let null = skip_null(b"[null", 1)?;
     let mut out = String::from_str(alloc, "<")?;
     let after = push_string(b"[\"\\u20AC\"]", 1, &mut out)?;
     Ok(
@@ -197,14 +215,18 @@ fn read_strings(alloc: Global) -> Result<bool, JsonError> {
             && escaped.after == 6
             && name.value.as_str() == "k"
             && name.after == 8
+            && number.text == b"-1.5e3".as_slice()
+            && number.after == 7
+            && word == 5
+            && null == 5
             && out.as_str() == "<\u{20ac}"
             && after == 9,
     )
 }
 
 #[test]
-fn strings_are_read(rt: HostRuntime) {
-    let found = match read_strings(rt.alloc()) {
+fn tokens_are_read(rt: HostRuntime) {
+    let found = match read_tokens(rt.alloc()) {
         Ok(true) => Found::Own,
         Err(JsonError::OutOfMemory) => Found::OutOfMemory,
         _ => Found::Other,
