@@ -1,5 +1,9 @@
 pub mod ClosedSpans
+pub mod ItemTexts
 pub mod MapEntries
 pub mod Owning
 pub mod Passed
+pub mod Rowed
 pub mod SpanLaws
+pub mod TokenLaws
+pub mod WrittenSpans

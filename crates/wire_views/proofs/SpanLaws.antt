@@ -1,13 +1,13 @@
 -- Records that stay where they were read.
 use Rattle.std.proofs.Common.{◌≡◌, ℕ, ◌+◌, ◌-◌, ◌^◌, ◌<◌, List, [], ◌∷◌, ◌++◌, length, get_or, take}
-use Rattle.std.proofs.Common.{refl, sym, ap, ◌∙◌, subst, arith, length-append, inl, inr}
+use Rattle.std.proofs.Common.{refl, sym, ap, ◌∙◌, subst, arith, length-append, inl, inr, ⊎_elim}
 use Rattle.std.proofs.lemmas.List.{append-nil, take_more}
 use Rattle.std.proofs.Math.Seq.{take-append_seam}
-use Rattle.std.specs.Coded.{Coded-set}
+use Rattle.std.specs.Coded.{Coded-set, coded_list, coded_ℕ}
 use Rattle.std.specs.Prelude.{Some}
 use mathlib.Core.Logic.{∥∥₁_elim}
 use Rattle.wire_base.specs.Charge.{payload_charge}
-use Rattle.wire_base.specs.FaultLaws.{NoPayloadBesideFault}
+use Rattle.wire_base.specs.FaultLaws.{NoPayloadBesideFault, PayloadOrFaultStands}
 use Rattle.wire_base.specs.Field.{Payload, Fields, field, push}
 use Rattle.wire_base.specs.Limits.{Limits, Fits, counted}
 use Rattle.wire_base.specs.Read.{Reads}
@@ -122,3 +122,39 @@ span_refused beside s l is e (inl fault) =
       fits = rw is (fits_widest p h.1);
     })))
 span_refused beside s l is e (inr memory) = memory.0
+
+-- ---- a span that is written
+
+read_whole : OnePayload → (s : UnknownSpan) (p : Payload) (rest : List ℕ)
+    → Reads s.payload.now (IsPayload (tag_number s.tag) (tag_type s.tag) p) rest → rest ≡ []
+read_whole one s p rest read =
+    let n = tag_number s.tag in
+    let w = tag_type s.tag in
+    let q = s.spelled.0 in
+    ∥∥₁_elim s.spelled.1.0 (Coded-set (coded_list coded_ℕ) rest [])
+    (λ h. (one n w p q s.payload.now rest [] read (reads_all n w q s.payload.now h.0)).1)
+
+whole_of : (n : ℕ) (w : WireType) (p : Payload) (old rest : List ℕ)
+    → Reads old (IsPayload n w p) rest → rest ≡ [] → IsPayload n w p old
+whole_of n w p old rest h empty =
+    subst (IsPayload n w p)
+    (sym (append-nil h.text) ∙ ap (λ t. h.text ++ t) (sym empty) ∙ sym h.parts) h.spelled
+
+-- the payload that a span was made of stands there
+pub payload_there : PayloadOrFaultStands → OnePayload → NoPayloadBesideFault → (s : UnknownSpan)
+    → IsPayload (tag_number s.tag) (tag_type s.tag) s.spelled.0 s.payload.now
+payload_there stands one beside s =
+    let n = tag_number s.tag in
+    let w = tag_type s.tag in
+    let l = counted 4294967295 18446744073709551615 in
+    ⊎_elim
+    (λ (p, new, h).
+    let same = span_owned one s p new h.read in
+    let all = read_whole one s p new h.read in
+    subst (λ q. IsPayload n w q s.payload.now) same (whole_of n w p s.payload.now new h.read all))
+    (λ (e, fault). absurd (∥∥₁_elim s.spelled.1.0 (λ (x y : ⊥). absurd x)
+    (λ h. beside l n w s.payload.now [] e s.spelled.0 fault (record {
+      read = reads_all n w s.spelled.0 s.payload.now h.0;
+      fits = fits_widest s.spelled.0 h.1;
+    }))))
+    (stands l n w s.payload.now)

@@ -1,4 +1,6 @@
 pub mod Entries
 pub mod Passing
+pub mod Rows
 pub mod Spans
 pub mod SpelledOnce
+pub mod Tokens

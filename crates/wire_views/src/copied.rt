@@ -1,9 +1,10 @@
 //! Fields of numbers, which a view holds as its message does.
 use crate::view_kind::ViewKind;
+use crate::written::WrittenKind;
 use bytes::Buf;
 use std::alloc::Global;
 use std::marker::PhantomData;
-use wire_codec::{DecodeContext, DecodeError, Tag};
+use wire_codec::{DecodeContext, DecodeError, EncodeError, EncodeSink, SizeCache, Tag};
 use wire_fields::{Kind, Number, Numeric, Packed, Scalar, Unpacked, copied_numbers};
 
 /// A field of a kind whose values are copied as numbers are, as `Implicit<Int64>`: every number,
@@ -50,6 +51,26 @@ where
     }
 }
 
+impl<B: Buf, K: Kind> WrittenKind for CopiedIn<B, K>
+where
+    K::Held: Copy,
+{
+    #[inline(always)]
+    fn len(number: u32, held: &K::Held, cache: &mut SizeCache) -> Result<u64, EncodeError> {
+        K::len(number, held, cache)
+    }
+
+    #[inline(always)]
+    fn put<E: EncodeSink>(
+        number: u32,
+        held: &K::Held,
+        cache: &mut SizeCache,
+        sink: &mut E,
+    ) -> Result<(), EncodeError> {
+        K::put(number, held, cache, sink)
+    }
+}
+
 /// Repeated numbers in one payload, as `Packed`, which it calls: they are read into a list.
 pub struct PackedIn<B: Buf, S: Scalar> {
     scalar: PhantomData<S>,
@@ -93,6 +114,23 @@ impl<B: Buf, N: Number> ViewKind for PackedIn<B, Numeric<N>> {
     }
 }
 
+impl<B: Buf, N: Number> WrittenKind for PackedIn<B, Numeric<N>> {
+    #[inline(always)]
+    fn len(number: u32, held: &Vec<N::Value>, cache: &mut SizeCache) -> Result<u64, EncodeError> {
+        <Packed<Numeric<N>> as Kind>::len(number, held, cache)
+    }
+
+    #[inline(always)]
+    fn put<E: EncodeSink>(
+        number: u32,
+        held: &Vec<N::Value>,
+        cache: &mut SizeCache,
+        sink: &mut E,
+    ) -> Result<(), EncodeError> {
+        <Packed<Numeric<N>> as Kind>::put(number, held, cache, sink)
+    }
+}
+
 /// Repeated numbers, each in a record of its own, as `Unpacked`, which it calls.
 pub struct UnpackedIn<B: Buf, S: Scalar> {
     scalar: PhantomData<S>,
@@ -133,5 +171,22 @@ impl<B: Buf, N: Number> ViewKind for UnpackedIn<B, Numeric<N>> {
 
     fn own(_alloc: Global, held: &Vec<N::Value>) -> Result<Vec<N::Value>, DecodeError> {
         Ok(copied_numbers(held)?)
+    }
+}
+
+impl<B: Buf, N: Number> WrittenKind for UnpackedIn<B, Numeric<N>> {
+    #[inline(always)]
+    fn len(number: u32, held: &Vec<N::Value>, cache: &mut SizeCache) -> Result<u64, EncodeError> {
+        <Unpacked<Numeric<N>> as Kind>::len(number, held, cache)
+    }
+
+    #[inline(always)]
+    fn put<E: EncodeSink>(
+        number: u32,
+        held: &Vec<N::Value>,
+        cache: &mut SizeCache,
+        sink: &mut E,
+    ) -> Result<(), EncodeError> {
+        <Unpacked<Numeric<N>> as Kind>::put(number, held, cache, sink)
     }
 }

@@ -1,9 +1,10 @@
 //! Fields of a scalar type: of implicit presence, of explicit presence, and of a oneof.
 use crate::view_kind::ViewKind;
 use crate::view_scalar::ViewScalar;
+use crate::written::{WrittenKind, WrittenScalar};
 use std::alloc::Global;
 use std::marker::PhantomData;
-use wire_codec::{DecodeContext, DecodeError, Tag, laws};
+use wire_codec::{DecodeContext, DecodeError, EncodeError, EncodeSink, SizeCache, Tag, laws};
 
 /// A field that is left out where it has the default value of its type, as `Implicit`.
 pub struct ImplicitIn<S: ViewScalar> {
@@ -44,6 +45,32 @@ impl<S: ViewScalar> ViewKind for ImplicitIn<S> {
 
     fn own(alloc: Global, held: &S::Held) -> Result<S::Owned, DecodeError> {
         Ok(S::own(alloc, held)?)
+    }
+}
+
+impl<S: WrittenScalar> WrittenKind for ImplicitIn<S> {
+    #[inline(always)]
+    fn len(number: u32, held: &S::Held, _cache: &mut SizeCache) -> Result<u64, EncodeError> {
+        laws::fields_are_plain();
+        if S::is_default(held) {
+            return Ok(0);
+        }
+        Ok(S::len(number, held))
+    }
+
+    #[inline(always)]
+    fn put<E: EncodeSink>(
+        number: u32,
+        held: &S::Held,
+        _cache: &mut SizeCache,
+        sink: &mut E,
+    ) -> Result<(), EncodeError> {
+        laws::fields_are_plain();
+        laws::flat_messages_have_no_sizes();
+        if S::is_default(held) {
+            return Ok(());
+        }
+        S::put(number, held, sink)
     }
 }
 
@@ -96,6 +123,36 @@ impl<S: ViewScalar> ViewKind for OptionalIn<S> {
     }
 }
 
+impl<S: WrittenScalar> WrittenKind for OptionalIn<S> {
+    #[inline(always)]
+    fn len(
+        number: u32,
+        held: &Option<S::Held>,
+        _cache: &mut SizeCache,
+    ) -> Result<u64, EncodeError> {
+        laws::fields_are_plain();
+        match held {
+            Some(value) => Ok(S::len(number, value)),
+            None => Ok(0),
+        }
+    }
+
+    #[inline(always)]
+    fn put<E: EncodeSink>(
+        number: u32,
+        held: &Option<S::Held>,
+        _cache: &mut SizeCache,
+        sink: &mut E,
+    ) -> Result<(), EncodeError> {
+        laws::fields_are_plain();
+        laws::flat_messages_have_no_sizes();
+        match held {
+            Some(value) => S::put(number, value, sink),
+            None => Ok(()),
+        }
+    }
+}
+
 /// A field of a oneof, as `Always`.
 pub struct AlwaysIn<S: ViewScalar> {
     scalar: PhantomData<S>,
@@ -135,5 +192,23 @@ impl<S: ViewScalar> ViewKind for AlwaysIn<S> {
 
     fn own(alloc: Global, held: &S::Held) -> Result<S::Owned, DecodeError> {
         Ok(S::own(alloc, held)?)
+    }
+}
+
+impl<S: WrittenScalar> WrittenKind for AlwaysIn<S> {
+    fn len(number: u32, held: &S::Held, _cache: &mut SizeCache) -> Result<u64, EncodeError> {
+        laws::fields_are_plain();
+        Ok(S::len(number, held))
+    }
+
+    fn put<E: EncodeSink>(
+        number: u32,
+        held: &S::Held,
+        _cache: &mut SizeCache,
+        sink: &mut E,
+    ) -> Result<(), EncodeError> {
+        laws::fields_are_plain();
+        laws::flat_messages_have_no_sizes();
+        S::put(number, held, sink)
     }
 }

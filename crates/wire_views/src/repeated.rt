@@ -1,12 +1,18 @@
 //! Repeated fields of a scalar type, each value in a record of its own.
 ghost use Rattle.std.specs.Prelude.{◌≡◌, ◌∷◌, ◌++◌, [], map, OnOk, IfOk, IfErr};
 ghost use Rattle.wire_codec.specs.DecodeError.TheVariants as errors;
+ghost use Rattle.wire_codec.specs.FieldNumber.{IsFieldNumber};
+ghost use Rattle.wire_codec.specs.Records.{text, text_size};
+ghost use Rattle.wire_codec.specs.Writes.{Writes};
+ghost use Rattle.wire_fields.specs.Numbers.{in_64_bits};
+ghost use Rattle.wire_fields.specs.Presence.{each_record};
 
 use crate::view_kind::ViewKind;
 use crate::view_scalar::ViewScalar;
+use crate::written::{WrittenKind, WrittenScalar};
 use std::alloc::Global;
 use std::marker::PhantomData;
-use wire_codec::{DecodeContext, DecodeError, Tag, laws};
+use wire_codec::{DecodeContext, DecodeError, EncodeError, EncodeSink, SizeCache, Tag, laws};
 
 /// As many values as there are records, in order, as `Repeated`. Each is charged for so many bytes
 /// of element memory: those that `Repeated` is given, 24 for a string, and not the 16 of what is
@@ -54,6 +60,58 @@ impl<S: ViewScalar, const PLACE: usize> ViewKind for RepeatedIn<S, PLACE> {
     fn own(alloc: Global, held: &Vec<S::Held>) -> Result<Vec<S::Owned>, DecodeError> {
         own_each::<S>(alloc, held)
     }
+}
+
+impl<S: WrittenScalar, const PLACE: usize> WrittenKind for RepeatedIn<S, PLACE> {
+    fn len(number: u32, held: &Vec<S::Held>, _cache: &mut SizeCache) -> Result<u64, EncodeError> {
+        laws::fields_are_plain();
+        laws::joined_records_add_up();
+        Ok(each_len::<S>(number, held))
+    }
+
+    fn put<E: EncodeSink>(
+        number: u32,
+        held: &Vec<S::Held>,
+        _cache: &mut SizeCache,
+        sink: &mut E,
+    ) -> Result<(), EncodeError> {
+        laws::fields_are_plain();
+        laws::joined_records_add_up();
+        laws::flat_messages_have_no_sizes();
+        put_each::<S, E>(number, held, sink)
+    }
+}
+
+// How many bytes the records of the values take.
+fn each_len<S: WrittenScalar>(number: u32, values: &[S::Held]) -> u64
+    requires { IsFieldNumber number }
+    ensures { result ≡ in_64_bits
+        (text_size (each_record S.scalar number (map S.view values.now))) }
+{
+    laws::joined_records_add_up();
+    let mut size = 0u64;
+    for value in values {
+        size = size.saturating_add(S::len(number, value));
+    }
+    size
+}
+
+// Writes the records of the values.
+fn put_each<S: WrittenScalar, E: EncodeSink>(
+    number: u32,
+    values: &[S::Held],
+    sink: &mut E,
+) -> Result<(), EncodeError>
+    requires { IsFieldNumber number }
+    ensures { Writes (text (each_record S.scalar number (map S.view values.now)))
+        (E.held sink.old) (E.held sink.new) result }
+{
+    laws::joined_records_add_up();
+    laws::piece_by_piece();
+    for value in values {
+        S::put(number, value, sink)?;
+    }
+    Ok(())
 }
 
 // Puts a value behind others.

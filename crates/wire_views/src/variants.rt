@@ -1,6 +1,6 @@
 //! The variants of a oneof of a view as rows, from which its calls are read.
 
-/// What is asked of the variants of a oneof: `merge` or `own`. Behind the call stand the rows,
+/// What is asked of the variants of a oneof: `merge`, `own`, `len` or `put`. Behind the call stand the rows,
 /// which a macro of the oneof's module puts there: each has the number of a variant, its name and
 /// its kind, and the last has all other numbers too. What is handed in are names and places, which
 /// stand in what is made more than once.
@@ -33,6 +33,26 @@ macro_rules! view_variants {
                 Ok(Some($owned::$variant(value)))
             })+
             None => Ok(None),
+        }
+    };
+    // How many bytes the record of the one that stands takes.
+    (len($name:ident, $held:expr, $cache:expr)
+        $($number:literal $(| $other:tt)? => $variant:ident: $kind:ty,)+) => {
+        match $held {
+            $(Some($name::$variant(value)) => {
+                <$kind as $crate::WrittenKind>::len($number, value, $cache)
+            })+
+            None => Ok(0),
+        }
+    };
+    // Writes the record of the one that stands.
+    (put($name:ident, $held:expr, $cache:expr, $sink:expr)
+        $($number:literal $(| $other:tt)? => $variant:ident: $kind:ty,)+) => {
+        match $held {
+            $(Some($name::$variant(value)) => {
+                <$kind as $crate::WrittenKind>::put($number, value, $cache, $sink)
+            })+
+            None => Ok(()),
         }
     };
 }

@@ -1,0 +1,14 @@
+use Rattle.wire_codec.proofs.Measured.{next_are_sizes, all_read_now}
+use Rattle.wire_codec.proofs.SizesLaws.{uncut_size}
+use Rattle.wire_views.proofs.written_view.WrittenView.try_encode_bounded_with_cache.Goals as goal
+
+pub write_to-requires-clause-sizes : goal.write_to-requires-clause-sizes
+write_to-requires-clause-sizes g c =
+    next_are_sizes _ _ (rw c.clear.ensures at c.in_ok-compute_size.ensures.sizes)
+    (uncut_size _ _ c.in_ok-compute_size.ensures.size c.in_ok-len.ensures.within)
+
+pub returns-clause-read : goal.returns-clause-read
+returns-clause-read g c =
+    all_read_now _ _ _ (rw c.clear.ensures at c.in_ok-compute_size.ensures.sizes)
+    (uncut_size _ _ c.in_ok-compute_size.ensures.size c.in_ok-len.ensures.within)
+    (c.in_ok-write_to.ensures.read)

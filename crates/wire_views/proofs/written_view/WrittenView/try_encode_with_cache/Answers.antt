@@ -1,0 +1,16 @@
+use Rattle.wire_codec.proofs.Measured.{next_are_sizes, all_read}
+use Rattle.wire_codec.proofs.SizesLaws.{uncut_size}
+use Rattle.wire_views.proofs.written_view.WrittenView.try_encode_with_cache.Goals as goal
+
+pub write_to-requires-clause-sizes : goal.write_to-requires-clause-sizes
+write_to-requires-clause-sizes g c =
+    let measured = rw c.clear.ensures at c.in_ok-compute_size.ensures.sizes in
+    next_are_sizes _ _ measured (uncut_size _ _ c.in_ok-compute_size.ensures.size
+    c.in_ok-checked_encode_size.ensures.within)
+
+pub returns-clause-read : goal.returns-clause-read
+returns-clause-read g c =
+    let measured = rw c.clear.ensures at c.in_ok-compute_size.ensures.sizes in
+    all_read _ _ _ c.write_to.result measured
+    (uncut_size _ _ c.in_ok-compute_size.ensures.size
+    c.in_ok-checked_encode_size.ensures.within) c.write_to.ensures.read
