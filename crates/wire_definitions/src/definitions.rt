@@ -6,7 +6,7 @@ use crate::laws_pages::has_laws;
 use crate::required::{define_asked, put_missing};
 use crate::returned::{put_range, put_range_page};
 use crate::tree::Tree;
-use crate::view_definitions::define_view;
+use crate::view_definitions::{define_rows, define_view};
 use wire_schema::{Field, GenerateError, MessageType, Template, Words};
 
 const USES: &str = "\
@@ -156,6 +156,7 @@ pub fn definitions_of(
     put_tree(&mut page, &tree.words);
     page.indent("tree_view");
     define_view(&mut page, fields, tree);
+    define_rows(&mut page, fields, tree);
     if is_read_back {
         put_range(&mut page, fields, tree);
     }
@@ -217,9 +218,14 @@ fn put_text(page: &mut Words, fields: &[Field]) {
     set_heading(page, "--", TABLE);
     page.fill("text", HEAD);
     page.append_all(if fields.is_empty() {
-        &[("text", EMPTY)]
+        &[("text", EMPTY), ("text", "$view_rows$")]
     } else {
-        &[("text", "$values$"), ("text", VALUE), ("text", SHAPE)]
+        &[
+            ("text", "$values$"),
+            ("text", VALUE),
+            ("text", SHAPE),
+            ("text", "$view_rows$"),
+        ]
     });
 }
 

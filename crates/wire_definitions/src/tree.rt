@@ -18,8 +18,8 @@ pub struct Tree {
 
 /// Fields in a row, as one part of the tree. Its words are the first and the last number, `low` and
 /// `high`; its type `value` as contracts see it, and how a message `m` is seen so, its `view`, the
-/// same field by field, `seen`, and the same of its view, `view_seen`; the `table`, and why a
-/// number is none of it, `unlike`; the `range` of values that are read back, why they are,
+/// same field by field, `seen`, and the same of its view, `view_seen`; the `table`, how its fields
+/// are paired, the `grouping`, and why a number is none of it, `unlike`; the `range` of values that are read back, why they are,
 /// `returned`, why decoding gives such, `stays`, and why a number `h` that is one of it is none of
 /// others, `apart`.
 #[derive(Drop)]
@@ -82,7 +82,8 @@ impl Tree {
     }
 }
 
-const LEAF: [Template; 10] = [
+const LEAF: [Template; 11] = [
+    ("grouping", "single"),
     ("low", "$number$"),
     ("high", "$number$"),
     ("value", "$bracketed$"),
@@ -99,7 +100,8 @@ const LEAF: [Template; 10] = [
 const MOST_NESTED: usize = 72;
 
 // What is taken over from the right part of a pair.
-const RIGHT: [Template; 11] = [
+const RIGHT: [Template; 12] = [
+    ("right_grouping", "grouping"),
     ("right_view_seen", "view_seen"),
     ("right_value", "value"),
     ("right_view", "view"),
@@ -113,7 +115,8 @@ const RIGHT: [Template; 11] = [
     ("high", "high"),
 ];
 
-const PAIR: [Template; 10] = [
+const PAIR: [Template; 11] = [
+    ("grouping", "(paired $grouping$\n    $right_grouping$)"),
     ("view_seen", "(\n$view_seen$,\n$right_view_seen$,\n)"),
     ("value", "($value$\n    × $right_value$)"),
     ("view", "(\n$view$,\n$right_view$,\n)"),

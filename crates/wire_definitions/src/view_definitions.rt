@@ -3,6 +3,9 @@ use crate::oneofs::put_values;
 use crate::tree::Tree;
 use wire_schema::{Field, Oneof, Template, Words};
 
+// The longest row that stands on one line, with what begins the next.
+const MOST_OF_ROW: usize = 96;
+
 const USES: &str = "\
 Rattle.wire_views.specs.Spans fields_of
 Rattle.$crate$.specs.declared.$view_module$.$view_name$ $view_name$
@@ -60,6 +63,62 @@ pub(crate) fn define_view(page: &mut Words, fields: &[Field], tree: &Tree) {
             VALUE
         },
     );
+}
+
+const USES_OF_ROWS: &str = "\
+Rattle.std.proofs.Common ◌≡◌
+Rattle.std.proofs.Common refl
+Rattle.std.specs.Prelude List
+Rattle.std.specs.Prelude []
+Rattle.std.specs.Prelude ◌∷◌
+Rattle.wire_codec.specs.Records Records
+Rattle.wire_codec.specs.Records of_fields
+Rattle.wire_views.specs.Rows all_grouped
+Rattle.wire_views.specs.Rows in_rows
+Rattle.wire_views.specs.Rows single
+";
+
+const ROW: &str = "($table$).records$gap$($field$-of-$module$ m)\n    ∷ ";
+
+const ROWS: &str = "
+-- the records of each field, in the order in which they are written
+abbrev pub $module$-rows : $name$-Value → List Records
+$module$-rows m =
+    $rows$of_fields $rest_of_value$
+    ∷ []
+
+pub $module$-in_rows : (m : $name$-Value) → in_rows ($module$-rows m) ≡ $module$-shape.records m
+$module$-in_rows m =
+    all_grouped $grouping$ ($module$-rows m) refl
+";
+
+/// Puts how the records of a message whose view is written are told row by row, the word
+/// `view_rows`, and names that are brought in.
+pub(crate) fn define_rows(page: &mut Words, fields: &[Field], tree: &Tree) {
+    page.fill_all(&[("view_rows", ""), ("rows", "")]);
+    if !has_view(page) || page.get("view_written").is_empty() {
+        return;
+    }
+    page.append_all(&[("uses", USES_OF_ROWS)]);
+    for field in fields {
+        page.copy(&field.words, &["field", "table"]);
+        page.set("gap", " ");
+        page.fill("line", ROW);
+        let is_short = page.get("line").len() <= MOST_OF_ROW;
+        page.set("gap", if is_short { " " } else { "\n        " });
+        page.append("rows", ROW);
+    }
+    page.copy(&tree.words, &["grouping"]);
+    if fields.is_empty() {
+        page.fill_all(&[("grouping", "single"), ("rest_of_value", "m")]);
+    } else {
+        page.append("uses", "Rattle.wire_views.specs.Rows paired\n");
+        page.fill_all(&[
+            ("grouping", "(paired $grouping$ single)"),
+            ("rest_of_value", "m.1"),
+        ]);
+    }
+    page.append("view_rows", ROWS);
 }
 
 const ONEOF_USES: &str = "\

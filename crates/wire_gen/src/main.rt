@@ -33,6 +33,7 @@ mod split;
 mod view;
 mod view_code;
 mod view_oneof;
+mod view_written;
 mod written;
 
 use std::io::{Read, Write};

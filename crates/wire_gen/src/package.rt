@@ -144,6 +144,7 @@ impl Package {
                 "requiring",
                 "view_name",
                 "view_module",
+                "view_written",
                 "unviewed",
             ],
         );
@@ -259,7 +260,7 @@ impl Package {
     ) -> Result<(), GenerateError> {
         let mut page = self.page(&oneof.words);
         page.copy(&oneof.words, &["kind_name", "holder", "holder_name"]);
-        page.copy(&oneof.words, &["view_kind_name"]);
+        page.copy(&oneof.words, &["view_kind_name", "view_written"]);
         let code = oneof_code(&page, oneof, message.is_twin)?;
         let definitions = oneof_definitions(&page, oneof)?;
         self.add_type(&mut page, code, definitions)?;

@@ -1,5 +1,6 @@
 //! The code of the view of a message type.
 use crate::code::{put_field_comment, put_in_braces};
+use crate::view_written::{put_written, use_written};
 use wire_definitions::{code_imports, ghost_imports, set_heading};
 use wire_schema::{Field, GenerateError, Schema, Template, Words};
 
@@ -24,12 +25,12 @@ const UNKNOWN: &str = "    \
 ";
 
 const ROWS: &str = "
-// The fields of `$view_name$`: their numbers, names and kinds.
+// The fields of `$view_name$`: their places, numbers, names and kinds.
 macro_rules! rows {
     ($given$) => {
         view_fields!(
             $handed_on$
-$rows$            _ => unknown
+$rows$            _ [$row$] => unknown
         )
     };
 }
@@ -88,7 +89,7 @@ const OF_FIELD: [Template; 3] = [
     ("declared", "    pub $field$: $view_held$,\n"),
     (
         "rows",
-        "            $all_numbers$ => $field$: $view_kind$,\n",
+        "            [$row$] $all_numbers$ => $field$: $view_kind$,\n",
     ),
 ];
 
@@ -122,15 +123,17 @@ pub(crate) fn view_code_of(
 ) -> Result<String, GenerateError> {
     let mut page = Words::like(base);
     page.fill("uses", USES);
-    for field in fields {
+    for (row, field) in fields.iter().enumerate() {
         page.copy(
             &field.words,
             &["field", "at", "view_held", "view_kind", "view_code"],
         );
+        page.index("row", row);
         set_numbers(&mut page, &field.words);
         put_field_comment(&mut page, schema);
         page.append_all(&OF_FIELD);
     }
+    page.index("row", fields.len());
     page.append("declared", UNKNOWN);
     put_in_braces(&mut page, "declared");
     if fields.is_empty() {
@@ -140,6 +143,7 @@ pub(crate) fn view_code_of(
         page.append("uses", "wire_views view_fields\n");
         page.fill_all(&OF_SOME);
     }
+    use_written(&mut page, fields.len());
     code_imports(&mut page);
     page.fill("ghosts", GHOSTS);
     ghost_imports(&mut page, "    ");
@@ -153,6 +157,7 @@ pub(crate) fn view_code_of(
         page.append("text", ROWS);
     }
     page.append("text", VIEW);
+    put_written(&mut page, fields.len());
     page.finish("text")
 }
 

@@ -76,6 +76,34 @@ $ghost_imports$
 }
 ";
 
+const WRITTEN_USES: &str = "\
+wire_codec EncodeError
+wire_codec EncodeSink
+wire_codec SizeCache
+wire_views WrittenKind
+";
+
+const WRITTEN: &str = "
+impl<'a> WrittenKind for $view_kind_name$<'a> {
+    fn len(
+        _number: u32,
+        held: &Option<$view_name$<'a>>,
+        cache: &mut SizeCache,
+    ) -> Result<u64, EncodeError> {
+        rows!(len($view_name$, held, cache))
+    }
+
+    fn put<S: EncodeSink>(
+        _number: u32,
+        held: &Option<$view_name$<'a>>,
+        cache: &mut SizeCache,
+        sink: &mut S,
+    ) -> Result<(), EncodeError> {
+        rows!(put($view_name$, held, cache, sink))
+    }
+}
+";
+
 // The last row has all other numbers too.
 const OF_VARIANT: [Template; 3] = [
     ("declared", "    $variant$($view_held$),\n"),
@@ -101,11 +129,14 @@ pub(crate) fn oneof_view_code(base: &Words, oneof: &Oneof) -> Result<String, Gen
         page.set("others", if place == last { " | _" } else { "" });
         page.append_all(&OF_VARIANT);
     }
+    let is_written = !page.get("view_written").is_empty();
+    page.append("uses", if is_written { WRITTEN_USES } else { "" });
     code_imports(&mut page);
     page.fill("ghosts", GHOSTS);
     ghost_imports(&mut page, "    ");
     set_heading(&mut page, "//!", "The view of the oneof `$name$`.");
     page.fill("text", "$heading$$imports$");
     page.append("text", ENUM);
+    page.append("text", if is_written { WRITTEN } else { "" });
     page.finish("text")
 }

@@ -57,6 +57,7 @@ pub(crate) fn oneof_of(
             "charged",
             "view_name",
             "view_module",
+            "view_written",
             "view_kind_name",
         ],
     );

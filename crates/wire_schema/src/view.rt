@@ -20,12 +20,14 @@ const HOLDS_SUCH: &str = "`$proto$` is of `$of$`, which has none";
 
 impl Schema {
     /// Names the view of each type that is to be generated, where views are asked for: the words
-    /// `view_name` and `view_module`. A type that holds what a view can't hold yet has none, and
-    /// tells why, `unviewed`; nor has one that holds messages of such a type.
+    /// `view_name` and `view_module`, and `view_written` where it can be written. A type that holds
+    /// what a view can't hold yet has none, and tells why, `unviewed`; nor has one that holds
+    /// messages of such a type.
     pub(crate) fn find_views(&mut self, base: &Words) -> Result<(), GenerateError> {
         if base.get("views").is_empty() {
             return Ok(());
         }
+        self.find_written()?;
         let whys = self.whys_unviewed()?;
         for (message, why) in self.messages.iter_mut().zip(whys) {
             if !message.origin.is_own {
@@ -40,6 +42,23 @@ impl Schema {
                 words.set("view_name", &name);
             }
             words.ended()?;
+        }
+        Ok(())
+    }
+
+    // Tells each type whether a view of it can be written: where it has no map, whose entries a view
+    // holds as they came, and holds no message of a type that has one.
+    fn find_written(&mut self) -> Result<(), GenerateError> {
+        let mut flags = Vec::new(self.alloc);
+        for message in &self.messages {
+            let mut fields = message.descriptor.field.iter();
+            flags.push(!fields.any(|it| self.entry(&it.type_name).is_some()))?;
+        }
+        self.held_by_each()?.spread(&mut flags)?;
+        for (message, is_written) in self.messages.iter_mut().zip(flags) {
+            let written = if is_written { "yes" } else { "" };
+            message.words.set("view_written", written);
+            message.words.ended()?;
         }
         Ok(())
     }
@@ -147,6 +166,7 @@ pub(crate) fn set_oneof_view(
     let name = schema.oneof_view(words.get("whole"), words.get("name"))?;
     words.set("view_module", &module_name(words.alloc(), &name)?);
     words.set("view_name", &name);
+    words.set("view_written", message.words.get("view_written"));
     words.fill("view_kind_name", "$view_name$Kind");
     let kind_name = schema
         .names
