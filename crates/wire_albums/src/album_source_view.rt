@@ -3,9 +3,11 @@ use crate::album_source::AlbumSource;
 use crate::track_view::TrackView;
 use std::alloc::Global;
 use std::marker::PhantomData;
-use wire_codec::{DecodeContext, DecodeError, Tag};
+use wire_codec::{DecodeContext, DecodeError, EncodeError, EncodeSink, SizeCache, Tag};
 use wire_fields::{Always, Uint64};
-use wire_views::{AlwaysEmbeddedIn, AlwaysIn, CopiedIn, TextIn, ViewKind, view_variants};
+use wire_views::{
+    AlwaysEmbeddedIn, AlwaysIn, CopiedIn, TextIn, ViewKind, WrittenKind, view_variants,
+};
 
 /// One of these, where one is there.
 #[derive(Debug, Drop)]
@@ -69,5 +71,24 @@ impl<'a> ViewKind for AlbumSourceViewKind<'a> {
         held: &Option<AlbumSourceView<'a>>,
     ) -> Result<Option<AlbumSource>, DecodeError> {
         rows!(own(AlbumSourceView => AlbumSource, alloc, held))
+    }
+}
+
+impl<'a> WrittenKind for AlbumSourceViewKind<'a> {
+    fn len(
+        _number: u32,
+        held: &Option<AlbumSourceView<'a>>,
+        cache: &mut SizeCache,
+    ) -> Result<u64, EncodeError> {
+        rows!(len(AlbumSourceView, held, cache))
+    }
+
+    fn put<S: EncodeSink>(
+        _number: u32,
+        held: &Option<AlbumSourceView<'a>>,
+        cache: &mut SizeCache,
+        sink: &mut S,
+    ) -> Result<(), EncodeError> {
+        rows!(put(AlbumSourceView, held, cache, sink))
     }
 }

@@ -5,11 +5,11 @@ use crate::album_kind::AlbumKind;
 use crate::album_source_view::{AlbumSourceView, AlbumSourceViewKind};
 use crate::track_view::TrackView;
 use std::alloc::Global;
-use wire_codec::{DecodeContext, DecodeError, EnumValue, Tag};
+use wire_codec::{DecodeContext, DecodeError, EncodeError, EncodeSink, EnumValue, SizeCache, Tag};
 use wire_fields::{Enum, Implicit, Int64, Sint32, Uint32};
 use wire_views::{
     BytesIn, CopiedIn, EachEmbeddedIn, EmbeddedIn, ImplicitIn, MessageView, OptionalIn, PackedIn,
-    RepeatedIn, TextIn, UnknownSpan, UnpackedIn, view_fields,
+    RepeatedIn, TextIn, UnknownSpan, UnpackedIn, WrittenView, view_fields,
 };
 
 /// The view of `Album`.
@@ -31,23 +31,23 @@ pub struct AlbumView<'a> {
     pub unknown: Vec<UnknownSpan<'a>>,
 }
 
-// The fields of `AlbumView`: their numbers, names and kinds.
+// The fields of `AlbumView`: their places, numbers, names and kinds.
 macro_rules! rows {
     ($($call:tt)*) => {
         view_fields!(
             $($call)*
-            1 => released: CopiedIn<&'a [u8], Implicit<Int64>>,
-            2 => title: ImplicitIn<TextIn<'a>>,
-            3 => cover: ImplicitIn<BytesIn<'a>>,
-            4 => note: OptionalIn<TextIn<'a>>,
-            5 => ratings: PackedIn<&'a [u8], Sint32>,
-            6 => genres: RepeatedIn<TextIn<'a>, 24>,
-            7 => opening: EmbeddedIn<TrackView<'a>>,
-            8 => tracks: EachEmbeddedIn<TrackView<'a>, 80>,
-            9 => kind: CopiedIn<&'a [u8], Implicit<Enum<AlbumKind>>>,
-            11 => sides: UnpackedIn<&'a [u8], Uint32>,
-            14 | 15 | 16 => source: AlbumSourceViewKind<'a>,
-            _ => unknown
+            [0] 1 => released: CopiedIn<&'a [u8], Implicit<Int64>>,
+            [1] 2 => title: ImplicitIn<TextIn<'a>>,
+            [2] 3 => cover: ImplicitIn<BytesIn<'a>>,
+            [3] 4 => note: OptionalIn<TextIn<'a>>,
+            [4] 5 => ratings: PackedIn<&'a [u8], Sint32>,
+            [5] 6 => genres: RepeatedIn<TextIn<'a>, 24>,
+            [6] 7 => opening: EmbeddedIn<TrackView<'a>>,
+            [7] 8 => tracks: EachEmbeddedIn<TrackView<'a>, 80>,
+            [8] 9 => kind: CopiedIn<&'a [u8], Implicit<Enum<AlbumKind>>>,
+            [9] 11 => sides: UnpackedIn<&'a [u8], Uint32>,
+            [10] 14 | 15 | 16 => source: AlbumSourceViewKind<'a>,
+            _ [11] => unknown
         )
     };
 }
@@ -90,5 +90,30 @@ impl<'a> MessageView for AlbumView<'a> {
 
     fn own(&self, alloc: Global) -> Result<Album, DecodeError> {
         rows!(own(Album, self, alloc))
+    }
+}
+
+impl<'a> WrittenView for AlbumView<'a> {
+    ghost use Rattle.wire_albums.specs.Album.{album-in_rows, album-rows, album-view_value};
+
+    ghost rows = { λ m. album-rows (album-view_value m) };
+
+    ghost same_records = { λ m. album-in_rows (album-view_value m) };
+
+    fn row_count(&self) -> usize {
+        12
+    }
+
+    fn row_len(&self, place: usize, cache: &mut SizeCache) -> Result<u64, EncodeError> {
+        rows!(row_len(self, place, cache))
+    }
+
+    fn put_row<S: EncodeSink>(
+        &self,
+        place: usize,
+        cache: &mut SizeCache,
+        sink: &mut S,
+    ) -> Result<(), EncodeError> {
+        rows!(put_row(self, place, cache, sink))
     }
 }

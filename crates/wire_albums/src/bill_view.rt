@@ -22,17 +22,17 @@ pub struct BillView<'a> {
     pub unknown: Vec<UnknownSpan<'a>>,
 }
 
-// The fields of `BillView`: their numbers, names and kinds.
+// The fields of `BillView`: their places, numbers, names and kinds.
 macro_rules! rows {
     ($($call:tt)*) => {
         view_fields!(
             $($call)*
-            1 => owed: MapIn<TextIn<'a>, CopiedIn<&'a [u8], Always<Uint64>>, 64>,
-            2 => parcels: EmbeddedMapIn<NumberIn<&'a [u8], Sint32>, ParcelView<'a>, 240>,
-            3 => seals: MapIn<NumberIn<&'a [u8], Bool>, AlwaysIn<BytesIn<'a>>, 64>,
-            4 => notes: MapIn<NumberIn<&'a [u8], Uint64>, AlwaysIn<TextIn<'a>>, 64>,
-            5 => names: MapIn<TextIn<'a>, AlwaysIn<TextIn<'a>>, 72>,
-            _ => unknown
+            [0] 1 => owed: MapIn<TextIn<'a>, CopiedIn<&'a [u8], Always<Uint64>>, 64>,
+            [1] 2 => parcels: EmbeddedMapIn<NumberIn<&'a [u8], Sint32>, ParcelView<'a>, 240>,
+            [2] 3 => seals: MapIn<NumberIn<&'a [u8], Bool>, AlwaysIn<BytesIn<'a>>, 64>,
+            [3] 4 => notes: MapIn<NumberIn<&'a [u8], Uint64>, AlwaysIn<TextIn<'a>>, 64>,
+            [4] 5 => names: MapIn<TextIn<'a>, AlwaysIn<TextIn<'a>>, 72>,
+            _ [5] => unknown
         )
     };
 }

@@ -2,8 +2,10 @@
 //! to be edited.
 use crate::parcel_booklet::ParcelBooklet;
 use std::alloc::Global;
-use wire_codec::{DecodeContext, DecodeError, Tag};
-use wire_views::{BytesIn, MessageView, OptionalIn, RepeatedIn, TextIn, UnknownSpan, view_fields};
+use wire_codec::{DecodeContext, DecodeError, EncodeError, EncodeSink, SizeCache, Tag};
+use wire_views::{
+    BytesIn, MessageView, OptionalIn, RepeatedIn, TextIn, UnknownSpan, WrittenView, view_fields,
+};
 
 /// The view of `ParcelBooklet`.
 #[derive(Debug, Drop)]
@@ -14,14 +16,14 @@ pub struct ParcelBookletView<'a> {
     pub unknown: Vec<UnknownSpan<'a>>,
 }
 
-// The fields of `ParcelBookletView`: their numbers, names and kinds.
+// The fields of `ParcelBookletView`: their places, numbers, names and kinds.
 macro_rules! rows {
     ($($call:tt)*) => {
         view_fields!(
             $($call)*
-            1 => text: OptionalIn<TextIn<'a>>,
-            2 => pages: RepeatedIn<BytesIn<'a>, 24>,
-            _ => unknown
+            [0] 1 => text: OptionalIn<TextIn<'a>>,
+            [1] 2 => pages: RepeatedIn<BytesIn<'a>, 24>,
+            _ [2] => unknown
         )
     };
 }
@@ -65,5 +67,31 @@ impl<'a> MessageView for ParcelBookletView<'a> {
 
     fn own(&self, alloc: Global) -> Result<ParcelBooklet, DecodeError> {
         rows!(own(ParcelBooklet, self, alloc))
+    }
+}
+
+impl<'a> WrittenView for ParcelBookletView<'a> {
+    ghost use Rattle.wire_albums.specs.ParcelBooklet.{parcel_booklet-in_rows, parcel_booklet-rows};
+    ghost use Rattle.wire_albums.specs.ParcelBooklet.{parcel_booklet-view_value};
+
+    ghost rows = { λ m. parcel_booklet-rows (parcel_booklet-view_value m) };
+
+    ghost same_records = { λ m. parcel_booklet-in_rows (parcel_booklet-view_value m) };
+
+    fn row_count(&self) -> usize {
+        3
+    }
+
+    fn row_len(&self, place: usize, cache: &mut SizeCache) -> Result<u64, EncodeError> {
+        rows!(row_len(self, place, cache))
+    }
+
+    fn put_row<S: EncodeSink>(
+        &self,
+        place: usize,
+        cache: &mut SizeCache,
+        sink: &mut S,
+    ) -> Result<(), EncodeError> {
+        rows!(put_row(self, place, cache, sink))
     }
 }

@@ -2,9 +2,9 @@
 //! be edited.
 use crate::parcel_ribbon::ParcelRibbon;
 use std::alloc::Global;
-use wire_codec::{DecodeContext, DecodeError, Tag};
+use wire_codec::{DecodeContext, DecodeError, EncodeError, EncodeSink, SizeCache, Tag};
 use wire_fields::{Fixed32, Optional};
-use wire_views::{CopiedIn, MessageView, UnknownSpan, view_fields};
+use wire_views::{CopiedIn, MessageView, UnknownSpan, WrittenView, view_fields};
 
 /// The view of `ParcelRibbon`.
 #[derive(Debug, Drop)]
@@ -14,13 +14,13 @@ pub struct ParcelRibbonView<'a> {
     pub unknown: Vec<UnknownSpan<'a>>,
 }
 
-// The fields of `ParcelRibbonView`: their numbers, names and kinds.
+// The fields of `ParcelRibbonView`: their places, numbers, names and kinds.
 macro_rules! rows {
     ($($call:tt)*) => {
         view_fields!(
             $($call)*
-            1 => colour: CopiedIn<&'a [u8], Optional<Fixed32>>,
-            _ => unknown
+            [0] 1 => colour: CopiedIn<&'a [u8], Optional<Fixed32>>,
+            _ [1] => unknown
         )
     };
 }
@@ -63,5 +63,31 @@ impl<'a> MessageView for ParcelRibbonView<'a> {
 
     fn own(&self, alloc: Global) -> Result<ParcelRibbon, DecodeError> {
         rows!(own(ParcelRibbon, self, alloc))
+    }
+}
+
+impl<'a> WrittenView for ParcelRibbonView<'a> {
+    ghost use Rattle.wire_albums.specs.ParcelRibbon.{parcel_ribbon-in_rows, parcel_ribbon-rows};
+    ghost use Rattle.wire_albums.specs.ParcelRibbon.{parcel_ribbon-view_value};
+
+    ghost rows = { λ m. parcel_ribbon-rows (parcel_ribbon-view_value m) };
+
+    ghost same_records = { λ m. parcel_ribbon-in_rows (parcel_ribbon-view_value m) };
+
+    fn row_count(&self) -> usize {
+        2
+    }
+
+    fn row_len(&self, place: usize, cache: &mut SizeCache) -> Result<u64, EncodeError> {
+        rows!(row_len(self, place, cache))
+    }
+
+    fn put_row<S: EncodeSink>(
+        &self,
+        place: usize,
+        cache: &mut SizeCache,
+        sink: &mut S,
+    ) -> Result<(), EncodeError> {
+        rows!(put_row(self, place, cache, sink))
     }
 }

@@ -3,8 +3,8 @@
 use crate::album_view::AlbumView;
 use crate::parcel_shelf::ParcelShelf;
 use std::alloc::Global;
-use wire_codec::{DecodeContext, DecodeError, Tag};
-use wire_views::{EachEmbeddedIn, MessageView, UnknownSpan, view_fields};
+use wire_codec::{DecodeContext, DecodeError, EncodeError, EncodeSink, SizeCache, Tag};
+use wire_views::{EachEmbeddedIn, MessageView, UnknownSpan, WrittenView, view_fields};
 
 /// The view of `ParcelShelf`.
 #[derive(Debug, Drop)]
@@ -14,13 +14,13 @@ pub struct ParcelShelfView<'a> {
     pub unknown: Vec<UnknownSpan<'a>>,
 }
 
-// The fields of `ParcelShelfView`: their numbers, names and kinds.
+// The fields of `ParcelShelfView`: their places, numbers, names and kinds.
 macro_rules! rows {
     ($($call:tt)*) => {
         view_fields!(
             $($call)*
-            1 => albums: EachEmbeddedIn<AlbumView<'a>, 280>,
-            _ => unknown
+            [0] 1 => albums: EachEmbeddedIn<AlbumView<'a>, 280>,
+            _ [1] => unknown
         )
     };
 }
@@ -63,5 +63,31 @@ impl<'a> MessageView for ParcelShelfView<'a> {
 
     fn own(&self, alloc: Global) -> Result<ParcelShelf, DecodeError> {
         rows!(own(ParcelShelf, self, alloc))
+    }
+}
+
+impl<'a> WrittenView for ParcelShelfView<'a> {
+    ghost use Rattle.wire_albums.specs.ParcelShelf.{parcel_shelf-in_rows, parcel_shelf-rows};
+    ghost use Rattle.wire_albums.specs.ParcelShelf.{parcel_shelf-view_value};
+
+    ghost rows = { λ m. parcel_shelf-rows (parcel_shelf-view_value m) };
+
+    ghost same_records = { λ m. parcel_shelf-in_rows (parcel_shelf-view_value m) };
+
+    fn row_count(&self) -> usize {
+        2
+    }
+
+    fn row_len(&self, place: usize, cache: &mut SizeCache) -> Result<u64, EncodeError> {
+        rows!(row_len(self, place, cache))
+    }
+
+    fn put_row<S: EncodeSink>(
+        &self,
+        place: usize,
+        cache: &mut SizeCache,
+        sink: &mut S,
+    ) -> Result<(), EncodeError> {
+        rows!(put_row(self, place, cache, sink))
     }
 }

@@ -2,8 +2,8 @@
 use crate::parcel_shop::ParcelShop;
 use std::alloc::Global;
 use std::marker::PhantomData;
-use wire_codec::{DecodeContext, DecodeError, Tag};
-use wire_views::{AlwaysIn, BytesIn, ViewKind, view_variants};
+use wire_codec::{DecodeContext, DecodeError, EncodeError, EncodeSink, SizeCache, Tag};
+use wire_views::{AlwaysIn, BytesIn, ViewKind, WrittenKind, view_variants};
 
 /// One of these, where one is there.
 #[derive(Debug, Drop)]
@@ -63,5 +63,24 @@ impl<'a> ViewKind for ParcelShopViewKind<'a> {
         held: &Option<ParcelShopView<'a>>,
     ) -> Result<Option<ParcelShop>, DecodeError> {
         rows!(own(ParcelShopView => ParcelShop, alloc, held))
+    }
+}
+
+impl<'a> WrittenKind for ParcelShopViewKind<'a> {
+    fn len(
+        _number: u32,
+        held: &Option<ParcelShopView<'a>>,
+        cache: &mut SizeCache,
+    ) -> Result<u64, EncodeError> {
+        rows!(len(ParcelShopView, held, cache))
+    }
+
+    fn put<S: EncodeSink>(
+        _number: u32,
+        held: &Option<ParcelShopView<'a>>,
+        cache: &mut SizeCache,
+        sink: &mut S,
+    ) -> Result<(), EncodeError> {
+        rows!(put(ParcelShopView, held, cache, sink))
     }
 }

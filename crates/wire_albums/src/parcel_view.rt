@@ -7,11 +7,11 @@ use crate::parcel_shop_view::{ParcelShopView, ParcelShopViewKind};
 use crate::parcel_state::ParcelState;
 use crate::parcel_wrapping_view::{ParcelWrappingView, ParcelWrappingViewKind};
 use std::alloc::Global;
-use wire_codec::{DecodeContext, DecodeError, EnumValue, Tag};
+use wire_codec::{DecodeContext, DecodeError, EncodeError, EncodeSink, EnumValue, SizeCache, Tag};
 use wire_fields::{Enum, Float, FloatBits, Optional, Uint32};
 use wire_views::{
     BytesIn, CopiedIn, EachGroupIn, GroupIn, MessageView, OptionalIn, PackedIn, TextIn,
-    UnknownSpan, view_fields,
+    UnknownSpan, WrittenView, view_fields,
 };
 
 /// The view of `Parcel`.
@@ -30,21 +30,21 @@ pub struct ParcelView<'a> {
     pub unknown: Vec<UnknownSpan<'a>>,
 }
 
-// The fields of `ParcelView`: their numbers, names and kinds.
+// The fields of `ParcelView`: their places, numbers, names and kinds.
 macro_rules! rows {
     ($($call:tt)*) => {
         view_fields!(
             $($call)*
-            1 => title: OptionalIn<TextIn<'a>>,
-            2 => price: CopiedIn<&'a [u8], Optional<Uint32>>,
-            3 => booklet: GroupIn<ParcelBookletView<'a>>,
-            4 => shelf: EachGroupIn<ParcelShelfView<'a>, 48>,
-            5 => seal: OptionalIn<BytesIn<'a>>,
-            6 | 7 => wrapping: ParcelWrappingViewKind<'a>,
-            8 => weights: PackedIn<&'a [u8], Float>,
-            9 => shop: ParcelShopViewKind<'a>,
-            10 [closed] => state: CopiedIn<&'a [u8], Optional<Enum<ParcelState>>>,
-            _ => unknown
+            [0] 1 => title: OptionalIn<TextIn<'a>>,
+            [1] 2 => price: CopiedIn<&'a [u8], Optional<Uint32>>,
+            [2] 3 => booklet: GroupIn<ParcelBookletView<'a>>,
+            [3] 4 => shelf: EachGroupIn<ParcelShelfView<'a>, 48>,
+            [4] 5 => seal: OptionalIn<BytesIn<'a>>,
+            [5] 6 | 7 => wrapping: ParcelWrappingViewKind<'a>,
+            [6] 8 => weights: PackedIn<&'a [u8], Float>,
+            [7] 9 => shop: ParcelShopViewKind<'a>,
+            [8] 10 [closed] => state: CopiedIn<&'a [u8], Optional<Enum<ParcelState>>>,
+            _ [9] => unknown
         )
     };
 }
@@ -87,5 +87,30 @@ impl<'a> MessageView for ParcelView<'a> {
 
     fn own(&self, alloc: Global) -> Result<Parcel, DecodeError> {
         rows!(own(Parcel, self, alloc))
+    }
+}
+
+impl<'a> WrittenView for ParcelView<'a> {
+    ghost use Rattle.wire_albums.specs.Parcel.{parcel-in_rows, parcel-rows, parcel-view_value};
+
+    ghost rows = { λ m. parcel-rows (parcel-view_value m) };
+
+    ghost same_records = { λ m. parcel-in_rows (parcel-view_value m) };
+
+    fn row_count(&self) -> usize {
+        10
+    }
+
+    fn row_len(&self, place: usize, cache: &mut SizeCache) -> Result<u64, EncodeError> {
+        rows!(row_len(self, place, cache))
+    }
+
+    fn put_row<S: EncodeSink>(
+        &self,
+        place: usize,
+        cache: &mut SizeCache,
+        sink: &mut S,
+    ) -> Result<(), EncodeError> {
+        rows!(put_row(self, place, cache, sink))
     }
 }

@@ -5,8 +5,8 @@ use crate::parcel_wrapping::ParcelWrapping;
 use crate::silence_view::SilenceView;
 use std::alloc::Global;
 use std::marker::PhantomData;
-use wire_codec::{DecodeContext, DecodeError, Tag};
-use wire_views::{AlwaysEmbeddedIn, AlwaysGroupIn, ViewKind, view_variants};
+use wire_codec::{DecodeContext, DecodeError, EncodeError, EncodeSink, SizeCache, Tag};
+use wire_views::{AlwaysEmbeddedIn, AlwaysGroupIn, ViewKind, WrittenKind, view_variants};
 
 /// One of these, where one is there.
 #[derive(Debug, Drop)]
@@ -68,5 +68,24 @@ impl<'a> ViewKind for ParcelWrappingViewKind<'a> {
         held: &Option<ParcelWrappingView<'a>>,
     ) -> Result<Option<ParcelWrapping>, DecodeError> {
         rows!(own(ParcelWrappingView => ParcelWrapping, alloc, held))
+    }
+}
+
+impl<'a> WrittenKind for ParcelWrappingViewKind<'a> {
+    fn len(
+        _number: u32,
+        held: &Option<ParcelWrappingView<'a>>,
+        cache: &mut SizeCache,
+    ) -> Result<u64, EncodeError> {
+        rows!(len(ParcelWrappingView, held, cache))
+    }
+
+    fn put<S: EncodeSink>(
+        _number: u32,
+        held: &Option<ParcelWrappingView<'a>>,
+        cache: &mut SizeCache,
+        sink: &mut S,
+    ) -> Result<(), EncodeError> {
+        rows!(put(ParcelWrappingView, held, cache, sink))
     }
 }

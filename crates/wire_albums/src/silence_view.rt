@@ -2,8 +2,10 @@
 //! edited.
 use crate::silence::Silence;
 use std::alloc::Global;
-use wire_codec::{DecodeContext, DecodeError, Tag};
-use wire_views::{MessageView, UnknownSpan, keep_span, own_spans};
+use wire_codec::{DecodeContext, DecodeError, EncodeError, EncodeSink, SizeCache, Tag};
+use wire_views::{
+    MessageView, UnknownSpan, WrittenView, keep_span, own_spans, put_spans, spans_len,
+};
 
 /// The view of `Silence`.
 #[derive(Debug, Drop)]
@@ -54,5 +56,36 @@ impl<'a> MessageView for SilenceView<'a> {
         Ok(Silence {
             unknown: own_spans(alloc, &self.unknown)?,
         })
+    }
+}
+
+impl<'a> WrittenView for SilenceView<'a> {
+    ghost use Rattle.wire_albums.specs.Silence.{silence-in_rows, silence-rows, silence-view_value};
+
+    ghost rows = { λ m. silence-rows (silence-view_value m) };
+
+    ghost same_records = { λ m. silence-in_rows (silence-view_value m) };
+
+    fn row_count(&self) -> usize {
+        1
+    }
+
+    fn row_len(&self, place: usize, cache: &mut SizeCache) -> Result<u64, EncodeError> {
+        match place {
+            0 => spans_len(&self.unknown, cache),
+            _ => Ok(0),
+        }
+    }
+
+    fn put_row<S: EncodeSink>(
+        &self,
+        place: usize,
+        cache: &mut SizeCache,
+        sink: &mut S,
+    ) -> Result<(), EncodeError> {
+        match place {
+            0 => put_spans(&self.unknown, cache, sink),
+            _ => Ok(()),
+        }
     }
 }

@@ -2,9 +2,11 @@
 //! edited.
 use crate::track::Track;
 use std::alloc::Global;
-use wire_codec::{DecodeContext, DecodeError, Tag};
+use wire_codec::{DecodeContext, DecodeError, EncodeError, EncodeSink, SizeCache, Tag};
 use wire_fields::{Double, DoubleBits, Implicit, Optional, Uint64};
-use wire_views::{CopiedIn, ImplicitIn, MessageView, TextIn, UnknownSpan, view_fields};
+use wire_views::{
+    CopiedIn, ImplicitIn, MessageView, TextIn, UnknownSpan, WrittenView, view_fields,
+};
 
 /// The view of `Track`.
 #[derive(Debug, Drop)]
@@ -16,15 +18,15 @@ pub struct TrackView<'a> {
     pub unknown: Vec<UnknownSpan<'a>>,
 }
 
-// The fields of `TrackView`: their numbers, names and kinds.
+// The fields of `TrackView`: their places, numbers, names and kinds.
 macro_rules! rows {
     ($($call:tt)*) => {
         view_fields!(
             $($call)*
-            1 => title: ImplicitIn<TextIn<'a>>,
-            2 => seconds: CopiedIn<&'a [u8], Implicit<Double>>,
-            3 => plays: CopiedIn<&'a [u8], Optional<Uint64>>,
-            _ => unknown
+            [0] 1 => title: ImplicitIn<TextIn<'a>>,
+            [1] 2 => seconds: CopiedIn<&'a [u8], Implicit<Double>>,
+            [2] 3 => plays: CopiedIn<&'a [u8], Optional<Uint64>>,
+            _ [3] => unknown
         )
     };
 }
@@ -67,5 +69,30 @@ impl<'a> MessageView for TrackView<'a> {
 
     fn own(&self, alloc: Global) -> Result<Track, DecodeError> {
         rows!(own(Track, self, alloc))
+    }
+}
+
+impl<'a> WrittenView for TrackView<'a> {
+    ghost use Rattle.wire_albums.specs.Track.{track-in_rows, track-rows, track-view_value};
+
+    ghost rows = { λ m. track-rows (track-view_value m) };
+
+    ghost same_records = { λ m. track-in_rows (track-view_value m) };
+
+    fn row_count(&self) -> usize {
+        4
+    }
+
+    fn row_len(&self, place: usize, cache: &mut SizeCache) -> Result<u64, EncodeError> {
+        rows!(row_len(self, place, cache))
+    }
+
+    fn put_row<S: EncodeSink>(
+        &self,
+        place: usize,
+        cache: &mut SizeCache,
+        sink: &mut S,
+    ) -> Result<(), EncodeError> {
+        rows!(put_row(self, place, cache, sink))
     }
 }

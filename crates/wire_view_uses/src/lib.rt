@@ -7,3 +7,5 @@ pub mod maps;
 #[cfg(test)]
 mod tests;
 pub mod uses;
+#[cfg(test)]
+mod written;

@@ -9,19 +9,19 @@ use wire_views::MessageView;
 
 // What is found: the answer that was expected, want of memory, or anything else.
 #[derive(Clone, Copy, Debug, PartialEq)]
-enum Found {
+pub(crate) enum Found {
     Own,
     Other,
     OutOfMemory,
 }
 
 // Levels, unknown fields, and bytes for elements.
-type Limits = (u32, usize, usize);
+pub(crate) type Limits = (u32, usize, usize);
 
 // Bytes, the limits, and whether they are an album within these.
-type Row<'a> = (&'a [u8], Limits, bool);
+pub(crate) type Row<'a> = (&'a [u8], Limits, bool);
 
-const ROWS: [Row<'static>; 42] = [
+pub(crate) const ROWS: [Row<'static>; 42] = [
     (b"", (100, 100, 1000), true),
     (
         b"\x08\x05\x12\x01a\x1a\x02\xff\0\x22\x00\x48\x01",
@@ -96,7 +96,7 @@ const ROWS: [Row<'static>; 42] = [
 ];
 
 // The same of parcels: groups, oneofs of groups and of bytes, and lists of groups.
-const PARCELS: [Row<'static>; 26] = [
+pub(crate) const PARCELS: [Row<'static>; 26] = [
     (b"\x0a\x01a\x0a\x01b\x10\x05", (100, 100, 1000), true),
     (
         b"\x1b\x0a\x01x\x12\x01y\x1c\x1b\x12\x01z\x1c",

@@ -1,13 +1,16 @@
 //! What a program does with a view.
 ghost use Rattle.std.specs.Prelude.{◌≡◌, ◌≢◌, IfOk, IfErr};
 ghost use Rattle.wire_albums.specs.Album.{Album-Value, album-shape, album-value, title-of-album};
+ghost use Rattle.wire_albums.specs.Album.{album-view_value};
 ghost use Rattle.wire_codec.specs.DecodeError.TheVariants.{OutOfMemory};
+ghost use Rattle.wire_codec.specs.Encoding.{TriesToAnswer};
+ghost use Rattle.wire_codec.specs.Records.{text, text_size};
 ghost use Rattle.wire_fields.specs.Shape.{DecodesAs, NotDecodedAs};
 
 use std::alloc::Global;
 use wire_albums::{Album, AlbumView};
-use wire_codec::DecodeError;
-use wire_views::MessageView;
+use wire_codec::{DecodeError, EncodeError};
+use wire_views::{MessageView, WrittenView};
 
 /// The title of the album that the bytes are, where it stands in them.
 pub fn title_of<'a>(alloc: Global, bytes: &'a [u8]) -> Result<&'a str, DecodeError>
@@ -30,4 +33,21 @@ pub fn decode_by_view(alloc: Global, bytes: &[u8]) -> Result<Album, DecodeError>
         Ok(view) => view.own(alloc),
         Err(why) => Err(why),
     }
+}
+
+/// The encoding of an album with another title. Its other strings, its bytes and its unknown fields
+/// are copied once, from where they were read.
+pub fn retitled<'a>(
+    alloc: Global,
+    album: AlbumView<'a>,
+    title: &'a str,
+) -> Result<Vec<u8>, EncodeError>
+    ensures { TriesToAnswer result
+        (text_size (album-shape.records (album-view_value (record album.entry { title = title.entry }))))
+        (λ bytes. bytes.items
+        ≡ text (album-shape.records (album-view_value (record album.entry { title = title.entry })))) }
+{
+    let mut album = album;
+    album.title = title;
+    album.try_encode_to_vec(alloc)
 }
