@@ -2,7 +2,8 @@
 use crate::messages::payloads;
 use std::alloc::Global;
 use wire_codec::{DecodeError, Message};
-use wire_report::Report;
+use wire_report::{Report, ReportView};
+use wire_views::MessageView;
 
 // The reports of a log.
 fn reports(alloc: Global, log: &[u8]) -> Result<Vec<Report>, DecodeError> {
@@ -42,6 +43,39 @@ pub extern "C" fn wb_report_decode(alloc: Global, bytes: &[u8], rounds: u32) -> 
                 return 0;
             };
             sum = sum.wrapping_add(sum_of(&report));
+        }
+    }
+    sum
+}
+
+// The same of a view, of which an entry of a map counts each time that it came.
+fn sum_of_view(report: &ReportView<'_>) -> u64 {
+    let mut sum = report.sent_at.wrapping_add(1);
+    sum = sum.wrapping_add(report.host.len() as u64);
+    sum = sum.wrapping_add(report.samples.len() as u64);
+    sum = sum.wrapping_add(report.labels.len() as u64);
+    sum = sum.wrapping_add(report.last.len() as u64);
+    sum = sum.wrapping_add(report.offsets.len() as u64);
+    sum = sum.wrapping_add(report.ports.len() as u64);
+    sum = sum.wrapping_add(report.notes.len() as u64);
+    sum.wrapping_add(report.signature.len() as u64)
+}
+
+/// A round reads the reports of a log as views of their texts. The answer is that of decoding, where
+/// no key of a map comes twice.
+#[unsafe(no_mangle)]
+pub extern "C" fn wb_report_view(alloc: Global, bytes: &[u8], rounds: u32) -> u64 {
+    let Ok(payloads) = payloads(alloc, bytes) else {
+        return 0;
+    };
+    let mut sum = 0u64;
+    for _ in 0..rounds {
+        sum = 0;
+        for payload in payloads.iter() {
+            let Ok(report) = ReportView::decode_view_by_default(alloc, *payload) else {
+                return 0;
+            };
+            sum = sum.wrapping_add(sum_of_view(&report));
         }
     }
     sum

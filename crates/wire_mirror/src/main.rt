@@ -1,6 +1,7 @@
 //! Messages that are read and written again. Standard input has a line for each: the name of its
 //! type, and its bytes in hexadecimal digits. Standard output gets a line for each: the shortest
-//! encoding of a copy of what was read, or why there is none.
+//! encoding of a copy of what was read, or why there is none. A type by the name of a view is read
+//! as that; a report's view is written as the message that is made of it, since it has maps.
 #![tactic(auto)]
 
 use std::alloc::Global;
@@ -12,7 +13,8 @@ use wire_kinds::{
     Base, Call, Chain, Choice, Expression, Grants, Groups, Levels, Lists, Maps, MaybeVarints,
     MaybeWidths, Rights, Team, Varints, Wide, Widths,
 };
-use wire_report::{Report, ReportSample};
+use wire_report::{Report, ReportSample, ReportSampleView, ReportView};
+use wire_views::{MessageView, WrittenView};
 use wire_well_known::{
     Any, BoolValue, BytesValue, DoubleValue, Duration, Empty, FieldMask, FloatValue, Int32Value,
     Int64Value, ListValue, StringValue, Struct, Timestamp, UInt32Value, UInt64Value, Value,
@@ -48,6 +50,8 @@ fn answer(alloc: Global, name: &str, digits: &str) -> Result<String, MirrorError
     match name {
         "Report" => mirrored::<Report>(alloc, digits),
         "ReportSample" => mirrored::<ReportSample>(alloc, digits),
+        "ReportView" => report_in_view(alloc, digits),
+        "ReportSampleView" => sample_in_view(alloc, digits),
         "Any" => mirrored::<Any>(alloc, digits),
         "Empty" => mirrored::<Empty>(alloc, digits),
         "Duration" => mirrored::<Duration>(alloc, digits),
@@ -87,22 +91,45 @@ fn answer(alloc: Global, name: &str, digits: &str) -> Result<String, MirrorError
 }
 
 fn mirrored<M: Message>(alloc: Global, digits: &str) -> Result<String, MirrorError> {
-    let bytes = match hex::decode(alloc, digits) {
-        Ok(bytes) => bytes,
-        Err(hex::FromHexError::OutOfMemory) => return Err(MirrorError::OutOfMemory),
-        Err(_) => return Err(MirrorError::NoDigits),
-    };
-    let message = match M::decode_from_slice(alloc, &bytes) {
-        Ok(message) => message,
-        Err(error) => return Err(MirrorError::Refused(error)),
-    };
+    let bytes = decoded(alloc, digits)?;
+    let message = M::decode_from_slice(alloc, &bytes).map_err(MirrorError::Refused)?;
     let Ok(copy) = message.clone() else {
         return Err(MirrorError::OutOfMemory);
     };
-    let bytes = match copy.try_encode_to_vec(alloc) {
-        Ok(bytes) => bytes,
-        Err(error) => return Err(MirrorError::TooLarge(error)),
+    encoded(alloc, copy.try_encode_to_vec(alloc))
+}
+
+// A report, as the message of its view.
+fn report_in_view(alloc: Global, digits: &str) -> Result<String, MirrorError> {
+    let bytes = decoded(alloc, digits)?;
+    let view = match ReportView::decode_view_by_default(alloc, &bytes) {
+        Ok(view) => view,
+        Err(error) => return Err(MirrorError::Refused(error)),
     };
+    let message = view.own(alloc).map_err(MirrorError::Refused)?;
+    encoded(alloc, message.try_encode_to_vec(alloc))
+}
+
+// A sample, as its view is written.
+fn sample_in_view(alloc: Global, digits: &str) -> Result<String, MirrorError> {
+    let bytes = decoded(alloc, digits)?;
+    match ReportSampleView::decode_view_by_default(alloc, &bytes) {
+        Ok(view) => encoded(alloc, view.try_encode_to_vec(alloc)),
+        Err(error) => Err(MirrorError::Refused(error)),
+    }
+}
+
+fn decoded(alloc: Global, digits: &str) -> Result<Vec<u8>, MirrorError> {
+    match hex::decode(alloc, digits) {
+        Ok(bytes) => Ok(bytes),
+        Err(hex::FromHexError::OutOfMemory) => Err(MirrorError::OutOfMemory),
+        Err(_) => Err(MirrorError::NoDigits),
+    }
+}
+
+// The digits of what was written.
+fn encoded(alloc: Global, written: Result<Vec<u8>, EncodeError>) -> Result<String, MirrorError> {
+    let bytes = written.map_err(MirrorError::TooLarge)?;
     match hex::encode(alloc, bytes) {
         Ok(digits) => Ok(digits),
         Err(_) => Err(MirrorError::OutOfMemory),

@@ -19,9 +19,11 @@ use Rattle.wire_fields.specs.Texts.{string}
 use Rattle.wire_fields.specs.declared.form.Form.TheVariants.{Varint}
 use Rattle.wire_report.specs.ReportSample.{ReportSample-Value, report_sample-range}
 use Rattle.wire_report.specs.ReportSample.{report_sample-returned, report_sample-shape}
-use Rattle.wire_report.specs.ReportSample.{report_sample-value}
+use Rattle.wire_report.specs.ReportSample.{report_sample-value, report_sample-view_value}
 use Rattle.wire_report.specs.declared.report_origin.ReportOrigin.{ReportOrigin}
 use Rattle.wire_report.specs.declared.report_origin.ReportOrigin.TheVariants.{Device, File, Sample}
+use Rattle.wire_report.specs.declared.report_origin_view.ReportOriginView.{ReportOriginView}
+use Rattle.wire_report.specs.declared.report_origin_view.ReportOriginView.TheVariants as views
 
 -- the one that stands
 abbrev pub ReportOrigin-One : Type 0
@@ -32,11 +34,20 @@ report_origin-one (File x) = (inl (string_bytes x))
 report_origin-one (Device x) = (inr (inl x))
 report_origin-one (Sample x) = (inr (inr (report_sample-value x)))
 
+-- the same of its view
+abbrev pub report_origin-view_one : ReportOriginView → ReportOrigin-One
+report_origin-view_one (views.File x) = (inl (x.now))
+report_origin-view_one (views.Device x) = (inr (inl x))
+report_origin-view_one (views.Sample x) = (inr (inr (report_sample-view_value x)))
+
 abbrev pub ReportOrigin-Value : Type 0
 ReportOrigin-Value = Option ReportOrigin-One
 
 abbrev pub report_origin-of : Option ReportOrigin → ReportOrigin-Value
 report_origin-of = option_map report_origin-one
+
+abbrev pub report_origin-view_of : Option ReportOriginView → ReportOrigin-Value
+report_origin-view_of = option_map report_origin-view_one
 
 abbrev pub file-of-report_origin-as : ReportOrigin-Value → Option (List ℕ)
 file-of-report_origin-as None = None

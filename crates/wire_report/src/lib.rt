@@ -5,9 +5,15 @@ pub mod laws;
 mod report;
 mod report_level;
 mod report_origin;
+mod report_origin_view;
 mod report_sample;
+mod report_sample_view;
+mod report_view;
 
 pub use report::Report;
 pub use report_level::ReportLevel;
 pub use report_origin::ReportOrigin;
+pub use report_origin_view::ReportOriginView;
 pub use report_sample::ReportSample;
+pub use report_sample_view::ReportSampleView;
+pub use report_view::ReportView;
