@@ -105,6 +105,12 @@ const REPORT_HOLD: Works = works! {
     reports::hold::<HashReport>, reports::hold::<TreeReport>,
     cpp_report_hold
 };
+const REPORT_VIEW: Works = works! {
+    wb_report_view,
+    reports::decode::<HashReport>, reports::decode::<TreeReport>,
+    cpp_report_decode
+};
+const UNKNOWN_REPORT_VIEW: Works = works! { wb_report_view, -, cpp_report_decode };
 const UNKNOWN_REPORT_DECODE: Works = works! { wb_report_decode, -, cpp_report_decode };
 const UNKNOWN_REPORT_ENCODE: Works = works! { wb_report_encode, -, cpp_report_encode };
 
@@ -154,11 +160,12 @@ const CALLS: &[Row] = &[
     row("encode node", "tree", "node", NODE_ENCODE),
 ];
 
-// The decoding and the encoding of the reports of each input.
+// The decoding, the reading as views and the encoding of the reports of each input.
 macro_rules! report_rows {
-    ($($input:literal: $unit:literal, $decode:ident, $encode:ident;)*) => {
+    ($($input:literal: $unit:literal, $decode:ident, $view:ident, $encode:ident;)*) => {
         &[
             $(report_row!("decode", $input, $unit, $decode),)*
+            $(report_row!("view", $input, $unit, $view),)*
             $(report_row!("encode", $input, $unit, $encode),)*
             report_row!("hold", "mixed", "report", REPORT_HOLD),
         ]
@@ -177,25 +184,26 @@ macro_rules! report_row {
 }
 
 const REPORTS: &[Row] = report_rows! {
-    "mixed": "report", REPORT_DECODE, REPORT_ENCODE;
-    "small": "report", REPORT_DECODE, REPORT_ENCODE;
-    "empty": "report", REPORT_DECODE, REPORT_ENCODE;
-    "host": "report", REPORT_DECODE, REPORT_ENCODE;
-    "sent_at": "report", REPORT_DECODE, REPORT_ENCODE;
-    "level": "report", REPORT_DECODE, REPORT_ENCODE;
-    "load": "report", REPORT_DECODE, REPORT_ENCODE;
-    "samples": "sample", REPORT_DECODE, REPORT_ENCODE;
-    "samples1": "sample", REPORT_DECODE, REPORT_ENCODE;
-    "labels": "entry", REPORT_DECODE, REPORT_ENCODE;
-    "labels1": "entry", REPORT_DECODE, REPORT_ENCODE;
-    "last": "entry", REPORT_DECODE, REPORT_ENCODE;
-    "offsets": "number", REPORT_DECODE, REPORT_ENCODE;
-    "ports": "number", REPORT_DECODE, REPORT_ENCODE;
-    "notes": "string", REPORT_DECODE, REPORT_ENCODE;
-    "signature": "report", REPORT_DECODE, REPORT_ENCODE;
-    "worst": "report", REPORT_DECODE, REPORT_ENCODE;
-    "origin_file": "report", REPORT_DECODE, REPORT_ENCODE;
-    "origin_dev": "report", REPORT_DECODE, REPORT_ENCODE;
-    "origin_sample": "report", REPORT_DECODE, REPORT_ENCODE;
-    "unknown": "record", UNKNOWN_REPORT_DECODE, UNKNOWN_REPORT_ENCODE;
+    "mixed": "report", REPORT_DECODE, REPORT_VIEW, REPORT_ENCODE;
+    "small": "report", REPORT_DECODE, REPORT_VIEW, REPORT_ENCODE;
+    "empty": "report", REPORT_DECODE, REPORT_VIEW, REPORT_ENCODE;
+    "host": "report", REPORT_DECODE, REPORT_VIEW, REPORT_ENCODE;
+    "sent_at": "report", REPORT_DECODE, REPORT_VIEW, REPORT_ENCODE;
+    "level": "report", REPORT_DECODE, REPORT_VIEW, REPORT_ENCODE;
+    "load": "report", REPORT_DECODE, REPORT_VIEW, REPORT_ENCODE;
+    "samples": "sample", REPORT_DECODE, REPORT_VIEW, REPORT_ENCODE;
+    "samples1": "sample", REPORT_DECODE, REPORT_VIEW, REPORT_ENCODE;
+    "labels": "entry", REPORT_DECODE, REPORT_VIEW, REPORT_ENCODE;
+    "labels1": "entry", REPORT_DECODE, REPORT_VIEW, REPORT_ENCODE;
+    "last": "entry", REPORT_DECODE, REPORT_VIEW, REPORT_ENCODE;
+    "offsets": "number", REPORT_DECODE, REPORT_VIEW, REPORT_ENCODE;
+    "ports": "number", REPORT_DECODE, REPORT_VIEW, REPORT_ENCODE;
+    "notes": "string", REPORT_DECODE, REPORT_VIEW, REPORT_ENCODE;
+    "signature": "report", REPORT_DECODE, REPORT_VIEW, REPORT_ENCODE;
+    "worst": "report", REPORT_DECODE, REPORT_VIEW, REPORT_ENCODE;
+    "origin_file": "report", REPORT_DECODE, REPORT_VIEW, REPORT_ENCODE;
+    "origin_dev": "report", REPORT_DECODE, REPORT_VIEW, REPORT_ENCODE;
+    "origin_sample": "report", REPORT_DECODE, REPORT_VIEW, REPORT_ENCODE;
+    "unknown": "record", UNKNOWN_REPORT_DECODE, UNKNOWN_REPORT_VIEW,
+        UNKNOWN_REPORT_ENCODE;
 };
