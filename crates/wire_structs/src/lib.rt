@@ -1,0 +1,23 @@
+//! Messages as structs for C and other languages: of fixed size, with strings and bytes that stay
+//! where they were read, and with no memory of their own.
+//!
+//! A struct holds numbers as they are, strings and `bytes` as slices of the bytes that were read,
+//! presence as a flag beside the value, an enum as its number, and a message inside as a struct
+//! inside. Its table is that of its message, with the definitions of `wire_fields`, but for the
+//! fields that the schema lacks, which are charged as those of the message are, and not held.
+//! `MessageStruct::read` is what a caller of such a type calls.
+#![tactic(auto)]
+
+mod inside;
+mod message;
+mod number;
+mod presence;
+mod scalar;
+mod text;
+
+pub use inside::{merge_message, merge_optional_message};
+pub use message::MessageStruct;
+pub use number::{DoubleInC, EnumInC, FloatInC, NumberInC};
+pub use presence::{merge_optional, merge_value};
+pub use scalar::StructScalar;
+pub use text::{BytesInC, TextInC};
