@@ -1,2 +1,4 @@
+pub mod Arms
+pub mod PassedRecords
 pub mod Reading
 pub mod Shown

@@ -70,6 +70,10 @@ known_shown show n f g default steps = record {
 pub same_shown : {V : Type 0} (n : ℕ) (f : Lawful V) → ShowsShape (λ v. v) (known n f) (known n f)
 same_shown n f = known_shown (λ v. v) n f f refl (all_shown f.kind.takes)
 
+-- fields all of which are shown
+pub same_shape : {V : Type 0} (s : Shape V) → ShowsShape (λ v. v) s s
+same_shape s = record { owns = λ n p. refl; default = refl; steps = all_shown s.takes }
+
 -- the unknown fields, which are not shown
 pub unknown_shown : ShowsShape (λ fs. tt) unknown passed_by
 unknown_shown = record {

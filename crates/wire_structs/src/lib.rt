@@ -11,13 +11,17 @@
 mod inside;
 mod message;
 mod number;
+mod passing;
 mod presence;
 mod scalar;
+mod status;
 mod text;
 
 pub use inside::{merge_message, merge_optional_message};
 pub use message::MessageStruct;
 pub use number::{DoubleInC, EnumInC, FloatInC, NumberInC};
+pub use passing::pass_by;
 pub use presence::{merge_optional, merge_value};
 pub use scalar::StructScalar;
+pub use status::{context_within, default_context, read_status};
 pub use text::{BytesInC, TextInC};
