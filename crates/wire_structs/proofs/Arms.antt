@@ -1,15 +1,17 @@
 -- A record that a field of a struct takes or refuses is one that the struct takes or refuses: what
 -- the arms of `merge_field` cite, beside those of `wire_fields` of the same use.
-use Rattle.std.proofs.Common.{◌≡◌, ℕ, List, subst, false}
-use Rattle.std.specs.Prelude.{Result, Ok, Err, OnErr}
+use Rattle.std.proofs.Common.{◌≡◌, ℕ, List, refl, subst, sym, false}
+use Rattle.std.specs.Prelude.{Option, Result, Ok, Err, OnErr, OnOk}
 use Rattle.wire_codec.specs.DecodeError.{DecodeError}
 use Rattle.wire_codec.specs.Field.{Payload}
 use Rattle.wire_codec.specs.Folds.{Step}
 use Rattle.wire_codec.specs.Limits.{Limits, Charge}
-use Rattle.wire_codec.specs.Taking.{TakesRecord, NotTaken}
+use Rattle.wire_codec.specs.Taking.{TakesRecord, IsCharged, NotTaken}
 use Rattle.wire_codec.specs.WireType.{WireType}
-use Rattle.wire_fields.specs.Arms.{untaken}
-use Rattle.wire_fields.specs.Shape.{Owns, on, either}
+use Rattle.wire_fields.specs.Arms.{arm_ok, from_last, to_last, untaken}
+use Rattle.wire_fields.specs.Messages.{or_else}
+use Rattle.wire_fields.specs.Oneof.{Variants, choice, takes_variant}
+use Rattle.wire_fields.specs.Shape.{FieldKind, Owns, on, either}
 
 -- a record of field number k, which the struct gives to this step of the field's value t
 pub arm_refused : {V T : Type 0} (takes : Step V) (step : Step T) (k n : ℕ) → n ≡ k → (m : V) (t : T)
@@ -33,3 +35,31 @@ rest_refused owns one other n is m l w old (Err e) h = λ c z new taken. h c z.1
   step = (subst (λ b. on b (one m.0 n taken.payload c z.0 × (z.1 ≡ m.1))
       (other m.1 n taken.payload c z.1 × (z.0 ≡ m.0))) (is taken.payload) taken.step).0;
 })
+
+-- the last variant of a oneof, for a record that those before it do not own, where its value t is
+-- the one that stands, or that of no records
+module _ {V T : Type 0} (front : Variants V) (f : FieldKind T) (get : V → Option T) (set : T → V)
+    (n : ℕ) (not : (p : Payload) → front.owns n p ≡ false) (m : V) (t : T)
+    (stood : t ≡ or_else f.default (get m)) where
+  pub last_ok : (u : T) {R : Type 0} (l after : Limits) (w : WireType) (old new : List ℕ)
+      (r : Result R DecodeError)
+      → OnOk r (IsCharged l after (λ c. TakesRecord f.takes l n w t old c u new))
+      → OnOk r (IsCharged l after (λ c. TakesRecord
+      (choice front.owns front.takes (takes_variant f.default get set f.takes)) l n w m old c
+      (set u) new))
+  last_ok u l after w old new r h =
+      arm_ok (choice front.owns front.takes (takes_variant f.default get set f.takes)) f.takes n n
+      refl m (set u) t u
+      (λ c p k. to_last front.owns front.takes (takes_variant f.default get set f.takes) n not m
+      (set u) c p (u, subst (λ x. f.takes x n p c u) stood k, refl)) l after w old new r h
+
+  pub last_refused : {R : Type 0} (l : Limits) (w : WireType) (old : List ℕ)
+      (r : Result R DecodeError) → OnErr r (NotTaken (TakesRecord f.takes l n w t old))
+      → OnErr r (NotTaken (TakesRecord
+      (choice front.owns front.takes (takes_variant f.default get set f.takes)) l n w m old))
+  last_refused l w old r h =
+      arm_refused (choice front.owns front.takes (takes_variant f.default get set f.takes)) f.takes
+      n n refl m t
+      (λ c z p k.
+      let mine = from_last front.owns front.takes (takes_variant f.default get set f.takes) n not m
+      z c p k in (mine.0, subst (λ x. f.takes x n p c mine.0) (sym stood) mine.1)) l w old r h

@@ -6,7 +6,7 @@ use Rattle.wire_codec.specs.Folds.{Step, Folds}
 use Rattle.wire_codec.specs.Limits.{Limits, Charge}
 use Rattle.wire_codec.specs.Taking.{Decodes, NotDecoded}
 use Rattle.wire_fields.specs.Messages.{Encoding, inside, or_else, merges, once_in}
-use Rattle.wire_fields.specs.Oneof.{takes_variant, choice}
+use Rattle.wire_fields.specs.Oneof.{Variants, variant, either_of}
 use Rattle.wire_fields.specs.Shape.{Owns, on, either, same_pair, Lawful, Shape, known}
 use Rattle.wire_fields.specs.Shape.{two, unknown}
 use Rattle.wire_structs.specs.Passed.{passed_by}
@@ -174,56 +174,58 @@ once_shown show n encoding s t h =
 
 -- ---- oneofs
 
+started : {T U : Type 0} (reveal : T → U) (start : T) (m : Option T)
+    → or_else (reveal start) (option_map reveal m) ≡ reveal (or_else start m)
+started reveal start None = refl
+started reveal start (Some v) = refl
+
 -- one variant of two oneofs
-module _ {V W T U : Type 0} (show : V → W) (reveal : T → U) (start : T) (start_too : U)
-    (get : V → Option T) (get_too : W → Option U) (set : T → V) (set_too : U → W) (s : Step T)
-    (t : Step U) (begins : start_too ≡ reveal start)
+module _ {V W T U : Type 0} (show : V → W) (reveal : T → U) (n : ℕ) (f : Lawful T) (g : Lawful U)
+    (get : V → Option T) (get_too : W → Option U) (set : T → V) (set_too : U → W)
+    (begins : g.kind.default ≡ reveal f.kind.default)
     (gets : (m : V) → get_too (show m) ≡ option_map reveal (get m))
-    (sets : (x : T) → set_too (reveal x) ≡ show (set x)) (h : ShowsSteps reveal s t) where
-  stands : (m : V) → or_else start_too (get_too (show m)) ≡ reveal (or_else start (get m))
+    (puts : (x : T) → set_too (reveal x) ≡ show (set x))
+    (h : ShowsSteps reveal f.kind.takes g.kind.takes) where
+  stands : (m : V) → or_else g.kind.default (get_too (show m))
+      ≡ reveal (or_else f.kind.default (get m))
   stands m =
       ap (λ x. or_else x (get_too (show m))) begins
-      ∙ ap (or_else (reveal start)) (gets m)
-      ∙ begun reveal start (get m)
-    where
-      begun : (f : T → U) (first : T) (m : Option T) → or_else (f first) (option_map f m)
-          ≡ f (or_else first m)
-      begun f first None = refl
-      begun f first (Some v) = refl
+      ∙ ap (or_else (reveal f.kind.default)) (gets m)
+      ∙ started reveal f.kind.default (get m)
 
-  pub variant_shown : ShowsSteps show (takes_variant start get set s)
-      (takes_variant start_too get_too set_too t)
+  pub variant_shown :
+      ShowsSteps show (variant n f get set).takes (variant n g get_too set_too).takes
   variant_shown = record {
-    on = λ m n p c z (x, step, is). (
+    on = λ m k p c z (x, step, is). (
       reveal x,
-      subst (λ y. t y n p c (reveal x)) (sym (stands m))
-          (h.on (or_else start (get m)) n p c x step),
-      ap show is ∙ sym (sets x),
+      subst (λ y. g.kind.takes y k p c (reveal x)) (sym (stands m))
+          (h.on (or_else f.kind.default (get m)) k p c x step),
+      ap show is ∙ sym (puts x),
     );
-    back = λ m n p c w (u, step, is).
-        let one = h.back (or_else start (get m)) n p c u
-        (subst (λ y. t y n p c u) (stands m) step) in
-        (set one.0, (one.0, one.1, refl), is ∙ ap set_too one.2 ∙ sets one.0);
+    back = λ m k p c w (u, step, is).
+        let one = h.back (or_else f.kind.default (get m)) k p c u
+        (subst (λ y. g.kind.takes y k p c u) (stands m) step) in
+        (set one.0, (one.0, one.1, refl), is ∙ ap set_too one.2 ∙ puts one.0);
   }
 
 -- some variants, or others
-module _ {V W : Type 0} (show : V → W) (one other : Step V) (one_too other_too : Step W)
-    (first : ShowsSteps show one one_too) (second : ShowsSteps show other other_too) where
-  on_choice : (b : Bool) (m z : V) (n : ℕ) (p : Payload) (c : Charge)
-      → on b (one m n p c z) (other m n p c z)
-      → on b (one_too (show m) n p c (show z)) (other_too (show m) n p c (show z))
-  on_choice true m z n p c h = first.on m n p c z h
-  on_choice false m z n p c h = second.on m n p c z h
+module _ {V W : Type 0} (show : V → W) (a b : Variants V) (c d : Variants W)
+    (same : (n : ℕ) (p : Payload) → c.owns n p ≡ a.owns n p)
+    (first : ShowsSteps show a.takes c.takes) (second : ShowsSteps show b.takes d.takes) where
+  on_choice : (mine : Bool) (m z : V) (n : ℕ) (p : Payload) (e : Charge)
+      → on mine (a.takes m n p e z) (b.takes m n p e z)
+      → on mine (c.takes (show m) n p e (show z)) (d.takes (show m) n p e (show z))
+  on_choice true m z n p e h = first.on m n p e z h
+  on_choice false m z n p e h = second.on m n p e z h
 
-  back_choice : (b : Bool) (m : V) (w : W) (n : ℕ) (p : Payload) (c : Charge)
-      → on b (one_too (show m) n p c w) (other_too (show m) n p c w)
-      → (z : V) × on b (one m n p c z) (other m n p c z) × (w ≡ show z)
-  back_choice true m w n p c h = first.back m n p c w h
-  back_choice false m w n p c h = second.back m n p c w h
+  back_choice : (mine : Bool) (m : V) (w : W) (n : ℕ) (p : Payload) (e : Charge)
+      → on mine (c.takes (show m) n p e w) (d.takes (show m) n p e w)
+      → (z : V) × on mine (a.takes m n p e z) (b.takes m n p e z) × (w ≡ show z)
+  back_choice true m w n p e h = first.back m n p e w h
+  back_choice false m w n p e h = second.back m n p e w h
 
-  pub choice_shown : (owns : Owns)
-      → ShowsSteps show (choice owns one other) (choice owns one_too other_too)
-  choice_shown owns = record {
-    on = λ m n p c z h. on_choice (owns n p) m z n p c h;
-    back = λ m n p c w h. back_choice (owns n p) m w n p c h;
+  pub either_of_shown : ShowsSteps show (either_of a b).takes (either_of c d).takes
+  either_of_shown = record {
+    on = λ m n p e z h. rw (same n p) (on_choice (a.owns n p) m z n p e h);
+    back = λ m n p e w h. back_choice (a.owns n p) m w n p e (rw (same n p) at h);
   }

@@ -1,0 +1,64 @@
+/* What the headers of messages as structs share. The header of a schema includes it.
+ *
+ * A struct is of fixed size and owns nothing: strings and `bytes` are pointers into the bytes that
+ * were read, so these have to live and stay as they are for as long as the struct is used. Each call
+ * is proved: for all bytes, and whatever the struct held before, it ends, reads only the bytes that
+ * it is handed, writes only the struct that it is handed, asks for no memory and keeps no state, so
+ * calls on structs of their own may run at once. What stands on trust: that a header is that of its
+ * library, which `./run` looks at, the C compiler, and that a caller hands in what these conditions
+ * say:
+ *
+ * - a pointer to a struct or to limits is not null and is aligned, and the struct that a call sets
+ *   overlaps nothing else that it is handed;
+ * - `bytes` points to `len` bytes that nothing writes during the call; where `len` is 0 it may be
+ *   any pointer, NULL too.
+ *
+ * How a field of a message stands in its struct:
+ *
+ * - a number as itself, an enum as its number, also one that the schema does not know;
+ * - a string or `bytes` as `gtv_bytes`; a string is UTF-8, with no zero byte at its end;
+ * - a message inside as its struct, with `has_NAME` before it: where that is false, it is zero;
+ * - an optional number, string or `bytes` with `has_NAME` before it, as well;
+ * - a oneof as a struct with `which`, the number of the field that stands, or 0, and all of its
+ *   fields, of which the others are zero;
+ * - fields that the schema lacks are passed over.
+ *
+ * A struct is zero where each number in it is 0, each flag is false, and each string is of no
+ * bytes; `data` of no bytes is some pointer, and is not to be followed. */
+#ifndef GETTAVIL_STRUCTS_H
+#define GETTAVIL_STRUCTS_H
+
+#include "gettavil.h"
+
+#include <stdbool.h>
+
+#ifdef __cplusplus
+extern "C" {
+#endif
+
+/* Some of the bytes that were read. */
+typedef struct gtv_bytes {
+    const uint8_t *data;
+    size_t len;
+} gtv_bytes;
+
+#ifdef __cplusplus
+}
+#endif
+
+/* The layout that the libraries were compiled for: 64 bits. */
+#if defined(__cplusplus)
+#define GTV_LAYOUT(name, claim) static_assert(claim, #name)
+#elif defined(__STDC_VERSION__) && __STDC_VERSION__ >= 201112L
+#define GTV_LAYOUT(name, claim) _Static_assert(claim, #name)
+#else
+#define GTV_LAYOUT(name, claim) typedef char gtv_layout_##name[(claim) ? 1 : -1]
+#endif
+
+GTV_LAYOUT(size_of_bool, sizeof(bool) == 1);
+GTV_LAYOUT(size_of_double, sizeof(double) == 8);
+GTV_LAYOUT(size_of_float, sizeof(float) == 4);
+GTV_LAYOUT(size_of_bytes, sizeof(gtv_bytes) == 16);
+GTV_LAYOUT(bytes_len, offsetof(gtv_bytes, len) == 8);
+
+#endif

@@ -1,0 +1,95 @@
+//! Tries the structs of Rust on the rows of `rows.tsv`, and says how many stood.
+mod station;
+mod structs;
+
+use station::{ReportSample, Station, StationPower};
+use std::process::ExitCode;
+use structs::Limits;
+
+fn hex(bytes: &[u8]) -> String {
+    if bytes.is_empty() {
+        return "-".to_string();
+    }
+    bytes.iter().map(|byte| format!("{byte:02x}")).collect()
+}
+
+fn or_absent(value: Option<String>) -> String {
+    value.unwrap_or_else(|| "absent".to_string())
+}
+
+fn say_sample(it: &ReportSample<'_>) -> String {
+    format!(
+        "name {}, value {:016x}, count {}",
+        hex(it.name().as_bytes()),
+        it.value().to_bits(),
+        or_absent(it.count().map(|count| count.to_string())),
+    )
+}
+
+fn say_power(power: Option<StationPower<'_>>) -> String {
+    match power {
+        Some(StationPower::Volts(volts)) => format!("8 {:08x}", volts.to_bits()),
+        Some(StationPower::Grid(grid)) => format!("9 {}", hex(grid.as_bytes())),
+        Some(StationPower::Backup(backup)) => format!("10 {{{}}}", say_sample(&backup)),
+        None => "none".to_string(),
+    }
+}
+
+fn say_station(it: &Station<'_>) -> String {
+    format!(
+        "name {}, level {}, height {}, note {}, last {}, key {}, staffed {}, power {}",
+        hex(it.name().as_bytes()),
+        it.level(),
+        or_absent(it.height().map(|height| height.to_string())),
+        or_absent(it.note().map(|note| hex(note.as_bytes()))),
+        or_absent(it.last().map(|last| format!("{{{}}}", say_sample(&last)))),
+        hex(it.key()),
+        u32::from(it.staffed()),
+        say_power(it.power()),
+    )
+}
+
+fn bytes_of(digits: &str) -> Vec<u8> {
+    let at = |i: usize| u8::from_str_radix(&digits[i..i + 2], 16).expect("hexadecimal digits");
+    (0..digits.len() - 1).step_by(2).map(at).collect()
+}
+
+fn limits_of(words: &str) -> Option<Limits> {
+    let numbers: Vec<u64> = words.split(' ').map_while(|word| word.parse().ok()).collect();
+    match numbers[..] {
+        [depth, records, payload_bytes] => Some(Limits {
+            records: records as usize,
+            payload_bytes: payload_bytes as usize,
+            depth: depth as u32,
+        }),
+        _ => None,
+    }
+}
+
+fn found(message: &str, bytes: &[u8], limits: Option<Limits>) -> String {
+    let said = match (message, &limits) {
+        ("station", None) => Station::read(bytes).map(|it| say_station(&it)),
+        ("station", Some(limits)) => Station::read_within(bytes, limits).map(|it| say_station(&it)),
+        (_, None) => ReportSample::read(bytes).map(|it| say_sample(&it)),
+        (_, Some(limits)) => ReportSample::read_within(bytes, limits).map(|it| say_sample(&it)),
+    };
+    said.unwrap_or_else(|refusal| refusal.to_string())
+}
+
+fn main() -> ExitCode {
+    let path = std::env::args().nth(1).expect("rows.tsv");
+    let rows = std::fs::read_to_string(path).expect("the rows");
+    let (mut tried, mut astray) = (0, 0);
+    for line in rows.lines().filter(|line| !line.starts_with('#')) {
+        let parts: Vec<&str> = line.split('\t').collect();
+        let bytes = bytes_of(parts[2]);
+        let said = found(parts[1], &bytes, limits_of(parts[3]));
+        if said != parts[4] {
+            println!("{}: wanted {}, found {said}", parts[0], parts[4]);
+            astray += 1;
+        }
+        tried += 1;
+    }
+    println!("{tried} rows, {astray} astray");
+    ExitCode::from(u8::from(astray != 0))
+}

@@ -1,0 +1,97 @@
+/* The messages of station.proto as structs, read in place. What a struct is and what is asked of a
+ * caller is told in gettavil_structs.h. C99 and C++11. */
+#ifndef STATION_H
+#define STATION_H
+
+#include "gettavil_structs.h"
+
+#ifdef __cplusplus
+extern "C" {
+#endif
+
+/* The enum `report.Report.Level`. */
+enum {
+    REPORT_LEVEL_LOW = 0,
+    REPORT_LEVEL_HIGH = 1,
+    REPORT_LEVEL_VERY_HIGH = 2 /* something is wrong */
+};
+
+/* `report.Report.Sample`: what was measured once. */
+typedef struct report_sample {
+    gtv_bytes name;
+    double value;
+    bool has_count;
+    int64_t count;
+} report_sample;
+
+/* The oneof `power` of `station.Station`: what it runs on. */
+enum {
+    STATION_POWER_NONE = 0,
+    STATION_POWER_VOLTS = 8,
+    STATION_POWER_GRID = 9,
+    STATION_POWER_BACKUP = 10
+};
+
+typedef struct station_power {
+    uint32_t which;
+    float volts;
+    gtv_bytes grid;
+    report_sample backup;
+} station_power;
+
+/* `station.Station`: what a measuring station tells of itself. */
+typedef struct station {
+    gtv_bytes name;
+    int32_t level;
+    bool has_height;
+    int32_t height; /* in metres above the sea */
+    bool has_note;
+    gtv_bytes note;
+    bool has_last;
+    report_sample last;
+    gtv_bytes key;
+    bool staffed;
+    station_power power;
+} station;
+
+/* Each sets the struct to what all of the bytes are: GTV_OK, exactly where they are such a message
+ * within the limits. Any other status says that they are not, and then the struct is zero; it is
+ * that of the error: GTV_UNEXPECTED_EOF, GTV_VARINT_TOO_LONG, GTV_INVALID_WIRE_TYPE,
+ * GTV_INVALID_FIELD_NUMBER, GTV_MESSAGE_TOO_LARGE, GTV_WIRE_TYPE_MISMATCH, GTV_INVALID_UTF8,
+ * GTV_RECURSION_LIMIT_EXCEEDED, GTV_INVALID_END_GROUP or GTV_UNKNOWN_FIELD_LIMIT_EXCEEDED.
+ *
+ * With no limits named these are 100 levels of messages and groups and 1,000,000 unknown fields.
+ * Those of the caller are `depth`, of which no more than 100 are given; `records`, unknown fields,
+ * those in groups counted; and `payload_bytes`, bytes of their length-delimited payloads. */
+uint32_t report_sample_read(const uint8_t *bytes, size_t len, report_sample *it);
+uint32_t report_sample_read_within(const uint8_t *bytes, size_t len, const gtv_limits *limits,
+                                   report_sample *it);
+uint32_t station_read(const uint8_t *bytes, size_t len, station *it);
+uint32_t station_read_within(const uint8_t *bytes, size_t len, const gtv_limits *limits,
+                             station *it);
+
+#ifdef __cplusplus
+}
+#endif
+
+GTV_LAYOUT(size_of_report_sample, sizeof(report_sample) == 40);
+GTV_LAYOUT(report_sample_value, offsetof(report_sample, value) == 16);
+GTV_LAYOUT(report_sample_has_count, offsetof(report_sample, has_count) == 24);
+GTV_LAYOUT(report_sample_count, offsetof(report_sample, count) == 32);
+GTV_LAYOUT(size_of_station_power, sizeof(station_power) == 64);
+GTV_LAYOUT(station_power_volts, offsetof(station_power, volts) == 4);
+GTV_LAYOUT(station_power_grid, offsetof(station_power, grid) == 8);
+GTV_LAYOUT(station_power_backup, offsetof(station_power, backup) == 24);
+GTV_LAYOUT(size_of_station, sizeof(station) == 184);
+GTV_LAYOUT(station_level, offsetof(station, level) == 16);
+GTV_LAYOUT(station_has_height, offsetof(station, has_height) == 20);
+GTV_LAYOUT(station_height, offsetof(station, height) == 24);
+GTV_LAYOUT(station_has_note, offsetof(station, has_note) == 28);
+GTV_LAYOUT(station_note, offsetof(station, note) == 32);
+GTV_LAYOUT(station_has_last, offsetof(station, has_last) == 48);
+GTV_LAYOUT(station_last, offsetof(station, last) == 56);
+GTV_LAYOUT(station_key, offsetof(station, key) == 96);
+GTV_LAYOUT(station_staffed, offsetof(station, staffed) == 112);
+GTV_LAYOUT(station_power_of_station, offsetof(station, power) == 120);
+
+#endif

@@ -1,0 +1,225 @@
+/* Tries the library on the rows of rows.tsv: with a page behind the bytes that no program may touch,
+ * and a struct that held something else before. Each message is cut at each place besides, of which
+ * is asked that a refusal leaves zero, and that all that is shown lies in the bytes. Says how many
+ * rows stood, and ends in 1 where one does not. */
+#include "guarded.h"
+#include "station.h"
+
+#include <inttypes.h>
+#include <stdarg.h>
+#include <string.h>
+
+enum { MOST_BYTES = 4096, MOST_TEXT = 1 << 14 };
+
+/* ---- a text that grows ---- */
+
+static char said[MOST_TEXT];
+static size_t said_len;
+
+static void say(const char *form, ...) __attribute__((format(printf, 1, 2)));
+static void say(const char *form, ...) {
+    va_list more;
+    va_start(more, form);
+    said_len += (size_t)vsnprintf(said + said_len, MOST_TEXT - said_len, form, more);
+    va_end(more);
+}
+
+/* ---- what a struct shows ---- */
+
+static Guarded input;
+static const uint8_t *bytes;
+static size_t bytes_len;
+static int fails;
+
+static void say_bytes(gtv_bytes some) {
+    if (some.len == 0) {
+        say("-");
+        return;
+    }
+    if (some.data < bytes || some.data + some.len > bytes + bytes_len) {
+        say("outside");
+        return;
+    }
+    for (size_t i = 0; i < some.len; i++) {
+        say("%02x", some.data[i]);
+    }
+}
+
+static void say_sample(const report_sample *it) {
+    uint64_t bits;
+    memcpy(&bits, &it->value, sizeof bits);
+    say("name ");
+    say_bytes(it->name);
+    say(", value %016" PRIx64 ", count ", bits);
+    if (it->has_count) {
+        say("%" PRId64, it->count);
+    } else {
+        say(it->count == 0 ? "absent" : "hidden");
+    }
+}
+
+static void say_inside(const report_sample *it) {
+    say("{");
+    say_sample(it);
+    say("}");
+}
+
+/* Whether a struct is zero, by what it shows. */
+static int is_no_sample(const report_sample *it) {
+    size_t before = said_len;
+    say_sample(it);
+    int same = strcmp(said + before, "name -, value 0000000000000000, count absent") == 0;
+    said_len = before;
+    said[said_len] = 0;
+    return same;
+}
+
+static void say_power(const station_power *it) {
+    uint32_t bits;
+    memcpy(&bits, &it->volts, sizeof bits);
+    int others = (it->which != STATION_POWER_VOLTS && bits != 0) +
+                 (it->which != STATION_POWER_GRID && it->grid.len != 0) +
+                 (it->which != STATION_POWER_BACKUP && !is_no_sample(&it->backup));
+    if (it->which == STATION_POWER_VOLTS) {
+        say("8 %08" PRIx32, bits);
+    } else if (it->which == STATION_POWER_GRID) {
+        say("9 ");
+        say_bytes(it->grid);
+    } else if (it->which == STATION_POWER_BACKUP) {
+        say("10 ");
+        say_inside(&it->backup);
+    } else {
+        say(it->which == STATION_POWER_NONE ? "none" : "unknown");
+    }
+    say(others == 0 ? "" : " beside others");
+}
+
+static void say_station(const station *it) {
+    say("name ");
+    say_bytes(it->name);
+    say(", level %" PRId32 ", height ", it->level);
+    if (it->has_height) {
+        say("%" PRId32, it->height);
+    } else {
+        say(it->height == 0 ? "absent" : "hidden");
+    }
+    say(", note ");
+    if (it->has_note) {
+        say_bytes(it->note);
+    } else {
+        say(it->note.len == 0 ? "absent" : "hidden");
+    }
+    say(", last ");
+    if (it->has_last) {
+        say_inside(&it->last);
+    } else {
+        say(is_no_sample(&it->last) ? "absent" : "hidden");
+    }
+    say(", key ");
+    say_bytes(it->key);
+    say(", staffed %d, power ", it->staffed);
+    say_power(&it->power);
+}
+
+/* ---- a call ---- */
+
+typedef struct Row {
+    char *name;
+    int is_station;
+    const gtv_limits *limits;
+} Row;
+
+/* Reads the bytes into a struct that held something else before, and says what it shows then. */
+static uint32_t read_row(const Row *row) {
+    station it;
+    uint32_t status;
+    memset(&it, 0xA5, sizeof it);
+    report_sample *sample = &it.last;
+    said_len = 0;
+    said[0] = 0;
+    if (row->is_station) {
+        status = row->limits ? station_read_within(bytes, bytes_len, row->limits, &it)
+                             : station_read(bytes, bytes_len, &it);
+        say_station(&it);
+    } else {
+        status = row->limits ? report_sample_read_within(bytes, bytes_len, row->limits, sample)
+                             : report_sample_read(bytes, bytes_len, sample);
+        say_sample(sample);
+    }
+    return status;
+}
+
+static const char *zero_of(const Row *row) {
+    return row->is_station ? "name -, level 0, height absent, note absent, last absent, key -, "
+                             "staffed 0, power none"
+                           : "name -, value 0000000000000000, count absent";
+}
+
+static void astray(const Row *row, const char *what, const char *wanted) {
+    printf("%s (%s): %s\n  wanted %s\n  found  %s\n", row->name,
+           row->is_station ? "station" : "sample", what, wanted, said);
+    fails++;
+}
+
+static void try_row(const Row *row, const uint8_t *message, size_t len, const char *wanted) {
+    for (size_t cut = 0; cut <= len; cut++) {
+        bytes = memcpy(at_end(input, cut), message, cut);
+        bytes_len = cut;
+        uint32_t status = read_row(row);
+        if (status != GTV_OK && strcmp(said, zero_of(row)) != 0) {
+            astray(row, "a refusal leaves something", zero_of(row));
+        }
+        if (strstr(said, "outside") || strstr(said, "hidden") || strstr(said, "beside")) {
+            astray(row, "it shows what is not there", "");
+        }
+        if (cut == len) {
+            const char *answer = status == GTV_OK ? said : gtv_status_name(status);
+            if (strcmp(answer, wanted) != 0) {
+                astray(row, answer, wanted);
+            }
+        }
+    }
+}
+
+/* ---- the rows ---- */
+
+static size_t bytes_of(const char *digits, uint8_t *message) {
+    size_t len = 0;
+    for (unsigned byte; sscanf(digits, "%2x", &byte) == 1; digits += 2) {
+        message[len++] = (uint8_t)byte;
+    }
+    return len;
+}
+
+int main(int count, char **words) {
+    FILE *file = count == 2 ? fopen(words[1], "r") : NULL;
+    if (file == NULL) {
+        fprintf(stderr, "usage: rows ROWS.tsv\n");
+        return 2;
+    }
+    input = guarded(MOST_BYTES);
+    static char line[MOST_TEXT];
+    int tried = 0;
+    while (fgets(line, sizeof line, file) != NULL) {
+        if (line[0] == '#') {
+            continue;
+        }
+        char *parts[5];
+        char *rest = line;
+        for (int i = 0; i < 5; i++) {
+            parts[i] = rest;
+            rest += strcspn(rest, "\t\n");
+            *rest++ = 0;
+        }
+        gtv_limits limits;
+        uint8_t message[MOST_BYTES];
+        int named = sscanf(parts[3], "%" SCNu32 " %zu %zu", &limits.depth, &limits.records,
+                           &limits.payload_bytes) == 3;
+        Row row = {parts[0], strcmp(parts[1], "station") == 0, named ? &limits : NULL};
+        try_row(&row, message, bytes_of(parts[2], message), parts[4]);
+        tried++;
+    }
+    fclose(file);
+    printf("%d rows, %d astray\n", tried, fails);
+    return fails == 0 ? 0 : 1;
+}

@@ -1,0 +1,42 @@
+//! The calls of `station`.
+ghost use Rattle.std.specs.Prelude.{◌≡◌, ◌≢◌};
+ghost use Rattle.wire_codec.specs.Options.{default_limits};
+ghost use Rattle.wire_codec.specs.Taking.{NotDecoded};
+ghost use Rattle.wire_fields.specs.Shape.{NotDecodedAs};
+ghost use Rattle.wire_stations.specs.Station.{Station-IsZero, station-seen, station-shape};
+ghost use Rattle.wire_stations.specs.Station.{station-shown};
+ghost use Rattle.wire_structs.specs.Within.{DecodesSeen, within_numbers};
+
+use wire_read::numbers::LimitNumbers;
+use wire_stations::{StationInC, read_station};
+use wire_structs::{context_within, default_context};
+
+/// Sets the station to what all of the bytes are, within the limits of `Message::decode`: 0, exactly
+/// where they are such a message. Else the number of the error, and the station is zero.
+#[unsafe(no_mangle)]
+pub extern "C" fn station_read<'a>(bytes: &'a [u8], station: &mut StationInC<'a>) -> u32
+    ensures ok { result ≡ 0 → DecodesSeen station-shape station-seen default_limits
+        bytes.now (station-shown station.new) }
+    ensures err { result ≢ 0 → NotDecodedAs station-shape bytes.now }
+    ensures zero { result ≢ 0 → Station-IsZero station.new }
+{
+    let mut context = default_context();
+    read_station(bytes, &mut context, station)
+}
+
+/// The same within limits that the caller names, of whose levels no more than 100 are given.
+#[unsafe(no_mangle)]
+pub extern "C" fn station_read_within<'a>(
+    bytes: &'a [u8],
+    limits: &LimitNumbers,
+    station: &mut StationInC<'a>,
+) -> u32
+    ensures ok { result ≡ 0 → DecodesSeen station-shape station-seen
+        (within_numbers limits.now) bytes.now (station-shown station.new) }
+    ensures err { result ≢ 0 → NotDecoded station-shape.takes (within_numbers limits.now)
+        station-shape.default bytes.now }
+    ensures zero { result ≢ 0 → Station-IsZero station.new }
+{
+    let mut context = context_within(limits);
+    read_station(bytes, &mut context, station)
+}

@@ -1,0 +1,3 @@
+pub mod ReportSample
+pub mod Station
+pub mod StationPower

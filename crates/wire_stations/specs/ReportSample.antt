@@ -1,0 +1,41 @@
+-- `ReportSample` as a struct shows it.
+use Rattle.std.specs.Prelude.{◌≡◌, pos, [], false, ⊤}
+use Rattle.wire_fields.specs.Floats.{double}
+use Rattle.wire_fields.specs.Shape.{Shape, two}
+use Rattle.wire_report.specs.ReportSample.{ReportSample-Known, ReportSample-Value}
+use Rattle.wire_report.specs.ReportSample.{report_sample-known}
+use Rattle.wire_structs.specs.Flags.{flagged}
+use Rattle.wire_structs.specs.Passed.{passed_by}
+use Rattle.wire_stations.specs.declared.report_sample.ReportSampleInC.{ReportSampleInC}
+
+-- all but the unknown fields
+abbrev pub ReportSample-Shown : Type 0
+ReportSample-Shown = ReportSample-Known × ⊤
+
+-- what is shown of a value
+abbrev pub report_sample-seen : ReportSample-Value → ReportSample-Shown
+report_sample-seen v = (v.0, tt)
+
+-- what a struct shows
+abbrev pub report_sample-shown : ReportSampleInC → ReportSample-Shown
+report_sample-shown m = (
+  (
+    (
+      m.name.now,
+      double.dec m.value,
+    ),
+    flagged m.has_count m.count,
+  ),
+  tt,
+)
+
+-- the table of what a struct shows
+abbrev pub report_sample-struct : Shape ReportSample-Shown
+report_sample-struct = two report_sample-known passed_by
+
+-- each number is 0, each flag is not set, and each slice is of no bytes
+pub record ReportSample-IsZero (m : ReportSampleInC) : Type 0 where
+  pub name : m.name.now ≡ []
+  pub value : m.value ≡ 0
+  pub has_count : m.has_count ≡ false
+  pub count : m.count ≡ pos 0

@@ -1,0 +1,13 @@
+//! The messages of `station.proto` and of `report.proto` that it holds, as structs for C: the
+//! library below `wire_station_c`. What is written here by hand is what a generator would write.
+#![tactic(auto)]
+
+mod read;
+mod report_sample;
+mod station;
+mod station_power;
+
+pub use read::{read_report_sample, read_station};
+pub use report_sample::ReportSampleInC;
+pub use station::StationInC;
+pub use station_power::StationPowerInC;
