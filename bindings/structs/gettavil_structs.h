@@ -1,12 +1,12 @@
 /* What the headers of messages as structs share. The header of a schema includes it.
  *
  * A struct is of fixed size and owns nothing: strings and `bytes` are pointers into the bytes that
- * were read, so these have to live and stay as they are for as long as the struct is used. Each call
- * is proved: for all bytes, and whatever the struct held before, it ends, reads only the bytes that
- * it is handed, writes only the struct that it is handed, asks for no memory and keeps no state, so
- * calls on structs of their own may run at once. What stands on trust: that a header is that of its
- * library, which `./run` looks at, the C compiler, and that a caller hands in what these conditions
- * say:
+ * were read, so these have to live and stay as they are for as long as the struct is used. Each
+ * call is proved: for all bytes, and whatever the struct held before, it ends, reads only the bytes
+ * that it is handed, writes only the struct that it is handed, asks for no memory and keeps no
+ * state, so calls on structs of their own may run at once. What stands on trust: that a header is
+ * that of its library, which `./run` looks at, the C compiler, and that a caller hands in what
+ * these conditions say:
  *
  * - a pointer to a struct or to limits is not null and is aligned, and the struct that a call sets
  *   overlaps nothing else that it is handed;
@@ -21,6 +21,7 @@
  * - an optional number, string or `bytes` with `has_NAME` before it, as well;
  * - a oneof as a struct with `which`, the number of the field that stands, or 0, and all of its
  *   fields, of which the others are zero;
+ * - of a list, how many there are, in `NAME_count`;
  * - fields that the schema lacks are passed over.
  *
  * A struct is zero where each number in it is 0, each flag is false, and each string is of no

@@ -52,6 +52,8 @@ typedef struct station {
     gtv_bytes key;
     bool staffed;
     station_power power;
+    uint64_t tags_count;
+    uint64_t samples_count;
 } station;
 
 /* Each sets the struct to what all of the bytes are: GTV_OK, exactly where they are such a message
@@ -82,7 +84,7 @@ GTV_LAYOUT(size_of_station_power, sizeof(station_power) == 64);
 GTV_LAYOUT(station_power_volts, offsetof(station_power, volts) == 4);
 GTV_LAYOUT(station_power_grid, offsetof(station_power, grid) == 8);
 GTV_LAYOUT(station_power_backup, offsetof(station_power, backup) == 24);
-GTV_LAYOUT(size_of_station, sizeof(station) == 184);
+GTV_LAYOUT(size_of_station, sizeof(station) == 200);
 GTV_LAYOUT(station_level, offsetof(station, level) == 16);
 GTV_LAYOUT(station_has_height, offsetof(station, has_height) == 20);
 GTV_LAYOUT(station_height, offsetof(station, height) == 24);
@@ -93,5 +95,7 @@ GTV_LAYOUT(station_last, offsetof(station, last) == 56);
 GTV_LAYOUT(station_key, offsetof(station, key) == 96);
 GTV_LAYOUT(station_staffed, offsetof(station, staffed) == 112);
 GTV_LAYOUT(station_power_of_station, offsetof(station, power) == 120);
+GTV_LAYOUT(station_tags_count, offsetof(station, tags_count) == 184);
+GTV_LAYOUT(station_samples_count, offsetof(station, samples_count) == 192);
 
 #endif

@@ -37,7 +37,8 @@ fn say_power(power: Option<StationPower<'_>>) -> String {
 
 fn say_station(it: &Station<'_>) -> String {
     format!(
-        "name {}, level {}, height {}, note {}, last {}, key {}, staffed {}, power {}",
+        "name {}, level {}, height {}, note {}, last {}, key {}, staffed {}, power {}, tags {}, \
+         samples {}",
         hex(it.name().as_bytes()),
         it.level(),
         or_absent(it.height().map(|height| height.to_string())),
@@ -46,6 +47,8 @@ fn say_station(it: &Station<'_>) -> String {
         hex(it.key()),
         u32::from(it.staffed()),
         say_power(it.power()),
+        it.tags_count(),
+        it.samples_count(),
     )
 }
 

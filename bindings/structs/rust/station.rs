@@ -73,6 +73,8 @@ pub struct Station<'a> {
     key: Bytes<'a>,
     staffed: bool,
     power: PowerInC<'a>,
+    tags_count: u64,
+    samples_count: u64,
 }
 
 impl<'a> Station<'a> {
@@ -121,6 +123,16 @@ impl<'a> Station<'a> {
         self.staffed
     }
 
+    /// How many tags there are.
+    pub fn tags_count(&self) -> u64 {
+        self.tags_count
+    }
+
+    /// How many samples there are.
+    pub fn samples_count(&self) -> u64 {
+        self.samples_count
+    }
+
     pub fn power(&self) -> Option<StationPower<'a>> {
         match self.power.which {
             8 => Some(StationPower::Volts(self.power.volts)),
@@ -158,4 +170,4 @@ unsafe extern "C" {
 
 const _: () = assert!(size_of::<ReportSample>() == 40);
 const _: () = assert!(size_of::<PowerInC>() == 64);
-const _: () = assert!(size_of::<Station>() == 184);
+const _: () = assert!(size_of::<Station>() == 200);

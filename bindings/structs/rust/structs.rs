@@ -17,7 +17,8 @@ impl<'a> Bytes<'a> {
         if self.len == 0 {
             return &[];
         }
-        // SAFETY: the library sets both to a place in the bytes that it was handed, which live for 'a.
+        // SAFETY: the library sets both to a place in the bytes that it was handed, which live
+        // for 'a.
         unsafe { std::slice::from_raw_parts(self.data, self.len) }
     }
 }

@@ -1,7 +1,7 @@
-/* Tries the library on the rows of rows.tsv: with a page behind the bytes that no program may touch,
- * and a struct that held something else before. Each message is cut at each place besides, of which
- * is asked that a refusal leaves zero, and that all that is shown lies in the bytes. Says how many
- * rows stood, and ends in 1 where one does not. */
+/* Tries the library on the rows of rows.tsv: with a page behind the bytes that no program may
+ * touch, and a struct that held something else before. Each message is cut at each place besides,
+ * of which is asked that a refusal leaves zero, and that all that is shown lies in the bytes. Says
+ * how many rows stood, and ends in 1 where one does not. */
 #include "guarded.h"
 #include "station.h"
 
@@ -119,6 +119,7 @@ static void say_station(const station *it) {
     say_bytes(it->key);
     say(", staffed %d, power ", it->staffed);
     say_power(&it->power);
+    say(", tags %" PRIu64 ", samples %" PRIu64, it->tags_count, it->samples_count);
 }
 
 /* ---- a call ---- */
@@ -151,7 +152,7 @@ static uint32_t read_row(const Row *row) {
 
 static const char *zero_of(const Row *row) {
     return row->is_station ? "name -, level 0, height absent, note absent, last absent, key -, "
-                             "staffed 0, power none"
+                             "staffed 0, power none, tags 0, samples 0"
                            : "name -, value 0000000000000000, count absent";
 }
 

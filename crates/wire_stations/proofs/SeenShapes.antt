@@ -13,6 +13,8 @@ use Rattle.wire_report.specs.ReportSample.{report_sample-shape}
 use Rattle.wire_structs.proofs.Shown.{all_shown, either_of_shown, inside_shown, once_shown}
 use Rattle.wire_structs.proofs.Shown.{same_shape, same_shown, two_shown, unknown_shown}
 use Rattle.wire_structs.proofs.Shown.{variant_shown}
+use Rattle.wire_structs.proofs.CountedLists.{embedded_shown, repeated_shown}
+use Rattle.wire_structs.specs.Counts.{count_seen}
 use Rattle.wire_structs.specs.Passed.{passed_by}
 use Rattle.wire_structs.specs.Showing.{ShowsShape, ShowsSteps}
 use Rattle.wire_stations.specs.ReportSample.{ReportSample-Shown, report_sample-seen}
@@ -20,7 +22,7 @@ use Rattle.wire_stations.specs.ReportSample.{report_sample-struct}
 use Rattle.wire_stations.specs.Station.{station-height-kind, station-key-kind}
 use Rattle.wire_stations.specs.Station.{station-level-kind, station-name-kind, station-note-kind}
 use Rattle.wire_stations.specs.Station.{station-staffed-kind, station-seen, station-shape}
-use Rattle.wire_stations.specs.Station.{station-struct}
+use Rattle.wire_stations.specs.Station.{station-fields-seen, station-struct, station-with}
 use Rattle.wire_stations.specs.StationPower.{StationPower-Value, backup-of-station_power}
 use Rattle.wire_stations.specs.StationPower.{backup-of-station_power-as, grid-of-station_power}
 use Rattle.wire_stations.specs.StationPower.{grid-of-station_power-as, station_power-front}
@@ -92,10 +94,10 @@ station_power-shows = record {
 
 -- ---- the station
 
-pub station-shows : ShowsShape station-seen station-shape station-struct
-station-shows =
-    two_shown _ (λ fs. tt) _ unknown _ passed_by
-    (two_shown _ _ _ _ _ _
+station-fields-shows : ShowsShape station-fields-seen (station-with report_sample-shape)
+    (station-with report_sample-struct)
+station-fields-shows =
+    two_shown _ _ _ _ _ _
     (two_shown _ _ _ _ _ _
     (two_shown _ _ _ _ _ _
     (same_shown 1 station-name-kind)
@@ -109,5 +111,14 @@ station-shows =
     (same_shown 6 station-key-kind))
     (two_shown _ _ _ _ _ _
     (same_shown 7 station-staffed-kind)
-    station_power-shows)))
+    station_power-shows))
+
+pub station-shows : ShowsShape station-seen station-shape station-struct
+station-shows =
+    two_shown _ (λ fs. tt) _ unknown _ passed_by
+    (two_shown station-fields-seen _ _ _ _ _
+    station-fields-shows
+    (two_shown count_seen count_seen _ _ _ _
+    (repeated_shown 11 24 string)
+    (embedded_shown report_sample-seen _ _ report_sample-shows 12 80)))
     unknown_shown

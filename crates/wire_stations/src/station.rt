@@ -5,8 +5,8 @@ use wire_codec::{DecodeContext, DecodeError, Tag};
 use wire_fields::{Bool, Sint32};
 use wire_report::ReportLevel;
 use wire_structs::{
-    BytesInC, EnumInC, MessageStruct, NumberInC, TextInC, merge_optional, merge_optional_message,
-    merge_value, pass_by,
+    BytesInC, EnumInC, MessageStruct, NumberInC, TextInC, merge_count, merge_message_count,
+    merge_optional, merge_optional_message, merge_value, pass_by,
 };
 
 /// A station.
@@ -26,6 +26,10 @@ pub struct StationInC<'a> {
     pub staffed: bool,
     /// What it runs on.
     pub power: StationPowerInC<'a>,
+    /// How many tags there are.
+    pub tags_count: u64,
+    /// How many samples there are.
+    pub samples_count: u64,
 }
 
 impl<'a> MessageStruct for StationInC<'a> {
@@ -59,6 +63,8 @@ impl<'a> MessageStruct for StationInC<'a> {
             key: &[],
             staffed: false,
             power: StationPowerInC::zero(),
+            tags_count: 0,
+            samples_count: 0,
         }
     }
 
@@ -90,6 +96,13 @@ impl<'a> MessageStruct for StationInC<'a> {
             8 => self.power.merge(tag, buf, context),
             9 => self.power.merge(tag, buf, context),
             10 => self.power.merge(tag, buf, context),
+            11 => merge_count::<TextInC<'a>, 24>(tag, &mut self.tags_count, buf, context),
+            12 => merge_message_count::<ReportSampleInC<'a>, 80>(
+                tag,
+                &mut self.samples_count,
+                buf,
+                context,
+            ),
             _ => pass_by(tag, buf, context),
         }
     }

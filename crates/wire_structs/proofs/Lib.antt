@@ -1,4 +1,5 @@
 pub mod Arms
+pub mod CountedLists
 pub mod PassedRecords
 pub mod Reading
 pub mod Shown

@@ -1,3 +1,4 @@
+pub mod Counts
 pub mod Flags
 pub mod Passed
 pub mod Showing

@@ -8,6 +8,7 @@
 //! `MessageStruct::read` is what a caller of such a type calls.
 #![tactic(auto)]
 
+mod counting;
 mod inside;
 mod message;
 mod number;
@@ -17,6 +18,7 @@ mod scalar;
 mod status;
 mod text;
 
+pub use counting::{merge_count, merge_message_count};
 pub use inside::{merge_message, merge_optional_message};
 pub use message::MessageStruct;
 pub use number::{DoubleInC, EnumInC, FloatInC, NumberInC};

@@ -60,6 +60,12 @@ impl<'a, N: Number> StructScalar for NumberInC<'a, Numeric<N>> {
 
     ghost scalar = { numeric N.form N.map };
 
+    fn empty() -> N::Value
+        ensures { result ≡ N.map.dec 0 }
+    {
+        N::value_of(0)
+    }
+
     fn set(tag: Tag, held: &mut N::Value, buf: &mut &'a [u8]) -> Result<(), DecodeError> {
         let x = read_number(tag, N::form(), buf)?;
         *held = N::value_of(x);
@@ -88,6 +94,12 @@ impl<'a> StructScalar for DoubleInC<'a> {
 
     ghost scalar = { numeric Fixed64 double };
 
+    fn empty() -> u64
+        ensures { double.dec result ≡ double.dec 0 }
+    {
+        0
+    }
+
     fn set(tag: Tag, held: &mut u64, buf: &mut &'a [u8]) -> Result<(), DecodeError> {
         *held = read_number(tag, Form::Fixed64, buf)?;
         Ok(())
@@ -114,6 +126,12 @@ impl<'a> StructScalar for FloatInC<'a> {
     ghost view = { float.dec };
 
     ghost scalar = { numeric Fixed32 float };
+
+    fn empty() -> u32
+        ensures { float.dec result ≡ float.dec 0 }
+    {
+        0
+    }
 
     fn set(tag: Tag, held: &mut u32, buf: &mut &'a [u8]) -> Result<(), DecodeError> {
         *held = read_number(tag, Form::Fixed32, buf)? as u32;
@@ -143,6 +161,13 @@ impl<'a, E: Enumeration> StructScalar for EnumInC<'a, E> {
     ghost view = { λ n. known_or (E.of_number n) n };
 
     ghost scalar = { numeric Varint (open_enum E.number E.of_number) };
+
+    fn empty() -> i32
+        ensures { known_or (E.of_number result) result
+            ≡ (open_enum E.number E.of_number).dec 0 }
+    {
+        0
+    }
 
     fn set(tag: Tag, held: &mut i32, buf: &mut &'a [u8]) -> Result<(), DecodeError> {
         *held = Int32::value_of(read_number(tag, Form::Varint, buf)?);

@@ -1,5 +1,5 @@
 //! Scalar types whose values stand in a struct.
-ghost use Rattle.std.specs.Prelude.{OnOk, OnErr};
+ghost use Rattle.std.specs.Prelude.{◌≡◌, OnOk, OnErr};
 ghost use Rattle.wire_codec.specs.TagView.{tag_number, tag_type};
 ghost use Rattle.wire_fields.specs.Scalar.{ScalarType, ReadsScalar, NoScalar};
 
@@ -21,6 +21,10 @@ pub trait StructScalar {
     ghost view: { Self.Held → Value };
 
     ghost scalar: { ScalarType Value };
+
+    /// The default value.
+    fn empty() -> Self::Held
+        ensures { view result ≡ scalar.default };
 
     /// Reads the payload behind this tag, and puts its value in the place of the one that is held.
     /// Another wire type is `WireTypeMismatch`. A refusal says that no value stands there, and

@@ -23,6 +23,10 @@ impl<'a> StructScalar for TextInC<'a> {
 
     ghost scalar = { string };
 
+    fn empty() -> &'a [u8] {
+        &[]
+    }
+
     fn set(tag: Tag, held: &mut &'a [u8], buf: &mut &'a [u8]) -> Result<(), DecodeError> {
         laws::grammar::one_delimited();
         laws::grammar::no_delimited_beside_fault();
@@ -51,6 +55,10 @@ impl<'a> StructScalar for BytesInC<'a> {
     ghost view = { λ b. b.now };
 
     ghost scalar = { any_bytes };
+
+    fn empty() -> &'a [u8] {
+        &[]
+    }
 
     fn set(tag: Tag, held: &mut &'a [u8], buf: &mut &'a [u8]) -> Result<(), DecodeError> {
         laws::grammar::one_delimited();
