@@ -14,13 +14,15 @@ use Rattle.wire_fields.specs.Oneof.{Variants, choice, takes_variant}
 use Rattle.wire_fields.specs.Shape.{FieldKind, Owns, on, either}
 
 -- a record of field number k, which the struct gives to this step of the field's value t
-pub arm_refused : {V T : Type 0} (takes : Step V) (step : Step T) (k n : ℕ) → n ≡ k → (m : V) (t : T)
+pub arm_refused : {V T : Type 0} (takes : Step V) (step : Step T) (k n : ℕ) → n ≡ k
+    → (m : V) (t : T)
     → ((c : Charge) (z : V) (p : Payload) → takes m k p c z → (u : T) × step t k p c u)
     → {R : Type 0} (l : Limits) (w : WireType) (old : List ℕ) (r : Result R DecodeError)
     → OnErr r (NotTaken (TakesRecord step l n w t old))
     → OnErr r (NotTaken (TakesRecord takes l n w m old))
 arm_refused takes step k n is m t back l w old (Ok x) h = tt
-arm_refused takes step k n is m t back l w old (Err e) h = untaken takes step k n is m t back l w old h
+arm_refused takes step k n is m t back l w old (Err e) h =
+    untaken takes step k n is m t back l w old h
 
 -- a record that the first part does not own
 pub rest_refused : {A B : Type 0} (owns : Owns) (one : Step A) (other : Step B) (n : ℕ)

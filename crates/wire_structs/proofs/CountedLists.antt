@@ -1,5 +1,6 @@
 -- Counts: what they take, and of which lists they are.
-use Rattle.std.proofs.Common.{◌≡◌, ap, ◌∙◌, sym, subst, refl, List, [], ◌∷◌, ◌++◌, length-append, arith}
+use Rattle.std.proofs.Common.{◌≡◌, ap, ◌∙◌, sym, subst, refl}
+use Rattle.std.proofs.Common.{List, [], ◌∷◌, ◌++◌, length-append, arith}
 use Rattle.std.specs.Prelude.{ℕ}
 use Rattle.wire_codec.specs.Limits.{Limits, Fits, left_after, element_of}
 use Rattle.wire_codec.specs.Taking.{TakesRecord, IsCharged, NotTaken}
@@ -48,11 +49,13 @@ count_append vs v = omega (arith, length-append vs (v ∷ []))
 
 pub repeated_shown : {V : Type 0} (n place : ℕ) (t : ScalarType V)
     → ShowsShape count_seen (known n (repeated place t)) (known n (repeated_count place t))
-repeated_shown n place t = known_shown count_seen n (repeated place t) (repeated_count place t) refl (record {
-  on = λ m k p c z (charged, v, has, is). (charged, v, has, ap count_seen is ∙ count_append m v);
-  back = λ m k p c w (charged, v, has, is).
-      (m ++ v ∷ [], (charged, v, has, refl), is ∙ sym (count_append m v));
-})
+repeated_shown n place t =
+    known_shown count_seen n (repeated place t) (repeated_count place t) refl (record {
+      on = λ m k p c z (charged, v, has, is).
+          (charged, v, has, ap count_seen is ∙ count_append m v);
+      back = λ m k p c w (charged, v, has, is).
+          (m ++ v ∷ [], (charged, v, has, refl), is ∙ sym (count_append m v));
+    })
 
 module _ {V W : Type 0} (show : V → W) (s : Shape V) (t : Shape W) (h : ShowsShape show s t) where
   within : ShowsSteps show (inside length_prefixed s.takes) (inside length_prefixed t.takes)
@@ -60,20 +63,21 @@ module _ {V W : Type 0} (show : V → W) (s : Shape V) (t : Shape W) (h : ShowsS
 
   pub embedded_shown : (n place : ℕ)
       → ShowsShape count_seen (known n (embedded_each place s)) (known n (embedded_count place t))
-  embedded_shown n place = known_shown count_seen n (embedded_each place s) (embedded_count place t) refl (record {
-    on = λ m k p c z (after, one, step, charged, is). (
-      show after,
-      one,
-      subst (λ x. inside length_prefixed t.takes x k p one (show after)) (sym h.default)
-          (within.on s.default k p one after step),
-      charged,
-      ap count_seen is ∙ count_append m after,
-    );
-    back = λ m k p c w (after, one, step, charged, is).
-        let mine = within.back s.default k p one after
-        (subst (λ x. inside length_prefixed t.takes x k p one after) h.default step) in (
-          m ++ mine.0 ∷ [],
-          (mine.0, one, mine.1, charged, refl),
-          is ∙ sym (count_append m mine.0),
+  embedded_shown n place =
+      known_shown count_seen n (embedded_each place s) (embedded_count place t) refl (record {
+        on = λ m k p c z (after, one, step, charged, is). (
+          show after,
+          one,
+          subst (λ x. inside length_prefixed t.takes x k p one (show after)) (sym h.default)
+              (within.on s.default k p one after step),
+          charged,
+          ap count_seen is ∙ count_append m after,
         );
-  })
+        back = λ m k p c w (after, one, step, charged, is).
+            let mine = within.back s.default k p one after
+            (subst (λ x. inside length_prefixed t.takes x k p one after) h.default step) in (
+              m ++ mine.0 ∷ [],
+              (mine.0, one, mine.1, charged, refl),
+              is ∙ sym (count_append m mine.0),
+            );
+      })

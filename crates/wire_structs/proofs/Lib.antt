@@ -3,3 +3,4 @@ pub mod CountedLists
 pub mod PassedRecords
 pub mod Reading
 pub mod Shown
+pub mod WalkLemmas

@@ -1,5 +1,6 @@
 -- What passing over a payload tells, by its wire type.
-use Rattle.std.proofs.Common.{◌≡◌, subst, ℕ, ◌<◌, ◌≤◌, List, length, take, drop, Result, Ok, Err, refl, ap}
+use Rattle.std.proofs.Common.{◌≡◌, subst, ℕ, ◌<◌, ◌≤◌, List, length}
+use Rattle.std.proofs.Common.{take, drop, Result, Ok, Err, refl, ap}
 use Rattle.std.proofs.Common.{◌∙◌}
 use Rattle.std.specs.Prelude.{OnOk}
 use Rattle.wire_base.proofs.Decoded.{left_after-bytes}

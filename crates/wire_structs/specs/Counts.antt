@@ -19,7 +19,8 @@ count_more m v = in_64_bits (m + 1)
 
 -- a value more is counted, and charged for its place in memory
 abbrev pub counts_value : {V : Type 0} → ℕ → ScalarType V → Step ℕ
-counts_value {V} place t m n p c z = (c ≡ element_of place) × (v : V) × t.Sets p v × (z ≡ count_more m v)
+counts_value {V} place t m n p c z =
+    (c ≡ element_of place) × (v : V) × t.Sets p v × (z ≡ count_more m v)
 
 pub counts_single : {V : Type 0} (place : ℕ) (t : ScalarType V) → IsSingle (counts_value place t)
 counts_single place t m u z w n p c d (charged, v, has, is) (other, y, has_y, is_y) =

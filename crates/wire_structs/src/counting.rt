@@ -10,10 +10,10 @@ use crate::message::MessageStruct;
 use crate::scalar::StructScalar;
 use wire_codec::{DecodeContext, DecodeError, Tag, laws};
 
-/// Counts the value of the record behind this tag, as `Repeated` of `wire_fields` holds it, with the
-/// same bytes of element memory. No count is above `u64::MAX`. Refused with
-/// `ElementMemoryLimitExceeded`, and as `set` of the scalar type, which leaves open the place of the
-/// buffer and what is left of the limits.
+/// Counts the value of the record behind this tag, as `Repeated` of `wire_fields` holds it, with
+/// the same bytes of element memory. No count is above `u64::MAX`. Refused with
+/// `ElementMemoryLimitExceeded`, and as `set` of the scalar type, which leaves open the place of
+/// the buffer and what is left of the limits.
 pub fn merge_count<S: StructScalar, const PLACE: usize>(
     tag: Tag,
     count: &mut u64,

@@ -20,7 +20,8 @@ pub fn merge_message<M: MessageStruct>(
 ) -> Result<(), DecodeError>
     ensures ok { OnOk result (IsCharged context.old context.new (λ c.
         TakesRecord (inside length_prefixed M.takes) context.old (tag_number tag) (tag_type tag)
-        (M.view message.old) (M.Source.unread buf.old) c (M.view message.new) (M.Source.unread buf.new))) }
+        (M.view message.old) (M.Source.unread buf.old) c (M.view message.new)
+        (M.Source.unread buf.new))) }
     ensures err { OnErr result (NotTaken
         (TakesRecord (inside length_prefixed M.takes) context.old (tag_number tag) (tag_type tag)
         (M.view message.old) (M.Source.unread buf.old))) }

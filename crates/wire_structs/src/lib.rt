@@ -17,6 +17,7 @@ mod presence;
 mod scalar;
 mod status;
 mod text;
+mod walking;
 
 pub use counting::{merge_count, merge_message_count};
 pub use inside::{merge_message, merge_optional_message};
@@ -27,3 +28,4 @@ pub use presence::{merge_optional, merge_value};
 pub use scalar::StructScalar;
 pub use status::{context_within, default_context, read_status};
 pub use text::{BytesInC, TextInC};
+pub use walking::{SliceInC, ValueList, next_status};

@@ -60,7 +60,8 @@ pub trait MessageStruct: Copy {
     ) -> Result<(), DecodeError>
         ensures ok { OnOk result (IsCharged context.old context.new (λ c.
             TakesAll takes context.old default (Self.Source.unread source) c (view self.new))) }
-        ensures err { OnErr result (NotDecoded takes context.old default (Self.Source.unread source)) }
+        ensures err { OnErr result
+            (NotDecoded takes context.old default (Self.Source.unread source)) }
         ensures zero { OnErr result (IsZero self.new) }
     {
         let mut buf = source;
@@ -81,10 +82,11 @@ pub trait MessageStruct: Copy {
         limit: usize,
     ) -> Result<(), DecodeError>
         ensures ok { OnOk result (IsCharged context.old context.new (λ c.
-            TakesList takes context.old (by_limit limit) (view self.old) (Self.Source.unread buf.old)
-            c (view self.new) (Self.Source.unread buf.new))) }
+            TakesList takes context.old (by_limit limit) (view self.old)
+            (Self.Source.unread buf.old) c (view self.new) (Self.Source.unread buf.new))) }
         ensures err { OnErr result (NotTaken
-            (TakesList takes context.old (by_limit limit) (view self.old) (Self.Source.unread buf.old))) }
+            (TakesList takes context.old (by_limit limit) (view self.old)
+            (Self.Source.unread buf.old))) }
     {
         laws::records_in_order();
         while buf.remaining() > limit {

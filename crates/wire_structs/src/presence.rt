@@ -39,8 +39,8 @@ pub fn merge_optional<S: StructScalar>(
 ) -> Result<(), DecodeError>
     ensures ok { (l : Limits) → OnOk result (IsCharged l l (λ c.
         TakesRecord (sets_some S.scalar) l (tag_number tag) (tag_type tag)
-        (flagged has.old (S.view held.old)) (S.Source.unread buf.old) c (flagged has.new (S.view held.new))
-        (S.Source.unread buf.new))) }
+        (flagged has.old (S.view held.old)) (S.Source.unread buf.old) c
+        (flagged has.new (S.view held.new)) (S.Source.unread buf.new))) }
     ensures err { (l : Limits) → OnErr result (NotTaken
         (TakesRecord (sets_some S.scalar) l (tag_number tag) (tag_type tag)
         (flagged has.old (S.view held.old)) (S.Source.unread buf.old))) }

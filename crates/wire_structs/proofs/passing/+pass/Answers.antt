@@ -11,7 +11,8 @@ use Rattle.wire_base.specs.Fault.{no_slot, no_varint, no_bytes, no_level, in_gro
 use Rattle.wire_base.specs.Fault.{no_tag, bad_payload, past}
 use Rattle.wire_base.specs.Field.{none, push}
 use Rattle.wire_base.specs.Limits.{Limits, inner, left_after}
-use Rattle.wire_structs.proofs.PassedRecords.{passes_varint, passes_fixed64, passes_fixed32, passes_bytes}
+use Rattle.wire_structs.proofs.PassedRecords.{passes_varint, passes_fixed64, passes_fixed32}
+use Rattle.wire_structs.proofs.PassedRecords.{passes_bytes}
 use Rattle.wire_structs.proofs.PassedRecords.{passes_group}
 use Rattle.wire_structs.proofs.passing.+pass.Goals as goal
 

@@ -38,8 +38,8 @@ returns-then-remaining-rest-clause-err g c =
 pub returns-clause-ok : goal.returns-clause-ok
 returns-clause-ok g c =
     let taken = c.in_ok-merge_to_limit.ensures.ok in
-    let whole = limit_is_whole c.delimited_is_read.ensures g.Self.MessageStruct.takes _ _ _ _ _ _ _ _
-    _
+    let whole = limit_is_whole c.delimited_is_read.ensures g.Self.MessageStruct.takes _ _ _ _ _ _ _
+    _ _
     (sym (take-append-drop c.in_ok-len.len _))
     (ap (λ n. n - c.in_ok-len.len) c.remaining.ensures
     ∙ sym (length-drop c.in_ok-len.len _))

@@ -6,8 +6,8 @@ use Rattle.wire_structs.proofs.message.MessageStruct.merge_to_limit.Given as goa
 abbrev pub invariant-loop-buf : goal.invariant-loop-buf
 invariant-loop-buf g l =
     Follows g.Self.MessageStruct.takes (by_limit l.fn.limit) l.fn.context
-    (g.Self.MessageStruct.view l.fn.self) (g.Self.Source.Buf.unread l.fn.buf) l.context (g.Self.MessageStruct.view l.self)
-    (g.Self.Source.Buf.unread l.buf)
+    (g.Self.MessageStruct.view l.fn.self) (g.Self.Source.Buf.unread l.fn.buf) l.context
+    (g.Self.MessageStruct.view l.self) (g.Self.Source.Buf.unread l.buf)
 
 abbrev pub decreases-loop-buf : goal.decreases-loop-buf
 decreases-loop-buf g l = length (g.Self.Source.Buf.unread l.buf)
