@@ -21,7 +21,8 @@
  * - an optional number, string or `bytes` with `has_NAME` before it, as well;
  * - a oneof as a struct with `which`, the number of the field that stands, or 0, and all of its
  *   fields, of which the others are zero;
- * - of a list, how many there are, in `NAME_count`;
+ * - of a list, how many there are, in `NAME_count`; `MESSAGE_next_NAME` gives them, from the same
+ *   bytes;
  * - fields that the schema lacks are passed over.
  *
  * A struct is zero where each number in it is 0, each flag is false, and each string is of no
@@ -37,7 +38,7 @@
 extern "C" {
 #endif
 
-/* Some of the bytes that were read. */
+/* Some of the bytes that were read, or what is left of them. */
 typedef struct gtv_bytes {
     const uint8_t *data;
     size_t len;

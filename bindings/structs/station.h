@@ -72,6 +72,13 @@ uint32_t station_read(const uint8_t *bytes, size_t len, station *it);
 uint32_t station_read_within(const uint8_t *bytes, size_t len, const gtv_limits *limits,
                              station *it);
 
+/* The next of the tags, one after another: set `walk` to the bytes that were read as a station, and
+ * call until the answer is no GTV_OK. GTV_OK, and `tag` is the next of them, and `walk` what is
+ * behind it; GTV_END, where none is left; or the status of an error, which bytes that were read as
+ * a station never have. Without GTV_OK `walk` stays, and `tag` is of no bytes. So it gives as many
+ * as `tags_count` says, in order. */
+uint32_t station_next_tag(gtv_bytes *walk, gtv_bytes *tag);
+
 #ifdef __cplusplus
 }
 #endif

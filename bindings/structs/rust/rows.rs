@@ -2,7 +2,7 @@
 mod station;
 mod structs;
 
-use station::{ReportSample, Station, StationPower};
+use station::{ReportSample, Station, StationPower, Tags};
 use std::process::ExitCode;
 use structs::Limits;
 
@@ -52,6 +52,11 @@ fn say_station(it: &Station<'_>) -> String {
     )
 }
 
+fn say_tags(bytes: &[u8]) -> String {
+    let tags: Vec<String> = Tags::new(bytes).map(|tag| hex(tag.as_bytes())).collect();
+    if tags.is_empty() { String::new() } else { format!(" tags {}", tags.join(" ")) }
+}
+
 fn bytes_of(digits: &str) -> Vec<u8> {
     let at = |i: usize| u8::from_str_radix(&digits[i..i + 2], 16).expect("hexadecimal digits");
     (0..digits.len() - 1).step_by(2).map(at).collect()
@@ -71,8 +76,10 @@ fn limits_of(words: &str) -> Option<Limits> {
 
 fn found(message: &str, bytes: &[u8], limits: Option<Limits>) -> String {
     let said = match (message, &limits) {
-        ("station", None) => Station::read(bytes).map(|it| say_station(&it)),
-        ("station", Some(limits)) => Station::read_within(bytes, limits).map(|it| say_station(&it)),
+        ("station", None) => Station::read(bytes).map(|it| say_station(&it) + &say_tags(bytes)),
+        ("station", Some(limits)) => {
+            Station::read_within(bytes, limits).map(|it| say_station(&it) + &say_tags(bytes))
+        }
         (_, None) => ReportSample::read(bytes).map(|it| say_sample(&it)),
         (_, Some(limits)) => ReportSample::read_within(bytes, limits).map(|it| say_sample(&it)),
     };

@@ -143,6 +143,30 @@ impl<'a> Station<'a> {
     }
 }
 
+/// The tags of a station, in order, in the bytes that it was read from.
+#[derive(Clone)]
+pub struct Tags<'a> {
+    walk: Bytes<'a>,
+}
+
+impl<'a> Tags<'a> {
+    pub fn new(bytes: &'a [u8]) -> Tags<'a> {
+        Tags { walk: Bytes::new(bytes) }
+    }
+}
+
+impl<'a> Iterator for Tags<'a> {
+    type Item = &'a str;
+
+    /// Ends where the bytes are no station, too.
+    fn next(&mut self) -> Option<&'a str> {
+        let mut tag = Text::empty();
+        // SAFETY: both are structs that nothing else has.
+        let status = unsafe { station_next_tag(&mut self.walk, &mut tag) };
+        (status == 0).then(|| tag.get())
+    }
+}
+
 // The library sets the struct whatever it answers.
 fn told<T>(status: u32, it: MaybeUninit<T>) -> Result<T, Refusal> {
     if status != 0 {
@@ -166,6 +190,7 @@ unsafe extern "C" {
         limits: *const Limits,
         it: *mut Station<'a>,
     ) -> u32;
+    fn station_next_tag<'a>(walk: *mut Bytes<'a>, tag: *mut Text<'a>) -> u32;
 }
 
 const _: () = assert!(size_of::<ReportSample>() == 40);

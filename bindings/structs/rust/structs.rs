@@ -12,6 +12,11 @@ pub struct Bytes<'a> {
 }
 
 impl<'a> Bytes<'a> {
+    /// Those of a slice.
+    pub(crate) fn new(bytes: &'a [u8]) -> Bytes<'a> {
+        Bytes { data: bytes.as_ptr(), len: bytes.len(), read: PhantomData }
+    }
+
     /// The bytes themselves.
     pub fn get(self) -> &'a [u8] {
         if self.len == 0 {
@@ -31,6 +36,11 @@ pub struct Text<'a> {
 }
 
 impl<'a> Text<'a> {
+    /// The text of no bytes.
+    pub(crate) fn empty() -> Text<'a> {
+        Text { bytes: Bytes::new(&[]) }
+    }
+
     /// The string itself.
     pub fn get(self) -> &'a str {
         // SAFETY: the library sets a string to UTF-8 alone.

@@ -122,6 +122,26 @@ static void say_station(const station *it) {
     say(", tags %" PRIu64 ", samples %" PRIu64, it->tags_count, it->samples_count);
 }
 
+/* Says the tags, as many as are given: at most as many as there are bytes. At the end, and at a
+ * fault, the next call answers the same. */
+static size_t say_tags(void) {
+    gtv_bytes walk = {bytes, bytes_len};
+    gtv_bytes tag;
+    uint32_t status;
+    size_t given = 0;
+    while ((status = station_next_tag(&walk, &tag)) == GTV_OK && given++ < bytes_len) {
+        say(given == 1 ? " tags " : " ");
+        say_bytes(tag);
+    }
+    if (station_next_tag(&walk, &tag) != status || tag.len != 0) {
+        say(" beside");
+    }
+    if (status != GTV_END) {
+        say(" %s", gtv_status_name(status));
+    }
+    return given;
+}
+
 /* ---- a call ---- */
 
 typedef struct Row {
@@ -130,7 +150,11 @@ typedef struct Row {
     const gtv_limits *limits;
 } Row;
 
-/* Reads the bytes into a struct that held something else before, and says what it shows then. */
+/* How much of what is said is what the struct shows. */
+static size_t zero_len;
+
+/* Reads the bytes into a struct that held something else before, and says what it shows then, and
+ * its tags. */
 static uint32_t read_row(const Row *row) {
     station it;
     uint32_t status;
@@ -142,10 +166,15 @@ static uint32_t read_row(const Row *row) {
         status = row->limits ? station_read_within(bytes, bytes_len, row->limits, &it)
                              : station_read(bytes, bytes_len, &it);
         say_station(&it);
+        zero_len = said_len;
+        if (say_tags() != it.tags_count && status == GTV_OK) {
+            say(" beside");
+        }
     } else {
         status = row->limits ? report_sample_read_within(bytes, bytes_len, row->limits, sample)
                              : report_sample_read(bytes, bytes_len, sample);
         say_sample(sample);
+        zero_len = said_len;
     }
     return status;
 }
@@ -167,7 +196,7 @@ static void try_row(const Row *row, const uint8_t *message, size_t len, const ch
         bytes = memcpy(at_end(input, cut), message, cut);
         bytes_len = cut;
         uint32_t status = read_row(row);
-        if (status != GTV_OK && strcmp(said, zero_of(row)) != 0) {
+        if (status != GTV_OK && strncmp(said, zero_of(row), zero_len) != 0) {
             astray(row, "a refusal leaves something", zero_of(row));
         }
         if (strstr(said, "outside") || strstr(said, "hidden") || strstr(said, "beside")) {

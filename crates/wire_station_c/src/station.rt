@@ -1,18 +1,19 @@
 //! The calls of `station`.
-ghost use Rattle.std.specs.Prelude.{◌≡◌, ◌≢◌};
+ghost use Rattle.std.specs.Prelude.{◌≡◌, ◌≢◌, []};
 ghost use Rattle.wire_codec.specs.Options.{default_limits};
 ghost use Rattle.wire_codec.specs.Taking.{NotDecoded};
 ghost use Rattle.wire_fields.specs.Shape.{NotDecodedAs};
 ghost use Rattle.wire_stations.specs.Station.{Station-IsZero, station-seen, station-shape};
-ghost use Rattle.wire_stations.specs.Station.{station-shown};
+ghost use Rattle.wire_stations.specs.Station.{station-shown, tags-of-station};
+ghost use Rattle.wire_structs.specs.Walks.{GivesNext, EndsList, MakesNothing};
 ghost use Rattle.wire_structs.specs.Within.{DecodesSeen, within_numbers};
 
 use wire_read::numbers::LimitNumbers;
-use wire_stations::{StationInC, read_station};
-use wire_structs::{context_within, default_context};
+use wire_stations::{StationInC, next_station_tag, read_station};
+use wire_structs::{SliceInC, context_within, default_context};
 
-/// Sets the station to what all of the bytes are, within the limits of `Message::decode`: 0, exactly
-/// where they are such a message. Else the number of the error, and the station is zero.
+/// Sets the station to what all of the bytes are, within the limits of `Message::decode`: 0,
+/// exactly where they are such a message. Else the number of the error, and the station is zero.
 #[unsafe(no_mangle)]
 pub extern "C" fn station_read<'a>(bytes: &'a [u8], station: &mut StationInC<'a>) -> u32
     ensures ok { result ≡ 0 → DecodesSeen station-shape station-seen default_limits
@@ -39,4 +40,20 @@ pub extern "C" fn station_read_within<'a>(
 {
     let mut context = context_within(limits);
     read_station(bytes, &mut context, station)
+}
+
+/// The next tag of the station that these bytes are: 0, and the bytes begin behind it; 1 where none
+/// is left; or the number of the error, nowhere in bytes that were read as a station. Where it
+/// answers no 0 the bytes stay, and the tag is of no bytes.
+#[unsafe(no_mangle)]
+pub extern "C" fn station_next_tag<'a>(walk: &mut SliceInC<'a>, tag: &mut SliceInC<'a>) -> u32
+    ensures given { result ≡ 0 → GivesNext station-shape.takes tags-of-station
+        walk.old.bytes.now walk.new.bytes.now tag.new.bytes.now }
+    ensures ended { result ≡ 1 → EndsList station-shape.takes tags-of-station walk.old.bytes.now }
+    ensures other { result ≢ 0 → result ≢ 1 → MakesNothing station-shape.takes
+        walk.old.bytes.now }
+    ensures stays { result ≢ 0 → (walk.new.bytes.now ≡ walk.old.bytes.now)
+        × (tag.new.bytes.now ≡ []) }
+{
+    next_station_tag(walk, tag)
 }

@@ -1,3 +1,4 @@
 pub mod ReportSample
 pub mod Station
+pub mod StationLists
 pub mod StationPower

@@ -94,6 +94,12 @@ station-known =
 abbrev pub Station-Value : Type 0
 Station-Value = Station-Known × Fields
 
+abbrev pub tags-of-station : Station-Value → List (List ℕ)
+tags-of-station m = m.0.1.0
+
+abbrev pub samples-of-station : Station-Value → List ReportSample-Value
+samples-of-station m = m.0.1.1
+
 abbrev pub station-shape : Shape Station-Value
 station-shape = two station-known unknown
 

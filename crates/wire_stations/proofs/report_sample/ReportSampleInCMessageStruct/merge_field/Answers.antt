@@ -54,5 +54,9 @@ pub returns-in_default-clause-err : goal.returns-in_default-clause-err
 returns-in_default-clause-err c =
     let n = tag_number c.args.tag in
     rest_refused report_sample-known.owns report_sample-known.takes passes n
-    (λ p. neither _ _ (neither _ _ (unlike n 1 (search rules)) (unlike n 2 (search rules))) (unlike n 3 (search rules)))
+    (λ p. neither _ _
+    (neither _ _
+    (unlike n 1 (search rules))
+    (unlike n 2 (search rules)))
+    (unlike n 3 (search rules)))
     _ _ _ _ c.pass_by.result c.pass_by.ensures.err

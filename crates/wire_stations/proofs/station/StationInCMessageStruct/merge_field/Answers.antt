@@ -4,7 +4,8 @@ use Rattle.wire_fields.specs.Arms.{arm_ok, neither, unlike}
 use Rattle.wire_stations.specs.ReportSample.{report_sample-struct}
 use Rattle.wire_stations.specs.Station.{station-height-kind, station-key-kind, station-last-kind}
 use Rattle.wire_stations.specs.Station.{station-level-kind, station-name-kind, station-note-kind}
-use Rattle.wire_stations.specs.Station.{station-samples_count-kind, station-staffed-kind, station-struct}
+use Rattle.wire_stations.specs.Station.{station-samples_count-kind, station-staffed-kind}
+use Rattle.wire_stations.specs.Station.{station-struct}
 use Rattle.wire_stations.specs.Station.{station-struct-known, station-tags_count-kind}
 use Rattle.wire_stations.specs.StationPower.{station_power-struct}
 use Rattle.wire_structs.proofs.Arms.{arm_refused, rest_refused}
@@ -183,5 +184,25 @@ pub returns-in_default-clause-err : goal.returns-in_default-clause-err
 returns-in_default-clause-err c =
     let n = tag_number c.args.tag in
     rest_refused station-struct-known.owns station-struct-known.takes passes n
-    (λ p. neither _ _ (neither _ _ (neither _ _ (neither _ _ (unlike n 1 (search rules)) (unlike n 2 (search rules))) (neither _ _ (unlike n 3 (search rules)) (unlike n 4 (search rules)))) (neither _ _ (neither _ _ (unlike n 5 (search rules)) (unlike n 6 (search rules))) (neither _ _ (unlike n 7 (search rules)) (neither _ _ (neither _ _ (unlike n 8 (search rules)) (unlike n 9 (search rules))) (unlike n 10 (search rules)))))) (neither _ _ (unlike n 11 (search rules)) (unlike n 12 (search rules))))
+    (λ p. neither _ _
+    (neither _ _
+    (neither _ _
+    (neither _ _
+    (unlike n 1 (search rules))
+    (unlike n 2 (search rules)))
+    (neither _ _
+    (unlike n 3 (search rules))
+    (unlike n 4 (search rules))))
+    (neither _ _
+    (neither _ _
+    (unlike n 5 (search rules))
+    (unlike n 6 (search rules)))
+    (neither _ _
+    (unlike n 7 (search rules))
+    (neither _ _ (neither _ _ (unlike n 8 (search rules))
+    (unlike n 9 (search rules)))
+    (unlike n 10 (search rules))))))
+    (neither _ _
+    (unlike n 11 (search rules))
+    (unlike n 12 (search rules))))
     _ _ _ _ c.pass_by.result c.pass_by.ensures.err
