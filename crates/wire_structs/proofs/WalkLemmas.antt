@@ -14,7 +14,8 @@ use Rattle.wire_codec.specs.Read.{Reads}
 use Rattle.wire_codec.specs.Tag.{IsTagSpelling, TagFault}
 use Rattle.wire_codec.specs.Taken.{TakesPayload, TakesUntil}
 use Rattle.wire_codec.specs.Taking.{TakesList}
-use Rattle.wire_codec.specs.TakingLaws.{RecordsInOrder}
+use Rattle.wire_codec.specs.RecordLaws.{WholeInput}
+use Rattle.wire_codec.specs.TakingLaws.{LevelsAndCounts, RecordsInOrder}
 use Rattle.wire_codec.specs.WireType.{WireType}
 use Rattle.wire_fields.specs.Scalar.{ScalarType, ReadsScalar, NoScalar}
 use Rattle.wire_structs.specs.Walks.{Makes, GivesNext, EndsList, MakesNothing, ListOf}
@@ -24,8 +25,9 @@ abbrev pub SoFar : {V A : Type 0} → Step V → (V → List A) → List ℕ →
 SoFar {V} takes list old now =
     (m z : V) → Makes takes old m z → (u : V) × Makes takes now u z × (list u ≡ list m)
 
-module _ (order : RecordsInOrder) {V A : Type 0} (takes : Step V) (list : V → List A) (k : ℕ)
-    (t : ScalarType A) (h : ListOf takes list k t) (old now : List ℕ)
+module _ (order : RecordsInOrder) {V A B : Type 0} (takes : Step V) (list : V → List A)
+    (Means : B → A → Type 0) (k : ℕ) (t : ScalarType B) (h : ListOf takes list Means k t)
+    (old now : List ℕ)
     (so_far : SoFar takes list old now) where
   not_over : 0 < length now → NotEnded by_input now
   not_over goes new ended = omega (arith, ended.0, goes)
@@ -96,15 +98,16 @@ module _ (order : RecordsInOrder) {V A : Type 0} (takes : Step V) (list : V → 
           };
         })
 
-    pub value_given : n ≡ k → (v : A) (next : List ℕ) → ReadsScalar t n w v behind next
-        → GivesNext takes list old next v
-    value_given is v next read m z made =
+    pub value_given : LevelsAndCounts → WholeInput → n ≡ k → (v : B) (next : List ℕ)
+        → ReadsScalar t n w v behind next
+        → GivesNext takes list Means old next v
+    value_given levels whole is v next read m z made =
         let (u, (l, low, (c, taken)), same) = so_far m z made in
         let b = here l u z c taken in
         let one = order.reading.payload n w read.payload b.taken.payload behind next b.next
         read.read b.taken.read.read in
-        let mine = h.own u b.mid b.taken.payload b.first
-        (subst (λ x. takes u x b.taken.payload b.first b.mid) is b.taken.step) in
+        let mine = h.own levels order.limits whole l low u b.mid b.taken.payload b.first
+        b.taken.read.fits (subst (λ x. takes u x b.taken.payload b.first b.mid) is b.taken.step) in
         let value = t.one b.taken.payload mine.0 v mine.1
         (subst (λ x. t.Sets x v) one.0 read.sets) in (
           b.mid,
@@ -117,14 +120,17 @@ module _ (order : RecordsInOrder) {V A : Type 0} (takes : Step V) (list : V → 
                   (sym one.1) b.rest,
             ),
           ),
-          mine.2 ∙ ap (λ x. list u ++ x ∷ []) value ∙ ap (λ x. x ++ v ∷ []) same,
+          mine.2,
+          subst (λ x. Means x mine.2) value mine.3,
+          mine.4 ∙ ap (λ x. x ++ mine.2 ∷ []) same,
         )
 
-    pub no_value_given : n ≡ k → NoScalar t n w behind → MakesNothing takes old
-    no_value_given is absent m z made =
+    pub no_value_given : LevelsAndCounts → WholeInput → n ≡ k
+        → NoScalar t n w behind → MakesNothing takes old
+    no_value_given levels whole is absent m z made =
         let (u, (l, low, (c, taken)), same) = so_far m z made in
         let b = here l u z c taken in
-        let mine = h.own u b.mid b.taken.payload b.first
-        (subst (λ x. takes u x b.taken.payload b.first b.mid) is b.taken.step) in
+        let mine = h.own levels order.limits whole l low u b.mid b.taken.payload b.first
+        b.taken.read.fits (subst (λ x. takes u x b.taken.payload b.first b.mid) is b.taken.step) in
         absent mine.0 b.next
         (record { payload = b.taken.payload; read = b.taken.read.read; sets = mine.1 })

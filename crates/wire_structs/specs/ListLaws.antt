@@ -1,11 +1,14 @@
 -- Which records a list of a message has, as the table of the message is put together.
 use Rattle.std.proofs.Common.{◌≡◌, ◌≢◌, ◌≤◌, ℕ, Bool, true, false}
-use Rattle.std.proofs.Common.{List, refl, sym, ap, ◌∙◌, subst, arith}
+use Rattle.std.proofs.Common.{List, [], refl, sym, ap, ◌∙◌, subst, arith}
 use Rattle.std.specs.Prelude.{Option, ◌||◌}
 use Rattle.wire_codec.specs.Charge.{payload_charge}
 use Rattle.wire_codec.specs.Field.{Payload, Fields}
 use Rattle.wire_codec.specs.Folds.{Step}
-use Rattle.wire_codec.specs.Limits.{Charge}
+use Rattle.wire_codec.specs.Limits.{Charge, Fits, Limits, element_of, inner, left_after}
+use Rattle.wire_codec.specs.LimitsLaws.{LimitsAddUp}
+use Rattle.wire_codec.specs.RecordLaws.{WholeInput}
+use Rattle.wire_codec.specs.TakingLaws.{LevelsAndCounts}
 use Rattle.wire_codec.specs.ValueMap.{ValueMap}
 use Rattle.wire_fields.specs.Arms.{unlike}
 use Rattle.wire_fields.specs.Messages.{gathers, inside, length_prefixed, merges, or_else}
@@ -14,9 +17,10 @@ use Rattle.wire_fields.specs.Oneof.{Variants, either_of, variant}
 use Rattle.wire_fields.specs.Presence.{adds, sets, sets_some}
 use Rattle.wire_fields.specs.Scalar.{ScalarType}
 use Rattle.wire_fields.specs.Shape.{Lawful, Shape, keeps, known, on, two, unknown}
-use Rattle.wire_fields.specs.Texts.{delimited}
+use Rattle.wire_fields.specs.Texts.{any_bytes, delimited}
 use Rattle.wire_fields.specs.declared.form.Form.{Form}
 use Rattle.wire_fields.specs.declared.form.Form.TheVariants.{Varint, Fixed64, Fixed32}
+use Rattle.wire_structs.specs.Walks.{Makes}
 
 -- ---- the groups of a record are charged their levels
 
@@ -157,3 +161,34 @@ whole_leaves a k list leaves m z n p c other h =
     owned : (b : Bool) → (b || true) ≡ true
     owned true = refl
     owned false = refl
+
+-- ---- embedded messages
+
+-- the record of an embedded message more: its payload, and the message that this makes
+pub message_more : {V M : Type 0} (s : Shape V) (place : ℕ) (put : M → V → M) → LevelsAndCounts
+    → LimitsAddUp → WholeInput → (l : Limits) → l.depth ≤ 100 → (m z : M) (n : ℕ) (p : Payload)
+    (c : Charge) → Fits c l → gathers place length_prefixed s.takes s.default put m n p c z
+    → (b : List ℕ) × any_bytes.Sets p b × (a : V) × Makes s.takes b s.default a × (z ≡ put m a)
+message_more s place put levels limits whole l low m z n p c fits (after, one, h, sum, is) =
+    let (fs, within, has, folded, own) = h in
+    let left = left_after l (element_of place) in
+    let fit = ((limits.both_fit l (element_of place) one).0
+    (subst (λ x. Fits x l) sum fits)).1 in
+    let deep = (levels.levels.nested_fits left within).0 (subst (λ x. Fits x left) own fit) in (
+      has.text,
+      record { has = has.is; holds = tt },
+      after,
+      (
+        inner left,
+        omega (arith, low),
+        (
+          within,
+          record {
+            fields = fs;
+            read = (whole within (inner left) fs has.text []).1 (has.spelled, deep.1, refl);
+            folded = folded;
+          },
+        ),
+      ),
+      is,
+    )

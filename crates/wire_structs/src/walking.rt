@@ -38,7 +38,12 @@ pub trait ValueList {
 
     ghost takes: { Step Value };
 
-    ghost list: { Value → List Item };
+    /// What the list has, and for which of these a value stands.
+    ghost Element: { Type 0 };
+
+    ghost list: { Value → List Element };
+
+    ghost Means: { Item → Element → Type 0 };
 
     /// The field number.
     ghost number: { ℕ };
@@ -59,12 +64,14 @@ pub trait ValueList {
     /// bytes that were read as the message; which leaves open what is held and the place.
     final fn next(held: &mut Self::Held, buf: &mut Self::Source) -> Result<bool, DecodeError>
         ensures ok { IfOk result (λ more. on more
-            (GivesNext takes list (Self.Source.unread buf.old) (Self.Source.unread buf.new)
+            (GivesNext takes list Means (Self.Source.unread buf.old) (Self.Source.unread buf.new)
             (view held.new))
             (EndsList takes list (Self.Source.unread buf.old))) }
         ensures err { OnErr result (MakesNothing takes (Self.Source.unread buf.old)) }
     {
         laws::records_in_order();
+        laws::levels_and_counts();
+        laws::grammar::whole_input();
         laws::grammar::no_payload_beside_fault();
         while buf.remaining() > 0 {
             let tag = Tag::decode(buf)?;
@@ -78,13 +85,13 @@ pub trait ValueList {
     }
 
     /// The list is that of the records of its number.
-    ghost lawful: { ListOf takes list number scalar };
+    ghost lawful: { ListOf takes list Means number scalar };
 }
 
 /// `next`, for a caller in another language: 0 and the value, 1 where none is left, or the number
 /// that `status_of` gives the error, which is from 2 on.
 pub fn next_status<L: ValueList>(held: &mut L::Held, buf: &mut L::Source) -> u32
-    ensures given { result ≡ 0 → GivesNext L.takes L.list (L.Source.unread buf.old)
+    ensures given { result ≡ 0 → GivesNext L.takes L.list L.Means (L.Source.unread buf.old)
         (L.Source.unread buf.new) (L.view held.new) }
     ensures ended { result ≡ 1 → EndsList L.takes L.list (L.Source.unread buf.old) }
     ensures other { result ≢ 0 → result ≢ 1 → MakesNothing L.takes (L.Source.unread buf.old) }
