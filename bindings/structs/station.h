@@ -79,6 +79,9 @@ uint32_t station_read_within(const uint8_t *bytes, size_t len, const gtv_limits 
  * as `tags_count` says, in order. */
 uint32_t station_next_tag(gtv_bytes *walk, gtv_bytes *tag);
 
+/* The same of the samples, of which it gives the bytes: what report_sample_read reads. */
+uint32_t station_next_sample(gtv_bytes *walk, gtv_bytes *sample);
+
 #ifdef __cplusplus
 }
 #endif

@@ -2,7 +2,7 @@
 mod station;
 mod structs;
 
-use station::{ReportSample, Station, StationPower, Tags};
+use station::{ReportSample, Samples, Station, StationPower, Tags};
 use std::process::ExitCode;
 use structs::Limits;
 
@@ -57,6 +57,18 @@ fn say_tags(bytes: &[u8]) -> String {
     if tags.is_empty() { String::new() } else { format!(" tags {}", tags.join(" ")) }
 }
 
+fn say_samples(bytes: &[u8]) -> String {
+    let said = |sample: ReportSample<'_>| format!("{{{}}}", say_sample(&sample));
+    let samples: Vec<String> = Samples::new(bytes)
+        .map(|sample| sample.map_or_else(|refusal| refusal.to_string(), said))
+        .collect();
+    if samples.is_empty() { String::new() } else { format!(" samples {}", samples.join(" ")) }
+}
+
+fn say_lists(bytes: &[u8]) -> String {
+    say_tags(bytes) + &say_samples(bytes)
+}
+
 fn bytes_of(digits: &str) -> Vec<u8> {
     let at = |i: usize| u8::from_str_radix(&digits[i..i + 2], 16).expect("hexadecimal digits");
     (0..digits.len() - 1).step_by(2).map(at).collect()
@@ -76,9 +88,9 @@ fn limits_of(words: &str) -> Option<Limits> {
 
 fn found(message: &str, bytes: &[u8], limits: Option<Limits>) -> String {
     let said = match (message, &limits) {
-        ("station", None) => Station::read(bytes).map(|it| say_station(&it) + &say_tags(bytes)),
+        ("station", None) => Station::read(bytes).map(|it| say_station(&it) + &say_lists(bytes)),
         ("station", Some(limits)) => {
-            Station::read_within(bytes, limits).map(|it| say_station(&it) + &say_tags(bytes))
+            Station::read_within(bytes, limits).map(|it| say_station(&it) + &say_lists(bytes))
         }
         (_, None) => ReportSample::read(bytes).map(|it| say_sample(&it)),
         (_, Some(limits)) => ReportSample::read_within(bytes, limits).map(|it| say_sample(&it)),

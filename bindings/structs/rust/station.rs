@@ -167,6 +167,30 @@ impl<'a> Iterator for Tags<'a> {
     }
 }
 
+/// The samples of a station, in order, in the bytes that it was read from.
+#[derive(Clone)]
+pub struct Samples<'a> {
+    walk: Bytes<'a>,
+}
+
+impl<'a> Samples<'a> {
+    pub fn new(bytes: &'a [u8]) -> Samples<'a> {
+        Samples { walk: Bytes::new(bytes) }
+    }
+}
+
+impl<'a> Iterator for Samples<'a> {
+    type Item = Result<ReportSample<'a>, Refusal>;
+
+    /// Ends where the bytes are no station, too.
+    fn next(&mut self) -> Option<Result<ReportSample<'a>, Refusal>> {
+        let mut one = Bytes::new(&[]);
+        // SAFETY: both are structs that nothing else has.
+        let status = unsafe { station_next_sample(&mut self.walk, &mut one) };
+        (status == 0).then(|| ReportSample::read(one.get()))
+    }
+}
+
 // The library sets the struct whatever it answers.
 fn told<T>(status: u32, it: MaybeUninit<T>) -> Result<T, Refusal> {
     if status != 0 {
@@ -190,6 +214,7 @@ unsafe extern "C" {
         limits: *const Limits,
         it: *mut Station<'a>,
     ) -> u32;
+    fn station_next_sample<'a>(walk: *mut Bytes<'a>, sample: *mut Bytes<'a>) -> u32;
     fn station_next_tag<'a>(walk: *mut Bytes<'a>, tag: *mut Text<'a>) -> u32;
 }
 

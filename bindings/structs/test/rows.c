@@ -142,6 +142,31 @@ static size_t say_tags(void) {
     return given;
 }
 
+/* The same of the samples, each as it is read from what is given. */
+static size_t say_samples(void) {
+    gtv_bytes walk = {bytes, bytes_len};
+    gtv_bytes one;
+    uint32_t status;
+    size_t given = 0;
+    while ((status = station_next_sample(&walk, &one)) == GTV_OK && given++ < bytes_len) {
+        report_sample sample;
+        uint32_t read = report_sample_read(one.data, one.len, &sample);
+        say(given == 1 ? " samples " : " ");
+        if (read == GTV_OK) {
+            say_inside(&sample);
+        } else {
+            say("%s", gtv_status_name(read));
+        }
+    }
+    if (station_next_sample(&walk, &one) != status || one.len != 0) {
+        say(" beside");
+    }
+    if (status != GTV_END) {
+        say(" %s", gtv_status_name(status));
+    }
+    return given;
+}
+
 /* ---- a call ---- */
 
 typedef struct Row {
@@ -167,7 +192,8 @@ static uint32_t read_row(const Row *row) {
                              : station_read(bytes, bytes_len, &it);
         say_station(&it);
         zero_len = said_len;
-        if (say_tags() != it.tags_count && status == GTV_OK) {
+        if ((say_tags() != it.tags_count || say_samples() != it.samples_count) &&
+            status == GTV_OK) {
             say(" beside");
         }
     } else {

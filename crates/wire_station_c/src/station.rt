@@ -4,12 +4,13 @@ ghost use Rattle.wire_codec.specs.Options.{default_limits};
 ghost use Rattle.wire_codec.specs.Taking.{NotDecoded};
 ghost use Rattle.wire_fields.specs.Shape.{NotDecodedAs};
 ghost use Rattle.wire_stations.specs.Station.{Station-IsZero, station-seen, station-shape};
-ghost use Rattle.wire_stations.specs.Station.{station-shown, tags-of-station};
+ghost use Rattle.wire_stations.specs.Station.{samples-of-station, station-shown, tags-of-station};
+ghost use Rattle.wire_stations.specs.StationLists.{MakesSample, SameBytes};
 ghost use Rattle.wire_structs.specs.Walks.{GivesNext, EndsList, MakesNothing};
 ghost use Rattle.wire_structs.specs.Within.{DecodesSeen, within_numbers};
 
 use wire_read::numbers::LimitNumbers;
-use wire_stations::{StationInC, next_station_tag, read_station};
+use wire_stations::{StationInC, next_station_sample, next_station_tag, read_station};
 use wire_structs::{SliceInC, context_within, default_context};
 
 /// Sets the station to what all of the bytes are, within the limits of `Message::decode`: 0,
@@ -47,7 +48,7 @@ pub extern "C" fn station_read_within<'a>(
 /// answers no 0 the bytes stay, and the tag is of no bytes.
 #[unsafe(no_mangle)]
 pub extern "C" fn station_next_tag<'a>(walk: &mut SliceInC<'a>, tag: &mut SliceInC<'a>) -> u32
-    ensures given { result ≡ 0 → GivesNext station-shape.takes tags-of-station
+    ensures given { result ≡ 0 → GivesNext station-shape.takes tags-of-station SameBytes
         walk.old.bytes.now walk.new.bytes.now tag.new.bytes.now }
     ensures ended { result ≡ 1 → EndsList station-shape.takes tags-of-station walk.old.bytes.now }
     ensures other { result ≢ 0 → result ≢ 1 → MakesNothing station-shape.takes
@@ -56,4 +57,21 @@ pub extern "C" fn station_next_tag<'a>(walk: &mut SliceInC<'a>, tag: &mut SliceI
         × (tag.new.bytes.now ≡ []) }
 {
     next_station_tag(walk, tag)
+}
+
+/// The bytes of the next sample of the station that these bytes are: 0, and the bytes begin behind
+/// it; 1 where none is left; or the number of the error, nowhere in bytes that were read as a
+/// station. Where it answers no 0 the bytes stay, and the sample is of no bytes.
+#[unsafe(no_mangle)]
+pub extern "C" fn station_next_sample<'a>(walk: &mut SliceInC<'a>, sample: &mut SliceInC<'a>) -> u32
+    ensures given { result ≡ 0 → GivesNext station-shape.takes samples-of-station MakesSample
+        walk.old.bytes.now walk.new.bytes.now sample.new.bytes.now }
+    ensures ended { result ≡ 1 → EndsList station-shape.takes samples-of-station
+        walk.old.bytes.now }
+    ensures other { result ≢ 0 → result ≢ 1 → MakesNothing station-shape.takes
+        walk.old.bytes.now }
+    ensures stays { result ≢ 0 → (walk.new.bytes.now ≡ walk.old.bytes.now)
+        × (sample.new.bytes.now ≡ []) }
+{
+    next_station_sample(walk, sample)
 }

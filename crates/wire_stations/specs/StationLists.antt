@@ -1,6 +1,6 @@
 -- The lists of a station as those of its table.
-use Rattle.std.proofs.Common.{inl, inr}
-use Rattle.std.specs.Prelude.{IsUtf8, Some, [], ◌∷◌, ◌++◌}
+use Rattle.std.proofs.Common.{◌≡◌, inl, inr, refl}
+use Rattle.std.specs.Prelude.{IsUtf8, Some, ℕ, List, [], ◌∷◌, ◌++◌}
 use Rattle.wire_codec.specs.ValueMap.{bool, sint32}
 use Rattle.wire_fields.specs.Enums.{open_enum}
 use Rattle.wire_fields.specs.Floats.{float}
@@ -11,22 +11,23 @@ use Rattle.wire_fields.specs.Shape.{known, two}
 use Rattle.wire_fields.specs.Texts.{any_bytes, string}
 use Rattle.wire_fields.specs.declared.form.Form.TheVariants.{Fixed32, Varint}
 use Rattle.wire_report.specs.ReportLevel.{report_level-number, report_level-of}
-use Rattle.wire_report.specs.ReportSample.{report_sample-shape}
+use Rattle.wire_report.specs.ReportSample.{ReportSample-Value, report_sample-shape}
 use Rattle.wire_stations.specs.Station.{station-height-kind, station-key-kind, station-known}
 use Rattle.wire_stations.specs.Station.{station-last-kind, station-level-kind, station-name-kind}
 use Rattle.wire_stations.specs.Station.{station-note-kind, station-samples-kind, station-shape}
 use Rattle.wire_stations.specs.Station.{station-staffed-kind, station-tags-kind, station-with}
-use Rattle.wire_stations.specs.Station.{tags-of-station}
+use Rattle.wire_stations.specs.Station.{samples-of-station, tags-of-station}
 use Rattle.wire_stations.specs.StationPower.{backup-of-station_power, backup-of-station_power-as}
 use Rattle.wire_stations.specs.StationPower.{grid-of-station_power, grid-of-station_power-as}
 use Rattle.wire_stations.specs.StationPower.{station_power-front, station_power-shape}
 use Rattle.wire_stations.specs.StationPower.{volts-of-station_power, volts-of-station_power-as}
 use Rattle.wire_structs.specs.ListLaws.{HasLevels, adds_levels, either_levels, field_leaves}
 use Rattle.wire_structs.specs.ListLaws.{flat_delimited, flat_numeric, gathers_levels, inside_levels}
-use Rattle.wire_structs.specs.ListLaws.{known_levels, left_leaves, merges_levels, right_leaves}
+use Rattle.wire_structs.specs.ListLaws.{known_levels, left_leaves, merges_levels, message_more}
+use Rattle.wire_structs.specs.ListLaws.{right_leaves}
 use Rattle.wire_structs.specs.ListLaws.{sets_levels, some_levels, two_levels, unknown_levels}
 use Rattle.wire_structs.specs.ListLaws.{variant_levels, whole_leaves}
-use Rattle.wire_structs.specs.Walks.{ListOf}
+use Rattle.wire_structs.specs.Walks.{ListOf, Makes}
 
 station_power-levels : HasLevels station_power-shape
 station_power-levels = record {
@@ -71,11 +72,36 @@ station-levels =
     (λ m after. m ++ after ∷ [])))))
     unknown_levels
 
+-- what is given is the element
+abbrev pub SameBytes : List ℕ → List ℕ → Type 0
+SameBytes b a = b ≡ a
+
+-- what is given are the bytes of the element
+abbrev pub MakesSample : List ℕ → ReportSample-Value → Type 0
+MakesSample b a = Makes report_sample-shape.takes b report_sample-shape.default a
+
+-- the samples
+pub station-samples-list :
+    ListOf station-shape.takes samples-of-station MakesSample 12 any_bytes
+station-samples-list = record {
+  own = λ levels limits whole l low m z p c fits h.
+      message_more report_sample-shape 80 (λ ms after. ms ++ after ∷ []) levels limits whole l low
+      (samples-of-station m) (samples-of-station z) 12 p c fits h.0.0.0;
+  others = λ m z n p c other h.
+      whole_leaves station-known 12 (λ v. v.1.1)
+      (right_leaves (station-with report_sample-shape)
+      (two (known 11 station-tags-kind) (known 12 station-samples-kind)) 12 (λ v. v.1)
+      (right_leaves (known 11 station-tags-kind) (known 12 station-samples-kind) 12 (λ v. v)
+      (field_leaves 12 station-samples-kind)))
+      m z n p c other h;
+  levels = station-levels.levels;
+}
+
 -- the tags
-pub station-tags-list : ListOf station-shape.takes tags-of-station 11 string
+pub station-tags-list : ListOf station-shape.takes tags-of-station SameBytes 11 string
 station-tags-list = record {
-  own = λ m z p c h.
-      let mine = h.0.0.0 in (mine.1, mine.2, mine.3);
+  own = λ levels limits whole l low m z p c fits h.
+      let mine = h.0.0.0 in (mine.1, mine.2, mine.1, refl, mine.3);
   others = λ m z n p c other h.
       whole_leaves station-known 11 (λ v. v.1.0)
       (right_leaves (station-with report_sample-shape)

@@ -6,10 +6,12 @@ mod read;
 mod report_sample;
 mod station;
 mod station_power;
+mod station_samples;
 mod station_tags;
 
 pub use read::{read_report_sample, read_station};
 pub use report_sample::ReportSampleInC;
 pub use station::StationInC;
 pub use station_power::StationPowerInC;
+pub use station_samples::next_station_sample;
 pub use station_tags::next_station_tag;

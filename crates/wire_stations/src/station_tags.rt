@@ -1,6 +1,7 @@
 //! The tags of a station, one after another.
 ghost use Rattle.std.specs.Prelude.{◌≡◌, ◌≢◌, []};
 ghost use Rattle.wire_stations.specs.Station.{station-shape, tags-of-station};
+ghost use Rattle.wire_stations.specs.StationLists.{SameBytes};
 ghost use Rattle.wire_structs.specs.Walks.{GivesNext, EndsList, MakesNothing};
 
 use std::marker::PhantomData;
@@ -16,7 +17,7 @@ impl<'a> ValueList for StationTags<'a> {
     ghost use Rattle.std.specs.Prelude.{◌≡◌, ℕ, List};
     ghost use Rattle.wire_fields.specs.Texts.{string};
     ghost use Rattle.wire_stations.specs.Station.{Station-Value, station-shape, tags-of-station};
-    ghost use Rattle.wire_stations.specs.StationLists.{station-tags-list};
+    ghost use Rattle.wire_stations.specs.StationLists.{SameBytes, station-tags-list};
 
     type Source = &'a [u8];
 
@@ -32,7 +33,11 @@ impl<'a> ValueList for StationTags<'a> {
 
     ghost takes = { station-shape.takes };
 
+    ghost Element = { List ℕ };
+
     ghost list = { tags-of-station };
+
+    ghost Means = { SameBytes };
 
     ghost number = { 11 };
 
@@ -53,7 +58,7 @@ impl<'a> ValueList for StationTags<'a> {
 /// is left; or the number of the error, nowhere in bytes that were read as a station. Where it
 /// answers no 0 the bytes stay, and the tag is of no bytes.
 pub fn next_station_tag<'a>(walk: &mut SliceInC<'a>, tag: &mut SliceInC<'a>) -> u32
-    ensures given { result ≡ 0 → GivesNext station-shape.takes tags-of-station
+    ensures given { result ≡ 0 → GivesNext station-shape.takes tags-of-station SameBytes
         walk.old.bytes.now walk.new.bytes.now tag.new.bytes.now }
     ensures ended { result ≡ 1 → EndsList station-shape.takes tags-of-station walk.old.bytes.now }
     ensures other { result ≢ 0 → result ≢ 1 → MakesNothing station-shape.takes
