@@ -199,7 +199,7 @@ fn told<T>(status: u32, it: MaybeUninit<T>) -> Result<T, Refusal> {
     Ok(unsafe { it.assume_init() })
 }
 
-unsafe extern "C" {
+extern "C" {
     fn report_sample_read<'a>(bytes: *const u8, len: usize, it: *mut ReportSample<'a>) -> u32;
     fn report_sample_read_within<'a>(
         bytes: *const u8,
