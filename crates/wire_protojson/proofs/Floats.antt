@@ -1,0 +1,72 @@
+-- Floats, and what is written of them.
+use Rattle.std.proofs.Common.{◌≡◌, ◌++◌, true, false, List, ℕ, Some, Result, Ok, Err, refl}
+use Rattle.std.specs.Prelude.{OnOk, codes}
+use Rattle.std.specs.Float.{Float, Format, binary32, binary64, nan, inf, fin, float_is_finite, is_sign_negative}
+use Rattle.std.specs.Float.Parse.{parse_float}
+use Rattle.wire_json.specs.Json.{Json, number, string}
+use Rattle.wire_json.specs.Number.{SpellsNumber}
+use Rattle.wire_json.specs.Written.{written}
+use Rattle.wire_protojson.specs.Trees.{IsFloatTree}
+use lib.Ieee.{of_bits, is_nan}
+
+pub double_nan : of_bits binary64 9221120237041090560 ≡ nan
+unfolding of_bits
+double_nan = refl
+
+pub double_infinity : of_bits binary64 9218868437227405312 ≡ inf false
+unfolding of_bits
+double_infinity = refl
+
+pub double_minus_infinity : of_bits binary64 18442240474082181120 ≡ inf true
+unfolding of_bits
+double_minus_infinity = refl
+
+pub float_nan : of_bits binary32 2143289344 ≡ nan
+unfolding of_bits
+float_nan = refl
+
+pub float_infinity : of_bits binary32 2139095040 ≡ inf false
+unfolding of_bits
+float_infinity = refl
+
+pub float_minus_infinity : of_bits binary32 4286578688 ≡ inf true
+unfolding of_bits
+float_minus_infinity = refl
+
+module _ (f : Format) where
+  pub finite_tree : (x : Float) (text : List ℕ) → float_is_finite x ≡ true → SpellsNumber text
+      → parse_float f text ≡ Some x → IsFloatTree f x (number text)
+  unfolding float_is_finite
+  finite_tree nan text finite spells parses = absurd cc
+  finite_tree (inf true) text finite spells parses = absurd cc
+  finite_tree (inf false) text finite spells parses = absurd cc
+  finite_tree (fin s m e) text finite spells parses = (text, refl, spells, parses)
+
+  pub nan_tree : (x : Float) → is_nan x ≡ true → IsFloatTree f x (string (codes "NaN"))
+  unfolding is_nan
+  nan_tree nan h = refl
+  nan_tree (inf true) h = absurd cc
+  nan_tree (inf false) h = absurd cc
+  nan_tree (fin s m e) h = absurd cc
+
+  pub infinity_tree : (x : Float) → float_is_finite x ≡ false → is_nan x ≡ false
+      → is_sign_negative x ≡ false → IsFloatTree f x (string (codes "Infinity"))
+  unfolding float_is_finite is_nan is_sign_negative
+  infinity_tree nan finite a_nan sign = absurd cc
+  infinity_tree (inf true) finite a_nan sign = absurd cc
+  infinity_tree (inf false) finite a_nan sign = refl
+  infinity_tree (fin s m e) finite a_nan sign = absurd cc
+
+  pub minus_infinity_tree : (x : Float) → float_is_finite x ≡ false → is_nan x ≡ false
+      → is_sign_negative x ≡ true → IsFloatTree f x (string (codes "-Infinity"))
+  unfolding float_is_finite is_nan is_sign_negative
+  minus_infinity_tree nan finite a_nan sign = absurd cc
+  minus_infinity_tree (inf true) finite a_nan sign = refl
+  minus_infinity_tree (inf false) finite a_nan sign = absurd cc
+  minus_infinity_tree (fin s m e) finite a_nan sign = absurd cc
+
+  pub put_tree : (x : Float) (json : Json) → IsFloatTree f x json → {T E : Type 0}
+      (r : Result T E) (old new : List ℕ) → OnOk r (new ≡ old ++ written json)
+      → OnOk r ((tree : Json) × IsFloatTree f x tree × (new ≡ old ++ written tree))
+  put_tree x json is (Ok done) old new h = (json, is, h)
+  put_tree x json is (Err e) old new h = tt

@@ -1,0 +1,32 @@
+-- Bytes by their text.
+use Rattle.std.proofs.Common.{◌≡◌, ℕ, List, Option, Some, None, Result, Ok, Err, sym, ◌∙◌, subst}
+use Rattle.std.specs.Prelude.{IfOk, MatchOption}
+use Rattle.wire_json.specs.Json.{Json, null, boolean, number, string, array, object}
+use Rattle.wire_protojson.specs.Scalars.{MeansBase64, MeansBytes, MeansString}
+
+one_text : (json : Json) (s t : List ℕ) → MeansString json s → MeansString json t → s ≡ t
+one_text (string bytes) s t p q = sym p ∙ q
+one_text null s t p q = absurd p
+one_text (boolean b) s t p q = absurd p
+one_text (number text) s t p q = absurd p
+one_text (array es) s t p q = absurd p
+one_text (object ms) s t p q = absurd p
+
+-- what is decoded of a string, and that nothing is
+pub of_text : (json : Json) (text : List ℕ) → MeansString json text → {V : Type 0} (items : V → List ℕ)
+    (read : Option V)
+    → MatchOption read ((value : List ℕ) → MeansBase64 text value → ⊥) (λ v. MeansBase64 text (items v))
+    → MatchOption read ((value : List ℕ) → MeansBytes json value → ⊥) (λ v. MeansBytes json (items v))
+of_text json text is items (Some v) h = (text, is, h)
+of_text json text is items None h = λ value means.
+    let P : List ℕ → Type 0 = λ t. MeansBase64 t value in
+    h value (subst P (one_text json means.0 text means.1 is) means.2)
+
+pub decoded : (json : Json) (text : List ℕ) → MeansString json text → {V E : Type 0} (items : V → List ℕ)
+    (r : Result (Option V) E)
+    → IfOk r (λ read. MatchOption read ((value : List ℕ) → MeansBase64 text value → ⊥)
+    (λ v. MeansBase64 text (items v)))
+    → IfOk r (λ read. MatchOption read ((value : List ℕ) → MeansBytes json value → ⊥)
+    (λ v. MeansBytes json (items v)))
+decoded json text is items (Ok read) h = of_text json text is items read h
+decoded json text is items (Err e) h = tt

@@ -1,0 +1,5 @@
+pub mod Numbers
+pub mod Scalars
+pub mod Tokens
+pub mod Trees
+pub mod Reads

@@ -1,0 +1,67 @@
+//! Why a text is refused.
+ghost use Rattle.std.specs.Prelude.{◌≡◌};
+ghost use Rattle.wire_protojson.specs.declared.refusal.Reason.TheVariants.{NoJson, NoValue};
+
+use std::alloc::AllocError;
+use thiserror::Error;
+use wire_json::{Fault, FaultKind};
+
+/// What is wrong with a text.
+#[derive(Clone, Copy, Debug, PartialEq, Eq)]
+pub enum Reason {
+    /// What stands here goes on no JSON.
+    NoJson(FaultKind),
+
+    /// The JSON that begins here is no value of the type that is read: it is of another kind, no
+    /// whole number, out of range, no base64, or no name that the enum has.
+    NoValue,
+}
+
+/// Why a text is refused, and the byte where that stands: the length of the text at its end.
+#[derive(Clone, Copy, Debug, PartialEq, Eq)]
+pub struct Refusal {
+    pub reason: Reason,
+    pub at: usize,
+}
+
+/// Why nothing is read.
+#[derive(Clone, Copy, Debug, PartialEq, Eq, Drop, Error)]
+pub enum ReadError {
+    /// The text is refused.
+    #[error("refused at byte {}", .0.at)]
+    Refused(Refusal),
+
+    /// Memory ran out.
+    #[error("out of memory")]
+    OutOfMemory,
+}
+
+impl From<AllocError> for ReadError {
+    ghost use Rattle.wire_protojson.specs.declared.refusal.ReadError.TheVariants.{OutOfMemory};
+
+    ghost from_gives = { λ _ e. e ≡ OutOfMemory };
+
+    fn from(_error: AllocError) -> ReadError {
+        ReadError::OutOfMemory
+    }
+}
+
+// The fault of a text that is no JSON.
+pub(crate) fn no_json(fault: Fault) -> ReadError
+    ensures { result ≡ ReadError.Refused (record { reason = NoJson fault.kind; at = fault.at }) }
+{
+    ReadError::Refused(Refusal {
+        reason: Reason::NoJson(fault.kind),
+        at: fault.at,
+    })
+}
+
+// What is refused where its JSON begins.
+pub(crate) fn no_value(at: usize) -> ReadError
+    ensures { result ≡ ReadError.Refused (record { reason = NoValue; at = at }) }
+{
+    ReadError::Refused(Refusal {
+        reason: Reason::NoValue,
+        at,
+    })
+}
