@@ -1,5 +1,8 @@
+pub mod Decided
+pub mod DecidedScalars
 pub mod Floats
 pub mod NumberTexts
 pub mod PlainNumbers
+pub mod ReadBack
 pub mod Refusing
 pub mod Texts

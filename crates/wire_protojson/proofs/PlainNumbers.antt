@@ -88,10 +88,18 @@ module _ (old m i f : List ℕ) (minus : m ≡ past_one (is_byte 45) old)
   whole_number_end : exponent_end f ≡ Ok [] → SpellsNumber old
   whole_number_end h = number_parts old m minus i integer f fraction [] h
 
-no_minus : (old : List ℕ) → begins (is_byte 45) old ≡ false → old ≡ past_one (is_byte 45) old
-no_minus old h = rw h refl
+pub no_sign : (old : List ℕ) → begins (is_byte 45) old ≡ false → old ≡ past_one (is_byte 45) old
+no_sign old h = rw h refl
 
-pub spells_parts : (negative : Bool) (p : Parts) → IsPlain p
+pub spells_signed : (negative : Bool) (m i f : List ℕ) → begins (is_byte 45) m ≡ false
+    → integer_end m ≡ Ok i → fraction_end i ≡ Ok f → exponent_end f ≡ Ok []
+    → SpellsNumber (sign_text negative ++ m)
+spells_signed true m i f none integer fraction exponent =
+    whole_number_end (45 ∷ m) m i f refl integer fraction exponent
+spells_signed false m i f none integer fraction exponent =
+    whole_number_end m m i f (no_sign m none) integer fraction exponent
+
+spells_parts : (negative : Bool) (p : Parts) → IsPlain p
     → SpellsNumber (sign_text negative ++ text_of p)
 spells_parts negative p plain =
     let e = exponent_text p.exponent_negative p.exponent in
@@ -100,15 +108,7 @@ spells_parts negative p plain =
     let f = fraction_then p.point p.fraction e plain.well_formed.fraction_digits plain.fraction ends in
     let w = whole_then p.whole behind plain.well_formed.whole_digits plain.whole
     plain.no_leading_zero f.1 in
-    signed negative (text_of p) behind e w.1 w.0 f.0 ends.0
-  where
-    signed : (negative : Bool) (m i f : List ℕ) → begins (is_byte 45) m ≡ false
-        → integer_end m ≡ Ok i → fraction_end i ≡ Ok f → exponent_end f ≡ Ok []
-        → SpellsNumber (sign_text negative ++ m)
-    signed true m i f none integer fraction exponent =
-        whole_number_end (45 ∷ m) m i f refl integer fraction exponent
-    signed false m i f none integer fraction exponent =
-        whole_number_end m m i f (no_minus m none) integer fraction exponent
+    spells_signed negative (text_of p) behind e w.1 w.0 f.0 ends.0
 
 pub spells_plain : (s : List ℕ) → IsPlainNumber s → SpellsNumber s
 spells_plain s h = subst SpellsNumber (sym h.2) (spells_parts h.0 h.1 h.3)

@@ -1,24 +1,35 @@
 -- Refusals of what stands at a place.
-use Rattle.std.proofs.Common.{◌≡◌, ℕ, List, drop, sym, subst, refl}
+use Rattle.std.proofs.Common.{◌≡◌, ℕ, List, drop, Option, Some, sym, subst, ◌∙◌}
 use Rattle.wire_json.specs.declared.fault.Fault.{Fault}
 use Rattle.wire_json.specs.Answer.{FaultAt}
 use Rattle.wire_json.specs.Fault.{ValueFault}
+use Rattle.wire_json.specs.declared.kind.Kind.{Kind}
+use Rattle.wire_json.specs.declared.kind.Kind.TheVariants as kinds
 use Rattle.wire_json.specs.Json.{Json}
+use Rattle.wire_json.specs.Kind.{kind_begun}
 use Rattle.wire_json.specs.Reading.{ReadsValue}
 use Rattle.wire_protojson.specs.declared.refusal.ReadError.{ReadError}
 use Rattle.wire_protojson.specs.declared.refusal.ReadError.TheVariants.{Refused, OutOfMemory}
 use Rattle.wire_protojson.specs.declared.refusal.Reason.{Reason}
 use Rattle.wire_protojson.specs.declared.refusal.Reason.TheVariants.{NoJson, NoValue}
-use Rattle.wire_protojson.specs.Reads.{NoScalarHere, no_json, Refuses, no_scalar, no_meaning, RefusedAt, UnlessNoMemory}
+use Rattle.wire_protojson.specs.Reads.{IsUnnested, NoScalarHere, no_json, Refuses, no_scalar, no_meaning, RefusedAt, UnlessNoMemory}
+
+-- what begins here is of another kind
+pub of_kind : (old : List ℕ) (begun : Option Kind) → kind_begun old ≡ begun
+    → (begun ≡ Some kinds.Array → ⊥) → (begun ≡ Some kinds.Object → ⊥) → IsUnnested old
+of_kind old begun is array object = record {
+  no_array = λ h. array (sym is ∙ h);
+  no_object = λ h. object (sym is ∙ h);
+}
 
 pub refused_json : (text old : List ℕ) (fault : Fault) (e : ReadError)
     → e ≡ Refused (record { reason = NoJson fault.kind; at = fault.at })
-    → ((l : ℕ) → FaultAt text fault (ValueFault l old))
+    → IsUnnested old → FaultAt text fault (ValueFault 0 old)
     → UnlessNoMemory e (λ refusal. RefusedAt text refusal (NoScalarHere old))
-refused_json text old fault e is h =
+refused_json text old fault e is unnested h =
     let P : ReadError → Type 0 = λ x.
     UnlessNoMemory x (λ refusal. RefusedAt text refusal (NoScalarHere old)) in
-    subst P (sym is) (no_json fault.kind (drop fault.at text) h)
+    subst P (sym is) (no_json fault.kind (drop fault.at text) unnested h)
 
 pub refused_value : (text : List ℕ) (at : ℕ) (Stands : Reason → List ℕ → Type 0) (e : ReadError)
     → e ≡ Refused (record { reason = NoValue; at = at }) → Stands NoValue (drop at text)

@@ -4,7 +4,7 @@ use Rattle.std.specs.Prelude.{IfOk, MatchOption}
 use Rattle.wire_json.specs.Json.{Json, null, boolean, number, string, array, object}
 use Rattle.wire_protojson.specs.Scalars.{MeansBase64, MeansBytes, MeansString}
 
-one_text : (json : Json) (s t : List ℕ) → MeansString json s → MeansString json t → s ≡ t
+pub one_text : (json : Json) (s t : List ℕ) → MeansString json s → MeansString json t → s ≡ t
 one_text (string bytes) s t p q = sym p ∙ q
 one_text null s t p q = absurd p
 one_text (boolean b) s t p q = absurd p

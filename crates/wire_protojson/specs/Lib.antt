@@ -1,3 +1,4 @@
+pub mod Laws
 pub mod Numbers
 pub mod Scalars
 pub mod Tokens

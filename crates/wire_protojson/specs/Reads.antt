@@ -13,19 +13,24 @@ use Rattle.wire_protojson.specs.declared.refusal.Reason.TheVariants.{NoJson, NoV
 use Rattle.wire_protojson.specs.declared.refusal.Refusal.{Refusal}
 
 -- a tree is read that means this value
-abbrev pub Reads : {V : Type 0} → (Json → V → Type 0) → List ℕ → V → List ℕ → Type 0
-Reads Means old value new = (json : Json) × ReadsValue json old new × Means json value
+abbrev pub ReadsMeaning : {V : Type 0} → (Json → V → Type 0) → List ℕ → V → List ℕ → Type 0
+ReadsMeaning Means old value new = (json : Json) × ReadsValue json old new × Means json value
 
--- No scalar stands here: what stands here is no JSON, however deep that may nest, or it is an array
--- or an object.
+-- neither an array nor an object begins here
+pub record IsUnnested (old : List ℕ) : Type 0 where
+  pub no_array : kind_begun old ≡ Some kinds.Array → ⊥
+  pub no_object : kind_begun old ≡ Some kinds.Object → ⊥
+
+-- No scalar stands here: no JSON, or an array or an object.
 pub data NoScalarHere (old : List ℕ) : Reason → List ℕ → Type 0 where
-  no_json : (k : FaultKind) (left : List ℕ) → ((l : ℕ) → ValueFault l old k left)
+  no_json : (k : FaultKind) (left : List ℕ) → IsUnnested old → ValueFault 0 old k left
       → NoScalarHere old (NoJson k) left
   is_array : kind_begun old ≡ Some kinds.Array → NoScalarHere old NoValue old
   is_object : kind_begun old ≡ Some kinds.Object → NoScalarHere old NoValue old
 
 -- no scalar stands here, or one that means no value
-pub data Refuses {V : Type 0} (Means : Json → V → Type 0) (old : List ℕ) : Reason → List ℕ → Type 0 where
+pub data Refuses {V : Type 0} (Means : Json → V → Type 0) (old : List ℕ)
+    : Reason → List ℕ → Type 0 where
   no_scalar : (r : Reason) (left : List ℕ) → NoScalarHere old r left → Refuses Means old r left
   no_meaning : (json : Json) (new : List ℕ) → ReadsValue json old new
       → ((value : V) → Means json value → ⊥) → Refuses Means old NoValue old

@@ -2,6 +2,7 @@
 #![tactic(auto)]
 
 mod float;
+pub mod laws;
 mod number;
 mod refusal;
 mod scalar;

@@ -4,7 +4,7 @@ ghost use Rattle.std.specs.Float.{binary32, binary64};
 ghost use Rattle.std.specs.Int.{w32, w64};
 ghost use Rattle.wire_json.specs.Answer.{IsBehind};
 ghost use Rattle.wire_protojson.specs.Numbers.{MeansFloat, MeansSigned, MeansUnsigned};
-ghost use Rattle.wire_protojson.specs.Reads.{Reads, Refuses, RefusedAt, UnlessNoMemory};
+ghost use Rattle.wire_protojson.specs.Reads.{ReadsMeaning, Refuses, RefusedAt, UnlessNoMemory};
 ghost use Rattle.wire_protojson.specs.Scalars.{MeansBool, MeansBytes, MeansString};
 
 use crate::float::{double_of, float_of};
@@ -14,10 +14,10 @@ use crate::text::{bytes_of, string_of};
 use crate::token::{bool_of, read_token};
 use std::alloc::Global;
 
-/// Reads a `bool`: `true` or `false`.
+/// ReadsMeaning a `bool`: `true` or `false`.
 pub fn read_bool(alloc: Global, text: &[u8], at: usize) -> Result<(bool, usize), ReadError>
     ensures ok { IfOk result (λ read.
-        Reads MeansBool (drop at text.now) read.0 (drop read.1 text.now)) }
+        ReadsMeaning MeansBool (drop at text.now) read.0 (drop read.1 text.now)) }
     ensures behind { IfOk result (λ read. IsBehind at read.1 text.now) }
     ensures err { IfErr result (λ e. UnlessNoMemory e
         (λ refusal. RefusedAt text.now refusal (Refuses MeansBool (drop at text.now)))) }
@@ -31,10 +31,10 @@ pub fn read_bool(alloc: Global, text: &[u8], at: usize) -> Result<(bool, usize),
     }
 }
 
-/// Reads an `int32`, `sint32` or `sfixed32`: a number or a string that holds one, which is whole.
+/// ReadsMeaning an `int32`, `sint32` or `sfixed32`: a number or a string that holds one, which is whole.
 pub fn read_int32(alloc: Global, text: &[u8], at: usize) -> Result<(i32, usize), ReadError>
     ensures ok { IfOk result (λ read.
-        Reads (MeansSigned w32) (drop at text.now) read.0 (drop read.1 text.now)) }
+        ReadsMeaning (MeansSigned w32) (drop at text.now) read.0 (drop read.1 text.now)) }
     ensures behind { IfOk result (λ read. IsBehind at read.1 text.now) }
     ensures err { IfErr result (λ e. UnlessNoMemory e
         (λ refusal. RefusedAt text.now refusal (Refuses (MeansSigned w32) (drop at text.now)))) }
@@ -48,10 +48,10 @@ pub fn read_int32(alloc: Global, text: &[u8], at: usize) -> Result<(i32, usize),
     }
 }
 
-/// Reads an `int64`, `sint64` or `sfixed64`, as `read_int32` does.
+/// ReadsMeaning an `int64`, `sint64` or `sfixed64`, as `read_int32` does.
 pub fn read_int64(alloc: Global, text: &[u8], at: usize) -> Result<(i64, usize), ReadError>
     ensures ok { IfOk result (λ read.
-        Reads (MeansSigned w64) (drop at text.now) read.0 (drop read.1 text.now)) }
+        ReadsMeaning (MeansSigned w64) (drop at text.now) read.0 (drop read.1 text.now)) }
     ensures behind { IfOk result (λ read. IsBehind at read.1 text.now) }
     ensures err { IfErr result (λ e. UnlessNoMemory e
         (λ refusal. RefusedAt text.now refusal (Refuses (MeansSigned w64) (drop at text.now)))) }
@@ -65,10 +65,10 @@ pub fn read_int64(alloc: Global, text: &[u8], at: usize) -> Result<(i64, usize),
     }
 }
 
-/// Reads a `uint32` or `fixed32`, as `read_int32` does.
+/// ReadsMeaning a `uint32` or `fixed32`, as `read_int32` does.
 pub fn read_uint32(alloc: Global, text: &[u8], at: usize) -> Result<(u32, usize), ReadError>
     ensures ok { IfOk result (λ read.
-        Reads (MeansUnsigned 32) (drop at text.now) read.0 (drop read.1 text.now)) }
+        ReadsMeaning (MeansUnsigned 32) (drop at text.now) read.0 (drop read.1 text.now)) }
     ensures behind { IfOk result (λ read. IsBehind at read.1 text.now) }
     ensures err { IfErr result (λ e. UnlessNoMemory e
         (λ refusal. RefusedAt text.now refusal (Refuses (MeansUnsigned 32) (drop at text.now)))) }
@@ -82,10 +82,10 @@ pub fn read_uint32(alloc: Global, text: &[u8], at: usize) -> Result<(u32, usize)
     }
 }
 
-/// Reads a `uint64` or `fixed64`, as `read_int32` does.
+/// ReadsMeaning a `uint64` or `fixed64`, as `read_int32` does.
 pub fn read_uint64(alloc: Global, text: &[u8], at: usize) -> Result<(u64, usize), ReadError>
     ensures ok { IfOk result (λ read.
-        Reads (MeansUnsigned 64) (drop at text.now) read.0 (drop read.1 text.now)) }
+        ReadsMeaning (MeansUnsigned 64) (drop at text.now) read.0 (drop read.1 text.now)) }
     ensures behind { IfOk result (λ read. IsBehind at read.1 text.now) }
     ensures err { IfErr result (λ e. UnlessNoMemory e
         (λ refusal. RefusedAt text.now refusal (Refuses (MeansUnsigned 64) (drop at text.now)))) }
@@ -99,11 +99,11 @@ pub fn read_uint64(alloc: Global, text: &[u8], at: usize) -> Result<(u64, usize)
     }
 }
 
-/// Reads a `float`: the nearest to a number, or to one in a string, or `"NaN"`, `"Infinity"` or
+/// ReadsMeaning a `float`: the nearest to a number, or to one in a string, or `"NaN"`, `"Infinity"` or
 /// `"-Infinity"`. A number that is nearest to an infinity is refused.
 pub fn read_float(alloc: Global, text: &[u8], at: usize) -> Result<(f32, usize), ReadError>
     ensures ok { IfOk result (λ read.
-        Reads (MeansFloat binary32) (drop at text.now) read.0 (drop read.1 text.now)) }
+        ReadsMeaning (MeansFloat binary32) (drop at text.now) read.0 (drop read.1 text.now)) }
     ensures behind { IfOk result (λ read. IsBehind at read.1 text.now) }
     ensures err { IfErr result (λ e. UnlessNoMemory e
         (λ refusal. RefusedAt text.now refusal (Refuses (MeansFloat binary32) (drop at text.now)))) }
@@ -117,10 +117,10 @@ pub fn read_float(alloc: Global, text: &[u8], at: usize) -> Result<(f32, usize),
     }
 }
 
-/// Reads a `double`, as `read_float` does.
+/// ReadsMeaning a `double`, as `read_float` does.
 pub fn read_double(alloc: Global, text: &[u8], at: usize) -> Result<(f64, usize), ReadError>
     ensures ok { IfOk result (λ read.
-        Reads (MeansFloat binary64) (drop at text.now) read.0 (drop read.1 text.now)) }
+        ReadsMeaning (MeansFloat binary64) (drop at text.now) read.0 (drop read.1 text.now)) }
     ensures behind { IfOk result (λ read. IsBehind at read.1 text.now) }
     ensures err { IfErr result (λ e. UnlessNoMemory e
         (λ refusal. RefusedAt text.now refusal (Refuses (MeansFloat binary64) (drop at text.now)))) }
@@ -134,10 +134,10 @@ pub fn read_double(alloc: Global, text: &[u8], at: usize) -> Result<(f64, usize)
     }
 }
 
-/// Reads a `string`.
+/// ReadsMeaning a `string`.
 pub fn read_string(alloc: Global, text: &[u8], at: usize) -> Result<(String, usize), ReadError>
     ensures ok { IfOk result (λ read.
-        Reads MeansString (drop at text.now) (string_bytes read.0) (drop read.1 text.now)) }
+        ReadsMeaning MeansString (drop at text.now) (string_bytes read.0) (drop read.1 text.now)) }
     ensures behind { IfOk result (λ read. IsBehind at read.1 text.now) }
     ensures err { IfErr result (λ e. UnlessNoMemory e
         (λ refusal. RefusedAt text.now refusal (Refuses MeansString (drop at text.now)))) }
@@ -154,10 +154,10 @@ pub fn read_string(alloc: Global, text: &[u8], at: usize) -> Result<(String, usi
     }
 }
 
-/// Reads `bytes`: base64 of the standard alphabet or of that for URLs, padded or not.
+/// ReadsMeaning `bytes`: base64 of the standard alphabet or of that for URLs, padded or not.
 pub fn read_bytes(alloc: Global, text: &[u8], at: usize) -> Result<(Vec<u8>, usize), ReadError>
     ensures ok { IfOk result (λ read.
-        Reads MeansBytes (drop at text.now) read.0.items (drop read.1 text.now)) }
+        ReadsMeaning MeansBytes (drop at text.now) read.0.items (drop read.1 text.now)) }
     ensures behind { IfOk result (λ read. IsBehind at read.1 text.now) }
     ensures err { IfErr result (λ e. UnlessNoMemory e
         (λ refusal. RefusedAt text.now refusal (Refuses MeansBytes (drop at text.now)))) }

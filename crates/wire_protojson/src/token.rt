@@ -20,7 +20,7 @@ pub(crate) enum Token<'a> {
     String(CowStr<'a>),
 }
 
-/// Reads a scalar.
+/// ReadsMeaning a scalar.
 pub(crate) fn read_token<'a>(
     alloc: Global,
     text: &'a [u8],
