@@ -22,7 +22,7 @@ one_number (string bytes) s t p q = sym p.0 ∙ q.0
 one_number (array es) s t p q = absurd p
 one_number (object ms) s t p q = absurd p
 
-one_signed : (w : Width) (json : Json) (y z : ℤ) → MeansSigned w json y → MeansSigned w json z
+pub one_signed : (w : Width) (json : Json) (y z : ℤ) → MeansSigned w json y → MeansSigned w json z
     → y ≡ z
 one_signed w json y z (s, has, whole, is, fits) (t, again, all, same, fit) =
     sym is ∙ ap whole_number (one_number json s t has again) ∙ same

@@ -65,8 +65,9 @@ module _ (f : Format) where
   minus_infinity_tree (inf false) finite a_nan sign = absurd cc
   minus_infinity_tree (fin s m e) finite a_nan sign = absurd cc
 
-  pub put_tree : (x : Float) (json : Json) → IsFloatTree f x json → {T E : Type 0}
-      (r : Result T E) (old new : List ℕ) → OnOk r (new ≡ old ++ written json)
-      → OnOk r ((tree : Json) × IsFloatTree f x tree × (new ≡ old ++ written tree))
-  put_tree x json is (Ok done) old new h = (json, is, h)
-  put_tree x json is (Err e) old new h = tt
+-- what was put is of some tree that is wanted
+pub put_tree : (Wanted : Json → Type 0) (json : Json) → Wanted json → {T E : Type 0}
+    (r : Result T E) (old new : List ℕ) → OnOk r (new ≡ old ++ written json)
+    → OnOk r ((tree : Json) × Wanted tree × (new ≡ old ++ written tree))
+put_tree Wanted json is (Ok done) old new h = (json, is, h)
+put_tree Wanted json is (Err e) old new h = tt

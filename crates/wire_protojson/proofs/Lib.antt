@@ -1,5 +1,7 @@
 pub mod Decided
 pub mod DecidedScalars
+pub mod EnumValues
+pub mod Firsts
 pub mod Floats
 pub mod NumberTexts
 pub mod PlainNumbers

@@ -1,3 +1,4 @@
+pub mod Enums
 pub mod Laws
 pub mod Numbers
 pub mod Scalars

@@ -1,6 +1,7 @@
 //! The JSON mapping of Protocol Buffers.
 #![tactic(auto)]
 
+mod enums;
 mod float;
 pub mod laws;
 mod number;
@@ -10,6 +11,7 @@ mod text;
 mod token;
 mod write;
 
+pub use enums::{EnumName, read_enum, write_enum};
 pub use refusal::{ReadError, Reason, Refusal};
 pub use scalar::{
     read_bool, read_bytes, read_double, read_float, read_int32, read_int64, read_string,

@@ -1,4 +1,5 @@
 use Rattle.wire_protojson.proofs.DecidedScalars.{bools_decided, bytes_decided, floats_decided, signed_decided, strings_decided, unsigned_decided}
+use Rattle.wire_protojson.proofs.EnumValues.{enums_decided}
 use Rattle.wire_protojson.proofs.laws.scalars_are_decided.Goals as goal
 
 pub returns-clause-bools : goal.returns-clause-bools
@@ -18,3 +19,6 @@ returns-clause-strings c = strings_decided
 
 pub returns-clause-bytes : goal.returns-clause-bytes
 returns-clause-bytes c = bytes_decided
+
+pub returns-clause-enums : goal.returns-clause-enums
+returns-clause-enums c = enums_decided

@@ -1,4 +1,5 @@
 use Rattle.wire_protojson.proofs.ReadBack.{bools_read_back, bytes_read_back, floats_read_back, int32_read_back, int64_read_back, strings_read_back, uint32_read_back, uint64_read_back}
+use Rattle.wire_protojson.proofs.EnumValues.{enums_read_back}
 use Rattle.wire_protojson.proofs.laws.scalars_are_read_back.Goals as goal
 
 pub returns-clause-bools : goal.returns-clause-bools
@@ -24,3 +25,6 @@ returns-clause-strings c = strings_read_back
 
 pub returns-clause-bytes : goal.returns-clause-bytes
 returns-clause-bytes c = bytes_read_back
+
+pub returns-clause-enums : goal.returns-clause-enums
+returns-clause-enums c = enums_read_back
