@@ -1,7 +1,6 @@
 -- Of the same bytes one value is read or one refusal told.
 use Rattle.std.proofs.Common.{◌≡◌, ℕ, ◌≤◌, List, Some, refl, sym, ap, ◌∙◌, subst, arith}
 use Rattle.wire_json.specs.declared.kind.Kind.TheVariants as kinds
-use Rattle.wire_json.specs.Fault.{ValueFault}
 use Rattle.wire_json.specs.Json.{Json, null, boolean, number, string, array, object, Elements, Members, depth}
 use Rattle.wire_json.specs.Kind.{kind_begun}
 use Rattle.wire_json.specs.Reading.{ReadsValue}

@@ -1,10 +1,10 @@
 -- A tree means one value of a scalar type at most.
-use Rattle.std.proofs.Common.{◌≡◌, ◌⊎◌, ℕ, Bool, List, Some, Ok, Err, Result, inl, inr, refl, sym, ap, ◌∙◌, subst}
+use Rattle.std.proofs.Common.{◌≡◌, ℕ, Bool, List, Some, Ok, Err, Result, inl, inr, sym, ap, ◌∙◌, subst}
 use Rattle.std.specs.Prelude.{ℤ, pos, IsErr, codes}
 use Rattle.std.specs.Float.{Float, Format}
 use Rattle.std.specs.Float.Parse.{parse_float}
 use Rattle.std.specs.Int.{Width}
-use Rattle.base64.specs.Engines.{standard_pad_indifferent, url_safe_pad_indifferent}
+use Rattle.base64.specs.Engines.{standard_pad_indifferent}
 use Rattle.base64.specs.GeneralPurpose.{decode_of}
 use Rattle.wire_json.specs.Json.{Json, null, boolean, number, string, array, object}
 use Rattle.wire_json.specs.Number.{SpellsNumber}

@@ -1,10 +1,10 @@
 -- Values of enums.
-use Rattle.std.proofs.Common.{◌≡◌, ℕ, List, [], ◌∷◌, inl, inr, refl, sym, ap, ◌∙◌, subst}
+use Rattle.std.proofs.Common.{◌≡◌, List, [], ◌∷◌, inl, inr, refl, sym, ap, ◌∙◌, subst}
 use Rattle.std.specs.Prelude.{ℤ, FitsSigned}
 use Rattle.std.specs.Int.{w32}
-use Rattle.wire_json.specs.Json.{Json, null, boolean, number, string, array, object, IsLawful}
+use Rattle.wire_json.specs.Json.{Json, null, boolean, number, string, array, object}
 use Rattle.wire_protojson.specs.declared.enums.EnumName.{EnumName}
-use Rattle.wire_protojson.specs.Enums.{AreTexts, IsEnumTree, IsFirst, MeansEnum, NamesAgree, NamesNumber, NumberIsNamed}
+use Rattle.wire_protojson.specs.Enums.{AreTexts, IsEnumTree, IsFirst, MeansEnum, NamesAgree}
 use Rattle.wire_protojson.specs.Laws.{IsDecided, IsReadAs}
 use Rattle.wire_protojson.specs.Trees.{short_signed_tree}
 use Rattle.wire_protojson.proofs.Decided.{decided}

@@ -1,5 +1,5 @@
 -- Plain numerals are numbers of JSON.
-use Rattle.std.proofs.Common.{◌≡◌, ℕ, ◌+◌, ◌<◌, ◌≤◌, Bool, true, false, cond, ◌||◌, ◌&&◌, ◌==◌, List, [], ◌∷◌, ◌++◌, length, get_or, Ok, Err, refl, sym, ap, ap₂, ◌∙◌, subst, arith, append-nil}
+use Rattle.std.proofs.Common.{◌≡◌, ℕ, ◌<◌, ◌≤◌, Bool, true, false, cond, ◌||◌, ◌==◌, List, [], ◌∷◌, ◌++◌, length, get_or, Ok, refl, sym, ap, ap₂, ◌∙◌, subst, arith, append-nil}
 use Rattle.std.proofs.lemmas.Bool.{ne_eqb, le-leb, and_from, eqb-true}
 use Rattle.std.specs.Char.{is_ascii_digit, digit_value}
 use Rattle.std.specs.Fmt.{sign_text}
@@ -7,7 +7,7 @@ use Rattle.std.specs.Str.Parse.{AllDigits}
 use Rattle.fast_float.specs.Text.{Parts, text_of, exponent_text}
 use Rattle.ryu.specs.Plain.{IsPlain, IsPlainNumber}
 use Rattle.wire_json.specs.Bytes.{begins, is_byte, past, past_one}
-use Rattle.wire_json.specs.Number.{apart, digits_end, exponent_end, fraction_end, integer_end, is_exponent, is_of_number, is_sign, number_end, SpellsNumber}
+use Rattle.wire_json.specs.Number.{digits_end, exponent_end, fraction_end, integer_end, is_sign, SpellsNumber}
 use Rattle.wire_json.proofs.Numbers.{number_parts}
 
 digit_range : (d : ℕ) → digit_value d < 10 → (48 ≤ d) × (d ≤ 57)
@@ -69,8 +69,7 @@ exponent_ends true (d ∷ ds) h = (
 exponent_ends false (d ∷ ds) h =
     let range = digit_range d h.0 in
     let unsigned : is_sign d ≡ false =
-    ap₂ (λ a b. a || b) (ne_eqb d 43 (λ e. omega arith)) (ne_eqb d 45 (λ e. omega arith)) in
-    (
+    ap₂ (λ a b. a || b) (ne_eqb d 43 (λ e. omega arith)) (ne_eqb d 45 (λ e. omega arith)) in (
       ap (λ b. digits_end (cond b ds (d ∷ ds))) unsigned
           ∙ ap digits_end (sym (append-nil (d ∷ ds))) ∙ digits_then (d ∷ ds) [] h (omega arith) refl,
       refl,

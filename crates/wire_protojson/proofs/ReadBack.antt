@@ -1,26 +1,25 @@
 -- What is written of a value is read as that value.
-use Rattle.std.proofs.Common.{rules, ◌≡◌, ℕ, zero, suc, ◌+◌, ◌-◌, ◌*◌, ◌<◌, ◌^◌, Bool, true, false, List, [], ◌∷◌, ◌++◌, length, take, drop, Ok, Some, inl, inr, refl, sym, ap, ap₂, ◌∙◌, subst, arith, append-nil, get_or}
+use Rattle.std.proofs.Common.{rules, ◌≡◌, ℕ, zero, suc, ◌+◌, ◌-◌, ◌*◌, ◌<◌, ◌^◌, Bool, true, false, List, [], ◌∷◌, ◌++◌, length, Ok, inl, inr, refl, sym, ap, ap₂, ◌∙◌, subst, arith, append-nil, get_or}
 use Rattle.std.proofs.lemmas.Fmt.{decimal_is_IsNumeral, first_decimal, decimal_digit, IsAscii-decimal}
 use Rattle.std.proofs.lemmas.Float.Parse.{scan_numeral-text_of}
 use Rattle.std.proofs.lemmas.Str.{IsUtf8-from_ascii}
 use Rattle.std.proofs.Math.Seq.{drop-append-add, take-append-add}
 use Rattle.itoa.proofs.Decimal.{IsAscii-signed_decimal}
-use Rattle.std.specs.Prelude.{ℤ, pos, negsuc, codes, decimal, FitsSigned, IsUtf8, IsTrue}
+use Rattle.std.specs.Prelude.{ℤ, pos, negsuc, codes, decimal, FitsSigned, IsUtf8}
 use Rattle.std.specs.Float.{Float, Format, nan, inf, fin, float_is_finite}
-use Rattle.std.specs.Float.Parse.{parse_float}
 use Rattle.std.specs.Fmt.{signed_decimal}
 use Rattle.std.specs.Int.{w32, w64, Width}
 use Rattle.std.specs.Str.Parse.{digits_value, AllDigits}
 use Rattle.fast_float.specs.Text.{Parts, scan, text_of, with_sign, IsWellFormed, IsWhole, whole_of}
 use Rattle.base64.specs.Engines.{standard, standard_pad_indifferent}
-use Rattle.base64.specs.GeneralPurpose.{IsBytes, encode_of, decode_of}
+use Rattle.base64.specs.GeneralPurpose.{IsBytes, encode_of}
 use Rattle.base64.proofs.EngineFacts.{decode_of-encode_of, IsAscii-encode_of}
-use Rattle.wire_json.specs.Bytes.{begins, is_byte, past_one}
-use Rattle.wire_json.specs.Json.{Json, boolean, number, string, IsLawful}
-use Rattle.wire_json.specs.Number.{integer_end, is_of_number, SpellsNumber}
+use Rattle.wire_json.specs.Bytes.{begins, is_byte}
+use Rattle.wire_json.specs.Json.{Json, boolean, string, IsLawful}
+use Rattle.wire_json.specs.Number.{integer_end, SpellsNumber}
 use Rattle.wire_json.proofs.WrittenLaws.{written_reads_back_lemma}
 use Rattle.wire_protojson.specs.Laws.{IsReadAs}
-use Rattle.wire_protojson.specs.Numbers.{HasNumber, is_negative, size_of_number, whole_number, IsWholeNumber, MeansFloat, MeansSigned, MeansUnsigned}
+use Rattle.wire_protojson.specs.Numbers.{HasNumber, size_of_number, whole_number, IsWholeNumber, MeansFloat, MeansSigned, MeansUnsigned}
 use Rattle.wire_protojson.specs.Scalars.{MeansBool, MeansBytes, MeansString}
 use Rattle.wire_protojson.specs.Trees.{IsFloatTree, bytes_tree, long_signed_tree, long_unsigned_tree, short_signed_tree, short_unsigned_tree}
 use Rattle.wire_protojson.proofs.NumberTexts.{fits_wider}

@@ -1,10 +1,8 @@
 -- Which values the other scalars of JSON are read as.
-use Rattle.std.specs.Prelude.{◌≡◌, ◌⊎◌, ℕ, Bool, ℤ, List, IsErr, Ok, Option, Some, None, if◌then◌else◌}
-use Rattle.std.specs.Int.{w32}
+use Rattle.std.specs.Prelude.{◌≡◌, ◌⊎◌, ℕ, Bool, List, IsErr, Ok}
 use Rattle.base64.specs.Engines.{standard_pad_indifferent, url_safe_pad_indifferent}
 use Rattle.base64.specs.GeneralPurpose.{decode_of}
 use Rattle.wire_json.specs.Json.{Json, null, boolean, number, string, array, object}
-use Rattle.wire_protojson.specs.Numbers.{MeansSigned}
 
 abbrev pub MeansBool : Json → Bool → Type 0
 MeansBool (boolean b) value = b ≡ value

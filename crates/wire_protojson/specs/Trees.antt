@@ -1,11 +1,11 @@
 -- The trees that are written of values.
-use Rattle.std.specs.Prelude.{◌≡◌, ℕ, Bool, IsTrue, true, false, ℤ, List, codes, Some, decimal}
-use Rattle.std.specs.Float.{Float, Format, float_is_finite, nan, inf, fin}
+use Rattle.std.specs.Prelude.{◌≡◌, ℕ, true, false, ℤ, List, codes, Some, decimal}
+use Rattle.std.specs.Float.{Float, Format, nan, inf, fin}
 use Rattle.std.specs.Float.Parse.{parse_float}
 use Rattle.std.specs.Fmt.{signed_decimal}
 use Rattle.base64.specs.Engines.{standard}
 use Rattle.base64.specs.GeneralPurpose.{encode_of}
-use Rattle.wire_json.specs.Json.{Json, boolean, number, string}
+use Rattle.wire_json.specs.Json.{Json, number, string}
 use Rattle.wire_json.specs.Number.{SpellsNumber}
 
 -- 32 bits are written as a number

@@ -101,11 +101,7 @@ pub fn read_enum(
 }
 
 /// Writes a value of an enum: its first name in the table, or its number where that has none.
-pub fn write_enum(
-    out: &mut Vec<u8>,
-    names: &[EnumName<'_>],
-    number: i32,
-) -> Result<(), AllocError>
+pub fn write_enum(out: &mut Vec<u8>, names: &[EnumName<'_>], number: i32) -> Result<(), AllocError>
     ensures ok { OnOk result ((json : Json) × IsEnumTree names.now number json
         × (out.new.items ≡ out.old.items ++ written json)) }
     ensures err { OnErr result (Extends out.old.items out.new.items) }

@@ -1,12 +1,20 @@
-//! The JSON mapping of Protocol Buffers.
+//! The JSON mapping of Protocol Buffers: scalars and enums. `CALLING.md` shows its calls.
+//!
+//! Proved of every text: a value is read exactly where the definition reads it (`Reads`), by which
+//! trees mean which values (`Numbers`, `Scalars`, `Enums`), and else one refusal is told, at its
+//! byte. What is written of a value is read as that value (`laws`).
 #![tactic(auto)]
 
+#[cfg(test)]
+mod caller;
 mod enums;
 mod float;
 pub mod laws;
 mod number;
 mod refusal;
 mod scalar;
+#[cfg(test)]
+mod tests;
 mod text;
 mod token;
 mod write;

@@ -1,4 +1,4 @@
-use Rattle.std.proofs.Common.{◌≡◌, [], w32, to_z, of_z, refl, sym, ◌∙◌, subst, slice_index_or}
+use Rattle.std.proofs.Common.{◌≡◌, [], w32, to_z, of_z, refl, sym, subst, slice_index_or}
 use Rattle.std.specs.Prelude.{ℤ, pos}
 use Rattle.std.proofs.lemmas.Int.{to_z-of_z}
 use Rattle.wire_protojson.specs.declared.enums.EnumName.{EnumName}
@@ -15,8 +15,7 @@ returns-then-is_numbered-clause-some c =
     let i = c.loop-entry.entry-index in
     let names = c.args.names.now in
     let at = to_z-of_z w32 c.args.number c.ranges.number in
-    let Q : ℤ → Type 0 = λ n. IsFirst (λ x. x.number ≡ n) names (slice_index_or names i none) in
-    (
+    let Q : ℤ → Type 0 = λ n. IsFirst (λ x. x.number ≡ n) names (slice_index_or names i none) in (
       slice_index_or names i none,
       subst Q at (found_at (λ x. x.number ≡ to_z w32 (of_z w32 c.args.number)) names i none
           c.loop-entry-test.true c.loop-entry.invariant c.if-is_numbered.ensures),

@@ -1,4 +1,4 @@
-use Rattle.std.proofs.Common.{rules, ◌≡◌, ◌≢◌, [], w32, SFits, sym, ◌∙◌, slice_index_or}
+use Rattle.std.proofs.Common.{rules, ◌≡◌, [], w32, sym, ◌∙◌, slice_index_or}
 use Rattle.std.specs.Prelude.{pos}
 use Rattle.std.proofs.lemmas.Int.{to_z-of_z}
 use Rattle.wire_protojson.specs.declared.enums.EnumName.{EnumName}
@@ -11,8 +11,7 @@ none = record { name = record { ref_ptr = (0, 0); now = [] }; number = pos 0 }
 
 pub returns-then-is_named-clause-some : goal.returns-then-is_named-clause-some
 returns-then-is_named-clause-some c =
-    let i = c.loop-entry.entry-index in
-    (
+    let i = c.loop-entry.entry-index in (
       slice_index_or c.args.names.now i none,
       found_at (λ x. x.name.now ≡ c.args.name.now) c.args.names.now i none c.loop-entry-test.true c.loop-entry.invariant
           c.if-is_named.ensures,

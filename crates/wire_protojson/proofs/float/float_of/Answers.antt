@@ -1,6 +1,6 @@
 use Rattle.std.proofs.Common.{sym, subst, inl}
 use Rattle.std.specs.Float.{Float}
-use Rattle.wire_protojson.specs.Numbers.{MeansByWord, MeansFloat}
+use Rattle.wire_protojson.specs.Numbers.{MeansByWord}
 use Rattle.wire_protojson.specs.Tokens.{token_tree}
 use Rattle.wire_protojson.proofs.Floats.{float_nan, float_infinity, float_minus_infinity}
 use Rattle.wire_protojson.proofs.float.float_of.Goals as goal

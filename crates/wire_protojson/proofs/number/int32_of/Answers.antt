@@ -1,4 +1,3 @@
-use Rattle.std.proofs.Common.{arith}
 use Rattle.wire_protojson.proofs.NumberTexts.{fits_wider}
 use Rattle.wire_protojson.proofs.number.int32_of.Goals as goal
 
