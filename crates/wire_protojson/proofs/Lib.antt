@@ -3,7 +3,9 @@ pub mod DecidedScalars
 pub mod EnumValues
 pub mod Firsts
 pub mod Floats
+pub mod Gathering
 pub mod NumberTexts
+pub mod ObjectReads
 pub mod PlainNumbers
 pub mod ReadBack
 pub mod Refusing

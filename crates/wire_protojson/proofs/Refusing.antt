@@ -31,6 +31,14 @@ refused_json text old fault e is unnested h =
     UnlessNoMemory x (λ refusal. RefusedAt text refusal (NoScalarHere old)) in
     subst P (sym is) (no_json fault.kind (drop fault.at text) unnested h)
 
+pub refused_as : (text : List ℕ) (fault : Fault) (Stands : Reason → List ℕ → Type 0) (e : ReadError)
+    → e ≡ Refused (record { reason = NoJson fault.kind; at = fault.at })
+    → Stands (NoJson fault.kind) (drop fault.at text)
+    → UnlessNoMemory e (λ refusal. RefusedAt text refusal Stands)
+refused_as text fault Stands e is h =
+    let P : ReadError → Type 0 = λ x. UnlessNoMemory x (λ refusal. RefusedAt text refusal Stands) in
+    subst P (sym is) h
+
 pub refused_value : (text : List ℕ) (at : ℕ) (Stands : Reason → List ℕ → Type 0) (e : ReadError)
     → e ≡ Refused (record { reason = NoValue; at = at }) → Stands NoValue (drop at text)
     → UnlessNoMemory e (λ refusal. RefusedAt text refusal Stands)

@@ -4,4 +4,5 @@ pub mod Numbers
 pub mod Scalars
 pub mod Tokens
 pub mod Trees
+pub mod Objects
 pub mod Reads

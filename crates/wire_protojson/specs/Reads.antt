@@ -1,6 +1,8 @@
 -- What is read of a place in a text, and what is refused.
 use Rattle.std.specs.Prelude.{◌≡◌, ℕ, List, drop, Some}
 use Rattle.wire_json.specs.declared.fault.FaultKind.{FaultKind}
+use Rattle.wire_json.specs.declared.fault.JsonError.{JsonError}
+use Rattle.wire_json.specs.declared.fault.JsonError.TheVariants as faults
 use Rattle.wire_json.specs.declared.kind.Kind.TheVariants as kinds
 use Rattle.wire_json.specs.Fault.{ValueFault}
 use Rattle.wire_json.specs.Json.{Json}
@@ -43,3 +45,8 @@ RefusedAt text refusal Stands = Stands refusal.reason (drop refusal.at text)
 abbrev pub UnlessNoMemory : ReadError → (Refusal → Type 0) → Type 0
 UnlessNoMemory (Refused refusal) Holds = Holds refusal
 UnlessNoMemory OutOfMemory Holds = Unit {0}
+
+-- the fault of a text that is no JSON, or want of memory
+abbrev pub of_json_error : JsonError → ReadError
+of_json_error (faults.Refused fault) = Refused (record { reason = NoJson fault.kind; at = fault.at })
+of_json_error faults.OutOfMemory = OutOfMemory

@@ -11,6 +11,7 @@ mod enums;
 mod float;
 pub mod laws;
 mod number;
+mod object;
 mod refusal;
 mod scalar;
 #[cfg(test)]
@@ -20,6 +21,7 @@ mod token;
 mod write;
 
 pub use enums::{EnumName, read_enum, write_enum};
+pub use object::{Entry, Object, read_object};
 pub use refusal::{ReadError, Reason, Refusal};
 pub use scalar::{
     read_bool, read_bytes, read_double, read_float, read_int32, read_int64, read_string,

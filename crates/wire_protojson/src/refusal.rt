@@ -4,7 +4,7 @@ ghost use Rattle.wire_protojson.specs.declared.refusal.Reason.TheVariants.{NoJso
 
 use std::alloc::AllocError;
 use thiserror::Error;
-use wire_json::{Fault, FaultKind};
+use wire_json::{Fault, FaultKind, JsonError};
 
 /// What is wrong with a text.
 #[derive(Clone, Copy, Debug, PartialEq, Eq)]
@@ -43,6 +43,31 @@ impl From<AllocError> for ReadError {
 
     fn from(_error: AllocError) -> ReadError {
         ReadError::OutOfMemory
+    }
+}
+
+impl From<Fault> for ReadError {
+    ghost use Rattle.wire_protojson.specs.declared.refusal.ReadError.TheVariants.{Refused};
+    ghost use Rattle.wire_protojson.specs.declared.refusal.Reason.TheVariants.{NoJson};
+
+    ghost from_gives = { λ fault e.
+        e ≡ Refused (record { reason = NoJson fault.kind; at = fault.at }) };
+
+    fn from(fault: Fault) -> ReadError {
+        no_json(fault)
+    }
+}
+
+impl From<JsonError> for ReadError {
+    ghost use Rattle.wire_protojson.specs.Reads.{of_json_error};
+
+    ghost from_gives = { λ error e. e ≡ of_json_error error };
+
+    fn from(error: JsonError) -> ReadError {
+        match error {
+            JsonError::Refused(fault) => no_json(fault),
+            JsonError::OutOfMemory => ReadError::OutOfMemory,
+        }
     }
 }
 
