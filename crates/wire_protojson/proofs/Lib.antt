@@ -1,6 +1,7 @@
 pub mod Decided
 pub mod DecidedScalars
 pub mod EnumValues
+pub mod Finding
 pub mod Firsts
 pub mod Floats
 pub mod Gathering

@@ -8,6 +8,7 @@
 #[cfg(test)]
 mod caller;
 mod enums;
+mod find;
 mod float;
 pub mod laws;
 mod number;

@@ -15,6 +15,9 @@ pub enum Reason {
     /// The JSON that begins here is no value of the type that is read: it is of another kind, no
     /// whole number, out of range, no base64, or no name that the enum has.
     NoValue,
+
+    /// The value that begins here is of a field that has one already.
+    Duplicate,
 }
 
 /// Why a text is refused, and the byte where that stands: the length of the text at its end.
