@@ -1,10 +1,12 @@
 pub mod Decided
 pub mod DecidedScalars
 pub mod EnumValues
+pub mod FieldReads
 pub mod Finding
 pub mod Firsts
 pub mod Floats
 pub mod Gathering
+pub mod Knowing
 pub mod NumberTexts
 pub mod ObjectReads
 pub mod PlainNumbers

@@ -1,4 +1,5 @@
 pub mod Enums
+pub mod Fields
 pub mod Laws
 pub mod Numbers
 pub mod Scalars

@@ -10,6 +10,8 @@ mod caller;
 mod enums;
 mod find;
 mod float;
+mod kind;
+mod known;
 pub mod laws;
 mod number;
 mod object;
@@ -22,6 +24,8 @@ mod token;
 mod write;
 
 pub use enums::{EnumName, read_enum, write_enum};
+pub use kind::{JsonKind, JsonScalar, read_field};
+pub use known::{FieldName, check_names};
 pub use object::{Entry, Object, read_object};
 pub use refusal::{ReadError, Reason, Refusal};
 pub use scalar::{

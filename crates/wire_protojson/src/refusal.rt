@@ -18,6 +18,9 @@ pub enum Reason {
 
     /// The value that begins here is of a field that has one already.
     Duplicate,
+
+    /// The value that begins here is of no field.
+    UnknownName,
 }
 
 /// Why a text is refused, and the byte where that stands: the length of the text at its end.
