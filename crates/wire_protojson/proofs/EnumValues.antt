@@ -7,8 +7,8 @@ use Rattle.wire_protojson.specs.declared.enums.EnumName.{EnumName}
 use Rattle.wire_protojson.specs.Enums.{AreTexts, IsEnumTree, IsFirst, MeansEnum, NamesAgree}
 use Rattle.wire_protojson.specs.Laws.{IsDecided, IsReadAs}
 use Rattle.wire_protojson.specs.Trees.{short_signed_tree}
-use Rattle.wire_protojson.proofs.Decided.{decided}
-use Rattle.wire_protojson.proofs.DecidedScalars.{one_signed}
+use Rattle.wire_protojson.specs.Decided.{decided}
+use Rattle.wire_protojson.specs.DecidedScalars.{one_signed}
 use Rattle.wire_protojson.proofs.NumberTexts.{fits_wider}
 use Rattle.wire_protojson.proofs.ReadBack.{by_meaning, signed_back, spells_integer}
 

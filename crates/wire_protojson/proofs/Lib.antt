@@ -1,5 +1,3 @@
-pub mod Decided
-pub mod DecidedScalars
 pub mod EnumValues
 pub mod FieldReads
 pub mod Finding

@@ -2,15 +2,8 @@
 use Rattle.std.proofs.Common.{◌≡◌, ℕ, List, Option, Some, None, Result, Ok, Err, sym, ◌∙◌, subst}
 use Rattle.std.specs.Prelude.{IfOk, MatchOption}
 use Rattle.wire_json.specs.Json.{Json, null, boolean, number, string, array, object}
+use Rattle.wire_protojson.specs.DecidedScalars.{one_text}
 use Rattle.wire_protojson.specs.Scalars.{MeansBase64, MeansBytes, MeansString}
-
-pub one_text : (json : Json) (s t : List ℕ) → MeansString json s → MeansString json t → s ≡ t
-one_text (string bytes) s t p q = sym p ∙ q
-one_text null s t p q = absurd p
-one_text (boolean b) s t p q = absurd p
-one_text (number text) s t p q = absurd p
-one_text (array es) s t p q = absurd p
-one_text (object ms) s t p q = absurd p
 
 -- what is decoded of a string, and that nothing is
 pub of_text : (json : Json) (text : List ℕ) → MeansString json text → {V : Type 0} (items : V → List ℕ)

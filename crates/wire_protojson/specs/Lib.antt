@@ -1,6 +1,10 @@
+pub mod Boxes
+pub mod Decided
+pub mod DecidedScalars
 pub mod Enums
 pub mod Fields
 pub mod Laws
+pub mod Messages
 pub mod Numbers
 pub mod Scalars
 pub mod Tokens

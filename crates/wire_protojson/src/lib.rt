@@ -10,9 +10,11 @@ mod caller;
 mod enums;
 mod find;
 mod float;
+mod held;
 mod kind;
 mod known;
 pub mod laws;
+mod message;
 mod number;
 mod object;
 mod refusal;
@@ -24,8 +26,9 @@ mod token;
 mod write;
 
 pub use enums::{EnumName, read_enum, write_enum};
-pub use kind::{JsonKind, JsonScalar, read_field};
+pub use kind::{Implicit, JsonKind, JsonScalar, Optional, read_field};
 pub use known::{FieldName, check_names};
+pub use message::{Embedded, JsonMessage, from_json};
 pub use object::{Entry, Object, read_object};
 pub use refusal::{ReadError, Reason, Refusal};
 pub use scalar::{

@@ -1,4 +1,4 @@
-use Rattle.wire_protojson.proofs.DecidedScalars.{bools_decided, bytes_decided, floats_decided, signed_decided, strings_decided, unsigned_decided}
+use Rattle.wire_protojson.specs.DecidedScalars.{bools_decided, bytes_decided, floats_decided, signed_decided, strings_decided, unsigned_decided}
 use Rattle.wire_protojson.proofs.EnumValues.{enums_decided}
 use Rattle.wire_protojson.proofs.laws.scalars_are_decided.Goals as goal
 

@@ -11,8 +11,7 @@ use Rattle.wire_json.specs.Number.{SpellsNumber}
 use Rattle.wire_protojson.specs.Laws.{IsDecided}
 use Rattle.wire_protojson.specs.Numbers.{HasNumber, MeansByNumber, MeansByWord, MeansFloat, MeansSigned, MeansUnsigned, whole_number}
 use Rattle.wire_protojson.specs.Scalars.{MeansBase64, MeansBool, MeansBytes, MeansString}
-use Rattle.wire_protojson.proofs.Decided.{decided}
-use Rattle.wire_protojson.proofs.Texts.{one_text}
+use Rattle.wire_protojson.specs.Decided.{decided}
 
 one_number : (json : Json) (s t : List ℕ) → HasNumber json s → HasNumber json t → s ≡ t
 one_number null s t p q = absurd p
@@ -53,6 +52,14 @@ one_bool (object ms) a b p q = absurd p
 
 pub bools_decided : IsDecided MeansBool
 bools_decided = decided MeansBool one_bool (λ es b m. absurd m) (λ ms b m. absurd m)
+
+pub one_text : (json : Json) (s t : List ℕ) → MeansString json s → MeansString json t → s ≡ t
+one_text (string bytes) s t p q = sym p ∙ q
+one_text null s t p q = absurd p
+one_text (boolean b) s t p q = absurd p
+one_text (number text) s t p q = absurd p
+one_text (array es) s t p q = absurd p
+one_text (object ms) s t p q = absurd p
 
 pub strings_decided : IsDecided MeansString
 strings_decided = decided MeansString one_text (λ es s m. absurd m) (λ ms s m. absurd m)

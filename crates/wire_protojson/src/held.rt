@@ -1,0 +1,226 @@
+//! The scalar types as what a message holds: `i32` for `int32`, `sint32` and `sfixed32`, and so on.
+use crate::kind::JsonScalar;
+use crate::refusal::ReadError;
+use crate::scalar::{
+    read_bool, read_bytes, read_double, read_float, read_int32, read_int64, read_string,
+    read_uint32, read_uint64,
+};
+use std::alloc::Global;
+
+impl JsonScalar for i32 {
+    ghost use Rattle.std.specs.Prelude.{ℤ, pos};
+    ghost use Rattle.std.specs.Int.{w32};
+    ghost use Rattle.wire_protojson.specs.Numbers.{MeansSigned};
+    ghost use Rattle.wire_protojson.specs.DecidedScalars.{signed_decided};
+
+    ghost Value = { ℤ };
+
+    ghost view = { λ v. v };
+
+    ghost means = { MeansSigned w32 };
+
+    ghost default = { pos 0 };
+
+    ghost decided = { signed_decided w32 };
+
+    fn default_value(_alloc: Global) -> i32 {
+        0
+    }
+
+    fn read_json(alloc: Global, text: &[u8], at: usize) -> Result<(i32, usize), ReadError> {
+        read_int32(alloc, text, at)
+    }
+}
+
+impl JsonScalar for i64 {
+    ghost use Rattle.std.specs.Prelude.{ℤ, pos};
+    ghost use Rattle.std.specs.Int.{w64};
+    ghost use Rattle.wire_protojson.specs.Numbers.{MeansSigned};
+    ghost use Rattle.wire_protojson.specs.DecidedScalars.{signed_decided};
+
+    ghost Value = { ℤ };
+
+    ghost view = { λ v. v };
+
+    ghost means = { MeansSigned w64 };
+
+    ghost default = { pos 0 };
+
+    ghost decided = { signed_decided w64 };
+
+    fn default_value(_alloc: Global) -> i64 {
+        0
+    }
+
+    fn read_json(alloc: Global, text: &[u8], at: usize) -> Result<(i64, usize), ReadError> {
+        read_int64(alloc, text, at)
+    }
+}
+
+impl JsonScalar for u32 {
+    ghost use Rattle.std.specs.Prelude.{ℕ};
+    ghost use Rattle.wire_protojson.specs.Numbers.{MeansUnsigned};
+    ghost use Rattle.wire_protojson.specs.DecidedScalars.{unsigned_decided};
+
+    ghost Value = { ℕ };
+
+    ghost view = { λ v. v };
+
+    ghost means = { MeansUnsigned 32 };
+
+    ghost default = { 0 };
+
+    ghost decided = { unsigned_decided 32 };
+
+    fn default_value(_alloc: Global) -> u32 {
+        0
+    }
+
+    fn read_json(alloc: Global, text: &[u8], at: usize) -> Result<(u32, usize), ReadError> {
+        read_uint32(alloc, text, at)
+    }
+}
+
+impl JsonScalar for u64 {
+    ghost use Rattle.std.specs.Prelude.{ℕ};
+    ghost use Rattle.wire_protojson.specs.Numbers.{MeansUnsigned};
+    ghost use Rattle.wire_protojson.specs.DecidedScalars.{unsigned_decided};
+
+    ghost Value = { ℕ };
+
+    ghost view = { λ v. v };
+
+    ghost means = { MeansUnsigned 64 };
+
+    ghost default = { 0 };
+
+    ghost decided = { unsigned_decided 64 };
+
+    fn default_value(_alloc: Global) -> u64 {
+        0
+    }
+
+    fn read_json(alloc: Global, text: &[u8], at: usize) -> Result<(u64, usize), ReadError> {
+        read_uint64(alloc, text, at)
+    }
+}
+
+impl JsonScalar for bool {
+    ghost use Rattle.std.specs.Prelude.{Bool, false};
+    ghost use Rattle.wire_protojson.specs.Scalars.{MeansBool};
+    ghost use Rattle.wire_protojson.specs.DecidedScalars.{bools_decided};
+
+    ghost Value = { Bool };
+
+    ghost view = { λ v. v };
+
+    ghost means = { MeansBool };
+
+    ghost default = { false };
+
+    ghost decided = { bools_decided };
+
+    fn default_value(_alloc: Global) -> bool {
+        false
+    }
+
+    fn read_json(alloc: Global, text: &[u8], at: usize) -> Result<(bool, usize), ReadError> {
+        read_bool(alloc, text, at)
+    }
+}
+
+impl JsonScalar for f32 {
+    ghost use Rattle.std.specs.Float.{Float, binary32, float_zero};
+    ghost use Rattle.wire_protojson.specs.Numbers.{MeansFloat};
+    ghost use Rattle.wire_protojson.specs.DecidedScalars.{floats_decided};
+
+    ghost Value = { Float };
+
+    ghost view = { λ v. v };
+
+    ghost means = { MeansFloat binary32 };
+
+    ghost default = { float_zero };
+
+    ghost decided = { floats_decided binary32 };
+
+    fn default_value(_alloc: Global) -> f32 {
+        0.0
+    }
+
+    fn read_json(alloc: Global, text: &[u8], at: usize) -> Result<(f32, usize), ReadError> {
+        read_float(alloc, text, at)
+    }
+}
+
+impl JsonScalar for f64 {
+    ghost use Rattle.std.specs.Float.{Float, binary64, float_zero};
+    ghost use Rattle.wire_protojson.specs.Numbers.{MeansFloat};
+    ghost use Rattle.wire_protojson.specs.DecidedScalars.{floats_decided};
+
+    ghost Value = { Float };
+
+    ghost view = { λ v. v };
+
+    ghost means = { MeansFloat binary64 };
+
+    ghost default = { float_zero };
+
+    ghost decided = { floats_decided binary64 };
+
+    fn default_value(_alloc: Global) -> f64 {
+        0.0
+    }
+
+    fn read_json(alloc: Global, text: &[u8], at: usize) -> Result<(f64, usize), ReadError> {
+        read_double(alloc, text, at)
+    }
+}
+
+impl JsonScalar for String {
+    ghost use Rattle.std.specs.Prelude.{ℕ, List, [], string_bytes};
+    ghost use Rattle.wire_protojson.specs.Scalars.{MeansString};
+    ghost use Rattle.wire_protojson.specs.DecidedScalars.{strings_decided};
+
+    ghost Value = { List ℕ };
+
+    ghost view = { λ s. string_bytes s };
+
+    ghost means = { MeansString };
+
+    ghost default = { [] };
+
+    ghost decided = { strings_decided };
+
+    fn default_value(alloc: Global) -> String {
+        String::new(alloc)
+    }
+
+    fn read_json(alloc: Global, text: &[u8], at: usize) -> Result<(String, usize), ReadError> {
+        read_string(alloc, text, at)
+    }
+}
+
+impl JsonScalar for Vec<u8> {
+    ghost use Rattle.std.specs.Prelude.{ℕ, List, []};
+    ghost use Rattle.wire_protojson.specs.Scalars.{MeansBytes};
+    ghost use Rattle.wire_protojson.specs.DecidedScalars.{bytes_decided};
+
+    ghost Value = { List ℕ };
+
+    ghost view = { λ v. v.items };
+
+    ghost means = { MeansBytes };
+
+    ghost default = { [] };
+
+    ghost decided = { bytes_decided };
+
+    fn default_value(alloc: Global) -> Vec<u8> {
+        Vec::new(alloc)
+    }
+
+    fn read_json(alloc: Global, text: &[u8], at: usize) -> Result<(Vec<u8>, usize), ReadError> {
+        read_bytes(alloc, text, at)
+    }
+}
