@@ -6,6 +6,7 @@ pub mod Fields
 pub mod Laws
 pub mod Messages
 pub mod Numbers
+pub mod Sample
 pub mod Scalars
 pub mod Tokens
 pub mod Trees

@@ -18,6 +18,7 @@ mod message;
 mod number;
 mod object;
 mod refusal;
+mod sample;
 mod scalar;
 #[cfg(test)]
 mod tests;

@@ -1,0 +1,33 @@
+-- `Sample` as contracts see it, and what an object says of it.
+use Rattle.std.specs.Prelude.{◌⊎◌, ℕ, ℤ, List, [], codes, Option, None, option_map, string_bytes}
+use Rattle.std.specs.Float.{Float, binary64, float_zero}
+use Rattle.std.specs.Int.{w64}
+use Rattle.wire_json.specs.Json.{Members}
+use Rattle.wire_protojson.specs.declared.sample.Sample.{Sample}
+use Rattle.wire_protojson.specs.Fields.{EachKnown, FieldMeans, MeansSome}
+use Rattle.wire_protojson.specs.Numbers.{MeansFloat, MeansSigned}
+use Rattle.wire_protojson.specs.Objects.{IsNameOf}
+use Rattle.wire_protojson.specs.Scalars.{MeansString}
+
+abbrev pub Sample-Value : Type 0
+Sample-Value = (List ℕ) × Float × Option ℤ
+
+abbrev pub sample-value : Sample → Sample-Value
+sample-value m = (string_bytes m.name, m.value, option_map (λ v. v) m.sample_count)
+
+abbrev pub IsOfName : List ℕ → Type 0
+IsOfName = IsNameOf (codes "name") (codes "name")
+
+abbrev pub IsOfValue : List ℕ → Type 0
+IsOfValue = IsNameOf (codes "value") (codes "value")
+
+abbrev pub IsOfCount : List ℕ → Type 0
+IsOfCount = IsNameOf (codes "sample_count") (codes "sampleCount")
+
+-- a line a field
+abbrev pub sample-says : Members → Sample-Value → Type 0
+sample-says ms v =
+    EachKnown (λ name. IsOfName name ⊎ (IsOfValue name ⊎ (IsOfCount name ⊎ ⊥))) ms
+    × FieldMeans [] MeansString IsOfName ms v.0
+    × FieldMeans float_zero (MeansFloat binary64) IsOfValue ms v.1
+    × FieldMeans None (MeansSome (MeansSigned w64)) IsOfCount ms v.2
