@@ -15,6 +15,8 @@ mod kind;
 mod known;
 pub mod laws;
 mod message;
+#[cfg(test)]
+mod message_tests;
 mod number;
 mod object;
 mod refusal;
