@@ -16,13 +16,9 @@ use Rattle.wire_json.specs.Text.{ReadsName}
 use Rattle.wire_protojson.specs.declared.object.Entry.{Entry}
 use Rattle.wire_protojson.specs.declared.refusal.Reason.{Reason}
 use Rattle.wire_protojson.specs.declared.refusal.Reason.TheVariants.{NoJson}
+use Rattle.wire_protojson.specs.Messages.{joined}
 use Rattle.wire_protojson.specs.Objects.{AreEntries, NoMembersHere, broken_members}
 use Rattle.wire_protojson.specs.Reads.{RefusedAt, UnlessNoMemory, of_json_error}
-
--- members, and others behind them
-abbrev pub joined : Members → Members → Members
-joined no_member others = others
-joined (member name e ms) others = member name e (joined ms others)
 
 -- a member at the end
 abbrev pub with_member : Members → List ℕ → Json → Members

@@ -5,6 +5,7 @@ pub mod Firsts
 pub mod Floats
 pub mod Gathering
 pub mod Knowing
+pub mod Membering
 pub mod MessageReads
 pub mod NumberTexts
 pub mod ObjectReads

@@ -19,6 +19,11 @@ abbrev pub MeansSome : {V : Type 0} → (Json → V → Type 0) → Json → Opt
 MeansSome Means json None = ⊥
 MeansSome Means json (Some value) = Means json value
 
+-- the tree of a value that may be absent
+abbrev pub IsSomeTree : {V : Type 0} → (V → Json → Type 0) → Option V → Json → Type 0
+IsSomeTree Tree None json = json ≡ null
+IsSomeTree Tree (Some value) json = Tree value json
+
 -- at most one member is the field's
 abbrev pub ValuesMean : {V : Type 0} → V → (Json → V → Type 0) → List Json → V → Type 0
 ValuesMean default Means [] value = value ≡ default

@@ -1,13 +1,15 @@
 -- `Sample` as contracts see it, and what an object says of it.
-use Rattle.std.specs.Prelude.{◌⊎◌, ℕ, ℤ, List, [], codes, Option, None, option_map, string_bytes}
+use Rattle.std.specs.Prelude.{◌≡◌, ◌⊎◌, ℕ, ℤ, List, [], codes, Option, None, option_map, string_bytes}
 use Rattle.std.specs.Float.{Float, binary64, float_zero}
 use Rattle.std.specs.Int.{w64}
-use Rattle.wire_json.specs.Json.{Members}
+use Rattle.wire_json.specs.Json.{Members, string}
 use Rattle.wire_protojson.specs.declared.sample.Sample.{Sample}
-use Rattle.wire_protojson.specs.Fields.{EachKnown, FieldMeans, MeansSome}
+use Rattle.wire_protojson.specs.Fields.{EachKnown, FieldMeans, IsSomeTree, MeansSome}
+use Rattle.wire_protojson.specs.Messages.{IsFieldTree, joined}
 use Rattle.wire_protojson.specs.Numbers.{MeansFloat, MeansSigned}
 use Rattle.wire_protojson.specs.Objects.{IsNameOf}
 use Rattle.wire_protojson.specs.Scalars.{MeansString}
+use Rattle.wire_protojson.specs.Trees.{IsFloatTree, long_signed_tree}
 
 abbrev pub Sample-Value : Type 0
 Sample-Value = (List ℕ) × Float × Option ℤ
@@ -31,3 +33,13 @@ sample-says ms v =
     × FieldMeans [] MeansString IsOfName ms v.0
     × FieldMeans float_zero (MeansFloat binary64) IsOfValue ms v.1
     × FieldMeans None (MeansSome (MeansSigned w64)) IsOfCount ms v.2
+
+-- the same of what is written
+abbrev pub sample-trees : Sample-Value → Members → Type 0
+sample-trees v ms =
+    (name : Members) × (value : Members) × (count : Members)
+    × IsFieldTree [] (λ s json. json ≡ string s) (codes "name") v.0 name
+    × IsFieldTree float_zero (IsFloatTree binary64) (codes "value") v.1 value
+    × IsFieldTree None (IsSomeTree (λ z json. json ≡ long_signed_tree z)) (codes "sampleCount") v.2
+    count
+    × (ms ≡ joined (joined name value) count)

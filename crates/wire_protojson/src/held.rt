@@ -1,14 +1,22 @@
 //! The scalar types as what a message holds: `i32` for `int32`, `sint32` and `sfixed32`, and so on.
+ghost use Rattle.std.specs.Prelude.{◌≡◌, ◌≢◌, MatchBool};
+ghost use Rattle.std.specs.Float.{float_zero};
+
 use crate::kind::JsonScalar;
 use crate::refusal::ReadError;
 use crate::scalar::{
     read_bool, read_bytes, read_double, read_float, read_int32, read_int64, read_string,
     read_uint32, read_uint64,
 };
-use std::alloc::Global;
+use crate::write::{
+    write_bool, write_bytes, write_double, write_float, write_int32, write_int64, write_string,
+    write_uint32, write_uint64,
+};
+use std::alloc::{AllocError, Global};
 
 impl JsonScalar for i32 {
-    ghost use Rattle.std.specs.Prelude.{ℤ, pos};
+    ghost use Rattle.wire_protojson.specs.Trees.{short_signed_tree};
+    ghost use Rattle.std.specs.Prelude.{◌≡◌, ℤ, pos};
     ghost use Rattle.std.specs.Int.{w32};
     ghost use Rattle.wire_protojson.specs.Numbers.{MeansSigned};
     ghost use Rattle.wire_protojson.specs.DecidedScalars.{signed_decided};
@@ -18,6 +26,8 @@ impl JsonScalar for i32 {
     ghost view = { λ v. v };
 
     ghost means = { MeansSigned w32 };
+
+    ghost tree = { λ z json. json ≡ short_signed_tree z };
 
     ghost default = { pos 0 };
 
@@ -30,10 +40,19 @@ impl JsonScalar for i32 {
     fn read_json(alloc: Global, text: &[u8], at: usize) -> Result<(i32, usize), ReadError> {
         read_int32(alloc, text, at)
     }
+
+    fn is_default(&self) -> bool {
+        *self == 0
+    }
+
+    fn write_json(&self, _alloc: Global, out: &mut Vec<u8>) -> Result<(), AllocError> {
+        write_int32(out, *self)
+    }
 }
 
 impl JsonScalar for i64 {
-    ghost use Rattle.std.specs.Prelude.{ℤ, pos};
+    ghost use Rattle.wire_protojson.specs.Trees.{long_signed_tree};
+    ghost use Rattle.std.specs.Prelude.{◌≡◌, ℤ, pos};
     ghost use Rattle.std.specs.Int.{w64};
     ghost use Rattle.wire_protojson.specs.Numbers.{MeansSigned};
     ghost use Rattle.wire_protojson.specs.DecidedScalars.{signed_decided};
@@ -43,6 +62,8 @@ impl JsonScalar for i64 {
     ghost view = { λ v. v };
 
     ghost means = { MeansSigned w64 };
+
+    ghost tree = { λ z json. json ≡ long_signed_tree z };
 
     ghost default = { pos 0 };
 
@@ -55,10 +76,19 @@ impl JsonScalar for i64 {
     fn read_json(alloc: Global, text: &[u8], at: usize) -> Result<(i64, usize), ReadError> {
         read_int64(alloc, text, at)
     }
+
+    fn is_default(&self) -> bool {
+        *self == 0
+    }
+
+    fn write_json(&self, _alloc: Global, out: &mut Vec<u8>) -> Result<(), AllocError> {
+        write_int64(out, *self)
+    }
 }
 
 impl JsonScalar for u32 {
-    ghost use Rattle.std.specs.Prelude.{ℕ};
+    ghost use Rattle.wire_protojson.specs.Trees.{short_unsigned_tree};
+    ghost use Rattle.std.specs.Prelude.{◌≡◌, ℕ};
     ghost use Rattle.wire_protojson.specs.Numbers.{MeansUnsigned};
     ghost use Rattle.wire_protojson.specs.DecidedScalars.{unsigned_decided};
 
@@ -67,6 +97,8 @@ impl JsonScalar for u32 {
     ghost view = { λ v. v };
 
     ghost means = { MeansUnsigned 32 };
+
+    ghost tree = { λ n json. json ≡ short_unsigned_tree n };
 
     ghost default = { 0 };
 
@@ -79,10 +111,19 @@ impl JsonScalar for u32 {
     fn read_json(alloc: Global, text: &[u8], at: usize) -> Result<(u32, usize), ReadError> {
         read_uint32(alloc, text, at)
     }
+
+    fn is_default(&self) -> bool {
+        *self == 0
+    }
+
+    fn write_json(&self, _alloc: Global, out: &mut Vec<u8>) -> Result<(), AllocError> {
+        write_uint32(out, *self)
+    }
 }
 
 impl JsonScalar for u64 {
-    ghost use Rattle.std.specs.Prelude.{ℕ};
+    ghost use Rattle.wire_protojson.specs.Trees.{long_unsigned_tree};
+    ghost use Rattle.std.specs.Prelude.{◌≡◌, ℕ};
     ghost use Rattle.wire_protojson.specs.Numbers.{MeansUnsigned};
     ghost use Rattle.wire_protojson.specs.DecidedScalars.{unsigned_decided};
 
@@ -91,6 +132,8 @@ impl JsonScalar for u64 {
     ghost view = { λ v. v };
 
     ghost means = { MeansUnsigned 64 };
+
+    ghost tree = { λ n json. json ≡ long_unsigned_tree n };
 
     ghost default = { 0 };
 
@@ -103,10 +146,19 @@ impl JsonScalar for u64 {
     fn read_json(alloc: Global, text: &[u8], at: usize) -> Result<(u64, usize), ReadError> {
         read_uint64(alloc, text, at)
     }
+
+    fn is_default(&self) -> bool {
+        *self == 0
+    }
+
+    fn write_json(&self, _alloc: Global, out: &mut Vec<u8>) -> Result<(), AllocError> {
+        write_uint64(out, *self)
+    }
 }
 
 impl JsonScalar for bool {
-    ghost use Rattle.std.specs.Prelude.{Bool, false};
+    ghost use Rattle.wire_json.specs.Json.{boolean};
+    ghost use Rattle.std.specs.Prelude.{◌≡◌, Bool, false};
     ghost use Rattle.wire_protojson.specs.Scalars.{MeansBool};
     ghost use Rattle.wire_protojson.specs.DecidedScalars.{bools_decided};
 
@@ -115,6 +167,8 @@ impl JsonScalar for bool {
     ghost view = { λ v. v };
 
     ghost means = { MeansBool };
+
+    ghost tree = { λ b json. json ≡ boolean b };
 
     ghost default = { false };
 
@@ -127,9 +181,18 @@ impl JsonScalar for bool {
     fn read_json(alloc: Global, text: &[u8], at: usize) -> Result<(bool, usize), ReadError> {
         read_bool(alloc, text, at)
     }
+
+    fn is_default(&self) -> bool {
+        !*self
+    }
+
+    fn write_json(&self, _alloc: Global, out: &mut Vec<u8>) -> Result<(), AllocError> {
+        write_bool(out, *self)
+    }
 }
 
 impl JsonScalar for f32 {
+    ghost use Rattle.wire_protojson.specs.Trees.{IsFloatTree};
     ghost use Rattle.std.specs.Float.{Float, binary32, float_zero};
     ghost use Rattle.wire_protojson.specs.Numbers.{MeansFloat};
     ghost use Rattle.wire_protojson.specs.DecidedScalars.{floats_decided};
@@ -139,6 +202,8 @@ impl JsonScalar for f32 {
     ghost view = { λ v. v };
 
     ghost means = { MeansFloat binary32 };
+
+    ghost tree = { IsFloatTree binary32 };
 
     ghost default = { float_zero };
 
@@ -151,9 +216,18 @@ impl JsonScalar for f32 {
     fn read_json(alloc: Global, text: &[u8], at: usize) -> Result<(f32, usize), ReadError> {
         read_float(alloc, text, at)
     }
+
+    fn is_default(&self) -> bool {
+        is_zero_float(*self)
+    }
+
+    fn write_json(&self, _alloc: Global, out: &mut Vec<u8>) -> Result<(), AllocError> {
+        write_float(out, *self)
+    }
 }
 
 impl JsonScalar for f64 {
+    ghost use Rattle.wire_protojson.specs.Trees.{IsFloatTree};
     ghost use Rattle.std.specs.Float.{Float, binary64, float_zero};
     ghost use Rattle.wire_protojson.specs.Numbers.{MeansFloat};
     ghost use Rattle.wire_protojson.specs.DecidedScalars.{floats_decided};
@@ -163,6 +237,8 @@ impl JsonScalar for f64 {
     ghost view = { λ v. v };
 
     ghost means = { MeansFloat binary64 };
+
+    ghost tree = { IsFloatTree binary64 };
 
     ghost default = { float_zero };
 
@@ -175,10 +251,19 @@ impl JsonScalar for f64 {
     fn read_json(alloc: Global, text: &[u8], at: usize) -> Result<(f64, usize), ReadError> {
         read_double(alloc, text, at)
     }
+
+    fn is_default(&self) -> bool {
+        is_zero_double(*self)
+    }
+
+    fn write_json(&self, _alloc: Global, out: &mut Vec<u8>) -> Result<(), AllocError> {
+        write_double(out, *self)
+    }
 }
 
 impl JsonScalar for String {
-    ghost use Rattle.std.specs.Prelude.{ℕ, List, [], string_bytes};
+    ghost use Rattle.wire_json.specs.Json.{string};
+    ghost use Rattle.std.specs.Prelude.{◌≡◌, ℕ, List, [], string_bytes};
     ghost use Rattle.wire_protojson.specs.Scalars.{MeansString};
     ghost use Rattle.wire_protojson.specs.DecidedScalars.{strings_decided};
 
@@ -187,6 +272,8 @@ impl JsonScalar for String {
     ghost view = { λ s. string_bytes s };
 
     ghost means = { MeansString };
+
+    ghost tree = { λ s json. json ≡ string s };
 
     ghost default = { [] };
 
@@ -199,10 +286,19 @@ impl JsonScalar for String {
     fn read_json(alloc: Global, text: &[u8], at: usize) -> Result<(String, usize), ReadError> {
         read_string(alloc, text, at)
     }
+
+    fn is_default(&self) -> bool {
+        self.is_empty()
+    }
+
+    fn write_json(&self, _alloc: Global, out: &mut Vec<u8>) -> Result<(), AllocError> {
+        write_string(out, self.as_str())
+    }
 }
 
 impl JsonScalar for Vec<u8> {
-    ghost use Rattle.std.specs.Prelude.{ℕ, List, []};
+    ghost use Rattle.wire_protojson.specs.Trees.{bytes_tree};
+    ghost use Rattle.std.specs.Prelude.{◌≡◌, ℕ, List, []};
     ghost use Rattle.wire_protojson.specs.Scalars.{MeansBytes};
     ghost use Rattle.wire_protojson.specs.DecidedScalars.{bytes_decided};
 
@@ -211,6 +307,8 @@ impl JsonScalar for Vec<u8> {
     ghost view = { λ v. v.items };
 
     ghost means = { MeansBytes };
+
+    ghost tree = { λ b json. json ≡ bytes_tree b };
 
     ghost default = { [] };
 
@@ -223,4 +321,31 @@ impl JsonScalar for Vec<u8> {
     fn read_json(alloc: Global, text: &[u8], at: usize) -> Result<(Vec<u8>, usize), ReadError> {
         read_bytes(alloc, text, at)
     }
+
+    fn is_default(&self) -> bool {
+        self.is_empty()
+    }
+
+    fn write_json(&self, alloc: Global, out: &mut Vec<u8>) -> Result<(), AllocError> {
+        write_bytes(alloc, out, self)
+    }
+}
+
+// Whether this is zero, and not minus zero.
+fn is_zero_float(value: f32) -> bool
+    ensures { MatchBool result (value ≡ float_zero) (value ≢ float_zero) }
+{
+    if value.is_nan() {
+        return false;
+    }
+    value.to_bits() == 0
+}
+
+fn is_zero_double(value: f64) -> bool
+    ensures { MatchBool result (value ≡ float_zero) (value ≢ float_zero) }
+{
+    if value.is_nan() {
+        return false;
+    }
+    value.to_bits() == 0
 }

@@ -1,12 +1,15 @@
 //! Kinds of fields, by what stands for them in JSON.
-ghost use Rattle.std.specs.Prelude.{◌≡◌, ◌≢◌, ◌≤◌, ℕ, List, Some, drop, IfOk, IfErr, MatchBool};
+ghost use Rattle.std.specs.Prelude.{◌≡◌, ◌≢◌, ◌≤◌, ◌++◌, ◌&&◌, ℕ, List, Some, drop, IfOk, IfErr, OnOk, OnErr, MatchBool};
 ghost use Rattle.wire_json.specs.declared.kind.Kind.TheVariants as kinds;
 ghost use Rattle.wire_json.specs.Answer.{IsBehind};
+ghost use Rattle.wire_json.specs.Compact.{Extends};
 ghost use Rattle.wire_json.specs.Json.{Json, Members, members_depth};
 ghost use Rattle.wire_json.specs.Kind.{kind_begun};
+ghost use Rattle.wire_json.specs.Written.{written};
 ghost use Rattle.wire_protojson.specs.declared.refusal.ReadError.TheVariants.{OutOfMemory};
 ghost use Rattle.wire_protojson.specs.Fields.{FieldMeans, NothingMeant};
 ghost use Rattle.wire_protojson.specs.Laws.{IsDecided};
+ghost use Rattle.wire_protojson.specs.Messages.{IsFieldTree, is_no_member, text_of_members};
 ghost use Rattle.wire_protojson.specs.Objects.{AreEntries, IsNameOf};
 ghost use Rattle.wire_protojson.specs.Reads.{ReadsMeaning, Refuses, RefusedAt, UnlessNoMemory};
 
@@ -14,8 +17,9 @@ use crate::find::find;
 use crate::known::FieldName;
 use crate::object::Entry;
 use crate::refusal::ReadError;
-use std::alloc::Global;
+use std::alloc::{AllocError, Global};
 use std::marker::PhantomData;
+use wire_json::Mark;
 
 /// A scalar type of which JSON has values.
 pub trait JsonScalar: Drop + Sized {
@@ -26,6 +30,9 @@ pub trait JsonScalar: Drop + Sized {
 
     /// Which trees mean which values.
     ghost means: { Json → Value → Type 0 };
+
+    /// Which trees are written of a value.
+    ghost tree: { Value → Json → Type 0 };
 
     ghost default: { Value };
 
@@ -38,6 +45,16 @@ pub trait JsonScalar: Drop + Sized {
         ensures behind { IfOk result (λ read. IsBehind at read.1 text.now) }
         ensures err { IfErr result (λ e. UnlessNoMemory e
             (λ refusal. RefusedAt text.now refusal (Refuses means (drop at text.now)))) };
+
+    /// Whether this is the default value.
+    fn is_default(&self) -> bool
+        ensures { MatchBool result (view self.now ≡ default) (view self.now ≢ default) };
+
+    /// Writes a value. A front of it may stand in the vector where memory is refused.
+    fn write_json(&self, alloc: Global, out: &mut Vec<u8>) -> Result<(), AllocError>
+        ensures ok { OnOk result ((json : Json) × tree (view self.now) json
+            × (out.new.items ≡ out.old.items ++ written json)) }
+        ensures err { OnErr result (Extends out.old.items out.new.items) };
 
     ghost decided: { IsDecided means };
 }
@@ -54,6 +71,9 @@ pub trait JsonKind {
 
     /// Which trees other than `null` mean which values.
     ghost means: { Json → Value → Type 0 };
+
+    /// Which trees are written of a value.
+    ghost tree: { Value → Json → Type 0 };
 
     /// The value of a field that an object does not have.
     ghost absent: { Value };
@@ -73,6 +93,20 @@ pub trait JsonKind {
         ensures behind { IfOk result (λ read. IsBehind at read.1 text.now) }
         ensures err { IfErr result (λ e. e ≢ OutOfMemory
             → NothingMeant levels means (drop at text.now)) };
+
+    /// Whether the field is left out.
+    fn is_absent(held: &Self::Held) -> bool
+        ensures { MatchBool result (view held.now ≡ absent) (view held.now ≢ absent) };
+
+    /// Writes a value. A front of it may stand in the vector where memory is refused.
+    fn write_json(
+        alloc: Global,
+        out: &mut Vec<u8>,
+        held: &Self::Held,
+    ) -> Result<(), AllocError>
+        ensures ok { OnOk result ((json : Json) × tree (view held.now) json
+            × (out.new.items ≡ out.old.items ++ written json)) }
+        ensures err { OnErr result (Extends out.old.items out.new.items) };
 }
 
 /// A field that has the default value of its type where an object does not have it, as a field of
@@ -90,6 +124,8 @@ impl<S: JsonScalar> JsonKind for Implicit<S> {
 
     ghost means = { S.means };
 
+    ghost tree = { S.tree };
+
     ghost absent = { S.default };
 
     fn absent_value(alloc: Global) -> S {
@@ -104,6 +140,14 @@ impl<S: JsonScalar> JsonKind for Implicit<S> {
     ) -> Result<(S, usize), ReadError> {
         S::read_json(alloc, text, at)
     }
+
+    fn is_absent(held: &S) -> bool {
+        held.is_default()
+    }
+
+    fn write_json(alloc: Global, out: &mut Vec<u8>, held: &S) -> Result<(), AllocError> {
+        held.write_json(alloc, out)
+    }
 }
 
 /// A field that may be absent.
@@ -113,7 +157,7 @@ pub struct Optional<S: JsonScalar> {
 
 impl<S: JsonScalar> JsonKind for Optional<S> {
     ghost use Rattle.std.specs.Prelude.{Option, None, option_map};
-    ghost use Rattle.wire_protojson.specs.Fields.{MeansSome};
+    ghost use Rattle.wire_protojson.specs.Fields.{IsSomeTree, MeansSome};
 
     type Held = Option<S>;
 
@@ -122,6 +166,8 @@ impl<S: JsonScalar> JsonKind for Optional<S> {
     ghost view = { option_map S.view };
 
     ghost means = { MeansSome S.means };
+
+    ghost tree = { IsSomeTree S.tree };
 
     ghost absent = { None };
 
@@ -138,6 +184,24 @@ impl<S: JsonScalar> JsonKind for Optional<S> {
         match S::read_json(alloc, text, at) {
             Ok((value, after)) => Ok((Some(value), after)),
             Err(error) => Err(error),
+        }
+    }
+
+    fn is_absent(held: &Option<S>) -> bool {
+        match held {
+            Some(_) => false,
+            None => true,
+        }
+    }
+
+    fn write_json(
+        alloc: Global,
+        out: &mut Vec<u8>,
+        held: &Option<S>,
+    ) -> Result<(), AllocError> {
+        match held {
+            Some(value) => value.write_json(alloc, out),
+            None => wire_json::write_null(out),
         }
     }
 }
@@ -171,6 +235,32 @@ pub fn read_field<K: JsonKind>(
         }
         Err(error) => Err(error),
     }
+}
+
+/// Writes a field of an object, of which it may be the first; whether what follows is the first is
+/// answered. A front of the member may stand in the vector where memory is refused.
+pub fn write_field<K: JsonKind>(
+    alloc: Global,
+    out: &mut Vec<u8>,
+    first: bool,
+    field: &FieldName,
+    held: &K::Held,
+) -> Result<bool, AllocError>
+    ensures ok { IfOk result (λ next. (ms : Members)
+        × IsFieldTree K.absent K.tree field.now.json_name.now (K.view held.now) ms
+        × (out.new.items ≡ out.old.items ++ text_of_members first ms)
+        × (next ≡ (first && is_no_member ms))) }
+    ensures err { OnErr result (Extends out.old.items out.new.items) }
+{
+    if K::is_absent(held) {
+        return Ok(first);
+    }
+    if !first {
+        wire_json::write_mark(out, Mark::Comma)?;
+    }
+    wire_json::write_name(out, field.json_name)?;
+    K::write_json(alloc, out, held)?;
+    Ok(false)
 }
 
 fn is_null(text: &[u8], at: usize) -> bool

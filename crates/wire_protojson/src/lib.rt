@@ -29,9 +29,9 @@ mod token;
 mod write;
 
 pub use enums::{EnumName, read_enum, write_enum};
-pub use kind::{Implicit, JsonKind, JsonScalar, Optional, read_field};
+pub use kind::{Implicit, JsonKind, JsonScalar, Optional, read_field, write_field};
 pub use known::{FieldName, check_names};
-pub use message::{Embedded, JsonMessage, from_json};
+pub use message::{Embedded, JsonMessage, from_json, to_json};
 pub use object::{Entry, Object, read_object};
 pub use refusal::{ReadError, Reason, Refusal};
 pub use scalar::{

@@ -1,15 +1,17 @@
 //! Messages, read from objects and from whole texts.
-ghost use Rattle.std.specs.Prelude.{◌≢◌, ◌≤◌, drop, IfOk, IfErr};
+ghost use Rattle.std.specs.Prelude.{◌≡◌, ◌≢◌, ◌≤◌, ◌++◌, drop, IfOk, IfErr, OnOk, OnErr};
 ghost use Rattle.wire_json.specs.Answer.{IsBehind};
+ghost use Rattle.wire_json.specs.Compact.{Extends};
 ghost use Rattle.wire_json.specs.Json.{Json, depth};
 ghost use Rattle.wire_json.specs.Reading.{Spells};
+ghost use Rattle.wire_json.specs.Written.{written};
 ghost use Rattle.wire_protojson.specs.declared.refusal.ReadError.TheVariants.{OutOfMemory};
 ghost use Rattle.wire_protojson.specs.Fields.{NothingMeant};
 ghost use Rattle.wire_protojson.specs.Reads.{ReadsMeaning};
 
 use crate::kind::JsonKind;
 use crate::refusal::{ReadError, no_json};
-use std::alloc::Global;
+use std::alloc::{AllocError, Global};
 use std::marker::PhantomData;
 use wire_json::{Fault, FaultKind};
 
@@ -23,6 +25,9 @@ pub trait JsonMessage: Drop + Sized {
     /// Which trees mean which values.
     ghost means: { Json → Value → Type 0 };
 
+    /// Which trees are written of a value.
+    ghost tree: { Value → Json → Type 0 };
+
     /// Reads a value, in which at most `levels` arrays and objects may stand in one another.
     fn read_json(
         alloc: Global,
@@ -35,6 +40,22 @@ pub trait JsonMessage: Drop + Sized {
         ensures behind { IfOk result (λ read. IsBehind at read.1 text.now) }
         ensures err { IfErr result (λ e. e ≢ OutOfMemory
             → NothingMeant levels means (drop at text.now)) };
+
+    /// Writes a value. A front of it may stand in the vector where memory is refused.
+    fn write_json(&self, alloc: Global, out: &mut Vec<u8>) -> Result<(), AllocError>
+        ensures ok { OnOk result ((json : Json) × tree (view self.now) json
+            × (out.new.items ≡ out.old.items ++ written json)) }
+        ensures err { OnErr result (Extends out.old.items out.new.items) };
+}
+
+/// The compact text of a message.
+pub fn to_json<M: JsonMessage>(alloc: Global, message: &M) -> Result<Vec<u8>, AllocError>
+    ensures { IfOk result (λ out. (json : Json) × M.tree (M.view message.now) json
+        × (out.items ≡ written json)) }
+{
+    let mut out = Vec::new(alloc);
+    message.write_json(alloc, &mut out)?;
+    Ok(out)
 }
 
 /// Reads a message from a whole text, with white space round it, in which at most `levels` arrays
@@ -68,7 +89,7 @@ pub struct Embedded<M: JsonMessage> {
 
 impl<M: JsonMessage> JsonKind for Embedded<M> {
     ghost use Rattle.std.specs.Prelude.{Option, None};
-    ghost use Rattle.wire_protojson.specs.Fields.{MeansSome};
+    ghost use Rattle.wire_protojson.specs.Fields.{IsSomeTree, MeansSome};
     ghost use Rattle.wire_protojson.specs.Boxes.{boxed_message};
 
     type Held = Option<Box<M>>;
@@ -78,6 +99,8 @@ impl<M: JsonMessage> JsonKind for Embedded<M> {
     ghost view = { boxed_message M.view };
 
     ghost means = { MeansSome M.means };
+
+    ghost tree = { IsSomeTree M.tree };
 
     ghost absent = { None };
 
@@ -97,6 +120,24 @@ impl<M: JsonMessage> JsonKind for Embedded<M> {
                 Err(_full) => Err(ReadError::OutOfMemory),
             },
             Err(error) => Err(error),
+        }
+    }
+
+    fn is_absent(held: &Option<Box<M>>) -> bool {
+        match held {
+            Some(_) => false,
+            None => true,
+        }
+    }
+
+    fn write_json(
+        alloc: Global,
+        out: &mut Vec<u8>,
+        held: &Option<Box<M>>,
+    ) -> Result<(), AllocError> {
+        match held {
+            Some(message) => message.write_json(alloc, out),
+            None => wire_json::write_null(out),
         }
     }
 }

@@ -1,13 +1,14 @@
 //! A message type by hand, of `message Sample { string name = 1; double value = 2; optional int64
 //! sample_count = 3; }`.
-ghost use Rattle.wire_protojson.specs.Sample.{Sample-Value, sample-value, sample-says};
+ghost use Rattle.wire_protojson.specs.Sample.{Sample-Value, sample-value, sample-says, sample-trees};
 
-use crate::kind::{Implicit, Optional, read_field};
+use crate::kind::{Implicit, Optional, read_field, write_field};
 use crate::known::{FieldName, check_names};
 use crate::message::JsonMessage;
 use crate::object::read_object;
 use crate::refusal::ReadError;
-use std::alloc::Global;
+use std::alloc::{AllocError, Global};
+use wire_json::Mark;
 
 /// What was measured once.
 #[derive(Drop)]
@@ -33,13 +34,15 @@ const SAMPLE_COUNT: FieldName = FieldName {
 };
 
 impl JsonMessage for Sample {
-    ghost use Rattle.wire_protojson.specs.Messages.{ObjectMeans};
+    ghost use Rattle.wire_protojson.specs.Messages.{IsObjectTree, ObjectMeans};
 
     ghost Value = { Sample-Value };
 
     ghost view = { sample-value };
 
     ghost means = { ObjectMeans sample-says };
+
+    ghost tree = { IsObjectTree sample-trees };
 
     fn read_json(
         alloc: Global,
@@ -61,5 +64,14 @@ impl JsonMessage for Sample {
             },
             object.after,
         ))
+    }
+
+    fn write_json(&self, alloc: Global, out: &mut Vec<u8>) -> Result<(), AllocError> {
+        wire_json::write_mark(out, Mark::BeginObject)?;
+        let mut first = true;
+        first = write_field::<Implicit<String>>(alloc, out, first, &NAME, &self.name)?;
+        first = write_field::<Implicit<f64>>(alloc, out, first, &VALUE, &self.value)?;
+        write_field::<Optional<i64>>(alloc, out, first, &SAMPLE_COUNT, &self.sample_count)?;
+        wire_json::write_mark(out, Mark::EndObject)
     }
 }
