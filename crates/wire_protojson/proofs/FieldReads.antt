@@ -76,7 +76,7 @@ null_begun e old new reads is =
     ap kind_begun (word_parts (codes "null") old new (subst P is reads))
 
 module _ {V : Type 0} (default : V) (Means : Json → V → Type 0) where
-  unless_null : (e : Json) (v : V) → (e ≡ null → ⊥) → Means e v → MeansUnlessNull default Means e v
+  pub unless_null : (e : Json) (v : V) → (e ≡ null → ⊥) → Means e v → MeansUnlessNull default Means e v
   unless_null null v other m = absurd (other refl)
   unless_null (boolean b) v other m = m
   unless_null (number text) v other m = m

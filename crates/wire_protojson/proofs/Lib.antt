@@ -6,10 +6,12 @@ pub mod Floats
 pub mod Gathering
 pub mod Knowing
 pub mod Membering
+pub mod MessageBack
 pub mod MessageReads
 pub mod NumberTexts
 pub mod ObjectReads
 pub mod PlainNumbers
 pub mod ReadBack
 pub mod Refusing
+pub mod SampleBack
 pub mod Texts

@@ -172,7 +172,7 @@ ascii_infinity = IsUtf8-from_ascii _ (search rules)
 ascii_minus_infinity : IsUtf8 (codes "-Infinity")
 ascii_minus_infinity = IsUtf8-from_ascii _ (search rules)
 
-float_means : (f : Format) (x : Float) (json : Json) → IsFloatTree f x json
+pub float_means : (f : Format) (x : Float) (json : Json) → IsFloatTree f x json
     → IsLawful json × MeansFloat f json x
 unfolding float_is_finite
 float_means f nan json is = subst P (sym is) (ascii_nan, inl (inl (refl, refl)))

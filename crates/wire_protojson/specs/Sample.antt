@@ -1,11 +1,12 @@
 -- `Sample` as contracts see it, and what an object says of it.
-use Rattle.std.specs.Prelude.{◌≡◌, ◌⊎◌, ℕ, ℤ, List, [], codes, Option, None, option_map, string_bytes}
+use Rattle.std.specs.Prelude.{◌≡◌, ◌⊎◌, ℕ, ℤ, List, [], codes, Option, Some, None, option_map, string_bytes, FitsSigned, IsUtf8}
 use Rattle.std.specs.Float.{Float, binary64, float_zero}
 use Rattle.std.specs.Int.{w64}
-use Rattle.wire_json.specs.Json.{Members, string}
+use Rattle.wire_json.specs.Json.{Json, Members, string}
 use Rattle.wire_protojson.specs.declared.sample.Sample.{Sample}
 use Rattle.wire_protojson.specs.Fields.{EachKnown, FieldMeans, IsSomeTree, MeansSome}
-use Rattle.wire_protojson.specs.Messages.{IsFieldTree, joined}
+use Rattle.wire_protojson.specs.Laws.{IsReadAs}
+use Rattle.wire_protojson.specs.Messages.{IsFieldTree, IsObjectTree, ObjectMeans, joined}
 use Rattle.wire_protojson.specs.Numbers.{MeansFloat, MeansSigned}
 use Rattle.wire_protojson.specs.Objects.{IsNameOf}
 use Rattle.wire_protojson.specs.Scalars.{MeansString}
@@ -43,3 +44,13 @@ sample-trees v ms =
     × IsFieldTree None (IsSomeTree (λ z json. json ≡ long_signed_tree z)) (codes "sampleCount") v.2
     count
     × (ms ≡ joined (joined name value) count)
+
+-- the name is UTF-8, and the count has 64 bits
+abbrev pub IsSampleInRange : Sample-Value → Type 0
+IsSampleInRange v = IsUtf8 v.0 × ((z : ℤ) → v.2 ≡ Some z → FitsSigned w64 z)
+
+-- what is written of a value is read as it
+abbrev pub SampleReadsBack : Type 0
+SampleReadsBack =
+    (v : Sample-Value) (json : Json) → IsSampleInRange v → IsObjectTree sample-trees v json
+    → IsReadAs (ObjectMeans sample-says) v json

@@ -1,6 +1,6 @@
 //! A message type by hand, of `message Sample { string name = 1; double value = 2; optional int64
 //! sample_count = 3; }`.
-ghost use Rattle.wire_protojson.specs.Sample.{Sample-Value, sample-value, sample-says, sample-trees};
+ghost use Rattle.wire_protojson.specs.Sample.{Sample-Value, sample-value, sample-says, sample-trees, SampleReadsBack};
 
 use crate::kind::{Implicit, Optional, read_field, write_field};
 use crate::known::{FieldName, check_names};
@@ -75,3 +75,8 @@ impl JsonMessage for Sample {
         wire_json::write_mark(out, Mark::EndObject)
     }
 }
+
+/// What is written of a value is read as that value.
+pub fn sample_reads_back()
+    ensures { SampleReadsBack }
+{}
