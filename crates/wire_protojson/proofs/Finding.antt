@@ -49,8 +49,7 @@ module _ (Named : List ℕ → Type 0) (text : List ℕ) where
   past_begun first name e left ms other s = record {
     whole = λ v h. s.whole v (inr (other, h));
     behind = λ v h.
-        let (rest, is, more) = s.behind v h in
-        (
+        let (rest, is, more) = s.behind v h in (
           rest,
           is,
           elim more [
@@ -79,8 +78,7 @@ module _ (Named : List ℕ → Type 0) (text : List ℕ) where
       → Sofar rest (Some entry.place) ms
   first_entry entry rest ms (no_member, are, s) mine = absurd are
   first_entry entry rest ms (member name e left, are, s) mine =
-      let here : Named name = subst Named are.0 mine in
-      (
+      let here : Named name = subst Named are.0 mine in (
         left,
         are.2,
         (

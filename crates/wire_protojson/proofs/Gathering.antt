@@ -16,25 +16,25 @@ use Rattle.wire_json.specs.Text.{ReadsName}
 use Rattle.wire_protojson.specs.declared.object.Entry.{Entry}
 use Rattle.wire_protojson.specs.declared.refusal.Reason.{Reason}
 use Rattle.wire_protojson.specs.declared.refusal.Reason.TheVariants.{NoJson}
-use Rattle.wire_protojson.specs.Messages.{joined}
+use Rattle.wire_protojson.specs.Messages.{members_joined}
 use Rattle.wire_protojson.specs.Objects.{AreEntries, NoMembersHere, broken_members}
 use Rattle.wire_protojson.specs.Reads.{RefusedAt, UnlessNoMemory, of_json_error}
 
 -- a member at the end
 abbrev pub with_member : Members → List ℕ → Json → Members
-with_member ms name e = joined ms (member name e no_member)
+with_member ms name e = members_joined ms (member name e no_member)
 
 joined_with : (ms : Members) (name : List ℕ) (e : Json) (others : Members)
-    → joined (with_member ms name e) others ≡ joined ms (member name e others)
+    → members_joined (with_member ms name e) others ≡ members_joined ms (member name e others)
 joined_with no_member name e others = refl
 joined_with (member n j ms) name e others = rw (joined_with ms name e others) refl
 
-joined_none : (ms : Members) → joined ms no_member ≡ ms
+joined_none : (ms : Members) → members_joined ms no_member ≡ ms
 joined_none no_member = refl
 joined_none (member n j ms) = rw (joined_none ms) refl
 
 joined_depth : (l : ℕ) (ms others : Members) → members_depth ms ≤ l → members_depth others ≤ l
-    → members_depth (joined ms others) ≤ l
+    → members_depth (members_joined ms others) ≤ l
 joined_depth l no_member others h k = k
 joined_depth l (member n j ms) others h k =
     let more = joined_depth l ms others (omega (arith, h)) k in
@@ -44,12 +44,12 @@ joined_depth l (member n j ms) others h k =
 pub record AtOne (start item : List ℕ) (so : Members) : Type 0 where
   pub whole : (name : List ℕ) (e : Json) (ms : Members) (value rest new : List ℕ)
       → ReadsName name item value → ReadsValue e value rest → ReadsMoreMembers ms rest new
-      → ReadsMembers (joined so (member name e ms)) start new
+      → ReadsMembers (members_joined so (member name e ms)) start new
 
 -- the same behind a member
 pub record BehindOne (start rest : List ℕ) (so : Members) : Type 0 where
   pub whole : (ms : Members) (new : List ℕ) → ReadsMoreMembers ms rest new
-      → ReadsMembers (joined so ms) start new
+      → ReadsMembers (members_joined so ms) start new
 
 at_first : (start : List ℕ) → AtOne start (past_space start) no_member
 at_first start = record {
@@ -125,8 +125,7 @@ module _ (l : ℕ) (text start : List ℕ) (entries : List Entry) (so : Members)
       (with_member so (cow_str_bytes entry.name) e)
   unfolding all
   goes_on (Item next_place) (next, comma, here) =
-      let P : List ℕ → Type 0 = λ item. AtOne start item all in
-      (
+      let P : List ℕ → Type 0 = λ item. AtOne start item all in (
         subst P (sym here) (at_next start (drop after text) all next behind comma),
         deep,
         entered,

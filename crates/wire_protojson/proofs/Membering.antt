@@ -3,10 +3,10 @@ use Rattle.std.proofs.Common.{◌≡◌, ◌≢◌, ℕ, Bool, true, false, ◌&
 use Rattle.std.specs.Prelude.{OnOk}
 use Rattle.wire_json.specs.Json.{Json, object, Members, no_member, member}
 use Rattle.wire_json.specs.Written.{written, written_name, written_members, written_more_members}
-use Rattle.wire_protojson.specs.Messages.{IsFieldTree, IsObjectTree, is_no_member, joined, text_behind, text_of_members}
+use Rattle.wire_protojson.specs.Messages.{IsFieldTree, IsObjectTree, is_no_member, members_joined, text_behind, text_of_members}
 
 behind_joined : (ms others : Members)
-    → text_behind (joined ms others) ≡ text_behind ms ++ text_behind others
+    → text_behind (members_joined ms others) ≡ text_behind ms ++ text_behind others
 behind_joined no_member others = refl
 behind_joined (member n e ms) others =
     ap (λ (l : List ℕ). 44 ∷ (written_name n ++ (written e ++ l))) (behind_joined ms others)
@@ -15,7 +15,7 @@ behind_joined (member n e ms) others =
     ∙ ap (λ (l : List ℕ). 44 ∷ l)
     (sym (append_assoc (written_name n) (written e ++ text_behind ms) (text_behind others)))
 
-text_joined : (ms others : Members) → text_of_members true (joined ms others)
+text_joined : (ms others : Members) → text_of_members true (members_joined ms others)
     ≡ text_of_members true ms ++ text_of_members (is_no_member ms) others
 text_joined no_member others = refl
 text_joined (member n e ms) others =
@@ -25,7 +25,7 @@ text_joined (member n e ms) others =
     ∙ sym (append_assoc (written_name n) (written e ++ text_behind ms) (text_behind others))
 
 empty_joined : (ms others : Members)
-    → is_no_member (joined ms others) ≡ (is_no_member ms && is_no_member others)
+    → is_no_member (members_joined ms others) ≡ (is_no_member ms && is_no_member others)
 empty_joined no_member others = refl
 empty_joined (member n e ms) others = refl
 
@@ -58,7 +58,7 @@ begun old out put = record { text = put; none = refl }
 
 pub with_field : (old out : List ℕ) (first : Bool) (ms : Members) (new : List ℕ) (next : Bool)
     (field : Members) → Begun old out first ms → new ≡ out ++ text_of_members first field
-    → next ≡ (first && is_no_member field) → Begun old new next (joined ms field)
+    → next ≡ (first && is_no_member field) → Begun old new next (members_joined ms field)
 with_field old out first ms new next field s put is = record {
   text = put ∙ ap (λ (l : List ℕ). l ++ text_of_members first field) s.text
       ∙ append_assoc old (123 ∷ text_of_members true ms) (text_of_members first field)

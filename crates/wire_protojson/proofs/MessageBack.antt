@@ -5,7 +5,7 @@ use Rattle.std.proofs.lemmas.Str.{IsUtf8-from_ascii}
 use Rattle.std.specs.Prelude.{IsUtf8, IsAscii}
 use Rattle.wire_json.specs.Json.{Json, null, boolean, number, string, array, object, Members, no_member, member, IsLawful, AreLawfulMembers}
 use Rattle.wire_protojson.specs.Fields.{EachKnown, FieldMeans, IsSomeTree, MeansSome, MeansUnlessNull, ValuesMean}
-use Rattle.wire_protojson.specs.Messages.{IsFieldTree, joined}
+use Rattle.wire_protojson.specs.Messages.{IsFieldTree, members_joined}
 use Rattle.wire_protojson.specs.Objects.{AreValuesOf}
 use Rattle.wire_protojson.proofs.FieldReads.{unless_null}
 
@@ -44,18 +44,18 @@ name_is_text name h = IsUtf8-from_ascii name (each_ascii name h)
 -- ---- members behind others
 
 pub lawful_joined : (ms others : Members) → AreLawfulMembers ms → AreLawfulMembers others
-    → AreLawfulMembers (joined ms others)
+    → AreLawfulMembers (members_joined ms others)
 lawful_joined no_member others h k = k
 lawful_joined (member n e ms) others h k = (h.0, h.1, lawful_joined ms others h.2 k)
 
 pub known_joined : (Known : List ℕ → Type 0) (ms others : Members) → EachKnown Known ms
-    → EachKnown Known others → EachKnown Known (joined ms others)
+    → EachKnown Known others → EachKnown Known (members_joined ms others)
 known_joined Known no_member others h k = k
 known_joined Known (member n e ms) others h k = (h.0, known_joined Known ms others h.1 k)
 
 pub values_joined : (Named : List ℕ → Type 0) (ms others : Members) (xs ys : List Json)
     → AreValuesOf Named ms xs → AreValuesOf Named others ys
-    → AreValuesOf Named (joined ms others) (xs ++ ys)
+    → AreValuesOf Named (members_joined ms others) (xs ++ ys)
 values_joined Named no_member others xs ys p q =
     subst (λ (l : List Json). AreValuesOf Named others (l ++ ys)) (sym p) q
 values_joined Named (member n e ms) others xs ys (inl (mine, (rest, is, p))) q =
@@ -95,6 +95,7 @@ module _ {V : Type 0} (absent : V) (Means : Json → V → Type 0) (Tree : V →
     where
       P : Members → Type 0
       P l = AreValuesOf Named l []
+
       by_tree : IsFieldTree absent Tree name v ms → AreValuesOf Named ms []
       by_tree (inl (is, none)) = subst P (sym none) refl
       by_tree (inr (there, (e, is, one))) = subst P (sym one) (inr (other, refl))
@@ -107,12 +108,12 @@ module _ {V : Type 0} (absent : V) (Means : Json → V → Type 0) (Tree : V →
     where
       P : List Json → Members → Type 0
       P values l = AreValuesOf Named l values
+
       by_tree : IsFieldTree absent Tree name v ms
           → (values : List Json) × AreValuesOf Named ms values × ValuesMean absent Means values v
       by_tree (inl (is, none)) = ([], subst (P []) (sym none) refl, is)
       by_tree (inr (other, (e, is, one))) =
-          let b = back e other is in
-          (
+          let b = back e other is in (
             e ∷ [],
             subst (P (e ∷ [])) (sym one) (inl (mine, ([], refl, refl))),
             unless_null absent Means e v b.present b.means,

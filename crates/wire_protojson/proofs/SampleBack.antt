@@ -8,7 +8,7 @@ use Rattle.itoa.proofs.Decimal.{IsAscii-signed_decimal}
 use Rattle.wire_json.specs.Json.{Json, null, number, string, object, Members, IsLawful}
 use Rattle.wire_protojson.specs.Fields.{EachKnown, FieldMeans, IsSomeTree, MeansSome}
 use Rattle.wire_protojson.specs.Laws.{IsReadAs}
-use Rattle.wire_protojson.specs.Messages.{IsFieldTree, IsObjectTree, ObjectMeans, joined}
+use Rattle.wire_protojson.specs.Messages.{IsFieldTree, IsObjectTree, ObjectMeans, members_joined}
 use Rattle.wire_protojson.specs.Numbers.{MeansFloat, MeansSigned}
 use Rattle.wire_protojson.specs.Objects.{AreValuesOf}
 use Rattle.wire_protojson.specs.Sample.{IsOfCount, IsOfName, IsOfValue, IsSampleInRange, SampleReadsBack, Sample-Value, sample-says, sample-trees}
@@ -112,11 +112,11 @@ module _ (v : Sample-Value) (range : IsSampleInRange v) (name value count : Memb
   Known text = IsOfName text ⊎ (IsOfValue text ⊎ (IsOfCount text ⊎ ⊥))
 
   ms : Members
-  ms = joined (joined name value) count
+  ms = members_joined (members_joined name value) count
 
   lawful : IsLawful (object ms)
   unfolding ms
-  lawful = lawful_joined (joined name value) count
+  lawful = lawful_joined (members_joined name value) count
       (lawful_joined name value
       (field_lawful [] MeansString StringTree (codes "name") v.0 name name_tree name_utf8
       (λ e other is. string_back v.0 range.0 e is))
@@ -127,7 +127,7 @@ module _ (v : Sample-Value) (range : IsSampleInRange v) (name value count : Memb
 
   known : EachKnown Known ms
   unfolding ms Known
-  known = known_joined Known (joined name value) count
+  known = known_joined Known (members_joined name value) count
       (known_joined Known name value
       (field_known [] MeansString StringTree (codes "name") v.0 name name_tree Known (inl (inl refl)))
       (field_known float_zero (MeansFloat binary64) (IsFloatTree binary64) (codes "value") v.1 value value_tree Known
@@ -140,11 +140,10 @@ module _ (v : Sample-Value) (range : IsSampleInRange v) (name value count : Memb
   name_said =
       let (own, are, means) = field_values [] MeansString StringTree (codes "name") v.0 name name_tree IsOfName
       (inl refl) (λ e other is. string_back v.0 range.0 e is) in
-      let P : List Json → Type 0 = λ l. AreValuesOf IsOfName (joined (joined name value) count) l in
-      (
+      let P : List Json → Type 0 = λ l. AreValuesOf IsOfName (members_joined (members_joined name value) count) l in (
         own,
         subst P (append-nil (own ++ []) ∙ append-nil own)
-            (values_joined IsOfName (joined name value) count (own ++ []) []
+            (values_joined IsOfName (members_joined name value) count (own ++ []) []
             (values_joined IsOfName name value own [] are
             (field_other float_zero (MeansFloat binary64) (IsFloatTree binary64) (codes "value") v.1 value value_tree
             IsOfName name_of_value))
@@ -158,11 +157,10 @@ module _ (v : Sample-Value) (range : IsSampleInRange v) (name value count : Memb
   value_said =
       let (own, are, means) = field_values float_zero (MeansFloat binary64) (IsFloatTree binary64) (codes "value") v.1
       value value_tree IsOfValue (inl refl) (λ e other is. float_back v.1 e is) in
-      let P : List Json → Type 0 = λ l. AreValuesOf IsOfValue (joined (joined name value) count) l in
-      (
+      let P : List Json → Type 0 = λ l. AreValuesOf IsOfValue (members_joined (members_joined name value) count) l in (
         own,
         subst P (append-nil own)
-            (values_joined IsOfValue (joined name value) count own []
+            (values_joined IsOfValue (members_joined name value) count own []
             (values_joined IsOfValue name value [] own
             (field_other [] MeansString StringTree (codes "name") v.0 name name_tree IsOfValue value_of_name)
             are)
@@ -176,10 +174,9 @@ module _ (v : Sample-Value) (range : IsSampleInRange v) (name value count : Memb
   count_said =
       let (own, are, means) = field_values None (MeansSome (MeansSigned w64)) CountTree
       (codes "sampleCount") v.2 count count_tree IsOfCount (inr refl)
-      (λ e other is. optional_count v.2 range.1 e other is) in
-      (
+      (λ e other is. optional_count v.2 range.1 e other is) in (
         own,
-        values_joined IsOfCount (joined name value) count [] own
+        values_joined IsOfCount (members_joined name value) count [] own
             (values_joined IsOfCount name value [] []
             (field_other [] MeansString StringTree (codes "name") v.0 name name_tree IsOfCount count_of_name)
             (field_other float_zero (MeansFloat binary64) (IsFloatTree binary64) (codes "value") v.1 value value_tree
@@ -188,7 +185,7 @@ module _ (v : Sample-Value) (range : IsSampleInRange v) (name value count : Memb
         means,
       )
 
-  said : IsReadAs (ObjectMeans sample-says) v (object (joined (joined name value) count))
+  said : IsReadAs (ObjectMeans sample-says) v (object (members_joined (members_joined name value) count))
   unfolding ms Known
   said =
       by_meaning (ObjectMeans sample-says) v (object ms) lawful

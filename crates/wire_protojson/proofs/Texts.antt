@@ -2,7 +2,7 @@
 use Rattle.std.proofs.Common.{◌≡◌, ℕ, List, Option, Some, None, Result, Ok, Err, sym, ◌∙◌, subst}
 use Rattle.std.specs.Prelude.{IfOk, MatchOption}
 use Rattle.wire_json.specs.Json.{Json, null, boolean, number, string, array, object}
-use Rattle.wire_protojson.specs.DecidedScalars.{one_text}
+use Rattle.wire_protojson.specs.DecidedScalars.{one_string_meant}
 use Rattle.wire_protojson.specs.Scalars.{MeansBase64, MeansBytes, MeansString}
 
 -- what is decoded of a string, and that nothing is
@@ -13,7 +13,7 @@ pub of_text : (json : Json) (text : List ℕ) → MeansString json text → {V :
 of_text json text is items (Some v) h = (text, is, h)
 of_text json text is items None h = λ value means.
     let P : List ℕ → Type 0 = λ t. MeansBase64 t value in
-    h value (subst P (one_text json means.0 text means.1 is) means.2)
+    h value (subst P (one_string_meant json means.0 text means.1 is) means.2)
 
 pub decoded : (json : Json) (text : List ℕ) → MeansString json text → {V E : Type 0} (items : V → List ℕ)
     (r : Result (Option V) E)

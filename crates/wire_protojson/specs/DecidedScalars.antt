@@ -53,16 +53,16 @@ one_bool (object ms) a b p q = absurd p
 pub bools_decided : IsDecided MeansBool
 bools_decided = decided MeansBool one_bool (λ es b m. absurd m) (λ ms b m. absurd m)
 
-pub one_text : (json : Json) (s t : List ℕ) → MeansString json s → MeansString json t → s ≡ t
-one_text (string bytes) s t p q = sym p ∙ q
-one_text null s t p q = absurd p
-one_text (boolean b) s t p q = absurd p
-one_text (number text) s t p q = absurd p
-one_text (array es) s t p q = absurd p
-one_text (object ms) s t p q = absurd p
+pub one_string_meant : (json : Json) (s t : List ℕ) → MeansString json s → MeansString json t → s ≡ t
+one_string_meant (string bytes) s t p q = sym p ∙ q
+one_string_meant null s t p q = absurd p
+one_string_meant (boolean b) s t p q = absurd p
+one_string_meant (number text) s t p q = absurd p
+one_string_meant (array es) s t p q = absurd p
+one_string_meant (object ms) s t p q = absurd p
 
 pub strings_decided : IsDecided MeansString
-strings_decided = decided MeansString one_text (λ es s m. absurd m) (λ ms s m. absurd m)
+strings_decided = decided MeansString one_string_meant (λ es s m. absurd m) (λ ms s m. absurd m)
 
 not_both : {A E : Type 0} (r : Result A E) (x : A) → r ≡ Ok x → IsErr r → ⊥
 not_both (Ok y) x is bad = absurd cc
@@ -79,7 +79,7 @@ one_base64 text a b (inr (bad, p)) (inr (worse, q)) = cc
 one_bytes : (json : Json) (a b : List ℕ) → MeansBytes json a → MeansBytes json b → a ≡ b
 one_bytes json a b (s, is, p) (t, same, q) =
     let P : List ℕ → Type 0 = λ l. MeansBase64 l a in
-    one_base64 t a b (subst P (one_text json s t is same) p) q
+    one_base64 t a b (subst P (one_string_meant json s t is same) p) q
 
 pub bytes_decided : IsDecided MeansBytes
 bytes_decided = decided MeansBytes one_bytes (λ es b m. absurd m.1) (λ ms b m. absurd m.1)

@@ -15,9 +15,9 @@ ObjectMeans Say (array es) value = ⊥
 -- ---- what is written
 
 -- members, and others behind them
-abbrev pub joined : Members → Members → Members
-joined no_member others = others
-joined (member name e ms) others = member name e (joined ms others)
+abbrev pub members_joined : Members → Members → Members
+members_joined no_member others = others
+members_joined (member name e ms) others = member name e (members_joined ms others)
 
 abbrev pub is_no_member : Members → Bool
 is_no_member no_member = true

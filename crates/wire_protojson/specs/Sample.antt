@@ -6,7 +6,7 @@ use Rattle.wire_json.specs.Json.{Json, Members, string}
 use Rattle.wire_protojson.specs.declared.sample.Sample.{Sample}
 use Rattle.wire_protojson.specs.Fields.{EachKnown, FieldMeans, IsSomeTree, MeansSome}
 use Rattle.wire_protojson.specs.Laws.{IsReadAs}
-use Rattle.wire_protojson.specs.Messages.{IsFieldTree, IsObjectTree, ObjectMeans, joined}
+use Rattle.wire_protojson.specs.Messages.{IsFieldTree, IsObjectTree, ObjectMeans, members_joined}
 use Rattle.wire_protojson.specs.Numbers.{MeansFloat, MeansSigned}
 use Rattle.wire_protojson.specs.Objects.{IsNameOf}
 use Rattle.wire_protojson.specs.Scalars.{MeansString}
@@ -43,7 +43,7 @@ sample-trees v ms =
     × IsFieldTree float_zero (IsFloatTree binary64) (codes "value") v.1 value
     × IsFieldTree None (IsSomeTree (λ z json. json ≡ long_signed_tree z)) (codes "sampleCount") v.2
     count
-    × (ms ≡ joined (joined name value) count)
+    × (ms ≡ members_joined (members_joined name value) count)
 
 -- the name is UTF-8, and the count has 64 bits
 abbrev pub IsSampleInRange : Sample-Value → Type 0

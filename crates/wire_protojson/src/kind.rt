@@ -99,11 +99,7 @@ pub trait JsonKind {
         ensures { MatchBool result (view held.now ≡ absent) (view held.now ≢ absent) };
 
     /// Writes a value. A front of it may stand in the vector where memory is refused.
-    fn write_json(
-        alloc: Global,
-        out: &mut Vec<u8>,
-        held: &Self::Held,
-    ) -> Result<(), AllocError>
+    fn write_json(alloc: Global, out: &mut Vec<u8>, held: &Self::Held) -> Result<(), AllocError>
         ensures ok { OnOk result ((json : Json) × tree (view held.now) json
             × (out.new.items ≡ out.old.items ++ written json)) }
         ensures err { OnErr result (Extends out.old.items out.new.items) };
@@ -194,11 +190,7 @@ impl<S: JsonScalar> JsonKind for Optional<S> {
         }
     }
 
-    fn write_json(
-        alloc: Global,
-        out: &mut Vec<u8>,
-        held: &Option<S>,
-    ) -> Result<(), AllocError> {
+    fn write_json(alloc: Global, out: &mut Vec<u8>, held: &Option<S>) -> Result<(), AllocError> {
         match held {
             Some(value) => value.write_json(alloc, out),
             None => wire_json::write_null(out),

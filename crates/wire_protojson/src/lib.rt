@@ -1,8 +1,10 @@
-//! The JSON mapping of Protocol Buffers: scalars and enums. `CALLING.md` shows its calls.
+//! The JSON mapping of Protocol Buffers: scalars, enums, and messages of such fields. `CALLING.md`
+//! shows its calls.
 //!
 //! Proved of every text: a value is read exactly where the definition reads it (`Reads`), by which
-//! trees mean which values (`Numbers`, `Scalars`, `Enums`), and else one refusal is told, at its
-//! byte. What is written of a value is read as that value (`laws`).
+//! trees mean which values (`Numbers`, `Scalars`, `Enums`, `Fields`), and else it is refused; of a
+//! scalar one refusal is told, at its byte. What is written of a value is read as that value
+//! (`laws`, and `sample` for a message).
 #![tactic(auto)]
 
 #[cfg(test)]
@@ -20,7 +22,7 @@ mod message_tests;
 mod number;
 mod object;
 mod refusal;
-mod sample;
+pub mod sample;
 mod scalar;
 #[cfg(test)]
 mod tests;

@@ -1,8 +1,8 @@
-//! What is read of texts as a message. A test that is refused a request for memory fails with
+//! What is read of texts as a message, and what is written of one. A test that is refused a request for memory fails with
 //! `OutOfMemory` as what was found, or not at all.
 use crate::sample::Sample;
-use crate::{ReadError, Reason, Refusal, from_json};
-use std::alloc::Global;
+use crate::{ReadError, Reason, Refusal, from_json, to_json};
+use std::alloc::{AllocError, Global};
 use wire_json::FaultKind;
 
 // What a row finds: its own answer, want of memory, or anything else.
@@ -72,6 +72,29 @@ const ROWS: [(&'static [u8], Answer); 31] = [
     (b"{\"other\":{\"a\":{}}}", Deep(14)),
 ];
 
+// The fields of a message, and what is written of it.
+type Written = (&'static str, f64, Option<i64>, &'static [u8]);
+
+const WRITTEN: [Written; 7] = [
+    ("", 0.0, None, b"{}"),
+    ("a", 0.0, None, b"{\"name\":\"a\"}"),
+    ("", 0.0, Some(0), b"{\"sampleCount\":\"0\"}"),
+    ("", -0.0, None, b"{\"value\":-0.0}"),
+    ("", f64::NAN, None, b"{\"value\":\"NaN\"}"),
+    (
+        "a\"",
+        1.5,
+        Some(-7),
+        b"{\"name\":\"a\\\"\",\"value\":1.5,\"sampleCount\":\"-7\"}",
+    ),
+    (
+        "",
+        1e300,
+        Some(7),
+        b"{\"value\":1e300,\"sampleCount\":\"7\"}",
+    ),
+];
+
 // Whether a refusal is the one that a row has.
 fn is_refused(refusal: Refusal, answer: Answer) -> bool {
     let (reason, at) = match answer {
@@ -88,9 +111,7 @@ fn is_refused(refusal: Refusal, answer: Answer) -> bool {
 fn is_read(sample: &Sample, answer: Answer) -> bool {
     match answer {
         Is(name, value, count) => {
-            sample.name.as_str() == name
-                && sample.value == value
-                && sample.sample_count == count
+            sample.name.as_str() == name && sample.value == value && sample.sample_count == count
         }
         _ => false,
     }
@@ -109,5 +130,27 @@ fn found_in(alloc: Global, text: &[u8], answer: Answer) -> Found {
 fn messages_are_read(rt: HostRuntime) {
     for (place, row) in ROWS.iter().enumerate() {
         assert_eq!(rt; found_in(rt.alloc(), row.0, row.1), Found::Own, "{place}");
+    }
+}
+
+fn written_of(alloc: Global, row: &Written) -> Result<bool, AllocError> {
+    let sample = Sample {
+        name: String::from_str(alloc, row.0)?,
+        value: row.1,
+        sample_count: row.2,
+    };
+    let out = to_json(alloc, &sample)?;
+    Ok(out.as_slice() == row.3)
+}
+
+#[test]
+fn messages_are_written(rt: HostRuntime) {
+    for (place, row) in WRITTEN.iter().enumerate() {
+        let found = match written_of(rt.alloc(), row) {
+            Ok(true) => Found::Own,
+            Ok(false) => Found::Other,
+            Err(_) => Found::OutOfMemory,
+        };
+        assert_eq!(rt; found, Found::Own, "{place}");
     }
 }

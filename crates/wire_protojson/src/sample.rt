@@ -55,7 +55,13 @@ impl JsonMessage for Sample {
         check_names(entries, &[NAME, VALUE, SAMPLE_COUNT])?;
         let name = read_field::<Implicit<String>>(alloc, text, entries, levels, &NAME)?;
         let value = read_field::<Implicit<f64>>(alloc, text, entries, levels, &VALUE)?;
-        let sample_count = read_field::<Optional<i64>>(alloc, text, entries, levels, &SAMPLE_COUNT)?;
+        let sample_count = read_field::<Optional<i64>>(
+            alloc,
+            text,
+            entries,
+            levels,
+            &SAMPLE_COUNT,
+        )?;
         Ok((
             Sample {
                 name,

@@ -69,8 +69,7 @@ returns-clause-ok c =
     let text = c.args.text.now in
     let (ms, reads, fits, are) = c.in_ok-object.ensures.ok in
     let entries = in_slice text ms c.as_slice-entries.result.now c.in_ok-object.object.entries.items
-    c.as_slice-entries.ensures.value are in
-    (
+    c.as_slice-entries.ensures.value are in (
       object ms,
       reads,
       (
