@@ -1,7 +1,7 @@
 -- Members whose names are known.
-use Rattle.std.proofs.Common.{◌≡◌, ℕ, suc, ◌+◌, ◌<◌, List, [], ◌∷◌, length, drop, slice_index_or, sym, subst, arith}
+use Rattle.std.proofs.Common.{ℕ, List, [], ◌∷◌, sym, subst}
 use Rattle.std.specs.Cow.{cow_str_bytes}
-use Rattle.wire_json.specs.Json.{Json, Members, no_member, member}
+use Rattle.wire_json.specs.Json.{Members, no_member, member}
 use Rattle.wire_protojson.specs.declared.object.Entry.{Entry}
 use Rattle.wire_protojson.specs.Fields.{EachKnown}
 use Rattle.wire_protojson.specs.Objects.{AreEntries}

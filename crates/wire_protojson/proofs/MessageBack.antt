@@ -1,10 +1,10 @@
 -- What is written of a message is read as that message.
-use Rattle.std.proofs.Common.{◌≡◌, ◌≢◌, ℕ, zero, suc, ◌<◌, Bool, true, false, ◌&&◌, nat_lt, slice_index, arith, List, [], ◌∷◌, ◌++◌, Option, Some, None, inl, inr, refl, sym, ap, ◌∙◌, subst}
+use Rattle.std.proofs.Common.{◌≡◌, ◌≢◌, ℕ, zero, suc, ◌<◌, Bool, true, false, ◌&&◌, nat_lt, slice_index, arith, List, [], ◌∷◌, ◌++◌, Option, Some, None, inl, inr, refl, sym, ap, subst}
 use Rattle.std.proofs.lemmas.Bool.Decides.{nat_tests}
 use Rattle.std.proofs.lemmas.Str.{IsUtf8-from_ascii}
 use Rattle.std.specs.Prelude.{IsUtf8, IsAscii}
-use Rattle.wire_json.specs.Json.{Json, null, boolean, number, string, array, object, Members, no_member, member, IsLawful, AreLawfulMembers}
-use Rattle.wire_protojson.specs.Fields.{EachKnown, FieldMeans, IsSomeTree, MeansSome, MeansUnlessNull, ValuesMean}
+use Rattle.wire_json.specs.Json.{Json, null, Members, no_member, member, IsLawful, AreLawfulMembers}
+use Rattle.wire_protojson.specs.Fields.{EachKnown, IsSomeTree, MeansSome, ValuesMean}
 use Rattle.wire_protojson.specs.Messages.{IsFieldTree, members_joined}
 use Rattle.wire_protojson.specs.Objects.{AreValuesOf}
 use Rattle.wire_protojson.proofs.FieldReads.{unless_null}

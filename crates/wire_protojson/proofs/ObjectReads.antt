@@ -1,9 +1,9 @@
 -- Objects that are read and that are not.
-use Rattle.std.proofs.Common.{◌≡◌, ◌≢◌, ℕ, ◌-◌, ◌<◌, ◌≤◌, List, ◌∷◌, drop, Option, Some, None, Result, Ok, Err, sym, ap, ◌∙◌, arith}
+use Rattle.std.proofs.Common.{◌≡◌, ℕ, ◌-◌, ◌<◌, ◌≤◌, List, drop, Some, None, Result, Ok, Err, sym, ap, ◌∙◌, arith}
 use Rattle.std.specs.Prelude.{IfErr}
 use Rattle.wire_json.specs.declared.kind.Kind.{Kind}
 use Rattle.wire_json.specs.declared.kind.Kind.TheVariants as kinds
-use Rattle.wire_json.specs.Fault.{MembersFault, in_object}
+use Rattle.wire_json.specs.Fault.{in_object}
 use Rattle.wire_json.specs.Json.{Members, object, depth}
 use Rattle.wire_json.specs.Kind.{kind_begun}
 use Rattle.wire_json.specs.Reading.{ReadsValue}
@@ -11,8 +11,7 @@ use Rattle.wire_json.proofs.Beside.{no_value_beside_fault_lemma}
 use Rattle.wire_protojson.specs.declared.refusal.ReadError.{ReadError}
 use Rattle.wire_protojson.specs.declared.refusal.ReadError.TheVariants.{Refused, OutOfMemory}
 use Rattle.wire_protojson.specs.declared.refusal.Reason.{Reason}
-use Rattle.wire_protojson.specs.declared.refusal.Reason.TheVariants.{NoJson}
-use Rattle.wire_protojson.specs.Objects.{NoMembersHere, NoObjectHere, broken, broken_members, nothing, other_kind}
+use Rattle.wire_protojson.specs.Objects.{NoObjectHere, broken, broken_members, nothing, other_kind}
 use Rattle.wire_protojson.specs.Reads.{RefusedAt, UnlessNoMemory}
 use Rattle.wire_protojson.proofs.Gathering.{StandsBroken}
 

@@ -1,5 +1,5 @@
 -- What is written of a `Sample` is read as it: a line a field, and one for each two.
-use Rattle.std.proofs.Common.{◌≡◌, ◌≢◌, ◌⊎◌, ℕ, Bool, true, false, List, [], ◌∷◌, ◌++◌, Option, Some, None, inl, inr, refl, sym, ap, ◌∙◌, subst, append-nil}
+use Rattle.std.proofs.Common.{◌≡◌, ◌≢◌, ◌⊎◌, ℕ, true, false, List, [], ◌++◌, Option, Some, None, inl, inr, refl, sym, ap, ◌∙◌, subst, append-nil}
 use Rattle.std.proofs.lemmas.Str.{IsUtf8-from_ascii}
 use Rattle.std.specs.Prelude.{ℤ, codes, FitsSigned, IsUtf8}
 use Rattle.std.specs.Float.{Float, binary64, float_zero, nan, inf, fin}
@@ -8,10 +8,10 @@ use Rattle.itoa.proofs.Decimal.{IsAscii-signed_decimal}
 use Rattle.wire_json.specs.Json.{Json, null, number, string, object, Members, IsLawful}
 use Rattle.wire_protojson.specs.Fields.{EachKnown, FieldMeans, IsSomeTree, MeansSome}
 use Rattle.wire_protojson.specs.Laws.{IsReadAs}
-use Rattle.wire_protojson.specs.Messages.{IsFieldTree, IsObjectTree, ObjectMeans, members_joined}
+use Rattle.wire_protojson.specs.Messages.{IsFieldTree, ObjectMeans, members_joined}
 use Rattle.wire_protojson.specs.Numbers.{MeansFloat, MeansSigned}
 use Rattle.wire_protojson.specs.Objects.{AreValuesOf}
-use Rattle.wire_protojson.specs.Sample.{IsOfCount, IsOfName, IsOfValue, IsSampleInRange, SampleReadsBack, Sample-Value, sample-says, sample-trees}
+use Rattle.wire_protojson.specs.Sample.{IsOfCount, IsOfName, IsOfValue, IsSampleInRange, SampleReadsBack, Sample-Value, sample-says}
 use Rattle.wire_protojson.specs.Scalars.{MeansString}
 use Rattle.wire_protojson.specs.Trees.{IsFloatTree, long_signed_tree}
 use Rattle.wire_protojson.proofs.MessageBack.{IsBack, field_known, field_lawful, field_other, field_values, known_joined, lawful_joined, name_is_text, values_joined}

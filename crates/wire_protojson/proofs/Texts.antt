@@ -1,7 +1,7 @@
 -- Bytes by their text.
-use Rattle.std.proofs.Common.{◌≡◌, ℕ, List, Option, Some, None, Result, Ok, Err, sym, ◌∙◌, subst}
+use Rattle.std.proofs.Common.{ℕ, List, Option, Some, None, Result, Ok, Err, subst}
 use Rattle.std.specs.Prelude.{IfOk, MatchOption}
-use Rattle.wire_json.specs.Json.{Json, null, boolean, number, string, array, object}
+use Rattle.wire_json.specs.Json.{Json}
 use Rattle.wire_protojson.specs.DecidedScalars.{one_string_meant}
 use Rattle.wire_protojson.specs.Scalars.{MeansBase64, MeansBytes, MeansString}
 

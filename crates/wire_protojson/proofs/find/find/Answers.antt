@@ -1,4 +1,4 @@
-use Rattle.std.proofs.Common.{ℕ, Option, Some, suc, ◌∷◌, drop, sym, subst, ◌∙◌}
+use Rattle.std.proofs.Common.{ℕ, Option, suc, ◌∷◌, drop, sym, subst, ◌∙◌}
 use Rattle.wire_protojson.specs.Objects.{IsNameOf}
 use Rattle.wire_protojson.proofs.Finding.{Sofar, first_entry, item_here, next_index, none_there, past_entry}
 use Rattle.wire_protojson.proofs.find.find.Goals as goal

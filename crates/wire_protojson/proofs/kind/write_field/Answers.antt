@@ -1,4 +1,4 @@
-use Rattle.std.proofs.Common.{ap, sym, ◌∙◌}
+use Rattle.std.proofs.Common.{ap, ◌∙◌}
 use Rattle.wire_protojson.proofs.Membering.{field_absent, field_behind, field_first}
 use Rattle.wire_protojson.proofs.kind.write_field.Goals as goal
 use Rattle.wire_protojson.proofs.kind.write_field.Goals.{then-not-first+in_ok-write_mark, else-not-first}

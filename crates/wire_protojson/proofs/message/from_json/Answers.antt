@@ -1,4 +1,4 @@
-use Rattle.std.proofs.Common.{◌≡◌, ◌≢◌, [], length, drop, ap, sym, subst, ◌∙◌, arith, length-drop}
+use Rattle.std.proofs.Common.{◌≡◌, [], length, drop, ap, ◌∙◌, arith, length-drop}
 use Rattle.wire_json.specs.Bytes.{past_space}
 use Rattle.wire_json.proofs.OneReading.{one_value_lemma}
 use Rattle.wire_protojson.proofs.message.from_json.Goals as goal

@@ -1,9 +1,8 @@
-use Rattle.std.proofs.Common.{◌∷◌, [], drop, arith}
+use Rattle.std.proofs.Common.{[], drop, arith}
 use Rattle.std.proofs.lemmas.Result.{err_from_is_err_and}
 use Rattle.std.specs.Cow.{cow_str_bytes}
-use Rattle.wire_json.specs.Fault.{MemberFault, NameFault, ValueFault, bad_name, bad_value}
+use Rattle.wire_json.specs.Fault.{NameFault, bad_name, bad_value}
 use Rattle.wire_json.specs.Json.{no_member}
-use Rattle.wire_json.specs.Container.{NoNext}
 use Rattle.wire_json.proofs.Members as members
 use Rattle.wire_json.proofs.Nested.{behind_further}
 use Rattle.wire_protojson.proofs.Gathering.{StandsBroken, broken_here, goes_on, opened, passed_on, with_member}
