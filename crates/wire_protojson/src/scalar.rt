@@ -14,7 +14,7 @@ use crate::text::{bytes_of, string_of};
 use crate::token::{bool_of, read_token};
 use std::alloc::Global;
 
-/// ReadsMeaning a `bool`: `true` or `false`.
+/// Reads a `bool`: `true` or `false`.
 pub fn read_bool(alloc: Global, text: &[u8], at: usize) -> Result<(bool, usize), ReadError>
     ensures ok { IfOk result (λ read.
         ReadsMeaning MeansBool (drop at text.now) read.0 (drop read.1 text.now)) }
@@ -31,7 +31,7 @@ pub fn read_bool(alloc: Global, text: &[u8], at: usize) -> Result<(bool, usize),
     }
 }
 
-/// ReadsMeaning an `int32`, `sint32` or `sfixed32`: a number or a string that holds one, which is whole.
+/// Reads an `int32`, `sint32` or `sfixed32`: a number or a string that holds one, which is whole.
 pub fn read_int32(alloc: Global, text: &[u8], at: usize) -> Result<(i32, usize), ReadError>
     ensures ok { IfOk result (λ read.
         ReadsMeaning (MeansSigned w32) (drop at text.now) read.0 (drop read.1 text.now)) }
@@ -48,7 +48,7 @@ pub fn read_int32(alloc: Global, text: &[u8], at: usize) -> Result<(i32, usize),
     }
 }
 
-/// ReadsMeaning an `int64`, `sint64` or `sfixed64`, as `read_int32` does.
+/// Reads an `int64`, `sint64` or `sfixed64`, as `read_int32` does.
 pub fn read_int64(alloc: Global, text: &[u8], at: usize) -> Result<(i64, usize), ReadError>
     ensures ok { IfOk result (λ read.
         ReadsMeaning (MeansSigned w64) (drop at text.now) read.0 (drop read.1 text.now)) }
@@ -65,7 +65,7 @@ pub fn read_int64(alloc: Global, text: &[u8], at: usize) -> Result<(i64, usize),
     }
 }
 
-/// ReadsMeaning a `uint32` or `fixed32`, as `read_int32` does.
+/// Reads a `uint32` or `fixed32`, as `read_int32` does.
 pub fn read_uint32(alloc: Global, text: &[u8], at: usize) -> Result<(u32, usize), ReadError>
     ensures ok { IfOk result (λ read.
         ReadsMeaning (MeansUnsigned 32) (drop at text.now) read.0 (drop read.1 text.now)) }
@@ -82,7 +82,7 @@ pub fn read_uint32(alloc: Global, text: &[u8], at: usize) -> Result<(u32, usize)
     }
 }
 
-/// ReadsMeaning a `uint64` or `fixed64`, as `read_int32` does.
+/// Reads a `uint64` or `fixed64`, as `read_int32` does.
 pub fn read_uint64(alloc: Global, text: &[u8], at: usize) -> Result<(u64, usize), ReadError>
     ensures ok { IfOk result (λ read.
         ReadsMeaning (MeansUnsigned 64) (drop at text.now) read.0 (drop read.1 text.now)) }
@@ -99,7 +99,7 @@ pub fn read_uint64(alloc: Global, text: &[u8], at: usize) -> Result<(u64, usize)
     }
 }
 
-/// ReadsMeaning a `float`: the nearest to a number, or to one in a string, or `"NaN"`, `"Infinity"` or
+/// Reads a `float`: the nearest to a number, or to one in a string, or `"NaN"`, `"Infinity"` or
 /// `"-Infinity"`. A number that is nearest to an infinity is refused.
 pub fn read_float(alloc: Global, text: &[u8], at: usize) -> Result<(f32, usize), ReadError>
     ensures ok { IfOk result (λ read.
@@ -117,7 +117,7 @@ pub fn read_float(alloc: Global, text: &[u8], at: usize) -> Result<(f32, usize),
     }
 }
 
-/// ReadsMeaning a `double`, as `read_float` does.
+/// Reads a `double`, as `read_float` does.
 pub fn read_double(alloc: Global, text: &[u8], at: usize) -> Result<(f64, usize), ReadError>
     ensures ok { IfOk result (λ read.
         ReadsMeaning (MeansFloat binary64) (drop at text.now) read.0 (drop read.1 text.now)) }
@@ -134,7 +134,7 @@ pub fn read_double(alloc: Global, text: &[u8], at: usize) -> Result<(f64, usize)
     }
 }
 
-/// ReadsMeaning a `string`.
+/// Reads a `string`.
 pub fn read_string(alloc: Global, text: &[u8], at: usize) -> Result<(String, usize), ReadError>
     ensures ok { IfOk result (λ read.
         ReadsMeaning MeansString (drop at text.now) (string_bytes read.0) (drop read.1 text.now)) }
@@ -154,7 +154,7 @@ pub fn read_string(alloc: Global, text: &[u8], at: usize) -> Result<(String, usi
     }
 }
 
-/// ReadsMeaning `bytes`: base64 of the standard alphabet or of that for URLs, padded or not.
+/// Reads `bytes`: base64 of the standard alphabet or of that for URLs, padded or not.
 pub fn read_bytes(alloc: Global, text: &[u8], at: usize) -> Result<(Vec<u8>, usize), ReadError>
     ensures ok { IfOk result (λ read.
         ReadsMeaning MeansBytes (drop at text.now) read.0.items (drop read.1 text.now)) }

@@ -20,7 +20,7 @@ pub(crate) enum Token<'a> {
     String(CowStr<'a>),
 }
 
-/// ReadsMeaning a scalar.
+/// Reads a scalar.
 pub(crate) fn read_token<'a>(
     alloc: Global,
     text: &'a [u8],
