@@ -5,6 +5,8 @@ pub mod Firsts
 pub mod Floats
 pub mod Gathering
 pub mod Knowing
+pub mod ListPuts
+pub mod Listing
 pub mod Membering
 pub mod MessageBack
 pub mod MessageReads

@@ -4,6 +4,7 @@ pub mod DecidedScalars
 pub mod Enums
 pub mod Fields
 pub mod Laws
+pub mod Lists
 pub mod Messages
 pub mod Numbers
 pub mod Sample

@@ -16,6 +16,7 @@ mod held;
 mod kind;
 mod known;
 pub mod laws;
+mod list;
 mod message;
 #[cfg(test)]
 mod message_tests;
@@ -33,6 +34,7 @@ mod write;
 pub use enums::{EnumName, read_enum, write_enum};
 pub use kind::{Implicit, JsonKind, JsonScalar, Optional, read_field, write_field};
 pub use known::{FieldName, check_names};
+pub use list::Repeated;
 pub use message::{Embedded, JsonMessage, from_json, to_json};
 pub use object::{Entry, Object, read_object};
 pub use refusal::{ReadError, Reason, Refusal};
