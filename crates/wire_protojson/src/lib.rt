@@ -14,6 +14,8 @@ mod find;
 mod float;
 mod held;
 mod kind;
+#[cfg(test)]
+mod kind_tests;
 mod known;
 pub mod laws;
 mod list;
