@@ -37,7 +37,8 @@ const MESSAGES: [Row; 5] = [
     (b"{\"value\":[[[]]]}", Err(10)),
 ];
 
-// Reads a value of this kind, in which two arrays and objects may stand in one another, and writes it.
+// Reads a value of this kind, in which two arrays and objects may stand in one another, and writes
+// it.
 fn found_in<K: JsonKind>(alloc: Global, row: &Row) -> Found {
     let mut out = Vec::new(alloc);
     let own = match K::read_json(alloc, row.0, 0, 2) {
