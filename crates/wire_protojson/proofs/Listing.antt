@@ -1,5 +1,5 @@
 -- The elements of a list so far.
-use Rattle.std.proofs.Common.{◌≡◌, ◌≢◌, ℕ, suc, ◌≤◌, ◌<◌, Bool, true, false, List, [], ◌∷◌, ◌++◌, map, drop, refl, sym, ap, ◌∙◌, subst, arith}
+use Rattle.std.proofs.Common.{◌≡◌, ℕ, ◌≤◌, true, false, List, [], ◌∷◌, ◌++◌, map, drop, refl, sym, ap, ◌∙◌, subst, arith}
 use Rattle.wire_json.specs.declared.container.Next.{Next}
 use Rattle.wire_json.specs.declared.container.Next.TheVariants.{Item, End}
 use Rattle.wire_json.specs.declared.fault.FaultKind.{FaultKind}
@@ -71,8 +71,7 @@ behind_one start item so e rest s reads = record {
   only = λ all new h.
       let (f, es, behind, is, again, more) = s.only all new h in
       let same = one_value_lemma f e item behind rest again reads in
-      let P : List ℕ → Type 0 = λ l. ReadsMoreElements es l new in
-      (
+      let P : List ℕ → Type 0 = λ l. ReadsMoreElements es l new in (
         es,
         is ∙ ap (λ (j : Json). elements_joined so (element j es)) same.0 ∙ sym (joined_more so e es),
         subst P same.1 more,
@@ -188,7 +187,7 @@ module _ {V : Type 0} (Means : Json → V → Type 0) (levels : ℕ) (old : List
   pub not_opened : (k : FaultKind) (left : List ℕ) → NotOpen 91 old k left
       → NothingMeant levels (ListMeans Means) old
   not_opened k left h = no_list (λ es vs new reads fits means.
-    closes 91 old reads.0 reads.1 refl h.other)
+      closes 91 old reads.0 reads.1 refl h.other)
 
   pub no_array : (begins (is_byte 91) old ≡ false) → NothingMeant levels (ListMeans Means) old
   no_array h = no_list (λ es vs new reads fits means. closes 91 old reads.0 reads.1 refl h)
@@ -204,20 +203,20 @@ module _ {V : Type 0} (Means : Json → V → Type 0) (levels : ℕ) (old : List
     pub element_refused : (item : List ℕ) → AtElement inside item so
         → NothingMeant levels Means item → NothingMeant levels (ListMeans Means) old
     element_refused item s nothing = no_list (λ all vs new reads fits means.
-      let (e, es, rest, is, read, more) = s.only all new (inner all new reads) in
-      let P : Elements → Type 0 = λ l. EachMeans Means l vs in
-      let (v, m) = meant_at Means so e es vs (subst P is means) in
-      let deep = depth_at so e es in
-      let long = ap elements_depth is in
-      nothing e v rest read (omega (arith, fits, deep, long)) m)
+        let (e, es, rest, is, read, more) = s.only all new (inner all new reads) in
+        let P : Elements → Type 0 = λ l. EachMeans Means l vs in
+        let (v, m) = meant_at Means so e es vs (subst P is means) in
+        let deep = depth_at so e es in
+        let long = ap elements_depth is in
+        nothing e v rest read (omega (arith, fits, deep, long)) m)
 
     pub list_stops : (place rest : List ℕ) (e : Json) → AtElement inside place so
         → ReadsValue e place rest → (k : FaultKind) (left : List ℕ) → NoNext 93 rest k left
         → NothingMeant levels (ListMeans Means) old
     list_stops place rest e s reads k left h = no_list (λ all vs new whole fits means.
-      let behind = behind_one inside place so e rest s reads in
-      let (es, is, more) = behind.only all new (inner all new whole) in
-      stuck es new more)
+        let behind = behind_one inside place so e rest s reads in
+        let (es, is, more) = behind.only all new (inner all new whole) in
+        stuck es new more)
       where
         stuck : (es : Elements) (new : List ℕ) → ReadsMoreElements es rest new → ⊥
         stuck no_element new close = closes 93 (past_space rest) new close refl h.no_close

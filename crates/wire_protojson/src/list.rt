@@ -52,11 +52,7 @@ impl<K: JsonKind> JsonKind for Repeated<K> {
         held.is_empty()
     }
 
-    fn write_json(
-        alloc: Global,
-        out: &mut Vec<u8>,
-        held: &Vec<K::Held>,
-    ) -> Result<(), AllocError> {
+    fn write_json(alloc: Global, out: &mut Vec<u8>, held: &Vec<K::Held>) -> Result<(), AllocError> {
         write_elements::<K>(alloc, out, held.as_slice())
     }
 }
