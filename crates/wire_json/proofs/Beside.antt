@@ -5,7 +5,7 @@ use Rattle.wire_json.specs.declared.fault.FaultKind.{FaultKind}
 use Rattle.wire_json.specs.declared.kind.Kind.{Kind}
 use Rattle.wire_json.specs.declared.kind.Kind.TheVariants as kinds
 use Rattle.wire_json.specs.Bytes.{begins, is_byte, past_space, word_end}
-use Rattle.wire_json.specs.Fault.{CharsFault, no_char, bad_escape, past_char, StringFault, no_quote, in_string, NameFault, no_name, no_colon, ValueFault, no_value, bad_word, bad_number, bad_string, deep_array, deep_object, in_array, in_object, word_of, ElementsFault, first_element, past_element, MoreElementsFault, no_comma, next_element, past_next, MemberFault, bad_name, bad_value, MembersFault, first_member, past_member, MoreMembersFault, no_comma_or_brace, next_member, past_next_member, in_value, behind_value}
+use Rattle.wire_json.specs.Fault.{CharsFault, no_char, bad_escape, past_char, QuoteFault, no_quote, in_string, NameFault, no_name, no_colon, ValueFault, no_value, bad_word, bad_number, bad_string, deep_array, deep_object, in_array, in_object, word_of, ElementsFault, first_element, past_element, MoreElementsFault, no_comma, next_element, past_next, MemberFault, bad_name, bad_value, MembersFault, first_member, past_member, MoreMembersFault, no_comma_or_brace, next_member, past_next_member, in_value, behind_value}
 use Rattle.wire_json.specs.Json.{Json, null, boolean, number, string, array, object, depth, Elements, no_element, element, elements_depth, Members, no_member, member, members_depth}
 use Rattle.wire_json.specs.Kind.{kind_begun}
 use Rattle.wire_json.specs.Laws.{NoValueBesideFault, NoTextBesideFault}
@@ -46,7 +46,7 @@ chars_beside (c ∷ cs) old new k left (rest, char, more) (past_char d other sam
     chars_beside cs other new k left (subst P (one_char c d old rest other char same).1 more) f
 
 pub string_beside : (bytes old new : List ℕ) (k : FaultKind) (left : List ℕ)
-    → ReadsString bytes old new → StringFault old k left → ⊥
+    → ReadsString bytes old new → QuoteFault old k left → ⊥
 string_beside bytes old new k left h (no_quote other) =
     not_begun 34 old h.inside h.opens refl other
 string_beside bytes old new k left h (in_string inside opens f) =

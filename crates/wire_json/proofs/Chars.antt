@@ -7,7 +7,7 @@ use Rattle.wire_json.specs.declared.fault.FaultKind.{FaultKind}
 use Rattle.wire_json.specs.declared.fault.JsonError.{JsonError}
 use Rattle.wire_json.specs.declared.fault.JsonError.TheVariants.{Refused, OutOfMemory}
 use Rattle.wire_json.specs.Answer.{FaultAt, IfRefused}
-use Rattle.wire_json.specs.Fault.{CharsFault, StringFault, past_char, in_string}
+use Rattle.wire_json.specs.Fault.{CharsFault, QuoteFault, past_char, in_string}
 use Rattle.wire_json.specs.Part.{ReadsRun, ReadsPart}
 use Rattle.wire_json.specs.Text.{IsUnescaped, ReadsChars, ReadsEscape, ReadsString}
 use Rattle.wire_json.proofs.Runs.{past_run}
@@ -98,7 +98,7 @@ string_of bytes old inside new opens chars reads is = record {
 -- a fault in the characters is one in the string
 pub fault_in_string : (text old inside : List ℕ) → old ≡ 34 ∷ inside → (e : JsonError)
     → IfRefused e (λ fault. FaultAt text fault (CharsFault inside))
-    → IfRefused e (λ fault. FaultAt text fault (StringFault old))
+    → IfRefused e (λ fault. FaultAt text fault (QuoteFault old))
 fault_in_string text old inside opens (Refused fault) h = in_string inside opens h
 fault_in_string text old inside opens OutOfMemory h = tt
 

@@ -8,7 +8,7 @@ use Rattle.wire_json.specs.declared.kind.Kind.TheVariants as kinds
 use Rattle.wire_json.specs.Answer.{FaultAt, IfRefused}
 use Rattle.wire_json.specs.Bytes.{past_space}
 use Rattle.wire_json.specs.Compact.{PutsElements, PutsMembers, PutsString, PutsValue}
-use Rattle.wire_json.specs.Fault.{NameFault, StringFault, ValueFault, ElementsFault, MembersFault, TextFault, in_value, bad_name, bad_string, bad_value, in_array, in_object}
+use Rattle.wire_json.specs.Fault.{NameFault, QuoteFault, ValueFault, ElementsFault, MembersFault, TextFault, in_value, bad_name, bad_string, bad_value, in_array, in_object}
 use Rattle.wire_json.specs.Json.{string, array, object}
 use Rattle.wire_json.specs.Kind.{kind_begun}
 use Rattle.wire_json.specs.Text.{ReadsName}
@@ -101,7 +101,7 @@ module _ (text old : List ℕ) (levels : ℕ) where
   puts_string before after (Err e) h = tt
 
   pub refused_string : kind_begun old ≡ Some kinds.String → (r : Result ℕ JsonError)
-      → IfErr r (λ e. IfRefused e (λ fault. FaultAt text fault (StringFault old)))
+      → IfErr r (λ e. IfRefused e (λ fault. FaultAt text fault (QuoteFault old)))
       → IfErr r (NoValue text old levels)
   refused_string begun (Ok end) h = tt
   refused_string begun (Err (Refused fault)) h = bad_string begun h

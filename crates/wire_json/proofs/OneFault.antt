@@ -4,7 +4,7 @@ use Rattle.wire_json.specs.declared.fault.FaultKind.{FaultKind}
 use Rattle.wire_json.specs.declared.kind.Kind.{Kind}
 use Rattle.wire_json.specs.declared.kind.Kind.TheVariants as kinds
 use Rattle.wire_json.specs.Bytes.{begins, is_byte, past_space, word_end}
-use Rattle.wire_json.specs.Fault.{CharsFault, no_char, bad_escape, past_char, StringFault, no_quote, in_string, NameFault, no_name, no_colon, ValueFault, no_value, bad_word, bad_number, bad_string, deep_array, deep_object, in_array, in_object, word_of, ElementsFault, first_element, past_element, MoreElementsFault, no_comma, next_element, past_next, MemberFault, bad_name, bad_value, MembersFault, first_member, past_member, MoreMembersFault, no_comma_or_brace, next_member, past_next_member, TextFault, in_value, behind_value}
+use Rattle.wire_json.specs.Fault.{CharsFault, no_char, bad_escape, past_char, QuoteFault, no_quote, in_string, NameFault, no_name, no_colon, ValueFault, no_value, bad_word, bad_number, bad_string, deep_array, deep_object, in_array, in_object, word_of, ElementsFault, first_element, past_element, MoreElementsFault, no_comma, next_element, past_next, MemberFault, bad_name, bad_value, MembersFault, first_member, past_member, MoreMembersFault, no_comma_or_brace, next_member, past_next_member, TextFault, in_value, behind_value}
 use Rattle.wire_json.specs.Kind.{kind_begun}
 use Rattle.wire_json.specs.Laws.{OneTextFault, OneValueFault}
 use Rattle.wire_json.specs.Reading.{ReadsValue}
@@ -47,8 +47,8 @@ one_chars_fault old k m a b (past_char c rest char f) (past_char d other same g)
     let P : List ℕ → Type 0 = λ l. CharsFault l m b in
     one_chars_fault rest k m a b f (subst P (sym (one_char c d old rest other char same).1) g)
 
-one_string_fault : (old : List ℕ) (k m : FaultKind) (a b : List ℕ) → StringFault old k a
-    → StringFault old m b → (k ≡ m) × (a ≡ b)
+one_string_fault : (old : List ℕ) (k m : FaultKind) (a b : List ℕ) → QuoteFault old k a
+    → QuoteFault old m b → (k ≡ m) × (a ≡ b)
 one_string_fault old k m a b (no_quote q) (no_quote p) = (refl, refl)
 one_string_fault old k m a b (no_quote q) (in_string inside opens g) =
     absurd (not_begun 34 old inside opens refl q)

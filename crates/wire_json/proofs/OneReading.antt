@@ -10,7 +10,7 @@ use Rattle.wire_json.specs.declared.kind.Kind.TheVariants as kinds
 use Rattle.wire_json.specs.Bytes.{begins, is_byte, past_space, word_end}
 use Rattle.wire_json.specs.Json.{Json, null, boolean, number, string, array, object, Elements, no_element, element, Members, no_member, member}
 use Rattle.wire_json.specs.Kind.{kind_by, kind_begun}
-use Rattle.wire_json.specs.Laws.{OneValue, OneReading}
+use Rattle.wire_json.specs.Laws.{OneValue, SpellsOne}
 use Rattle.wire_json.specs.Number.{number_end}
 use Rattle.wire_json.specs.Reading.{ReadsValue, ReadsElements, ReadsMoreElements, ReadsMembers, ReadsMoreMembers}
 use Rattle.wire_json.specs.Text.{ReadsUnescaped, ReadsChar, ReadsChars, ReadsString, ReadsName}
@@ -291,6 +291,6 @@ mutual
 pub one_value_lemma : OneValue
 one_value_lemma = one_value
 
-pub one_reading_lemma : OneReading
+pub one_reading_lemma : SpellsOne
 one_reading_lemma text j k (rest, h, ends) (other, g, ended) =
     (one_value j k (past_space text) rest other h g).0

@@ -10,7 +10,7 @@ use Rattle.wire_json.specs.declared.kind.Kind.TheVariants as kinds
 use Rattle.wire_json.specs.Answer.{Answers, FaultAt, IsBehind}
 use Rattle.wire_json.specs.Bytes.{is_byte, word_end}
 use Rattle.wire_json.specs.Compact.{ReadsSimple}
-use Rattle.wire_json.specs.Fault.{StringFault, ValueFault, bad_word, bad_number, bad_string, word_of}
+use Rattle.wire_json.specs.Fault.{QuoteFault, ValueFault, bad_word, bad_number, bad_string, word_of}
 use Rattle.wire_json.specs.Json.{Json, number, string, depth}
 use Rattle.wire_json.specs.Kind.{kind_begun}
 use Rattle.wire_json.specs.Number.{number_end}
@@ -87,7 +87,7 @@ string_value text old levels (Ok after) (bytes, h) = (string bytes, h, omega ari
 string_value text old levels (Err fault) h = tt
 
 pub string_fault : (text old : List ℕ) (levels : ℕ) → kind_begun old ≡ Some kinds.String
-    → (r : Result ℕ Fault) → IfErr r (λ fault. FaultAt text fault (StringFault old))
+    → (r : Result ℕ Fault) → IfErr r (λ fault. FaultAt text fault (QuoteFault old))
     → IfErr r (λ fault. FaultAt text fault (ValueFault levels old))
 string_fault text old levels begun (Ok after) h = tt
 string_fault text old levels begun (Err fault) h = bad_string begun h

@@ -23,15 +23,15 @@ pub data CharsFault : List ℕ → FaultKind → List ℕ → Type 0 where
       → ReadsChar c old rest → CharsFault rest k left → CharsFault old k left
 
 -- no string stands here
-pub data StringFault : List ℕ → FaultKind → List ℕ → Type 0 where
-  no_quote : {old : List ℕ} → begins (is_byte 34) old ≡ false → StringFault old Syntax old
+pub data QuoteFault : List ℕ → FaultKind → List ℕ → Type 0 where
+  no_quote : {old : List ℕ} → begins (is_byte 34) old ≡ false → QuoteFault old Syntax old
   in_string : {old : List ℕ} {k : FaultKind} {left : List ℕ} (inside : List ℕ)
-      → old ≡ 34 ∷ inside → CharsFault inside k left → StringFault old k left
+      → old ≡ 34 ∷ inside → CharsFault inside k left → QuoteFault old k left
 
 -- no name and colon stand here
 pub data NameFault : List ℕ → FaultKind → List ℕ → Type 0 where
   no_name : {old : List ℕ} {k : FaultKind} {left : List ℕ}
-      → StringFault old k left → NameFault old k left
+      → QuoteFault old k left → NameFault old k left
   no_colon : {old : List ℕ} (name behind : List ℕ) → ReadsString name old behind
       → begins (is_byte 58) (past_space behind) ≡ false
       → NameFault old Syntax (past_space behind)
@@ -57,7 +57,7 @@ mutual
         → kind_begun old ≡ Some kinds.Number → number_end old ≡ Err left
         → ValueFault l old Syntax left
     bad_string : {l : ℕ} {old : List ℕ} {k : FaultKind} {left : List ℕ}
-        → kind_begun old ≡ Some kinds.String → StringFault old k left → ValueFault l old k left
+        → kind_begun old ≡ Some kinds.String → QuoteFault old k left → ValueFault l old k left
     deep_array : {l : ℕ} {old : List ℕ}
         → l ≡ 0 → kind_begun old ≡ Some kinds.Array → ValueFault l old TooDeep old
     deep_object : {l : ℕ} {old : List ℕ}

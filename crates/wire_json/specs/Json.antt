@@ -1,7 +1,7 @@
 -- What a JSON text spells: a tree. A number is kept by its text, a string by its bytes, and the
 -- members of an object in the order in which they came, also those of one name.
 use Rattle.std.specs.Prelude.{ℕ, suc, Bool, List, max, IsUtf8}
-use Rattle.wire_json.specs.Number.{IsNumber}
+use Rattle.wire_json.specs.Number.{SpellsNumber}
 
 mutual
   pub data Json : Type 0 where
@@ -43,7 +43,7 @@ abbrev mutual
   pub IsLawful : Json → Type 0
   IsLawful null = Unit {0}
   IsLawful (boolean b) = Unit {0}
-  IsLawful (number text) = IsNumber text
+  IsLawful (number text) = SpellsNumber text
   IsLawful (string bytes) = IsUtf8 bytes
   IsLawful (array es) = AreLawful es
   IsLawful (object ms) = AreLawfulMembers ms

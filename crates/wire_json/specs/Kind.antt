@@ -23,11 +23,11 @@ kind_begun [] = None
 kind_begun (c ∷ rest) = kind_by c
 
 -- the kind of a tree
-abbrev pub kind_of : Json → Kind
-kind_of null = kinds.Null
-kind_of (boolean true) = kinds.True
-kind_of (boolean false) = kinds.False
-kind_of (number text) = kinds.Number
-kind_of (string bytes) = kinds.String
-kind_of (array es) = kinds.Array
-kind_of (object ms) = kinds.Object
+abbrev pub tree_kind : Json → Kind
+tree_kind null = kinds.Null
+tree_kind (boolean true) = kinds.True
+tree_kind (boolean false) = kinds.False
+tree_kind (number text) = kinds.Number
+tree_kind (string bytes) = kinds.String
+tree_kind (array es) = kinds.Array
+tree_kind (object ms) = kinds.Object

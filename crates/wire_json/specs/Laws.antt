@@ -15,8 +15,8 @@ OneValue =
     → (j ≡ k) × (x ≡ y)
 
 -- a text spells one value at most
-abbrev pub OneReading : Type 0
-OneReading = (text : List ℕ) (j k : Json) → Spells text j → Spells text k → j ≡ k
+abbrev pub SpellsOne : Type 0
+SpellsOne = (text : List ℕ) (j k : Json) → Spells text j → Spells text k → j ≡ k
 
 -- where a fault stands no value is read that nests so deep
 abbrev pub NoValueBesideFault : Type 0

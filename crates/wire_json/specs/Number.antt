@@ -43,10 +43,10 @@ number_end old =
     integer_end (past_one (is_byte 45) old) >>= fraction_end >>= exponent_end >>= apart
 
 -- a number is read by its text
-pub record ReadsNumber (text old new : List ℕ) : Type 0 where
+pub record ReadsNumeral (text old new : List ℕ) : Type 0 where
   pub parts : old ≡ text ++ new
   pub ends : number_end old ≡ Ok new
 
 -- the text is a number, whole
-abbrev pub IsNumber : List ℕ → Type 0
-IsNumber text = number_end text ≡ Ok []
+abbrev pub SpellsNumber : List ℕ → Type 0
+SpellsNumber text = number_end text ≡ Ok []

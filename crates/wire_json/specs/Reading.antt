@@ -2,7 +2,7 @@
 use Rattle.std.specs.Prelude.{◌≡◌, ℕ, true, false, List, [], ◌∷◌, codes, Ok}
 use Rattle.wire_json.specs.Bytes.{past_space, word_end}
 use Rattle.wire_json.specs.Json.{Json, null, boolean, number, string, array, object, Elements, no_element, element, Members, no_member, member}
-use Rattle.wire_json.specs.Number.{ReadsNumber}
+use Rattle.wire_json.specs.Number.{ReadsNumeral}
 use Rattle.wire_json.specs.Text.{ReadsString, ReadsName}
 
 abbrev mutual
@@ -11,7 +11,7 @@ abbrev mutual
   ReadsValue null old new = word_end (codes "null") old ≡ Ok new
   ReadsValue (boolean true) old new = word_end (codes "true") old ≡ Ok new
   ReadsValue (boolean false) old new = word_end (codes "false") old ≡ Ok new
-  ReadsValue (number text) old new = ReadsNumber text old new
+  ReadsValue (number text) old new = ReadsNumeral text old new
   ReadsValue (string bytes) old new = ReadsString bytes old new
   ReadsValue (array es) old new =
       (inside : List ℕ) × (old ≡ 91 ∷ inside) × ReadsElements es inside new

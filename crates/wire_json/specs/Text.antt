@@ -21,8 +21,8 @@ pub record ReadsUnescaped (c : ℕ) (old new : List ℕ) : Type 0 where
 
 -- what this letter stands for behind a backslash: itself for `"`, `\` and `/`, and a backspace,
 -- form feed, line feed, carriage return and tab for `b`, `f`, `n`, `r` and `t`
-abbrev pub escaped : ℕ → Option ℕ
-escaped c =
+abbrev pub letter_meaning : ℕ → Option ℕ
+letter_meaning c =
     if c == 34 then Some 34
     else if c == 92 then Some 92
     else if c == 47 then Some 47
@@ -77,7 +77,7 @@ letter_of (Some c) here = Ok (c, drop 1 here)
 -- the character behind a backslash that is no unit
 abbrev pub letter_at : List ℕ → Outcome ℕ
 letter_at [] = Err (Syntax, [])
-letter_at (c ∷ rest) = letter_of (escaped c) (c ∷ rest)
+letter_at (c ∷ rest) = letter_of (letter_meaning c) (c ∷ rest)
 
 -- the character that the escape at the front stands for
 abbrev pub escape_at : List ℕ → Outcome ℕ

@@ -1,5 +1,5 @@
 //! Laws of the definitions that the contracts cite: each function is a theorem, and does nothing.
-ghost use Rattle.wire_json.specs.Laws.{OneValue, OneReading, NoValueBesideFault, NoTextBesideFault, OneValueFault, OneTextFault, WrittenReadsBack, WrittenSpells};
+ghost use Rattle.wire_json.specs.Laws.{OneValue, SpellsOne, NoValueBesideFault, NoTextBesideFault, OneValueFault, OneTextFault, WrittenReadsBack, WrittenSpells};
 
 /// Of the same bytes one value is read, and one rest is left.
 pub fn one_value()
@@ -8,7 +8,7 @@ pub fn one_value()
 
 /// A text spells one value at most.
 pub fn one_reading()
-    ensures { OneReading }
+    ensures { SpellsOne }
 {}
 
 /// Where a fault stands no value is read that nests so deep.

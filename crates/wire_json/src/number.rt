@@ -4,7 +4,7 @@ ghost use Rattle.std.specs.Char.{is_ascii_digit};
 ghost use Rattle.wire_json.specs.declared.fault.FaultKind.TheVariants.{Syntax};
 ghost use Rattle.wire_json.specs.Answer.{Answers, IsBehind, IsOnward};
 ghost use Rattle.wire_json.specs.Bytes.{past, past_one, is_byte};
-ghost use Rattle.wire_json.specs.Number.{digits_end, integer_end, fraction_end, exponent_end, number_end, apart, is_sign, ReadsNumber};
+ghost use Rattle.wire_json.specs.Number.{digits_end, integer_end, fraction_end, exponent_end, number_end, apart, is_sign, ReadsNumeral};
 
 use crate::bytes::{byte_at, stands, syntax};
 use crate::fault::Fault;
@@ -19,7 +19,7 @@ pub struct NumberRead<'a> {
 /// Reads a number, which is borrowed. It is refused as `skip_number` refuses it.
 pub fn read_number<'a>(text: &'a [u8], at: usize) -> Result<NumberRead<'a>, Fault>
     ensures ok { IfOk result (λ read.
-        ReadsNumber read.text.now (drop at text.now) (drop read.after text.now)) }
+        ReadsNumeral read.text.now (drop at text.now) (drop read.after text.now)) }
     ensures behind { IfOk result (λ read. IsBehind at read.after text.now) }
     ensures fault { IfErr result (λ fault.
         number_end (drop at text.now) ≡ Err (drop fault.at text.now)) }

@@ -2,7 +2,7 @@
 ghost use Rattle.std.specs.Prelude.{◌≡◌, ◌+◌, ◌≤◌, ◌<◌, ◌++◌, ◌∷◌, List, ℕ, length, drop, encode_utf8_all, string_bytes, OnErr, IfOk, IfErr};
 ghost use Rattle.std.specs.Cow.{cow_str_bytes};
 ghost use Rattle.wire_json.specs.Answer.{FaultAt, IfRefused, IsBehind};
-ghost use Rattle.wire_json.specs.Fault.{CharsFault, StringFault};
+ghost use Rattle.wire_json.specs.Fault.{CharsFault, QuoteFault};
 ghost use Rattle.wire_json.specs.Text.{ReadsChars, ReadsString};
 
 use crate::bytes::{stands, syntax};
@@ -28,7 +28,7 @@ pub fn read_string<'a>(
         ReadsString (cow_str_bytes read.value) (drop at text.now) (drop read.after text.now)) }
     ensures behind { IfOk result (λ read. IsBehind at read.after text.now) }
     ensures fault { IfErr result (λ e. IfRefused e
-        (λ fault. FaultAt text.now fault (StringFault (drop at text.now)))) }
+        (λ fault. FaultAt text.now fault (QuoteFault (drop at text.now)))) }
 {
     if !stands(text, at, b'"') {
         return Err(JsonError::Refused(syntax(at)));
@@ -59,7 +59,7 @@ pub fn push_string(text: &[u8], at: usize, out: &mut String) -> Result<usize, Js
         × (string_bytes out.new ≡ string_bytes out.old ++ bytes)) }
     ensures behind { IfOk result (λ after. IsBehind at after text.now) }
     ensures fault { IfErr result (λ e. IfRefused e
-        (λ fault. FaultAt text.now fault (StringFault (drop at text.now)))) }
+        (λ fault. FaultAt text.now fault (QuoteFault (drop at text.now)))) }
     ensures kept { OnErr result ((front : List ℕ)
         × (string_bytes out.new ≡ string_bytes out.old ++ front)) }
 {
@@ -99,7 +99,7 @@ pub fn skip_string(text: &[u8], at: usize) -> Result<usize, Fault>
         × ReadsString bytes (drop at text.now) (drop after text.now)) }
     ensures behind { IfOk result (λ after. IsBehind at after text.now) }
     ensures fault { IfErr result (λ fault.
-        FaultAt text.now fault (StringFault (drop at text.now))) }
+        FaultAt text.now fault (QuoteFault (drop at text.now))) }
 {
     if !stands(text, at, b'"') {
         return Err(syntax(at));

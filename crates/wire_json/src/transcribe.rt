@@ -2,7 +2,7 @@
 ghost use Rattle.std.specs.Prelude.{◌≡◌, ◌≢◌, ◌<◌, ◌≤◌, ◌++◌, ℕ, Some, length, drop, encode_utf8, OnOk, OnErr, IfOk, IfErr};
 ghost use Rattle.wire_json.specs.Answer.{FaultAt, IfRefused, IsBehind};
 ghost use Rattle.wire_json.specs.Compact.{Extends, PutsChars, PutsName, PutsString, PutsValue};
-ghost use Rattle.wire_json.specs.Fault.{CharsFault, StringFault, NameFault, ValueFault};
+ghost use Rattle.wire_json.specs.Fault.{CharsFault, QuoteFault, NameFault, ValueFault};
 ghost use Rattle.wire_json.specs.Kind.{kind_begun};
 ghost use Rattle.wire_json.specs.Written.{written_bytes};
 
@@ -21,7 +21,7 @@ pub(crate) fn copy_string(text: &[u8], at: usize, out: &mut Vec<u8>) -> Result<u
         out.old.items out.new.items) }
     ensures behind { IfOk result (λ after. IsBehind at after text.now) }
     ensures fault { IfErr result (λ e. IfRefused e
-        (λ fault. FaultAt text.now fault (StringFault (drop at text.now)))) }
+        (λ fault. FaultAt text.now fault (QuoteFault (drop at text.now)))) }
     ensures kept { OnErr result (Extends out.old.items out.new.items) }
 {
     if !stands(text, at, b'"') {

@@ -3,7 +3,7 @@ use Rattle.std.proofs.lemmas.Result.{IfOk-weaker, IfErr-weaker}
 use Rattle.std.specs.Prelude.{encode_utf8_all, string_bytes}
 use Rattle.wire_json.specs.declared.fault.JsonError.{JsonError}
 use Rattle.wire_json.specs.Answer.{FaultAt, IfRefused}
-use Rattle.wire_json.specs.Fault.{CharsFault, StringFault, no_quote}
+use Rattle.wire_json.specs.Fault.{CharsFault, QuoteFault, no_quote}
 use Rattle.wire_json.specs.Text.{ReadsChars, ReadsString}
 use Rattle.wire_json.proofs.Chars.{fault_in_string, string_of}
 use Rattle.wire_json.proofs.text.push_string.Goals as goal
@@ -39,7 +39,7 @@ returns-clause-fault c =
     let P : JsonError → Type 0 = λ e. IfRefused e
     (λ fault. FaultAt text fault (CharsFault inside)) in
     let Q : JsonError → Type 0 = λ e. IfRefused e
-    (λ fault. FaultAt text fault (StringFault old)) in
+    (λ fault. FaultAt text fault (QuoteFault old)) in
     let whole : (e : JsonError) → P e → Q e =
     fault_in_string text old inside c.if-not-stands.ensures.here in
     IfErr-weaker c.push_chars.result P Q whole c.push_chars.ensures.fault

@@ -3,7 +3,7 @@ use Rattle.std.proofs.lemmas.Result.{IfOk-weaker, IfErr-weaker}
 use Rattle.std.specs.Prelude.{encode_utf8_all}
 use Rattle.wire_json.specs.declared.fault.Fault.{Fault}
 use Rattle.wire_json.specs.Answer.{FaultAt}
-use Rattle.wire_json.specs.Fault.{CharsFault, StringFault, no_quote, in_string}
+use Rattle.wire_json.specs.Fault.{CharsFault, QuoteFault, no_quote, in_string}
 use Rattle.wire_json.specs.Text.{ReadsChars, ReadsString}
 use Rattle.wire_json.proofs.Chars.{string_of}
 use Rattle.wire_json.proofs.text.skip_string.Goals as goal
@@ -32,7 +32,7 @@ returns-clause-fault c =
     let old = drop c.args.at text in
     let inside = drop (c.args.at + 1) text in
     let P : Fault → Type 0 = λ fault. FaultAt text fault (CharsFault inside) in
-    let Q : Fault → Type 0 = λ fault. FaultAt text fault (StringFault old) in
+    let Q : Fault → Type 0 = λ fault. FaultAt text fault (QuoteFault old) in
     let whole : (fault : Fault) → P fault → Q fault =
     λ fault h. in_string inside c.if-not-stands.ensures.here h in
     IfErr-weaker c.skip_chars.result P Q whole c.skip_chars.ensures.fault

@@ -1,0 +1,17 @@
+use Rattle.std.proofs.Common.{drop}
+use Rattle.std.specs.Int.{w32}
+use Rattle.wire_protojson.specs.Numbers.{MeansSigned}
+use Rattle.wire_protojson.specs.Tokens.{token_tree}
+use Rattle.wire_protojson.proofs.Refusing.{refused_scalar, refused_meaning}
+use Rattle.wire_protojson.proofs.scalar.read_int32.Goals as goal
+
+pub returns-in-Ok-clause-err : goal.returns-in-Ok-clause-err
+returns-in-Ok-clause-err c =
+    refused_meaning (MeansSigned w32) c.args.text.now c.args.at (token_tree c.in-Ok.token)
+    (drop c.in-Ok.after c.args.text.now) c.no_value.result c.no_value.ensures c.in-Ok.ensures.ok
+    c.in-None.ensures.none
+
+pub returns-clause-err : goal.returns-clause-err
+returns-clause-err c =
+    refused_scalar (MeansSigned w32) c.args.text.now (drop c.args.at c.args.text.now) c.in-Err.error
+    c.in-Err.ensures.err

@@ -1,0 +1,98 @@
+//! Why a text is refused.
+ghost use Rattle.std.specs.Prelude.{◌≡◌};
+ghost use Rattle.wire_protojson.specs.declared.refusal.Reason.TheVariants.{NoJson, NoValue};
+
+use std::alloc::AllocError;
+use thiserror::Error;
+use wire_json::{Fault, FaultKind, JsonError};
+
+/// What is wrong with a text.
+#[derive(Clone, Copy, Debug, PartialEq, Eq)]
+pub enum Reason {
+    /// What stands here goes on no JSON.
+    NoJson(FaultKind),
+
+    /// The JSON that begins here is no value of the type that is read: it is of another kind, no
+    /// whole number, out of range, no base64, or no name that the enum has.
+    NoValue,
+
+    /// The value that begins here is of a field that has one already.
+    Duplicate,
+
+    /// The value that begins here is of no field.
+    UnknownName,
+}
+
+/// Why a text is refused, and the byte where that stands: the length of the text at its end.
+#[derive(Clone, Copy, Debug, PartialEq, Eq)]
+pub struct Refusal {
+    pub reason: Reason,
+    pub at: usize,
+}
+
+/// Why nothing is read.
+#[derive(Clone, Copy, Debug, PartialEq, Eq, Drop, Error)]
+pub enum ReadError {
+    /// The text is refused.
+    #[error("refused at byte {}", .0.at)]
+    Refused(Refusal),
+
+    /// Memory ran out.
+    #[error("out of memory")]
+    OutOfMemory,
+}
+
+impl From<AllocError> for ReadError {
+    ghost use Rattle.wire_protojson.specs.declared.refusal.ReadError.TheVariants.{OutOfMemory};
+
+    ghost from_gives = { λ _ e. e ≡ OutOfMemory };
+
+    fn from(_error: AllocError) -> ReadError {
+        ReadError::OutOfMemory
+    }
+}
+
+impl From<Fault> for ReadError {
+    ghost use Rattle.wire_protojson.specs.declared.refusal.ReadError.TheVariants.{Refused};
+    ghost use Rattle.wire_protojson.specs.declared.refusal.Reason.TheVariants.{NoJson};
+
+    ghost from_gives = { λ fault e.
+        e ≡ Refused (record { reason = NoJson fault.kind; at = fault.at }) };
+
+    fn from(fault: Fault) -> ReadError {
+        no_json(fault)
+    }
+}
+
+impl From<JsonError> for ReadError {
+    ghost use Rattle.wire_protojson.specs.Reads.{of_json_error};
+
+    ghost from_gives = { λ error e. e ≡ of_json_error error };
+
+    fn from(error: JsonError) -> ReadError {
+        match error {
+            JsonError::Refused(fault) => no_json(fault),
+            JsonError::OutOfMemory => ReadError::OutOfMemory,
+        }
+    }
+}
+
+// The fault of a text that is no JSON.
+pub(crate) fn no_json(fault: Fault) -> ReadError
+    ensures { result ≡ ReadError.Refused (record { reason = NoJson fault.kind; at = fault.at }) }
+{
+    ReadError::Refused(Refusal {
+        reason: Reason::NoJson(fault.kind),
+        at: fault.at,
+    })
+}
+
+// What is refused where its JSON begins.
+pub(crate) fn no_value(at: usize) -> ReadError
+    ensures { result ≡ ReadError.Refused (record { reason = NoValue; at = at }) }
+{
+    ReadError::Refused(Refusal {
+        reason: Reason::NoValue,
+        at,
+    })
+}
