@@ -299,11 +299,12 @@ CHOICES = [
      "message B { map<int64, A> a = 1; } message G { repeated E e = 1; } "
      "message H { optional G g = 1; } message K { map<string, E> f = 1; } message I { optional I i = 1; } "
      "message J { map<string, I> i = 1; }", ",views=true",
-     ["            1 [closed] => e: CopiedIn<&'a [u8], Optional<Enum<E>>>,\n"
-      "            2 => aview: OptionalIn<BytesIn<'a>>,\n",
+     ["            [0] 1 [closed] => e: CopiedIn<&'a [u8], Optional<Enum<E>>>,\n"
+      "            [1] 2 => aview: OptionalIn<BytesIn<'a>>,\n            _ [2] => unknown\n",
+      "impl<'a> WrittenView for AView_2<'a> {", "impl<'a> WrittenView for AViewView<'a> {",
       "pub struct AView_2<'a> {", "pub use aview_2::AView_2;", "pub struct AViewView<'a> {",
-      "            1 => a: EachEmbeddedIn<AView_2<'a>, 64>,\n            2 | 3 => b: ",
-      "            1 => a: EmbeddedMapIn<NumberIn<&'a [u8], Int64>, AView_2<'a>, 104>,\n",
+      "            [0] 1 => a: EachEmbeddedIn<AView_2<'a>, 64>,\n            [1] 2 | 3 => b: ",
+      "            [0] 1 => a: EmbeddedMapIn<NumberIn<&'a [u8], Int64>, AView_2<'a>, 104>,\n",
       "wire_codec wire_fields wire_views bytes", "/// It has no view: `e` has values ",
       "/// It has no view: `f` has values ",
       "/// It has no view: `g` is of `G`, which has none.",
