@@ -31,7 +31,7 @@ $helds$}
 pub(crate) enum FamilySlice<'a> {
 $slices$}
 
-impl RecursiveHeld for FamilyHeld {
+impl<B: Buf> RecursiveHeld<B> for FamilyHeld {
     ghost use Rattle.$crate$.specs.$family_name$.{Family-Leaves};
     ghost use Rattle.$crate$.specs.$family_name$.{Family-Sorts};
     ghost use Rattle.$crate$.specs.$family_name$.{family-all};
@@ -76,7 +76,7 @@ $put$        }
 $pushed$        }
     }
 
-    fn merge_leaf<B: Buf>(
+    fn merge_leaf(
         &mut self,
         alloc: Global,
         tag: Tag,

@@ -21,7 +21,7 @@ pub(crate) enum FamilySlice<'a> {
     Expression(&'a [Expression]),
 }
 
-impl RecursiveHeld for FamilyHeld {
+impl<B: Buf> RecursiveHeld<B> for FamilyHeld {
     ghost use Rattle.wire_kinds.specs.CallFamily.{Family-Leaves};
     ghost use Rattle.wire_kinds.specs.CallFamily.{Family-Sorts};
     ghost use Rattle.wire_kinds.specs.CallFamily.{family-all};
@@ -76,7 +76,7 @@ impl RecursiveHeld for FamilyHeld {
         }
     }
 
-    fn merge_leaf<B: Buf>(
+    fn merge_leaf(
         &mut self,
         alloc: Global,
         tag: Tag,

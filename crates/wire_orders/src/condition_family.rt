@@ -25,7 +25,7 @@ pub(crate) enum FamilySlice<'a> {
     RebateUnlessEntry(&'a [RebateUnlessEntry]),
 }
 
-impl RecursiveHeld for FamilyHeld {
+impl<B: Buf> RecursiveHeld<B> for FamilyHeld {
     ghost use Rattle.wire_orders.specs.ConditionFamily.{Family-Leaves};
     ghost use Rattle.wire_orders.specs.ConditionFamily.{Family-Sorts};
     ghost use Rattle.wire_orders.specs.ConditionFamily.{family-all};
@@ -85,7 +85,7 @@ impl RecursiveHeld for FamilyHeld {
         }
     }
 
-    fn merge_leaf<B: Buf>(
+    fn merge_leaf(
         &mut self,
         alloc: Global,
         tag: Tag,

@@ -27,7 +27,7 @@ pub(crate) enum FamilySlice<'a> {
     Value(&'a [Value]),
 }
 
-impl RecursiveHeld for FamilyHeld {
+impl<B: Buf> RecursiveHeld<B> for FamilyHeld {
     ghost use Rattle.wire_well_known.specs.ListValueFamily.{Family-Leaves};
     ghost use Rattle.wire_well_known.specs.ListValueFamily.{Family-Sorts};
     ghost use Rattle.wire_well_known.specs.ListValueFamily.{family-all};
@@ -92,7 +92,7 @@ impl RecursiveHeld for FamilyHeld {
         }
     }
 
-    fn merge_leaf<B: Buf>(
+    fn merge_leaf(
         &mut self,
         alloc: Global,
         tag: Tag,

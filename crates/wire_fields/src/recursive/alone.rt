@@ -42,7 +42,7 @@ pub trait RecursiveAlone: RecursiveMember<Self> {
     ghost single: { OneReading → (s : Self.Sort) → IsSingle (Self.family.table s).takes };
 }
 
-impl<T: RecursiveAlone> RecursiveHeld for T {
+impl<T: RecursiveAlone, B: Buf> RecursiveHeld<B> for T {
     ghost Sort = { T.Sort };
 
     ghost Leaf = { T.Leaf };
@@ -81,7 +81,7 @@ impl<T: RecursiveAlone> RecursiveHeld for T {
     }
 
     #[inline(always)]
-    fn merge_leaf<B: Buf>(
+    fn merge_leaf(
         &mut self,
         alloc: Global,
         tag: Tag,

@@ -19,8 +19,9 @@ use wire_codec::{DecodeContext, DecodeError, Tag};
 /// alone. What is moved out of a message, or put into it, is of that type again. Each field
 /// whose message is of the family, optional or repeated, is a row of messages, which stand behind
 /// their lengths, or in groups where the place of the row's number says so. All other fields, and
-/// the unknown ones, are the leaf. `RecursiveSlice` says how such messages are written.
-pub trait RecursiveHeld: Drop {
+/// the unknown ones, are the leaf. They are read from a buffer `B`: any, or for types that borrow
+/// from what is read, a slice. `RecursiveSlice` says how such messages are written.
+pub trait RecursiveHeld<B: Buf>: Drop {
     /// The types, and what contracts see of the leaves.
     ghost Sort: { Type 0 };
 
@@ -87,7 +88,7 @@ pub trait RecursiveHeld: Drop {
 
     /// Takes a record into the leaf, as `Message::merge_field`. The rows stay, but for those of a
     /// oneof that the field is of.
-    fn merge_leaf<B: Buf>(
+    fn merge_leaf(
         &mut self,
         alloc: Global,
         tag: Tag,

@@ -23,7 +23,7 @@ use wire_codec::{
 /// What `merge_field` of a message of a family does.
 #[cycle(merge)]
 #[inline(always)]
-pub fn merge_held<T: RecursiveHeld, B: Buf>(
+pub fn merge_held<T: RecursiveHeld<B>, B: Buf>(
     message: &mut T,
     alloc: Global,
     tag: Tag,
@@ -57,7 +57,7 @@ pub fn merge_held<T: RecursiveHeld, B: Buf>(
 // locals of a function are made ready where it begins.
 #[cycle(merge)]
 #[inline(always)]
-fn merge_once<T: RecursiveHeld, B: Buf>(
+fn merge_once<T: RecursiveHeld<B>, B: Buf>(
     message: &mut T,
     alloc: Global,
     tag: Tag,
@@ -87,7 +87,7 @@ fn merge_once<T: RecursiveHeld, B: Buf>(
 // Takes the record of a row that has many, and charges its place in memory.
 #[cycle(merge)]
 #[inline(always)]
-fn merge_each<T: RecursiveHeld, B: Buf>(
+fn merge_each<T: RecursiveHeld<B>, B: Buf>(
     message: &mut T,
     alloc: Global,
     tag: Tag,
@@ -120,7 +120,7 @@ fn merge_each<T: RecursiveHeld, B: Buf>(
 // The same of a row whose message stands in a group.
 #[cycle(merge)]
 #[inline(always)]
-fn merge_once_grouped<T: RecursiveHeld, B: Buf>(
+fn merge_once_grouped<T: RecursiveHeld<B>, B: Buf>(
     message: &mut T,
     alloc: Global,
     tag: Tag,
@@ -150,7 +150,7 @@ fn merge_once_grouped<T: RecursiveHeld, B: Buf>(
 // The same of a row that has many, and whose messages stand in groups.
 #[cycle(merge)]
 #[inline(always)]
-fn merge_each_grouped<T: RecursiveHeld, B: Buf>(
+fn merge_each_grouped<T: RecursiveHeld<B>, B: Buf>(
     message: &mut T,
     alloc: Global,
     tag: Tag,
@@ -182,7 +182,7 @@ fn merge_each_grouped<T: RecursiveHeld, B: Buf>(
 
 // Reads the payload behind this tag and takes its records into the message, one level down.
 #[cycle(merge)]
-fn merge_embedded<T: RecursiveHeld, B: Buf>(
+fn merge_embedded<T: RecursiveHeld<B>, B: Buf>(
     message: &mut T,
     alloc: Global,
     tag: Tag,
@@ -213,7 +213,7 @@ fn merge_embedded<T: RecursiveHeld, B: Buf>(
 // Takes a level, and reads the length of an embedded message: answers how many bytes stand behind
 // its payload.
 #[inline(always)]
-fn enter_payload<T: RecursiveHeld, B: Buf>(
+fn enter_payload<T: RecursiveHeld<B>, B: Buf>(
     buf: &mut B,
     context: &mut DecodeContext,
 ) -> Result<usize, DecodeError>
@@ -235,7 +235,7 @@ fn enter_payload<T: RecursiveHeld, B: Buf>(
 // Takes the records of a payload with `rest` bytes behind it, and gives its level back. A record
 // that runs past the payload is refused.
 #[cycle(merge)]
-fn merge_payload<T: RecursiveHeld, B: Buf>(
+fn merge_payload<T: RecursiveHeld<B>, B: Buf>(
     message: &mut T,
     alloc: Global,
     buf: &mut B,
@@ -269,7 +269,7 @@ fn merge_payload<T: RecursiveHeld, B: Buf>(
 
 // Takes the body of the group behind this tag into the message, one level down.
 #[cycle(merge)]
-fn merge_grouped<T: RecursiveHeld, B: Buf>(
+fn merge_grouped<T: RecursiveHeld<B>, B: Buf>(
     message: &mut T,
     alloc: Global,
     tag: Tag,
@@ -297,7 +297,7 @@ fn merge_grouped<T: RecursiveHeld, B: Buf>(
 
 // Takes the records of a group of this number up to its end tag, one level down.
 #[cycle(merge)]
-fn merge_group<T: RecursiveHeld, B: Buf>(
+fn merge_group<T: RecursiveHeld<B>, B: Buf>(
     message: &mut T,
     alloc: Global,
     buf: &mut B,
