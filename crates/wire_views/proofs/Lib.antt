@@ -1,4 +1,9 @@
+pub mod ClosedEntries
+pub mod ClosedNumbers
 pub mod ClosedSpans
+pub mod FixedRecords
+pub mod FixedWidths
+pub mod InOrder
 pub mod ItemTexts
 pub mod MapEntries
 pub mod Owning

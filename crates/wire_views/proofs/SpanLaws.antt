@@ -29,7 +29,7 @@ fields_push (x ∷ spans) s = ap (field (tag_number x.tag) x.spelled.0) (fields_
 
 -- ---- a span that is made
 
-front_is : (text start rest : List ℕ) → start ≡ text ++ rest
+pub front_is : (text start rest : List ℕ) → start ≡ text ++ rest
     → take (length start - length rest) start ≡ text
 front_is text start rest parts =
     let few : length start - length rest ≡ length text =

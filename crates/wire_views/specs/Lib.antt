@@ -1,4 +1,6 @@
 pub mod Entries
+pub mod FixedLists
+pub mod FixedNumbers
 pub mod Passing
 pub mod Rows
 pub mod Spans

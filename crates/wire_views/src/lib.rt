@@ -9,8 +9,14 @@
 #![tactic(auto)]
 
 mod closed;
+mod closed_each;
+mod closed_map;
 mod copied;
 mod encoding;
+mod fixed;
+mod fixed_list;
+mod fixed_numbers;
+mod fixed_written;
 mod map;
 mod map_entry;
 mod map_key;
@@ -20,6 +26,7 @@ mod message_view;
 mod ordering;
 mod passing;
 mod presence;
+mod recursive_view;
 mod repeated;
 mod rows;
 mod span;
@@ -35,8 +42,12 @@ mod written_message;
 mod written_view;
 
 pub use closed::merge_closed;
+pub use closed_each::merge_closed_each;
+pub use closed_map::{ClosedMapIn, ViewClosedMap};
 pub use copied::{CopiedIn, PackedIn, UnpackedIn};
 pub use encoding::ViewEncoding;
+pub use fixed::FixedIn;
+pub use fixed_list::{FixedList, FixedNumbers};
 pub use map::MapIn;
 pub use map_entry::ViewEntryValue;
 pub use map_key::{MapKey, NumberIn};
@@ -49,6 +60,7 @@ pub use message_view::MessageView;
 pub use ordering::in_order;
 pub use passing::pass_unknown_field;
 pub use presence::{AlwaysIn, ImplicitIn, OptionalIn};
+pub use recursive_view::RecursiveView;
 pub use repeated::RepeatedIn;
 pub use span::UnknownSpan;
 pub use text::{BytesIn, TextIn};

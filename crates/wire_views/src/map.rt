@@ -60,7 +60,7 @@ impl<K: MapKey, V: ViewEntryValue<Source = K::Source>, const PLACE: usize> ViewK
         context.register_element_memory(PLACE)?;
         let mut entry = EntryIn::<K, V>::default_view(alloc);
         LengthPrefixed::merge::<EntryIn<K, V>>(alloc, tag, &mut entry, buf, context)?;
-        push(held, entry)
+        push_entry(held, entry)
     }
 
     fn own(
@@ -71,8 +71,8 @@ impl<K: MapKey, V: ViewEntryValue<Source = K::Source>, const PLACE: usize> ViewK
     }
 }
 
-// Puts an entry behind others.
-fn push<K: MapKey, V: ViewKind>(
+/// Puts an entry behind others.
+pub(crate) fn push_entry<K: MapKey, V: ViewKind>(
     entries: &mut Vec<(K::Held, V::Held)>,
     entry: EntryIn<K, V>,
 ) -> Result<(), DecodeError>

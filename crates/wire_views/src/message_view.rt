@@ -4,7 +4,7 @@ ghost use Rattle.wire_codec.specs.DecodeError.TheVariants as errors;
 ghost use Rattle.wire_codec.specs.Delimited.{DelimitedFault};
 ghost use Rattle.wire_codec.specs.Ending.{by_limit};
 ghost use Rattle.wire_codec.specs.Folds.{Step, IsSingle};
-ghost use Rattle.wire_codec.specs.Limits.{NoCountGrew};
+ghost use Rattle.wire_codec.specs.Limits.{Charge, NoCountGrew};
 ghost use Rattle.wire_codec.specs.Nested.{TakesDelimited, TakesEmbedded, TakesGroup};
 ghost use Rattle.wire_codec.specs.Options.{default_limits};
 ghost use Rattle.wire_codec.specs.Records.{Records};
@@ -107,6 +107,51 @@ pub trait MessageView: Drop {
         let context = DecodeContext::new(RECURSION_LIMIT, DEFAULT_UNKNOWN_FIELD_LIMIT);
         let mut context = context.with_element_memory(DEFAULT_ELEMENT_MEMORY_LIMIT);
         Self::decode_view(alloc, source, &mut context)
+    }
+
+    /// The view of a length-delimited payload of at most 2,147,483,647 bytes, which stands at the
+    /// front of what is read, within the limits of the context. Refused as `merge_delimited`.
+    final fn decode_view_length_delimited(
+        alloc: Global,
+        buf: &mut Self::Source,
+        context: &mut DecodeContext,
+    ) -> Result<Self, DecodeError>
+        ensures ok { IfOk result (λ message. IsCharged context.old context.new (λ c.
+            TakesDelimited takes context.old 2147483647 default (Self.Source.unread buf.old) c
+            (view message) (Self.Source.unread buf.new))) }
+        ensures fault { (e : DecodeError)
+            → DelimitedFault (Some 2147483647) (Self.Source.unread buf.old) e
+            → IsErrAnd result (λ f. f ≡ e) }
+        ensures err { IfErr result (λ e. e ≢ errors.OutOfMemory → NotTaken
+            (TakesDelimited takes context.old 2147483647 default (Self.Source.unread buf.old))) }
+        ensures counts { OnErr result (NoCountGrew context.old context.new) }
+        ensures kept { Self.Source.kept buf.new ≡ Self.Source.kept buf.old }
+    {
+        let mut message = Self::default_view(alloc);
+        message.merge_delimited(alloc, buf, context, MAX_MESSAGE_BYTES as usize)?;
+        Ok(message)
+    }
+
+    /// The same within the limits of `decode_view_by_default`, as `decode_length_delimited` of the
+    /// message.
+    final fn decode_view_length_delimited_by_default(
+        alloc: Global,
+        buf: &mut Self::Source,
+    ) -> Result<Self, DecodeError>
+        ensures ok { IfOk result (λ message. (c : Charge) × TakesDelimited takes default_limits
+            2147483647 default (Self.Source.unread buf.old) c (view message)
+            (Self.Source.unread buf.new)) }
+        ensures fault { (e : DecodeError)
+            → DelimitedFault (Some 2147483647) (Self.Source.unread buf.old) e
+            → IsErrAnd result (λ f. f ≡ e) }
+        ensures err { IfErr result (λ e. e ≢ errors.OutOfMemory → NotTaken
+            (TakesDelimited takes default_limits 2147483647 default
+            (Self.Source.unread buf.old))) }
+        ensures kept { Self.Source.kept buf.new ≡ Self.Source.kept buf.old }
+    {
+        let context = DecodeContext::new(RECURSION_LIMIT, DEFAULT_UNKNOWN_FIELD_LIMIT);
+        let mut context = context.with_element_memory(DEFAULT_ELEMENT_MEMORY_LIMIT);
+        Self::decode_view_length_delimited(alloc, buf, &mut context)
     }
 
     /// Takes whole records into the value while more than `limit` bytes remain, as

@@ -3,16 +3,19 @@
 /// What is asked of the fields of a view: `empty`, `merge`, `own`, `row_len` or `put_row`. Behind
 /// the call stand the rows, which a macro of the view's module puts there: each has its place, the
 /// numbers of a field, its name and its kind, and the last says that all other records are kept
-/// where they stand. A number is followed by `[closed]` where the field is of a closed enum. What is
-/// handed in are names and places, which stand in what is made more than once.
+/// where they stand. A number is followed in brackets by the way its records are taken, where that
+/// is not the kind's own. What is handed in are names and places, which stand in what is made more
+/// than once, and to `empty` the fields that no row has, as those of a view's own type: each with what
+/// it is in the value.
 #[macro_export]
 macro_rules! view_fields {
     // The value of no records.
-    (empty($name:ident, $alloc:expr)
+    (empty($name:ident, $alloc:expr $(, $other:ident: $none:expr)*)
         $([$place:literal] $($number:literal $([$way:ident])?)|+ => $field:ident: $kind:ty,)+
         _ [$last:literal] => unknown) => {
         $name {
             $($field: <$kind as $crate::ViewKind>::empty($alloc),)+
+            $($other: $none,)*
             unknown: Vec::new($alloc),
         }
     };
@@ -61,7 +64,8 @@ macro_rules! view_fields {
     };
 }
 
-/// How the record of one number is taken: into its field, or as that of a closed enum.
+/// How the record of one number is taken: into its field, or in the way that the row says behind the
+/// number. A way of another name than those here is a function of the type's module.
 #[macro_export]
 macro_rules! view_merged {
     ([] $kind:ty, $field:ident,
@@ -71,6 +75,38 @@ macro_rules! view_merged {
     ([closed] $kind:ty, $field:ident,
         ($message:expr, $alloc:expr, $tag:expr, $buf:expr, $context:expr)) => {
         $crate::merge_closed(
+            $alloc,
+            $tag,
+            &mut $message.$field,
+            &mut $message.unknown,
+            $buf,
+            $context,
+        )
+    };    ([closed_each] $kind:ty, $field:ident,
+        ($message:expr, $alloc:expr, $tag:expr, $buf:expr, $context:expr)) => {
+        $crate::merge_closed_each(
+            $alloc,
+            $tag,
+            &mut $message.$field,
+            &mut $message.unknown,
+            $buf,
+            $context,
+        )
+    };
+    ([closed_map] $kind:ty, $field:ident,
+        ($message:expr, $alloc:expr, $tag:expr, $buf:expr, $context:expr)) => {
+        <$kind as $crate::ViewClosedMap<'_>>::merge_closed(
+            $alloc,
+            $tag,
+            &mut $message.$field,
+            &mut $message.unknown,
+            $buf,
+            $context,
+        )
+    };
+    ([$call:ident] $kind:ty, $field:ident,
+        ($message:expr, $alloc:expr, $tag:expr, $buf:expr, $context:expr)) => {
+        $call(
             $alloc,
             $tag,
             &mut $message.$field,

@@ -1,11 +1,20 @@
-use Rattle.std.proofs.Common.{◌∙◌, [], ap, sym}
-use Rattle.std.specs.BTreeMap.{insert_entry}
-use Rattle.wire_views.proofs.MapEntries.{one_more}
+use Rattle.std.proofs.Common.{ap, ◌∙◌, sym}
+use Rattle.std.specs.Ordering.{is_lt}
+use Rattle.std.proofs.lemmas.List.Sorted.{ranks_by, answers_always}
+use Rattle.std.proofs.lemmas.Result.{IfOk-weaker}
+use Rattle.wire_views.proofs.InOrder.{rising_are_map, runs_are_map, stable_map}
 use Rattle.wire_views.proofs.ordering.in_order.Goals as goal
 
-pub loop-entry-preserved : goal.loop-entry-preserved
-loop-entry-preserved g c =
-    let entry = c.in-Some.entry in
-    c.in_ok-insert.ensures
-    ∙ ap (λ m. insert_entry g.K.Ord.cmp m entry.0 entry.1) c.loop-entry.invariant
-    ∙ sym (one_more g.K.Ord.cmp [] c.loop-entry.yielded entry)
+pub returns-then-rise : goal.returns-then-rise
+returns-then-rise g c =
+    sym (rising_are_map g.met.K.Ord.total _ (rw c.deref.ensures.value at (c.rise.ensures c.if-rise.true)))
+
+pub returns : goal.returns
+returns g c =
+    let sorted = c.in_ok-sort_by.ensures in
+    let ranks = ranks_by g.met.K.Ord.total (λ (p : g.row.K.Denot × g.row.V.Denot). p.0) in
+    IfOk-weaker c.last_of_each.result _ _ (λ kept runs. runs
+    ∙ runs_are_map g.met.K.Ord.total c.sort_by.new.self.items
+    (sorted.sorted _ ranks (answers_always _ _ _ (λ f a r f' k. ap is_lt k.met)))
+    ∙ stable_map g.met.K.Ord.total c.args.entries.items c.sort_by.new.self.items
+    (sorted.stable _ ranks (answers_always _ _ _ (λ f a r f' k. ap is_lt k.met)))) c.last_of_each.ensures

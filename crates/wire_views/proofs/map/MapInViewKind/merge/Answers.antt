@@ -30,10 +30,10 @@ returns-in_err-merge-clause-err g c =
 pub returns-clause-ok : goal.returns-clause-ok
 returns-clause-ok g c =
     let start = entry_default g.K.MapKey.scalar g.V.ViewKind.kind in
-    on_ok_weaker c.push.result (λ pushed. each_taken g.row.PLACE length_prefixed
+    on_ok_weaker c.push_entry.result (λ pushed. each_taken g.row.PLACE length_prefixed
     (entry_takes g.K.MapKey.scalar g.V.ViewKind.kind) start (puts_entry g.K.MapKey.order)
     c.limits_add_up.ensures
     _ _ _ _ _ _ c.default_view-entry.ensures _ _ _ _ _ c.in_ok-register_element_memory.ensures.ok
     c.in_ok-register_element_memory.ensures.taken
     (entry_more g.K.MapKey.view g.V.ViewKind.view g.K.MapKey.order _ _ _ _ pushed)
-    c.in_ok-merge.ensures.ok) c.push.ensures.ok
+    c.in_ok-merge.ensures.ok) c.push_entry.ensures.ok
