@@ -297,19 +297,36 @@ CHOICES = [
     ("proto2", "enum E { F = 0; } message A { optional E e = 1; optional bytes AView = 2; } "
      "message AView { repeated A a = 1; oneof b { string c = 2; fixed32 d = 3; } } "
      "message B { map<int64, A> a = 1; } message G { repeated E e = 1; } "
-     "message H { optional G g = 1; } message K { map<string, E> f = 1; } message I { optional I i = 1; } "
-     "message J { map<string, I> i = 1; }", ",views=true",
+     "message K { map<string, E> f = 1; } message L { repeated L l = 1; } "
+     "message N { optional O o = 1; } message O { repeated N n = 1; optional bool x = 2; } "
+     "message I { oneof h { I i = 1; bool e = 2; } } message J { map<string, I> i = 1; }", ",views=true",
      ["            [0] 1 [closed] => e: CopiedIn<&'a [u8], Optional<Enum<E>>>,\n"
       "            [1] 2 => aview: OptionalIn<BytesIn<'a>>,\n            _ [2] => unknown\n",
       "impl<'a> WrittenView for AView_2<'a> {", "impl<'a> WrittenView for AViewView<'a> {",
       "pub struct AView_2<'a> {", "pub use aview_2::AView_2;", "pub struct AViewView<'a> {",
       "            [0] 1 => a: EachEmbeddedIn<AView_2<'a>, 64>,\n            [1] 2 | 3 => b: ",
       "            [0] 1 => a: EmbeddedMapIn<NumberIn<&'a [u8], Int64>, AView_2<'a>, 104>,\n",
-      "wire_codec wire_fields wire_views bytes", "/// It has no view: `e` has values ",
-      "/// It has no view: `f` has values ",
-      "/// It has no view: `g` is of `G`, which has none.",
-      "/// It has no view: it holds messages of its own type, or of types that hold it.",
+      "            [0] 1 [closed_each] => e: UnpackedIn<&'a [u8], Enum<E>>,\n",
+      "            [0] 1 [closed_map] => f: ClosedMapIn<TextIn<'a>, E, ",
+      "impl<'a> RecursiveHeld<&'a [u8]> for LView<'a> {",
+      "impl<'a> RecursiveView<FamilyView<'a>> for NView<'a> {",
+      "impl<'a> RecursiveView<FamilyView<'a>> for OView<'a> {",
+      "wire_codec wire_fields wire_views bytes",
+      "/// It has no view: it holds messages of its own type, or of types that hold it, by a oneof.",
       "/// It has no view: `i` is of `I`, which has none."]),
+    # Packed numbers in views: those of four or eight bytes each stay where they are read.
+    ("proto3", "enum E { F = 0; } message FixedList { repeated sfixed64 a = 1; "
+     "repeated double b = 2; repeated E c = 3; repeated fixed32 d = 4 [packed = false]; "
+     "repeated bool e = 5; }", ",views=true",
+     ["    pub a: FixedList<'a, Sfixed64>,\n    pub b: FixedList<'a, Double>,\n"
+      "    pub c: Vec<EnumValue<E>>,\n    pub d: Vec<u32>,\n    pub e: Vec<bool>,\n",
+      "            [0] 1 => a: FixedIn<'a, Sfixed64>,\n"
+      "            [1] 2 => b: FixedIn<'a, Double>,\n"
+      "            [2] 3 => c: PackedIn<&'a [u8], Enum<E>>,\n"
+      "            [3] 4 => d: UnpackedIn<&'a [u8], Fixed32>,\n"
+      "            [4] 5 => e: PackedIn<&'a [u8], Bool>,\n",
+      "list_values Fixed64 sfixed64 m.a", "list_values Fixed64 double m.b",
+      "pub struct FixedList_ {"]),
     ("proto3", "\n\n// a\tb\u2028c\u202ed\u200f\x01e\r\n// f\t\r\n" + TYPE, "",
      ["/// a    b cde\n/// f\n#[derive"]),
 ]

@@ -156,19 +156,38 @@ use Rattle.std.proofs.lemmas.Result.{err_from_is_err_and}
 use $of_specs$.$of_name$.{$of_module$-of}
 use Rattle.$crate$.specs.$name$.{$word$-of-$module$-from}
 use Rattle.wire_fields.specs.ClosedOneof.{closing_untaken}
-use Rattle.$crate$.proofs.$module$.set_or_keep_$word$.Goals as goal
+use Rattle.$crate$.proofs.$of_goals$.set_or_keep_$word$.Goals as goal
 
 pub returns-in_err-merge_closed-clause-err : goal.returns-in_err-merge_closed-clause-err
-returns-in_err-merge_closed-clause-err g c =
+returns-in_err-merge_closed-clause-err $given$ =
     let p = err_from_is_err_and c.from_residual.result c.from_residual.ensures.1 in
     rw (p.1, p.2) (λ other. closing_untaken $of_module$-of $word$-of-$module$-from _ _ _ _ _ _
     (c.in_err-merge_closed.ensures.err other))
 ";
 
+// The function's module, and what it is given.
+const OF_ONEOF: [Template; 2] = [("of_goals", "$module$"), ("given", "g c")];
+
+const OF_VIEW: [Template; 2] = [("of_goals", "$view_module$"), ("given", "c")];
+
 /// The proof of that function.
 pub fn closed_answers(base: &Words, variant: &Words) -> Result<String, GenerateError> {
+    answers_of(base, variant, &OF_ONEOF)
+}
+
+/// The proof of that of the oneof's view.
+pub fn closed_view_answers(base: &Words, variant: &Words) -> Result<String, GenerateError> {
+    answers_of(base, variant, &OF_VIEW)
+}
+
+fn answers_of(
+    base: &Words,
+    variant: &Words,
+    of: &'static [Template],
+) -> Result<String, GenerateError> {
     let mut page = Words::like(base);
     page.copy(variant, &["word", "of_specs", "of_name", "of_module"]);
+    page.fill_all(of);
     page.fill("text", ANSWERS);
     page.finish("text")
 }

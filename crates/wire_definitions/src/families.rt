@@ -7,6 +7,8 @@ use crate::mentioned::use_mentioned_of;
 use crate::recursion::ALIASES;
 use crate::required_tables::{ASKED, NESTED, OF_ASKED};
 use crate::returned::under_charges;
+use crate::view_definitions::has_view;
+use crate::view_folds::{ALIAS_OF_VIEWS, FAMILY_OF_VIEWS, OF_VIEWED, USES_OF_VIEWS};
 use wire_schema::{GenerateError, Template, Words};
 
 const USES: &str = "\
@@ -92,7 +94,7 @@ Family-Leaves = $sum$
 abbrev pub Family-Tree : Type 0
 Family-Tree = nests.Nest Family-Leaves
 
-$held_types$$values$$folds$$tables$abbrev pub family-tables : Family-Sorts → tables.Table Family-Leaves
+$held_types$$values$$folds$$view_defs$$view_folds$$view_laws$$tables$abbrev pub family-tables : Family-Sorts → tables.Table Family-Leaves
 $table_lines$
 -- of which type the messages of a row are
 abbrev pub family-holds : Family-Sorts → ℕ → Family-Sorts
@@ -118,7 +120,7 @@ family-shapes s = record {
 abbrev pub family-held-sort : FamilyHeld → Family-Sorts
 $held_sorts$
 abbrev pub family-held-value : FamilyHeld → Family-Tree
-$held_values$
+$held_values$$family_of_views$
 abbrev pub family-slice-sort : FamilySlice → Family-Sorts
 $slice_sorts$
 abbrev pub family-slice-values : FamilySlice → List Family-Tree
@@ -315,11 +317,18 @@ pub fn family_definitions(base: &Words, members: &[Words]) -> Result<String, Gen
     }
     let is_requiring = !page.get("requiring").is_empty();
     page.fill("asked_of_all", if is_requiring { ASKED } else { "" });
+    let is_viewed = !page.get("view_sums").is_empty();
+    page.fill(
+        "family_of_views",
+        if is_viewed { FAMILY_OF_VIEWS } else { "" },
+    );
+    page.append("uses", if is_viewed { USES_OF_VIEWS } else { "" });
     page.fill("text", TEXT);
     use_mentioned_of(&mut page);
     page.fill("aliases", MORE_ALIASES);
     page.append("aliases", ALIASES);
     page.append("aliases", if is_requiring { NESTED } else { "" });
+    page.append("aliases", if is_viewed { ALIAS_OF_VIEWS } else { "" });
     set_heading(&mut page, "--", WHAT);
     page.fill("text", HEAD);
     page.finish("text")
@@ -332,6 +341,9 @@ fn put_member(page: &mut Words, member: &Words, last: usize) {
     put_lines(page, &mut own, &OF_MEMBER);
     put_lines(page, &mut own, &OF_BACK);
     put_lines(page, &mut own, &OF_ASKED);
+    if has_view(&own) {
+        put_lines(page, &mut own, &OF_VIEWED);
+    }
     page.copy(&own, &["name", "left_within"]);
     page.append("accounts", MEMBER_ACCOUNT);
     page.fill_all(&[("at", "(suc $at$)"), ("at_least", "(suc $at_least$)")]);

@@ -3,6 +3,7 @@ use crate::comments::set_heading;
 use crate::imports::definition_imports;
 use crate::laws_pages::has_laws;
 use crate::returned::{under_charges, use_charges};
+use crate::view_definitions::has_view;
 use wire_schema::{GenerateError, Words};
 
 /// What the definitions of one of them bring in.
@@ -65,9 +66,16 @@ $name$-Value = family.Family-Tree
 abbrev pub $module$-value : $name$ → $name$-Value
 $module$-value = family.$module$-value
 
-abbrev pub $module$-shape : Shape $name$-Value
+$face_view$abbrev pub $module$-shape : Shape $name$-Value
 $module$-shape = family.family-shapes family.$name$-Sort
 $face_missing$$back$";
+
+const FACE_VIEW: &str = "\
+-- the same of its view
+abbrev pub $module$-view_value : $view_name$ → $name$-Value
+$module$-view_value = family.$module$-view_value
+
+";
 
 const FACE_MISSING: &str = "
 -- the first required field that is not there
@@ -94,6 +102,10 @@ Rattle.wire_fields.specs.Shape Shape
 Rattle.$crate$.specs.declared.$module$.$name$ $name$
 ";
 
+const FACE_USES_OF_VIEW: &str = "\
+Rattle.$crate$.specs.declared.$view_module$.$view_name$ $view_name$
+";
+
 const FACE_USES_OF_BACK: &str = "\
 Rattle.wire_fields.specs.Grounds Grounds
 Rattle.wire_fields.specs.Ranges Range
@@ -105,6 +117,15 @@ pub fn member_definitions(base: &Words) -> Result<String, GenerateError> {
     let mut page = Words::like(base);
     let is_read_back = has_laws(base);
     page.fill("uses", FACE_USES);
+    page.fill("face_view", if has_view(base) { FACE_VIEW } else { "" });
+    page.append(
+        "uses",
+        if has_view(base) {
+            FACE_USES_OF_VIEW
+        } else {
+            ""
+        },
+    );
     if !page.get("requiring").is_empty() {
         page.append("uses", "Rattle.wire_required.specs.Missing Missing\n");
         page.fill("face_missing", FACE_MISSING);

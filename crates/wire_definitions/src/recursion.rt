@@ -11,6 +11,7 @@ use crate::required_tables::{NESTED, define_asked_rows};
 use crate::rows::{USES_OF_NO_FIELDS, is_bare, is_row, place_of};
 use crate::runs::{begin_part, end_part};
 use crate::tree::Tree;
+use crate::view_folds::define_view_fold;
 use wire_schema::{Field, GenerateError, Template, Words};
 
 const USES: &str = "\
@@ -94,7 +95,7 @@ $view$,
 abbrev pub $module$-value : $name$ → $name$-Value
 $module$-value = fold-$name$$trees$$ones$
 
-$choice_folds$abbrev pub $module$-known : $leaf_part$ $name$-Known
+$choice_folds$$view_one$$view_value$$view_rows$abbrev pub $module$-known : $leaf_part$ $name$-Known
 $module$-known =
     $table$
 
@@ -219,6 +220,7 @@ pub fn table_page(base: &Words, fields: &[Field], tree: &Tree) -> Words {
     for _ in 0..3 {
         page.indent("view");
     }
+    define_view_fold(&mut page, fields, tree);
     page
 }
 

@@ -84,9 +84,10 @@ const NOT_PLAIN: &str = "$full$: a message that holds itself, or what holds it, 
                          closed enums, and by a oneof neither closed enums nor unknown=drop";
 
 // The tree of no fields.
-const NO_FIELDS: [Template; 8] = [
+const NO_FIELDS: [Template; 9] = [
     ("value", "⊤"),
     ("view", "tt"),
+    ("view_seen", "tt"),
     ("table", "no_fields"),
     ("unlike", "refl"),
     ("range", "no_fields_range"),

@@ -3,8 +3,9 @@ use wire_schema::{GenerateError, Schema, Template, Words};
 
 // What each of them adds to the words of all: the arms of what another is not, the names of types
 // and of functions, as they are called in the page of all and in others, and lines of types.
-const OF_ALL: [Template; 7] = [
+const OF_ALL: [Template; 8] = [
     ("trees", " Family-Tree"),
+    ("folded", " $other_module$-value"),
     ("their_trees", " family.Family-Tree"),
     ("ones", " $other_module$-one"),
     ("their_ones", " family.$other_module$-one"),
@@ -16,9 +17,25 @@ const OF_ALL: [Template; 7] = [
     ),
 ];
 
+// The same of their views.
+const OF_VIEWS: [Template; 8] = [
+    ("view_trees", " Family-Tree"),
+    ("view_values", " $other_module$-view_value"),
+    ("their_view_trees", " family.Family-Tree"),
+    ("view_ones", " $other_module$-view_one"),
+    ("their_view_ones", " family.$other_module$-view_one"),
+    ("their_view_values", " family.$other_module$-view_value"),
+    ("view_types", " $other_view$"),
+    (
+        "view_type_uses",
+        "use Rattle.$crate$.specs.declared.$other_view_module$.$other_view$.{$other_view$}\n",
+    ),
+];
+
 // The same of the type of a oneof of which some variants are rows.
-const OF_CHOICE: [Template; 8] = [
+const OF_CHOICE: [Template; 9] = [
     ("trees", " $other$-Held"),
+    ("folded", " $other_module$-value"),
     ("their_trees", " family.$other$-Held"),
     ("ones", " $other_module$-one"),
     ("their_ones", " family.$other_module$-one"),
@@ -32,7 +49,13 @@ const OF_CHOICE: [Template; 8] = [
 ];
 
 // Of a type that holds itself alone, with such a oneof or without.
-const OF_ALONE: [Template; 8] = [
+const OF_ALONE: [Template; 14] = [
+    ("view_trees", " $name$-Value"),
+    ("view_ones", " $module$-view_one"),
+    ("view_values", " $module$-view_value"),
+    ("view_types", " $view_name$"),
+    ("view_first", "$view_module$.$view_name$"),
+    ("folded", " $module$-value"),
     ("family", " $name$ "),
     ("tree", "$name$-Value"),
     ("trees", " $name$-Value"),
@@ -71,7 +94,13 @@ pub(crate) fn set_alone(page: &mut Words) {
     if !page.get("choice").is_empty() {
         page.fill_all(&ALONE_WITH_CHOICE);
     }
-    page.fill_all(&[("their_trees", "$trees$"), ("their_ones", "$ones$")]);
+    page.fill_all(&[
+        ("their_trees", "$trees$"),
+        ("their_ones", "$ones$"),
+        ("their_view_trees", "$view_trees$"),
+        ("their_view_ones", "$view_ones$"),
+        ("their_view_values", "$view_values$"),
+    ]);
 }
 
 // What it is in the sum of all: the words of its leaf by itself, from which the sum's are made.
@@ -168,6 +197,7 @@ pub(crate) fn set_family(
     let last = members.len().saturating_sub(1);
     page.fill_all(&OF_LEAF);
     put_types(page, &members)?;
+    put_view_types(page, &members)?;
     for (place, member) in members.iter().enumerate() {
         page.copy(member, &[]);
         page.set("other", member.get("name"));
@@ -215,6 +245,41 @@ fn put_types(page: &mut Words, members: &[Words]) -> Result<(), GenerateError> {
     Ok(())
 }
 
+// Tells the page of their views, in the order in which the folds have these.
+fn put_view_types(page: &mut Words, members: &[Words]) -> Result<(), GenerateError> {
+    page.fill_all(&[("view_first", ""), ("other_views", "")]);
+    page.fill_all(&[("view_trees", ""), ("view_values", ""), ("view_ones", "")]);
+    let own = page.take("name");
+    page.set("name", &own);
+    let mut order: Vec<(&str, &str, &str)> = Vec::new(page.alloc());
+    for member in members {
+        let view = member.get("view_name");
+        if !view.is_empty() {
+            order.push((member.get("view_module"), view, member.get("module")))?;
+        }
+    }
+    order.sort()?;
+    for (view_module, view, module) in order {
+        page.set("other_view", view);
+        page.set("other_view_module", view_module);
+        page.set("other_module", module);
+        page.append_all(&OF_VIEWS);
+        if page.get("view_first").is_empty() {
+            page.fill("view_first", "$other_view_module$.$other_view$");
+        }
+    }
+    for member in members {
+        if member.get("name") != own.as_str() {
+            page.set("other", member.get("name"));
+            page.append(
+                "other_views",
+                "            FamilyView::$other$(_other) => {}\n",
+            );
+        }
+    }
+    Ok(())
+}
+
 // Fills these templates for each sum around the leaf at a place, from the inside out.
 fn put_sides(page: &mut Words, place: usize, last: usize, templates: &'static [Template]) {
     page.fill_all(&[
@@ -256,7 +321,14 @@ fn members_of(
             let mut words = Words::new(page.alloc());
             words.copy(
                 &message.words,
-                &["name", "module", "choice", "choice_module"],
+                &[
+                    "name",
+                    "module",
+                    "choice",
+                    "choice_module",
+                    "view_name",
+                    "view_module",
+                ],
             );
             members.push(words)?;
         }
@@ -279,6 +351,7 @@ fn name_family(page: &mut Words, schema: &Schema) -> Result<(), GenerateError> {
     page.fill_all(&[
         ("family_name", "$natural$$family_number$"),
         ("family_module", "$first_module$_family$family_number$"),
+        ("family_view_module", "$family_module$_view"),
     ]);
     Ok(())
 }

@@ -32,7 +32,12 @@ mod services;
 mod split;
 mod view;
 mod view_code;
+mod view_family;
+mod view_nests;
 mod view_oneof;
+mod view_owned;
+mod view_recursive;
+mod view_row_answers;
 mod view_written;
 mod written;
 

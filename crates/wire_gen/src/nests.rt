@@ -63,6 +63,7 @@ impl Package {
         }
         self.add_choices(&page, &fields, message)?;
         self.add_rows(&mut page, &fields)?;
+        self.add_recursive_view(&page, schema, &fields)?;
         self.add_leaf(&mut page, fields, &tree)?;
         if is_member {
             self.add_member(&mut page)?;
@@ -127,7 +128,8 @@ impl Package {
             }
         }
         let answers = answers_of(page, &leaf, tree, true)?;
-        self.add(page, "$folder$/merge_leaf/Answers.antt", answers)
+        self.add(page, "$folder$/merge_leaf/Answers.antt", answers)?;
+        self.add_view_leaf(page, &leaf, tree)
     }
 
     // Those of its rows, where a row has many messages.
@@ -176,7 +178,8 @@ impl Package {
             self.add_stays(&mut page, proof)?;
         }
         let path = "proofs/$family_module$/FamilyHeldRecursiveHeld/merge_leaf/Answers.antt";
-        self.add(&mut page, path, answers)
+        self.add(&mut page, path, answers)?;
+        self.add_family_view(&page, schema, first, &members)
     }
 
     // A page of the table of each of these members.

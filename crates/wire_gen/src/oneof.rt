@@ -182,8 +182,8 @@ pub(crate) fn oneof_code(
     page.finish("text")
 }
 
-// What the clauses of the functions of closed enums bring in, where there are such.
-fn set_clauses(page: &mut Words) {
+/// What the clauses of the functions of closed enums bring in, where there are such.
+pub(crate) fn set_clauses(page: &mut Words) {
     page.set("clauses", "");
     if !page.get("variants").is_empty() {
         ghost_imports(page, "");

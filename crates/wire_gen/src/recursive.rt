@@ -298,8 +298,8 @@ fn put_row(page: &mut Words, schema: &Schema, field: &Field) {
     page.append("numbered", "            $row$ => $number$,\n");
 }
 
-// Makes the first of two templates the word `line`, or the second where it is longer than a line.
-fn fill_line(page: &mut Words, forms: &'static [&'static str; 2]) {
+/// Makes the first of two templates the word `line`, or the second where it is longer than a line.
+pub(crate) fn fill_line(page: &mut Words, forms: &'static [&'static str; 2]) {
     page.fill("line", forms[0]);
     if page.get("line").chars().count() > 100 {
         page.fill("line", forms[1]);
@@ -336,8 +336,8 @@ fn put_numbers(page: &mut Words, count: usize) {
     );
 }
 
-// The calls of rows, of which some may be for no row.
-fn put_calls(page: &mut Words) {
+/// The calls of rows, of which some may be for no row.
+pub(crate) fn put_calls(page: &mut Words) {
     let has_new = !page.get("news").is_empty();
     page.fill("new_in", if has_new { NEW_IN } else { NO_NEW_IN });
     let has_once = !page.get("onces").is_empty();

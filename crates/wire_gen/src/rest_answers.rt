@@ -14,9 +14,9 @@ returns-in_default-clause-err $given$ =
 // Of a leaf that has no field.
 const REST_OF_NONE: &str = "
 pub returns-clause-err : goal.returns-clause-err
-returns-clause-err g c =
+returns-clause-err $given$ =
     $before$rest_err $module$-known.owns $module$-known.takes keeps _ (λ p. $unlike$)
-    _ _ _ _ $of_call$keep.result $of_call$keep.ensures.err$behind$
+    _ _ _ _ $rest_call$.result $rest_call$.ensures.err$behind$
 ";
 
 // The same of one that keeps no unknown fields.
@@ -54,12 +54,12 @@ Rattle.wire_fields.specs.Arms to_rest
 // The same of a leaf.
 const REST_OF_LEAF: &str = "
 pub returns-in_default-clause-ok : goal.returns-in_default-clause-ok
-returns-in_default-clause-ok g c =
+returns-in_default-clause-ok $given$ =
     let n = tag_number c.args.tag in
     let other : (p : Payload) → $module$-known.owns n p ≡ false = λ p. $unlike$ in
     leaf_ok $all_takes$ keeps n n refl _ _$levels$ _ _
     (λ charge p h. to_rest $module$-known.owns $module$-known.takes keeps n other _ charge _ p h)
-    _ _ _ _ _ c.keep.result c.keep.ensures.ok
+    _ _ _ _ _ $rest_call$.result $rest_call$.ensures.ok
 ";
 
 const USES_OF_REST_OF_LEAF: &str = "\
@@ -208,7 +208,7 @@ fn use_neither(page: &mut Words) {
 /// The answers of the arm of all other numbers.
 pub(crate) fn put_rest(page: &mut Words, fields: &[Field]) {
     let is_kept = page.get("unknown") == "keep";
-    let is_whole = page.get("of_call") != "c.";
+    let is_whole = page.get("levels").is_empty();
     if page.get("rest_call").is_empty() {
         page.fill(
             "rest_call",

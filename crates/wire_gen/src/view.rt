@@ -4,7 +4,7 @@ use crate::oneof_proofs::view_merge_answers;
 use crate::package::Package;
 use crate::view_code::view_code_of;
 use crate::view_oneof::oneof_view_code;
-use wire_definitions::{Tree, has_view};
+use wire_definitions::{Tree, closed_view_answers, has_view};
 use wire_schema::{Field, GenerateError, Oneof, Schema, Words};
 
 // What the README says of views.
@@ -48,18 +48,33 @@ impl Package {
         self.add_module(page, code)?;
         let answers = view_merge_answers(page, oneof)?;
         let path = "proofs/$view_module$/$view_kind_name$ViewKind/merge/Answers.antt";
-        self.add(&mut Words::like(page), path, answers)
+        self.add(&mut Words::like(page), path, answers)?;
+        for variant in &oneof.variants {
+            if !variant.get("closed").is_empty() {
+                self.add_closed_view(page, variant)?;
+            }
+        }
+        Ok(())
     }
 
-    // The module of a view, which the crate passes on as it does the type that it is of.
-    fn add_module(&mut self, page: &Words, code: String) -> Result<(), GenerateError> {
+    // The answers of a variant of a closed enum.
+    fn add_closed_view(&mut self, page: &Words, variant: &Words) -> Result<(), GenerateError> {
+        let answers = closed_view_answers(page, variant)?;
+        let mut page = Words::like(page);
+        page.copy(variant, &["word"]);
+        let path = "proofs/$view_module$/set_or_keep_$word$/Answers.antt";
+        self.add(&mut page, path, answers)
+    }
+
+    /// The module of a view, which the crate passes on as it does the type that it is of.
+    pub(crate) fn add_module(&mut self, page: &Words, code: String) -> Result<(), GenerateError> {
         let mut view = Words::like(page);
         view.fill_all(&[("name", "$view_name$"), ("module", "$view_module$")]);
         self.add_code(&mut view, code)
     }
 
-    // The crate stands on that of views.
-    fn need_views(&mut self) {
+    /// The crate stands on that of views.
+    pub(crate) fn need_views(&mut self) {
         if self.roots.get("viewed").is_empty() {
             self.roots.set("viewed", VIEWED);
             self.roots.append("needs", " wire_views");

@@ -1,5 +1,6 @@
 //! The code of the view of a message type.
 use crate::code::{put_field_comment, put_in_braces};
+use crate::field_rows::set_numbers;
 use crate::view_written::{put_written, use_written};
 use wire_definitions::{code_imports, ghost_imports, set_heading};
 use wire_schema::{Field, GenerateError, Schema, Template, Words};
@@ -14,17 +15,17 @@ wire_views MessageView
 wire_views UnknownSpan
 ";
 
-const STRUCT: &str = "
+pub(crate) const STRUCT: &str = "
 #[derive(Debug, Drop)]
 pub struct $view_name$<'a> {$declared$}
 ";
 
-const UNKNOWN: &str = "    \
+pub(crate) const UNKNOWN: &str = "    \
     /// The fields that the schema lacks, where they stand.
     pub unknown: Vec<UnknownSpan<'a>>,
 ";
 
-const ROWS: &str = "
+pub(crate) const ROWS: &str = "
 // The fields of `$view_name$`: their places, numbers, names and kinds.
 macro_rules! rows {
     ($given$) => {
@@ -84,7 +85,7 @@ $ghost_imports$
 }
 ";
 
-const OF_FIELD: [Template; 3] = [
+pub(crate) const OF_FIELD: [Template; 3] = [
     ("uses", "$view_code$"),
     ("declared", "    pub $field$: $view_held$,\n"),
     (
@@ -159,20 +160,4 @@ pub(crate) fn view_code_of(
     page.append("text", VIEW);
     put_written(&mut page, fields.len());
     page.finish("text")
-}
-
-// The numbers of a row, of those of a field.
-fn set_numbers(page: &mut Words, field: &Words) {
-    page.set("all_numbers", "");
-    let is_closed = field.get("call") == "merge_closed";
-    page.set("way", if is_closed { " [closed]" } else { "" });
-    for number in field.get("numbers").split(' ') {
-        page.set("number", number);
-        let is_first = page.get("all_numbers").is_empty();
-        page.append(
-            "all_numbers",
-            if is_first { "$number$" } else { " | $number$" },
-        );
-        page.append("all_numbers", "$way$");
-    }
 }

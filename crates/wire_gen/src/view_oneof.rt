@@ -1,4 +1,5 @@
 //! The code of the view of a oneof.
+use crate::oneof::set_clauses;
 use wire_definitions::{code_imports, ghost_imports, set_heading};
 use wire_schema::{GenerateError, Oneof, Template, Words};
 
@@ -104,6 +105,62 @@ impl<'a> WrittenKind for $view_kind_name$<'a> {
 }
 ";
 
+// The function of a variant of a closed enum.
+const CLOSED_VARIANT: &str = "
+/// Takes the record behind this tag as this variant where the enum has the number in it,
+/// and else keeps it as an unknown field, where it stands. Refused as `merge_closed`.
+pub(crate) fn set_or_keep_$word$<'a>(
+    alloc: Global,
+    tag: Tag,
+    held: &mut Option<$view_name$<'a>>,
+    spans: &mut Vec<UnknownSpan<'a>>,
+    buf: &mut &'a [u8],
+    context: &mut DecodeContext,
+) -> Result<(), DecodeError>
+    ensures ok { OnOk result (IsCharged context.old context.new (λ c.
+        TakesRecord $word$-of-$module$-closed context.old (tag_number tag) (tag_type tag)
+        ($module$-view_of held.old, fields_of spans.old.items) buf.old.now c
+        ($module$-view_of held.new, fields_of spans.new.items) buf.new.now)) }
+    ensures err { IfErr result (λ e. e ≢ OutOfMemory → NotTaken
+        (TakesRecord $word$-of-$module$-closed context.old (tag_number tag) (tag_type tag)
+        ($module$-view_of held.old, fields_of spans.old.items) buf.old.now)) }
+    ensures counts { OnErr result (NoCountGrew context.old context.new) }
+{
+    let mut value = None;
+    wire_views::merge_closed(alloc, tag, &mut value, spans, buf, context)?;
+    match value {
+        Some(value) => {
+            *held = Some($view_name$::$variant$(value));
+            Ok(())
+        }
+        None => Ok(()),
+    }
+}
+";
+
+const CLOSED_GHOSTS: &str = "\
+Rattle.std.specs.Prelude IfErr
+Rattle.std.specs.Prelude OnErr
+Rattle.std.specs.Prelude OnOk
+Rattle.std.specs.Prelude ◌≢◌
+Rattle.wire_codec.specs.DecodeError.TheVariants OutOfMemory
+Rattle.wire_codec.specs.Limits NoCountGrew
+Rattle.wire_codec.specs.TagView tag_number
+Rattle.wire_codec.specs.TagView tag_type
+Rattle.wire_codec.specs.Taking IsCharged
+Rattle.wire_codec.specs.Taking NotTaken
+Rattle.wire_codec.specs.Taking TakesRecord
+Rattle.wire_views.specs.Spans fields_of
+Rattle.$crate$.specs.$name$ $module$-view_of
+Rattle.$crate$.specs.$name$ $word$-of-$module$-closed
+";
+
+const OF_CLOSED_VARIANT: [Template; 3] = [
+    ("variants", CLOSED_VARIANT),
+    ("uses", "wire_views UnknownSpan\n"),
+    ("ghosts", CLOSED_GHOSTS),
+];
+
 // The last row has all other numbers too.
 const OF_VARIANT: [Template; 3] = [
     ("declared", "    $variant$($view_held$),\n"),
@@ -126,17 +183,23 @@ pub(crate) fn oneof_view_code(base: &Words, oneof: &Oneof) -> Result<String, Gen
             variant,
             &["variant", "digits", "view_held", "view_kind", "view_code"],
         );
+        page.copy(variant, &["word", "closed"]);
         page.set("others", if place == last { " | _" } else { "" });
         page.append_all(&OF_VARIANT);
+        if !page.get("closed").is_empty() {
+            page.append_all(&OF_CLOSED_VARIANT);
+        }
     }
     let is_written = !page.get("view_written").is_empty();
     page.append("uses", if is_written { WRITTEN_USES } else { "" });
+    set_clauses(&mut page);
     code_imports(&mut page);
     page.fill("ghosts", GHOSTS);
     ghost_imports(&mut page, "    ");
     set_heading(&mut page, "//!", "The view of the oneof `$name$`.");
-    page.fill("text", "$heading$$imports$");
+    page.fill("text", "$heading$$clauses$$imports$");
     page.append("text", ENUM);
     page.append("text", if is_written { WRITTEN } else { "" });
+    page.append("text", "$variants$");
     page.finish("text")
 }

@@ -77,6 +77,18 @@ const IN_EACH: [Template; 3] = [
     ),
 ];
 
+// What a view holds for them.
+const VIEW_OF_MAP: [Template; 2] = [
+    (
+        "view_kind",
+        "ClosedMapIn<$key_view_kind$, $of_name$, $of_entry$>",
+    ),
+    (
+        "view_code",
+        "$key_view_code$$of_path$ $of_name$\nwire_codec EnumValue\nwire_views ClosedMapIn\n",
+    ),
+];
+
 // As values of a map. The record of an entry that is left is charged besides for its reading.
 const IN_MAP: [Template; 9] = [
     ("left", "entries_left $of_entry$ $number$"),
@@ -153,6 +165,7 @@ pub(crate) fn set_closed(words: &mut Words) {
 fn set_closed_map(words: &mut Words) {
     words.set("maps", "c");
     words.fill_all(&IN_MAP);
+    words.fill_all(&VIEW_OF_MAP);
     words.append_all(&OF_MAP);
     set_leaving(words);
 }

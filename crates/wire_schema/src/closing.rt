@@ -60,4 +60,7 @@ pub(crate) fn set_closing(words: &mut Words, variant: &Words) {
     }
     words.fill_all(&CLOSING);
     words.append_all(&OF_CLOSING);
+    if !words.get("view_name").is_empty() {
+        words.append("view_code", "crate::$view_module$ set_or_keep_$word$\n");
+    }
 }

@@ -17,12 +17,12 @@ const TYPES: &str = "AllocError Always AlwaysEmbedded AlwaysEmbeddedIn AlwaysGro
     BTreeMap Blob Bool Box Buf BytesIn Charge Clone CopiedIn Copy Debug DecodeContext DecodeError \
     Double DoubleBits Drop EachEmbedded EachEmbeddedIn EachGroup EachGroupIn Embedded EmbeddedIn \
     EmbeddedMapIn EncodeError EncodeSink Enum EnumValue Enumeration Eq Err FamilyHeld FamilySlice \
-    FieldKind Fields Fixed32 Fixed64 Float FloatBits Global Grounds Group GroupIn Hash Implicit \
-    ImplicitIn Int32 Int64 Kind Known Lawful Leaving Lib List Map MapIn Message MessageView None \
-    NumberIn Ok Option Optional OptionalIn Packed PackedIn PartialEq Payload PhantomData Plain \
-    Range Records Repeated RepeatedIn Rest Result Returned Self Sfixed32 Sfixed64 Shape Sint32 \
-    Sint64 Size SizeCache Some Step String Tag Text TextIn Twin Type Uint32 Uint64 UnknownFields \
-    UnknownSpan Unpacked UnpackedIn Variants Vec ViewKind";
+    FieldKind Fields Fixed32 Fixed64 FixedIn FixedList Float FloatBits Global Grounds Group \
+    GroupIn Hash Implicit ImplicitIn Int32 Int64 Kind Known Lawful Leaving Lib List Map MapIn \
+    Message MessageView None NumberIn Ok Option Optional OptionalIn Packed PackedIn PartialEq \
+    Payload PhantomData Plain Range Records Repeated RepeatedIn Rest Result Returned Self Sfixed32 \
+    Sfixed64 Shape Sint32 Sint64 Size SizeCache Some Step String Tag Text TextIn Twin Type Uint32 \
+    Uint64 UnknownFields UnknownSpan Unpacked UnpackedIn Variants Vec ViewKind";
 
 // Type parameters of what is written. A message, an enum or a oneof of such a name has an
 // underscore behind it.

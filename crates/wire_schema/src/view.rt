@@ -1,18 +1,15 @@
 //! Views of messages: which types have one, and what it is called.
 use crate::error::GenerateError;
-use crate::message_type::{MessageType, oneof_place};
+use crate::message_type::MessageType;
 use crate::names::module_name;
 use crate::schema::Schema;
 use crate::words::{Template, Words};
 use std::alloc::Global;
 use wire_descriptor::FieldDescriptorProto;
 
-const LABEL_REPEATED: i32 = 3;
-
 // Why a type has no view.
-const HOLDS_ITSELF: &str = "it holds messages of its own type, or of types that hold it";
-
-const CLOSED: &str = "`$proto$` has values of a closed enum, as a list, a map or one of a oneof";
+const HOLDS_BY_ONEOF: &str =
+    "it holds messages of its own type, or of types that hold it, by a oneof";
 
 const FAR: &str = "`$proto$` is of a type of another crate";
 
@@ -47,12 +44,13 @@ impl Schema {
     }
 
     // Tells each type whether a view of it can be written: where it has no map, whose entries a view
-    // holds as they came, and holds no message of a type that has one.
+    // holds as they came, does not hold itself, and holds no message of a type that does or has one.
     fn find_written(&mut self) -> Result<(), GenerateError> {
         let mut flags = Vec::new(self.alloc);
         for message in &self.messages {
             let mut fields = message.descriptor.field.iter();
-            flags.push(!fields.any(|it| self.entry(&it.type_name).is_some()))?;
+            let has_map = fields.any(|it| self.entry(&it.type_name).is_some());
+            flags.push(!has_map && !message.is_recursive)?;
         }
         self.held_by_each()?.spread(&mut flags)?;
         for (message, is_written) in self.messages.iter_mut().zip(flags) {
@@ -88,8 +86,8 @@ impl Schema {
     // Why a type has no view by itself; nothing where it may have one.
     fn why_unviewed(&self, message: &MessageType) -> Result<String, GenerateError> {
         let mut words = Words::like(&message.words);
-        if message.is_recursive || message.family.is_some() {
-            words.fill("why", HOLDS_ITSELF);
+        if !message.words.get("choice").is_empty() {
+            words.fill("why", HOLDS_BY_ONEOF);
         }
         for field in &message.descriptor.field {
             let why = self.why_unheld(field);
@@ -104,14 +102,7 @@ impl Schema {
     fn why_unheld(&self, field: &FieldDescriptorProto) -> &'static str {
         let held = self.message(self.held(field));
         let is_far = held.is_some_and(|it| !it.origin.is_own);
-        let is_once = field.label != LABEL_REPEATED && oneof_place(field).is_none();
-        if self.is_of_closed_enum(field) && !is_once {
-            CLOSED
-        } else if is_far {
-            FAR
-        } else {
-            ""
-        }
+        if is_far { FAR } else { "" }
     }
 
     // Why a type has none that holds messages of one that has none.

@@ -39,6 +39,21 @@ const PACKED: [Template; 4] = [
     ("view_code", "$code$wire_views PackedIn\n"),
 ];
 
+// Of numbers of four or eight bytes each, which stay where they are read.
+const FIXED: [Template; 5] = [
+    ("view_held", "FixedList<'a, $kind$>"),
+    ("view_kind", "FixedIn<'a, $kind$>"),
+    ("view_seen", "list_values $form$ $map$ m.$field$"),
+    (
+        "view_code",
+        "wire_fields $kind$\nwire_views FixedIn\nwire_views FixedList\n",
+    ),
+    (
+        "view_definitions",
+        "Rattle.wire_views.specs.FixedLists list_values\n",
+    ),
+];
+
 const UNPACKED: [Template; 4] = [
     ("view_held", "Vec<$held$>"),
     ("view_kind", "UnpackedIn<&'a [u8], $kind$>"),
@@ -126,7 +141,8 @@ pub(crate) fn set_view(kind: &str, words: &mut Words) {
         "Optional" if is_text => &OPTIONAL_TEXT,
         "Implicit" => &IMPLICIT,
         "Optional" => &OPTIONAL,
-        "Packed" => &PACKED,
+        "Packed" if words.get("form") == "Varint" => &PACKED,
+        "Packed" => &FIXED,
         "Unpacked" => &UNPACKED,
         "Repeated" => &REPEATED,
         "Embedded" | "Group" => &ONCE,
