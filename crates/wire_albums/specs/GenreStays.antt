@@ -4,27 +4,43 @@ use Rattle.std.proofs.Common.{arith, refl}
 use Rattle.std.specs.Prelude.{ℕ, ◌==◌}
 use Rattle.wire_albums.specs.Genre.{genre-known, genre-name-kind, genre-place, genre-range}
 use Rattle.wire_albums.specs.Genre.{genre-range-of-known, genre-runs_in_order, genre-shape}
-use Rattle.wire_albums.specs.Genre.{genre-table}
+use Rattle.wire_albums.specs.Genre.{genre-table, genre-years-kind}
+use Rattle.wire_albums.specs.GenreMood.{genre_mood-number, genre_mood-of, genre_mood-values}
+use Rattle.wire_codec.specs.Charge.{payload_charge}
+use Rattle.wire_codec.specs.EnumNumbers.{first_numbered_keeps}
 use Rattle.wire_fields.specs.Grounds.{Grounds}
-use Rattle.wire_fields.specs.NestRange.{leaf_range}
+use Rattle.wire_fields.specs.LeavingLeaf.{leaving_leaf_range, leaving_leaf_stay}
 use Rattle.wire_fields.specs.NestTable.{IsThere}
-use Rattle.wire_fields.specs.Stays.{FieldsStay, Stays, known_stays}
-use Rattle.wire_fields.specs.StaysKinds.{optional_stays, string_stays}
-use Rattle.wire_fields.specs.StaysLeaf.{known_stay, table_stays, there_where}
+use Rattle.wire_fields.specs.Stays.{Stays, known_stays}
+use Rattle.wire_fields.specs.StaysClosed.{closed_once_stays}
+use Rattle.wire_fields.specs.StaysKinds.{optional_stays, sint32_stays, string_stays, unpacked_stays}
+use Rattle.wire_fields.specs.StaysLeaf.{table_stays, there_where}
+use Rattle.wire_fields.specs.StaysLeaving.{LeavingStays, both_stay, none_stays}
+use Rattle.wire_fields.specs.StaysMessages.{anywhere}
 use Rattle.wire_fields.specs.StaysNest.{nest_stays}
 
 pub genre-there : (n : ℕ) → IsThere genre-table (genre-place n)
 genre-there n = there_where genre-table (n == 2) _ _ (omega arith, refl)
-    (tt)
+    (there_where genre-table (n == 3) _ _ (omega arith, refl)
+    (tt))
 
-pub genre-stays-of-known : Grounds → FieldsStay genre-known genre-range-of-known
+pub genre-stays-of-known : Grounds → LeavingStays genre-known genre-range-of-known
+    (λ n p. payload_charge p) anywhere
 genre-stays-of-known g =
-    known_stays 1 genre-name-kind
-    (optional_stays string_stays)
+    both_stay
+    (both_stay
+    (none_stays
+    (known_stays 1 genre-name-kind
+    (optional_stays string_stays)))
+    (closed_once_stays genre_mood-number genre_mood-of
+    (first_numbered_keeps genre_mood-number genre_mood-values) 4 (λ x. refl)))
+    (none_stays
+    (known_stays 5 genre-years-kind
+    (unpacked_stays _ _ _ sint32_stays)))
 
 pub genre-stays : Grounds → Stays genre-shape genre-range
 genre-stays g =
-    nest_stays g genre-table (leaf_range genre-table genre-known genre-range-of-known)
-    (table_stays genre-table (known_stay genre-table (genre-stays-of-known g))
+    nest_stays g genre-table (leaving_leaf_range genre-table genre-known genre-range-of-known)
+    (table_stays genre-table (leaving_leaf_stay genre-table (genre-stays-of-known g))
     refl refl genre-runs_in_order genre-there (λ i m. refl) (λ n rs. refl))
     genre-shape refl refl refl

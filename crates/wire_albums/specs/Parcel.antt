@@ -45,6 +45,7 @@ use Rattle.wire_fields.specs.Texts.{any_bytes, string}
 use Rattle.wire_fields.specs.declared.floats.FloatBits.{FloatBits}
 use Rattle.wire_fields.specs.declared.form.Form.TheVariants.{Fixed32, Varint}
 use Rattle.wire_required.specs.Missing.{Missing, first_of, needs}
+use Rattle.wire_views.specs.FixedLists.{list_values}
 use Rattle.wire_views.specs.Rows.{all_grouped, in_rows, paired, single}
 use Rattle.wire_views.specs.Spans.{fields_of}
 
@@ -168,7 +169,7 @@ parcel-fields-1-to-9-view_value m = (
       parcel_wrapping-view_of m.wrapping,
     ),
     (
-      m.weights.items,
+      list_values Fixed32 float m.weights,
       parcel_shop-view_of m.shop,
     ),
   ),

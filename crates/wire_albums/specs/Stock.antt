@@ -3,10 +3,11 @@
 use Rattle.std.proofs.Common.{arith, refl}
 use Rattle.std.specs.Prelude.{List, [], codes, map, ◌∷◌}
 use Rattle.wire_albums.specs.Genre.{Genre-Value, genre-range, genre-returned, genre-shape}
-use Rattle.wire_albums.specs.Genre.{genre-value}
+use Rattle.wire_albums.specs.Genre.{genre-value, genre-view_value}
 use Rattle.wire_albums.specs.Parcel.{Parcel-Value, parcel-missing, parcel-range, parcel-returned}
-use Rattle.wire_albums.specs.Parcel.{parcel-shape, parcel-value}
+use Rattle.wire_albums.specs.Parcel.{parcel-shape, parcel-value, parcel-view_value}
 use Rattle.wire_albums.specs.declared.stock.Stock.{Stock}
+use Rattle.wire_albums.specs.declared.stock_view.StockView.{StockView}
 use Rattle.wire_codec.specs.Field.{Fields}
 use Rattle.wire_fields.specs.Grounds.{Grounds}
 use Rattle.wire_fields.specs.Messages.{embedded_each}
@@ -15,12 +16,13 @@ use Rattle.wire_fields.specs.Returned.{Returned, embedded_each_returned, known_r
 use Rattle.wire_fields.specs.Returned.{two_returned, whole_returned}
 use Rattle.wire_fields.specs.Shape.{Lawful, Shape, known, two, unknown}
 use Rattle.wire_required.specs.Missing.{Missing, first_of, within_each}
+use Rattle.wire_views.specs.Spans.{fields_of}
 
 abbrev pub stock-genres-kind : Lawful (List Genre-Value)
-stock-genres-kind = embedded_each 72 genre-shape
+stock-genres-kind = embedded_each 120 genre-shape
 
 abbrev pub stock-genres-range : Range (List Genre-Value)
-stock-genres-range = each_range 72 genre-shape genre-range
+stock-genres-range = each_range 120 genre-shape genre-range
 
 abbrev pub stock-parcels-kind : Lawful (List Parcel-Value)
 stock-parcels-kind = embedded_each 200 parcel-shape
@@ -43,6 +45,16 @@ stock-value m = (
     map parcel-value m.parcels.items,
   ),
   m.unknown,
+)
+
+-- the same of its view
+abbrev pub stock-view_value : StockView → Stock-Value
+stock-view_value m = (
+  (
+    map genre-view_value m.genres.items,
+    map parcel-view_value m.parcels.items,
+  ),
+  fields_of m.unknown.items,
 )
 
 abbrev pub genres-of-stock : Stock-Value → List Genre-Value
@@ -78,7 +90,7 @@ stock-returned g =
     (two_returned g
     (known_returned g 1 stock-genres-kind stock-genres-range
     (omega arith) (omega arith)
-    (embedded_each_returned g _ _ (genre-returned g) 72))
+    (embedded_each_returned g _ _ (genre-returned g) 120))
     (known_returned g 2 stock-parcels-kind stock-parcels-range
     (omega arith) (omega arith)
     (embedded_each_returned g _ _ (parcel-returned g) 200))

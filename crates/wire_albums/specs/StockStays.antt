@@ -12,6 +12,6 @@ stock-stays g =
     whole_stays
     (two_stays
     (known_stays 1 stock-genres-kind
-    (embedded_each_stays g (genre-stays g) 72))
+    (embedded_each_stays g (genre-stays g) 120))
     (known_stays 2 stock-parcels-kind
     (embedded_each_stays g (parcel-stays g) 200)))

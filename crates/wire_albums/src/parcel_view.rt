@@ -8,9 +8,9 @@ use crate::parcel_state::ParcelState;
 use crate::parcel_wrapping_view::{ParcelWrappingView, ParcelWrappingViewKind};
 use std::alloc::Global;
 use wire_codec::{DecodeContext, DecodeError, EncodeError, EncodeSink, EnumValue, SizeCache, Tag};
-use wire_fields::{Enum, Float, FloatBits, Optional, Uint32};
+use wire_fields::{Enum, Float, Optional, Uint32};
 use wire_views::{
-    BytesIn, CopiedIn, EachGroupIn, GroupIn, MessageView, OptionalIn, PackedIn, TextIn,
+    BytesIn, CopiedIn, EachGroupIn, FixedIn, FixedList, GroupIn, MessageView, OptionalIn, TextIn,
     UnknownSpan, WrittenView, view_fields,
 };
 
@@ -23,7 +23,7 @@ pub struct ParcelView<'a> {
     pub shelf: Vec<ParcelShelfView<'a>>,
     pub seal: Option<&'a [u8]>,
     pub wrapping: Option<ParcelWrappingView<'a>>,
-    pub weights: Vec<FloatBits>,
+    pub weights: FixedList<'a, Float>,
     pub shop: Option<ParcelShopView<'a>>,
     pub state: Option<EnumValue<ParcelState>>,
     /// The fields that the schema lacks, where they stand.
@@ -41,7 +41,7 @@ macro_rules! rows {
             [3] 4 => shelf: EachGroupIn<ParcelShelfView<'a>, 48>,
             [4] 5 => seal: OptionalIn<BytesIn<'a>>,
             [5] 6 | 7 => wrapping: ParcelWrappingViewKind<'a>,
-            [6] 8 => weights: PackedIn<&'a [u8], Float>,
+            [6] 8 => weights: FixedIn<'a, Float>,
             [7] 9 => shop: ParcelShopViewKind<'a>,
             [8] 10 [closed] => state: CopiedIn<&'a [u8], Optional<Enum<ParcelState>>>,
             _ [9] => unknown

@@ -10,12 +10,10 @@ use wire_codec::{
 use wire_fields::{EachEmbedded, fields, measure, write};
 use wire_required::{FieldPath, Required, first_missing};
 
-/// What a shop has, of which none is written either.
+/// What a shop has.
 ///
 /// It has required fields, or holds messages that have: `parse_from_slice` of `Parse` refuses
 /// bytes that lack one, and `decode_from_slice` takes them.
-///
-/// It has no view: `genres` is of `albums.Genre`, which has none.
 #[derive(Clone, Debug, Drop, PartialEq)]
 pub struct Stock {
     pub genres: Vec<Genre>,
@@ -29,7 +27,7 @@ macro_rules! rows {
     ($($call:tt)*) => {
         fields!(
             $($call)*
-            1 => genres: EachEmbedded<Genre, 72>,
+            1 => genres: EachEmbedded<Genre, 120>,
             2 => parcels: EachEmbedded<Parcel, 200>,
             _ => unknown
         )

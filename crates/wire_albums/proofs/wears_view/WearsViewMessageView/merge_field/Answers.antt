@@ -1,0 +1,35 @@
+use Rattle.std.proofs.Common.{refl, rules, sym, ◌∙◌}
+use Rattle.wire_albums.specs.Wears.{wears-by_name-kind, wears-by_number-kind, wears-known}
+use Rattle.wire_albums.specs.Wears.{wears-shape, wears-view_value}
+use Rattle.wire_codec.specs.TagView.{tag_number}
+use Rattle.wire_fields.specs.Arms.{arm_err, from_last, neither, unlike}
+use Rattle.wire_fields.specs.Leaving.{keeps_beside}
+use Rattle.wire_fields.specs.Shape.{keeps}
+use Rattle.wire_albums.proofs.wears_view.WearsViewMessageView.merge_field.Goals as goal
+
+pub returns-in-1-clause-err : goal.returns-in-1-clause-err
+returns-in-1-clause-err c =
+    arm_err wears-shape.takes wears-by_name-kind.takes 1 _
+    (sym c.view_fields-field_number.ensures.number ∙ c.in-1.is) _ _
+    (λ charge z p h. ((z.0.0, z.1), h.0)) _ _ _
+    c.view_fields-merge_closed.result c.view_fields-merge_closed.ensures.err
+
+pub returns-in-2-clause-err : goal.returns-in-2-clause-err
+returns-in-2-clause-err c =
+    arm_err wears-shape.takes wears-by_number-kind.takes 2 _
+    (sym c.view_fields-field_number.ensures.number ∙ c.in-2.is) _ _
+    (λ charge z p h. ((z.0.1, z.1), h.0)) _ _ _
+    (c.view_fields-merge_closed-in-2).result (c.view_fields-merge_closed-in-2).ensures.err
+
+pub returns-in_default-clause-err : goal.returns-in_default-clause-err
+returns-in_default-clause-err c =
+    let n = tag_number c.args.tag in
+    arm_err wears-shape.takes keeps n n refl _ _
+    (λ charge z p h. (
+      z.1,
+      (from_last wears-known.owns wears-known.takes keeps_beside n
+          (λ p. neither _ _ (unlike n 1 (search rules))
+          (unlike n 2 (search rules)))
+          (wears-view_value c.args.self.now) z charge p h).0,
+    ))
+    _ _ _ c.view_fields-keep_span.result c.view_fields-keep_span.ensures.err
