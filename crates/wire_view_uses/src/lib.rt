@@ -3,9 +3,18 @@
 #![tactic(auto)]
 
 pub mod both;
+#[cfg(test)]
+mod lengths;
 pub mod maps;
+#[cfg(test)]
+mod nested;
+pub mod numbers;
+#[cfg(test)]
+mod orders;
 #[cfg(test)]
 mod tests;
 pub mod uses;
+#[cfg(test)]
+mod weights;
 #[cfg(test)]
 mod written;

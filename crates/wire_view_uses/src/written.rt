@@ -1,8 +1,8 @@
 //! What is written of views, beside what is written of the messages of the same bytes. A test that
 //! is refused a request for memory finds `OutOfMemory`.
-use crate::tests::{Found, PARCELS, ROWS, Row};
+use crate::tests::{Found, PARCELS, RACKS, ROWS, Row};
 use std::alloc::Global;
-use wire_albums::{Album, AlbumView, Parcel, ParcelView};
+use wire_albums::{Album, AlbumView, Parcel, ParcelView, Rack, RackView};
 use wire_codec::{EncodeError, Message, Room};
 use wire_views::WrittenView;
 
@@ -123,6 +123,14 @@ fn albums_are_written_as_their_views(rt: HostRuntime) {
 fn parcels_are_written_as_their_views(rt: HostRuntime) {
     for (place, row) in PARCELS.iter().enumerate() {
         let found = found_written::<ParcelView<'_>, Parcel>(rt.alloc(), row.0);
+        assert_eq!(rt; found, Found::Own, "{place}");
+    }
+}
+
+#[test]
+fn racks_are_written_as_their_views(rt: HostRuntime) {
+    for (place, row) in RACKS.iter().enumerate() {
+        let found = found_written::<RackView<'_>, Rack>(rt.alloc(), row.0);
         assert_eq!(rt; found, Found::Own, "{place}");
     }
 }
