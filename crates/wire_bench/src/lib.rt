@@ -8,6 +8,7 @@
 //! length and a number of rounds, is then run under `valgrind --tool=callgrind`.
 #![tactic(auto)]
 
+mod albums;
 mod messages;
 mod puts;
 mod reports;
