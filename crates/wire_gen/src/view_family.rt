@@ -1,5 +1,5 @@
-//! The code of views that hold one another: the enum of all of them passes on what is asked, and the
-//! messages are made of them.
+//! The code of views that hold one another: the enum of all of them passes on what is asked, and
+//! the messages are made of them.
 use crate::view_owned::put_owned;
 use wire_definitions::{code_imports, ghost_imports, set_heading};
 use wire_schema::{Field, GenerateError, Template, Words};
@@ -139,6 +139,7 @@ pub(crate) fn family_view_code(
         page.append_all(&OF_MEMBER);
         put_owned(&mut page, own, fields);
     }
+    use_kinds(&mut page);
     code_imports(&mut page);
     page.fill("ghosts", "$head_ghosts$");
     ghost_imports(&mut page, "");
@@ -149,6 +150,21 @@ pub(crate) fn family_view_code(
     page.append("text", FAMILY);
     page.append("text", "$all_owned$");
     page.finish("text")
+}
+
+// Brings in what the kinds of fields name, of all that views bring in for them.
+fn use_kinds(page: &mut Words) {
+    let lines = page.take("kinds_code");
+    let owned = page.take("all_owned");
+    for line in lines.split('\n') {
+        let (_, name) = line.split_once(' ').unwrap_or((line, ""));
+        let mut words = owned.split(|it: char| !it.is_alphanumeric() && it != '_');
+        if words.any(|it| it == name && it != "") {
+            page.set("line", line);
+            page.append("uses", "$line$\n");
+        }
+    }
+    page.set("all_owned", &owned);
 }
 
 const LEAF_HEAD: &str = "\

@@ -43,6 +43,7 @@ impl Package {
         let pushed = view_push_answers(&page, fields)?;
         self.add_some(&mut page, "$held_folder$/push/Answers.antt", pushed)?;
         page.fill_all(&[("uses", ""), ("head_ghosts", ""), ("all_owned", "")]);
+        page.fill("kinds_code", "");
         if is_member {
             page.fill("answers", MEMBER_MERGE);
             let answers = page.finish("answers")?;
@@ -54,6 +55,7 @@ impl Package {
             put_owned_answers(&mut own, fields);
             self.add_owned(&mut own)?;
             put_owned(&mut page, fields, &[fields]);
+            page.append("uses", "$kinds_code$");
         }
         let code = recursive_view_of(&page, schema, fields)?;
         self.add_module(&page, code)
@@ -115,6 +117,7 @@ impl Package {
         }
         let mut page = Words::like(page);
         page.fill_all(&[("uses", ""), ("head_ghosts", ""), ("all_owned", "")]);
+        page.fill("kinds_code", "");
         let code = family_view_code(&page, members, &fields)?;
         self.roots.copy(&page, &["family_view_module"]);
         self.roots.append("modules", "mod $family_view_module$\n");

@@ -86,7 +86,7 @@ const OF_LEAF: [Template; 2] = [
         "owns",
         "    let own_$field$ = <$view_kind$ as ViewKind>::own(alloc, &view.$field$)?;\n",
     ),
-    ("uses", "$view_code$wire_views ViewKind\n"),
+    ("kinds_code", "$view_code$wire_views ViewKind\n"),
 ];
 
 const OF_EACH: Template = (

@@ -1,5 +1,6 @@
-//! The code of the view of a message type that holds itself, alone or as one of several that hold one
-//! another: the fields of these types are rows, and the loops that read them are those of the message.
+//! The code of the view of a message type that holds itself, alone or as one of several that hold
+//! one another: the fields of these types are rows, and the loops that read them are those of the
+//! message.
 use crate::code::put_field_comment;
 use crate::field_rows::set_numbers;
 use crate::recursive::{fill_line, put_calls};
@@ -195,8 +196,8 @@ $merge_held$    }
 }
 ";
 
-// What there is for a row of many messages, and of one at most: `nones`, what it is in the view of no
-// records, and its arms.
+// What there is for a row of many messages, and of one at most: `nones`, what it is in the view of
+// no records, and its arms.
 const EACH: [Template; 5] = [
     ("declared", "    pub $field$: Vec<$of_view$<'a>>,\n"),
     ("nones", ", $field$: Vec::new(alloc)"),
