@@ -4,8 +4,8 @@ use wire_albums::{Album, AlbumView};
 use wire_codec::Message;
 use wire_views::MessageView;
 
-/// A round decodes the album that the bytes are. The answer is the sum of one, its time, and how long
-/// its strings, its bytes and its lists are.
+/// A round decodes the album that the bytes are. The answer is the sum of one, its time, and how
+/// long its title, its cover and its lists are.
 #[unsafe(no_mangle)]
 pub extern "C" fn wb_album_decode(alloc: Global, bytes: &[u8], rounds: u32) -> u64 {
     let mut sum = 0u64;

@@ -90,20 +90,27 @@ fn weights_are_those_of_the_message(rt: HostRuntime) {
     }
 }
 
-// Records of `sfixed64`, one packed list of the number 1.
-const EIGHTS: [&[u8]; 8] = [
-    b"",
-    b"\x0a\x08\x01\0\0\0\0\0\0\x80",
-    b"\x0a\x10\x01\0\0\0\0\0\0\0\xff\xff\xff\xff\xff\xff\xff\xff",
-    b"\x0a\x08\x01\0\0\0\0\0\0\0\x0a\x08\x02\0\0\0\0\0\0\0",
-    b"\x09\x01\0\0\0\0\0\0\0\x0a\x08\x02\0\0\0\0\0\0\0",
-    b"\x0a\x0c\x01\0\0\0\0\0\0\0\x02\0\0\0",
-    b"\x0a\x07\x01\0\0\0\0\0\0",
-    b"\x0d\x01\0\0\0",
+// Records of `sfixed64`, one packed list of the number 1, and whether they stay where they stand.
+const EIGHTS: [(&[u8], bool); 9] = [
+    (b"", true),
+    (b"\x0a\x08\x01\0\0\0\0\0\0\x80", true),
+    (
+        b"\x0a\x10\x01\0\0\0\0\0\0\0\xff\xff\xff\xff\xff\xff\xff\xff",
+        true,
+    ),
+    (
+        b"\x0a\x08\x01\0\0\0\0\0\0\0\x0a\x08\x02\0\0\0\0\0\0\0",
+        false,
+    ),
+    (b"\x09\x01\0\0\0\0\0\0\0\x0a\x08\x02\0\0\0\0\0\0\0", false),
+    (b"\x09\x01\0\0\0\0\0\0\0", false),
+    (b"\x0a\x0c\x01\0\0\0\0\0\0\0\x02\0\0\0", true),
+    (b"\x0a\x07\x01\0\0\0\0\0\0", true),
+    (b"\x0d\x01\0\0\0", true),
 ];
 
 // The numbers of records, as a kind of field of a view reads them.
-fn in_view<'a>(alloc: Global, bytes: &'a [u8]) -> Result<Vec<i64>, DecodeError> {
+fn in_view<'a>(alloc: Global, bytes: &'a [u8]) -> Result<FixedList<'a, Sfixed64>, DecodeError> {
     let mut context = DecodeContext::new(100, 100);
     let mut buf = bytes;
     let mut held = FixedIn::<'a, Sfixed64>::empty(alloc);
@@ -114,7 +121,7 @@ fn in_view<'a>(alloc: Global, bytes: &'a [u8]) -> Result<Vec<i64>, DecodeError> 
         let tag = Tag::decode(&mut buf)?;
         FixedIn::<'a, Sfixed64>::merge(alloc, tag, &mut held, &mut buf, &mut context)?;
     }
-    FixedIn::<'a, Sfixed64>::own(alloc, &held)
+    Ok(held)
 }
 
 // The same as a kind of field of a message does.
@@ -132,13 +139,40 @@ fn in_message(alloc: Global, bytes: &[u8]) -> Result<Vec<i64>, DecodeError> {
     Ok(held)
 }
 
+// What is found of a row.
+fn eights_of(alloc: Global, bytes: &[u8], in_place: bool) -> Found {
+    match (&in_view(alloc, bytes), &in_message(alloc, bytes)) {
+        (Err(DecodeError::OutOfMemory), _) | (_, Err(DecodeError::OutOfMemory)) => {
+            Found::OutOfMemory
+        }
+        (Ok(list), Ok(wanted)) => owned(alloc, list, wanted, in_place),
+        (Err(error), Err(other)) if error == other => Found::Own,
+        _ => Found::Other,
+    }
+}
+
+// The same of a list where it is to have these numbers, and to stay in place or not.
+fn owned(
+    alloc: Global,
+    list: &FixedList<'_, Sfixed64>,
+    wanted: &Vec<i64>,
+    in_place: bool,
+) -> Found {
+    let stays = match list {
+        FixedList::InPlace(_) => true,
+        FixedList::Listed(_) => false,
+    };
+    match &list.to_vec(alloc) {
+        Ok(copy) if copy == wanted && stays == in_place => Found::Own,
+        Ok(_) => Found::Other,
+        Err(_) => Found::OutOfMemory,
+    }
+}
+
 #[test]
 fn numbers_of_eight_bytes_are_those_of_the_message(rt: HostRuntime) {
-    for (place, bytes) in EIGHTS.iter().enumerate() {
-        let view = in_view(rt.alloc(), bytes);
-        let message = in_message(rt.alloc(), bytes);
-        if view != Err(DecodeError::OutOfMemory) && message != Err(DecodeError::OutOfMemory) {
-            assert_eq!(rt; view, message, "{place}");
-        }
+    for (place, (bytes, in_place)) in EIGHTS.iter().enumerate() {
+        let found = eights_of(rt.alloc(), bytes, *in_place);
+        assert_eq!(rt; found, Found::Own, "{place}");
     }
 }

@@ -1,6 +1,7 @@
 //! What is written of views, beside what is written of the messages of the same bytes. A test that
 //! is refused a request for memory finds `OutOfMemory`.
-use crate::tests::{Found, PARCELS, RACKS, ROWS, Row};
+use crate::closed::RACKS;
+use crate::tests::{Found, PARCELS, ROWS, Row};
 use std::alloc::Global;
 use wire_albums::{Album, AlbumView, Parcel, ParcelView, Rack, RackView};
 use wire_codec::{EncodeError, Message, Room};
