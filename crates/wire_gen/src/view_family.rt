@@ -1,6 +1,6 @@
 //! The code of views that hold one another: the enum of all of them passes on what is asked, and
 //! the messages are made of them.
-use crate::view_owned::put_owned;
+use crate::view_owned::{put_owned, tell_held};
 use wire_definitions::{code_imports, ghost_imports, set_heading};
 use wire_schema::{Field, GenerateError, Template, Words};
 
@@ -128,16 +128,22 @@ const OF_MEMBER: [Template; 9] = [
 pub(crate) fn family_view_code(
     base: &Words,
     members: &[Words],
-    fields: &[&[Field]],
+    fields: &[Vec<Field>],
 ) -> Result<String, GenerateError> {
     let mut page = Words::like(base);
     page.append("uses", USES);
-    for (member, own) in members.iter().zip(fields.iter()) {
+    page.fill_all(&[("each_of", ""), ("once_of", "")]);
+    for own in fields {
+        tell_held(&mut page, own);
+    }
+    for (place, member) in members.iter().enumerate() {
         page.copy(member, &["name", "module", "view_name", "view_module"]);
         let is_first = page.get("listed").is_empty();
         page.set("and", if is_first { "" } else { ", " });
         page.append_all(&OF_MEMBER);
-        put_owned(&mut page, own, fields);
+        if let Some(own) = fields.get(place) {
+            put_owned(&mut page, own);
+        }
     }
     use_kinds(&mut page);
     code_imports(&mut page);

@@ -3,7 +3,7 @@ use crate::answers::view_leaf_answers_of;
 use crate::family::set_family;
 use crate::package::Package;
 use crate::view_family::{MEMBER_MERGE, family_view_code, view_leaf_answers};
-use crate::view_owned::put_owned;
+use crate::view_owned::{put_owned, tell_held};
 use crate::view_recursive::recursive_view_of;
 use crate::view_row_answers::{begin_owned, owned_answers, put_owned_answers, view_push_answers};
 use wire_definitions::{Tree, has_view, leaf_tree, set_leaf};
@@ -54,7 +54,9 @@ impl Package {
             begin_owned(&mut own, "$view_module$");
             put_owned_answers(&mut own, fields);
             self.add_owned(&mut own)?;
-            put_owned(&mut page, fields, &[fields]);
+            page.fill_all(&[("each_of", ""), ("once_of", "")]);
+            tell_held(&mut page, fields);
+            put_owned(&mut page, fields);
             page.append("uses", "$kinds_code$");
         }
         let code = recursive_view_of(&page, schema, fields)?;
@@ -111,14 +113,10 @@ impl Package {
             all.push(fields)?;
         }
         self.add_owned(&mut own)?;
-        let mut fields = Vec::new(page.alloc());
-        for own in &all {
-            fields.push(own.as_slice())?;
-        }
         let mut page = Words::like(page);
         page.fill_all(&[("uses", ""), ("head_ghosts", ""), ("all_owned", "")]);
         page.fill("kinds_code", "");
-        let code = family_view_code(&page, members, &fields)?;
+        let code = family_view_code(&page, members, &all)?;
         self.roots.copy(&page, &["family_view_module"]);
         self.roots.append("modules", "mod $family_view_module$\n");
         self.add(&mut page, "src/$family_view_module$.rt", code)?;

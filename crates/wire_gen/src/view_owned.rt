@@ -99,9 +99,24 @@ const OF_ONCE: Template = (
     "    let own_$field$ = owned_once_$of_module$(alloc, &view.$field$)?;\n",
 );
 
+/// Tells the page of which types the rows among these fields hold messages: many, the word `each_of`,
+/// and one at most, `once_of`.
+pub(crate) fn tell_held(page: &mut Words, fields: &[Field]) {
+    for field in fields {
+        if is_row(field) {
+            page.copy(&field.words, &["of_name"]);
+            if field.words.get("kind").starts_with("Each") {
+                page.append("each_of", " $of_name$ ");
+            } else {
+                page.append("once_of", " $of_name$ ");
+            }
+        }
+    }
+}
+
 /// Puts how the message of these fields is made of its view behind the word `all_owned`, and what
-/// this brings in; `all` are the fields of all types of its family.
-pub(crate) fn put_owned(page: &mut Words, fields: &[Field], all: &[&[Field]]) {
+/// this brings in; the page is told of all of its family which types are held.
+pub(crate) fn put_owned(page: &mut Words, fields: &[Field]) {
     let is_member = !page.get("family_name").is_empty();
     page.fill("home", if is_member { "$family_name$" } else { "$name$" });
     page.set("seen_from", if is_member { "pub(crate) " } else { "" });
@@ -124,25 +139,17 @@ pub(crate) fn put_owned(page: &mut Words, fields: &[Field], all: &[&[Field]]) {
     page.append("head_ghosts", GHOSTS);
     fill_line(page, &OWN_HEAD);
     page.append("all_owned", OWNED);
-    if is_held(page, all, true) {
+    page.fill("this", " $name$ ");
+    if page.get("each_of").contains(page.get("this")) {
         fill_line(page, &EACH_HEAD);
         page.append("all_owned", OWNED_EACH);
         page.append("head_ghosts", "Rattle.std.specs.Prelude map\n");
     }
-    if is_held(page, all, false) {
+    if page.get("once_of").contains(page.get("this")) {
         page.append("all_owned", OWNED_ONCE);
         page.append(
             "head_ghosts",
             "Rattle.std.specs.Prelude map\nRattle.wire_fields.specs.Nest boxed_row\n",
         );
     }
-}
-
-// Whether a row holds messages of the type of this page: many, or one at most.
-fn is_held(page: &Words, all: &[&[Field]], many: bool) -> bool {
-    let mut rows = all.iter().flat_map(|it| it.iter());
-    rows.any(|it| {
-        let is_each = it.words.get("kind").starts_with("Each");
-        is_row(it) && is_each == many && it.words.get("of_name") == page.get("name")
-    })
 }
