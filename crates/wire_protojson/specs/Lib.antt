@@ -1,15 +1,9 @@
-pub mod Boxes
 pub mod Decided
 pub mod DecidedScalars
 pub mod Enums
-pub mod Fields
 pub mod Laws
-pub mod Lists
-pub mod Messages
 pub mod Numbers
-pub mod Sample
 pub mod Scalars
 pub mod Tokens
 pub mod Trees
-pub mod Objects
 pub mod Reads

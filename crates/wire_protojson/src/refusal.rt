@@ -77,8 +77,8 @@ impl From<JsonError> for ReadError {
     }
 }
 
-// The fault of a text that is no JSON.
-pub(crate) fn no_json(fault: Fault) -> ReadError
+/// The refusal of a text that is no JSON, at the byte of the fault.
+pub fn no_json(fault: Fault) -> ReadError
     ensures { result ≡ ReadError.Refused (record { reason = NoJson fault.kind; at = fault.at }) }
 {
     ReadError::Refused(Refusal {
@@ -87,8 +87,8 @@ pub(crate) fn no_json(fault: Fault) -> ReadError
     })
 }
 
-// What is refused where its JSON begins.
-pub(crate) fn no_value(at: usize) -> ReadError
+/// The refusal of a value of JSON, at the byte where it begins.
+pub fn no_value(at: usize) -> ReadError
     ensures { result ≡ ReadError.Refused (record { reason = NoValue; at = at }) }
 {
     ReadError::Refused(Refusal {

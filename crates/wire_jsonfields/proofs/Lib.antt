@@ -1,0 +1,11 @@
+pub mod FieldReads
+pub mod Finding
+pub mod Gathering
+pub mod Knowing
+pub mod ListPuts
+pub mod Listing
+pub mod Membering
+pub mod MessageBack
+pub mod MessageReads
+pub mod ObjectReads
+pub mod SampleBack

@@ -1,0 +1,142 @@
+-- The text of members, field by field.
+use Rattle.std.proofs.Common.{◌≡◌, ◌≢◌, ℕ, Bool, true, false, ◌&&◌, List, [], ◌∷◌, ◌++◌, Result, Ok, Err, inl, inr, refl, sym, ap, ◌∙◌, append_assoc, append-nil}
+use Rattle.std.specs.Prelude.{OnOk}
+use Rattle.wire_json.specs.Json.{Json, object, Members, no_member, member}
+use Rattle.wire_json.specs.Written.{written, written_name, written_members, written_more_members}
+use Rattle.wire_jsonfields.specs.Messages.{IsFieldTree, IsObjectTree, is_no_member, members_joined, text_behind, text_of_members}
+
+behind_joined : (ms others : Members)
+    → text_behind (members_joined ms others) ≡ text_behind ms ++ text_behind others
+behind_joined no_member others = refl
+behind_joined (member n e ms) others =
+    ap (λ (l : List ℕ). 44 ∷ (written_name n ++ (written e ++ l))) (behind_joined ms others)
+    ∙ ap (λ (l : List ℕ). 44 ∷ (written_name n ++ l))
+    (sym (append_assoc (written e) (text_behind ms) (text_behind others)))
+    ∙ ap (λ (l : List ℕ). 44 ∷ l)
+    (sym (append_assoc (written_name n) (written e ++ text_behind ms) (text_behind others)))
+
+text_joined : (ms others : Members) → text_of_members true (members_joined ms others)
+    ≡ text_of_members true ms ++ text_of_members (is_no_member ms) others
+text_joined no_member others = refl
+text_joined (member n e ms) others =
+    ap (λ (l : List ℕ). written_name n ++ (written e ++ l)) (behind_joined ms others)
+    ∙ ap (λ (l : List ℕ). written_name n ++ l)
+    (sym (append_assoc (written e) (text_behind ms) (text_behind others)))
+    ∙ sym (append_assoc (written_name n) (written e ++ text_behind ms) (text_behind others))
+
+empty_joined : (ms others : Members)
+    → is_no_member (members_joined ms others) ≡ (is_no_member ms && is_no_member others)
+empty_joined no_member others = refl
+empty_joined (member n e ms) others = refl
+
+more_closed : (ms : Members) → written_more_members ms ≡ text_behind ms ++ 125 ∷ []
+more_closed no_member = refl
+more_closed (member n e ms) =
+    ap (λ (l : List ℕ). 44 ∷ (written_name n ++ (written e ++ l))) (more_closed ms)
+    ∙ ap (λ (l : List ℕ). 44 ∷ (written_name n ++ l))
+    (sym (append_assoc (written e) (text_behind ms) (125 ∷ [])))
+    ∙ ap (λ (l : List ℕ). 44 ∷ l)
+    (sym (append_assoc (written_name n) (written e ++ text_behind ms) (125 ∷ [])))
+
+closed : (ms : Members) → written_members ms ≡ text_of_members true ms ++ 125 ∷ []
+closed no_member = refl
+closed (member n e ms) =
+    ap (λ (l : List ℕ). written_name n ++ (written e ++ l)) (more_closed ms)
+    ∙ ap (λ (l : List ℕ). written_name n ++ l)
+    (sym (append_assoc (written e) (text_behind ms) (125 ∷ [])))
+    ∙ sym (append_assoc (written_name n) (written e ++ text_behind ms) (125 ∷ []))
+
+-- ---- a message
+
+-- the front of an object of these members was put behind what there was
+pub record Begun (old out : List ℕ) (first : Bool) (ms : Members) : Type 0 where
+  pub text : out ≡ old ++ (123 ∷ text_of_members true ms)
+  pub none : first ≡ is_no_member ms
+
+pub begun : (old out : List ℕ) → out ≡ old ++ 123 ∷ [] → Begun old out true no_member
+begun old out put = record { text = put; none = refl }
+
+pub with_field : (old out : List ℕ) (first : Bool) (ms : Members) (new : List ℕ) (next : Bool)
+    (field : Members) → Begun old out first ms → new ≡ out ++ text_of_members first field
+    → next ≡ (first && is_no_member field) → Begun old new next (members_joined ms field)
+with_field old out first ms new next field s put is = record {
+  text = put ∙ ap (λ (l : List ℕ). l ++ text_of_members first field) s.text
+      ∙ append_assoc old (123 ∷ text_of_members true ms) (text_of_members first field)
+      ∙ ap (λ (b : Bool). old ++ (123 ∷ (text_of_members true ms ++ text_of_members b field))) s.none
+      ∙ ap (λ (l : List ℕ). old ++ (123 ∷ l)) (sym (text_joined ms field));
+  none = is ∙ ap (λ (b : Bool). b && is_no_member field) s.none ∙ sym (empty_joined ms field);
+}
+
+ended : (old out : List ℕ) (first : Bool) (ms : Members) (new : List ℕ) → Begun old out first ms
+    → new ≡ out ++ 125 ∷ [] → new ≡ old ++ written (object ms)
+ended old out first ms new s put =
+    put ∙ ap (λ (l : List ℕ). l ++ 125 ∷ []) s.text
+    ∙ append_assoc old (123 ∷ text_of_members true ms) (125 ∷ [])
+    ∙ ap (λ (l : List ℕ). old ++ (123 ∷ l)) (sym (closed ms))
+
+pub written_whole : {V : Type 0} (Trees : V → Members → Type 0) (v : V) (old out : List ℕ)
+    (first : Bool) (ms : Members) → Begun old out first ms → Trees v ms → {T E : Type 0}
+    (r : Result T E) (new : List ℕ) → OnOk r (new ≡ out ++ 125 ∷ [])
+    → OnOk r ((json : Json) × IsObjectTree Trees v json × (new ≡ old ++ written json))
+written_whole Trees v old out first ms s trees (Ok x) new put =
+    (object ms, (ms, trees, refl), ended old out first ms new s put)
+written_whole Trees v old out first ms s trees (Err e) new put = tt
+
+-- ---- a field
+
+none_text : (first : Bool) → text_of_members first no_member ≡ []
+none_text true = refl
+none_text false = refl
+
+still : (first : Bool) → first ≡ (first && true)
+still true = refl
+still false = refl
+
+not_first : (first : Bool) → false ≡ (first && false)
+not_first true = refl
+not_first false = refl
+
+module _ {V : Type 0} (absent : V) (Tree : V → Json → Type 0) (name : List ℕ) (v : V) where
+  pub field_absent : (first : Bool) (items : List ℕ) → v ≡ absent
+      → (ms : Members) × IsFieldTree absent Tree name v ms
+      × (items ≡ items ++ text_of_members first ms) × (first ≡ (first && is_no_member ms))
+  field_absent first items is = (
+    no_member,
+    inl (is, refl),
+    sym (append-nil items) ∙ ap (λ (l : List ℕ). items ++ l) (sym (none_text first)),
+    still first,
+  )
+
+  member_text : (old : List ℕ) (e : Json) → ((old ++ written_name name) ++ written e)
+      ≡ old ++ (written_name name ++ (written e ++ []))
+  member_text old e =
+      append_assoc old (written_name name) (written e)
+      ∙ ap (λ (l : List ℕ). old ++ (written_name name ++ l)) (sym (append-nil (written e)))
+
+  module _ (old mid named new : List ℕ) (e : Json) (tree : Tree v e) (other : v ≢ absent)
+      (naming : named ≡ mid ++ written_name name) (put : new ≡ named ++ written e) where
+    all : new ≡ mid ++ (written_name name ++ (written e ++ []))
+    all = put ∙ ap (λ (l : List ℕ). l ++ written e) naming ∙ member_text mid e
+
+    pub field_first : (first : Bool) → first ≡ true → mid ≡ old
+        → (ms : Members) × IsFieldTree absent Tree name v ms
+        × (new ≡ old ++ text_of_members first ms) × (false ≡ (first && is_no_member ms))
+    field_first true is same = (
+      member name e no_member,
+      inr (other, (e, tree, refl)),
+      all ∙ ap (λ (l : List ℕ). l ++ (written_name name ++ (written e ++ []))) same,
+      refl,
+    )
+    field_first false is same = absurd cc
+
+    pub field_behind : (first : Bool) → first ≡ false → mid ≡ old ++ 44 ∷ []
+        → (ms : Members) × IsFieldTree absent Tree name v ms
+        × (new ≡ old ++ text_of_members first ms) × (false ≡ (first && is_no_member ms))
+    field_behind true is comma = absurd cc
+    field_behind false is comma = (
+      member name e no_member,
+      inr (other, (e, tree, refl)),
+      all ∙ ap (λ (l : List ℕ). l ++ (written_name name ++ (written e ++ []))) comma
+          ∙ append_assoc old (44 ∷ []) (written_name name ++ (written e ++ [])),
+      refl,
+    )

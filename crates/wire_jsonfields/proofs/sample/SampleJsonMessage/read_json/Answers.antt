@@ -1,0 +1,81 @@
+use Rattle.std.proofs.Common.{drop}
+use Rattle.std.proofs.lemmas.Result.{err_from_is_err_and}
+use Rattle.wire_json.specs.Json.{object}
+use Rattle.wire_jsonfields.specs.Sample.{sample-says}
+use Rattle.wire_jsonfields.proofs.MessageReads.{in_slice, no_object, none_said}
+use Rattle.wire_jsonfields.proofs.sample.SampleJsonMessage.read_json.Goals as goal
+
+pub returns-in_err-object-clause-err : goal.returns-in_err-object-clause-err
+returns-in_err-object-clause-err c =
+    let p = err_from_is_err_and c.from_residual.result c.from_residual.ensures.1 in
+    let text = c.args.text.now in
+    rw (p.1, p.2) (no_object sample-says c.args.levels (drop c.args.at text) text
+    c.in_err-object.field-0.0 c.in_err-object.ensures.err)
+
+pub returns-in_err-check_names-clause-err : goal.returns-in_err-check_names-clause-err
+returns-in_err-check_names-clause-err c =
+    let r = c.from_residual-in_err-check_names in
+    let p = err_from_is_err_and r.result r.ensures.1 in
+    let text = c.args.text.now in
+    let read = c.in_ok-object.object in
+    let (ms, reads, fits, are) = c.in_ok-object.ensures.ok in
+    let entries = in_slice text ms c.as_slice-entries.result.now read.entries.items
+    c.as_slice-entries.ensures.value are in
+    rw (p.1, p.2) (λ other. none_said sample-says c.args.levels (drop c.args.at text) ms
+    (drop read.after text) reads
+    (λ v deep says. c.in_err-check_names.ensures.err text ms entries says.0))
+
+pub returns-in_err-name-clause-err : goal.returns-in_err-name-clause-err
+returns-in_err-name-clause-err c =
+    let r = c.from_residual-in_err-name in
+    let p = err_from_is_err_and r.result r.ensures.1 in
+    let text = c.args.text.now in
+    let read = c.in_ok-object.object in
+    let (ms, reads, fits, are) = c.in_ok-object.ensures.ok in
+    let entries = in_slice text ms c.as_slice-entries.result.now read.entries.items
+    c.as_slice-entries.ensures.value are in
+    rw (p.1, p.2) (λ other. none_said sample-says c.args.levels (drop c.args.at text) ms
+    (drop read.after text) reads
+    (λ v deep says. c.in_err-name.ensures.err other ms entries deep v.0 says.1))
+
+pub returns-in_err-value-clause-err : goal.returns-in_err-value-clause-err
+returns-in_err-value-clause-err c =
+    let r = c.from_residual-in_err-value in
+    let p = err_from_is_err_and r.result r.ensures.1 in
+    let text = c.args.text.now in
+    let read = c.in_ok-object.object in
+    let (ms, reads, fits, are) = c.in_ok-object.ensures.ok in
+    let entries = in_slice text ms c.as_slice-entries.result.now read.entries.items
+    c.as_slice-entries.ensures.value are in
+    rw (p.1, p.2) (λ other. none_said sample-says c.args.levels (drop c.args.at text) ms
+    (drop read.after text) reads
+    (λ v deep says. c.in_err-value.ensures.err other ms entries deep v.1 says.2))
+
+pub returns-in_err-sample_count-clause-err : goal.returns-in_err-sample_count-clause-err
+returns-in_err-sample_count-clause-err c =
+    let r = c.from_residual-in_err-sample_count in
+    let p = err_from_is_err_and r.result r.ensures.1 in
+    let text = c.args.text.now in
+    let read = c.in_ok-object.object in
+    let (ms, reads, fits, are) = c.in_ok-object.ensures.ok in
+    let entries = in_slice text ms c.as_slice-entries.result.now read.entries.items
+    c.as_slice-entries.ensures.value are in
+    rw (p.1, p.2) (λ other. none_said sample-says c.args.levels (drop c.args.at text) ms
+    (drop read.after text) reads
+    (λ v deep says. c.in_err-sample_count.ensures.err other ms entries deep v.2 says.3))
+
+pub returns-clause-ok : goal.returns-clause-ok
+returns-clause-ok c =
+    let text = c.args.text.now in
+    let (ms, reads, fits, are) = c.in_ok-object.ensures.ok in
+    let entries = in_slice text ms c.as_slice-entries.result.now c.in_ok-object.object.entries.items
+    c.as_slice-entries.ensures.value are in (
+      object ms,
+      reads,
+      (
+        c.in_ok-check_names.ensures.ok text ms entries,
+        c.in_ok-name.ensures.ok ms entries,
+        c.in_ok-value.ensures.ok ms entries,
+        c.in_ok-sample_count.ensures.ok ms entries,
+      ),
+    )

@@ -1,0 +1,266 @@
+//! Kinds of fields, by what stands for them in JSON.
+ghost use Rattle.std.specs.Prelude.{◌≡◌, ◌≢◌, ◌≤◌, ◌++◌, ◌&&◌, ℕ, List, Some, drop, IfOk, IfErr, OnOk, OnErr, MatchBool};
+ghost use Rattle.wire_json.specs.declared.kind.Kind.TheVariants as kinds;
+ghost use Rattle.wire_json.specs.Answer.{IsBehind};
+ghost use Rattle.wire_json.specs.Compact.{Extends};
+ghost use Rattle.wire_json.specs.Json.{Json, Members, members_depth};
+ghost use Rattle.wire_json.specs.Kind.{kind_begun};
+ghost use Rattle.wire_json.specs.Written.{written};
+ghost use Rattle.wire_protojson.specs.declared.refusal.ReadError.TheVariants.{OutOfMemory};
+ghost use Rattle.wire_jsonfields.specs.Fields.{FieldMeans, NothingMeant};
+ghost use Rattle.wire_protojson.specs.Laws.{IsDecided};
+ghost use Rattle.wire_jsonfields.specs.Messages.{IsFieldTree, is_no_member, text_of_members};
+ghost use Rattle.wire_jsonfields.specs.Objects.{AreEntries, IsNameOf};
+ghost use Rattle.wire_protojson.specs.Reads.{ReadsMeaning, Refuses, RefusedAt, UnlessNoMemory};
+
+use crate::find::find;
+use crate::known::FieldName;
+use crate::object::Entry;
+use std::alloc::{AllocError, Global};
+use std::marker::PhantomData;
+use wire_json::Mark;
+use wire_protojson::ReadError;
+
+/// A scalar type of which JSON has values.
+pub trait JsonScalar: Drop + Sized {
+    /// What contracts see of a value.
+    ghost Value: { Type 0 };
+
+    ghost view: { Self → Value };
+
+    /// Which trees mean which values.
+    ghost means: { Json → Value → Type 0 };
+
+    /// Which trees are written of a value.
+    ghost tree: { Value → Json → Type 0 };
+
+    ghost default: { Value };
+
+    fn default_value(alloc: Global) -> Self
+        ensures { view result ≡ default };
+
+    fn read_json(alloc: Global, text: &[u8], at: usize) -> Result<(Self, usize), ReadError>
+        ensures ok { IfOk result (λ read. ReadsMeaning means (drop at text.now)
+            (view read.0) (drop read.1 text.now)) }
+        ensures behind { IfOk result (λ read. IsBehind at read.1 text.now) }
+        ensures err { IfErr result (λ e. UnlessNoMemory e
+            (λ refusal. RefusedAt text.now refusal (Refuses means (drop at text.now)))) };
+
+    /// Whether this is the default value.
+    fn is_default(&self) -> bool
+        ensures { MatchBool result (view self.now ≡ default) (view self.now ≢ default) };
+
+    /// Writes a value. A front of it may stand in the vector where memory is refused.
+    fn write_json(&self, alloc: Global, out: &mut Vec<u8>) -> Result<(), AllocError>
+        ensures ok { OnOk result ((json : Json) × tree (view self.now) json
+            × (out.new.items ≡ out.old.items ++ written json)) }
+        ensures err { OnErr result (Extends out.old.items out.new.items) };
+
+    ghost decided: { IsDecided means };
+}
+
+/// A kind of field of which JSON has values.
+pub trait JsonKind {
+    /// What a message holds for the field.
+    type Held: Drop;
+
+    /// What contracts see of it.
+    ghost Value: { Type 0 };
+
+    ghost view: { Self.Held → Value };
+
+    /// Which trees other than `null` mean which values.
+    ghost means: { Json → Value → Type 0 };
+
+    /// Which trees are written of a value.
+    ghost tree: { Value → Json → Type 0 };
+
+    /// The value of a field that an object does not have.
+    ghost absent: { Value };
+
+    fn absent_value(alloc: Global) -> Self::Held
+        ensures { view result ≡ absent };
+
+    /// Reads a value, in which at most `levels` arrays and objects may stand in one another.
+    fn read_json(
+        alloc: Global,
+        text: &[u8],
+        at: usize,
+        levels: u32,
+    ) -> Result<(Self::Held, usize), ReadError>
+        ensures ok { IfOk result (λ read. ReadsMeaning means (drop at text.now)
+            (view read.0) (drop read.1 text.now)) }
+        ensures behind { IfOk result (λ read. IsBehind at read.1 text.now) }
+        ensures err { IfErr result (λ e. e ≢ OutOfMemory
+            → NothingMeant levels means (drop at text.now)) };
+
+    /// Whether the field is left out.
+    fn is_absent(held: &Self::Held) -> bool
+        ensures { MatchBool result (view held.now ≡ absent) (view held.now ≢ absent) };
+
+    /// Writes a value. A front of it may stand in the vector where memory is refused.
+    fn write_json(alloc: Global, out: &mut Vec<u8>, held: &Self::Held) -> Result<(), AllocError>
+        ensures ok { OnOk result ((json : Json) × tree (view held.now) json
+            × (out.new.items ≡ out.old.items ++ written json)) }
+        ensures err { OnErr result (Extends out.old.items out.new.items) };
+}
+
+/// A field that has the default value of its type where an object does not have it, as a field of
+/// proto3 with no label.
+pub struct Implicit<S: JsonScalar> {
+    scalar: PhantomData<S>,
+}
+
+impl<S: JsonScalar> JsonKind for Implicit<S> {
+    type Held = S;
+
+    ghost Value = { S.Value };
+
+    ghost view = { S.view };
+
+    ghost means = { S.means };
+
+    ghost tree = { S.tree };
+
+    ghost absent = { S.default };
+
+    fn absent_value(alloc: Global) -> S {
+        S::default_value(alloc)
+    }
+
+    fn read_json(
+        alloc: Global,
+        text: &[u8],
+        at: usize,
+        _levels: u32,
+    ) -> Result<(S, usize), ReadError> {
+        S::read_json(alloc, text, at)
+    }
+
+    fn is_absent(held: &S) -> bool {
+        held.is_default()
+    }
+
+    fn write_json(alloc: Global, out: &mut Vec<u8>, held: &S) -> Result<(), AllocError> {
+        held.write_json(alloc, out)
+    }
+}
+
+/// A field that may be absent.
+pub struct Optional<S: JsonScalar> {
+    scalar: PhantomData<S>,
+}
+
+impl<S: JsonScalar> JsonKind for Optional<S> {
+    ghost use Rattle.std.specs.Prelude.{Option, None, option_map};
+    ghost use Rattle.wire_jsonfields.specs.Fields.{IsSomeTree, MeansSome};
+
+    type Held = Option<S>;
+
+    ghost Value = { Option S.Value };
+
+    ghost view = { option_map S.view };
+
+    ghost means = { MeansSome S.means };
+
+    ghost tree = { IsSomeTree S.tree };
+
+    ghost absent = { None };
+
+    fn absent_value(_alloc: Global) -> Option<S> {
+        None
+    }
+
+    fn read_json(
+        alloc: Global,
+        text: &[u8],
+        at: usize,
+        _levels: u32,
+    ) -> Result<(Option<S>, usize), ReadError> {
+        match S::read_json(alloc, text, at) {
+            Ok((value, after)) => Ok((Some(value), after)),
+            Err(error) => Err(error),
+        }
+    }
+
+    fn is_absent(held: &Option<S>) -> bool {
+        match held {
+            Some(_) => false,
+            None => true,
+        }
+    }
+
+    fn write_json(alloc: Global, out: &mut Vec<u8>, held: &Option<S>) -> Result<(), AllocError> {
+        match held {
+            Some(value) => value.write_json(alloc, out),
+            None => wire_json::write_null(out),
+        }
+    }
+}
+
+/// Reads a field from the members of an object that was read.
+pub fn read_field<K: JsonKind>(
+    alloc: Global,
+    text: &[u8],
+    entries: &[Entry<'_>],
+    levels: u32,
+    field: &FieldName,
+) -> Result<K::Held, ReadError>
+    ensures ok { IfOk result (λ held. (ms : Members) → AreEntries text.now entries.now ms
+        → FieldMeans K.absent K.means
+        (IsNameOf field.now.name.now field.now.json_name.now) ms (K.view held)) }
+    ensures err { IfErr result (λ e. e ≢ OutOfMemory → (ms : Members)
+        → AreEntries text.now entries.now ms → members_depth ms ≤ levels
+        → (value : K.Value) → FieldMeans K.absent K.means
+        (IsNameOf field.now.name.now field.now.json_name.now) ms value → ⊥) }
+{
+    match find(entries, field.name, field.json_name) {
+        Ok(None) => Ok(K::absent_value(alloc)),
+        Ok(Some(place)) => {
+            if is_null(text, place) {
+                return Ok(K::absent_value(alloc));
+            }
+            match K::read_json(alloc, text, place, levels) {
+                Ok((held, _after)) => Ok(held),
+                Err(error) => Err(error),
+            }
+        }
+        Err(error) => Err(error),
+    }
+}
+
+/// Writes a field of an object, of which it may be the first; whether what follows is the first is
+/// answered. A front of the member may stand in the vector where memory is refused.
+pub fn write_field<K: JsonKind>(
+    alloc: Global,
+    out: &mut Vec<u8>,
+    first: bool,
+    field: &FieldName,
+    held: &K::Held,
+) -> Result<bool, AllocError>
+    ensures ok { IfOk result (λ next. (ms : Members)
+        × IsFieldTree K.absent K.tree field.now.json_name.now (K.view held.now) ms
+        × (out.new.items ≡ out.old.items ++ text_of_members first ms)
+        × (next ≡ (first && is_no_member ms))) }
+    ensures err { OnErr result (Extends out.old.items out.new.items) }
+{
+    if K::is_absent(held) {
+        return Ok(first);
+    }
+    if !first {
+        wire_json::write_mark(out, Mark::Comma)?;
+    }
+    wire_json::write_name(out, field.json_name)?;
+    K::write_json(alloc, out, held)?;
+    Ok(false)
+}
+
+fn is_null(text: &[u8], at: usize) -> bool
+    ensures { MatchBool result (kind_begun (drop at text.now) ≡ Some kinds.Null)
+        (kind_begun (drop at text.now) ≡ Some kinds.Null → ⊥) }
+{
+    match wire_json::kind_at(text, at) {
+        Some(kind) => kind == wire_json::Kind::Null,
+        None => false,
+    }
+}

@@ -1,0 +1,59 @@
+//! Names of fields.
+ghost use Rattle.std.specs.Prelude.{ℕ, List, MatchBool, OnErr, OnOk};
+ghost use Rattle.std.specs.Cow.{cow_str_bytes};
+ghost use Rattle.wire_json.specs.Json.{Members};
+ghost use Rattle.wire_jsonfields.specs.Fields.{EachKnown, IsKnown};
+ghost use Rattle.wire_jsonfields.specs.Objects.{AreEntries, IsNameOf};
+
+use crate::object::Entry;
+use wire_protojson::{ReadError, Reason, Refusal};
+
+/// The names of a field: that of the schema, and that of JSON, which is written.
+#[derive(Clone, Copy, Debug)]
+pub struct FieldName {
+    pub name: &'static str,
+    pub json_name: &'static str,
+}
+
+/// Whether each member is of a field. The value of one that is not is refused at its place.
+pub fn check_names(entries: &[Entry<'_>], fields: &[FieldName]) -> Result<(), ReadError>
+    ensures ok { OnOk result ((text : List ℕ) (ms : Members) → AreEntries text entries.now ms
+        → EachKnown (IsKnown fields.now) ms) }
+    ensures err { OnErr result ((text : List ℕ) (ms : Members) → AreEntries text entries.now ms
+        → EachKnown (IsKnown fields.now) ms → ⊥) }
+{
+    for entry in entries {
+        if !is_known(fields, entry) {
+            return Err(unknown(entry.place));
+        }
+    }
+    Ok(())
+}
+
+fn is_known(fields: &[FieldName], entry: &Entry<'_>) -> bool
+    ensures { MatchBool result (IsKnown fields.now (cow_str_bytes entry.now.name))
+        (IsKnown fields.now (cow_str_bytes entry.now.name) → ⊥) }
+{
+    for field in fields {
+        if is_of(field, entry) {
+            return true;
+        }
+    }
+    false
+}
+
+fn is_of(field: &FieldName, entry: &Entry<'_>) -> bool
+    ensures { MatchBool result
+        (IsNameOf field.now.name.now field.now.json_name.now (cow_str_bytes entry.now.name))
+        (IsNameOf field.now.name.now field.now.json_name.now (cow_str_bytes entry.now.name) → ⊥) }
+{
+    let called = entry.name.as_str();
+    called == field.name || called == field.json_name
+}
+
+fn unknown(at: usize) -> ReadError {
+    ReadError::Refused(Refusal {
+        reason: Reason::UnknownName,
+        at,
+    })
+}

@@ -1,0 +1,143 @@
+//! Messages, read from objects and from whole texts.
+ghost use Rattle.std.specs.Prelude.{◌≡◌, ◌≢◌, ◌≤◌, ◌++◌, drop, IfOk, IfErr, OnOk, OnErr};
+ghost use Rattle.wire_json.specs.Answer.{IsBehind};
+ghost use Rattle.wire_json.specs.Compact.{Extends};
+ghost use Rattle.wire_json.specs.Json.{Json, depth};
+ghost use Rattle.wire_json.specs.Reading.{Spells};
+ghost use Rattle.wire_json.specs.Written.{written};
+ghost use Rattle.wire_protojson.specs.declared.refusal.ReadError.TheVariants.{OutOfMemory};
+ghost use Rattle.wire_jsonfields.specs.Fields.{NothingMeant};
+ghost use Rattle.wire_protojson.specs.Reads.{ReadsMeaning};
+
+use crate::kind::JsonKind;
+use std::alloc::{AllocError, Global};
+use std::marker::PhantomData;
+use wire_json::{Fault, FaultKind};
+use wire_protojson::{ReadError, no_json};
+
+/// A message type of which JSON has values.
+pub trait JsonMessage: Drop + Sized {
+    /// What contracts see of a value.
+    ghost Value: { Type 0 };
+
+    ghost view: { Self → Value };
+
+    /// Which trees mean which values.
+    ghost means: { Json → Value → Type 0 };
+
+    /// Which trees are written of a value.
+    ghost tree: { Value → Json → Type 0 };
+
+    /// Reads a value, in which at most `levels` arrays and objects may stand in one another.
+    fn read_json(
+        alloc: Global,
+        text: &[u8],
+        at: usize,
+        levels: u32,
+    ) -> Result<(Self, usize), ReadError>
+        ensures ok { IfOk result (λ read. ReadsMeaning means (drop at text.now)
+            (view read.0) (drop read.1 text.now)) }
+        ensures behind { IfOk result (λ read. IsBehind at read.1 text.now) }
+        ensures err { IfErr result (λ e. e ≢ OutOfMemory
+            → NothingMeant levels means (drop at text.now)) };
+
+    /// Writes a value. A front of it may stand in the vector where memory is refused.
+    fn write_json(&self, alloc: Global, out: &mut Vec<u8>) -> Result<(), AllocError>
+        ensures ok { OnOk result ((json : Json) × tree (view self.now) json
+            × (out.new.items ≡ out.old.items ++ written json)) }
+        ensures err { OnErr result (Extends out.old.items out.new.items) };
+}
+
+/// The compact text of a message.
+pub fn to_json<M: JsonMessage>(alloc: Global, message: &M) -> Result<Vec<u8>, AllocError>
+    ensures { IfOk result (λ out. (json : Json) × M.tree (M.view message.now) json
+        × (out.items ≡ written json)) }
+{
+    let mut out = Vec::new(alloc);
+    message.write_json(alloc, &mut out)?;
+    Ok(out)
+}
+
+/// Reads a message from a whole text, with white space round it, in which at most `levels` arrays
+/// and objects stand in one another. It calls itself once for each of these.
+pub fn from_json<M: JsonMessage>(alloc: Global, text: &[u8], levels: u32) -> Result<M, ReadError>
+    ensures ok { IfOk result (λ message.
+        (json : Json) × Spells text.now json × M.means json (M.view message)) }
+    ensures err { IfErr result (λ e. e ≢ OutOfMemory → (json : Json) (value : M.Value)
+        → Spells text.now json → depth json ≤ levels → M.means json value → ⊥) }
+{
+    let at = wire_json::skip_space(text, 0);
+    match M::read_json(alloc, text, at, levels) {
+        Ok((message, after)) => {
+            let end = wire_json::skip_space(text, after);
+            if end < text.len() {
+                return Err(no_json(Fault {
+                    kind: FaultKind::Syntax,
+                    at: end,
+                }));
+            }
+            Ok(message)
+        }
+        Err(error) => Err(error),
+    }
+}
+
+/// A field of a message type, in a box where it is present.
+pub struct Embedded<M: JsonMessage> {
+    message: PhantomData<M>,
+}
+
+impl<M: JsonMessage> JsonKind for Embedded<M> {
+    ghost use Rattle.std.specs.Prelude.{Option, None};
+    ghost use Rattle.wire_jsonfields.specs.Fields.{IsSomeTree, MeansSome};
+    ghost use Rattle.wire_jsonfields.specs.Boxes.{boxed_message};
+
+    type Held = Option<Box<M>>;
+
+    ghost Value = { Option M.Value };
+
+    ghost view = { boxed_message M.view };
+
+    ghost means = { MeansSome M.means };
+
+    ghost tree = { IsSomeTree M.tree };
+
+    ghost absent = { None };
+
+    fn absent_value(_alloc: Global) -> Option<Box<M>> {
+        None
+    }
+
+    fn read_json(
+        alloc: Global,
+        text: &[u8],
+        at: usize,
+        levels: u32,
+    ) -> Result<(Option<Box<M>>, usize), ReadError> {
+        match M::read_json(alloc, text, at, levels) {
+            Ok((message, after)) => match Box::new(alloc, message) {
+                Ok(boxed) => Ok((Some(boxed), after)),
+                Err(_full) => Err(ReadError::OutOfMemory),
+            },
+            Err(error) => Err(error),
+        }
+    }
+
+    fn is_absent(held: &Option<Box<M>>) -> bool {
+        match held {
+            Some(_) => false,
+            None => true,
+        }
+    }
+
+    fn write_json(
+        alloc: Global,
+        out: &mut Vec<u8>,
+        held: &Option<Box<M>>,
+    ) -> Result<(), AllocError> {
+        match held {
+            Some(message) => message.write_json(alloc, out),
+            None => wire_json::write_null(out),
+        }
+    }
+}

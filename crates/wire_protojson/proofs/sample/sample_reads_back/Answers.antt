@@ -1,5 +1,0 @@
-use Rattle.wire_protojson.proofs.SampleBack.{sample_back}
-use Rattle.wire_protojson.proofs.sample.sample_reads_back.Goals as goal
-
-pub returns : goal.returns
-returns c = sample_back
