@@ -11,6 +11,7 @@ use Rattle.wire_protojson.specs.declared.refusal.ReadError.{ReadError}
 use Rattle.wire_protojson.specs.declared.refusal.ReadError.TheVariants.{Refused, OutOfMemory}
 use Rattle.wire_jsonfields.specs.Fields.{FieldMeans, MeansSome, MeansUnlessNull, NothingMeant, ValuesMean}
 use Rattle.wire_protojson.specs.Laws.{IsDecided}
+use Rattle.wire_jsonfields.specs.OneValues.{one_values}
 use Rattle.wire_jsonfields.specs.Objects.{AreSeveral, AreValuesOf, IsOnlyPlace}
 use Rattle.wire_protojson.specs.Reads.{ReadsMeaning, Refuses, RefusedAt, UnlessNoMemory}
 
@@ -41,16 +42,6 @@ module _ {V : Type 0} (Means : Json → V → Type 0) (text old : List ℕ) (lev
       some none json (Some v) new reads fits m = none json v new reads fits m
 
 -- ---- the values of a name
-
-one_values : (Named : List ℕ → Type 0) (ms : Members) (xs ys : List Json)
-    → AreValuesOf Named ms xs → AreValuesOf Named ms ys → xs ≡ ys
-one_values Named no_member xs ys p q = p ∙ sym q
-one_values Named (member name e ms) xs ys (inl (mine, (a, is, p))) (inl (again, (b, same, q))) =
-    is ∙ ap (λ (l : List Json). e ∷ l) (one_values Named ms a b p q) ∙ sym same
-one_values Named (member name e ms) xs ys (inl (mine, p)) (inr (other, q)) = absurd (other mine)
-one_values Named (member name e ms) xs ys (inr (other, p)) (inl (mine, q)) = absurd (other mine)
-one_values Named (member name e ms) xs ys (inr (other, p)) (inr (again, q)) =
-    one_values Named ms xs ys p q
 
 same_first : (e f : Json) (xs ys : List Json) → e ∷ xs ≡ f ∷ ys → e ≡ f
 same_first e f xs ys h = cc

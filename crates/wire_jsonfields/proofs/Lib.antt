@@ -4,6 +4,8 @@ pub mod Gathering
 pub mod Knowing
 pub mod ListPuts
 pub mod Listing
+pub mod MapPuts
+pub mod MapReads
 pub mod Membering
 pub mod MessageBack
 pub mod MessageReads

@@ -2,9 +2,16 @@
 use Rattle.std.proofs.Common.{◌≡◌, ℕ, zero, suc, ◌+◌, ◌<◌, ◌≤◌, Bool, true, false, List, [], ◌∷◌, ◌++◌, length, map, drop, slice_index_or, Result, Ok, Err, refl, sym, ap, ◌∙◌, subst, arith, append_assoc, append-nil}
 use Rattle.std.proofs.Math.Seq.{drop-cons}
 use Rattle.std.specs.Prelude.{OnOk}
+use Rattle.wire_json.specs.Compact.{Extends}
 use Rattle.wire_json.specs.Json.{Json, array, Elements, no_element, element}
 use Rattle.wire_json.specs.Written.{written, written_elements, written_more}
+use Rattle.wire_jsonfields.specs.Messages.{comma_unless}
 use Rattle.wire_jsonfields.specs.Lists.{AreTrees, IsListTree, elements_behind, elements_joined, elements_text, is_no_element}
+
+-- what extends what extends the text extends it
+pub extends_more : (old mid new : List ℕ) → Extends old mid → Extends mid new → Extends old new
+extends_more old mid new (a, is) (b, more) =
+    (a ++ b, more ∙ ap (λ (l : List ℕ). l ++ b) is ∙ append_assoc old a b)
 
 behind_more : (es : Elements) (e : Json) → elements_behind (elements_joined es (element e no_element))
     ≡ elements_behind es ++ (44 ∷ (written e ++ []))
@@ -95,7 +102,7 @@ module _ {V : Type 0} (Tree : V → Json → Type 0) (all : List V) (old : List 
       none = not_empty s.es e;
     }
 
-    pub put_first : first ≡ true → mid ≡ out → ListPut Tree all left old new false
+    put_first : first ≡ true → mid ≡ out → ListPut Tree all left old new false
     unfolding grown
     put_first is same =
         let none = sym s.none ∙ is in
@@ -105,7 +112,7 @@ module _ {V : Type 0} (Tree : V → Json → Type 0) (all : List V) (old : List 
         ∙ ap (λ (l : List ℕ). old ++ (91 ∷ l))
         (sym (append-nil (written e)) ∙ sym (text_one s.es e none)))
 
-    pub put_next : first ≡ false → mid ≡ out ++ 44 ∷ [] → ListPut Tree all left old new false
+    put_next : first ≡ false → mid ≡ out ++ 44 ∷ [] → ListPut Tree all left old new false
     unfolding grown
     put_next is comma =
         let some = sym s.none ∙ is in
@@ -116,6 +123,11 @@ module _ {V : Type 0} (Tree : V → Json → Type 0) (all : List V) (old : List 
         ∙ ap (λ (l : List ℕ). old ++ (91 ∷ (elements_text s.es ++ (44 ∷ l))))
         (sym (append-nil (written e)))
         ∙ ap (λ (l : List ℕ). old ++ (91 ∷ l)) (sym (text_more s.es e some)))
+
+    pub put_one : (b : Bool) → first ≡ b → mid ≡ out ++ comma_unless b
+        → ListPut Tree all left old new false
+    put_one true is comma = put_first is (comma ∙ append-nil out)
+    put_one false is comma = put_next is comma
 
   list_ended : (out : List ℕ) (first : Bool) (new : List ℕ) → ListPut Tree all [] old out first
       → new ≡ out ++ 93 ∷ []

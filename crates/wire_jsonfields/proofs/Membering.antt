@@ -3,7 +3,7 @@ use Rattle.std.proofs.Common.{◌≡◌, ◌≢◌, ℕ, Bool, true, false, ◌&
 use Rattle.std.specs.Prelude.{OnOk}
 use Rattle.wire_json.specs.Json.{Json, object, Members, no_member, member}
 use Rattle.wire_json.specs.Written.{written, written_name, written_members, written_more_members}
-use Rattle.wire_jsonfields.specs.Messages.{IsFieldTree, IsObjectTree, is_no_member, members_joined, text_behind, text_of_members}
+use Rattle.wire_jsonfields.specs.Messages.{IsFieldTree, IsObjectTree, comma_unless, is_no_member, members_joined, text_behind, text_of_members}
 
 behind_joined : (ms others : Members)
     → text_behind (members_joined ms others) ≡ text_behind ms ++ text_behind others
@@ -92,7 +92,7 @@ still : (first : Bool) → first ≡ (first && true)
 still true = refl
 still false = refl
 
-not_first : (first : Bool) → false ≡ (first && false)
+pub not_first : (first : Bool) → false ≡ (first && false)
 not_first true = refl
 not_first false = refl
 
@@ -107,36 +107,39 @@ module _ {V : Type 0} (absent : V) (Tree : V → Json → Type 0) (name : List �
     still first,
   )
 
-  member_text : (old : List ℕ) (e : Json) → ((old ++ written_name name) ++ written e)
-      ≡ old ++ (written_name name ++ (written e ++ []))
-  member_text old e =
-      append_assoc old (written_name name) (written e)
-      ∙ ap (λ (l : List ℕ). old ++ (written_name name ++ l)) (sym (append-nil (written e)))
+  -- a field with its member
+  pub field_present : (first : Bool) (old new : List ℕ) → v ≢ absent
+      → (e : Json) × Tree v e × (new ≡ old ++ text_of_members first (member name e no_member))
+      → (ms : Members) × IsFieldTree absent Tree name v ms
+      × (new ≡ old ++ text_of_members first ms) × (false ≡ (first && is_no_member ms))
+  field_present first old new other (e, tree, put) =
+      (member name e no_member, inr (other, (e, tree, refl)), put, not_first first)
 
-  module _ (old mid named new : List ℕ) (e : Json) (tree : Tree v e) (other : v ≢ absent)
-      (naming : named ≡ mid ++ written_name name) (put : new ≡ named ++ written e) where
-    all : new ≡ mid ++ (written_name name ++ (written e ++ []))
-    all = put ∙ ap (λ (l : List ℕ). l ++ written e) naming ∙ member_text mid e
+one_text : (first : Bool) (name : List ℕ) (e : Json)
+    → text_of_members first (member name e no_member)
+    ≡ comma_unless first ++ (written_name name ++ (written e ++ []))
+one_text true name e = refl
+one_text false name e = refl
 
-    pub field_first : (first : Bool) → first ≡ true → mid ≡ old
-        → (ms : Members) × IsFieldTree absent Tree name v ms
-        × (new ≡ old ++ text_of_members first ms) × (false ≡ (first && is_no_member ms))
-    field_first true is same = (
-      member name e no_member,
-      inr (other, (e, tree, refl)),
-      all ∙ ap (λ (l : List ℕ). l ++ (written_name name ++ (written e ++ []))) same,
-      refl,
-    )
-    field_first false is same = absurd cc
+-- the text of a member, piece by piece
+pub member_text : (first : Bool) (name : List ℕ) (e : Json) (old mid named new : List ℕ)
+    → mid ≡ old ++ comma_unless first → named ≡ mid ++ written_name name
+    → new ≡ named ++ written e
+    → new ≡ old ++ text_of_members first (member name e no_member)
+member_text first name e old mid named new comma naming put =
+    put ∙ ap (λ (l : List ℕ). l ++ written e) naming
+    ∙ append_assoc mid (written_name name) (written e)
+    ∙ ap (λ (l : List ℕ). mid ++ (written_name name ++ l)) (sym (append-nil (written e)))
+    ∙ ap (λ (l : List ℕ). l ++ (written_name name ++ (written e ++ []))) comma
+    ∙ append_assoc old (comma_unless first) (written_name name ++ (written e ++ []))
+    ∙ ap (λ (l : List ℕ). old ++ l) (sym (one_text first name e))
 
-    pub field_behind : (first : Bool) → first ≡ false → mid ≡ old ++ 44 ∷ []
-        → (ms : Members) × IsFieldTree absent Tree name v ms
-        × (new ≡ old ++ text_of_members first ms) × (false ≡ (first && is_no_member ms))
-    field_behind true is comma = absurd cc
-    field_behind false is comma = (
-      member name e no_member,
-      inr (other, (e, tree, refl)),
-      all ∙ ap (λ (l : List ℕ). l ++ (written_name name ++ (written e ++ []))) comma
-          ∙ append_assoc old (44 ∷ []) (written_name name ++ (written e ++ [])),
-      refl,
-    )
+pub member_put : {V : Type 0} (Tree : V → Json → Type 0) (v : V) (first : Bool) (name : List ℕ)
+    (old mid named : List ℕ) → mid ≡ old ++ comma_unless first
+    → named ≡ mid ++ written_name name → {T E : Type 0} (r : Result T E) (new : List ℕ)
+    → OnOk r ((e : Json) × Tree v e × (new ≡ named ++ written e))
+    → OnOk r ((e : Json) × Tree v e
+    × (new ≡ old ++ text_of_members first (member name e no_member)))
+member_put Tree v first name old mid named comma naming (Ok x) new (e, tree, put) =
+    (e, tree, member_text first name e old mid named new comma naming put)
+member_put Tree v first name old mid named comma naming (Err x) new h = tt

@@ -1,6 +1,10 @@
 pub mod Boxes
+pub mod EnumFields
 pub mod Fields
+pub mod Keys
 pub mod Lists
+pub mod Maps
 pub mod Messages
 pub mod Objects
+pub mod OneValues
 pub mod Sample

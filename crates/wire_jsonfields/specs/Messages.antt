@@ -28,6 +28,11 @@ abbrev pub text_behind : Members → List ℕ
 text_behind no_member = []
 text_behind (member name e ms) = 44 ∷ (written_name name ++ (written e ++ text_behind ms))
 
+-- what stands before a member or an element
+abbrev pub comma_unless : Bool → List ℕ
+comma_unless true = []
+comma_unless false = 44 ∷ []
+
 -- the text of members, which may be the first of their object
 abbrev pub text_of_members : Bool → Members → List ℕ
 text_of_members false ms = text_behind ms

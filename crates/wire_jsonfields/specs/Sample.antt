@@ -9,11 +9,16 @@ use Rattle.wire_protojson.specs.Laws.{IsReadAs}
 use Rattle.wire_jsonfields.specs.Messages.{IsFieldTree, IsObjectTree, ObjectMeans, members_joined}
 use Rattle.wire_protojson.specs.Numbers.{MeansFloat, MeansSigned}
 use Rattle.wire_jsonfields.specs.Objects.{IsNameOf}
+use Rattle.wire_jsonfields.specs.OneValues.{SayOne, one_field, one_some}
+use Rattle.wire_protojson.specs.DecidedScalars.{floats_decided, signed_decided, strings_decided}
 use Rattle.wire_protojson.specs.Scalars.{MeansString}
 use Rattle.wire_protojson.specs.Trees.{IsFloatTree, long_signed_tree}
 
 abbrev pub Sample-Value : Type 0
 Sample-Value = (List ℕ) × Float × Option ℤ
+
+abbrev pub sample-default : Sample-Value
+sample-default = ([], float_zero, None)
 
 abbrev pub sample-value : Sample → Sample-Value
 sample-value m = (string_bytes m.name, m.value, option_map (λ v. v) m.sample_count)
@@ -34,6 +39,17 @@ sample-says ms v =
     × FieldMeans [] MeansString IsOfName ms v.0
     × FieldMeans float_zero (MeansFloat binary64) IsOfValue ms v.1
     × FieldMeans None (MeansSome (MeansSigned w64)) IsOfCount ms v.2
+
+pub one_sample : SayOne sample-says
+one_sample ms v w p q =
+    same_sample v w (one_field [] MeansString strings_decided.one_meaning IsOfName ms v.0 w.0 p.1 q.1)
+    (one_field float_zero (MeansFloat binary64) (floats_decided binary64).one_meaning IsOfValue ms
+    v.1 w.1 p.2 q.2)
+    (one_field None (MeansSome (MeansSigned w64))
+    (one_some (MeansSigned w64) (signed_decided w64).one_meaning) IsOfCount ms v.2 w.2 p.3 q.3)
+  where
+    same_sample : (x y : Sample-Value) → x.0 ≡ y.0 → x.1 ≡ y.1 → x.2 ≡ y.2 → x ≡ y
+    same_sample (a, b, c) (d, e, f) g h i = cc
 
 -- the same of what is written
 abbrev pub sample-trees : Sample-Value → Members → Type 0

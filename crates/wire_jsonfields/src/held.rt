@@ -17,6 +17,8 @@ impl JsonScalar for i32 {
     ghost use Rattle.wire_protojson.specs.Numbers.{MeansSigned};
     ghost use Rattle.wire_protojson.specs.DecidedScalars.{signed_decided};
 
+    type Held = i32;
+
     ghost Value = { ℤ };
 
     ghost view = { λ v. v };
@@ -37,12 +39,12 @@ impl JsonScalar for i32 {
         read_int32(alloc, text, at)
     }
 
-    fn is_default(&self) -> bool {
-        *self == 0
+    fn is_default(held: &i32) -> bool {
+        *held == 0
     }
 
-    fn write_json(&self, _alloc: Global, out: &mut Vec<u8>) -> Result<(), AllocError> {
-        write_int32(out, *self)
+    fn write_json(_alloc: Global, out: &mut Vec<u8>, held: &i32) -> Result<(), AllocError> {
+        write_int32(out, *held)
     }
 }
 
@@ -52,6 +54,8 @@ impl JsonScalar for i64 {
     ghost use Rattle.std.specs.Int.{w64};
     ghost use Rattle.wire_protojson.specs.Numbers.{MeansSigned};
     ghost use Rattle.wire_protojson.specs.DecidedScalars.{signed_decided};
+
+    type Held = i64;
 
     ghost Value = { ℤ };
 
@@ -73,12 +77,12 @@ impl JsonScalar for i64 {
         read_int64(alloc, text, at)
     }
 
-    fn is_default(&self) -> bool {
-        *self == 0
+    fn is_default(held: &i64) -> bool {
+        *held == 0
     }
 
-    fn write_json(&self, _alloc: Global, out: &mut Vec<u8>) -> Result<(), AllocError> {
-        write_int64(out, *self)
+    fn write_json(_alloc: Global, out: &mut Vec<u8>, held: &i64) -> Result<(), AllocError> {
+        write_int64(out, *held)
     }
 }
 
@@ -87,6 +91,8 @@ impl JsonScalar for u32 {
     ghost use Rattle.std.specs.Prelude.{◌≡◌, ℕ};
     ghost use Rattle.wire_protojson.specs.Numbers.{MeansUnsigned};
     ghost use Rattle.wire_protojson.specs.DecidedScalars.{unsigned_decided};
+
+    type Held = u32;
 
     ghost Value = { ℕ };
 
@@ -108,12 +114,12 @@ impl JsonScalar for u32 {
         read_uint32(alloc, text, at)
     }
 
-    fn is_default(&self) -> bool {
-        *self == 0
+    fn is_default(held: &u32) -> bool {
+        *held == 0
     }
 
-    fn write_json(&self, _alloc: Global, out: &mut Vec<u8>) -> Result<(), AllocError> {
-        write_uint32(out, *self)
+    fn write_json(_alloc: Global, out: &mut Vec<u8>, held: &u32) -> Result<(), AllocError> {
+        write_uint32(out, *held)
     }
 }
 
@@ -122,6 +128,8 @@ impl JsonScalar for u64 {
     ghost use Rattle.std.specs.Prelude.{◌≡◌, ℕ};
     ghost use Rattle.wire_protojson.specs.Numbers.{MeansUnsigned};
     ghost use Rattle.wire_protojson.specs.DecidedScalars.{unsigned_decided};
+
+    type Held = u64;
 
     ghost Value = { ℕ };
 
@@ -143,12 +151,12 @@ impl JsonScalar for u64 {
         read_uint64(alloc, text, at)
     }
 
-    fn is_default(&self) -> bool {
-        *self == 0
+    fn is_default(held: &u64) -> bool {
+        *held == 0
     }
 
-    fn write_json(&self, _alloc: Global, out: &mut Vec<u8>) -> Result<(), AllocError> {
-        write_uint64(out, *self)
+    fn write_json(_alloc: Global, out: &mut Vec<u8>, held: &u64) -> Result<(), AllocError> {
+        write_uint64(out, *held)
     }
 }
 
@@ -157,6 +165,8 @@ impl JsonScalar for bool {
     ghost use Rattle.std.specs.Prelude.{◌≡◌, Bool, false};
     ghost use Rattle.wire_protojson.specs.Scalars.{MeansBool};
     ghost use Rattle.wire_protojson.specs.DecidedScalars.{bools_decided};
+
+    type Held = bool;
 
     ghost Value = { Bool };
 
@@ -178,12 +188,12 @@ impl JsonScalar for bool {
         read_bool(alloc, text, at)
     }
 
-    fn is_default(&self) -> bool {
-        !*self
+    fn is_default(held: &bool) -> bool {
+        !*held
     }
 
-    fn write_json(&self, _alloc: Global, out: &mut Vec<u8>) -> Result<(), AllocError> {
-        write_bool(out, *self)
+    fn write_json(_alloc: Global, out: &mut Vec<u8>, held: &bool) -> Result<(), AllocError> {
+        write_bool(out, *held)
     }
 }
 
@@ -192,6 +202,8 @@ impl JsonScalar for f32 {
     ghost use Rattle.std.specs.Float.{Float, binary32, float_zero};
     ghost use Rattle.wire_protojson.specs.Numbers.{MeansFloat};
     ghost use Rattle.wire_protojson.specs.DecidedScalars.{floats_decided};
+
+    type Held = f32;
 
     ghost Value = { Float };
 
@@ -213,12 +225,12 @@ impl JsonScalar for f32 {
         read_float(alloc, text, at)
     }
 
-    fn is_default(&self) -> bool {
-        is_zero_float(*self)
+    fn is_default(held: &f32) -> bool {
+        is_zero_float(*held)
     }
 
-    fn write_json(&self, _alloc: Global, out: &mut Vec<u8>) -> Result<(), AllocError> {
-        write_float(out, *self)
+    fn write_json(_alloc: Global, out: &mut Vec<u8>, held: &f32) -> Result<(), AllocError> {
+        write_float(out, *held)
     }
 }
 
@@ -227,6 +239,8 @@ impl JsonScalar for f64 {
     ghost use Rattle.std.specs.Float.{Float, binary64, float_zero};
     ghost use Rattle.wire_protojson.specs.Numbers.{MeansFloat};
     ghost use Rattle.wire_protojson.specs.DecidedScalars.{floats_decided};
+
+    type Held = f64;
 
     ghost Value = { Float };
 
@@ -248,12 +262,12 @@ impl JsonScalar for f64 {
         read_double(alloc, text, at)
     }
 
-    fn is_default(&self) -> bool {
-        is_zero_double(*self)
+    fn is_default(held: &f64) -> bool {
+        is_zero_double(*held)
     }
 
-    fn write_json(&self, _alloc: Global, out: &mut Vec<u8>) -> Result<(), AllocError> {
-        write_double(out, *self)
+    fn write_json(_alloc: Global, out: &mut Vec<u8>, held: &f64) -> Result<(), AllocError> {
+        write_double(out, *held)
     }
 }
 
@@ -262,6 +276,8 @@ impl JsonScalar for String {
     ghost use Rattle.std.specs.Prelude.{◌≡◌, ℕ, List, [], string_bytes};
     ghost use Rattle.wire_protojson.specs.Scalars.{MeansString};
     ghost use Rattle.wire_protojson.specs.DecidedScalars.{strings_decided};
+
+    type Held = String;
 
     ghost Value = { List ℕ };
 
@@ -283,12 +299,12 @@ impl JsonScalar for String {
         read_string(alloc, text, at)
     }
 
-    fn is_default(&self) -> bool {
-        self.is_empty()
+    fn is_default(held: &String) -> bool {
+        held.is_empty()
     }
 
-    fn write_json(&self, _alloc: Global, out: &mut Vec<u8>) -> Result<(), AllocError> {
-        write_string(out, self.as_str())
+    fn write_json(_alloc: Global, out: &mut Vec<u8>, held: &String) -> Result<(), AllocError> {
+        write_string(out, held.as_str())
     }
 }
 
@@ -297,6 +313,8 @@ impl JsonScalar for Vec<u8> {
     ghost use Rattle.std.specs.Prelude.{◌≡◌, ℕ, List, []};
     ghost use Rattle.wire_protojson.specs.Scalars.{MeansBytes};
     ghost use Rattle.wire_protojson.specs.DecidedScalars.{bytes_decided};
+
+    type Held = Vec<u8>;
 
     ghost Value = { List ℕ };
 
@@ -318,12 +336,12 @@ impl JsonScalar for Vec<u8> {
         read_bytes(alloc, text, at)
     }
 
-    fn is_default(&self) -> bool {
-        self.is_empty()
+    fn is_default(held: &Vec<u8>) -> bool {
+        held.is_empty()
     }
 
-    fn write_json(&self, alloc: Global, out: &mut Vec<u8>) -> Result<(), AllocError> {
-        write_bytes(alloc, out, self)
+    fn write_json(alloc: Global, out: &mut Vec<u8>, held: &Vec<u8>) -> Result<(), AllocError> {
+        write_bytes(alloc, out, held)
     }
 }
 

@@ -9,8 +9,10 @@ ghost use Rattle.wire_json.specs.Written.{written};
 ghost use Rattle.wire_protojson.specs.declared.refusal.ReadError.TheVariants.{OutOfMemory};
 ghost use Rattle.wire_jsonfields.specs.Fields.{FieldMeans, NothingMeant};
 ghost use Rattle.wire_protojson.specs.Laws.{IsDecided};
-ghost use Rattle.wire_jsonfields.specs.Messages.{IsFieldTree, is_no_member, text_of_members};
+ghost use Rattle.wire_json.specs.Json.{member, no_member};
+ghost use Rattle.wire_jsonfields.specs.Messages.{IsFieldTree, comma_unless, is_no_member, text_of_members};
 ghost use Rattle.wire_jsonfields.specs.Objects.{AreEntries, IsNameOf};
+ghost use Rattle.wire_jsonfields.specs.OneValues.{IsOneValued};
 ghost use Rattle.wire_protojson.specs.Reads.{ReadsMeaning, Refuses, RefusedAt, UnlessNoMemory};
 
 use crate::find::find;
@@ -22,11 +24,14 @@ use wire_json::Mark;
 use wire_protojson::ReadError;
 
 /// A scalar type of which JSON has values.
-pub trait JsonScalar: Drop + Sized {
-    /// What contracts see of a value.
+pub trait JsonScalar {
+    /// What a message holds.
+    type Held: Drop;
+
+    /// What contracts see of it.
     ghost Value: { Type 0 };
 
-    ghost view: { Self → Value };
+    ghost view: { Self.Held → Value };
 
     /// Which trees mean which values.
     ghost means: { Json → Value → Type 0 };
@@ -36,10 +41,10 @@ pub trait JsonScalar: Drop + Sized {
 
     ghost default: { Value };
 
-    fn default_value(alloc: Global) -> Self
+    fn default_value(alloc: Global) -> Self::Held
         ensures { view result ≡ default };
 
-    fn read_json(alloc: Global, text: &[u8], at: usize) -> Result<(Self, usize), ReadError>
+    fn read_json(alloc: Global, text: &[u8], at: usize) -> Result<(Self::Held, usize), ReadError>
         ensures ok { IfOk result (λ read. ReadsMeaning means (drop at text.now)
             (view read.0) (drop read.1 text.now)) }
         ensures behind { IfOk result (λ read. IsBehind at read.1 text.now) }
@@ -47,21 +52,21 @@ pub trait JsonScalar: Drop + Sized {
             (λ refusal. RefusedAt text.now refusal (Refuses means (drop at text.now)))) };
 
     /// Whether this is the default value.
-    fn is_default(&self) -> bool
-        ensures { MatchBool result (view self.now ≡ default) (view self.now ≢ default) };
+    fn is_default(held: &Self::Held) -> bool
+        ensures { MatchBool result (view held.now ≡ default) (view held.now ≢ default) };
 
     /// Writes a value. A front of it may stand in the vector where memory is refused.
-    fn write_json(&self, alloc: Global, out: &mut Vec<u8>) -> Result<(), AllocError>
-        ensures ok { OnOk result ((json : Json) × tree (view self.now) json
+    fn write_json(alloc: Global, out: &mut Vec<u8>, held: &Self::Held) -> Result<(), AllocError>
+        ensures ok { OnOk result ((json : Json) × tree (view held.now) json
             × (out.new.items ≡ out.old.items ++ written json)) }
         ensures err { OnErr result (Extends out.old.items out.new.items) };
 
     ghost decided: { IsDecided means };
 }
 
-/// A kind of field of which JSON has values.
-pub trait JsonKind {
-    /// What a message holds for the field.
+/// A kind of value: of an element of a list, of a value of a map, or of a field.
+pub trait JsonValue {
+    /// What a message holds.
     type Held: Drop;
 
     /// What contracts see of it.
@@ -69,7 +74,7 @@ pub trait JsonKind {
 
     ghost view: { Self.Held → Value };
 
-    /// Which trees other than `null` mean which values.
+    /// Which trees mean which values. `null` is left to the field, and means none.
     ghost means: { Json → Value → Type 0 };
 
     /// Which trees are written of a value.
@@ -77,9 +82,6 @@ pub trait JsonKind {
 
     /// The value of a field that an object does not have.
     ghost absent: { Value };
-
-    fn absent_value(alloc: Global) -> Self::Held
-        ensures { view result ≡ absent };
 
     /// Reads a value, in which at most `levels` arrays and objects may stand in one another.
     fn read_json(
@@ -94,25 +96,35 @@ pub trait JsonKind {
         ensures err { IfErr result (λ e. e ≢ OutOfMemory
             → NothingMeant levels means (drop at text.now)) };
 
-    /// Whether the field is left out.
-    fn is_absent(held: &Self::Held) -> bool
-        ensures { MatchBool result (view held.now ≡ absent) (view held.now ≢ absent) };
-
     /// Writes a value. A front of it may stand in the vector where memory is refused.
     fn write_json(alloc: Global, out: &mut Vec<u8>, held: &Self::Held) -> Result<(), AllocError>
         ensures ok { OnOk result ((json : Json) × tree (view held.now) json
             × (out.new.items ≡ out.old.items ++ written json)) }
         ensures err { OnErr result (Extends out.old.items out.new.items) };
+
+    /// A tree means one value at most.
+    ghost one_value: { IsOneValued means };
+}
+
+/// A kind of field, which may be left out.
+pub trait JsonKind: JsonValue {
+    fn absent_value(alloc: Global) -> Self::Held
+        ensures { Self.view result ≡ Self.absent };
+
+    /// Whether the field is left out.
+    fn is_absent(held: &Self::Held) -> bool
+        ensures { MatchBool result (Self.view held.now ≡ Self.absent)
+            (Self.view held.now ≢ Self.absent) };
 }
 
 /// A field that has the default value of its type where an object does not have it, as a field of
-/// proto3 with no label.
+/// proto3 with no label. It is the kind of an element or of a value of a map, too.
 pub struct Implicit<S: JsonScalar> {
     scalar: PhantomData<S>,
 }
 
-impl<S: JsonScalar> JsonKind for Implicit<S> {
-    type Held = S;
+impl<S: JsonScalar> JsonValue for Implicit<S> {
+    type Held = S::Held;
 
     ghost Value = { S.Value };
 
@@ -124,25 +136,29 @@ impl<S: JsonScalar> JsonKind for Implicit<S> {
 
     ghost absent = { S.default };
 
-    fn absent_value(alloc: Global) -> S {
-        S::default_value(alloc)
-    }
+    ghost one_value = { S.decided.one_meaning };
 
     fn read_json(
         alloc: Global,
         text: &[u8],
         at: usize,
         _levels: u32,
-    ) -> Result<(S, usize), ReadError> {
+    ) -> Result<(S::Held, usize), ReadError> {
         S::read_json(alloc, text, at)
     }
 
-    fn is_absent(held: &S) -> bool {
-        held.is_default()
+    fn write_json(alloc: Global, out: &mut Vec<u8>, held: &S::Held) -> Result<(), AllocError> {
+        S::write_json(alloc, out, held)
+    }
+}
+
+impl<S: JsonScalar> JsonKind for Implicit<S> {
+    fn absent_value(alloc: Global) -> S::Held {
+        S::default_value(alloc)
     }
 
-    fn write_json(alloc: Global, out: &mut Vec<u8>, held: &S) -> Result<(), AllocError> {
-        held.write_json(alloc, out)
+    fn is_absent(held: &S::Held) -> bool {
+        S::is_default(held)
     }
 }
 
@@ -151,11 +167,12 @@ pub struct Optional<S: JsonScalar> {
     scalar: PhantomData<S>,
 }
 
-impl<S: JsonScalar> JsonKind for Optional<S> {
+impl<S: JsonScalar> JsonValue for Optional<S> {
     ghost use Rattle.std.specs.Prelude.{Option, None, option_map};
     ghost use Rattle.wire_jsonfields.specs.Fields.{IsSomeTree, MeansSome};
+    ghost use Rattle.wire_jsonfields.specs.OneValues.{one_some};
 
-    type Held = Option<S>;
+    type Held = Option<S::Held>;
 
     ghost Value = { Option S.Value };
 
@@ -167,33 +184,41 @@ impl<S: JsonScalar> JsonKind for Optional<S> {
 
     ghost absent = { None };
 
-    fn absent_value(_alloc: Global) -> Option<S> {
-        None
-    }
+    ghost one_value = { one_some S.means S.decided.one_meaning };
 
     fn read_json(
         alloc: Global,
         text: &[u8],
         at: usize,
         _levels: u32,
-    ) -> Result<(Option<S>, usize), ReadError> {
+    ) -> Result<(Option<S::Held>, usize), ReadError> {
         match S::read_json(alloc, text, at) {
             Ok((value, after)) => Ok((Some(value), after)),
             Err(error) => Err(error),
         }
     }
 
-    fn is_absent(held: &Option<S>) -> bool {
+    fn write_json(
+        alloc: Global,
+        out: &mut Vec<u8>,
+        held: &Option<S::Held>,
+    ) -> Result<(), AllocError> {
+        match held {
+            Some(value) => S::write_json(alloc, out, value),
+            None => wire_json::write_null(out),
+        }
+    }
+}
+
+impl<S: JsonScalar> JsonKind for Optional<S> {
+    fn absent_value(_alloc: Global) -> Option<S::Held> {
+        None
+    }
+
+    fn is_absent(held: &Option<S::Held>) -> bool {
         match held {
             Some(_) => false,
             None => true,
-        }
-    }
-
-    fn write_json(alloc: Global, out: &mut Vec<u8>, held: &Option<S>) -> Result<(), AllocError> {
-        match held {
-            Some(value) => value.write_json(alloc, out),
-            None => wire_json::write_null(out),
         }
     }
 }
@@ -247,12 +272,38 @@ pub fn write_field<K: JsonKind>(
     if K::is_absent(held) {
         return Ok(first);
     }
-    if !first {
-        wire_json::write_mark(out, Mark::Comma)?;
-    }
-    wire_json::write_name(out, field.json_name)?;
-    K::write_json(alloc, out, held)?;
+    write_member::<K>(alloc, out, first, field, held)?;
     Ok(false)
+}
+
+/// Writes a member, of which the object may have none before. A front of it may stand in the vector
+/// where memory is refused.
+pub fn write_member<V: JsonValue>(
+    alloc: Global,
+    out: &mut Vec<u8>,
+    first: bool,
+    field: &FieldName,
+    held: &V::Held,
+) -> Result<(), AllocError>
+    ensures ok { OnOk result ((e : Json) × V.tree (V.view held.now) e
+        × (out.new.items ≡ out.old.items
+        ++ text_of_members first (member field.now.json_name.now e no_member))) }
+    ensures err { OnErr result (Extends out.old.items out.new.items) }
+{
+    write_comma(out, first)?;
+    wire_json::write_name(out, field.json_name)?;
+    V::write_json(alloc, out, held)
+}
+
+/// Writes the comma before a member or an element that is not the first.
+pub(crate) fn write_comma(out: &mut Vec<u8>, first: bool) -> Result<(), AllocError>
+    ensures ok { OnOk result (out.new.items ≡ out.old.items ++ comma_unless first) }
+    ensures err { OnErr result (out.new.items ≡ out.old.items) }
+{
+    if first {
+        return Ok(());
+    }
+    wire_json::write_mark(out, Mark::Comma)
 }
 
 fn is_null(text: &[u8], at: usize) -> bool

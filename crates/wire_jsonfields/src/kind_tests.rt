@@ -1,6 +1,6 @@
 //! What is read of texts as lists and as messages within others, and written again.
 use crate::sample::Sample;
-use crate::{Embedded, Implicit, JsonKind, Repeated};
+use crate::{Embedded, Implicit, JsonValue, Repeated};
 use std::alloc::Global;
 use wire_protojson::ReadError;
 
@@ -40,7 +40,7 @@ const MESSAGES: [Row; 5] = [
 
 // Reads a value of this kind, in which two arrays and objects may stand in one another, and writes
 // it.
-fn found_in<K: JsonKind>(alloc: Global, row: &Row) -> Found {
+fn found_in<K: JsonValue>(alloc: Global, row: &Row) -> Found {
     let mut out = Vec::new(alloc);
     let own = match K::read_json(alloc, row.0, 0, 2) {
         Err(ReadError::OutOfMemory) => return Found::OutOfMemory,

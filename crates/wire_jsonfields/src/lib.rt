@@ -6,21 +6,29 @@
 //! What is written of a message is read as that message (`sample`).
 #![tactic(auto)]
 
+mod enum_field;
 mod find;
 mod held;
+mod key;
 mod kind;
 #[cfg(test)]
 mod kind_tests;
 mod known;
 mod list;
+mod map;
 mod message;
 #[cfg(test)]
 mod message_tests;
 mod object;
 pub mod sample;
 
-pub use kind::{Implicit, JsonKind, JsonScalar, Optional, read_field, write_field};
+pub use enum_field::{EnumOf, JsonEnum};
+pub use key::JsonKey;
+pub use kind::{
+    Implicit, JsonKind, JsonScalar, JsonValue, Optional, read_field, write_field, write_member,
+};
 pub use known::{FieldName, check_names};
 pub use list::Repeated;
-pub use message::{Embedded, JsonMessage, from_json, to_json};
+pub use map::Map;
+pub use message::{AlwaysMessage, Embedded, JsonMessage, from_json, to_json};
 pub use object::{Entry, Object, read_object};

@@ -9,65 +9,70 @@ ghost use Rattle.wire_jsonfields.specs.Fields.{NothingMeant};
 ghost use Rattle.wire_jsonfields.specs.Lists.{IsListTree, ListMeans};
 ghost use Rattle.wire_protojson.specs.Reads.{ReadsMeaning};
 
-use crate::kind::JsonKind;
+use crate::kind::{JsonKind, JsonValue, write_comma};
 use std::alloc::{AllocError, Global};
 use std::marker::PhantomData;
 use wire_json::{Mark, Next};
 use wire_protojson::{ReadError, no_json, no_value};
 
-/// A list, of which each element is as the value of a field of this kind; `null` is none.
-pub struct Repeated<K: JsonKind> {
-    kind: PhantomData<K>,
+/// A list, of which each element is a value of this kind; `null` is none.
+pub struct Repeated<V: JsonValue> {
+    value: PhantomData<V>,
 }
 
-impl<K: JsonKind> JsonKind for Repeated<K> {
+impl<V: JsonValue> JsonValue for Repeated<V> {
     ghost use Rattle.std.specs.Prelude.{List};
+    ghost use Rattle.wire_jsonfields.specs.OneValues.{one_list};
 
-    type Held = Vec<K::Held>;
+    type Held = Vec<V::Held>;
 
-    ghost Value = { List K.Value };
+    ghost Value = { List V.Value };
 
-    ghost view = { λ v. map K.view v.items };
+    ghost view = { λ v. map V.view v.items };
 
-    ghost means = { ListMeans K.means };
+    ghost means = { ListMeans V.means };
 
-    ghost tree = { IsListTree K.tree };
+    ghost tree = { IsListTree V.tree };
 
     ghost absent = { [] };
 
-    fn absent_value(alloc: Global) -> Vec<K::Held> {
-        Vec::new(alloc)
-    }
+    ghost one_value = { one_list V.means V.one_value };
 
     fn read_json(
         alloc: Global,
         text: &[u8],
         at: usize,
         levels: u32,
-    ) -> Result<(Vec<K::Held>, usize), ReadError> {
-        read_elements::<K>(alloc, text, at, levels)
+    ) -> Result<(Vec<V::Held>, usize), ReadError> {
+        read_elements::<V>(alloc, text, at, levels)
     }
 
-    fn is_absent(held: &Vec<K::Held>) -> bool {
-        held.is_empty()
-    }
-
-    fn write_json(alloc: Global, out: &mut Vec<u8>, held: &Vec<K::Held>) -> Result<(), AllocError> {
-        write_elements::<K>(alloc, out, held.as_slice())
+    fn write_json(alloc: Global, out: &mut Vec<u8>, held: &Vec<V::Held>) -> Result<(), AllocError> {
+        write_elements::<V>(alloc, out, held.as_slice())
     }
 }
 
-fn read_elements<K: JsonKind>(
+impl<V: JsonValue> JsonKind for Repeated<V> {
+    fn absent_value(alloc: Global) -> Vec<V::Held> {
+        Vec::new(alloc)
+    }
+
+    fn is_absent(held: &Vec<V::Held>) -> bool {
+        held.is_empty()
+    }
+}
+
+fn read_elements<V: JsonValue>(
     alloc: Global,
     text: &[u8],
     at: usize,
     levels: u32,
-) -> Result<(Vec<K::Held>, usize), ReadError>
-    ensures ok { IfOk result (λ read. ReadsMeaning (ListMeans K.means) (drop at text.now)
-        (map K.view read.0.items) (drop read.1 text.now)) }
+) -> Result<(Vec<V::Held>, usize), ReadError>
+    ensures ok { IfOk result (λ read. ReadsMeaning (ListMeans V.means) (drop at text.now)
+        (map V.view read.0.items) (drop read.1 text.now)) }
     ensures behind { IfOk result (λ read. IsBehind at read.1 text.now) }
     ensures err { IfErr result (λ e. e ≢ OutOfMemory
-        → NothingMeant levels (ListMeans K.means) (drop at text.now)) }
+        → NothingMeant levels (ListMeans V.means) (drop at text.now)) }
 {
     let mut list = Vec::new(alloc);
     let mut next = match wire_json::first_element(text, at) {
@@ -77,7 +82,7 @@ fn read_elements<K: JsonKind>(
     loop {
         match next {
             Next::End(after) => return Ok((list, after)),
-            Next::Item(place) => match K::read_json(alloc, text, place, levels) {
+            Next::Item(place) => match V::read_json(alloc, text, place, levels) {
                 Ok((held, after)) => {
                     push_held(&mut list, held)?;
                     next = match wire_json::next_element(text, after) {
@@ -100,23 +105,21 @@ fn push_held<T: Drop>(list: &mut Vec<T>, held: T) -> Result<(), AllocError>
     }
 }
 
-fn write_elements<K: JsonKind>(
+fn write_elements<V: JsonValue>(
     alloc: Global,
     out: &mut Vec<u8>,
-    list: &[K::Held],
+    list: &[V::Held],
 ) -> Result<(), AllocError>
-    ensures ok { OnOk result ((json : Json) × IsListTree K.tree (map K.view list.now) json
+    ensures ok { OnOk result ((json : Json) × IsListTree V.tree (map V.view list.now) json
         × (out.new.items ≡ out.old.items ++ written json)) }
     ensures err { OnErr result (Extends out.old.items out.new.items) }
 {
     wire_json::write_mark(out, Mark::BeginArray)?;
     let mut first = true;
     for held in list {
-        if !first {
-            wire_json::write_mark(out, Mark::Comma)?;
-        }
+        write_comma(out, first)?;
         first = false;
-        K::write_json(alloc, out, held)?;
+        V::write_json(alloc, out, held)?;
     }
     wire_json::write_mark(out, Mark::EndArray)
 }

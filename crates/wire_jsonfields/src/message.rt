@@ -7,9 +7,10 @@ ghost use Rattle.wire_json.specs.Reading.{Spells};
 ghost use Rattle.wire_json.specs.Written.{written};
 ghost use Rattle.wire_protojson.specs.declared.refusal.ReadError.TheVariants.{OutOfMemory};
 ghost use Rattle.wire_jsonfields.specs.Fields.{NothingMeant};
+ghost use Rattle.wire_jsonfields.specs.OneValues.{IsOneValued};
 ghost use Rattle.wire_protojson.specs.Reads.{ReadsMeaning};
 
-use crate::kind::JsonKind;
+use crate::kind::{JsonKind, JsonValue};
 use std::alloc::{AllocError, Global};
 use std::marker::PhantomData;
 use wire_json::{Fault, FaultKind};
@@ -27,6 +28,9 @@ pub trait JsonMessage: Drop + Sized {
 
     /// Which trees are written of a value.
     ghost tree: { Value → Json → Type 0 };
+
+    /// The value of a message of which an object says nothing.
+    ghost default: { Value };
 
     /// Reads a value, in which at most `levels` arrays and objects may stand in one another.
     fn read_json(
@@ -46,6 +50,9 @@ pub trait JsonMessage: Drop + Sized {
         ensures ok { OnOk result ((json : Json) × tree (view self.now) json
             × (out.new.items ≡ out.old.items ++ written json)) }
         ensures err { OnErr result (Extends out.old.items out.new.items) };
+
+    /// A tree means one value at most.
+    ghost one_value: { IsOneValued means };
 }
 
 /// The compact text of a message.
@@ -87,10 +94,11 @@ pub struct Embedded<M: JsonMessage> {
     message: PhantomData<M>,
 }
 
-impl<M: JsonMessage> JsonKind for Embedded<M> {
+impl<M: JsonMessage> JsonValue for Embedded<M> {
     ghost use Rattle.std.specs.Prelude.{Option, None};
     ghost use Rattle.wire_jsonfields.specs.Fields.{IsSomeTree, MeansSome};
     ghost use Rattle.wire_jsonfields.specs.Boxes.{boxed_message};
+    ghost use Rattle.wire_jsonfields.specs.OneValues.{one_some};
 
     type Held = Option<Box<M>>;
 
@@ -104,9 +112,7 @@ impl<M: JsonMessage> JsonKind for Embedded<M> {
 
     ghost absent = { None };
 
-    fn absent_value(_alloc: Global) -> Option<Box<M>> {
-        None
-    }
+    ghost one_value = { one_some M.means M.one_value };
 
     fn read_json(
         alloc: Global,
@@ -123,13 +129,6 @@ impl<M: JsonMessage> JsonKind for Embedded<M> {
         }
     }
 
-    fn is_absent(held: &Option<Box<M>>) -> bool {
-        match held {
-            Some(_) => false,
-            None => true,
-        }
-    }
-
     fn write_json(
         alloc: Global,
         out: &mut Vec<u8>,
@@ -139,5 +138,53 @@ impl<M: JsonMessage> JsonKind for Embedded<M> {
             Some(message) => message.write_json(alloc, out),
             None => wire_json::write_null(out),
         }
+    }
+}
+
+impl<M: JsonMessage> JsonKind for Embedded<M> {
+    fn absent_value(_alloc: Global) -> Option<Box<M>> {
+        None
+    }
+
+    fn is_absent(held: &Option<Box<M>>) -> bool {
+        match held {
+            Some(_) => false,
+            None => true,
+        }
+    }
+}
+
+/// A message as an element of a list, as a value of a map or as a member of a oneof: it is always
+/// there.
+pub struct AlwaysMessage<M: JsonMessage> {
+    message: PhantomData<M>,
+}
+
+impl<M: JsonMessage> JsonValue for AlwaysMessage<M> {
+    type Held = M;
+
+    ghost Value = { M.Value };
+
+    ghost view = { M.view };
+
+    ghost means = { M.means };
+
+    ghost tree = { M.tree };
+
+    ghost absent = { M.default };
+
+    ghost one_value = { M.one_value };
+
+    fn read_json(
+        alloc: Global,
+        text: &[u8],
+        at: usize,
+        levels: u32,
+    ) -> Result<(M, usize), ReadError> {
+        M::read_json(alloc, text, at, levels)
+    }
+
+    fn write_json(alloc: Global, out: &mut Vec<u8>, held: &M) -> Result<(), AllocError> {
+        held.write_json(alloc, out)
     }
 }

@@ -35,6 +35,8 @@ const SAMPLE_COUNT: FieldName = FieldName {
 
 impl JsonMessage for Sample {
     ghost use Rattle.wire_jsonfields.specs.Messages.{IsObjectTree, ObjectMeans};
+    ghost use Rattle.wire_jsonfields.specs.OneValues.{one_object};
+    ghost use Rattle.wire_jsonfields.specs.Sample.{one_sample, sample-default};
 
     ghost Value = { Sample-Value };
 
@@ -43,6 +45,10 @@ impl JsonMessage for Sample {
     ghost means = { ObjectMeans sample-says };
 
     ghost tree = { IsObjectTree sample-trees };
+
+    ghost default = { sample-default };
+
+    ghost one_value = { one_object sample-says one_sample };
 
     fn read_json(
         alloc: Global,

@@ -113,6 +113,7 @@ module _ {V : Type 0} (Means : Json → V → Type 0)
 
   pub decided : IsDecided Means
   decided = record {
+    one_meaning = one_meaning;
     one_value = one_value;
     one_refusal = one_refusal;
     no_value_refused = no_value_refused;

@@ -7,8 +7,10 @@ use Rattle.wire_json.specs.Written.{written}
 use Rattle.wire_protojson.specs.declared.refusal.Reason.{Reason}
 use Rattle.wire_protojson.specs.Reads.{ReadsMeaning, Refuses}
 
--- Of the same bytes one value is read or one refusal told, and never both.
+-- A tree means one value at most, and of the same bytes one value is read or one refusal told, and
+-- never both.
 pub record IsDecided {V : Type 0} (Means : Json → V → Type 0) : Type 0 where
+  pub one_meaning : (json : Json) (v w : V) → Means json v → Means json w → v ≡ w
   pub one_value : (old : List ℕ) (v w : V) (x y : List ℕ) → ReadsMeaning Means old v x
       → ReadsMeaning Means old w y → (v ≡ w) × (x ≡ y)
   pub one_refusal : (old : List ℕ) (r s : Reason) (x y : List ℕ) → Refuses Means old r x

@@ -16,11 +16,17 @@ pub enum Reason {
     /// whole number, out of range, no base64, or no name that the enum has.
     NoValue,
 
-    /// The value that begins here is of a field that has one already.
+    /// The value that begins here is of a field, or of a key of a map, that has one already.
     Duplicate,
+
+    /// The value that begins here is of a oneof, of which another member has a value before it.
+    SecondOfOneof,
 
     /// The value that begins here is of no field.
     UnknownName,
+
+    /// The value that begins here is of a name that is no key of the map's type.
+    NoKey,
 }
 
 /// Why a text is refused, and the byte where that stands: the length of the text at its end.

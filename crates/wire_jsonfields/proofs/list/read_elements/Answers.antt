@@ -31,7 +31,7 @@ returns-in-Err-read_json-clause-err g c = λ other.
     let text = c.args.text.now in
     let (inside, so, opens, state, means) = c.loop-next.invariant.sofar in
     let here = rw c.in-Item.is at state in
-    element_refused g.K.JsonKind.means c.args.levels (drop c.args.at text) inside opens so
+    element_refused g.V.JsonValue.means c.args.levels (drop c.args.at text) inside opens so
     (drop c.in-Item.place text) here (c.in-Err-read_json.ensures.err other)
 
 pub returns-in-Err-next_element-clause-err : goal.returns-in-Err-next_element-clause-err
@@ -41,14 +41,14 @@ returns-in-Err-next_element-clause-err g c = λ other.
     let here = rw c.in-Item.is at state in
     let (e, reads, meant) = c.in-Ok-read_json.ensures.ok in
     let fault = c.in-Err-next_element.fault in
-    list_stops g.K.JsonKind.means c.args.levels (drop c.args.at text) inside opens so
+    list_stops g.V.JsonValue.means c.args.levels (drop c.args.at text) inside opens so
     (drop c.in-Item.place text) (drop c.in-Ok-read_json.after text) e here reads fault.kind
     (drop fault.at text) c.in-Err-next_element.ensures.fault
 
 pub loop-next-preserved : goal.loop-next-preserved
 loop-next-preserved g c =
     let text = c.args.text.now in
-    let view = g.K.JsonKind.view in
+    let view = g.V.JsonValue.view in
     let (inside, so, opens, state, means) = c.loop-next.invariant.sofar in
     let here = rw c.in-Item.is at state in
     let order = rw c.in-Item.is at c.loop-next.invariant.onward in
@@ -63,7 +63,7 @@ loop-next-preserved g c =
         opens,
         list_goes_on text inside so c.in-Item.place after e here reads next.next next.ensures.ok,
         rw (c.in_ok-push_held-in-Ok-read_json.ensures, map_more view c.loop-next.list.items held)
-            (one_meant_more g.K.JsonKind.means so (map view c.loop-next.list.items) e (view held)
+            (one_meant_more g.V.JsonValue.means so (map view c.loop-next.list.items) e (view held)
             means meant),
       );
       onward = behind_further c.args.at after next.next text

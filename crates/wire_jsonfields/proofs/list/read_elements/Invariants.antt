@@ -10,7 +10,7 @@ abbrev pub invariant-loop-next : goal.invariant-loop-next
 invariant-loop-next g l = record {
   sofar : (inside : List ℕ) × (so : Elements) × (drop l.at l.text ≡ 91 ∷ inside)
       × ListSofar l.text inside l.next so
-      × EachMeans g.K.JsonKind.means so (map g.K.JsonKind.view l.list.items);
+      × EachMeans g.V.JsonValue.means so (map g.V.JsonValue.view l.list.items);
   onward : NextIsBehind l.at l.next l.text;
 }
 

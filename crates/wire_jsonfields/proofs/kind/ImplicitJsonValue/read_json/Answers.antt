@@ -1,6 +1,6 @@
 use Rattle.std.proofs.Common.{drop}
 use Rattle.wire_jsonfields.proofs.FieldReads.{nothing_of}
-use Rattle.wire_jsonfields.proofs.kind.ImplicitJsonKind.read_json.Goals as goal
+use Rattle.wire_jsonfields.proofs.kind.ImplicitJsonValue.read_json.Goals as goal
 
 pub returns-clause-err : goal.returns-clause-err
 returns-clause-err g c =

@@ -1,6 +1,6 @@
 use Rattle.std.proofs.Common.{drop}
 use Rattle.wire_jsonfields.proofs.FieldReads.{no_some}
-use Rattle.wire_jsonfields.proofs.kind.OptionalJsonKind.read_json.Goals as goal
+use Rattle.wire_jsonfields.proofs.kind.OptionalJsonValue.read_json.Goals as goal
 
 pub returns-in-Err-clause-err : goal.returns-in-Err-clause-err
 returns-in-Err-clause-err g c =

@@ -1,12 +1,12 @@
 use Rattle.std.proofs.Common.{refl}
-use Rattle.wire_jsonfields.specs.Boxes.{boxed_message}
+use Rattle.std.specs.Prelude.{option_map}
 use Rattle.wire_json.specs.Json.{null}
 use Rattle.wire_jsonfields.specs.Fields.{IsSomeTree}
 use Rattle.wire_protojson.proofs.Floats.{put_tree}
-use Rattle.wire_jsonfields.proofs.message.EmbeddedJsonKind.write_json.Goals as goal
+use Rattle.wire_jsonfields.proofs.kind.OptionalJsonValue.write_json.Goals as goal
 
 pub returns-in-None-clause-ok : goal.returns-in-None-clause-ok
 returns-in-None-clause-ok g c =
-    put_tree (IsSomeTree g.M.JsonMessage.tree (boxed_message g.M.JsonMessage.view c.args.held.now))
+    put_tree (IsSomeTree g.S.JsonScalar.tree (option_map g.S.JsonScalar.view c.args.held.now))
     null (rw c.in-None.is refl) c.write_null.result c.args.out.now.items
     c.write_null.new.out.items c.write_null.ensures.ok

@@ -1,0 +1,9 @@
+use Rattle.wire_jsonfields.proofs.Membering.{member_put}
+use Rattle.wire_jsonfields.proofs.kind.write_member.Goals as goal
+
+pub returns-clause-ok : goal.returns-clause-ok
+returns-clause-ok g c =
+    member_put g.V.JsonValue.tree (g.V.JsonValue.view c.args.held.now) c.args.first
+    c.args.field.now.json_name.now c.args.out.now.items c.write_comma.new.out.items
+    c.write_name.new.out.items c.in_ok-write_comma.ensures.ok c.in_ok-write_name.ensures.ok
+    c.write_json.result c.write_json.new.out.items c.write_json.ensures.ok
