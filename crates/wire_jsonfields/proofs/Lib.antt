@@ -1,6 +1,11 @@
+pub mod Back
+pub mod BatchBack
+pub mod Choosing
+pub mod EnumBack
 pub mod FieldReads
 pub mod Finding
 pub mod Gathering
+pub mod KeyBack
 pub mod Knowing
 pub mod ListPuts
 pub mod Listing
@@ -10,4 +15,5 @@ pub mod Membering
 pub mod MessageBack
 pub mod MessageReads
 pub mod ObjectReads
+pub mod Parts
 pub mod SampleBack

@@ -4,7 +4,7 @@ use Rattle.std.specs.Prelude.{OnOk}
 use Rattle.wire_json.specs.Json.{Json, Members, no_member, member}
 use Rattle.wire_json.specs.Written.{written}
 use Rattle.wire_jsonfields.specs.Maps.{AreEntryTrees, IsMapTree}
-use Rattle.wire_jsonfields.specs.Messages.{is_no_member, members_joined, text_of_members}
+use Rattle.wire_jsonfields.specs.Messages.{members_joined, text_of_members}
 use Rattle.wire_jsonfields.proofs.Membering.{Begun, begun, not_first, with_field, written_whole}
 
 -- the entries before those that are left have their text

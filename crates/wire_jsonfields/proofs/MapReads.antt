@@ -8,7 +8,7 @@ use Rattle.std.specs.Ordering.{is_eq, match_ordering}
 use Rattle.std.specs.Prelude.{is_some}
 use Rattle.std.specs.declared.cmp.Ordering.{Ordering}
 use Rattle.std.specs.declared.cmp.Ordering.TheVariants.{Less, Equal, Greater}
-use Rattle.wire_json.specs.Json.{Json, object, Members, no_member, member, depth, members_depth}
+use Rattle.wire_json.specs.Json.{Json, Members, no_member, member, members_depth}
 use Rattle.wire_json.specs.Reading.{ReadsValue}
 use Rattle.wire_json.proofs.OneReading.{one_value_lemma}
 use Rattle.wire_protojson.specs.Reads.{ReadsMeaning}

@@ -96,16 +96,20 @@ pub not_first : (first : Bool) → false ≡ (first && false)
 not_first true = refl
 not_first false = refl
 
+-- nothing is written where there is no member
+pub none_put : (first : Bool) (items : List ℕ)
+    → (items ≡ items ++ text_of_members first no_member)
+    × (first ≡ (first && is_no_member no_member))
+none_put first items =
+    (sym (append-nil items) ∙ ap (λ (l : List ℕ). items ++ l) (sym (none_text first)), still first)
+
 module _ {V : Type 0} (absent : V) (Tree : V → Json → Type 0) (name : List ℕ) (v : V) where
   pub field_absent : (first : Bool) (items : List ℕ) → v ≡ absent
       → (ms : Members) × IsFieldTree absent Tree name v ms
       × (items ≡ items ++ text_of_members first ms) × (first ≡ (first && is_no_member ms))
-  field_absent first items is = (
-    no_member,
-    inl (is, refl),
-    sym (append-nil items) ∙ ap (λ (l : List ℕ). items ++ l) (sym (none_text first)),
-    still first,
-  )
+  field_absent first items is =
+      let (put, next) = none_put first items in
+      (no_member, inl (is, refl), put, next)
 
   -- a field with its member
   pub field_present : (first : Bool) (old new : List ℕ) → v ≢ absent

@@ -1,19 +1,14 @@
 -- What is written of a message is read as that message.
-use Rattle.std.proofs.Common.{◌≡◌, ◌≢◌, ℕ, zero, suc, ◌<◌, Bool, true, false, ◌&&◌, nat_lt, slice_index, arith, List, [], ◌∷◌, ◌++◌, Option, Some, None, inl, inr, refl, sym, ap, subst}
+use Rattle.std.proofs.Common.{◌≡◌, ◌≢◌, ℕ, zero, suc, ◌<◌, Bool, true, false, ◌&&◌, nat_lt, slice_index, arith, List, [], ◌∷◌, ◌++◌, inl, inr, refl, sym, ap, subst}
 use Rattle.std.proofs.lemmas.Bool.Decides.{nat_tests}
 use Rattle.std.proofs.lemmas.Str.{IsUtf8-from_ascii}
 use Rattle.std.specs.Prelude.{IsUtf8, IsAscii}
-use Rattle.wire_json.specs.Json.{Json, null, Members, no_member, member, IsLawful, AreLawfulMembers}
-use Rattle.wire_jsonfields.specs.Fields.{EachKnown, IsSomeTree, MeansSome, ValuesMean}
+use Rattle.wire_json.specs.Json.{Json, Members, no_member, member, AreLawfulMembers}
+use Rattle.wire_jsonfields.specs.Back.{IsBack}
+use Rattle.wire_jsonfields.specs.Fields.{EachKnown, ValuesMean}
 use Rattle.wire_jsonfields.specs.Messages.{IsFieldTree, members_joined}
 use Rattle.wire_jsonfields.specs.Objects.{AreValuesOf}
 use Rattle.wire_jsonfields.proofs.FieldReads.{unless_null}
-
--- the tree of a value is lawful, means it, and is not `null`
-pub record IsBack {V : Type 0} (Means : Json → V → Type 0) (e : Json) (v : V) : Type 0 where
-  pub lawful : IsLawful e
-  pub means : Means e v
-  pub present : e ≡ null → ⊥
 
 -- ---- names
 
@@ -90,16 +85,6 @@ module _ {V : Type 0} (absent : V) (Means : Json → V → Type 0) (Tree : V →
       by_tree (inl (is, none)) = subst (EachKnown Known) (sym none) tt
       by_tree (inr (other, (e, is, one))) = subst (EachKnown Known) (sym one) (known, tt)
 
-  pub field_other : (Named : List ℕ → Type 0) → (Named name → ⊥) → AreValuesOf Named ms []
-  field_other Named other = by_tree tree
-    where
-      P : Members → Type 0
-      P l = AreValuesOf Named l []
-
-      by_tree : IsFieldTree absent Tree name v ms → AreValuesOf Named ms []
-      by_tree (inl (is, none)) = subst P (sym none) refl
-      by_tree (inr (there, (e, is, one))) = subst P (sym one) (inr (other, refl))
-
   -- the values of its own name
   pub field_values : (Named : List ℕ → Type 0) → Named name
       → ((e : Json) → v ≢ absent → Tree v e → IsBack Means e v)
@@ -118,13 +103,3 @@ module _ {V : Type 0} (absent : V) (Means : Json → V → Type 0) (Tree : V →
             subst (P (e ∷ [])) (sym one) (inl (mine, ([], refl, refl))),
             unless_null absent Means e v b.present b.means,
           )
-
--- ---- values that may be absent
-
-pub some_back : {V : Type 0} (Means : Json → V → Type 0) (Tree : V → Json → Type 0)
-    → ((v : V) (e : Json) → Tree v e → IsBack Means e v) → (o : Option V) (e : Json)
-    → o ≢ None → IsSomeTree Tree o e → IsBack (MeansSome Means) e o
-some_back Means Tree back None e other is = absurd (other refl)
-some_back Means Tree back (Some v) e other is =
-    let b = back v e is in
-    record { lawful = b.lawful; means = b.means; present = b.present }

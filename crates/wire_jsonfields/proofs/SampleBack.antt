@@ -1,20 +1,20 @@
--- What is written of a `Sample` is read as it: a line a field, and one for each two.
-use Rattle.std.proofs.Common.{◌≡◌, ◌≢◌, ◌⊎◌, ℕ, true, false, List, [], ◌++◌, Option, Some, None, inl, inr, refl, sym, ap, ◌∙◌, subst, append-nil}
+-- What is written of a `Sample` is read as it: a part a field.
+use Rattle.std.proofs.Common.{◌≡◌, ◌≢◌, ◌⊎◌, ℕ, true, false, List, [], Option, Some, None, inl, inr, refl, sym, ap, ◌∙◌, subst}
 use Rattle.std.proofs.lemmas.Str.{IsUtf8-from_ascii}
 use Rattle.std.specs.Prelude.{ℤ, codes, FitsSigned, IsUtf8}
 use Rattle.std.specs.Float.{Float, binary64, float_zero, nan, inf, fin}
 use Rattle.std.specs.Int.{w64}
 use Rattle.itoa.proofs.Decimal.{IsAscii-signed_decimal}
 use Rattle.wire_json.specs.Json.{Json, null, number, string, object, Members, IsLawful}
-use Rattle.wire_jsonfields.specs.Fields.{EachKnown, FieldMeans, IsSomeTree, MeansSome}
-use Rattle.wire_protojson.specs.Laws.{IsReadAs}
-use Rattle.wire_jsonfields.specs.Messages.{IsFieldTree, ObjectMeans, members_joined}
+use Rattle.wire_jsonfields.specs.Back.{ComesBack, IsBack}
+use Rattle.wire_jsonfields.specs.Fields.{FieldMeans, IsSomeTree, MeansSome}
+use Rattle.wire_jsonfields.specs.Messages.{IsFieldTree, IsObjectTree, ObjectMeans, members_joined}
 use Rattle.wire_protojson.specs.Numbers.{MeansFloat, MeansSigned}
-use Rattle.wire_jsonfields.specs.Objects.{AreValuesOf}
-use Rattle.wire_jsonfields.specs.Sample.{IsOfCount, IsOfName, IsOfValue, IsSampleInRange, SampleReadsBack, Sample-Value, sample-says}
+use Rattle.wire_jsonfields.specs.Sample.{IsOfCount, IsOfName, IsOfValue, IsSampleInRange, SampleReadsBack, Sample-Value, sample-says, sample-trees}
 use Rattle.wire_protojson.specs.Scalars.{MeansString}
 use Rattle.wire_protojson.specs.Trees.{IsFloatTree, long_signed_tree}
-use Rattle.wire_jsonfields.proofs.MessageBack.{IsBack, field_known, field_lawful, field_other, field_values, known_joined, lawful_joined, name_is_text, values_joined}
+use Rattle.wire_jsonfields.proofs.MessageBack.{name_is_text}
+use Rattle.wire_jsonfields.proofs.Parts.{PartBack, apart_of_either, both_part, field_part, known_weaker, names_apart, said_alone}
 use Rattle.wire_protojson.proofs.ReadBack.{by_meaning, float_means, signed_back, spells_integer}
 
 -- ---- the types of the fields
@@ -25,14 +25,14 @@ string_not_null s e is h = absurd cc
 number_not_null : (s : List ℕ) (e : Json) → e ≡ number s → e ≡ null → ⊥
 number_not_null s e is h = absurd cc
 
-string_back : (s : List ℕ) → IsUtf8 s → (e : Json) → e ≡ string s → IsBack MeansString e s
+pub string_back : (s : List ℕ) → IsUtf8 s → (e : Json) → e ≡ string s → IsBack MeansString e s
 string_back s utf8 e is = record {
   lawful = subst IsLawful (sym is) utf8;
   means = subst (λ (j : Json). MeansString j s) (sym is) refl;
   present = string_not_null s e is;
 }
 
-count_back : (z : ℤ) → FitsSigned w64 z → (e : Json) → e ≡ long_signed_tree z
+pub count_back : (z : ℤ) → FitsSigned w64 z → (e : Json) → e ≡ long_signed_tree z
     → IsBack (MeansSigned w64) e z
 count_back z fits e is = record {
   lawful = subst IsLawful (sym is) (IsUtf8-from_ascii _ (IsAscii-signed_decimal z fits));
@@ -60,41 +60,6 @@ optional_count (Some z) fits e other is =
     let b = count_back z (fits z refl) e is in
     record { lawful = b.lawful; means = b.means; present = b.present }
 
--- ---- names
-
-name_utf8 : IsUtf8 (codes "name")
-name_utf8 = name_is_text (codes "name") refl
-
-value_utf8 : IsUtf8 (codes "value")
-value_utf8 = name_is_text (codes "value") refl
-
-count_utf8 : IsUtf8 (codes "sampleCount")
-count_utf8 = name_is_text (codes "sampleCount") refl
-
-name_of_value : IsOfName (codes "value") → ⊥
-name_of_value (inl h) = absurd cc
-name_of_value (inr h) = absurd cc
-
-name_of_count : IsOfName (codes "sampleCount") → ⊥
-name_of_count (inl h) = absurd cc
-name_of_count (inr h) = absurd cc
-
-value_of_name : IsOfValue (codes "name") → ⊥
-value_of_name (inl h) = absurd cc
-value_of_name (inr h) = absurd cc
-
-value_of_count : IsOfValue (codes "sampleCount") → ⊥
-value_of_count (inl h) = absurd cc
-value_of_count (inr h) = absurd cc
-
-count_of_name : IsOfCount (codes "name") → ⊥
-count_of_name (inl h) = absurd cc
-count_of_name (inr h) = absurd cc
-
-count_of_value : IsOfCount (codes "value") → ⊥
-count_of_value (inl h) = absurd cc
-count_of_value (inr h) = absurd cc
-
 -- ---- the message
 
 abbrev StringTree : List ℕ → Json → Type 0
@@ -103,96 +68,89 @@ StringTree s json = json ≡ string s
 abbrev CountTree : Option ℤ → Json → Type 0
 CountTree = IsSomeTree (λ z json. json ≡ long_signed_tree z)
 
+abbrev NameSays : Members → List ℕ → Type 0
+NameSays = FieldMeans [] MeansString IsOfName
+
+abbrev ValueSays : Members → Float → Type 0
+ValueSays = FieldMeans float_zero (MeansFloat binary64) IsOfValue
+
+abbrev CountSays : Members → Option ℤ → Type 0
+CountSays = FieldMeans None (MeansSome (MeansSigned w64)) IsOfCount
+
 module _ (v : Sample-Value) (range : IsSampleInRange v) (name value count : Members)
     (name_tree : IsFieldTree [] (λ s json. json ≡ string s) (codes "name") v.0 name)
     (value_tree : IsFieldTree float_zero (IsFloatTree binary64) (codes "value") v.1 value)
     (count_tree : IsFieldTree None (IsSomeTree (λ z json. json ≡ long_signed_tree z))
     (codes "sampleCount") v.2 count) where
-  Known : List ℕ → Type 0
-  Known text = IsOfName text ⊎ (IsOfValue text ⊎ (IsOfCount text ⊎ ⊥))
+  name_part : PartBack IsOfName (FieldMeans [] MeansString IsOfName) v.0 name
+  name_part =
+      field_part [] MeansString StringTree (codes "name") (codes "name") v.0 name name_tree
+      (name_is_text (codes "name") refl) (λ other. string_back v.0 range.0)
 
-  ms : Members
-  ms = members_joined (members_joined name value) count
+  value_part : PartBack IsOfValue (FieldMeans float_zero (MeansFloat binary64) IsOfValue) v.1 value
+  value_part =
+      field_part float_zero (MeansFloat binary64) (IsFloatTree binary64) (codes "value")
+      (codes "value") v.1 value value_tree (name_is_text (codes "value") refl)
+      (λ other. float_back v.1)
 
-  lawful : IsLawful (object ms)
-  unfolding ms
-  lawful = lawful_joined (members_joined name value) count
-      (lawful_joined name value
-      (field_lawful [] MeansString StringTree (codes "name") v.0 name name_tree name_utf8
-      (λ e other is. string_back v.0 range.0 e is))
-      (field_lawful float_zero (MeansFloat binary64) (IsFloatTree binary64) (codes "value") v.1 value value_tree value_utf8
-      (λ e other is. float_back v.1 e is)))
-      (field_lawful None (MeansSome (MeansSigned w64)) CountTree (codes "sampleCount") v.2 count count_tree
-      count_utf8 (λ e other is. optional_count v.2 range.1 e other is))
+  count_part : PartBack IsOfCount (FieldMeans None (MeansSome (MeansSigned w64)) IsOfCount) v.2 count
+  count_part =
+      field_part None (MeansSome (MeansSigned w64)) CountTree (codes "sample_count")
+      (codes "sampleCount") v.2 count count_tree (name_is_text (codes "sampleCount") refl)
+      (λ other e is. optional_count v.2 range.1 e other is)
 
-  known : EachKnown Known ms
-  unfolding ms Known
-  known = known_joined Known (members_joined name value) count
-      (known_joined Known name value
-      (field_known [] MeansString StringTree (codes "name") v.0 name name_tree Known (inl (inl refl)))
-      (field_known float_zero (MeansFloat binary64) (IsFloatTree binary64) (codes "value") v.1 value value_tree Known
-      (inr (inl (inl refl)))))
-      (field_known None (MeansSome (MeansSigned w64)) CountTree (codes "sampleCount") v.2 count count_tree
-      Known (inr (inr (inl (inr refl)))))
+  two_parts : PartBack {V = (List ℕ) × Float} (λ n. IsOfName n ⊎ IsOfValue n)
+      (λ ms w. NameSays ms w.0 × ValueSays ms w.1) (v.0, v.1) (members_joined name value)
+  two_parts =
+      both_part IsOfName IsOfValue NameSays ValueSays v.0 v.1 name value name_part value_part
+      (names_apart (codes "name") (codes "name") (codes "value") (codes "value") refl)
 
-  name_said : FieldMeans [] MeansString IsOfName ms v.0
-  unfolding ms
-  name_said =
-      let (own, are, means) = field_values [] MeansString StringTree (codes "name") v.0 name name_tree IsOfName
-      (inl refl) (λ e other is. string_back v.0 range.0 e is) in
-      let P : List Json → Type 0 = λ l. AreValuesOf IsOfName (members_joined (members_joined name value) count) l in (
-        own,
-        subst P (append-nil (own ++ []) ∙ append-nil own)
-            (values_joined IsOfName (members_joined name value) count (own ++ []) []
-            (values_joined IsOfName name value own [] are
-            (field_other float_zero (MeansFloat binary64) (IsFloatTree binary64) (codes "value") v.1 value value_tree
-            IsOfName name_of_value))
-            (field_other None (MeansSome (MeansSigned w64)) CountTree (codes "sampleCount") v.2 count
-            count_tree IsOfName name_of_count)),
-        means,
-      )
+  abbrev TwoSay : Members → (List ℕ) × Float → Type 0
+  TwoSay ms w = NameSays ms w.0 × ValueSays ms w.1
 
-  value_said : FieldMeans float_zero (MeansFloat binary64) IsOfValue ms v.1
-  unfolding ms
-  value_said =
-      let (own, are, means) = field_values float_zero (MeansFloat binary64) (IsFloatTree binary64) (codes "value") v.1
-      value value_tree IsOfValue (inl refl) (λ e other is. float_back v.1 e is) in
-      let P : List Json → Type 0 = λ l. AreValuesOf IsOfValue (members_joined (members_joined name value) count) l in (
-        own,
-        subst P (append-nil own)
-            (values_joined IsOfValue (members_joined name value) count own []
-            (values_joined IsOfValue name value [] own
-            (field_other [] MeansString StringTree (codes "name") v.0 name name_tree IsOfValue value_of_name)
-            are)
-            (field_other None (MeansSome (MeansSigned w64)) CountTree (codes "sampleCount") v.2 count
-            count_tree IsOfValue value_of_count)),
-        means,
-      )
+  parts : PartBack {V = ((List ℕ) × Float) × Option ℤ}
+      (λ n. (IsOfName n ⊎ IsOfValue n) ⊎ IsOfCount n)
+      (λ ms w. TwoSay ms w.0 × CountSays ms w.1) ((v.0, v.1), v.2)
+      (members_joined (members_joined name value) count)
+  parts =
+      both_part (λ n. IsOfName n ⊎ IsOfValue n) IsOfCount TwoSay CountSays (v.0, v.1) v.2
+      (members_joined name value) count two_parts count_part
+      (apart_of_either
+      (names_apart (codes "name") (codes "name") (codes "sample_count") (codes "sampleCount") refl)
+      (names_apart (codes "value") (codes "value") (codes "sample_count") (codes "sampleCount") refl))
 
-  count_said : FieldMeans None (MeansSome (MeansSigned w64)) IsOfCount ms v.2
-  unfolding ms
-  count_said =
-      let (own, are, means) = field_values None (MeansSome (MeansSigned w64)) CountTree
-      (codes "sampleCount") v.2 count count_tree IsOfCount (inr refl)
-      (λ e other is. optional_count v.2 range.1 e other is) in (
-        own,
-        values_joined IsOfCount (members_joined name value) count [] own
-            (values_joined IsOfCount name value [] []
-            (field_other [] MeansString StringTree (codes "name") v.0 name name_tree IsOfCount count_of_name)
-            (field_other float_zero (MeansFloat binary64) (IsFloatTree binary64) (codes "value") v.1 value value_tree
-            IsOfCount count_of_value))
-            are,
-        means,
-      )
+  known : (n : List ℕ) → (IsOfName n ⊎ IsOfValue n) ⊎ IsOfCount n
+      → IsOfName n ⊎ (IsOfValue n ⊎ (IsOfCount n ⊎ ⊥))
+  known n (inl (inl h)) = inl h
+  known n (inl (inr h)) = inr (inl h)
+  known n (inr h) = inr (inr (inl h))
 
-  said : IsReadAs (ObjectMeans sample-says) v (object (members_joined (members_joined name value) count))
-  unfolding ms Known
+  said : sample-says (members_joined (members_joined name value) count) v
   said =
-      by_meaning (ObjectMeans sample-says) v (object ms) lawful
-      (known, name_said, value_said, count_said)
+      let all = members_joined (members_joined name value) count in
+      let whole = said_alone (λ n. (IsOfName n ⊎ IsOfValue n) ⊎ IsOfCount n)
+      (λ ms w. TwoSay ms w.0 × CountSays ms w.1) ((v.0, v.1), v.2) all parts in
+      (known_weaker known all parts.own, whole.0.0, whole.0.1, whole.1)
 
-pub sample_back : SampleReadsBack
-sample_back v json range (all, (name, value, count, name_tree, value_tree, count_tree, is), tree) =
-    let whole = said v range name value count name_tree value_tree count_tree in
-    let P : Json → Type 0 = λ j. IsReadAs (ObjectMeans sample-says) v j in
-    subst P (sym (tree ∙ ap object is)) whole
+  lawful : IsLawful (object (members_joined (members_joined name value) count))
+  lawful = parts.lawful
+
+object_not_null : (ms : Members) (e : Json) → e ≡ object ms → e ≡ null → ⊥
+object_not_null ms e is h = absurd cc
+
+pub sample_back : (v : Sample-Value) → IsSampleInRange v
+    → ComesBack (ObjectMeans sample-says) (IsObjectTree sample-trees) v
+sample_back v range json (all, (name, value, count, name_tree, value_tree, count_tree, is), tree) =
+    let same = tree ∙ ap object is in
+    record {
+      lawful = subst IsLawful (sym same)
+          (lawful v range name value count name_tree value_tree count_tree);
+      means = subst (λ (j : Json). ObjectMeans sample-says j v) (sym same)
+          (said v range name value count name_tree value_tree count_tree);
+      present = object_not_null _ json same;
+    }
+
+pub sample_read_back : SampleReadsBack
+sample_read_back v json range tree =
+    let b = sample_back v range json tree in
+    by_meaning (ObjectMeans sample-says) v json b.lawful b.means

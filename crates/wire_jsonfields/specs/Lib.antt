@@ -1,3 +1,5 @@
+pub mod Back
+pub mod Batch
 pub mod Boxes
 pub mod EnumFields
 pub mod Fields
@@ -7,4 +9,5 @@ pub mod Maps
 pub mod Messages
 pub mod Objects
 pub mod OneValues
+pub mod Oneofs
 pub mod Sample

@@ -1,6 +1,6 @@
 //! Enums as scalars, by the table of their names.
-ghost use Rattle.std.specs.Prelude.{◌≡◌, ℤ, List};
-ghost use Rattle.wire_protojson.specs.declared.enums.EnumName.{EnumName};
+ghost use Rattle.std.specs.Prelude.{◌≡◌, ℤ};
+ghost use Rattle.wire_protojson.specs.Enums.{EnumTable, enum_table};
 
 use crate::kind::JsonScalar;
 use std::alloc::{AllocError, Global};
@@ -9,14 +9,15 @@ use wire_protojson::{EnumName, ReadError, read_enum, write_enum};
 
 /// An open enum as messages hold it: each `int32` is one of its values.
 pub trait JsonEnum: Drop + Sized {
-    /// The names of the values, of which those of one number are in the order of the schema.
-    ghost table: { List EnumName };
+    /// The names and numbers of the values, of which those of one number are in the order of the
+    /// schema.
+    ghost table: { EnumTable };
 
     /// The number of a value.
     ghost number: { Self → ℤ };
 
     fn names() -> &'static [EnumName<'static>]
-        ensures { result.now ≡ table };
+        ensures { enum_table result.now ≡ table };
 
     fn from_i32(value: i32) -> Self
         ensures { number result ≡ value };

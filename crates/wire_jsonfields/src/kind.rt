@@ -306,7 +306,7 @@ pub(crate) fn write_comma(out: &mut Vec<u8>, first: bool) -> Result<(), AllocErr
     wire_json::write_mark(out, Mark::Comma)
 }
 
-fn is_null(text: &[u8], at: usize) -> bool
+pub(crate) fn is_null(text: &[u8], at: usize) -> bool
     ensures { MatchBool result (kind_begun (drop at text.now) ≡ Some kinds.Null)
         (kind_begun (drop at text.now) ≡ Some kinds.Null → ⊥) }
 {

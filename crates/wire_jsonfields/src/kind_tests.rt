@@ -1,70 +1,175 @@
-//! What is read of texts as lists and as messages within others, and written again.
+//! What is read of texts as lists, maps, enums and messages within others, and written again. A test
+//! that is refused a request for memory fails with `OutOfMemory` as what was found, or not at all.
+use crate::answers::Answer::{Bad, Deep, Is, NoKey, Twice, Unfit, Unknown};
+use crate::answers::{Found, Row, found_in};
+use crate::batch::Level;
 use crate::sample::Sample;
-use crate::{Embedded, Implicit, JsonValue, Repeated};
+use crate::{AlwaysMessage, Embedded, EnumOf, Implicit, JsonValue, Map, Optional, Repeated};
 use std::alloc::Global;
-use wire_protojson::ReadError;
-
-// What a row finds: its own answer, want of memory, or anything else.
-#[derive(Clone, Copy, Debug, PartialEq)]
-enum Found {
-    Own,
-    Other,
-    OutOfMemory,
-}
-
-// A text, and what is written of its value, or the byte at which it is refused.
-type Row = (&'static [u8], Result<&'static [u8], usize>);
 
 const LISTS: [Row; 12] = [
-    (b"[]", Ok(b"[]")),
-    (b"[1]", Ok(b"[\"1\"]")),
-    (b"[ 1 , \"2\" , 3.0 ]", Ok(b"[\"1\",\"2\",\"3\"]")),
-    (b"[1,1]", Ok(b"[\"1\",\"1\"]")),
-    (b"1", Err(0)),
-    (b"{}", Err(0)),
-    (b"null", Err(0)),
-    (b"[null]", Err(1)),
-    (b"[1,1.5]", Err(3)),
-    (b"[[1]]", Err(1)),
-    (b"[1,]", Err(3)),
-    (b"[1 2]", Err(3)),
+    (b"[]", Is(b"[]")),
+    (b"[1]", Is(b"[\"1\"]")),
+    (b"[ 1 , \"2\" , 3.0 ]", Is(b"[\"1\",\"2\",\"3\"]")),
+    (b"[1,1]", Is(b"[\"1\",\"1\"]")),
+    (b"1", Unfit(0)),
+    (b"{}", Unfit(0)),
+    (b"null", Unfit(0)),
+    (b"[null]", Unfit(1)),
+    (b"[1,1.5]", Unfit(3)),
+    (b"[[1]]", Unfit(1)),
+    (b"[1,]", Bad(3)),
+    (b"[1 2]", Bad(3)),
 ];
 
 const MESSAGES: [Row; 5] = [
-    (b"{\"name\":\"a\"}", Ok(b"{\"name\":\"a\"}")),
-    (b"{}", Ok(b"{}")),
-    (b"[]", Err(0)),
-    (b"{\"name\":[]}", Err(8)),
-    (b"{\"value\":[[[]]]}", Err(10)),
+    (b"{\"name\":\"a\"}", Is(b"{\"name\":\"a\"}")),
+    (b"{}", Is(b"{}")),
+    (b"[]", Unfit(0)),
+    (b"{\"name\":[]}", Unfit(8)),
+    (b"{\"value\":[[[]]]}", Deep(10)),
 ];
 
-// Reads a value of this kind, in which two arrays and objects may stand in one another, and writes
-// it.
-fn found_in<K: JsonValue>(alloc: Global, row: &Row) -> Found {
-    let mut out = Vec::new(alloc);
-    let own = match K::read_json(alloc, row.0, 0, 2) {
-        Err(ReadError::OutOfMemory) => return Found::OutOfMemory,
-        Err(ReadError::Refused(refusal)) => row.1 == Err(refusal.at),
-        Ok((held, after)) => match K::write_json(alloc, &mut out, &held) {
-            Ok(()) => row.1 == Ok(out.as_slice()) && after == row.0.len(),
-            Err(_) => return Found::OutOfMemory,
-        },
-    };
-    if own { Found::Own } else { Found::Other }
+const MESSAGE_LISTS: [Row; 6] = [
+    (b"[{},{\"name\":\"a\"}]", Is(b"[{},{\"name\":\"a\"}]")),
+    (b"[ ]", Is(b"[]")),
+    (b"[{},null]", Unfit(4)),
+    (b"[{\"name\":1}]", Unfit(9)),
+    (b"[{\"other\":1}]", Unknown(10)),
+    (b"[{},[]]", Unfit(4)),
+];
+
+const LEVELS: [Row; 6] = [
+    (b"\"HIGH\"", Is(b"\"HIGH\"")),
+    (b"1", Is(b"\"HIGH\"")),
+    (b"7", Is(b"7")),
+    (b"\"high\"", Unfit(0)),
+    (b"2147483648", Unfit(0)),
+    (b"null", Unfit(0)),
+];
+
+const TEXT_KEYS: [Row; 9] = [
+    (b"{}", Is(b"{}")),
+    (b"{\"b\":1,\"a\":2}", Is(b"{\"a\":\"2\",\"b\":\"1\"}")),
+    (b"{\"\":1}", Is(b"{\"\":\"1\"}")),
+    (b"{\"a\":1,\"\\u0061\":2}", Twice(16)),
+    (b"{\"a\":null}", Unfit(5)),
+    (b"{\"a\":\"x\"}", Unfit(5)),
+    (b"[]", Unfit(0)),
+    (b"{\"a\":1,}", Bad(7)),
+    (b"{\"a\":[[[]]]}", Deep(6)),
+];
+
+const SIGNED_KEYS: [Row; 12] = [
+    (
+        b"{\"10\":1,\"-9\":2,\"9\":3}",
+        Is(b"{\"-9\":2,\"9\":3,\"10\":1}"),
+    ),
+    (b"{\"-2147483648\":0}", Is(b"{\"-2147483648\":0}")),
+    (b"{\"01\":1}", Is(b"{\"1\":1}")),
+    (b"{\"+1\":1}", Is(b"{\"1\":1}")),
+    (b"{\"-0\":1}", Is(b"{\"0\":1}")),
+    (b"{\"1\":1,\"01\":2}", Twice(12)),
+    (b"{\"2147483648\":1}", NoKey(14)),
+    (b"{\"1.0\":1}", NoKey(7)),
+    (b"{\"1e1\":1}", NoKey(7)),
+    (b"{\" 1\":1}", NoKey(6)),
+    (b"{\"\":1}", NoKey(4)),
+    (b"{\"-\":1}", NoKey(5)),
+];
+
+const UNSIGNED_KEYS: [Row; 4] = [
+    (
+        b"{\"18446744073709551615\":1,\"2\":3}",
+        Is(b"{\"2\":3,\"18446744073709551615\":1}"),
+    ),
+    (b"{\"18446744073709551616\":1}", NoKey(24)),
+    (b"{\"-0\":1}", NoKey(6)),
+    (b"{\"a\":1}", NoKey(5)),
+];
+
+const BOOL_KEYS: [Row; 4] = [
+    (
+        b"{\"true\":\"LOW\",\"false\":7}",
+        Is(b"{\"false\":7,\"true\":\"LOW\"}"),
+    ),
+    (b"{\"True\":0}", NoKey(8)),
+    (b"{\"1\":0}", NoKey(5)),
+    (b"{\"true\":\"TOP\"}", Unfit(8)),
+];
+
+const MESSAGE_VALUES: [Row; 4] = [
+    (
+        b"{\"9\":{\"name\":\"a\"},\"-9\":{}}",
+        Is(b"{\"-9\":{},\"9\":{\"name\":\"a\"}}"),
+    ),
+    (b"{\"1\":{\"name\":1}}", Unfit(13)),
+    (b"{\"1\":null}", Unfit(5)),
+    (b"{\"1\":[]}", Unfit(5)),
+];
+
+const BYTES_BY_WORD: [Row; 2] = [
+    (
+        b"{\"4294967295\":\"-_8\"}",
+        Is(b"{\"4294967295\":\"+/8=\"}"),
+    ),
+    (b"{\"4294967296\":\"\"}", NoKey(14)),
+];
+
+// The row that does not find its own answer, and what it finds.
+fn astray<V: JsonValue>(alloc: Global, rows: &[Row], levels: u32) -> Option<(usize, Found)> {
+    for (place, row) in rows.iter().enumerate() {
+        let found = found_in::<V>(alloc, row, levels);
+        if found != Found::Own {
+            return Some((place, found));
+        }
+    }
+    None
 }
 
 #[test]
 fn lists_are_read_and_written(rt: HostRuntime) {
-    for (place, row) in LISTS.iter().enumerate() {
-        let found = found_in::<Repeated<Implicit<i64>>>(rt.alloc(), row);
-        assert_eq!(rt; found, Found::Own, "{place}");
-    }
+    let alloc = rt.alloc();
+    assert_eq!(rt; astray::<Repeated<Implicit<i64>>>(alloc, &LISTS, 2), None);
+    assert_eq!(rt;
+        astray::<Repeated<AlwaysMessage<Sample>>>(alloc, &MESSAGE_LISTS, 2),
+        None
+    );
 }
 
 #[test]
-fn embedded_messages_are_read_and_written(rt: HostRuntime) {
-    for (place, row) in MESSAGES.iter().enumerate() {
-        let found = found_in::<Embedded<Sample>>(rt.alloc(), row);
-        assert_eq!(rt; found, Found::Own, "{place}");
-    }
+fn messages_and_enums_within_are_read_and_written(rt: HostRuntime) {
+    let alloc = rt.alloc();
+    assert_eq!(rt; astray::<Embedded<Sample>>(alloc, &MESSAGES, 2), None);
+    assert_eq!(rt; astray::<Implicit<EnumOf<Level>>>(alloc, &LEVELS, 1), None);
+    assert_eq!(rt; astray::<Optional<EnumOf<Level>>>(alloc, &LEVELS, 1), None);
+}
+
+#[test]
+fn maps_are_read_and_written(rt: HostRuntime) {
+    let alloc = rt.alloc();
+    assert_eq!(rt;
+        astray::<Map<String, Implicit<i64>>>(alloc, &TEXT_KEYS, 2),
+        None
+    );
+    assert_eq!(rt;
+        astray::<Map<i32, Implicit<u32>>>(alloc, &SIGNED_KEYS, 2),
+        None
+    );
+    assert_eq!(rt;
+        astray::<Map<u64, Implicit<i32>>>(alloc, &UNSIGNED_KEYS, 2),
+        None
+    );
+    assert_eq!(rt;
+        astray::<Map<bool, Implicit<EnumOf<Level>>>>(alloc, &BOOL_KEYS, 2),
+        None
+    );
+    assert_eq!(rt;
+        astray::<Map<i64, AlwaysMessage<Sample>>>(alloc, &MESSAGE_VALUES, 2),
+        None
+    );
+    assert_eq!(rt;
+        astray::<Map<u32, Implicit<Vec<u8>>>>(alloc, &BYTES_BY_WORD, 2),
+        None
+    );
 }

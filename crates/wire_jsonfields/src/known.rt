@@ -30,7 +30,7 @@ pub fn check_names(entries: &[Entry<'_>], fields: &[FieldName]) -> Result<(), Re
     Ok(())
 }
 
-fn is_known(fields: &[FieldName], entry: &Entry<'_>) -> bool
+pub(crate) fn is_known(fields: &[FieldName], entry: &Entry<'_>) -> bool
     ensures { MatchBool result (IsKnown fields.now (cow_str_bytes entry.now.name))
         (IsKnown fields.now (cow_str_bytes entry.now.name) → ⊥) }
 {

@@ -2,10 +2,18 @@
 //! `wire_protojson`. `CALLING.md` shows a message type by hand.
 //!
 //! Proved of every text: a message is read exactly where the definition reads it, by what the
-//! members of its object say of each field (`Fields`, `Lists`, `Messages`), and else it is refused.
-//! What is written of a message is read as that message (`sample`).
+//! members of its object say of each field (`Fields`, `Lists`, `Maps`, `Oneofs`, `Messages`), and
+//! else it is refused; a text has one reading. What is written of lists, maps and enums is read as
+//! them (`laws`), and so of the messages by hand (`sample`, `batch`).
 #![tactic(auto)]
 
+#[cfg(test)]
+mod answers;
+pub mod batch;
+#[cfg(test)]
+mod batch_tests;
+#[cfg(test)]
+mod caller;
 mod enum_field;
 mod find;
 mod held;
@@ -14,12 +22,14 @@ mod kind;
 #[cfg(test)]
 mod kind_tests;
 mod known;
+pub mod laws;
 mod list;
 mod map;
 mod message;
 #[cfg(test)]
 mod message_tests;
 mod object;
+mod oneof;
 pub mod sample;
 
 pub use enum_field::{EnumOf, JsonEnum};
@@ -32,3 +42,4 @@ pub use list::Repeated;
 pub use map::Map;
 pub use message::{AlwaysMessage, Embedded, JsonMessage, from_json, to_json};
 pub use object::{Entry, Object, read_object};
+pub use oneof::second_of_oneof;

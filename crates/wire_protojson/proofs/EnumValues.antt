@@ -1,10 +1,9 @@
 -- Values of enums.
-use Rattle.std.proofs.Common.{◌≡◌, List, [], ◌∷◌, inl, inr, refl, sym, ap, ◌∙◌, subst}
+use Rattle.std.proofs.Common.{◌≡◌, ℕ, List, [], ◌∷◌, inl, inr, refl, sym, ap, ◌∙◌, subst}
 use Rattle.std.specs.Prelude.{ℤ, FitsSigned}
 use Rattle.std.specs.Int.{w32}
 use Rattle.wire_json.specs.Json.{Json, null, boolean, number, string, array, object}
-use Rattle.wire_protojson.specs.declared.enums.EnumName.{EnumName}
-use Rattle.wire_protojson.specs.Enums.{AreTexts, IsEnumTree, IsFirst, MeansEnum, NamesAgree}
+use Rattle.wire_protojson.specs.Enums.{AreTexts, EnumTable, IsEnumTree, IsFirst, MeansEnum, NamesAgree}
 use Rattle.wire_protojson.specs.Laws.{IsDecided, IsReadAs}
 use Rattle.wire_protojson.specs.Trees.{short_signed_tree}
 use Rattle.wire_protojson.specs.Decided.{decided}
@@ -20,23 +19,23 @@ one_first P (z ∷ xs) x y (inl (here, is)) (inr (not, q)) = absurd (not here)
 one_first P (z ∷ xs) x y (inr (not, p)) (inl (here, is)) = absurd (not here)
 one_first P (z ∷ xs) x y (inr (not, p)) (inr (nor, q)) = one_first P xs x y p q
 
-one_value : (names : List EnumName) (json : Json) (y z : ℤ) → MeansEnum names json y
+one_value : (names : EnumTable) (json : Json) (y z : ℤ) → MeansEnum names json y
     → MeansEnum names json z → y ≡ z
 one_value names null y z p q = absurd p
 one_value names (boolean b) y z p q = absurd p
 one_value names (number text) y z p q = one_signed w32 (number text) y z p q
 one_value names (string text) y z (e, first, is) (f, again, same) =
     sym is
-    ∙ ap (λ (x : EnumName). x.number) (one_first (λ x. x.name.now ≡ text) names e f first again)
+    ∙ ap (λ (x : List ℕ × ℤ). x.1) (one_first (λ x. x.0 ≡ text) names e f first again)
     ∙ same
 one_value names (array es) y z p q = absurd p
 one_value names (object ms) y z p q = absurd p
 
-pub enums_decided : (names : List EnumName) → IsDecided (MeansEnum names)
+pub enums_decided : (names : EnumTable) → IsDecided (MeansEnum names)
 enums_decided names =
     decided (MeansEnum names) (one_value names) (λ es z m. absurd m) (λ ms z m. absurd m)
 
-pub enums_read_back : (names : List EnumName) (z : ℤ) (json : Json) → FitsSigned w32 z
+pub enums_read_back : (names : EnumTable) (z : ℤ) (json : Json) → FitsSigned w32 z
     → NamesAgree names → AreTexts names → IsEnumTree names z json
     → IsReadAs (MeansEnum names) z json
 enums_read_back names z json fits agree texts (inl (text, named, is)) =

@@ -1,5 +1,5 @@
 -- A search for the first of a list.
-use Rattle.std.proofs.Common.{◌≡◌, ℕ, zero, suc, ◌+◌, ◌<◌, ◌≤◌, List, [], ◌∷◌, length, drop, slice_index_or, inl, inr, refl, subst, arith}
+use Rattle.std.proofs.Common.{◌≡◌, ℕ, zero, suc, ◌+◌, ◌<◌, ◌≤◌, List, [], ◌∷◌, length, map, drop, slice_index_or, inl, inr, refl, subst, arith}
 use Rattle.std.proofs.Math.Seq.{drop-cons}
 use Rattle.wire_protojson.specs.Enums.{IsFirst}
 
@@ -25,31 +25,38 @@ module _ {X : Type 0} (P : X → Type 0) where
   pub found_first : (all rest : List X) (y : X) → SameFirst all (y ∷ rest) → P y → IsFirst P all y
   found_first all rest y s here = s.whole y (inl (here, refl))
 
-  pub at_index : (all : List X) (i : ℕ) (d : X) → i < length all → SameFirst all (drop i all)
-      → SameFirst all (slice_index_or all i d ∷ drop (suc i) all)
-  at_index all i d within s = subst (λ (l : List X). SameFirst all l) (drop-cons all i d within) s
+  module _ {A : Type 0} (f : A → X) where
+    at_index : (all : List A) (i : ℕ) (d : A) → i < length all
+        → SameFirst (map f all) (map f (drop i all))
+        → SameFirst (map f all) (f (slice_index_or all i d) ∷ map f (drop (suc i) all))
+    at_index all i d within s =
+        subst (λ (l : List A). SameFirst (map f all) (map f l)) (drop-cons all i d within) s
 
-  -- the one at an index for which P holds
-  pub found_at : (all : List X) (i : ℕ) (d : X) → i < length all → SameFirst all (drop i all)
-      → P (slice_index_or all i d) → IsFirst P all (slice_index_or all i d)
-  found_at all i d within s here =
-      found_first all (drop (suc i) all) (slice_index_or all i d) (at_index all i d within s) here
+    -- the one at an index for which P holds
+    pub found_at : (all : List A) (i : ℕ) (d : A) → i < length all
+        → SameFirst (map f all) (map f (drop i all)) → P (f (slice_index_or all i d))
+        → IsFirst P (map f all) (f (slice_index_or all i d))
+    found_at all i d within s here =
+        found_first (map f all) (map f (drop (suc i) all)) (f (slice_index_or all i d))
+        (at_index all i d within s) here
 
-  pub further : (all : List X) (i : ℕ) (d : X) → i < length all → SameFirst all (drop i all)
-      → (P (slice_index_or all i d) → ⊥) → SameFirst all (drop (i + 1) all)
-  further all i d within s other =
-      let next : suc i ≡ i + 1 = omega arith in
-      subst (λ (k : ℕ). SameFirst all (drop k all)) next
-      (past_other all (drop (suc i) all) (slice_index_or all i d) (at_index all i d within s) other)
+    pub further : (all : List A) (i : ℕ) (d : A) → i < length all
+        → SameFirst (map f all) (map f (drop i all)) → (P (f (slice_index_or all i d)) → ⊥)
+        → SameFirst (map f all) (map f (drop (i + 1) all))
+    further all i d within s other =
+        let next : suc i ≡ i + 1 = omega arith in
+        subst (λ (k : ℕ). SameFirst (map f all) (map f (drop k all))) next
+        (past_other (map f all) (map f (drop (suc i) all)) (f (slice_index_or all i d))
+        (at_index all i d within s) other)
 
-  pub none_left : (all : List X) (i : ℕ) → length all ≤ i → SameFirst all (drop i all)
-      → (x : X) → IsFirst P all x → ⊥
-  none_left all i past s x first =
-      let none : drop i all ≡ [] = drop_past all i past in
-      subst (λ (l : List X). IsFirst P l x) none (s.behind x first)
-    where
-      drop_past : (xs : List X) (k : ℕ) → length xs ≤ k → drop k xs ≡ []
-      drop_past [] zero h = refl
-      drop_past [] (suc k) h = refl
-      drop_past (x ∷ xs) zero h = absurd (omega (arith, h))
-      drop_past (x ∷ xs) (suc k) h = drop_past xs k (omega (arith, h))
+    pub none_left : (all : List A) (i : ℕ) → length all ≤ i
+        → SameFirst (map f all) (map f (drop i all)) → (x : X) → IsFirst P (map f all) x → ⊥
+    none_left all i past s x first =
+        let none : drop i all ≡ [] = drop_past all i past in
+        subst (λ (l : List A). IsFirst P (map f l) x) none (s.behind x first)
+      where
+        drop_past : (xs : List A) (k : ℕ) → length xs ≤ k → drop k xs ≡ []
+        drop_past [] zero h = refl
+        drop_past [] (suc k) h = refl
+        drop_past (x ∷ xs) zero h = absurd (omega (arith, h))
+        drop_past (x ∷ xs) (suc k) h = drop_past xs k (omega (arith, h))

@@ -4,7 +4,7 @@ ghost use Rattle.wire_json.specs.Answer.{IsBehind};
 ghost use Rattle.wire_json.specs.Compact.{Extends};
 ghost use Rattle.wire_json.specs.Json.{Json};
 ghost use Rattle.wire_json.specs.Written.{written};
-ghost use Rattle.wire_protojson.specs.Enums.{IsEnumTree, MeansEnum, NamesNumber, NumberIsNamed};
+ghost use Rattle.wire_protojson.specs.Enums.{IsEnumTree, MeansEnum, NamesNumber, NumberIsNamed, enum_table};
 ghost use Rattle.wire_protojson.specs.Reads.{ReadsMeaning, Refuses, RefusedAt, UnlessNoMemory};
 ghost use Rattle.wire_protojson.specs.Tokens.{token_tree};
 
@@ -41,8 +41,8 @@ fn number_in(entry: &EnumName<'_>) -> i32
 
 // The number of the first value of this name.
 fn number_named(names: &[EnumName<'_>], name: &str) -> Option<i32>
-    ensures some { IfSome result (NamesNumber names.now name.now) }
-    ensures none { IfNone result ((z : ℤ) → NamesNumber names.now name.now z → ⊥) }
+    ensures some { IfSome result (NamesNumber (enum_table names.now) name.now) }
+    ensures none { IfNone result ((z : ℤ) → NamesNumber (enum_table names.now) name.now z → ⊥) }
 {
     for entry in names {
         if is_named(entry, name) {
@@ -54,8 +54,8 @@ fn number_named(names: &[EnumName<'_>], name: &str) -> Option<i32>
 
 // The name of the first value of this number.
 fn name_of<'a>(names: &[EnumName<'a>], number: i32) -> Option<&'a str>
-    ensures some { IfSome result (λ name. NumberIsNamed names.now number name.now) }
-    ensures none { IfNone result ((name : List ℕ) → NumberIsNamed names.now number name → ⊥) }
+    ensures some { IfSome result (λ name. NumberIsNamed (enum_table names.now) number name.now) }
+    ensures none { IfNone result ((name : List ℕ) → NumberIsNamed (enum_table names.now) number name → ⊥) }
 {
     for entry in names {
         if is_numbered(entry, number) {
@@ -66,8 +66,8 @@ fn name_of<'a>(names: &[EnumName<'a>], number: i32) -> Option<&'a str>
 }
 
 fn enum_of(names: &[EnumName<'_>], token: &Token<'_>) -> Option<i32>
-    ensures some { IfSome result (MeansEnum names.now (token_tree token.now)) }
-    ensures none { IfNone result ((z : ℤ) → MeansEnum names.now (token_tree token.now) z → ⊥) }
+    ensures some { IfSome result (MeansEnum (enum_table names.now) (token_tree token.now)) }
+    ensures none { IfNone result ((z : ℤ) → MeansEnum (enum_table names.now) (token_tree token.now) z → ⊥) }
 {
     match token {
         Token::Null => None,
@@ -85,11 +85,12 @@ pub fn read_enum(
     text: &[u8],
     at: usize,
 ) -> Result<(i32, usize), ReadError>
-    ensures ok { IfOk result (λ read. ReadsMeaning (MeansEnum names.now) (drop at text.now) read.0
-        (drop read.1 text.now)) }
+    ensures ok { IfOk result (λ read. ReadsMeaning (MeansEnum (enum_table names.now))
+        (drop at text.now) read.0 (drop read.1 text.now)) }
     ensures behind { IfOk result (λ read. IsBehind at read.1 text.now) }
     ensures err { IfErr result (λ e. UnlessNoMemory e (λ refusal.
-        RefusedAt text.now refusal (Refuses (MeansEnum names.now) (drop at text.now)))) }
+        RefusedAt text.now refusal
+        (Refuses (MeansEnum (enum_table names.now)) (drop at text.now)))) }
 {
     match read_token(alloc, text, at) {
         Ok((token, after)) => match enum_of(names, &token) {
@@ -102,7 +103,7 @@ pub fn read_enum(
 
 /// Writes a value of an enum: its first name in the table, or its number where that has none.
 pub fn write_enum(out: &mut Vec<u8>, names: &[EnumName<'_>], number: i32) -> Result<(), AllocError>
-    ensures ok { OnOk result ((json : Json) × IsEnumTree names.now number json
+    ensures ok { OnOk result ((json : Json) × IsEnumTree (enum_table names.now) number json
         × (out.new.items ≡ out.old.items ++ written json)) }
     ensures err { OnErr result (Extends out.old.items out.new.items) }
 {

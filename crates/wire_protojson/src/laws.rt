@@ -4,8 +4,7 @@ ghost use Rattle.std.specs.Float.{Float, Format};
 ghost use Rattle.std.specs.Int.{Width, w32, w64};
 ghost use Rattle.base64.specs.GeneralPurpose.{IsBytes};
 ghost use Rattle.wire_json.specs.Json.{Json, boolean, string};
-ghost use Rattle.wire_protojson.specs.declared.enums.EnumName.{EnumName};
-ghost use Rattle.wire_protojson.specs.Enums.{AreTexts, IsEnumTree, MeansEnum, NamesAgree};
+ghost use Rattle.wire_protojson.specs.Enums.{AreTexts, EnumTable, IsEnumTree, MeansEnum, NamesAgree};
 ghost use Rattle.wire_protojson.specs.Laws.{IsDecided, IsReadAs};
 ghost use Rattle.wire_protojson.specs.Numbers.{MeansFloat, MeansSigned, MeansUnsigned};
 ghost use Rattle.wire_protojson.specs.Scalars.{MeansBool, MeansBytes, MeansString};
@@ -19,7 +18,7 @@ pub fn scalars_are_decided()
     ensures floats { (f : Format) → IsDecided (MeansFloat f) }
     ensures strings { IsDecided MeansString }
     ensures bytes { IsDecided MeansBytes }
-    ensures enums { (names : List EnumName) → IsDecided (MeansEnum names) }
+    ensures enums { (names : EnumTable) → IsDecided (MeansEnum names) }
 {}
 
 /// What is written of a value of a scalar type is read as that value.
@@ -37,7 +36,7 @@ pub fn scalars_are_read_back()
         → IsReadAs (MeansFloat f) x json }
     ensures strings { (s : List ℕ) → IsUtf8 s → IsReadAs MeansString s (string s) }
     ensures bytes { (b : List ℕ) → IsBytes b → IsReadAs MeansBytes b (bytes_tree b) }
-    ensures enums { (names : List EnumName) (z : ℤ) (json : Json) → FitsSigned w32 z
+    ensures enums { (names : EnumTable) (z : ℤ) (json : Json) → FitsSigned w32 z
         → NamesAgree names → AreTexts names → IsEnumTree names z json
         → IsReadAs (MeansEnum names) z json }
 {}

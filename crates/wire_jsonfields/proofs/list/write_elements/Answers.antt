@@ -1,4 +1,4 @@
-use Rattle.std.proofs.Common.{◌+◌, ◌++◌, ℕ, List, map, drop, refl, ap, ◌∙◌, append_assoc}
+use Rattle.std.proofs.Common.{◌+◌, map, drop, refl}
 use Rattle.std.proofs.lemmas.Result.{err_from_is_err_and}
 use Rattle.wire_json.specs.Compact.{Extends}
 use Rattle.wire_jsonfields.proofs.ListPuts.{extends_more, list_begun, list_whole, none_left, put_one, value_next}

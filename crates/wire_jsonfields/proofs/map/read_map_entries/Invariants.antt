@@ -1,4 +1,4 @@
-use Rattle.std.proofs.Common.{ℕ, List, drop}
+use Rattle.std.proofs.Common.{drop}
 use Rattle.wire_json.specs.Json.{Members}
 use Rattle.wire_jsonfields.specs.Maps.{entries_seen}
 use Rattle.wire_jsonfields.specs.Objects.{AreEntries}

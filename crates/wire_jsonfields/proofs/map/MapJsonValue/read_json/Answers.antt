@@ -1,6 +1,5 @@
 use Rattle.std.proofs.Common.{[], drop}
-use Rattle.std.specs.Prelude.{List}
-use Rattle.wire_json.specs.Json.{Members, object}
+use Rattle.wire_json.specs.Json.{object}
 use Rattle.wire_jsonfields.specs.Maps.{MembersPut}
 use Rattle.wire_jsonfields.proofs.MessageReads.{in_slice, no_object, none_said}
 use Rattle.wire_jsonfields.proofs.map.MapJsonValue.read_json.Goals as goal

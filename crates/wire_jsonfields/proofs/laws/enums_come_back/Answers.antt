@@ -1,0 +1,5 @@
+use Rattle.wire_jsonfields.proofs.EnumBack.{enum_back}
+use Rattle.wire_jsonfields.proofs.laws.enums_come_back.Goals as goal
+
+pub returns : goal.returns
+returns g c = enum_back g.E.JsonEnum.table

@@ -1,0 +1,5 @@
+use Rattle.wire_jsonfields.proofs.KeyBack.{signed_key_back, unsigned_key_back}
+use Rattle.wire_jsonfields.proofs.laws.keys_come_back.Goals as goal
+
+pub returns : goal.returns
+returns c = record { signed = signed_key_back; unsigned = unsigned_key_back }

@@ -1,0 +1,62 @@
+//! What tests find of texts: written again, or refused.
+use crate::JsonValue;
+use std::alloc::Global;
+use wire_json::FaultKind;
+use wire_protojson::{ReadError, Reason, Refusal};
+
+/// What a row finds: its own answer, want of memory, or anything else.
+#[derive(Clone, Copy, Debug, PartialEq)]
+pub(crate) enum Found {
+    Own,
+    Other,
+    OutOfMemory,
+}
+
+/// What is answered of a text: what is written of its value, or why and at which byte it is refused.
+#[derive(Clone, Copy)]
+pub(crate) enum Answer {
+    Is(&'static [u8]),
+    Bad(usize),
+    Deep(usize),
+    Unfit(usize),
+    Twice(usize),
+    Unknown(usize),
+    NoKey(usize),
+    Second(usize),
+}
+
+/// A text, and what is answered of it.
+pub(crate) type Row = (&'static [u8], Answer);
+
+// Whether a refusal is the one that a row has.
+fn is_refused(refusal: Refusal, answer: Answer) -> bool {
+    let (reason, at) = match answer {
+        Answer::Is(_) => return false,
+        Answer::Bad(at) => (Reason::NoJson(FaultKind::Syntax), at),
+        Answer::Deep(at) => (Reason::NoJson(FaultKind::TooDeep), at),
+        Answer::Unfit(at) => (Reason::NoValue, at),
+        Answer::Twice(at) => (Reason::Duplicate, at),
+        Answer::Unknown(at) => (Reason::UnknownName, at),
+        Answer::NoKey(at) => (Reason::NoKey, at),
+        Answer::Second(at) => (Reason::SecondOfOneof, at),
+    };
+    refusal.reason == reason && refusal.at == at
+}
+
+/// Reads a value of this kind, in which so many arrays and objects may stand in one another, and
+/// writes it.
+pub(crate) fn found_in<V: JsonValue>(alloc: Global, row: &Row, levels: u32) -> Found {
+    let mut out = Vec::new(alloc);
+    let own = match V::read_json(alloc, row.0, 0, levels) {
+        Err(ReadError::OutOfMemory) => return Found::OutOfMemory,
+        Err(ReadError::Refused(refusal)) => is_refused(refusal, row.1),
+        Ok((held, after)) => match V::write_json(alloc, &mut out, &held) {
+            Ok(()) => match row.1 {
+                Answer::Is(text) => out.as_slice() == text && after == row.0.len(),
+                _ => false,
+            },
+            Err(_) => return Found::OutOfMemory,
+        },
+    };
+    if own { Found::Own } else { Found::Other }
+}

@@ -1,0 +1,46 @@
+//! Laws of kinds: each function is a theorem, and does nothing.
+ghost use Rattle.std.specs.Prelude.{ℕ, ℤ, List, [], ◌<◌, ◌^◌, FitsSigned, decimal};
+ghost use Rattle.std.specs.Fmt.{signed_decimal};
+ghost use Rattle.std.specs.Int.{Width, w32, w64};
+ghost use Rattle.wire_protojson.specs.Enums.{AreTexts, IsEnumTree, MeansEnum, NamesAgree};
+ghost use Rattle.wire_jsonfields.specs.Back.{ComesBack, EachComesBack, EntriesComeBack, SpellsOneValue};
+ghost use Rattle.wire_jsonfields.specs.Keys.{IsSignedKey, IsUnsignedKey};
+ghost use Rattle.wire_jsonfields.specs.Lists.{IsListTree, ListMeans};
+ghost use Rattle.wire_jsonfields.specs.Maps.{IsMapTree, MapMeans};
+
+use crate::enum_field::JsonEnum;
+use crate::key::JsonKey;
+use crate::kind::JsonValue;
+use crate::message::JsonMessage;
+
+/// A text is read as one message of a type at most.
+pub fn a_text_has_one_reading<M: JsonMessage>()
+    ensures { SpellsOneValue M.means }
+{}
+
+/// What is written of a list is read as it, where that holds of each element.
+pub fn lists_come_back<V: JsonValue>()
+    ensures { (vs : List V.Value) → EachComesBack V.means V.tree vs
+        → ComesBack (ListMeans V.means) (IsListTree V.tree) vs }
+{}
+
+/// What is written of a map is read as it, where its keys ascend and that holds of each value.
+pub fn maps_come_back<K: JsonKey, V: JsonValue>()
+    ensures { (m : List (K.Value × V.Value))
+        → EntriesComeBack K.order K.means K.name V.means V.tree [] m
+        → ComesBack (MapMeans K.order K.means V.means) (IsMapTree K.name V.tree) m }
+{}
+
+/// What is written of an enum is read as its number, where no name stands for two.
+pub fn enums_come_back<E: JsonEnum>()
+    ensures { NamesAgree E.table → AreTexts E.table → (z : ℤ) → FitsSigned w32 z
+        → ComesBack (MeansEnum E.table) (IsEnumTree E.table) z }
+{}
+
+/// The name that is written of a number is its key.
+pub fn keys_come_back()
+    ensures signed { (w : Width) (z : ℤ) → FitsSigned w z → FitsSigned w64 z
+        → IsSignedKey w (signed_decimal z) z }
+    ensures unsigned { (bits : ℕ) (n : ℕ) → n < 2 ^ bits → n < 2 ^ 64
+        → IsUnsignedKey bits (decimal n) n }
+{}
