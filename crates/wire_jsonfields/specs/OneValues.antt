@@ -71,13 +71,16 @@ module _ {K V : Type 0} (order : K → K → Ordering) (Key : List ℕ → K →
       → MembersPut order Key Means ms before n → m ≡ n
   one_put no_member before m n p q = p ∙ sym q
   one_put (member name e ms) before m n (j, v, a, x, new, p) (k, w, b, y, again, q) =
-      let P : K → V → Type 0 = λ c z. MembersPut order Key Means ms (insert_entry order before c z) n in
+      let P : K → V → Type 0 = λ c z.
+      MembersPut order Key Means ms (insert_entry order before c z) n in
       let same = subst (λ c. P c w) (sym (one_key name j k a b)) q in
       one_put ms (insert_entry order before j v) m n p
       (subst (λ z. P j z) (sym (one e v w x y)) same)
 
   pub one_map : IsOneValued (MapMeans order Key Means)
-  one_map = one_object (λ ms m. MembersPut order Key Means ms [] m) (λ ms m n p q. one_put ms [] m n p q)
+  one_map =
+      one_object (λ ms m. MembersPut order Key Means ms [] m)
+      (λ ms m n p q. one_put ms [] m n p q)
 
 -- the values of a name are the same ones
 pub one_values : (Named : List ℕ → Type 0) (ms : Members) (xs ys : List Json)

@@ -42,7 +42,8 @@ sample-says ms v =
 
 pub one_sample : SayOne sample-says
 one_sample ms v w p q =
-    same_sample v w (one_field [] MeansString strings_decided.one_meaning IsOfName ms v.0 w.0 p.1 q.1)
+    same_sample v w
+    (one_field [] MeansString strings_decided.one_meaning IsOfName ms v.0 w.0 p.1 q.1)
     (one_field float_zero (MeansFloat binary64) (floats_decided binary64).one_meaning IsOfValue ms
     v.1 w.1 p.2 q.2)
     (one_field None (MeansSome (MeansSigned w64))

@@ -12,7 +12,8 @@ pub(crate) enum Found {
     OutOfMemory,
 }
 
-/// What is answered of a text: what is written of its value, or why and at which byte it is refused.
+/// What is answered of a text: what is written of its value, or why and at which byte it is
+/// refused.
 #[derive(Clone, Copy)]
 pub(crate) enum Answer {
     Is(&'static [u8]),

@@ -1,5 +1,6 @@
-//! What is read of texts as lists, maps, enums and messages within others, and written again. A test
-//! that is refused a request for memory fails with `OutOfMemory` as what was found, or not at all.
+//! What is read of texts as lists, maps, enums and messages within others, and written again. A
+//! test that is refused a request for memory fails with `OutOfMemory` as what was found, or not at
+//! all.
 use crate::answers::Answer::{Bad, Deep, Is, NoKey, Twice, Unfit, Unknown};
 use crate::answers::{Found, Row, found_in};
 use crate::batch::Level;

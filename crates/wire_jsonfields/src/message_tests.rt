@@ -1,5 +1,5 @@
-//! What is read of texts as a message, and what is written of one. A test that is refused a request for memory fails with
-//! `OutOfMemory` as what was found, or not at all.
+//! What is read of texts as a message, and what is written of one. A test that is refused a request
+//! for memory fails with `OutOfMemory` as what was found, or not at all.
 use crate::sample::Sample;
 use crate::{from_json, to_json};
 use std::alloc::{AllocError, Global};

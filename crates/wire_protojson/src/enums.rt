@@ -55,7 +55,8 @@ fn number_named(names: &[EnumName<'_>], name: &str) -> Option<i32>
 // The name of the first value of this number.
 fn name_of<'a>(names: &[EnumName<'a>], number: i32) -> Option<&'a str>
     ensures some { IfSome result (λ name. NumberIsNamed (enum_table names.now) number name.now) }
-    ensures none { IfNone result ((name : List ℕ) → NumberIsNamed (enum_table names.now) number name → ⊥) }
+    ensures none { IfNone result ((name : List ℕ)
+        → NumberIsNamed (enum_table names.now) number name → ⊥) }
 {
     for entry in names {
         if is_numbered(entry, number) {
@@ -67,7 +68,8 @@ fn name_of<'a>(names: &[EnumName<'a>], number: i32) -> Option<&'a str>
 
 fn enum_of(names: &[EnumName<'_>], token: &Token<'_>) -> Option<i32>
     ensures some { IfSome result (MeansEnum (enum_table names.now) (token_tree token.now)) }
-    ensures none { IfNone result ((z : ℤ) → MeansEnum (enum_table names.now) (token_tree token.now) z → ⊥) }
+    ensures none { IfNone result ((z : ℤ)
+        → MeansEnum (enum_table names.now) (token_tree token.now) z → ⊥) }
 {
     match token {
         Token::Null => None,

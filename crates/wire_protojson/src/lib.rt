@@ -1,5 +1,5 @@
-//! The JSON mapping of Protocol Buffers: scalars and enums, of which `wire_jsonfields` makes fields.
-//! `CALLING.md` shows its calls.
+//! The JSON mapping of Protocol Buffers: scalars and enums, of which `wire_jsonfields` makes
+//! fields. `CALLING.md` shows its calls.
 //!
 //! Proved of every text: a value is read exactly where the definition reads it (`Reads`), by which
 //! trees mean which values (`Numbers`, `Scalars`, `Enums`), and else one refusal is told, at its
