@@ -4,3 +4,4 @@ pub mod PassedRecords
 pub mod Reading
 pub mod Shown
 pub mod WalkLemmas
+pub mod Writing

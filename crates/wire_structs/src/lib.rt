@@ -10,22 +10,35 @@
 
 mod counting;
 mod inside;
+mod list_parts;
 mod message;
+mod message_parts;
 mod number;
+mod parts;
 mod passing;
+mod payload;
 mod presence;
+mod room;
 mod scalar;
 mod status;
 mod text;
 mod walking;
+mod written;
+mod written_scalars;
 
 pub use counting::{merge_count, merge_message_count};
 pub use inside::{merge_message, merge_optional_message};
+pub use list_parts::{ListPart, MessageListPart};
 pub use message::MessageStruct;
+pub use message_parts::{MessagePart, OptionalMessagePart};
 pub use number::{DoubleInC, EnumInC, FloatInC, NumberInC};
+pub use parts::{AlwaysPart, ImplicitPart, OptionalPart};
 pub use passing::pass_by;
+pub use payload::ScalarPayload;
 pub use presence::{merge_optional, merge_value};
+pub use room::{write_status, written_size};
 pub use scalar::StructScalar;
 pub use status::{context_within, default_context, read_status};
-pub use text::{BytesInC, TextInC};
+pub use text::{BytesInC, TextInC, TextSliceInC};
 pub use walking::{SliceInC, ValueList, next_status};
+pub use written::{StructPart, WrittenStruct, WrittenStructScalar};

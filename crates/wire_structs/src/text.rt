@@ -1,5 +1,6 @@
 //! Strings and bytes that stay where they were read.
 use crate::scalar::StructScalar;
+use crate::walking::SliceInC;
 use std::marker::PhantomData;
 use wire_codec::{DecodeError, Tag, WireType, borrow_bytes, borrow_str, check_wire_type, laws};
 
@@ -34,6 +35,34 @@ impl<'a> StructScalar for TextInC<'a> {
         let text = borrow_str(buf)?;
         *held = text.as_bytes();
         Ok(())
+    }
+}
+
+/// The type `string` as an element of a list of C's, in which a pointer and a length are a struct.
+pub struct TextSliceInC<'a> {
+    text: PhantomData<&'a [u8]>,
+}
+
+impl<'a> StructScalar for TextSliceInC<'a> {
+    ghost use Rattle.std.specs.Prelude.{ℕ, List};
+    ghost use Rattle.wire_fields.specs.Texts.{string};
+
+    type Source = &'a [u8];
+
+    type Held = SliceInC<'a>;
+
+    ghost Value = { List ℕ };
+
+    ghost view = { λ b. b.bytes.now };
+
+    ghost scalar = { string };
+
+    fn empty() -> SliceInC<'a> {
+        SliceInC { bytes: &[] }
+    }
+
+    fn set(tag: Tag, held: &mut SliceInC<'a>, buf: &mut &'a [u8]) -> Result<(), DecodeError> {
+        <TextInC<'a> as StructScalar>::set(tag, &mut held.bytes, buf)
     }
 }
 

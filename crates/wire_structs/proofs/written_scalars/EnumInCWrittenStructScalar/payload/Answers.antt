@@ -1,0 +1,12 @@
+use Rattle.std.proofs.Common.{◌≡◌, ap, rules, sym, ◌∙◌}
+use Rattle.wire_codec.specs.Field.{varint}
+use Rattle.wire_codec.specs.ValueMap.{int32}
+use Rattle.wire_structs.proofs.Writing.{kept_number}
+use Rattle.wire_structs.proofs.written_scalars.EnumInCWrittenStructScalar.payload.Goals as goal
+
+pub returns : goal.returns
+returns g c =
+    let is : c.number_of.result ≡ int32.enc c.args.held.now = search rules in
+    ap varint (is ∙ ap int32.enc (sym (kept_number
+    g.E.Enumeration.number g.E.Enumeration.of_number g.met.E.Enumeration.keeps_number
+    c.args.held.now)))
