@@ -34,17 +34,17 @@ module _ (joins : JoinedAddsUp) (a b : Records) where
 -- ---- a scalar value, by its payload
 
 module _ {V : Type 0} (t : ScalarType V) (n : ℕ) (p : Payload) (v : V) (is : p ≡ t.payload v) where
-  scalar_payload : field n (of_payload p) none ≡ scalar_record t n v
-  scalar_payload = ap (λ (x : Payload). field n (of_payload x) none) is
+  same_record : field n (of_payload p) none ≡ scalar_record t n v
+  same_record = ap (λ (x : Payload). field n (of_payload x) none) is
 
   pub scalar_len : (size : ℕ) → size ≡ in_64_bits (text_size (field n (of_payload p) none))
       → size ≡ in_64_bits (text_size (scalar_record t n v))
-  scalar_len size h = h ∙ ap (λ (rs : Records). in_64_bits (text_size rs)) scalar_payload
+  scalar_len size h = h ∙ ap (λ (rs : Records). in_64_bits (text_size rs)) same_record
 
   pub scalar_written : (old new : Held) (r : Result (Unit {0}) EncodeError)
       → Writes (text (field n (of_payload p) none)) old new r
       → Writes (text (scalar_record t n v)) old new r
-  scalar_written old new r h = subst (λ (rs : Records). Writes (text rs) old new r) scalar_payload h
+  scalar_written old new r h = subst (λ (rs : Records). Writes (text rs) old new r) same_record h
 
 -- ---- an enum
 

@@ -9,10 +9,9 @@
 #![tactic(auto)]
 
 mod counting;
+mod field_part;
 mod inside;
-mod list_parts;
 mod message;
-mod message_parts;
 mod number;
 mod parts;
 mod passing;
@@ -24,15 +23,16 @@ mod status;
 mod text;
 mod walking;
 mod written;
+mod written_lists;
+mod written_messages;
 mod written_scalars;
 
 pub use counting::{merge_count, merge_message_count};
+pub use field_part::FieldPart;
 pub use inside::{merge_message, merge_optional_message};
-pub use list_parts::{ListPart, MessageListPart};
 pub use message::MessageStruct;
-pub use message_parts::{MessagePart, OptionalMessagePart};
 pub use number::{DoubleInC, EnumInC, FloatInC, NumberInC};
-pub use parts::{AlwaysPart, ImplicitPart, OptionalPart};
+pub use parts::{always_part, implicit_part, optional_part};
 pub use passing::pass_by;
 pub use payload::ScalarPayload;
 pub use presence::{merge_optional, merge_value};
@@ -42,3 +42,5 @@ pub use status::{context_within, default_context, read_status};
 pub use text::{BytesInC, TextInC, TextSliceInC};
 pub use walking::{SliceInC, ValueList, next_status};
 pub use written::{StructPart, WrittenStruct, WrittenStructScalar};
+pub use written_lists::{messages_len, put_messages, put_values, values_len};
+pub use written_messages::{message_len, optional_message_len, put_message, put_optional_message};

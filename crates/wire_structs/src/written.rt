@@ -3,7 +3,7 @@ ghost use Rattle.std.specs.Prelude.{◌≡◌, ◌<◌, ◌^◌};
 ghost use Rattle.wire_codec.specs.Records.{Records, joined_records, text, text_size};
 ghost use Rattle.wire_codec.specs.Writes.{Writes};
 ghost use Rattle.wire_fields.specs.Numbers.{in_64_bits};
-ghost use Rattle.wire_structs.specs.Payloads.{payload_of};
+ghost use Rattle.wire_structs.specs.Payloads.{scalar_payload};
 
 use crate::payload::ScalarPayload;
 use crate::scalar::StructScalar;
@@ -17,7 +17,7 @@ pub trait WrittenStructScalar: StructScalar {
 
     /// What is written of the value. Text is not looked at: it is written as it stands.
     fn payload<'h>(held: &'h Self::Held) -> ScalarPayload<'h>
-        ensures { payload_of result ≡ Self.scalar.payload (Self.view held.now) };
+        ensures { scalar_payload result ≡ Self.scalar.payload (Self.view held.now) };
 }
 
 /// Some fields of a struct with their values: one, or two such parts as a pair. A struct of many

@@ -1,6 +1,6 @@
 //! The scalar types of structs, as they are written.
 ghost use Rattle.std.specs.Prelude.{◌≡◌};
-ghost use Rattle.wire_structs.specs.Payloads.{payload_of};
+ghost use Rattle.wire_structs.specs.Payloads.{scalar_payload};
 
 use crate::number::{DoubleInC, EnumInC, FloatInC, NumberInC};
 use crate::payload::ScalarPayload;
@@ -23,7 +23,7 @@ impl<'a, N: Number> WrittenStructScalar for NumberInC<'a, Numeric<N>> {
 
     #[inline(always)]
     fn payload<'h>(held: &'h N::Value) -> ScalarPayload<'h>
-        ensures { payload_of result ≡ (numeric N.form N.map).payload held.now }
+        ensures { scalar_payload result ≡ (numeric N.form N.map).payload held.now }
     {
         let number = N::number_of(*held);
         match N::form() {
@@ -48,7 +48,7 @@ impl<'a> WrittenStructScalar for DoubleInC<'a> {
 
     #[inline(always)]
     fn payload<'h>(held: &'h u64) -> ScalarPayload<'h>
-        ensures { payload_of result ≡ (numeric Fixed64 double).payload (double.dec held.now) }
+        ensures { scalar_payload result ≡ (numeric Fixed64 double).payload (double.dec held.now) }
     {
         ScalarPayload::Fixed64(*held)
     }
@@ -68,7 +68,7 @@ impl<'a> WrittenStructScalar for FloatInC<'a> {
 
     #[inline(always)]
     fn payload<'h>(held: &'h u32) -> ScalarPayload<'h>
-        ensures { payload_of result ≡ (numeric Fixed32 float).payload (float.dec held.now) }
+        ensures { scalar_payload result ≡ (numeric Fixed32 float).payload (float.dec held.now) }
     {
         ScalarPayload::Fixed32(*held)
     }
@@ -90,7 +90,7 @@ impl<'a, E: Enumeration> WrittenStructScalar for EnumInC<'a, E> {
 
     #[inline(always)]
     fn payload<'h>(held: &'h i32) -> ScalarPayload<'h>
-        ensures { payload_of result ≡ (numeric Varint (open_enum E.number E.of_number)).payload
+        ensures { scalar_payload result ≡ (numeric Varint (open_enum E.number E.of_number)).payload
             (known_or (E.of_number held.now) held.now) }
     {
         ScalarPayload::Varint(Int32::number_of(*held))

@@ -1,6 +1,6 @@
 use Rattle.std.proofs.Common.{◌∙◌, arith}
 use Rattle.wire_structs.proofs.Writing.{messages_more, messages_counted}
-use Rattle.wire_structs.proofs.list_parts.messages_len.Goals as goal
+use Rattle.wire_structs.proofs.written_lists.messages_len.Goals as goal
 
 pub loop-message-preserved : goal.loop-message-preserved
 loop-message-preserved g c = record {

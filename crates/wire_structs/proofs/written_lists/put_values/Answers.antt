@@ -1,7 +1,7 @@
 use Rattle.std.proofs.lemmas.Result.{err_from_is_err_and}
 use Rattle.wire_fields.proofs.Repeating.{next_text, none_left}
 use Rattle.wire_structs.proofs.Writing.{scalar_written}
-use Rattle.wire_structs.proofs.list_parts.put_each.Goals as goal
+use Rattle.wire_structs.proofs.written_lists.put_values.Goals as goal
 
 pub returns-in_err-put_record : goal.returns-in_err-put_record
 returns-in_err-put_record g c =

@@ -2,7 +2,7 @@ use Rattle.std.proofs.Common.{drop, map}
 use Rattle.wire_codec.specs.Records.{text}
 use Rattle.wire_codec.specs.Writes.{IsWrittenTo}
 use Rattle.wire_fields.specs.Presence.{each_record}
-use Rattle.wire_structs.proofs.list_parts.put_each.Given as goal
+use Rattle.wire_structs.proofs.written_lists.put_values.Given as goal
 
 -- the values so far are written, and those that are left come next
 abbrev pub invariant-loop-value : goal.invariant-loop-value

@@ -1,7 +1,7 @@
 use Rattle.std.proofs.Common.{◌∙◌, arith}
 use Rattle.wire_fields.proofs.Repeating.{counted_more, counted_all}
 use Rattle.wire_structs.proofs.Writing.{scalar_len}
-use Rattle.wire_structs.proofs.list_parts.each_len.Goals as goal
+use Rattle.wire_structs.proofs.written_lists.values_len.Goals as goal
 
 pub loop-value-preserved : goal.loop-value-preserved
 loop-value-preserved g c = record {

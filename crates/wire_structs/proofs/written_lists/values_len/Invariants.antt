@@ -2,7 +2,7 @@ use Rattle.std.proofs.Common.{◌≡◌, ◌+◌, ◌^◌, ◌<◌, drop, map}
 use Rattle.wire_codec.specs.Records.{text_size}
 use Rattle.wire_fields.specs.Numbers.{in_64_bits}
 use Rattle.wire_fields.specs.Presence.{each_record}
-use Rattle.wire_structs.proofs.list_parts.each_len.Given as goal
+use Rattle.wire_structs.proofs.written_lists.values_len.Given as goal
 
 -- what is counted so far, and what is left
 abbrev pub invariant-loop-value : goal.invariant-loop-value

@@ -1,7 +1,7 @@
 use Rattle.std.proofs.lemmas.Result.{err_from_is_err_and}
 use Rattle.wire_fields.proofs.Putting.{embedded_parts}
 use Rattle.wire_structs.proofs.Writing.{whole_len}
-use Rattle.wire_structs.proofs.message_parts.put_message.Goals as goal
+use Rattle.wire_structs.proofs.written_messages.put_message.Goals as goal
 
 pub returns-in_err-put_len_delimited_header : goal.returns-in_err-put_len_delimited_header
 returns-in_err-put_len_delimited_header g c =

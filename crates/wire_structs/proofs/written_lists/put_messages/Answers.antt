@@ -1,6 +1,6 @@
 use Rattle.std.proofs.lemmas.Result.{err_from_is_err_and}
 use Rattle.wire_structs.proofs.Writing.{message_small, messages_text, no_message}
-use Rattle.wire_structs.proofs.list_parts.put_messages.Goals as goal
+use Rattle.wire_structs.proofs.written_lists.put_messages.Goals as goal
 
 pub put_message-requires-clause-size : goal.put_message-requires-clause-size
 put_message-requires-clause-size g c =

@@ -2,7 +2,7 @@ use Rattle.std.proofs.Common.{◌^◌, ◌<◌, drop, map}
 use Rattle.wire_codec.specs.Records.{text, text_size}
 use Rattle.wire_codec.specs.Writes.{IsWrittenTo}
 use Rattle.wire_fields.specs.Messages.{length_prefixed, message_each}
-use Rattle.wire_structs.proofs.list_parts.put_messages.Given as goal
+use Rattle.wire_structs.proofs.written_lists.put_messages.Given as goal
 
 -- the messages so far are written, and those that are left come next
 abbrev pub invariant-loop-message : goal.invariant-loop-message

@@ -7,60 +7,14 @@ ghost use Rattle.wire_fields.specs.Messages.{length_prefixed, message_each};
 ghost use Rattle.wire_fields.specs.Numbers.{in_64_bits};
 ghost use Rattle.wire_fields.specs.Presence.{each_record};
 
-use crate::message_parts::{message_len, put_message};
 use crate::payload::{put_record, record_len};
-use crate::written::{StructPart, WrittenStruct, WrittenStructScalar};
+use crate::written::{WrittenStruct, WrittenStructScalar};
+use crate::written_messages::{message_len, put_message};
 use wire_codec::{EncodeError, EncodeSink, laws};
 
-/// Values of a scalar type, as `Repeated` of `wire_fields`: each is written, also a default one.
-#[derive(Drop)]
-pub struct ListPart<'h, S: WrittenStructScalar> {
-    pub number: u32,
-    pub values: &'h [S::Held],
-    ghost in_range: { IsFieldNumber number },
-}
-
-impl<'h, S: WrittenStructScalar> StructPart for ListPart<'h, S> {
-    ghost use Rattle.std.specs.Prelude.{map};
-    ghost use Rattle.wire_fields.specs.Presence.{each_record};
-
-    ghost records = { λ f. each_record S.scalar f.number (map S.view f.values.now) };
-
-    fn len(&self) -> u64 {
-        each_len::<S>(self.number, self.values)
-    }
-
-    fn put<E: EncodeSink>(&self, sink: &mut E) -> Result<(), EncodeError> {
-        put_each::<S, E>(self.number, self.values, sink)
-    }
-}
-
-/// Messages, as `EachEmbedded` of `wire_fields`.
-#[derive(Drop)]
-pub struct MessageListPart<'h, M: WrittenStruct> {
-    pub number: u32,
-    pub messages: &'h [M],
-    ghost in_range: { IsFieldNumber number },
-}
-
-impl<'h, M: WrittenStruct> StructPart for MessageListPart<'h, M> {
-    ghost use Rattle.std.specs.Prelude.{map};
-    ghost use Rattle.wire_fields.specs.Messages.{length_prefixed, message_each};
-
-    ghost records = { λ f. message_each length_prefixed M.records f.number
-        (map M.value f.messages.now) };
-
-    fn len(&self) -> u64 {
-        messages_len::<M>(self.number, self.messages)
-    }
-
-    fn put<E: EncodeSink>(&self, sink: &mut E) -> Result<(), EncodeError> {
-        put_messages::<M, E>(self.number, self.messages, sink)
-    }
-}
-
-// How many bytes the records of the values take, or `u64::MAX` where it is more.
-fn each_len<S: WrittenStructScalar>(number: u32, values: &[S::Held]) -> u64
+/// How many bytes the records of the values take, as those of `Repeated` of `wire_fields`, or
+/// `u64::MAX` where it is more.
+pub fn values_len<S: WrittenStructScalar>(number: u32, values: &[S::Held]) -> u64
     requires { IsFieldNumber number }
     ensures { result ≡ in_64_bits (text_size (each_record S.scalar number (map S.view values.now))) }
 {
@@ -72,8 +26,8 @@ fn each_len<S: WrittenStructScalar>(number: u32, values: &[S::Held]) -> u64
     size
 }
 
-// Writes the records of the values.
-fn put_each<S: WrittenStructScalar, E: EncodeSink>(
+/// Writes the records of the values. Refused where the sink refuses a put.
+pub fn put_values<S: WrittenStructScalar, E: EncodeSink>(
     number: u32,
     values: &[S::Held],
     sink: &mut E,
@@ -90,8 +44,9 @@ fn put_each<S: WrittenStructScalar, E: EncodeSink>(
     Ok(())
 }
 
-// How many bytes the records of the messages take, or `u64::MAX` where it is more.
-fn messages_len<M: WrittenStruct>(number: u32, messages: &[M]) -> u64
+/// How many bytes the records of the messages take, as those of `EachEmbedded` of `wire_fields`, or
+/// `u64::MAX` where it is more.
+pub fn messages_len<M: WrittenStruct>(number: u32, messages: &[M]) -> u64
     requires { IsFieldNumber number }
     ensures { result ≡ in_64_bits (text_size
         (message_each length_prefixed M.records number (map M.value messages.now))) }
@@ -104,8 +59,9 @@ fn messages_len<M: WrittenStruct>(number: u32, messages: &[M]) -> u64
     size
 }
 
-// Writes the records of the messages, of fewer than 2^64 bytes.
-fn put_messages<M: WrittenStruct, E: EncodeSink>(
+/// Writes the records of the messages, of fewer than `2^64` bytes. Refused where the sink refuses a
+/// put.
+pub fn put_messages<M: WrittenStruct, E: EncodeSink>(
     number: u32,
     messages: &[M],
     sink: &mut E,
