@@ -1,15 +1,18 @@
 //! The calls of `report_sample`.
-ghost use Rattle.std.specs.Prelude.{◌≡◌, ◌≢◌};
+ghost use Rattle.std.specs.Prelude.{◌≡◌, ◌≢◌, ◌<◌, length};
+ghost use Rattle.wire_base.specs.WriteLaws.{FillsSlice};
+ghost use Rattle.wire_codec.specs.Field.{Fields};
 ghost use Rattle.wire_codec.specs.Options.{default_limits};
 ghost use Rattle.wire_codec.specs.Taking.{NotDecoded};
+ghost use Rattle.wire_fields.specs.Numbers.{in_64_bits};
 ghost use Rattle.wire_fields.specs.Shape.{NotDecodedAs};
 ghost use Rattle.wire_report.specs.ReportSample.{report_sample-shape};
-ghost use Rattle.wire_stations.specs.ReportSample.{ReportSample-IsZero, report_sample-seen};
-ghost use Rattle.wire_stations.specs.ReportSample.{report_sample-shown};
+ghost use Rattle.wire_stations.specs.ReportSample.{ReportSample-IsZero, report_sample-encoding};
+ghost use Rattle.wire_stations.specs.ReportSample.{report_sample-seen, report_sample-shown};
 ghost use Rattle.wire_structs.specs.Within.{DecodesSeen, within_numbers};
 
 use wire_read::numbers::LimitNumbers;
-use wire_stations::{ReportSampleInC, read_report_sample};
+use wire_stations::{ReportSampleInC, read_report_sample, write_report_sample};
 use wire_structs::{context_within, default_context};
 
 /// Sets the sample to what all of the bytes are, within the limits of `Message::decode`: 0, exactly
@@ -40,4 +43,32 @@ pub extern "C" fn report_sample_read_within<'a>(
 {
     let mut context = context_within(limits);
     read_report_sample(bytes, &mut context, sample)
+}
+
+/// How many bytes the shortest encoding of what the sample shows takes, or `SIZE_MAX` where it is
+/// more.
+#[unsafe(no_mangle)]
+pub extern "C" fn report_sample_size(sample: &ReportSampleInC<'_>) -> usize
+    ensures { result ≡ in_64_bits (length (report_sample-encoding sample.now Fields.none)) }
+{
+    wire_stations::report_sample_size(sample)
+}
+
+/// Writes the shortest encoding of what the sample shows at the front of the room, and tells how
+/// many bytes it takes, or `SIZE_MAX` where it is more: 0, or 32 exactly where the room has fewer,
+/// and then the room stays.
+#[unsafe(no_mangle)]
+pub extern "C" fn report_sample_write(
+    sample: &ReportSampleInC<'_>,
+    room: &mut [u8],
+    len: &mut usize,
+) -> u32
+    ensures len { len.new ≡ in_64_bits (length (report_sample-encoding sample.now Fields.none)) }
+    ensures ok { result ≡ 0 → FillsSlice (report_sample-encoding sample.now Fields.none) 0
+        room.old room.new len.new }
+    ensures no_room { result ≢ 0 → (result ≡ 32) × (length room.old
+        < length (report_sample-encoding sample.now Fields.none)) }
+    ensures stays { result ≢ 0 → room.new ≡ room.old }
+{
+    write_report_sample(sample, room, len)
 }

@@ -1,16 +1,22 @@
 //! The calls of `station`.
-ghost use Rattle.std.specs.Prelude.{◌≡◌, ◌≢◌, []};
+ghost use Rattle.std.specs.Prelude.{◌≡◌, ◌≢◌, ◌<◌, [], length};
+ghost use Rattle.wire_base.specs.WriteLaws.{FillsSlice};
+ghost use Rattle.wire_codec.specs.Field.{Fields};
 ghost use Rattle.wire_codec.specs.Options.{default_limits};
 ghost use Rattle.wire_codec.specs.Taking.{NotDecoded};
+ghost use Rattle.wire_fields.specs.Numbers.{in_64_bits};
 ghost use Rattle.wire_fields.specs.Shape.{NotDecodedAs};
 ghost use Rattle.wire_stations.specs.Station.{Station-IsZero, station-seen, station-shape};
-ghost use Rattle.wire_stations.specs.Station.{samples-of-station, station-shown, tags-of-station};
+ghost use Rattle.wire_stations.specs.Station.{samples-of-station, station-encoding};
+ghost use Rattle.wire_stations.specs.Station.{station-shown, tags-of-station};
 ghost use Rattle.wire_stations.specs.StationLists.{MakesSample, SameBytes};
 ghost use Rattle.wire_structs.specs.Walks.{GivesNext, EndsList, MakesNothing};
 ghost use Rattle.wire_structs.specs.Within.{DecodesSeen, within_numbers};
 
 use wire_read::numbers::LimitNumbers;
-use wire_stations::{StationInC, next_station_sample, next_station_tag, read_station};
+use wire_stations::{
+    StationInC, StationListsInC, next_station_sample, next_station_tag, read_station, write_station,
+};
 use wire_structs::{SliceInC, context_within, default_context};
 
 /// Sets the station to what all of the bytes are, within the limits of `Message::decode`: 0,
@@ -74,4 +80,33 @@ pub extern "C" fn station_next_sample<'a>(walk: &mut SliceInC<'a>, sample: &mut 
         × (sample.new.bytes.now ≡ []) }
 {
     next_station_sample(walk, sample)
+}
+
+/// How many bytes the shortest encoding of what the station and its lists show takes, or `SIZE_MAX`
+/// where it is more.
+#[unsafe(no_mangle)]
+pub extern "C" fn station_size(station: &StationInC<'_>, lists: &StationListsInC<'_>) -> usize
+    ensures { result ≡ in_64_bits (length (station-encoding station.now lists.now Fields.none)) }
+{
+    wire_stations::station_size(station, lists)
+}
+
+/// Writes the shortest encoding of what the station and its lists show at the front of the room,
+/// and tells how many bytes it takes, or `SIZE_MAX` where it is more: 0, or 32 exactly where the
+/// room has fewer, and then the room stays.
+#[unsafe(no_mangle)]
+pub extern "C" fn station_write(
+    station: &StationInC<'_>,
+    lists: &StationListsInC<'_>,
+    room: &mut [u8],
+    len: &mut usize,
+) -> u32
+    ensures len { len.new ≡ in_64_bits (length (station-encoding station.now lists.now Fields.none)) }
+    ensures ok { result ≡ 0 → FillsSlice (station-encoding station.now lists.now Fields.none) 0
+        room.old room.new len.new }
+    ensures no_room { result ≢ 0 → (result ≡ 32) × (length room.old
+        < length (station-encoding station.now lists.now Fields.none)) }
+    ensures stays { result ≢ 0 → room.new ≡ room.old }
+{
+    write_station(station, lists, room, len)
 }

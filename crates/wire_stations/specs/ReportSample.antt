@@ -1,9 +1,11 @@
 -- `ReportSample` as a struct shows it.
-use Rattle.std.specs.Prelude.{◌≡◌, pos, [], false, ⊤}
+use Rattle.std.specs.Prelude.{◌≡◌, ℕ, List, pos, [], false, ⊤}
+use Rattle.wire_codec.specs.Field.{Fields}
+use Rattle.wire_codec.specs.Records.{text}
 use Rattle.wire_fields.specs.Floats.{double}
 use Rattle.wire_fields.specs.Shape.{Shape, two}
 use Rattle.wire_report.specs.ReportSample.{ReportSample-Known, ReportSample-Value}
-use Rattle.wire_report.specs.ReportSample.{report_sample-known}
+use Rattle.wire_report.specs.ReportSample.{report_sample-known, report_sample-shape}
 use Rattle.wire_structs.specs.Flags.{flagged}
 use Rattle.wire_structs.specs.Passed.{passed_by}
 use Rattle.wire_stations.specs.declared.report_sample.ReportSampleInC.{ReportSampleInC}
@@ -39,3 +41,11 @@ pub record ReportSample-IsZero (m : ReportSampleInC) : Type 0 where
   pub value : m.value ≡ 0
   pub has_count : m.has_count ≡ false
   pub count : m.count ≡ pos 0
+
+-- what is written of a struct and of unknown fields beside it, as a value of the message
+abbrev pub report_sample-written : ReportSampleInC → Fields → ReportSample-Value
+report_sample-written m fs = ((report_sample-shown m).0, fs)
+
+-- its shortest encoding
+abbrev pub report_sample-encoding : ReportSampleInC → Fields → List ℕ
+report_sample-encoding m fs = text (report_sample-shape.records (report_sample-written m fs))

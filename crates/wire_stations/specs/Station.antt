@@ -1,9 +1,10 @@
 -- `Station`, as contracts see it and as a struct shows it.
 use Rattle.std.proofs.Common.{◌≡◌}
-use Rattle.std.specs.Prelude.{Bool, List, Option, option_map, ℕ, ℤ, pos, [], false, ⊤}
+use Rattle.std.specs.Prelude.{Bool, List, Option, map, option_map, ℕ, ℤ, pos, [], false, ⊤}
 use Rattle.wire_codec.specs.EnumValue.{EnumValue}
 use Rattle.wire_codec.specs.Enumeration.{known_or}
 use Rattle.wire_codec.specs.Field.{Fields}
+use Rattle.wire_codec.specs.Records.{text}
 use Rattle.wire_codec.specs.ValueMap.{bool, sint32}
 use Rattle.wire_fields.specs.Enums.{open_enum}
 use Rattle.wire_fields.specs.Messages.{embedded_each, embedded_once}
@@ -20,11 +21,12 @@ use Rattle.wire_structs.specs.Flags.{flagged}
 use Rattle.wire_structs.specs.Passed.{passed_by}
 use Rattle.wire_stations.specs.ReportSample.{ReportSample-IsZero, ReportSample-Shown}
 use Rattle.wire_stations.specs.ReportSample.{report_sample-seen, report_sample-shown}
-use Rattle.wire_stations.specs.ReportSample.{report_sample-struct}
+use Rattle.wire_stations.specs.ReportSample.{report_sample-struct, report_sample-written}
 use Rattle.wire_stations.specs.StationPower.{StationPower-IsZero, StationPower-Of}
 use Rattle.wire_stations.specs.StationPower.{station_power-seen, station_power-shown}
-use Rattle.wire_stations.specs.StationPower.{station_power-with}
+use Rattle.wire_stations.specs.StationPower.{station_power-with, station_power-written}
 use Rattle.wire_stations.specs.declared.station.StationInC.{StationInC}
+use Rattle.wire_stations.specs.declared.station_lists.StationListsInC.{StationListsInC}
 
 -- ---- any station, whatever is seen of a sample
 
@@ -207,3 +209,36 @@ pub record Station-IsZero (m : StationInC) : Type 0 where
   pub power : StationPower-IsZero m.power
   pub tags_count : m.tags_count ≡ 0
   pub samples_count : m.samples_count ≡ 0
+
+-- ---- what is written of a struct
+
+-- of all fields but the lists
+abbrev pub station-fields-written : StationInC → Station-Of ReportSample-Value
+station-fields-written m = (
+  (station-fields-shown m).0,
+  (
+    (
+      flagged m.has_last (report_sample-written m.last Fields.none),
+      m.key.now,
+    ),
+    (
+      m.staffed,
+      station_power-written m.power,
+    ),
+  ),
+)
+
+-- of the lists that are handed in beside it
+abbrev pub station-lists-written : StationListsInC → (List (List ℕ)) × (List ReportSample-Value)
+station-lists-written l = (
+  map (λ b. b.bytes.now) l.tags.now,
+  map (λ m. report_sample-written m Fields.none) l.samples.now,
+)
+
+-- what is written of a struct, its lists, and unknown fields beside it, as a value of the message
+abbrev pub station-written : StationInC → StationListsInC → Fields → Station-Value
+station-written m l fs = ((station-fields-written m, station-lists-written l), fs)
+
+-- its shortest encoding
+abbrev pub station-encoding : StationInC → StationListsInC → Fields → List ℕ
+station-encoding m l fs = text (station-shape.records (station-written m l fs))

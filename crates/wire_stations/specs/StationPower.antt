@@ -1,6 +1,7 @@
 -- The oneof `power` of `Station`, as contracts see it and as a struct shows it.
 use Rattle.std.proofs.Common.{◌≡◌, inl, inr}
 use Rattle.std.specs.Prelude.{List, None, Option, Some, ℕ, ◌⊎◌, [], ◌==◌, if◌then◌else◌}
+use Rattle.wire_codec.specs.Field.{Fields}
 use Rattle.wire_codec.specs.Records.{Records, none}
 use Rattle.wire_fields.specs.Floats.{float}
 use Rattle.wire_fields.specs.Messages.{embedded_always}
@@ -14,7 +15,7 @@ use Rattle.wire_fields.specs.declared.form.Form.TheVariants.{Fixed32}
 use Rattle.wire_report.specs.ReportSample.{ReportSample-Value, report_sample-shape}
 use Rattle.wire_stations.specs.ReportSample.{ReportSample-IsZero, ReportSample-Shown}
 use Rattle.wire_stations.specs.ReportSample.{report_sample-seen, report_sample-shown}
-use Rattle.wire_stations.specs.ReportSample.{report_sample-struct}
+use Rattle.wire_stations.specs.ReportSample.{report_sample-struct, report_sample-written}
 use Rattle.wire_stations.specs.declared.station_power.StationPowerInC.{StationPowerInC}
 
 -- ---- any oneof of these fields, whatever is seen of a sample
@@ -106,3 +107,11 @@ pub record StationPower-IsZero (m : StationPowerInC) : Type 0 where
   pub volts : m.volts ≡ 0
   pub grid : m.grid.now ≡ []
   pub backup : ReportSample-IsZero m.backup
+
+-- what is written of a struct: the field that stands, and none for a number that is no field's
+abbrev pub station_power-written : StationPowerInC → StationPower-Value
+station_power-written m =
+    if m.which == 8 then Some (inl (float.dec m.volts))
+    else if m.which == 9 then Some (inr (inl m.grid.now))
+    else if m.which == 10 then Some (inr (inr (report_sample-written m.backup Fields.none)))
+    else None

@@ -5,13 +5,19 @@
 mod read;
 mod report_sample;
 mod station;
+mod station_fields;
+mod station_list_fields;
+mod station_lists;
 mod station_power;
 mod station_samples;
 mod station_tags;
+mod write;
 
 pub use read::{read_report_sample, read_station};
 pub use report_sample::ReportSampleInC;
 pub use station::StationInC;
+pub use station_lists::StationListsInC;
 pub use station_power::StationPowerInC;
 pub use station_samples::next_station_sample;
 pub use station_tags::next_station_tag;
+pub use write::{report_sample_size, station_size, write_report_sample, write_station};

@@ -1,8 +1,9 @@
 //! The message `report.Report.Sample` as a struct.
-use wire_codec::{DecodeContext, DecodeError, Tag};
+use wire_codec::{DecodeContext, DecodeError, EncodeError, EncodeSink, Tag};
 use wire_fields::Int64;
 use wire_structs::{
-    DoubleInC, MessageStruct, NumberInC, TextInC, merge_optional, merge_value, pass_by,
+    DoubleInC, MessageStruct, NumberInC, StructPart, TextInC, WrittenStruct, implicit_part,
+    merge_optional, merge_value, optional_part, pass_by,
 };
 
 /// What was measured once.
@@ -60,5 +61,61 @@ impl<'a> MessageStruct for ReportSampleInC<'a> {
             ),
             _ => pass_by(tag, buf, context),
         }
+    }
+}
+
+/// The fields of a sample, as they are written.
+#[derive(Drop)]
+pub struct ReportSampleFields<'h, 'a> {
+    pub message: &'h ReportSampleInC<'a>,
+}
+
+// The fields one by one.
+macro_rules! parts {
+    ($message:expr) => {
+        (
+            (
+                implicit_part::<TextInC<'a>>(1, &$message.name),
+                implicit_part::<DoubleInC<'a>>(2, &$message.value),
+            ),
+            optional_part::<NumberInC<'a, Int64>>(3, $message.has_count, &$message.count),
+        )
+    };
+}
+
+impl<'h, 'a> StructPart for ReportSampleFields<'h, 'a> {
+    ghost use Rattle.wire_report.specs.ReportSample.{report_sample-known};
+    ghost use Rattle.wire_stations.specs.ReportSample.{report_sample-shown};
+
+    ghost records = { λ f. report_sample-known.records (report_sample-shown f.message.now).0 };
+
+    #[inline(always)]
+    fn len(&self) -> u64 {
+        parts!(self.message).len()
+    }
+
+    #[inline(always)]
+    fn put<E: EncodeSink>(&self, sink: &mut E) -> Result<(), EncodeError> {
+        parts!(self.message).put(sink)
+    }
+}
+
+impl<'a> WrittenStruct for ReportSampleInC<'a> {
+    ghost use Rattle.wire_codec.specs.Field.{Fields};
+    ghost use Rattle.wire_report.specs.ReportSample.{ReportSample-Value, report_sample-shape};
+    ghost use Rattle.wire_stations.specs.ReportSample.{report_sample-written};
+
+    ghost Value = { ReportSample-Value };
+
+    ghost value = { λ m. report_sample-written m Fields.none };
+
+    ghost records = { report_sample-shape.records };
+
+    fn written_len(&self) -> u64 {
+        (ReportSampleFields { message: self }, ()).len()
+    }
+
+    fn put_records<E: EncodeSink>(&self, sink: &mut E) -> Result<(), EncodeError> {
+        (ReportSampleFields { message: self }, ()).put(sink)
     }
 }

@@ -8,8 +8,11 @@ ghost use Rattle.wire_stations.specs.StationPower.{station_power-shown, station_
 ghost use Rattle.wire_stations.specs.StationPower.{StationPower-IsZero, backup-of-station_power-as};
 
 use crate::report_sample::ReportSampleInC;
-use wire_codec::{DecodeContext, DecodeError, Tag};
-use wire_structs::{FloatInC, MessageStruct, TextInC, merge_message, merge_value};
+use wire_codec::{DecodeContext, DecodeError, EncodeError, EncodeSink, Tag, laws};
+use wire_structs::{
+    FloatInC, MessageStruct, StructPart, TextInC, always_part, merge_message, merge_value,
+    message_len, put_message,
+};
 
 /// What a station runs on.
 #[repr(C)]
@@ -79,6 +82,39 @@ impl<'a> StationPowerInC<'a> {
                 self.stand(10);
                 merge_message::<ReportSampleInC<'a>>(tag, &mut self.backup, buf, context)
             }
+        }
+    }
+}
+
+/// The field that stands, as it is written; none where `which` is no field's number.
+#[derive(Drop)]
+pub struct StationPowerField<'h, 'a> {
+    pub power: &'h StationPowerInC<'a>,
+}
+
+impl<'h, 'a> StructPart for StationPowerField<'h, 'a> {
+    ghost use Rattle.wire_stations.specs.StationPower.{station_power-shape, station_power-written};
+
+    ghost records = { λ f. station_power-shape.records (station_power-written f.power.now) };
+
+    fn len(&self) -> u64 {
+        let power = self.power;
+        match power.which {
+            8 => always_part::<FloatInC<'a>>(8, &power.volts).len(),
+            9 => always_part::<TextInC<'a>>(9, &power.grid).len(),
+            10 => message_len(10, &power.backup),
+            _ => 0,
+        }
+    }
+
+    fn put<E: EncodeSink>(&self, sink: &mut E) -> Result<(), EncodeError> {
+        laws::piece_by_piece();
+        let power = self.power;
+        match power.which {
+            8 => always_part::<FloatInC<'a>>(8, &power.volts).put(sink),
+            9 => always_part::<TextInC<'a>>(9, &power.grid).put(sink),
+            10 => put_message(10, &power.backup, sink),
+            _ => Ok(()),
         }
     }
 }
