@@ -2,16 +2,24 @@
  *
  * A struct is of fixed size and owns nothing: strings and `bytes` are pointers into the bytes that
  * were read, so these have to live and stay as they are for as long as the struct is used. Each
- * call is proved: for all bytes, and whatever the struct held before, it ends, reads only the bytes
- * that it is handed, writes only the struct that it is handed, asks for no memory and keeps no
+ * call is proved: for all bytes, and whatever the struct held before, it ends, reads only what it
+ * is handed, writes only the struct or the room that it is handed, asks for no memory and keeps no
  * state, so calls on structs of their own may run at once. What stands on trust: that a header is
  * that of its library, which `./run` looks at, the C compiler, and that a caller hands in what
  * these conditions say:
  *
- * - a pointer to a struct or to limits is not null and is aligned, and the struct that a call sets
- *   overlaps nothing else that it is handed;
+ * - a pointer to a struct, to limits or to a length is not null and is aligned, and the struct, the
+ *   room and the length that a call sets overlap nothing else that it is handed;
  * - `bytes` points to `len` bytes that nothing writes during the call; where `len` is 0 it may be
- *   any pointer, NULL too.
+ *   any pointer, NULL too;
+ * - so does each string and `bytes` of a struct that is written, each list beside it to as many
+ *   elements, and `room` to `room_len` bytes; and each `bool` of it is true or false.
+ *
+ * A struct that is to be written is one that was read, or one of the program's own, of which all
+ * is zero that it does not set. It is written as it stands: of a field whose flag is false, and of
+ * those of a oneof that do not stand, nothing; of a oneof whose number is that of no field of it,
+ * nothing; and a string without a look whether it is UTF-8, which a reader then refuses. The same
+ * holds of a message of more than 2,147,483,647 bytes, which readers take no more.
  *
  * How a field of a message stands in its struct:
  *

@@ -1,4 +1,4 @@
-/* The messages of station.proto as structs, read in place. What a struct is and what is asked of a
+/* The messages of station.proto as structs, read in place and written. What a struct is and what is asked of a
  * caller is told in gettavil_structs.h. C99 and C++11. */
 #ifndef STATION_H
 #define STATION_H
@@ -56,6 +56,15 @@ typedef struct station {
     uint64_t samples_count;
 } station;
 
+/* The lists of a station that is written: pointers to the first element and how many there are.
+ * All is zero where there are none. */
+typedef struct station_lists {
+    const gtv_bytes *tags;
+    size_t tags_len;
+    const report_sample *samples;
+    size_t samples_len;
+} station_lists;
+
 /* Each sets the struct to what all of the bytes are: GTV_OK, exactly where they are such a message
  * within the limits. Any other status says that they are not, and then the struct is zero; it is
  * that of the error: GTV_UNEXPECTED_EOF, GTV_VARINT_TOO_LONG, GTV_INVALID_WIRE_TYPE,
@@ -82,6 +91,21 @@ uint32_t station_next_tag(gtv_bytes *walk, gtv_bytes *tag);
 /* The same of the samples, of which it gives the bytes: what report_sample_read reads. */
 uint32_t station_next_sample(gtv_bytes *walk, gtv_bytes *sample);
 
+/* How many bytes the shortest encoding of what a struct shows has, or SIZE_MAX where they are more.
+ * It is that of a message with these fields and no others, in the order of their numbers. Of a
+ * station the lists are those that are handed in beside it; what `tags_count` and `samples_count`
+ * say is not looked at. */
+size_t report_sample_size(const report_sample *it);
+size_t station_size(const station *it, const station_lists *lists);
+
+/* Each writes that encoding at the front of the room. GTV_OK; or GTV_NO_ROOM, exactly where the
+ * room is smaller, and then it stays as it was. `*len` is how many bytes the encoding has, either
+ * way, so a call with room of 0 bytes says how much it wants. Nothing behind the encoding is
+ * written. */
+uint32_t report_sample_write(const report_sample *it, uint8_t *room, size_t room_len, size_t *len);
+uint32_t station_write(const station *it, const station_lists *lists, uint8_t *room,
+                       size_t room_len, size_t *len);
+
 #ifdef __cplusplus
 }
 #endif
@@ -107,5 +131,9 @@ GTV_LAYOUT(station_staffed, offsetof(station, staffed) == 112);
 GTV_LAYOUT(station_power_of_station, offsetof(station, power) == 120);
 GTV_LAYOUT(station_tags_count, offsetof(station, tags_count) == 184);
 GTV_LAYOUT(station_samples_count, offsetof(station, samples_count) == 192);
+GTV_LAYOUT(size_of_station_lists, sizeof(station_lists) == 32);
+GTV_LAYOUT(station_lists_tags_len, offsetof(station_lists, tags_len) == 8);
+GTV_LAYOUT(station_lists_samples, offsetof(station_lists, samples) == 16);
+GTV_LAYOUT(station_lists_samples_len, offsetof(station_lists, samples_len) == 24);
 
 #endif

@@ -1,5 +1,5 @@
-//! The messages of `station.proto`, read in place.
-use crate::structs::{Bytes, Limits, Refusal, Text};
+//! The messages of `station.proto`, read in place and written.
+use crate::structs::{Bytes, Limits, List, NoRoom, Refusal, Text};
 use std::mem::MaybeUninit;
 
 /// `report.Report.Sample`: what was measured once.
@@ -13,6 +13,15 @@ pub struct ReportSample<'a> {
 }
 
 impl<'a> ReportSample<'a> {
+    pub fn new(name: &'a str, value: f64, count: Option<i64>) -> ReportSample<'a> {
+        ReportSample {
+            name: Text::new(name),
+            value,
+            has_count: count.is_some(),
+            count: count.unwrap_or(0),
+        }
+    }
+
     /// The sample that all of the bytes are.
     pub fn read(bytes: &'a [u8]) -> Result<ReportSample<'a>, Refusal> {
         let mut it = MaybeUninit::uninit();
@@ -39,6 +48,21 @@ impl<'a> ReportSample<'a> {
     pub fn count(&self) -> Option<i64> {
         self.has_count.then_some(self.count)
     }
+
+    /// How many bytes the shortest encoding has.
+    pub fn size(&self) -> usize {
+        // SAFETY: the struct is one that was read or made here.
+        unsafe { report_sample_size(self) }
+    }
+
+    /// Writes the shortest encoding at the front of the room, and says how many bytes it has.
+    pub fn write(&self, room: &mut [u8]) -> Result<usize, NoRoom> {
+        let mut len = 0;
+        // SAFETY: as of `size`, and the room is the caller's alone.
+        let status =
+            unsafe { report_sample_write(self, room.as_mut_ptr(), room.len(), &mut len) };
+        wrote(status, len)
+    }
 }
 
 #[repr(C)]
@@ -48,6 +72,24 @@ struct PowerInC<'a> {
     volts: f32,
     grid: Text<'a>,
     backup: ReportSample<'a>,
+}
+
+impl<'a> PowerInC<'a> {
+    fn of(power: Option<StationPower<'a>>) -> PowerInC<'a> {
+        let mut it = PowerInC {
+            which: 0,
+            volts: 0.0,
+            grid: Text::new(""),
+            backup: ReportSample::new("", 0.0, None),
+        };
+        match power {
+            Some(StationPower::Volts(volts)) => (it.which, it.volts) = (8, volts),
+            Some(StationPower::Grid(grid)) => (it.which, it.grid) = (9, Text::new(grid)),
+            Some(StationPower::Backup(backup)) => (it.which, it.backup) = (10, backup),
+            None => {}
+        }
+        it
+    }
 }
 
 /// The oneof `power` of `station.Station`: what it runs on.
@@ -78,6 +120,25 @@ pub struct Station<'a> {
 }
 
 impl<'a> Station<'a> {
+    /// The station of no fields.
+    pub fn new() -> Station<'a> {
+        Station {
+            name: Text::new(""),
+            level: 0,
+            has_height: false,
+            height: 0,
+            has_note: false,
+            note: Text::new(""),
+            has_last: false,
+            last: ReportSample::new("", 0.0, None),
+            key: Bytes::new(&[]),
+            staffed: false,
+            power: PowerInC::of(None),
+            tags_count: 0,
+            samples_count: 0,
+        }
+    }
+
     /// The station that all of the bytes are.
     pub fn read(bytes: &'a [u8]) -> Result<Station<'a>, Refusal> {
         let mut it = MaybeUninit::uninit();
@@ -123,6 +184,57 @@ impl<'a> Station<'a> {
         self.staffed
     }
 
+    pub fn set_name(&mut self, name: &'a str) {
+        self.name = Text::new(name);
+    }
+
+    /// Sets the number of the level, also to one that the schema does not know.
+    pub fn set_level(&mut self, level: i32) {
+        self.level = level;
+    }
+
+    /// Sets the metres above the sea.
+    pub fn set_height(&mut self, height: Option<i32>) {
+        (self.has_height, self.height) = (height.is_some(), height.unwrap_or(0));
+    }
+
+    pub fn set_note(&mut self, note: Option<&'a str>) {
+        (self.has_note, self.note) = (note.is_some(), Text::new(note.unwrap_or("")));
+    }
+
+    pub fn set_last(&mut self, last: Option<ReportSample<'a>>) {
+        self.has_last = last.is_some();
+        self.last = last.unwrap_or_else(|| ReportSample::new("", 0.0, None));
+    }
+
+    pub fn set_key(&mut self, key: &'a [u8]) {
+        self.key = Bytes::new(key);
+    }
+
+    pub fn set_staffed(&mut self, staffed: bool) {
+        self.staffed = staffed;
+    }
+
+    pub fn set_power(&mut self, power: Option<StationPower<'a>>) {
+        self.power = PowerInC::of(power);
+    }
+
+    /// How many bytes the shortest encoding has, with these lists.
+    pub fn size(&self, lists: &StationLists<'_>) -> usize {
+        // SAFETY: the structs are ones that were read or made here.
+        unsafe { station_size(self, lists) }
+    }
+
+    /// Writes the shortest encoding, with these lists, at the front of the room, and says how many
+    /// bytes it has.
+    pub fn write(&self, lists: &StationLists<'_>, room: &mut [u8]) -> Result<usize, NoRoom> {
+        let mut len = 0;
+        let (data, room_len) = (room.as_mut_ptr(), room.len());
+        // SAFETY: as of `size`, and the room is the caller's alone.
+        let status = unsafe { station_write(self, lists, data, room_len, &mut len) };
+        wrote(status, len)
+    }
+
     /// How many tags there are.
     pub fn tags_count(&self) -> u64 {
         self.tags_count
@@ -143,6 +255,26 @@ impl<'a> Station<'a> {
     }
 }
 
+impl Default for Station<'_> {
+    fn default() -> Self {
+        Station::new()
+    }
+}
+
+/// The lists of a station that is written.
+#[repr(C)]
+#[derive(Clone, Copy)]
+pub struct StationLists<'a> {
+    tags: List<'a, Text<'a>>,
+    samples: List<'a, ReportSample<'a>>,
+}
+
+impl<'a> StationLists<'a> {
+    pub fn new(tags: &'a [Text<'a>], samples: &'a [ReportSample<'a>]) -> StationLists<'a> {
+        StationLists { tags: List::new(tags), samples: List::new(samples) }
+    }
+}
+
 /// The tags of a station, in order, in the bytes that it was read from.
 #[derive(Clone)]
 pub struct Tags<'a> {
@@ -160,7 +292,7 @@ impl<'a> Iterator for Tags<'a> {
 
     /// Ends where the bytes are no station, too.
     fn next(&mut self) -> Option<&'a str> {
-        let mut tag = Text::empty();
+        let mut tag = Text::new("");
         // SAFETY: both are structs that nothing else has.
         let status = unsafe { station_next_tag(&mut self.walk, &mut tag) };
         (status == 0).then(|| tag.get())
@@ -199,6 +331,15 @@ fn told<T>(status: u32, it: MaybeUninit<T>) -> Result<T, Refusal> {
     Ok(unsafe { it.assume_init() })
 }
 
+// The library tells the length of the encoding whatever it answers.
+fn wrote(status: u32, len: usize) -> Result<usize, NoRoom> {
+    if status == 0 {
+        Ok(len)
+    } else {
+        Err(NoRoom(len))
+    }
+}
+
 extern "C" {
     fn report_sample_read<'a>(bytes: *const u8, len: usize, it: *mut ReportSample<'a>) -> u32;
     fn report_sample_read_within<'a>(
@@ -207,12 +348,27 @@ extern "C" {
         limits: *const Limits,
         it: *mut ReportSample<'a>,
     ) -> u32;
+    fn report_sample_size(it: *const ReportSample<'_>) -> usize;
+    fn report_sample_write(
+        it: *const ReportSample<'_>,
+        room: *mut u8,
+        room_len: usize,
+        len: *mut usize,
+    ) -> u32;
     fn station_read<'a>(bytes: *const u8, len: usize, it: *mut Station<'a>) -> u32;
     fn station_read_within<'a>(
         bytes: *const u8,
         len: usize,
         limits: *const Limits,
         it: *mut Station<'a>,
+    ) -> u32;
+    fn station_size(it: *const Station<'_>, lists: *const StationLists<'_>) -> usize;
+    fn station_write(
+        it: *const Station<'_>,
+        lists: *const StationLists<'_>,
+        room: *mut u8,
+        room_len: usize,
+        len: *mut usize,
     ) -> u32;
     fn station_next_sample<'a>(walk: *mut Bytes<'a>, sample: *mut Bytes<'a>) -> u32;
     fn station_next_tag<'a>(walk: *mut Bytes<'a>, tag: *mut Text<'a>) -> u32;
@@ -221,3 +377,4 @@ extern "C" {
 const _: () = assert!(size_of::<ReportSample>() == 40);
 const _: () = assert!(size_of::<PowerInC>() == 64);
 const _: () = assert!(size_of::<Station>() == 200);
+const _: () = assert!(size_of::<StationLists>() == 32);

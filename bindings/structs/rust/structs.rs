@@ -1,8 +1,9 @@
-//! What the messages of every schema share: text and bytes in what was read, and statuses.
+//! What the messages of every schema share: text, bytes and lists that stay where they are, and
+//! statuses.
 use std::fmt;
 use std::marker::PhantomData;
 
-/// Some of the bytes that were read.
+/// Some of the bytes that were read, or of a program's own.
 #[repr(C)]
 #[derive(Clone, Copy)]
 pub struct Bytes<'a> {
@@ -13,7 +14,7 @@ pub struct Bytes<'a> {
 
 impl<'a> Bytes<'a> {
     /// Those of a slice.
-    pub(crate) fn new(bytes: &'a [u8]) -> Bytes<'a> {
+    pub fn new(bytes: &'a [u8]) -> Bytes<'a> {
         Bytes { data: bytes.as_ptr(), len: bytes.len(), read: PhantomData }
     }
 
@@ -22,13 +23,13 @@ impl<'a> Bytes<'a> {
         if self.len == 0 {
             return &[];
         }
-        // SAFETY: the library sets both to a place in the bytes that it was handed, which live
-        // for 'a.
+        // SAFETY: both are those of a slice that lives for 'a, or the library set them to a place in
+        // the bytes that it was handed, which do.
         unsafe { std::slice::from_raw_parts(self.data, self.len) }
     }
 }
 
-/// A string in the bytes that were read.
+/// A string in the bytes that were read, or of a program's own.
 #[repr(C)]
 #[derive(Clone, Copy)]
 pub struct Text<'a> {
@@ -36,17 +37,45 @@ pub struct Text<'a> {
 }
 
 impl<'a> Text<'a> {
-    /// The text of no bytes.
-    pub(crate) fn empty() -> Text<'a> {
-        Text { bytes: Bytes::new(&[]) }
+    /// That of a string.
+    pub fn new(text: &'a str) -> Text<'a> {
+        Text { bytes: Bytes::new(text.as_bytes()) }
     }
 
     /// The string itself.
     pub fn get(self) -> &'a str {
-        // SAFETY: the library sets a string to UTF-8 alone.
+        // SAFETY: it was made of a string, or the library set it, to UTF-8 alone.
         unsafe { std::str::from_utf8_unchecked(self.bytes.get()) }
     }
 }
+
+/// A list that is written: a slice of a program's own.
+#[repr(C)]
+#[derive(Clone, Copy)]
+pub struct List<'a, T> {
+    data: *const T,
+    len: usize,
+    elements: PhantomData<&'a [T]>,
+}
+
+impl<'a, T> List<'a, T> {
+    /// The elements of a slice.
+    pub fn new(elements: &'a [T]) -> List<'a, T> {
+        List { data: elements.as_ptr(), len: elements.len(), elements: PhantomData }
+    }
+}
+
+/// The room is smaller than the encoding, which has so many bytes.
+#[derive(Clone, Copy, Debug, PartialEq, Eq)]
+pub struct NoRoom(pub usize);
+
+impl fmt::Display for NoRoom {
+    fn fmt(&self, f: &mut fmt::Formatter<'_>) -> fmt::Result {
+        write!(f, "the room is too small for {} bytes", self.0)
+    }
+}
+
+impl std::error::Error for NoRoom {}
 
 /// What may be taken at most.
 #[repr(C)]

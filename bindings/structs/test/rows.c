@@ -1,7 +1,9 @@
 /* Tries the library on the rows of rows.tsv: with a page behind the bytes that no program may
  * touch, and a struct that held something else before. Each message is cut at each place besides,
- * of which is asked that a refusal leaves zero, and that all that is shown lies in the bytes. Says
- * how many rows stood, and ends in 1 where one does not. */
+ * of which is asked that a refusal leaves zero, and that all that is shown lies in the bytes. What
+ * was read is written too: into room of just its size, before a page that no program may touch, and
+ * into room that is a byte smaller, or greater. Says how many rows stood, and ends in 1 where one
+ * does not. */
 #include "guarded.h"
 #include "station.h"
 
@@ -167,6 +169,84 @@ static size_t say_samples(void) {
     return given;
 }
 
+/* ---- what is written of a struct ---- */
+
+enum { MOST_ELEMENTS = 64 };
+
+static Guarded output;
+static char written[MOST_TEXT]; /* in hexadecimal digits, or what is astray */
+
+/* Writes a sample, where there is one, or else the station. */
+static uint32_t write_into(const report_sample *sample, const station *it,
+                           const station_lists *lists, uint8_t *room, size_t room_len,
+                           size_t *len) {
+    return sample ? report_sample_write(sample, room, room_len, len)
+                  : station_write(it, lists, room, room_len, len);
+}
+
+static int all_are(const uint8_t *room, size_t len, uint8_t byte) {
+    size_t same = 0;
+    while (same < len && room[same] == byte) {
+        same++;
+    }
+    return same == len;
+}
+
+/* The same into room of just its size, which ends before a page, and tells in `written` what it
+ * wrote; and into all room that is smaller, and room that is a byte greater. */
+static void write_with(const report_sample *sample, const station *it,
+                       const station_lists *lists) {
+    size_t size = sample ? report_sample_size(sample) : station_size(it, lists);
+    size_t len = 1 << 20;
+    if (size > output.room) {
+        strcpy(written, "too long");
+        return;
+    }
+    uint8_t *room = at_end(output, size);
+    memset(room, 0xA5, size);
+    if (write_into(sample, it, lists, room, size, &len) != GTV_OK || len != size) {
+        strcpy(written, "not written");
+        return;
+    }
+    strcpy(written, size == 0 ? "-" : "");
+    for (size_t i = 0; i < size; i++) {
+        sprintf(written + 2 * i, "%02X", room[i]);
+    }
+    for (size_t less = 1; less <= size; less++) {
+        uint8_t *small = at_end(output, size - less);
+        memset(small, 0xA5, size - less);
+        if (write_into(sample, it, lists, small, size - less, &len) != GTV_NO_ROOM ||
+            len != size || !all_are(small, size - less, 0xA5)) {
+            strcpy(written, "written into less room");
+        }
+    }
+    uint8_t *great = at_end(output, size + 1);
+    great[size] = 0x5A;
+    if (write_into(sample, it, lists, great, size + 1, &len) != GTV_OK || len != size ||
+        great[size] != 0x5A) {
+        strcpy(written, "written behind the encoding");
+    }
+}
+
+/* Writes a station with the lists that the bytes have. */
+static void write_station(const station *it) {
+    static gtv_bytes tags[MOST_ELEMENTS];
+    static report_sample samples[MOST_ELEMENTS];
+    station_lists lists = {tags, 0, samples, 0};
+    gtv_bytes walk = {bytes, bytes_len}, sample;
+    while (lists.tags_len < MOST_ELEMENTS &&
+           station_next_tag(&walk, &tags[lists.tags_len]) == GTV_OK) {
+        lists.tags_len++;
+    }
+    walk.data = bytes;
+    walk.len = bytes_len;
+    while (lists.samples_len < MOST_ELEMENTS &&
+           station_next_sample(&walk, &sample) == GTV_OK) {
+        report_sample_read(sample.data, sample.len, &samples[lists.samples_len++]);
+    }
+    write_with(NULL, it, &lists);
+}
+
 /* ---- a call ---- */
 
 typedef struct Row {
@@ -179,12 +259,13 @@ typedef struct Row {
 static size_t zero_len;
 
 /* Reads the bytes into a struct that held something else before, and says what it shows then, and
- * its tags. */
+ * its tags; and writes it, where it was read. */
 static uint32_t read_row(const Row *row) {
     station it;
     uint32_t status;
     memset(&it, 0xA5, sizeof it);
     report_sample *sample = &it.last;
+    written[0] = 0;
     said_len = 0;
     said[0] = 0;
     if (row->is_station) {
@@ -196,11 +277,17 @@ static uint32_t read_row(const Row *row) {
             status == GTV_OK) {
             say(" beside");
         }
+        if (status == GTV_OK) {
+            write_station(&it);
+        }
     } else {
         status = row->limits ? report_sample_read_within(bytes, bytes_len, row->limits, sample)
                              : report_sample_read(bytes, bytes_len, sample);
         say_sample(sample);
         zero_len = said_len;
+        if (status == GTV_OK) {
+            write_with(sample, NULL, NULL);
+        }
     }
     return status;
 }
@@ -217,7 +304,8 @@ static void astray(const Row *row, const char *what, const char *wanted) {
     fails++;
 }
 
-static void try_row(const Row *row, const uint8_t *message, size_t len, const char *wanted) {
+static void try_row(const Row *row, const uint8_t *message, size_t len, const char *wanted,
+                    const char *encoding) {
     for (size_t cut = 0; cut <= len; cut++) {
         bytes = memcpy(at_end(input, cut), message, cut);
         bytes_len = cut;
@@ -232,6 +320,9 @@ static void try_row(const Row *row, const uint8_t *message, size_t len, const ch
             const char *answer = status == GTV_OK ? said : gtv_status_name(status);
             if (strcmp(answer, wanted) != 0) {
                 astray(row, answer, wanted);
+            }
+            if (strcmp(written, encoding) != 0) {
+                astray(row, written, encoding);
             }
         }
     }
@@ -254,25 +345,29 @@ int main(int count, char **words) {
         return 2;
     }
     input = guarded(MOST_BYTES);
+    output = guarded(MOST_BYTES);
     static char line[MOST_TEXT];
     int tried = 0;
     while (fgets(line, sizeof line, file) != NULL) {
         if (line[0] == '#') {
             continue;
         }
-        char *parts[5];
+        char *parts[6];
         char *rest = line;
-        for (int i = 0; i < 5; i++) {
+        line[strcspn(line, "\n")] = 0;
+        for (int i = 0; i < 6; i++) {
             parts[i] = rest;
-            rest += strcspn(rest, "\t\n");
-            *rest++ = 0;
+            rest += strcspn(rest, "\t");
+            if (*rest != 0) {
+                *rest++ = 0;
+            }
         }
         gtv_limits limits;
         uint8_t message[MOST_BYTES];
         int named = sscanf(parts[3], "%" SCNu32 " %zu %zu", &limits.depth, &limits.records,
                            &limits.payload_bytes) == 3;
         Row row = {parts[0], strcmp(parts[1], "station") == 0, named ? &limits : NULL};
-        try_row(&row, message, bytes_of(parts[2], message), parts[4]);
+        try_row(&row, message, bytes_of(parts[2], message), parts[4], parts[5]);
         tried++;
     }
     fclose(file);
