@@ -1,5 +1,5 @@
-/* The messages of station.proto as structs, read in place and written. What a struct is and what is asked of a
- * caller is told in gettavil_structs.h. C99 and C++11. */
+/* The messages of station.proto as structs, read in place and written. What a struct is and what is
+ * asked of a caller is told in gettavil_structs.h. C99 and C++11. */
 #ifndef STATION_H
 #define STATION_H
 

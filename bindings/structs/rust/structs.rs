@@ -23,8 +23,8 @@ impl<'a> Bytes<'a> {
         if self.len == 0 {
             return &[];
         }
-        // SAFETY: both are those of a slice that lives for 'a, or the library set them to a place in
-        // the bytes that it was handed, which do.
+        // SAFETY: both are those of a slice that lives for 'a, or the library set them to a place
+        // in the bytes that it was handed, which do.
         unsafe { std::slice::from_raw_parts(self.data, self.len) }
     }
 }

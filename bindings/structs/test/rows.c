@@ -1,9 +1,9 @@
 /* Tries the library on the rows of rows.tsv: with a page behind the bytes that no program may
  * touch, and a struct that held something else before. Each message is cut at each place besides,
  * of which is asked that a refusal leaves zero, and that all that is shown lies in the bytes. What
- * was read is written too: into room of just its size, before a page that no program may touch, and
- * into room that is a byte smaller, or greater. Says how many rows stood, and ends in 1 where one
- * does not. */
+ * was read is written too: into room of just its size, before a page that no program may touch,
+ * into all room that is smaller, and into room that is a byte greater. So are structs of the
+ * program's own. Says how many rows stood, and ends in 1 where one does not. */
 #include "guarded.h"
 #include "station.h"
 
@@ -328,6 +328,85 @@ static void try_row(const Row *row, const uint8_t *message, size_t len, const ch
     }
 }
 
+/* ---- structs of a program's own ---- */
+
+static const uint8_t no_text[] = {0xFF};
+static const gtv_bytes one_byte = {no_text, 1};
+
+static void hide_all(station *it, station_lists *lists) {
+    (void)lists;
+    it->height = 1;
+    it->note = one_byte;
+    it->last.name = one_byte;
+    it->last.has_count = true;
+    it->power.which = 7;
+    it->power.volts = 1;
+    it->power.grid = one_byte;
+    it->power.backup.count = 1;
+    it->tags_count = 1;
+    it->samples_count = 1;
+}
+
+static void show_none(station *it, station_lists *lists) {
+    static const gtv_bytes tag = {NULL, 0};
+    static const report_sample sample = {{NULL, 0}, 0, false, 0};
+    it->has_height = true;
+    it->has_note = true;
+    it->has_last = true;
+    it->power.which = STATION_POWER_GRID;
+    lists->tags = &tag;
+    lists->tags_len = 1;
+    lists->samples = &sample;
+    lists->samples_len = 1;
+}
+
+static void show_volts(station *it, station_lists *lists) {
+    hide_all(it, lists);
+    it->power.which = STATION_POWER_VOLTS;
+}
+
+static void show_no_text(station *it, station_lists *lists) {
+    (void)lists;
+    it->name = one_byte;
+    it->has_last = true;
+    it->last.name = one_byte;
+}
+
+static void show_zero(station *it, station_lists *lists) {
+    (void)it;
+    (void)lists;
+}
+
+/* What is set of a station that is zero, and what is written of it. */
+static const struct {
+    const char *name;
+    void (*set)(station *, station_lists *);
+    const char *encoding;
+} made[] = {
+    {"all is zero, and NULL", show_zero, "-"},
+    {"no flag is set, and no field of a oneof stands", hide_all, "-"},
+    {"fields that are there, and empty", show_none, "180022002A004A005A006200"},
+    {"one field of a oneof stands", show_volts, "450000803F"},
+    {"text that is no UTF-8", show_no_text, "0A01FF2A030A01FF"},
+};
+
+static int try_made(void) {
+    int tried = (int)(sizeof made / sizeof made[0]);
+    for (int i = 0; i < tried; i++) {
+        station it;
+        station_lists lists;
+        memset(&it, 0, sizeof it);
+        memset(&lists, 0, sizeof lists);
+        made[i].set(&it, &lists);
+        write_with(NULL, &it, &lists);
+        if (strcmp(written, made[i].encoding) != 0) {
+            printf("%s: wanted %s, found %s\n", made[i].name, made[i].encoding, written);
+            fails++;
+        }
+    }
+    return tried;
+}
+
 /* ---- the rows ---- */
 
 static size_t bytes_of(const char *digits, uint8_t *message) {
@@ -371,6 +450,7 @@ int main(int count, char **words) {
         tried++;
     }
     fclose(file);
+    tried += try_made();
     printf("%d rows, %d astray\n", tried, fails);
     return fails == 0 ? 0 : 1;
 }
