@@ -2,6 +2,7 @@
 //! library below `wire_station_c`. What is written here by hand is what a generator would write.
 #![tactic(auto)]
 
+pub mod laws;
 mod read;
 mod report_sample;
 mod station;
