@@ -24,9 +24,12 @@ const TYPES: &str = "AllocError Always AlwaysEmbedded AlwaysEmbeddedIn AlwaysGro
     Sfixed64 Shape Sint32 Sint64 Size SizeCache Some Step String Tag Text TextIn Twin Type Uint32 \
     Uint64 UnknownFields UnknownSpan Unpacked UnpackedIn Variants Vec ViewKind";
 
-// Type parameters of what is written. A message, an enum or a oneof of such a name has an
-// underscore behind it.
-const PARAMETERS: &str = "B S";
+// Names of types that some generated modules bring in, and type parameters of what is written. A
+// message, an enum or a oneof of such a name has an underscore behind it.
+const BROUGHT_IN: &str = "Alone AlwaysGroup B ClosedMapIn Extension FamilyView FieldPath \
+    MessageFields MessageName Needed OwnTypes Parts Place RecursiveAlone RecursiveHeld \
+    RecursiveMember RecursiveSlice RecursiveView Required RequiredAlone RequiredMember \
+    RequiredSlice Requirement RowRequirement S WireType WrittenKind WrittenView";
 
 // Modules of each crate whose names are no words, so that fields may have them.
 const MODULES: &str = "services";
@@ -43,7 +46,7 @@ pub(crate) fn is_crate_name(name: &str) -> bool {
 /// The name of a type, `OuterInner` of `Outer.Inner`; one that ends as the pages of proofs do,
 /// `ReportStays`, has an underscore behind it.
 pub(crate) fn type_name(alloc: Global, name: &str) -> Result<String, GenerateError> {
-    let mut name = escaped(variant_name(alloc, name)?, PARAMETERS)?;
+    let mut name = escaped(variant_name(alloc, name)?, BROUGHT_IN)?;
     if name.to_ascii_lowercase(alloc)?.ends_with("stays") {
         name.push('_')?;
     }
@@ -142,6 +145,11 @@ fn begun(alloc: Global, text: String) -> Result<String, GenerateError> {
     let mut name = String::from_str(alloc, "X")?;
     name.push_str(&text)?;
     Ok(name)
+}
+
+/// A name of a type that is made of others, with an underscore behind it where it is taken.
+pub(crate) fn free_name(name: String) -> Result<String, GenerateError> {
+    escaped(escaped(name, TYPES)?, BROUGHT_IN)
 }
 
 // A name that is taken has an underscore behind it.

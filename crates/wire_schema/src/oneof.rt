@@ -103,17 +103,20 @@ pub(crate) fn add_variant(
     Ok(())
 }
 
-// The lines of all variants as they are declared.
+// The lines of all variants as they are declared, and as their view is.
 fn put_declared(words: &mut Words, variant: &Words, is_row: bool) {
-    words.copy(variant, &["variant", "held"]);
-    words.append(
-        "declared",
-        if is_row {
-            "    $variant$(Box<$held$>),\n"
-        } else {
-            "    $variant$($held$),\n"
-        },
-    );
+    words.copy(variant, &["variant", "held", "view_held"]);
+    words.append_all(if is_row {
+        &[
+            ("declared", "    $variant$(Box<$held$>),\n"),
+            ("view_declared", "    $variant$(Box<$view_held$>),\n"),
+        ]
+    } else {
+        &[
+            ("declared", "    $variant$($held$),\n"),
+            ("view_declared", "    $variant$($view_held$),\n"),
+        ]
+    });
 }
 
 // In a clause a variant is not called as its oneof, nor as its enum, and in code not as another.

@@ -1,44 +1,31 @@
-//! Views of messages: which types have one, and what it is called.
+//! Views of messages: what they are called, and which of them are written.
 use crate::error::GenerateError;
 use crate::message_type::MessageType;
-use crate::names::module_name;
+use crate::names::{free_name, module_name};
 use crate::schema::Schema;
+use crate::type_names::TypeNames;
 use crate::words::{Template, Words};
 use std::alloc::Global;
-use wire_descriptor::FieldDescriptorProto;
-
-// Why a type has no view.
-const HOLDS_BY_ONEOF: &str =
-    "it holds messages of its own type, or of types that hold it, by a oneof";
-
-const FAR: &str = "`$proto$` is of a type of another crate";
-
-const HOLDS_SUCH: &str = "`$proto$` is of `$of$`, which has none";
 
 impl Schema {
-    /// Names the view of each type that is to be generated, where views are asked for: the words
-    /// `view_name` and `view_module`, and `view_written` where it can be written. A type that holds
-    /// what a view can't hold yet has none, and tells why, `unviewed`; nor has one that holds
-    /// messages of such a type.
+    /// Names the view of each type, where views are asked for: the words `view_name` and
+    /// `view_module`, and `view_written` where it can be written; and that of a oneof of which some
+    /// variants are messages of the type itself or of its family: `choice_view` and
+    /// `choice_view_module`. The types of a crate that is named have views there.
     pub(crate) fn find_views(&mut self, base: &Words) -> Result<(), GenerateError> {
         if base.get("views").is_empty() {
             return Ok(());
         }
         self.find_written()?;
-        let whys = self.whys_unviewed()?;
-        for (message, why) in self.messages.iter_mut().zip(whys) {
-            if !message.origin.is_own {
-                continue;
+        for message in &mut self.messages {
+            if !message.words.get("home").is_empty() {
+                name_view(message, &mut self.names)?;
             }
-            let words = &mut message.words;
-            words.set("unviewed", &why);
-            if why.is_empty() {
-                let view = view_of(words.alloc(), words.get("name"))?;
-                let name = self.names.given(base.get("crate"), &view)?;
-                words.set("view_module", &module_name(words.alloc(), &name)?);
-                words.set("view_name", &name);
+        }
+        for message in &mut self.messages {
+            if !message.words.get("choice").is_empty() {
+                name_choice_view(message, &self.names)?;
             }
-            words.ended()?;
         }
         Ok(())
     }
@@ -60,77 +47,28 @@ impl Schema {
         }
         Ok(())
     }
+}
 
-    // Why each type has no view; nothing of those that have one.
-    fn whys_unviewed(&self) -> Result<Vec<String>, GenerateError> {
-        let mut own = Vec::new(self.alloc);
-        let mut flags = Vec::new(self.alloc);
-        for message in &self.messages {
-            let why = self.why_unviewed(message)?;
-            flags.push(why.is_empty())?;
-            own.push(why)?;
-        }
-        self.held_by_each()?.spread(&mut flags)?;
-        let mut whys = Vec::new(self.alloc);
-        for (message, why) in self.messages.iter().zip(own) {
-            let is_told = !why.is_empty();
-            whys.push(if is_told {
-                why
-            } else {
-                self.held_unviewed(message, &flags)?
-            })?;
-        }
-        Ok(whys)
-    }
+// Names the view of a type.
+fn name_view(message: &mut MessageType, names: &mut TypeNames) -> Result<(), GenerateError> {
+    let words = &mut message.words;
+    let alloc = words.alloc();
+    let view = view_of(alloc, words.get("name"))?;
+    let name = names.given(words.get("home"), &view)?;
+    words.set("view_module", &module_name(alloc, &name)?);
+    words.set("view_name", &name);
+    words.ended()
+}
 
-    // Why a type has no view by itself; nothing where it may have one.
-    fn why_unviewed(&self, message: &MessageType) -> Result<String, GenerateError> {
-        let mut words = Words::like(&message.words);
-        if !message.words.get("choice").is_empty() {
-            words.fill("why", HOLDS_BY_ONEOF);
-        }
-        for field in &message.descriptor.field {
-            let why = self.why_unheld(field);
-            if words.get("why").is_empty() && !why.is_empty() {
-                words.set("proto", &field.name);
-                words.fill("why", why);
-            }
-        }
-        words.finish("why")
-    }
-
-    fn why_unheld(&self, field: &FieldDescriptorProto) -> &'static str {
-        let held = self.message(self.held(field));
-        let is_far = held.is_some_and(|it| !it.origin.is_own);
-        if is_far { FAR } else { "" }
-    }
-
-    // Why a type has none that holds messages of one that has none.
-    fn held_unviewed(
-        &self,
-        message: &MessageType,
-        flags: &[bool],
-    ) -> Result<String, GenerateError> {
-        let mut words = Words::like(&message.words);
-        for field in &message.descriptor.field {
-            let place = self.place_unviewed(field, flags);
-            let held = self.messages.get(place.unwrap_or(usize::MAX));
-            if let (Some(held), true) = (held, words.get("why").is_empty()) {
-                words.set("proto", &field.name);
-                words.set("of", held.words.get("full").trim_start_matches('.'));
-                words.fill("why", HOLDS_SUCH);
-            }
-        }
-        words.finish("why")
-    }
-
-    // The place of the type that a field holds messages of, where it has no view.
-    fn place_unviewed(&self, field: &FieldDescriptorProto, flags: &[bool]) -> Option<usize> {
-        match self.places.message(self.held(field)) {
-            Some(place) if flags.get(place) == Some(&false) => Some(place),
-            _ => None,
-        }
-    }
+// Names that of its oneof of which some variants are rows.
+fn name_choice_view(message: &mut MessageType, names: &TypeNames) -> Result<(), GenerateError> {
+    let words = &mut message.words;
+    let alloc = words.alloc();
+    let view = view_of(alloc, words.get("choice"))?;
+    let name = names.beside(words.get("home"), &view)?;
+    words.set("choice_view_module", &module_name(alloc, &name)?);
+    words.set("choice_view", &name);
+    words.ended()
 }
 
 // The words of a oneof as a field of a view.
@@ -178,5 +116,5 @@ impl Schema {
 fn view_of(alloc: Global, name: &str) -> Result<String, GenerateError> {
     let mut view = String::from_str(alloc, name.trim_end_matches('_'))?;
     view.push_str("View")?;
-    Ok(view)
+    free_name(view)
 }
