@@ -185,6 +185,41 @@ module _ {K V : Type 0} {order : K → K → Ordering} (total : IsTotalOrder ord
   rising_are_map [] up = refl
   rising_are_map (e ∷ es) up = rising [] e es tt up
 
+  -- ---- the map rises
+
+  revalued : (e : K × V) (v : V) (es : List (K × V)) → Rises order (e ∷ es)
+      → Rises order ((e.0, v) ∷ es)
+  revalued e v [] up = tt
+  revalued e v (f ∷ es) up = up
+
+  behind_rises : (e : K × V) (es : List (K × V)) (k : K) (v : V) → order e.0 k ≡ Less
+      → Rises order (e ∷ es) → Rises order (e ∷ insert_entry order es k v)
+  behind_rises e [] k v less up = (less, tt)
+  behind_rises e (f ∷ es) k v less up =
+      by_ordering (order k f.0)
+      (λ below. rw (at_less f es k v below) (less, (below, up.1)))
+      (λ equal. rw (at_equal f es k v equal) (up.0, revalued f v es up.1))
+      (λ above. rw (at_greater f es k v above)
+      (up.0, behind_rises f es k v (turned total k f.0 Greater above) up.1))
+
+  insert_rises : (es : List (K × V)) (k : K) (v : V) → Rises order es
+      → Rises order (insert_entry order es k v)
+  insert_rises [] k v up = tt
+  insert_rises (e ∷ es) k v up =
+      by_ordering (order k e.0)
+      (λ below. rw (at_less e es k v below) (below, up))
+      (λ equal. rw (at_equal e es k v equal) (revalued e v es up))
+      (λ above. rw (at_greater e es k v above)
+      (behind_rises e es k v (turned total k e.0 Greater above) up))
+
+  entries_rise : (m es : List (K × V)) → Rises order m → Rises order (with_entries order m es)
+  entries_rise m [] up = up
+  entries_rise m (e ∷ es) up =
+      entries_rise (insert_entry order m e.0 e.1) es (insert_rises m e.0 e.1 up)
+
+  pub map_rises : (es : List (K × V)) → Rises order (map_with order es)
+  map_rises es = entries_rise [] es tt
+
   abbrev lt : K × V → K × V → Bool
   lt x y = is_lt (order x.0 y.0)
 

@@ -4,8 +4,8 @@
 //! A view has the table of its message, with the definitions of `wire_fields`: it is read exactly
 //! where the message is, within the same limits and at the same charge, and stands for the same
 //! value. A kind of field here borrows what its kind of `wire_fields` owns: `ImplicitIn<TextIn>` is
-//! that of `Implicit<Text>`, and what holds no more than numbers is `CopiedIn` of the kind itself.
-//! `MessageView::own` makes the message.
+//! that of `Implicit<Text>`, and a number is `CopiedIn` of its kind. `MessageView::own` makes the
+//! message.
 #![tactic(auto)]
 
 mod closed;

@@ -12,7 +12,8 @@ pub fn in_order<K: Ord + Drop, V: Drop>(
     alloc: Global,
     entries: Vec<(K, V)>,
 ) -> Result<Vec<(K, V)>, AllocError>
-    ensures { IfOk result (λ sorted. sorted.items ≡ map_with K.cmp entries.items) }
+    ensures map { IfOk result (λ sorted. sorted.items ≡ map_with K.cmp entries.items) }
+    ensures rises { IfOk result (λ sorted. Rises K.cmp sorted.items) }
 {
     if rise(&entries) {
         return Ok(entries);

@@ -5,8 +5,8 @@
 /// numbers of a field, its name and its kind, and the last says that all other records are kept
 /// where they stand. A number is followed in brackets by the way its records are taken, where that
 /// is not the kind's own. What is handed in are names and places, which stand in what is made more
-/// than once, and to `empty` the fields that no row has, as those of a view's own type: each with what
-/// it is in the value.
+/// than once, and to `empty` the fields that no row has, as those of a view's own type: each with
+/// what it is in the value.
 #[macro_export]
 macro_rules! view_fields {
     // The value of no records.
@@ -64,8 +64,8 @@ macro_rules! view_fields {
     };
 }
 
-/// How the record of one number is taken: into its field, or in the way that the row says behind the
-/// number. A way of another name than those here is a function of the type's module.
+/// How the record of one number is taken: into its field, or in the way that the row says behind
+/// the number. A way of another name than those here is a function of the type's module.
 #[macro_export]
 macro_rules! view_merged {
     ([] $kind:ty, $field:ident,
@@ -82,7 +82,8 @@ macro_rules! view_merged {
             $buf,
             $context,
         )
-    };    ([closed_each] $kind:ty, $field:ident,
+    };
+    ([closed_each] $kind:ty, $field:ident,
         ($message:expr, $alloc:expr, $tag:expr, $buf:expr, $context:expr)) => {
         $crate::merge_closed_each(
             $alloc,

@@ -1,9 +1,9 @@
 //! The variants of a oneof of a view as rows, from which its calls are read.
 
-/// What is asked of the variants of a oneof: `merge`, `own`, `len` or `put`. Behind the call stand the rows,
-/// which a macro of the oneof's module puts there: each has the number of a variant, its name and
-/// its kind, and the last has all other numbers too. What is handed in are names and places, which
-/// stand in what is made more than once.
+/// What is asked of the variants of a oneof: `merge`, `own`, `len` or `put`. Behind the call stand
+/// the rows, which a macro of the oneof's module puts there: each has the number of a variant, its
+/// name and its kind, and the last has all other numbers too. What is handed in are names and
+/// places, which stand in what is made more than once.
 #[macro_export]
 macro_rules! view_variants {
     // Takes the record behind a tag into the value of its variant where that stands, and else into
