@@ -6,14 +6,17 @@ use crate::rows::is_row;
 use wire_schema::{Field, Oneof, Template, Words};
 
 // The field of the leaf: how what its message holds is seen, and names that are brought in.
-const OF_LEAF: [Template; 4] = [
+const OF_LEAF: [Template; 7] = [
     ("in_choice", "in_choice"),
     ("view", "(or_else $module$-none m.$field$).0"),
+    ("view_seen", "(or_else $module$-none m.$field$).0"),
     (
         "definitions",
         "$specs$ $name$-Value\n$specs$ $module$-shape\nRattle.wire_fields.specs.Messages or_else\n",
     ),
+    ("view_definitions", ""),
     ("code", ""),
+    ("view_code", ""),
 ];
 
 const OF_ROW: [Template; 2] = [("is_row", "is_row"), ("choice_variant", "$variant$")];
@@ -345,8 +348,8 @@ fn put_row_lines(page: &mut Words, fields: &[Field]) {
     }
 }
 
-// The messages of all rows, of which the one at this place has one.
-fn set_one_row(page: &mut Words, place: usize, last: usize) {
+/// The messages of all rows, of which the one at this place has one.
+pub(crate) fn set_one_row(page: &mut Words, place: usize, last: usize) {
     page.fill_all(&[("one_row", ""), ("here_row", "")]);
     for _ in 0..last.saturating_add(1) {
         // from the last on

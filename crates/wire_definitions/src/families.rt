@@ -81,7 +81,7 @@ const WHAT: &str =
     "Messages that hold one another, as contracts see them, and their tables: $listed$.";
 
 const HEAD: &str = "\
-$heading$$imports$$aliases$$choice_aliases$
+$heading$$imports$$aliases$$choice_aliases$$view_aliases$
 $text$";
 
 const TEXT: &str = "\
@@ -352,7 +352,7 @@ fn put_member(page: &mut Words, member: &Words, last: usize) {
     let is_first = page.get("listed").is_empty();
     page.append("listed", if is_first { "`$name$`" } else { ", `$name$`" });
     if !own.get("choice_aliases").is_empty() {
-        page.copy(&own, &["choice_aliases"]);
+        page.copy(&own, &["choice_aliases", "view_aliases"]);
     }
     let is_last = page.get("sum_open").len() >= last;
     page.append(

@@ -7,6 +7,7 @@ mod account;
 mod choice;
 mod choice_laws;
 mod choice_names;
+mod choice_view;
 mod closing;
 mod comments;
 mod copied_parts;

@@ -69,7 +69,7 @@ const WHAT: &str = "`$name$` as contracts see it, and its table: its leaf, and r
                     its own type.";
 
 const HEAD: &str = "\
-$heading$$imports$$aliases$$choice_aliases$
+$heading$$imports$$aliases$$choice_aliases$$view_aliases$
 $text$";
 
 const TEXT: &str = "\

@@ -1,5 +1,6 @@
 //! How the view of a message type that holds itself, or of one of several that hold one another, is
 //! seen by contracts: as the value of the message.
+use crate::choice_view::put_choice_view;
 use crate::rows::is_row;
 use crate::tree::Tree;
 use crate::view_definitions::has_view;
@@ -107,6 +108,7 @@ use Rattle.$crate$.specs.declared.$family_view_module$.FamilyView.TheVariants as
 /// and `view_rows`, and names that are brought in.
 pub(crate) fn define_view_fold(page: &mut Words, fields: &[Field], tree: &Tree) {
     page.fill_all(&[("view_one", ""), ("view_value", ""), ("view_rows", "")]);
+    page.set("view_aliases", "");
     if !has_view(page) {
         return;
     }
@@ -131,9 +133,16 @@ pub(crate) fn define_view_fold(page: &mut Words, fields: &[Field], tree: &Tree) 
         );
         if !is_row(field) {
             page.append("uses", "$view_definitions$");
-        } else if !field.words.get("kind").starts_with("Each") {
+        } else if is_once(field) {
             page.append("view_rows", ROW);
             page.append("uses", USES_OF_ROW);
         }
     }
+    put_choice_view(page, fields);
+}
+
+// Whether a row has one message at most, and is no variant of a oneof.
+fn is_once(field: &Field) -> bool {
+    let is_variant = !field.words.get("choice_variant").is_empty();
+    !is_variant && !field.words.get("kind").starts_with("Each")
 }
