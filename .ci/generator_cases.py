@@ -293,7 +293,7 @@ CHOICES = [
      "oneof _o { bool _2 = 3; } }", "",
      ["pub enum X {\n    X0 = 0,\n}", "pub struct X1 {", "    pub x_: Option<i32>,",
       "    pub x__: Option<EnumValue<X>>,", "X2(bool),"]),
-    # Views, and types that have none.
+    # Views.
     ("proto2", "enum E { F = 0; } message A { optional E e = 1; optional bytes AView = 2; } "
      "message AView { repeated A a = 1; oneof b { string c = 2; fixed32 d = 3; } } "
      "message B { map<int64, A> a = 1; } message G { repeated E e = 1; } "
@@ -311,9 +311,19 @@ CHOICES = [
       "impl<'a> RecursiveHeld<&'a [u8]> for LView<'a> {",
       "impl<'a> RecursiveView<FamilyView<'a>> for NView<'a> {",
       "impl<'a> RecursiveView<FamilyView<'a>> for OView<'a> {",
-      "wire_codec wire_fields wire_views bytes",
-      "/// It has no view: it holds messages of its own type, or of types that hold it, by a oneof.",
-      "/// It has no view: `i` is of `I`, which has none."]),
+      "impl<'a> RecursiveHeld<&'a [u8]> for IView<'a> {",
+      "                    Some(IHView::I_(message)) => Box::into_inner(message),\n",
+      "            [0] 1 => i: EmbeddedMapIn<TextIn<'a>, IView<'a>, 88>,\n",
+      "wire_codec wire_fields wire_views bytes"]),
+    # Of types of another crate, and of such as have names that generated modules bring in.
+    ("proto3", "import \"google/protobuf/struct.proto\"; import \"google/protobuf/any.proto\"; "
+     "message Message { google.protobuf.Value a = 1; repeated google.protobuf.Any b = 2; "
+     "oneof c { google.protobuf.ListValue d = 3; string e = 4; } } message Family { Place p = 1; } "
+     "message Place { Family f = 1; oneof parts { Place next = 2; } }",
+     ",views=true,import=google.protobuf=wire_well_known",
+     ["pub struct MessageView_<'a> {", "use wire_well_known::{AnyView, ValueView};",
+      "    pub a: Option<Box<ValueView<'a>>>,\n", "pub struct FamilyView_<'a> {",
+      "pub struct Place_ {", "pub enum PlacePartsView<'a> {\n    Next(Box<PlaceView<'a>>),\n}\n"]),
     # Packed numbers in views: those of four or eight bytes each stay where they are read.
     ("proto3", "enum E { F = 0; } message FixedList { repeated sfixed64 a = 1; "
      "repeated double b = 2; repeated E c = 3; repeated fixed32 d = 4 [packed = false]; "

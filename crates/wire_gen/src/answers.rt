@@ -1,10 +1,11 @@
 //! The proofs of a message type: why a record that a field refuses is refused by the message.
 use crate::choice_answers::put_choice;
 use crate::rest_answers::{put_handed_on, put_rest};
+use crate::view_choice_answers::put_view_choice;
 use wire_definitions::{Node, Tree, definition_imports};
 use wire_schema::{Field, GenerateError, Template, Words};
 
-const USES: &str = "\
+pub(crate) const USES: &str = "\
 Rattle.$crate$.specs.$specs_of_own$ $module$-known
 Rattle.$crate$.specs.$specs_of_own$ $whole$
 $whole_uses$";
@@ -96,69 +97,6 @@ const OF_MEMBER: [Template; 10] = [
     ),
 ];
 
-// What of the above is another thing for a view: the calls of its rows, the function, what it is
-// given, and the call that keeps a record.
-const OF_VIEW: [Template; 6] = [
-    ("seen_by", "view_value"),
-    ("of_call", "c.view_fields-"),
-    ("of_goals", "$view_module$"),
-    ("goals", "$view_name$MessageView.merge_field"),
-    ("given", "c"),
-    ("keeper", "keep_span"),
-];
-
-// The same of the leaf of a view of a type that holds itself, whose macro makes its calls; of one
-// that does so alone, and of one of a family.
-const OF_VIEW_LEAF: [Template; 7] = [
-    ("seen_by", "view_value"),
-    ("of_call", "c.view_fields-"),
-    ("of_goals", "$view_module$"),
-    ("given", "c"),
-    ("keeper", "keep_span"),
-    ("taken_uses", VIEW_LEAF_USES),
-    (
-        "levels",
-        " _ _
-    (fold_out-$view_name$$their_view_trees$$their_view_ones$ c.args.self.now)
-    (fold-roll-$view_name$$their_view_trees$$their_view_ones$ _)",
-    ),
-];
-
-const VIEW_LEAF_USES: &str = "\
-$uses_inside$\
-Rattle.wire_fields.specs.NestArms leaf_ok
-Rattle.$crate$.specs.declared.$view_first$.TheFolds fold-roll-$view_name$
-";
-
-const VIEW_ALONE: [Template; 3] = [
-    ("goals", "$view_name$RecursiveHeldRefSliceU8.merge_leaf"),
-    (
-        "before",
-        "rw (fold_out-$view_name$$their_view_trees$$their_view_ones$ c.args.self.now)\n    (",
-    ),
-    (
-        "uses",
-        "$uses_of_known$\
-        Rattle.$crate$.specs.$name$ $name$-Value\n\
-        Rattle.$crate$.specs.$name$ $module$-view_one\n\
-        Rattle.$crate$.specs.declared.$view_module$.$view_name$ fold_out-$view_name$\n",
-    ),
-];
-
-const VIEW_MEMBER: [Template; 3] = [
-    ("goals", "$view_name$RecursiveViewFamilyView.merge_leaf"),
-    (
-        "before",
-        "rw (fold_out-$view_name$$their_view_trees$$their_view_ones$ c.args.self.now)\n    \
-        ($err_open$",
-    ),
-    (
-        "uses",
-        "$uses_of_known$$err_uses$\
-        Rattle.$crate$.specs.declared.$view_module$.$view_name$ fold_out-$view_name$\n",
-    ),
-];
-
 // The same of a group of fields: of the first one, and of another.
 const OF_GROUP: [Template; 3] = [
     ("of_call", "c.merged"),
@@ -230,38 +168,6 @@ pub(crate) fn answers_of(
     written(page, fields, tree)
 }
 
-/// The answers of `merge_field` of a view.
-pub(crate) fn view_answers_of(
-    base: &Words,
-    fields: &[Field],
-    tree: &Tree,
-) -> Result<String, GenerateError> {
-    let mut page = Words::like(base);
-    put_whole(&mut page, false);
-    page.fill_all(&OF_VIEW);
-    written(page, fields, tree)
-}
-
-/// The answers of `merge_leaf` of the view of a type that holds itself or is of a family: of these
-/// fields, the leaf.
-pub(crate) fn view_leaf_answers_of(
-    base: &Words,
-    fields: &[Field],
-    tree: &Tree,
-) -> Result<String, GenerateError> {
-    let mut page = Words::like(base);
-    put_whole(&mut page, true);
-    let is_member = !page.get("family_name").is_empty();
-    page.fill_all(&[("whole_uses", ""), ("uses_of_known", USES)]);
-    page.fill("uses_inside", if is_member { "$inner_uses$" } else { "" });
-    page.fill_all(&OF_VIEW_LEAF);
-    page.fill_all(if is_member { &VIEW_MEMBER } else { &VIEW_ALONE });
-    if fields.is_empty() {
-        page.set("of_call", "c.");
-    }
-    written(page, fields, tree)
-}
-
 /// The answers of the function that takes the records of a group of fields.
 pub(crate) fn group_answers_of(
     base: &Words,
@@ -292,7 +198,12 @@ pub(crate) fn group_answers_of(
     finished(page)
 }
 
-fn written(mut page: Words, fields: &[Field], tree: &Tree) -> Result<String, GenerateError> {
+/// The page of the answers of these fields.
+pub(crate) fn written(
+    mut page: Words,
+    fields: &[Field],
+    tree: &Tree,
+) -> Result<String, GenerateError> {
     page.copy(&tree.words, &["unlike"]);
     page.append(
         "uses",
@@ -320,8 +231,8 @@ fn finished(mut page: Words) -> Result<String, GenerateError> {
     page.finish("text")
 }
 
-// What the fields are of, and what all answers bring in.
-fn put_whole(page: &mut Words, is_recursive: bool) {
+/// What the fields are of, and what all answers bring in.
+pub(crate) fn put_whole(page: &mut Words, is_recursive: bool) {
     let is_member = !page.get("family_name").is_empty();
     page.fill_all(&[
         ("of_goals", "$module$"),
@@ -351,7 +262,11 @@ const BARE: &str = "Rattle.std.proofs.Common refl\n";
 // The answers of the numbers of a field.
 fn put_field(page: &mut Words, field: &Field) {
     if let (Some(oneof), false) = (&field.oneof, field.words.get("in_choice").is_empty()) {
-        return put_choice(page, &field.words, oneof);
+        return if page.get("keeper") == "keep_span" {
+            put_view_choice(page, &field.words, oneof)
+        } else {
+            put_choice(page, &field.words, oneof)
+        };
     }
     page.copy(
         &field.words,

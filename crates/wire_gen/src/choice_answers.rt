@@ -54,18 +54,22 @@ returns-in-$digits$-clause-ok g c =
     (map-$name$$fold_types$$their_trees$$their_values$ (record f { $field$ = $put$ })))
     (out-roll-$name$ $emptied$))
     ($of_module$-value c.$word$_or_new-value.result) ($of_module$-value $merged$.new.held)
-    (λ charge p h. $taken_open$($of_module$-value $merged$.new.held, rw ($stood$) at h,
-    ap (λ (x : $of_home$$choice$-Held). x.0)
-    (fold_out-$choice$$their_trees$$their_ones$ (kinds.$variant$ $merged$.new.held)))$taken_close$)
+    (λ charge p h. $taken_open$($of_module$-value $merged$.new.held, rw ($stood$) at h, $stands$)$taken_close$)
     _ _ _ _ _ $merged$.result $merged$.ensures.ok
 ";
 
 // What stood before, the message without it, and what is put into it.
-const OF_MERGED: [Template; 3] = [
+// (the formatter would break a tuple of several lines further)
+const OF_MERGED: [Template; 4] = [
     (
         "stood",
-        "c.$word$_or_new-value.ensures, $taken$.ensures.value,
-    ← standing (out-$name$ c.args.self.now) (out-$name$ c.args.self.now).$field$",
+        "c.$word$_or_new-value.ensures, $taken$.ensures.value, \
+        ← standing (out-$name$ c.args.self.now) (out-$name$ c.args.self.now).$field$",
+    ),
+    (
+        "stands",
+        "ap (λ (x : $of_home$$choice$-Held). x.0) (fold_out-$choice$$their_trees$$their_ones$ \
+        (kinds.$variant$ $merged$.new.held))",
     ),
     (
         "emptied",

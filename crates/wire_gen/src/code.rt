@@ -293,9 +293,6 @@ fn put_struct(page: &mut Words, schema: &Schema, message: &MessageType) {
     if !page.get("requiring").is_empty() {
         page.append("code", DOCUMENTED);
     }
-    if !page.get("unviewed").is_empty() {
-        page.append("code", "///\n/// It has no view: $unviewed$.\n");
-    }
     page.set("derived", if message.is_twin { "" } else { "Clone, " });
     let is_member = !page.get("family_name").is_empty();
     let is_choice = !page.get("choice").is_empty();

@@ -17,11 +17,11 @@ const OF_ALL: [Template; 8] = [
     ),
 ];
 
-// The same of their views.
+// The same of their views, and of those of their oneofs.
 const OF_VIEWS: [Template; 8] = [
-    ("view_trees", " Family-Tree"),
+    ("view_trees", " $other_tree$"),
     ("view_values", " $other_module$-view_value"),
-    ("their_view_trees", " family.Family-Tree"),
+    ("their_view_trees", " family.$other_tree$"),
     ("view_ones", " $other_module$-view_one"),
     ("their_view_ones", " family.$other_module$-view_one"),
     ("their_view_values", " family.$other_module$-view_value"),
@@ -66,7 +66,26 @@ const OF_ALONE: [Template; 14] = [
     ("sum_choice", "$module$-choice"),
 ];
 
-const ALONE_WITH_CHOICE: [Template; 8] = [
+const ALONE_WITH_CHOICE: [Template; 17] = [
+    ("folded", " $choice_module$-value$folded$"),
+    (
+        "choice_view_answers",
+        "Rattle.$crate$.specs.$name$ $choice$-Held\n\
+        Rattle.$crate$.specs.$name$ $choice_module$-view_one\n",
+    ),
+    ("view_trees", " $choice$-Held$view_trees$"),
+    ("view_ones", " $choice_module$-view_one$view_ones$"),
+    ("view_values", " $choice_module$-view_value$view_values$"),
+    ("view_types", " $choice_view$$view_types$"),
+    ("view_first", "$choice_view_module$.$choice_view$"),
+    (
+        "uses_of_choice_view",
+        "use Rattle.$crate$.specs.$name$.{$choice$-Held, $choice_module$-view_one, $choice_module$-view_value}\n",
+    ),
+    (
+        "uses_of_view_variants",
+        "use Rattle.$crate$.specs.declared.$choice_view_module$.$choice_view$.{$choice_view$}\n",
+    ),
     (
         "choice_answers",
         "Rattle.$crate$.specs.$name$ $choice$-Held\nRattle.$crate$.specs.$name$ $choice_module$-one\n",
@@ -90,7 +109,8 @@ const ALONE_WITH_CHOICE: [Template; 8] = [
 pub(crate) fn set_alone(page: &mut Words) {
     page.fill_all(&OF_ALONE);
     page.fill_all(&[("uses_of_choice", ""), ("uses_of_variants", "")]);
-    page.fill("choice_answers", "");
+    page.fill_all(&[("uses_of_choice_view", ""), ("uses_of_view_variants", "")]);
+    page.fill_all(&[("choice_answers", ""), ("choice_view_answers", "")]);
     if !page.get("choice").is_empty() {
         page.fill_all(&ALONE_WITH_CHOICE);
     }
@@ -251,18 +271,20 @@ fn put_view_types(page: &mut Words, members: &[Words]) -> Result<(), GenerateErr
     page.fill_all(&[("view_trees", ""), ("view_values", ""), ("view_ones", "")]);
     let own = page.take("name");
     page.set("name", &own);
-    let mut order: Vec<(&str, &str, &str)> = Vec::new(page.alloc());
-    for member in members {
-        let view = member.get("view_name");
-        if !view.is_empty() {
-            order.push((member.get("view_module"), view, member.get("module")))?;
+    let mut order: Vec<(bool, &str, usize)> = Vec::new(page.alloc());
+    for (place, member) in members.iter().enumerate() {
+        if !member.get("view_name").is_empty() {
+            order.push((true, member.get("view_module"), place))?;
+            if !member.get("choice").is_empty() {
+                order.push((false, member.get("choice_view_module"), place))?;
+            }
         }
     }
     order.sort()?;
-    for (view_module, view, module) in order {
-        page.set("other_view", view);
-        page.set("other_view_module", view_module);
-        page.set("other_module", module);
+    for (is_message, _, place) in order {
+        if let Some(member) = members.get(place) {
+            set_other_view(page, member, is_message);
+        }
         page.append_all(&OF_VIEWS);
         if page.get("view_first").is_empty() {
             page.fill("view_first", "$other_view_module$.$other_view$");
@@ -278,6 +300,22 @@ fn put_view_types(page: &mut Words, members: &[Words]) -> Result<(), GenerateErr
         }
     }
     Ok(())
+}
+
+// What the view of one of these types is called, or that of its oneof.
+fn set_other_view(page: &mut Words, member: &Words, is_message: bool) {
+    if is_message {
+        page.set("other_view", member.get("view_name"));
+        page.set("other_view_module", member.get("view_module"));
+        page.set("other_module", member.get("module"));
+        page.set("other_tree", "Family-Tree");
+    } else {
+        page.set("other_view", member.get("choice_view"));
+        page.set("other_view_module", member.get("choice_view_module"));
+        page.set("other_module", member.get("choice_module"));
+        page.set("other", member.get("choice"));
+        page.fill("other_tree", "$other$-Held");
+    }
 }
 
 // Fills these templates for each sum around the leaf at a place, from the inside out.
@@ -326,6 +364,8 @@ fn members_of(
                     "module",
                     "choice",
                     "choice_module",
+                    "choice_view",
+                    "choice_view_module",
                     "view_name",
                     "view_module",
                 ],

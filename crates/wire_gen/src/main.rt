@@ -31,6 +31,9 @@ mod row_answers;
 mod services;
 mod split;
 mod view;
+mod view_answers;
+mod view_choice;
+mod view_choice_answers;
 mod view_code;
 mod view_family;
 mod view_nests;
@@ -38,6 +41,7 @@ mod view_oneof;
 mod view_owned;
 mod view_recursive;
 mod view_row_answers;
+mod view_rows;
 mod view_written;
 mod written;
 

@@ -6,8 +6,9 @@ use crate::family_code::family_code;
 use crate::package::Package;
 use crate::recursive::recursive_code;
 use crate::row_answers::{held_answers, row_answers};
+use crate::view_choice::choice_view_code;
 use wire_definitions::{
-    MEMBER_MERGE, Tree, family_definitions, family_stays, has_laws, is_row, leaf_tree,
+    MEMBER_MERGE, Tree, family_definitions, family_stays, has_laws, has_view, is_row, leaf_tree,
     member_definitions, member_stays, nest_stays, oneof_definitions, oneof_stays, put_all_variants,
     put_leaf_stays, recursive_definitions, set_leaf, table_page,
 };
@@ -24,6 +25,15 @@ const MEMBER_FOLDERS: [Template; 2] = [
     ("row_folder", "proofs/$module$/$name$"),
 ];
 
+/// The words of a oneof of which some variants are rows.
+pub(crate) const CHOICE: [&str; 5] = [
+    "choice",
+    "choice_module",
+    "choices",
+    "choice_view",
+    "choice_view_module",
+];
+
 impl Package {
     /// A message type that holds itself, or is of a family: some of these fields are rows.
     pub(crate) fn add_recursive(
@@ -33,7 +43,7 @@ impl Package {
         fields: Vec<Field>,
     ) -> Result<(), GenerateError> {
         let mut page = self.page(&message.words);
-        page.copy(&message.words, &["choice", "choice_module", "choices"]);
+        page.copy(&message.words, &CHOICE);
         if !page.get("requiring").is_empty() {
             self.need_required();
         }
@@ -101,6 +111,11 @@ impl Package {
         let code = choice_code(base, oneof, fields)?;
         let mut page = self.page(&oneof.words);
         page.copy(&oneof.words, &["holder", "holder_name"]);
+        if has_view(&page) {
+            let view = choice_view_code(base, oneof, fields)?;
+            self.add_module(&page, view)?;
+        }
+        page.fill_all(&[("view_name", ""), ("view_module", "")]);
         if oneof.variants.is_empty() {
             return self.add_code(&mut page, code);
         }
@@ -217,7 +232,7 @@ impl Package {
     ) -> Result<Words, GenerateError> {
         let mut page = self.page(&message.words);
         page.copy(all, &["all_variants"]);
-        page.copy(&message.words, &["choice", "choice_module", "choices"]);
+        page.copy(&message.words, &CHOICE);
         let fields = fields_of(&self.base, schema, message)?;
         set_leaf(&mut page, &fields);
         set_family(&mut page, schema, first)?;

@@ -145,7 +145,6 @@ impl Package {
                 "view_name",
                 "view_module",
                 "view_written",
-                "unviewed",
             ],
         );
         page

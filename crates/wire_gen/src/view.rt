@@ -1,7 +1,7 @@
 //! The files of the view of a message type, and of those of its oneofs.
-use crate::answers::view_answers_of;
 use crate::oneof_proofs::view_merge_answers;
 use crate::package::Package;
+use crate::view_answers::view_answers_of;
 use crate::view_code::view_code_of;
 use crate::view_oneof::oneof_view_code;
 use wire_definitions::{Tree, closed_view_answers, has_view};

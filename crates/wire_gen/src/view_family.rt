@@ -1,5 +1,6 @@
 //! The code of views that hold one another: the enum of all of them passes on what is asked, and
 //! the messages are made of them.
+use crate::nests::CHOICE;
 use crate::view_owned::{put_owned, tell_held};
 use wire_definitions::{code_imports, ghost_imports, set_heading};
 use wire_schema::{Field, GenerateError, Template, Words};
@@ -138,6 +139,7 @@ pub(crate) fn family_view_code(
     }
     for (place, member) in members.iter().enumerate() {
         page.copy(member, &["name", "module", "view_name", "view_module"]);
+        page.copy(member, &CHOICE);
         let is_first = page.get("listed").is_empty();
         page.set("and", if is_first { "" } else { ", " });
         page.append_all(&OF_MEMBER);

@@ -1,7 +1,8 @@
 //! The files of the views of message types that hold themselves or one another.
-use crate::answers::view_leaf_answers_of;
 use crate::family::set_family;
+use crate::nests::CHOICE;
 use crate::package::Package;
+use crate::view_answers::view_leaf_answers_of;
 use crate::view_family::{MEMBER_MERGE, family_view_code, view_leaf_answers};
 use crate::view_owned::{put_owned, tell_held};
 use crate::view_recursive::recursive_view_of;
@@ -109,6 +110,7 @@ impl Package {
         for member in members {
             let fields = self.fields_of_member(schema, first, member)?;
             own.copy(member, &["name", "module", "view_name", "view_module"]);
+            own.copy(member, &CHOICE);
             put_owned_answers(&mut own, &fields);
             all.push(fields)?;
         }
@@ -137,7 +139,7 @@ impl Package {
             let is_named = message.words.get("name") == member.get("name");
             if is_named && message.family == Some(first) {
                 let mut page = self.page(&message.words);
-                page.copy(&message.words, &["choice", "choice_module", "choices"]);
+                page.copy(&message.words, &CHOICE);
                 let fields = fields_of(&self.base, schema, message)?;
                 set_leaf(&mut page, &fields);
                 set_family(&mut page, schema, first)?;

@@ -71,6 +71,56 @@ fn owned_once_$module$<'a>(
 }
 ";
 
+// Of a oneof of which some variants are rows.
+const OWNED_CHOICE: &str = "
+// The one that stands, of the message, where one does.
+#[cycle(own)]
+fn owned_$choice_module$<'a>(
+    alloc: Global,
+    view: &Option<$choice_view$<'a>>,
+) -> Result<Option<$choice$>, DecodeError>
+    ensures ok { IfOk result (λ held. option_map $choice_module$-value held
+        ≡ option_map $choice_module$-view_value view.now) }
+    ensures err { IfErr result (λ e. e ≡ OutOfMemory) }
+{
+    match view {
+$owned_variants$        None => Ok(None),
+    }
+}
+";
+
+const OWNED_PLAIN: [Template; 2] = [
+    (
+        "owned_variants",
+        "        Some($choice_view$::$variant$(value)) => {
+            let own = <$view_kind$ as ViewKind>::own(alloc, value)?;
+            Ok(Some($choice$::$variant$(own)))
+        }
+",
+    ),
+    ("kinds_code", "$view_code$wire_views ViewKind\n"),
+];
+
+const OWNED_ROW: Template = (
+    "owned_variants",
+    "        Some($choice_view$::$choice_variant$(message)) => {
+            let own = owned_$of_module$(alloc, message)?;
+            Ok(Some($choice$::$choice_variant$(Box::new(alloc, own)?)))
+        }
+",
+);
+
+const CHOICE_USES: &str = "\
+crate::$choice_module$ $choice$
+crate::$choice_view_module$ $choice_view$
+";
+
+const CHOICE_GHOSTS: &str = "\
+Rattle.std.specs.Prelude option_map
+Rattle.$crate$.specs.$home$ $choice_module$-value
+Rattle.$crate$.specs.$home$ $choice_module$-view_value
+";
+
 const GHOSTS: &str = "\
 Rattle.std.specs.Prelude ◌≡◌
 Rattle.std.specs.Prelude IfErr
@@ -99,11 +149,16 @@ const OF_ONCE: Template = (
     "    let own_$field$ = owned_once_$of_module$(alloc, &view.$field$)?;\n",
 );
 
+const OF_CHOICE: Template = (
+    "owns",
+    "    let own_$field$ = owned_$choice_module$(alloc, &view.$field$)?;\n",
+);
+
 /// Tells the page of which types the rows among these fields hold messages: many, the word `each_of`,
 /// and one at most, `once_of`.
 pub(crate) fn tell_held(page: &mut Words, fields: &[Field]) {
     for field in fields {
-        if is_row(field) {
+        if is_row(field) && field.words.get("choice_variant").is_empty() {
             page.copy(&field.words, &["of_name"]);
             if field.words.get("kind").starts_with("Each") {
                 page.append("each_of", " $of_name$ ");
@@ -126,14 +181,18 @@ pub(crate) fn put_owned(page: &mut Words, fields: &[Field]) {
             &field.words,
             &["field", "view_kind", "view_code", "of_module"],
         );
-        page.append("owned", "        $field$: own_$field$,\n");
-        if !is_row(field) {
+        if is_choice(field) {
+            page.append_all(&[OF_CHOICE]);
+        } else if !field.words.get("choice_variant").is_empty() {
+            continue;
+        } else if !is_row(field) {
             page.append_all(&OF_LEAF);
         } else if field.words.get("kind").starts_with("Each") {
             page.append_all(&[OF_EACH]);
         } else {
             page.append_all(&[OF_ONCE]);
         }
+        page.append("owned", "        $field$: own_$field$,\n");
     }
     page.append("uses", "wire_views own_spans\n");
     page.append("head_ghosts", GHOSTS);
@@ -152,4 +211,38 @@ pub(crate) fn put_owned(page: &mut Words, fields: &[Field]) {
             "Rattle.std.specs.Prelude map\nRattle.wire_fields.specs.Nest boxed_row\n",
         );
     }
+    put_owned_choice(page, fields);
+}
+
+/// Whether a field is a oneof of which some variants are rows: a field of the leaf, or the first of
+/// its rows, where all are.
+pub(crate) fn is_choice(field: &Field) -> bool {
+    let is_variant = !field.words.get("choice_variant").is_empty();
+    let is_leaf = !field.words.get("in_choice").is_empty();
+    is_leaf || is_variant && field.oneof.is_some()
+}
+
+// How what stands of such a oneof is made of its view, where there is one.
+fn put_owned_choice(page: &mut Words, fields: &[Field]) {
+    if page.get("choice").is_empty() {
+        return;
+    }
+    page.set("owned_variants", "");
+    for field in fields {
+        if let (Some(oneof), false) = (&field.oneof, field.words.get("in_choice").is_empty()) {
+            for variant in &oneof.variants {
+                page.copy(variant, &["variant", "view_kind", "view_code"]);
+                page.append_all(&OWNED_PLAIN);
+            }
+        }
+        page.copy(&field.words, &["choice_variant", "of_module"]);
+        if !page.get("choice_variant").is_empty() {
+            page.append_all(&[OWNED_ROW]);
+        }
+    }
+    page.append_all(&[
+        ("all_owned", OWNED_CHOICE),
+        ("uses", CHOICE_USES),
+        ("head_ghosts", CHOICE_GHOSTS),
+    ]);
 }

@@ -3,9 +3,11 @@
 //! message.
 use crate::code::put_field_comment;
 use crate::field_rows::set_numbers;
-use crate::recursive::{fill_line, put_calls};
+use crate::recursive::put_calls;
+use crate::view_choice::{self, DECLARED, put_arms, put_variants};
 use crate::view_code::{OF_FIELD, ROWS, STRUCT, UNKNOWN};
-use wire_definitions::{code_imports, ghost_imports, is_row, set_heading};
+use crate::view_rows::put_row;
+use wire_definitions::{code_imports, ghost_imports, is_row, set_heading, set_names};
 use wire_schema::{Field, GenerateError, Schema, Template, Words};
 
 const USES: &str = "\
@@ -196,59 +198,6 @@ $merge_held$    }
 }
 ";
 
-// What there is for a row of many messages, and of one at most: `nones`, what it is in the view of
-// no records, and its arms.
-const EACH: [Template; 5] = [
-    ("declared", "    pub $field$: Vec<$of_view$<'a>>,\n"),
-    ("nones", ", $field$: Vec::new(alloc)"),
-    ("lines_of_nones", "            $field$: Vec::new(alloc),\n"),
-    ("uses", "wire_fields push_message\n"),
-    ("eaches", "$line$\n"),
-];
-
-const ONCE: [Template; 5] = [
-    ("declared", "    pub $field$: Option<Box<$of_view$<'a>>>,\n"),
-    ("nones", ", $field$: None"),
-    ("lines_of_nones", "            $field$: None,\n"),
-    (
-        "takes",
-        "            $row$ => {
-                match self.$field$.take() {
-                    Some(message) => $moved_open$Box::into_inner(message)$moved_shut$,
-                    None => $moved_open$$of_view$::default_view(alloc)$moved_shut$,
-                }
-            }
-",
-    ),
-    (
-        "onces",
-        "$arm$ => {
-                self.$field$ = Some(Box::new(alloc, message)?);
-                Ok(())
-            }
-",
-    ),
-];
-
-const PUSHED: [&str; 2] = [
-    "$arm$ => push_message(&mut self.$field$, message),",
-    "$arm$ => {
-                push_message(&mut self.$field$, message)
-            }",
-];
-
-const ROW_OF_ALONE: [Template; 2] = [("moved_open", ""), ("arm", "            $row$")];
-
-const ROW_OF_MEMBER: [Template; 2] = [
-    ("moved_open", "FamilyView::$of_name$("),
-    ("arm", "            ($row$, FamilyView::$of_name$(message))"),
-];
-
-const NEW: Template = (
-    "news",
-    "            $row$ => $moved_open$$of_view$::default_view(alloc)$moved_shut$,\n",
-);
-
 // The calls of the fields that are no rows, of which the macro's rows stand above.
 const OF_SOME: [Template; 4] = [
     ("alloc", "alloc"),
@@ -268,6 +217,22 @@ const OF_NONE: [Template; 4] = [
     ("merged", "keep_span(tag, &mut self.unknown, buf, context)"),
 ];
 
+// Those of a type with a oneof of which some variants are rows and others are not.
+const OF_CHOICE: [Template; 4] = [
+    ("alloc", "alloc"),
+    ("uses", "$uses$wire_views keep_span\n"),
+    (
+        "empty",
+        "$view_name$ {\n$lines_of_nones$            unknown: Vec::new(alloc),\n        }",
+    ),
+    (
+        "merged",
+        "match tag.field_number() {
+$arms$            _ => keep_span(tag, &mut self.unknown, buf, context),
+        }",
+    ),
+];
+
 /// The module of the view of a message type that holds itself or is of a family, whose words the
 /// base has. How the message is made of it is told of a type that holds itself alone: the words
 /// `all_owned` and `head_ghosts`.
@@ -279,23 +244,26 @@ pub(crate) fn recursive_view_of(
     let mut page = Words::like(base);
     let is_member = !page.get("family_name").is_empty();
     page.fill_all(if is_member { &MEMBER } else { &ALONE });
+    if !page.get("choice").is_empty() && !is_member {
+        page.fill("cycle", "#[cycle($view_module$)]\n");
+    }
     page.append("uses", USES);
     page.set("news", "");
+    set_names(&mut page, fields);
+    let is_plain = fields.iter().all(|it| it.words.get("in_choice").is_empty());
     let (mut row, mut place) = (0usize, 0usize);
     for field in fields {
         page.copy(
             &field.words,
             &["field", "at", "view_held", "view_kind", "view_code"],
         );
-        put_field_comment(&mut page, schema);
         if is_row(field) {
             page.index("row", row);
-            put_row(&mut page, field, is_member);
+            put_row(&mut page, schema, field, is_member);
             row = row.saturating_add(1);
         } else {
             page.index("row", place);
-            set_numbers(&mut page, &field.words);
-            page.append_all(&OF_FIELD);
+            put_leaf(&mut page, schema, field, is_plain);
             place = place.saturating_add(1);
         }
     }
@@ -303,31 +271,31 @@ pub(crate) fn recursive_view_of(
     put_calls(&mut page);
     page.append("declared", UNKNOWN);
     page.fill("declared", "\n$declared$");
-    page.fill_all(if place == 0 { &OF_NONE } else { &OF_SOME });
+    page.fill_all(match (place, is_plain) {
+        (0, _) => &OF_NONE,
+        (_, true) => &OF_SOME,
+        (_, false) => &OF_CHOICE,
+    });
     page.set("full", base.get("full").trim_start_matches('.'));
-    put_text(&mut page, place > 0);
+    put_text(&mut page, is_plain && place > 0);
     page.finish("text")
 }
 
-// A row of views.
-fn put_row(page: &mut Words, field: &Field, is_member: bool) {
-    page.copy(&field.words, &["of_name", "of_view", "of_view_path"]);
-    page.fill_all(if is_member {
-        &ROW_OF_MEMBER
-    } else {
-        &ROW_OF_ALONE
-    });
-    if page.get("of_view") != page.get("view_name") {
-        page.append("uses", "$of_view_path$ $of_view$\n");
+// A field of the leaf, of a type whose rows are read by a macro or not.
+fn put_leaf(page: &mut Words, schema: &Schema, field: &Field, is_plain: bool) {
+    if let (Some(oneof), false) = (&field.oneof, field.words.get("in_choice").is_empty()) {
+        page.set("at", "");
+        put_field_comment(page, schema);
+        page.append_all(&DECLARED);
+        return put_variants(page, oneof);
     }
-    if field.words.get("kind").starts_with("Each") {
-        fill_line(page, &PUSHED);
-        page.append_all(&EACH);
-        if is_member {
-            page.append_all(&[NEW]);
-        }
+    put_field_comment(page, schema);
+    if is_plain {
+        set_numbers(page, &field.words);
+        page.append_all(&OF_FIELD);
     } else {
-        page.append_all(&ONCE);
+        page.append_all(&view_choice::OF_FIELD);
+        put_arms(page, &field.words);
     }
 }
 
@@ -335,15 +303,12 @@ fn put_row(page: &mut Words, field: &Field, is_member: bool) {
 fn put_text(page: &mut Words, has_leaf: bool) {
     let is_member = !page.get("family_name").is_empty();
     code_imports(page);
-    page.fill("ghosts", "$head_ghosts$");
+    page.fill("ghosts", "$head_ghosts$$choice_ghosts$");
+    let has_ghosts = !page.get("ghosts").is_empty();
     ghost_imports(page, "");
     page.fill(
         "imports_of_ghosts",
-        if page.get("head_ghosts").is_empty() {
-            ""
-        } else {
-            "$ghost_imports$\n"
-        },
+        if has_ghosts { "$ghost_imports$\n" } else { "" },
     );
     set_heading(page, "//!", "The view of the message `$full$`.");
     page.fill(
@@ -366,5 +331,5 @@ fn put_text(page: &mut Words, has_leaf: bool) {
     page.fill("ghosts", VIEW_GHOSTS);
     ghost_imports(page, "    ");
     page.append("text", VIEW);
-    page.append("text", "$all_owned$");
+    page.append("text", "$view_parts$$all_owned$");
 }

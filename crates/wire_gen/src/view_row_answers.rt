@@ -1,5 +1,7 @@
 //! The proofs of the rows of the view of a message type that holds itself or is of a family: how a
 //! message is put into one, and that the message that is made of the view has the same.
+use crate::view_choice_answers::put_step_of_choice;
+use crate::view_owned::is_choice;
 use wire_definitions::{definition_imports, is_row};
 use wire_schema::{Field, GenerateError, Template, Words};
 
@@ -25,7 +27,8 @@ const OF_MEMBER: [Template; 5] = [
 ];
 
 const HOME: [&str; 2] = [
-    "use Rattle.$crate$.specs.$name$.{$name$-Value, $module$-view_one, $module$-view_value}\n",
+    "use Rattle.$crate$.specs.$name$.{$name$-Value, $module$-view_one, $module$-view_value}\n\
+     $uses_of_choice_view$$uses_of_view_variants$",
     "use Rattle.$crate$.specs.$family_name$ as family\n$view_type_uses$",
 ];
 
@@ -59,10 +62,10 @@ pub(crate) fn view_push_answers(base: &Words, fields: &[Field]) -> Result<String
     page.fill("answers", "");
     page.fill(
         "types_there",
-        if is_member {
-            "$view_types$"
-        } else {
-            " declared.$view_name$"
+        match (is_member, page.get("choice").is_empty()) {
+            (true, _) => "$view_types$",
+            (false, true) => " declared.$view_name$",
+            (false, false) => " $choice_view$ declared.$view_name$",
         },
     );
     for (row, field) in fields.iter().filter(|it| is_row(it)).enumerate() {
@@ -119,7 +122,7 @@ $made$      unknown = c.in_ok-own_unknown.own_unknown;
     ∙ rw (
 $steps$      c.in_ok-own_unknown.ensures.ok,
       $deref$.ensures.value,
-    ) refl
+    ) $left$
     ∙ sym (fold_out-$view_name$$their_view_trees$$their_view_ones$ c.args.view.now)
 ";
 
@@ -168,6 +171,30 @@ Rattle.std.proofs.lemmas.Iterator.Adapters option_map_id
 Rattle.$crate$.specs.declared.$view_module$.$view_name$ out-$view_name$
 ";
 
+const MADE: [Template; 1] = [("made", "      $field$ = c.in_ok-own_$field$.own_$field$;\n")];
+
+const SIGNED_64: [Template; 2] = [
+    (
+        "made",
+        "      $field$ = to_z w64 (of_z w64 c.in_ok-own_$field$.own_$field$);\n",
+    ),
+    ("uses", "Rattle.std.proofs.Common w64\n"),
+];
+
+const SIGNED_32: [Template; 2] = [
+    (
+        "made",
+        "      $field$ = to_z w32 (of_z w32 c.in_ok-own_$field$.own_$field$);\n",
+    ),
+    ("uses", "Rattle.std.proofs.Common w32\n"),
+];
+
+const USES_OF_SIGNED: &str = "\
+Rattle.std.proofs.Common of_z
+Rattle.std.proofs.Common rules
+Rattle.std.proofs.Common to_z
+";
+
 /// Begins the answers of what makes messages of views, whose module this is, of a type that holds
 /// itself alone or of all of a family.
 pub(crate) fn begin_owned(page: &mut Words, own_module: &str) {
@@ -182,13 +209,18 @@ pub(crate) fn put_owned_answers(page: &mut Words, fields: &[Field]) {
     page.fill("of_home", if is_member { "family." } else { "" });
     page.append("uses", OWN_USES);
     page.append("uses", if is_member { "" } else { USES_OF_ALONE });
-    page.fill_all(&[("steps", ""), ("made", "")]);
+    page.fill_all(&[("steps", ""), ("made", ""), ("left", "refl")]);
     let mut derefs: usize = 0;
     for field in fields {
+        if !is_choice(field) && !field.words.get("choice_variant").is_empty() {
+            continue;
+        }
         page.copy(&field.words, &["field", "of_module"]);
-        page.append("made", "      $field$ = c.in_ok-own_$field$.own_$field$;\n");
+        put_made(page, field.words.get("view_held"));
         let kind = field.words.get("kind");
-        if is_row(field) && !kind.starts_with("Each") {
+        if is_choice(field) {
+            put_step_of_choice(page, is_member);
+        } else if is_row(field) && !kind.starts_with("Each") {
             page.append_all(&[("steps", STEPS_OF_ONCE), ("uses", USES_OF_ONCE)]);
             page.append("uses", if is_member { "" } else { USES_OF_ONCE_ALONE });
         } else if field.words.get("call") == "merge_closed" {
@@ -205,6 +237,19 @@ pub(crate) fn put_owned_answers(page: &mut Words, fields: &[Field]) {
     }
     set_deref(page, derefs.saturating_add(1));
     page.append("answers", OWNED);
+}
+
+// What the message has for a field, of what a view holds: a signed number as it is in the machine.
+fn put_made(page: &mut Words, held: &str) {
+    page.append_all(match held {
+        "i64" => &SIGNED_64,
+        "i32" => &SIGNED_32,
+        _ => &MADE,
+    });
+    if held == "i64" || held == "i32" {
+        page.append("uses", USES_OF_SIGNED);
+        page.set("left", "(search rules)");
+    }
 }
 
 // The invariant of the loop over a list of messages of this type, once.
