@@ -5,6 +5,7 @@ use Rattle.wire_fields.specs.Ranges.{Range}
 use Rattle.wire_fields.specs.Returned.{Returned}
 use Rattle.wire_fields.specs.Shape.{Shape}
 use Rattle.wire_well_known.specs.declared.list_value.ListValue.{ListValue}
+use Rattle.wire_well_known.specs.declared.list_value_view.ListValueView.{ListValueView}
 use Rattle.wire_well_known.specs.ListValueFamily as family
 
 abbrev pub ListValue-Value : Type 0
@@ -12,6 +13,10 @@ ListValue-Value = family.Family-Tree
 
 abbrev pub list_value-value : ListValue → ListValue-Value
 list_value-value = family.list_value-value
+
+-- the same of its view
+abbrev pub list_value-view_value : ListValueView → ListValue-Value
+list_value-view_value = family.list_value-view_value
 
 abbrev pub list_value-shape : Shape ListValue-Value
 list_value-shape = family.family-shapes family.ListValue-Sort

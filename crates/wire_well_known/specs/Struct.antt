@@ -5,6 +5,7 @@ use Rattle.wire_fields.specs.Ranges.{Range}
 use Rattle.wire_fields.specs.Returned.{Returned}
 use Rattle.wire_fields.specs.Shape.{Shape}
 use Rattle.wire_well_known.specs.declared.struct_.Struct.{Struct}
+use Rattle.wire_well_known.specs.declared.struct_view.StructView.{StructView}
 use Rattle.wire_well_known.specs.ListValueFamily as family
 
 abbrev pub Struct-Value : Type 0
@@ -12,6 +13,10 @@ Struct-Value = family.Family-Tree
 
 abbrev pub struct_-value : Struct → Struct-Value
 struct_-value = family.struct_-value
+
+-- the same of its view
+abbrev pub struct_-view_value : StructView → Struct-Value
+struct_-view_value = family.struct_-view_value
 
 abbrev pub struct_-shape : Shape Struct-Value
 struct_-shape = family.family-shapes family.Struct-Sort

@@ -5,6 +5,7 @@ use Rattle.wire_fields.specs.Ranges.{Range}
 use Rattle.wire_fields.specs.Returned.{Returned}
 use Rattle.wire_fields.specs.Shape.{Shape}
 use Rattle.wire_well_known.specs.declared.struct_fields_entry.StructFieldsEntry.{StructFieldsEntry}
+use Rattle.wire_well_known.specs.declared.struct_fields_entry_view.StructFieldsEntryView.{StructFieldsEntryView}
 use Rattle.wire_well_known.specs.ListValueFamily as family
 
 abbrev pub StructFieldsEntry-Value : Type 0
@@ -12,6 +13,10 @@ StructFieldsEntry-Value = family.Family-Tree
 
 abbrev pub struct_fields_entry-value : StructFieldsEntry → StructFieldsEntry-Value
 struct_fields_entry-value = family.struct_fields_entry-value
+
+-- the same of its view
+abbrev pub struct_fields_entry-view_value : StructFieldsEntryView → StructFieldsEntry-Value
+struct_fields_entry-view_value = family.struct_fields_entry-view_value
 
 abbrev pub struct_fields_entry-shape : Shape StructFieldsEntry-Value
 struct_fields_entry-shape = family.family-shapes family.StructFieldsEntry-Sort

@@ -5,6 +5,7 @@ use Rattle.wire_fields.specs.Ranges.{Range}
 use Rattle.wire_fields.specs.Returned.{Returned}
 use Rattle.wire_fields.specs.Shape.{Shape}
 use Rattle.wire_well_known.specs.declared.value.Value.{Value}
+use Rattle.wire_well_known.specs.declared.value_view.ValueView.{ValueView}
 use Rattle.wire_well_known.specs.ListValueFamily as family
 
 abbrev pub Value-Value : Type 0
@@ -12,6 +13,10 @@ Value-Value = family.Family-Tree
 
 abbrev pub value-value : Value → Value-Value
 value-value = family.value-value
+
+-- the same of its view
+abbrev pub value-view_value : ValueView → Value-Value
+value-view_value = family.value-view_value
 
 abbrev pub value-shape : Shape Value-Value
 value-shape = family.family-shapes family.Value-Sort
