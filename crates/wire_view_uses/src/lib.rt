@@ -4,6 +4,8 @@
 
 pub mod both;
 #[cfg(test)]
+mod choices;
+#[cfg(test)]
 mod closed;
 #[cfg(test)]
 mod lengths;

@@ -10,7 +10,7 @@ pub returns-in_ok-in_order-in-Ok-clause-ok : goal.returns-in_ok-in_order-in-Ok-c
 returns-in_ok-in_order-in-Ok-clause-ok c = (
   bill-view_value c.in-Ok.bill,
   c.in-Ok.ensures.ok,
-  ap (viewed (λ s. s.now) (λ v. v)) c.in_ok-in_order-in-Ok.ensures
+  ap (viewed (λ s. s.now) (λ v. v)) c.in_ok-in_order-in-Ok.ensures.map
       ∙ viewed_map (λ s. s.now) (λ v. v) _ (slice_cmp nat_cmp) (λ x y. refl)
       c.in-Ok.bill.owed.items,
 )
