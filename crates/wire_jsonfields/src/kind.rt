@@ -74,7 +74,7 @@ pub trait JsonValue {
 
     ghost view: { Self.Held → Value };
 
-    /// Which trees mean which values. `null` is left to the field, and means none.
+    /// Which trees mean which values. `null` is left to the field.
     ghost means: { Json → Value → Type 0 };
 
     /// Which trees are written of a value.

@@ -8,7 +8,7 @@ use crate::object::Entry;
 use wire_protojson::{ReadError, Reason, Refusal};
 
 /// The refusal of a oneof of which more than one of these fields has a value, at the second value;
-/// where one or none has, at the last of them. `null` is none.
+/// where one has, at it, and where none has, at the beginning of the text. `null` is none.
 pub fn second_of_oneof(text: &[u8], entries: &[Entry<'_>], fields: &[FieldName]) -> ReadError
     ensures { result ≢ OutOfMemory }
 {
