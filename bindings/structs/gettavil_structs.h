@@ -3,8 +3,8 @@
  * A struct is of fixed size and owns nothing: strings and `bytes` are pointers into the bytes that
  * were read, so these have to live and stay as they are for as long as the struct is used. Each
  * call is proved: for all bytes, and whatever the struct held before, it ends, reads only what it
- * is handed, writes only the struct or the room that it is handed, asks for no memory and keeps no
- * state, so calls on structs of their own may run at once. What stands on trust: that a header is
+ * is handed, writes only the struct, or the room and the length, that it is handed, asks for no
+ * memory and keeps no state, so calls on structs of their own may run at once. What stands on trust: that a header is
  * that of its library, which `./run` looks at, the C compiler, and that a caller hands in what
  * these conditions say:
  *
@@ -13,7 +13,7 @@
  * - `bytes` points to `len` bytes that nothing writes during the call; where `len` is 0 it may be
  *   any pointer, NULL too;
  * - so does each string and `bytes` of a struct that is written, each list beside it to as many
- *   elements, and `room` to `room_len` bytes; and each `bool` of it is true or false.
+ *   elements, aligned, and `room` to `room_len` bytes; and each `bool` of it is true or false.
  *
  * A struct that is to be written is one that was read, or one of the program's own, of which all
  * is zero that it does not set. It is written as it stands: of a field whose flag is false, and of

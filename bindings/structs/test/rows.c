@@ -208,6 +208,11 @@ static void write_with(const report_sample *sample, const station *it,
         strcpy(written, "not written");
         return;
     }
+    if (write_into(sample, it, lists, NULL, 0, &len) != (size ? GTV_NO_ROOM : GTV_OK) ||
+        len != size) {
+        strcpy(written, "not measured");
+        return;
+    }
     strcpy(written, size == 0 ? "-" : "");
     for (size_t i = 0; i < size; i++) {
         sprintf(written + 2 * i, "%02X", room[i]);

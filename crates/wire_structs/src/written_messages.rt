@@ -12,7 +12,8 @@ use crate::payload::delimited_len;
 use crate::written::WrittenStruct;
 use wire_codec::{EncodeError, EncodeSink, laws, put_len_delimited_header};
 
-/// How many bytes the record of the message takes, as of one that stands of a oneof, or `u64::MAX` where it is more.
+/// How many bytes the record of the message takes, as of one that stands of a oneof, or `u64::MAX`
+/// where it is more.
 #[inline(always)]
 pub fn message_len<M: WrittenStruct>(number: u32, message: &M) -> u64
     requires { IsFieldNumber number }
