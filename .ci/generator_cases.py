@@ -312,8 +312,8 @@ CHOICES = [
       "impl<'a> RecursiveView<FamilyView<'a>> for NView<'a> {",
       "impl<'a> RecursiveView<FamilyView<'a>> for OView<'a> {",
       "impl<'a> RecursiveHeld<&'a [u8]> for IView<'a> {",
-      "                    Some(IHView::I_(message)) => Box::into_inner(message),\n",
-      "            [0] 1 => i: EmbeddedMapIn<TextIn<'a>, IView<'a>, 88>,\n",
+      "                    Some(IHView::I(message)) => Box::into_inner(message),\n",
+      "            [0] 1 => i: EmbeddedMapIn<TextIn<'a>, IView<'a>, 96>,\n",
       "wire_codec wire_fields wire_views bytes"]),
     # Of types of another crate, and of such as have names that generated modules bring in.
     ("proto3", "import \"google/protobuf/struct.proto\"; import \"google/protobuf/any.proto\"; "
