@@ -16,7 +16,6 @@ use Rattle.wire_fields.specs.NestChoice.{if_other, other_row, beside_if, beside_
 use Rattle.wire_fields.specs.NestChoice.{rows_beside_field, rows_alone, first_choice, second_choice}
 use Rattle.wire_fields.specs.NestRange.{Beside, IsWithin, LeafBeside, GoesToLeaf, IsReadBack}
 use Rattle.wire_fields.specs.NestRange.{IsPlaceOf, all_runs}
-use Rattle.wire_fields.specs.NestRows.{no_messages}
 use Rattle.wire_fields.specs.NestTable.{Table}
 use Rattle.wire_fields.specs.Ranges.{Range}
 use Rattle.wire_fields.specs.StaysNest.{IsThinned}

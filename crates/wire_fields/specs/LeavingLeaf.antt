@@ -10,7 +10,8 @@ use Rattle.wire_fields.specs.Back.{AllHave, AllAre, all_joined, all_weaker, plai
 use Rattle.wire_fields.specs.Dropped.{dropped, drops}
 use Rattle.wire_fields.specs.Grounds.{Grounds}
 use Rattle.wire_fields.specs.Leaving.{Leaving, with_unknown, keeps_beside}
-use Rattle.wire_fields.specs.LeavingBack.{ReturnedBeside, AreLeft, IsLeft, left_range}
+use Rattle.wire_fields.specs.LeavingBack.{ReturnedBeside, AreLeft, AreLeftFor, IsLeftFor}
+use Rattle.wire_fields.specs.LeavingBack.{left_range, charged_range, charged_returned}
 use Rattle.wire_fields.specs.LeavingBack.{with_unknown_returned, leaves_left, not_owned_left}
 use Rattle.wire_fields.specs.NestRange.{GoesToLeaf, IsReadBack}
 use Rattle.wire_fields.specs.NestTable.{Table}
@@ -21,10 +22,23 @@ use Rattle.wire_fields.specs.Short.{first_short}
 use Rattle.wire_fields.specs.Sound.{IsSound}
 use Rattle.wire_fields.specs.Stays.{FieldsStay, AreKept, part_stays, kept_more, none_kept}
 use Rattle.wire_fields.specs.StaysLeaf.{StepStays}
-use Rattle.wire_fields.specs.StaysLeaving.{LeavingStays, StandsBeside}
+use Rattle.wire_fields.specs.StaysLeaving.{LeavingStays, StandsBeside, ChargesOthers}
 use Rattle.wire_fields.specs.StaysMessages.{anywhere}
 
 -- ---- fields that leave records
+
+-- the fields have numbers that go to the leaf
+leaving_numbers : {L V : Type 0} → Grounds → (t : Table L) (s : Leaving V) (r : Range V)
+    (x : ReturnedBeside s r) → ((n : ℕ) → x.Has n → GoesToLeaf t n) → (l : V × Fields)
+    → r.Holds l.0 → AllAre (GoesToLeaf t) l.1
+    → AllAre (GoesToLeaf t) (plain ((with_unknown s).records l))
+leaving_numbers g t s r x here l holds others =
+    subst (AllAre (GoesToLeaf t))
+    (sym (plain_joined (s.records l.0) (of_fields l.1)
+    ∙ ap (joined (plain (s.records l.0))) (g.plain.plain l.1)))
+    (all_joined (λ n p. GoesToLeaf t n) (plain (s.records l.0)) l.1
+    (all_weaker x.Has (GoesToLeaf t) here (plain (s.records l.0))
+    ((x.back none).has l.0 holds)) others)
 
 -- unknown fields that are left, with numbers that go to no row
 abbrev pub left_here : {L V : Type 0} → Table L → Leaving V → Range Fields
@@ -36,25 +50,42 @@ left_here t s = record {
 abbrev pub leaving_leaf_range : {L V : Type 0} → Table L → Leaving V → Range V → Range (V × Fields)
 leaving_leaf_range t s r = pair_range r (left_here t s)
 
--- the fields have numbers that go to the leaf
 pub leaving_leaf_back : {L V : Type 0} → Grounds → (t : Table L) (s : Leaving V) (r : Range V)
     (x : ReturnedBeside s r) → ((n : ℕ) → x.Has n → GoesToLeaf t n)
     → IsReadBack (with_unknown s).takes (with_unknown s).default (with_unknown s).records
     (GoesToLeaf t) (leaving_leaf_range t s r)
 leaving_leaf_back g t s r x here l holds = (
   (with_unknown_returned g s r x).back.back l (holds.0, holds.1.0),
-  subst (AllAre (GoesToLeaf t))
-      (sym (plain_joined (s.records l.0) (of_fields l.1)
-      ∙ ap (joined (plain (s.records l.0))) (g.plain.plain l.1)))
-      (all_joined (λ n p. GoesToLeaf t n) (plain (s.records l.0)) l.1
-      (all_weaker x.Has (GoesToLeaf t) here (plain (s.records l.0))
-      ((x.back none).has l.0 holds.0)) holds.1.1),
+  leaving_numbers g t s r x here l holds.0 holds.1.1,
+)
+
+-- the same for what each record is charged
+abbrev pub charged_here : {L V : Type 0} → Table L → Leaving V → (ℕ → Payload → Charge)
+    → Range Fields
+charged_here t s charge_of = record {
+  Holds = λ fs. AreLeftFor s charge_of fs × AllAre (GoesToLeaf t) fs;
+  charge_of = (charged_range s charge_of).charge_of;
+}
+
+abbrev pub charged_leaf_range : {L V : Type 0} → Table L → Leaving V → (ℕ → Payload → Charge)
+    → Range V → Range (V × Fields)
+charged_leaf_range t s charge_of r = pair_range r (charged_here t s charge_of)
+
+pub charged_leaf_back : {L V : Type 0} → Grounds → (t : Table L) (s : Leaving V)
+    (charge_of : ℕ → Payload → Charge) (r : Range V) (x : ReturnedBeside s r)
+    → ((n : ℕ) → x.Has n → GoesToLeaf t n)
+    → IsReadBack (with_unknown s).takes (with_unknown s).default (with_unknown s).records
+    (GoesToLeaf t) (charged_leaf_range t s charge_of r)
+charged_leaf_back g t s charge_of r x here l holds = (
+  (charged_returned g s r x charge_of).back.back l (holds.0, holds.1.0),
+  leaving_numbers g t s r x here l holds.0 holds.1.1,
 )
 
 module _ {L V : Type 0} (t : Table L) {s : Leaving V} {r : Range V}
-    (x : LeavingStays s r (λ n p. payload_charge p) anywhere) where
+    {charge_of : ℕ → Payload → Charge} (others : ChargesOthers s charge_of)
+    (x : LeavingStays s r charge_of anywhere) where
   abbrev IsLeftHere : ℕ → Payload → Type 0
-  IsLeftHere n p = IsLeft s n p × GoesToLeaf t n
+  IsLeftHere n p = IsLeftFor s (charge_of n p) n p × GoesToLeaf t n
 
   pub own_or_kept : (n : ℕ) (p : Payload) (c : Charge) (m z : V × Fields) → IsSound n p
       → GoesToLeaf t n → (b : Bool) → s.owns n p ≡ b → StandsBeside x.Is IsLeftHere m
@@ -65,10 +96,14 @@ module _ {L V : Type 0} (t : Table L) {s : Leaving V} {r : Range V}
   own_or_kept n p c m z sound here false other h taken = (
     subst x.Is (sym taken.1) h.0,
     subst (AreKept IsLeftHere) (sym taken.0.1)
-        (kept_more IsLeftHere m.1 n p sound h.1 (not_owned_left s n p other, here)),
+        (kept_more IsLeftHere m.1 n p sound h.1 (
+          subst (λ d. IsLeftFor s d n p) (sym (others n p other)) (not_owned_left s n p other),
+          here,
+        )),
   )
 
-  all_left : (fs : Fields) → AllHave IsLeftHere fs → AllHave (IsLeft s) fs
+  all_left : (fs : Fields) → AllHave IsLeftHere fs
+      → AllHave (λ n p. IsLeftFor s (charge_of n p) n p) fs
   all_left none h = tt
   all_left (field n p rest) h = (h.0.0, all_left rest h.1)
 
@@ -76,15 +111,15 @@ module _ {L V : Type 0} (t : Table L) {s : Leaving V} {r : Range V}
   all_here none h = tt
   all_here (field n p rest) h = (h.0.1, all_here rest h.1)
 
-  pub kept_left : (fs : Fields) → AreKept IsLeftHere fs → (left_here t s).Holds fs
+  pub kept_left : (fs : Fields) → AreKept IsLeftHere fs → (charged_here t s charge_of).Holds fs
   kept_left fs h = (
     record { fitting = h.fitting; numbered = h.numbered; left = all_left fs h.others },
     all_here fs h.others,
   )
 
-  abbrev pub leaving_leaf_stay : StepStays (with_unknown s).takes (with_unknown s).default
-      (with_unknown s).records (GoesToLeaf t) (leaving_leaf_range t s r)
-  leaving_leaf_stay = record {
+  abbrev pub charged_leaf_stay : StepStays (with_unknown s).takes (with_unknown s).default
+      (with_unknown s).records (GoesToLeaf t) (charged_leaf_range t s charge_of r)
+  charged_leaf_stay = record {
     Is = StandsBeside x.Is IsLeftHere;
     begins = (x.start, none_kept IsLeftHere);
     step = λ n p c m z sound here. own_or_kept n p c m z sound here (s.owns n p) refl;
@@ -93,6 +128,15 @@ module _ {L V : Type 0} (t : Table L) {s : Leaving V} {r : Range V}
       kept_left m.1 h.1,
     );
   }
+
+-- where each record that is left is charged as any unknown field
+abbrev pub leaving_leaf_stay : {L V : Type 0} (t : Table L) {s : Leaving V} {r : Range V}
+    → LeavingStays s r (λ n p. payload_charge p) anywhere
+    → StepStays (with_unknown s).takes (with_unknown s).default (with_unknown s).records
+    (GoesToLeaf t) (leaving_leaf_range t s r)
+leaving_leaf_stay t x =
+    let h = charged_leaf_stay t (λ n p other. refl) x in
+    record { Is = h.Is; begins = h.begins; step = h.step; holds = h.holds }
 
 -- ---- fields without the unknown ones
 

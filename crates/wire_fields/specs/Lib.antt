@@ -1,6 +1,7 @@
 pub mod Arms
 pub mod Back
 pub mod ChoiceBack
+pub mod ChoiceLeaving
 pub mod ChoiceSpot
 pub mod ChoiceStays
 pub mod Closed

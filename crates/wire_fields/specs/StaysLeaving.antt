@@ -99,7 +99,7 @@ module _ {A B : Type 0} {a : Leaving A} {b : Leaving B} {r : Range A} {q : Range
       (on_left : (q : Payload) → LeavesFor (both_leaving a b) (charge_of n q) n q → Left n q)
       (c : Charge) (m z : (A × B) × Fields) (sound : IsSound n p) (here : Here n)
       (h : StandsBeside BothAre Left m) where
-    part_takes : (t u : Bool) → a.owns n p ≡ t → b.owns n p ≡ u → (t || u) ≡ true
+    pub part_takes : (t u : Bool) → a.owns n p ≡ t → b.owns n p ≡ u → (t || u) ≡ true
         → on t (on_first a.takes m n p c z) (on_second b.takes m n p c z)
         → StandsBeside BothAre Left z
     part_takes true u first second own taken =
@@ -112,7 +112,7 @@ module _ {A B : Type 0} {a : Leaving A} {b : Leaving B} {r : Range A} {q : Range
         (m.0.1, m.1) (z.0.1, z.1) sound here (second ∙ own) (h.0.1, h.1) taken.0 in
         ((subst x.Is (sym taken.1) h.0.0, after.0), after.1)
 
-  pub both_stay : LeavingStays (both_leaving a b) (pair_range r q) charge_of Here
+  abbrev pub both_stay : LeavingStays (both_leaving a b) (pair_range r q) charge_of Here
   both_stay = record {
     Is = BothAre;
     start = (x.start, y.start);
