@@ -14,12 +14,9 @@ REFUSED = [
      ".A.x: closed enums are not generated with unknown=drop or mismatch=keep"),
     ("proto3", "message A { A x = 1; int32 y = 2; }", ",mismatch=keep", ".A: a message that holds "
      "itself, or what holds it, has no mismatch=keep"),
-    ("proto2", "enum E { Z = 0; } message A { oneof b { A x = 1; int32 y = 2; } "
-     "optional E z = 3; }", "", ".A: a message that holds itself, or what holds it, has no maps of "
-     "closed enums, and by a oneof neither closed enums nor unknown=drop"),
-    ("proto2", "enum E { Z = 0; } message A { optional A x = 1; map<int32, E> y = 2; }", "",
-     ".A: a message that holds itself, or what holds it, has no maps of closed enums, and by a "
-     "oneof neither closed enums nor unknown=drop"),
+    ("proto2", "enum E { Z = 0; } message A { oneof b { A x = 1; E y = 2; } }", "",
+     ".A: a message that holds itself, or what holds it, by a oneof has no closed enum in that "
+     "oneof"),
     ("proto3", "message A { oneof b { A x = 1; } oneof c { A y = 2; int32 z = 3; } }", "",
      ".A: messages that hold themselves or one another by several oneofs want encoded=FIELD"),
     ("proto3", "message A { oneof b { B x = 1; } oneof c { A y = 2; int32 z = 3; } } "
@@ -96,6 +93,26 @@ DEEP = [
 ]
 # A schema, further parameters, and parts of the code that is written.
 CHOICES = [
+    ("proto2", "enum E { Z = 0; } message A { oneof b { A x = 1; int32 y = 2; } optional E z = 3; "
+     "map<int32, E> w = 4; } message B { optional A a = 1; }", "",
+     ["            4 => <Map<Int32, Always<Enum<E>>, 56> as ClosedMap>::merge_closed(",
+      "            3 => merge_closed(tag, &mut self.z, &mut self.unknown, buf, context),",
+      "    leaving_choice a-known a-choice", "a-account [] = entries_left 56 4 (λ n p.",
+      "b-account (number ∷ path) =\n    account_where (number == 1) (a-account path)"]),
+    ("proto2", "enum E { Z = 0; } message A { oneof b { B x = 1; int32 y = 2; } optional E z = 3; "
+     "map<int32, E> w = 4; } message B { optional A a = 1; }", "",
+     ["family-account (zero ∷ []) = entries_left 56 4 (λ n p.",
+      "family-account ((suc zero) ∷ []) = λ n p. payload_charge p"]),
+    ("proto3", "message A { oneof b { A x = 1; int32 y = 2; } }", ",unknown=drop",
+     ["    dropping_choice a-known a-choice", "            _ => pass_over(tag, buf, context),"]),
+    ("proto3", "message Each { repeated Each list = 1; oneof each { Each e = 2; string s = 3; } } "
+     "message Missing { int32 x = 1; } message Choice { oneof b { Choice x = 1; int32 y = 2; } }",
+     ",views=true",
+     ["fn owned_each_each<'a>(", "fn each_owned_each<'a>(", "pub struct Missing_ {",
+      "abbrev pub choice-choice : choices.Choice Choice-Leaf"]),
+    ("proto3", "message Band { Player x = 1; } message Player { Band y = 1; } "
+     "message BandFamilyView { int32 x = 1; }", ",views=true",
+     ["mod band_family_view;", "mod band_family_view_2;"]),
     ("proto3", TYPE + "message Services { int32 x = 1; } service S { rpc Get(A) returns (A); }",
      ",services=skip", ["1 => x: Implicit<Int32>,"]),
     ("proto3", 'import "google/protobuf/empty.proto"; package p;' + TYPE

@@ -1,4 +1,5 @@
 //! What each record is charged that is left, in a message and in those within it.
+use crate::rows::is_row;
 use wire_schema::{Field, Words};
 
 /// The account of a message, behind what is charged in it alone.
@@ -17,11 +18,13 @@ pub(crate) const FAMILY_ACCOUNT: &str = "
 -- the fields that lead to its message, its own number and its payload
 abbrev pub family-account : List ℕ → ℕ → Payload → Charge
 family-account [] = λ n p. payload_charge p
-family-account (i ∷ []) = λ n p. payload_charge p
+$own_accounts$family-account ($at_least$ ∷ []) = λ n p. payload_charge p
 $accounts$family-account ($at_least$ ∷ number ∷ path) = λ n p. payload_charge p
 ";
 
-/// A line of that for each type.
+/// The lines of that for each type: what it is charged for, and what those are that it holds.
+pub(crate) const OWN_ACCOUNT: &str = "family-account ($at$ ∷ []) = $left_charge$\n";
+
 pub(crate) const MEMBER_ACCOUNT: &str = "\
 family-account ($at$ ∷ number ∷ path) =
     $left_within$
@@ -49,7 +52,8 @@ pub(crate) fn put_account(page: &mut Words, fields: &[Field]) {
     }
     page.append("uses", USES);
     page.set("left_within", "λ n p. payload_charge p");
-    for field in fields {
+    // (one account is that of all messages of a type that holds itself, or of a family)
+    for field in fields.iter().filter(|it| !is_row(it)) {
         put_within(page, &field.words);
         if let Some(oneof) = &field.oneof {
             for variant in &oneof.variants {

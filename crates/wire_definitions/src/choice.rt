@@ -2,7 +2,6 @@
 //! and the others a field of the leaf.
 use crate::choice_names::set_opened;
 use crate::oneofs::put_values;
-use crate::rows::is_row;
 use wire_schema::{Field, Oneof, Template, Words};
 
 // The field of the leaf: how what its message holds is seen, and names that are brought in.
@@ -56,100 +55,6 @@ pub(crate) fn row_of(mut variant: Words, of: &Words, whole: &mut Option<Field>) 
     }
 }
 
-/// Where it stands in a tree of fields: that it does, by what it is told from other values, and how it
-/// is taken away.
-pub(crate) const SPOT: [Template; 6] = [
-    ("spot", "$module$-spot"),
-    ("spot_of", "$module$"),
-    ("spot_apart", "$apart$"),
-    ("spot_path", ""),
-    ("spot_stands", "is_some"),
-    ("spot_without", "no_variant"),
-];
-
-/// The same in the first of a pair, and in the second.
-pub(crate) const SPOT_IN_FIRST: [Template; 4] = [
-    (
-        "spot",
-        "(first_spot ($table$)\n    ($right_table$) $spot_of$-is_plain\n    \
-        $spot_stands$ $spot_without$\n    $spot$)",
-    ),
-    ("spot_path", ".0$spot_path$"),
-    ("spot_stands", "(λ m. is_some m$spot_path$)"),
-    ("spot_without", "(in_first $spot_without$)"),
-];
-
-pub(crate) const SPOT_IN_SECOND: [Template; 4] = [
-    (
-        "spot",
-        "(second_spot ($table$)\n    ($right_table$) $spot_of$-is_plain\n    \
-        $spot_stands$ $spot_without$\n    $spot$\n    \
-        $spot_of$-plain $spot_of$-tells\n    (λ n p h. $spot_apart$))",
-    ),
-    ("spot_path", ".1$spot_path$"),
-    ("spot_stands", "(λ m. is_some m$spot_path$)"),
-    ("spot_without", "(in_second $spot_without$)"),
-];
-
-/// Tells the page of a type with such a oneof where it stands in the leaf, which is this tree, and
-/// which rows it has.
-pub(crate) fn set_choice(page: &mut Words, fields: &[Field], tree: &Words) {
-    page.copy(tree, &["spot", "spot_path", "spot_stands", "spot_without"]);
-    page.fill_all(&[("choice_rows", ""), ("choice_plain", "")]);
-    page.fill(
-        "uses_of_beside",
-        "Rattle.wire_fields.specs.NestTable as_it_was\n",
-    );
-    if page.get("choice").is_empty() {
-        return;
-    }
-    page.fill("uses_of_beside", "");
-    let mut row: usize = 0;
-    for field in fields {
-        if is_row(field) {
-            if !field.words.get("choice_variant").is_empty() {
-                page.index("row", row);
-                let is_first = page.get("choice_rows").is_empty();
-                page.fill(
-                    "choice_rows",
-                    if is_first {
-                        "i == $row$"
-                    } else {
-                        "($choice_rows$) || (i == $row$)"
-                    },
-                );
-            }
-            row = row.saturating_add(1);
-        } else if !field.words.get("in_choice").is_empty() {
-            set_spot(page, &field.words);
-        }
-    }
-}
-
-// What a leaf without it is in: what one is in with it, but for this part.
-fn set_spot(page: &mut Words, field: &Words) {
-    page.set("choice_plain", "plain");
-    page.set("spot_is", "tt");
-    page.set("steps", ".0");
-    page.append("steps", field.get("path"));
-    let steps = page.take("steps");
-    let mut rest: &str = &steps;
-    for _ in 0..steps.len() {
-        let Some((before, step)) = rest.rsplit_once('.') else {
-            break;
-        };
-        page.set("before", before);
-        if step == "0" {
-            page.fill("spot_is", "($spot_is$, is$before$.1)");
-        } else {
-            page.fill("spot_is", "(is$before$.0, $spot_is$)");
-        }
-        rest = before;
-    }
-}
-
-// ---- as contracts see it
-
 const USES: &str = "\
 Rattle.std.specs.Prelude List
 Rattle.std.specs.Prelude []
@@ -158,7 +63,6 @@ Rattle.std.specs.Prelude ◌∷◌
 Rattle.std.specs.Prelude ◌==◌
 Rattle.std.specs.Prelude ◌||◌
 Rattle.wire_fields.specs.Messages or_else
-Rattle.wire_fields.specs.NestChoice Choice
 Rattle.wire_fields.specs.NestChoice beside_row
 Rattle.wire_fields.specs.NestChoice rows_beside_field
 Rattle.$crate$.specs.declared.$choice_module$.$choice$ $choice$
@@ -185,6 +89,7 @@ Rattle.wire_fields.specs.NestChoice rows_alone
 ";
 
 const ALIAS: &str = "\
+use Rattle.wire_fields.specs.NestChoice as choices
 use Rattle.$crate$.specs.declared.$first_type$.TheOpen as $open$
 ";
 
@@ -211,7 +116,7 @@ $choice_module$-value = fold-$choice$$trees$$ones$
 
 const CHOICE: &str = "\
 -- the oneof `$choice$`: its fields of the leaf, and its rows
-abbrev pub $module$-choice : Choice $name$-Leaf
+abbrev pub $module$-choice : choices.Choice $name$-Leaf
 $module$-choice = record {
   is_plain = $choice_module$-is_plain;
   is_row = λ i. $choice_rows$;
@@ -223,7 +128,7 @@ $module$-choice = record {
 
 const ROWS_ALONE: &str = "\
 -- the oneof `$choice$`, whose fields are all rows
-abbrev pub $module$-choice : Choice $name$-Leaf
+abbrev pub $module$-choice : choices.Choice $name$-Leaf
 $module$-choice = rows_alone (λ i. $choice_rows$)
 
 ";

@@ -26,9 +26,15 @@ Rattle.wire_fields.specs.ChoiceBack IsChoice
 ";
 
 const USES_OF_PLAIN: &str = "\
+Rattle.wire_fields.specs.ChoiceLeaving dropping_choice
+Rattle.wire_fields.specs.ChoiceLeaving first_leaving
+Rattle.wire_fields.specs.ChoiceLeaving leaving_choice
+Rattle.wire_fields.specs.ChoiceLeaving none_spot
+Rattle.wire_fields.specs.ChoiceLeaving second_leaving
 Rattle.wire_fields.specs.ChoiceSpot first_spot
 Rattle.wire_fields.specs.ChoiceSpot leaf_choice
 Rattle.wire_fields.specs.ChoiceSpot second_spot
+Rattle.wire_fields.specs.Dropped dropped
 Rattle.$crate$.specs.$choice$ $choice_module$-plain
 Rattle.$crate$.specs.$choice$ $choice_module$-spot
 Rattle.$crate$.specs.$choice$ $choice_module$-tells
@@ -41,11 +47,31 @@ Rattle.wire_fields.specs.ChoiceBack alone_choice
 const PLAIN: &str = "\
 pub $module$-is_choice : IsChoice $module$-leaf.takes $module$-leaf.default $module$-choice
 $module$-is_choice =
-    leaf_choice $module$-known $module$-choice
-    (first_spot $module$-known unknown $choice_module$-is_plain
-    $spot_stands$ $spot_without$ $spot$)
+    $choice_of_leaf$
 
 ";
+
+// Of a leaf that keeps what is no field's, of one whose fields leave some of their own too, and of
+// one that drops it.
+const OF_KEEPING: [Template; 1] = [(
+    "choice_of_leaf",
+    "leaf_choice $module$-known $module$-choice
+    (first_spot $module$-known unknown $choice_module$-is_plain
+    $spot_stands$ $spot_without$ $spot$)",
+)];
+
+const OF_LEAVING: [Template; 1] = [(
+    "choice_of_leaf",
+    "leaving_choice $module$-known $module$-choice
+    $spot_stands$ $spot_without$ $spot$ (λ m. refl) (λ m. refl)",
+)];
+
+const OF_DROPPING: [Template; 1] = [(
+    "choice_of_leaf",
+    "dropping_choice $module$-known $module$-choice
+    (first_spot $module$-known dropped $choice_module$-is_plain
+    $spot_stands$ $spot_without$ $spot$)",
+)];
 
 const ROWS_ALONE: &str = "\
 pub $module$-is_choice : IsChoice $module$-leaf.takes $module$-leaf.default $module$-choice
@@ -69,6 +95,11 @@ pub(crate) fn put_choice_laws(page: &mut Words) {
             USES_OF_ROWS
         },
     );
+    page.fill_all(match page.get("leaf_kind") {
+        "leaving" => &OF_LEAVING,
+        "dropping" => &OF_DROPPING,
+        _ => &OF_KEEPING,
+    });
     page.fill("choice_laws", if is_plain { PLAIN } else { ROWS_ALONE });
 }
 

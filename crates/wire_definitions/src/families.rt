@@ -1,5 +1,5 @@
 //! The definitions of message types that hold one another, on a page of all of them.
-use crate::account::{FAMILY_ACCOUNT, MEMBER_ACCOUNT};
+use crate::account::{FAMILY_ACCOUNT, MEMBER_ACCOUNT, OWN_ACCOUNT};
 use crate::choice_laws::{STANDS, USES_OF_STANDS};
 use crate::comments::set_heading;
 use crate::laws_pages::has_laws;
@@ -344,7 +344,8 @@ fn put_member(page: &mut Words, member: &Words, last: usize) {
     if has_view(&own) {
         put_lines(page, &mut own, &OF_VIEWED);
     }
-    page.copy(&own, &["name", "left_within"]);
+    page.copy(&own, &["name", "left_charge", "left_within"]);
+    page.append("own_accounts", OWN_ACCOUNT);
     page.append("accounts", MEMBER_ACCOUNT);
     page.fill_all(&[("at", "(suc $at$)"), ("at_least", "(suc $at_least$)")]);
     page.set("line", own.get("uses"));

@@ -7,6 +7,7 @@ mod account;
 mod choice;
 mod choice_laws;
 mod choice_names;
+mod choice_spot;
 mod choice_view;
 mod closing;
 mod comments;
@@ -52,6 +53,7 @@ pub use leaf::set_leaf;
 pub use members::{
     MEMBER_MERGE, MEMBER_PUSH, MEMBER_PUSH_HEAD, MEMBER_ROW, MEMBER_ROW_HEAD, member_definitions,
 };
+pub use mentioned::use_mentioned_of;
 pub use nests_stay::{family_stays, member_stays, nest_stays, put_leaf_stays};
 pub use oneofs::oneof_definitions;
 pub use oneofs_stay::oneof_stays;

@@ -20,7 +20,7 @@ pub(crate) fn use_mentioned(page: &mut Words) {
 }
 
 /// Makes the lines of the word `uses` whose name stands in the word `text` the word `imports`.
-pub(crate) fn use_mentioned_of(page: &mut Words) {
+pub fn use_mentioned_of(page: &mut Words) {
     page.fill_all(&[("named", "$uses$"), ("uses", "")]);
     use_mentioned(page);
     definition_imports(page);

@@ -23,8 +23,8 @@ const OF_CHOICE: &str = "
 pub $module$-choice_rows : (i : ℕ) → $module$-choice.is_row i ≡ true → $module$-once i ≡ true
 $choice_lines$
 pub $module$-kept : (g : Grounds) (m : $name$-Leaf)
-    → ($leaf_stay$ $module$-table ($module$-stays-of-known g)).Is m
-    → ($leaf_stay$ $module$-table ($module$-stays-of-known g)).Is ($module$-choice.without m)
+    → ($leaf_stay$ ($module$-stays-of-known g)).Is m
+    → ($leaf_stay$ ($module$-stays-of-known g)).Is ($module$-choice.without m)
 $module$-kept g m is = $kept$
 ";
 
@@ -35,7 +35,7 @@ $module$-stays g =
     (λ s. $leaf_range$ $known_range$)
     (λ s. one_stands $module$-choice)
     (λ s. choice_stays $module$-table $module$-choice $module$-is_choice
-    ($leaf_stay$ $module$-table ($module$-stays-of-known g)) ($module$-kept g)
+    ($leaf_stay$ ($module$-stays-of-known g)) ($module$-kept g)
     refl refl $runs_in_order$ $module$-there $module$-choice_rows (λ i m. refl) (λ n rs. refl))
     tt $module$-shape refl refl refl
 ";
@@ -54,7 +54,7 @@ const ALONE: &str = "$of_leaf$
 pub $module$-stays : Grounds → Stays $module$-shape $accounted_range$
 $module$-stays g =
     nest_stays g $module$-table ($leaf_range$ $known_range$)
-    (table_stays $module$-table ($leaf_stay$ $module$-table ($module$-stays-of-known g))
+    (table_stays $module$-table ($leaf_stay$ ($module$-stays-of-known g))
     refl refl $runs_in_order$ $module$-there (λ i m. refl) (λ n rs. refl))
     $module$-shape refl refl refl
 ";
@@ -110,6 +110,9 @@ Rattle.std.specs.Prelude ℕ
 Rattle.std.specs.Prelude ◌==◌
 Rattle.wire_fields.specs.NestRange any_beside
 Rattle.wire_codec.specs.Charge payload_charge
+Rattle.std.specs.Prelude []
+Rattle.wire_fields.specs.LeavingLeaf charged_leaf_range
+Rattle.wire_fields.specs.LeavingLeaf charged_leaf_stay
 Rattle.wire_fields.specs.LeavingLeaf dropping_leaf_range
 Rattle.wire_fields.specs.LeavingLeaf dropping_leaf_stay
 Rattle.wire_fields.specs.LeavingLeaf leaving_leaf_range
@@ -248,9 +251,10 @@ pub fn member_stays(base: &Words) -> Result<String, GenerateError> {
 }
 
 // What is said of an account where one is asked for: as an argument, and of the order of the runs.
-fn put_account_of(page: &mut Words, account: &str) {
+fn put_account_of(page: &mut Words, account: &'static str) {
     let is_charged = !page.get("charged").is_empty();
     page.set("account", "");
+    page.fill("account_of", account);
     if is_charged {
         page.fill("account", account);
         page.fill("account", " $account$");

@@ -1,6 +1,7 @@
 //! What is read back of a message that holds itself.
 use crate::account::{ACCOUNT, put_account};
 use crate::choice_laws::put_choice_laws;
+use crate::leaf::charge_leaf;
 use crate::members::MEMBER_RANGE;
 use crate::returned::{put_returned, put_sides, under_charges};
 use crate::rows::{NO_FIELDS_BACK, is_bare, is_row};
@@ -159,6 +160,7 @@ const OF_NO_ROW: [Template; 2] = [
 /// Puts what is read back behind the definitions of a message that holds itself.
 pub(crate) fn put_back(page: &mut Words, fields: &[Field], tree: &Tree) {
     let is_alone = page.get("family_name").is_empty();
+    charge_leaf(page, fields);
     page.append("uses", USES);
     let is_choice = !page.get("choice").is_empty();
     page.append(
@@ -201,7 +203,7 @@ pub(crate) fn put_back(page: &mut Words, fields: &[Field], tree: &Tree) {
     }
     put_account(page, fields);
     if is_alone && !page.get("charged").is_empty() {
-        page.set("left_here", "λ n p. payload_charge p");
+        page.fill("left_here", "$left_charge$");
         page.append("back", ACCOUNT);
     }
     page.append("ranges", if is_alone { RANGE } else { MEMBER_RANGE });

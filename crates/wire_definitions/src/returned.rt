@@ -136,8 +136,8 @@ const EMPTY_DROPPED_RANGE: [Template; 3] = [
     ),
 ];
 
-// Whether there are fields that read an entry before they leave its record.
-fn leaves_entries(fields: &[Field]) -> bool {
+/// Whether there are fields that read an entry before they leave its record.
+pub(crate) fn leaves_entries(fields: &[Field]) -> bool {
     fields.iter().any(|it| !it.words.get("left").is_empty())
 }
 
@@ -229,8 +229,8 @@ pub(crate) fn put_range(page: &mut Words, fields: &[Field], tree: &Tree) {
     });
 }
 
-// What each record is charged that is left.
-fn put_left_charge(page: &mut Words, fields: &[Field]) {
+/// What each record is charged that is left, the word `left_charge`.
+pub(crate) fn put_left_charge(page: &mut Words, fields: &[Field]) {
     page.set("left_charge", "λ n p. payload_charge p");
     for field in fields {
         page.copy(&field.words, &["left"]);

@@ -1,5 +1,6 @@
 //! Which fields of a message are of its own type, or of one of its family.
-use crate::choice::{row_of, set_choice};
+use crate::choice::row_of;
+use crate::choice_spot::set_choice;
 use crate::runs::tell_parts;
 use crate::tree::{Tree, tree_of};
 use wire_schema::{Field, GenerateError, Template, Words};
@@ -53,10 +54,8 @@ pub fn leaf_tree(
     if base.get("mismatch") == "keep" {
         return Err(base.refused(KEEPING));
     }
-    let is_choice = !base.get("choice").is_empty();
-    let leaves_entries = leaf.iter().any(|it| !it.words.get("left").is_empty());
-    if leaves_entries || is_choice && !base.get("leaf_kind").is_empty() {
-        return Err(base.refused(NOT_PLAIN));
+    if leaf.iter().any(is_closed_choice) {
+        return Err(base.refused(CLOSED_CHOICE));
     }
     let mut tree = tree_of(base, &mut leaf, false)?;
     if leaf.is_empty() {
@@ -80,8 +79,14 @@ const SEVERAL: &str = "$full$: messages that hold themselves or one another by s
 
 const KEEPING: &str = "$full$: a message that holds itself, or what holds it, has no mismatch=keep";
 
-const NOT_PLAIN: &str = "$full$: a message that holds itself, or what holds it, has no maps of \
-                         closed enums, and by a oneof neither closed enums nor unknown=drop";
+const CLOSED_CHOICE: &str = "$full$: a message that holds itself, or what holds it, by a oneof has \
+                             no closed enum in that oneof";
+
+// Whether a field is a oneof with rows and a closed enum.
+fn is_closed_choice(field: &Field) -> bool {
+    let is_choice = !field.words.get("in_choice").is_empty();
+    is_choice && field.words.get("sort") == "Leaving"
+}
 
 // The tree of no fields.
 const NO_FIELDS: [Template; 9] = [

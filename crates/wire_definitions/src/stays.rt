@@ -1,6 +1,7 @@
 //! That what decoding leaves of a message is in range: a page of its own for each type.
 use crate::comments::set_heading;
 use crate::imports::definition_imports;
+use crate::leaf::put_others_stay;
 use crate::mentioned::use_mentioned;
 use crate::rows::is_row;
 use crate::tree::Tree;
@@ -139,14 +140,10 @@ fn put_whole(page: &mut Words, fields: &[Field]) {
     let is_kept = page.get("unknown") == "keep";
     let mut leaves = false;
     let mut leaves_entries = false;
-    page.set("others_stay", "λ n p other. refl");
+    put_others_stay(page, fields);
     for field in fields {
         leaves |= field.words.get("both") == "both_leaving";
-        page.copy(&field.words, &["left_others"]);
-        if !page.get("left_others").is_empty() {
-            leaves_entries = true;
-            page.fill("others_stay", "$left_others$\n    ($others_stay$)");
-        }
+        leaves_entries |= !field.words.get("left_others").is_empty();
     }
     page.fill(
         "whole_stays",

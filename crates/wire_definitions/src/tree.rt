@@ -1,6 +1,6 @@
 //! The fields of a message as a balanced tree of pairs, which its code, its definitions and its
 //! proofs have alike.
-use crate::choice::{SPOT, SPOT_IN_FIRST, SPOT_IN_SECOND};
+use crate::choice_spot::{LEAVING_SPOT, SPOT, SPOT_IN_FIRST, SPOT_IN_SECOND};
 use crate::spans::{Span, has_groups, is_before_others, is_few, parts_of};
 use wire_schema::{Field, GenerateError, Template, Words};
 
@@ -306,6 +306,9 @@ fn leaf(base: &Words, place: usize, field: &Words) -> Node {
     if !field.get("in_choice").is_empty() {
         words.copy(field, &["module"]);
         words.fill_all(&SPOT);
+        if words.get("both") == "both_leaving" {
+            words.fill_all(&LEAVING_SPOT);
+        }
         words.copy(base, &["module"]);
     }
     let mut is_first = true;
@@ -356,7 +359,7 @@ fn pair(left: Node, right: Node) -> Node {
     } else if !right.words.get("spot").is_empty() {
         words.copy(
             &right.words,
-            &["spot", "spot_of", "spot_apart", "spot_path"],
+            &["spot", "spot_of", "spot_step", "spot_apart", "spot_path"],
         );
         words.copy(&right.words, &["spot_stands", "spot_without"]);
         words.fill_all(&SPOT_IN_SECOND);

@@ -2,7 +2,7 @@
 use crate::choice_answers::put_choice;
 use crate::rest_answers::{put_handed_on, put_rest};
 use crate::view_choice_answers::put_view_choice;
-use wire_definitions::{Node, Tree, definition_imports};
+use wire_definitions::{Node, Tree, definition_imports, use_mentioned_of};
 use wire_schema::{Field, GenerateError, Template, Words};
 
 pub(crate) const USES: &str = "\
@@ -222,7 +222,13 @@ pub(crate) fn written(
 
 // The page of what there is so far.
 fn finished(mut page: Words) -> Result<String, GenerateError> {
-    definition_imports(&mut page);
+    // (messages in a oneof with rows bring in more than each of them names)
+    if page.get("kinds_alias").is_empty() {
+        definition_imports(&mut page);
+    } else {
+        page.fill("text", "$answers$$rest$");
+        use_mentioned_of(&mut page);
+    }
     let is_member = !page.get("family_name").is_empty();
     page.append("imports", if is_member { FAMILY } else { "" });
     page.append("imports", "$kinds_alias$");

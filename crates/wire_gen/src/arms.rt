@@ -36,9 +36,22 @@ const EACH_ARM: &str = "            $number$ => $call$(
             ),
 ";
 
+// Of a map of a closed enum.
+const MAP_ARM: &str = "            $number$ => <$kind$ as ClosedMap>::merge_closed(
+                alloc,
+                tag,
+                &mut self.$field$,
+                &mut self.unknown,
+                buf,
+                context,
+            ),
+";
+
 /// Puts the call of one number, in one line where it has room there.
 pub(crate) fn put_arm(page: &mut Words) {
+    let is_map = page.get("kind").starts_with("Map<");
     let (arm, long) = match page.get("call") {
+        "merge_closed" if is_map => (MAP_ARM, MAP_ARM),
         "merge" => (ARM, LONG_ARM),
         "merge_closed_each" => (EACH_ARM, EACH_ARM),
         _ => (CLOSED_ARM, LONG_CLOSED_ARM),

@@ -343,7 +343,15 @@ pub(crate) fn put_leaf_field(page: &mut Words, schema: &Schema, field: &Words) {
             page.copy(field, &["call"]);
         }
         if page.get("call").starts_with("merge_closed") {
-            page.append("uses", "wire_fields $call$\n");
+            let is_map = field.get("kind").starts_with("Map<");
+            page.append(
+                "uses",
+                if is_map {
+                    "wire_fields ClosedMap\n"
+                } else {
+                    "wire_fields $call$\n"
+                },
+            );
         }
         put_arm(page);
     }

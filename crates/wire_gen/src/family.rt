@@ -1,4 +1,5 @@
 //! What message types that hold themselves or one another are called, together and each by itself.
+use crate::family_names::name_family;
 use wire_schema::{GenerateError, Schema, Template, Words};
 
 // What each of them adds to the words of all: the arms of what another is not, the names of types
@@ -49,7 +50,8 @@ const OF_CHOICE: [Template; 9] = [
 ];
 
 // Of a type that holds itself alone, with such a oneof or without.
-const OF_ALONE: [Template; 14] = [
+const OF_ALONE: [Template; 15] = [
+    ("account_place", "[]"),
     ("view_trees", " $name$-Value"),
     ("view_ones", " $module$-view_one"),
     ("view_values", " $module$-view_value"),
@@ -136,10 +138,7 @@ const OF_LEAF: [Template; 23] = [
     ("sum_single", "($module$-leaf.single reading)"),
     ("sum_range", "$module$-range-of-leaf"),
     ("sum_back", "($module$-known-back g)"),
-    (
-        "sum_stay",
-        "($leaf_stay$ $module$-table ($module$-stays-of-known g))",
-    ),
+    ("sum_stay", "($leaf_stay$ ($module$-stays-of-known g))"),
     ("into_open", ""),
     ("into_close", ""),
     ("part_open", ""),
@@ -227,6 +226,7 @@ pub(crate) fn set_family(
         put_sides(page, place, last, &[("pattern", "($into$ $pattern$)")]);
         if own == Some(place) {
             page.fill("own_pattern", "$pattern$");
+            set_account_place(page, place);
             put_sides(page, place, last, &IN_SUM);
         } else {
             page.append_all(&[
@@ -241,6 +241,15 @@ pub(crate) fn set_family(
     page.append("family", " ");
     page.fill("pattern", "$own_pattern$");
     Ok(members)
+}
+
+// Where the account of all has what a type is charged for at this place.
+fn set_account_place(page: &mut Words, place: usize) {
+    page.set("account_place", "zero");
+    for _ in 0..place {
+        page.fill("account_place", "(suc $account_place$)");
+    }
+    page.fill("account_place", "($account_place$ ∷ [])");
 }
 
 // Tells the page of all these types, and of those of their oneofs, in the order in which the folds
@@ -379,19 +388,4 @@ fn members_of(
     }
     name_family(page, schema)?;
     Ok(members)
-}
-
-// What these types are called together, and their module, which no type is: with a number behind it
-// where one is.
-fn name_family(page: &mut Words, schema: &Schema) -> Result<(), GenerateError> {
-    page.fill("natural", "$first_name$Family");
-    let name = schema.names.beside(page.get("whole"), page.get("natural"))?;
-    let number = name.strip_prefix(page.get("natural")).unwrap_or("");
-    page.set("family_number", number);
-    page.fill_all(&[
-        ("family_name", "$natural$$family_number$"),
-        ("family_module", "$first_module$_family$family_number$"),
-        ("family_view_module", "$family_module$_view"),
-    ]);
-    Ok(())
 }

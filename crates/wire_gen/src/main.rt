@@ -16,6 +16,7 @@ mod enums;
 mod extensions;
 mod family;
 mod family_code;
+mod family_names;
 mod field_rows;
 mod groups;
 mod layout;

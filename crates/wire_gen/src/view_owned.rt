@@ -45,9 +45,9 @@ $line$
 ";
 
 const EACH_HEAD: [&str; 2] = [
-    "fn owned_each_$module$<'a>(alloc: Global, views: &[$view_name$<'a>]) \
+    "fn each_owned_$module$<'a>(alloc: Global, views: &[$view_name$<'a>]) \
      -> Result<Vec<$name$>, DecodeError>",
-    "fn owned_each_$module$<'a>(
+    "fn each_owned_$module$<'a>(
     alloc: Global,
     views: &[$view_name$<'a>],
 ) -> Result<Vec<$name$>, DecodeError>",
@@ -56,7 +56,7 @@ const EACH_HEAD: [&str; 2] = [
 const OWNED_ONCE: &str = "
 // The message of the same value, where there is one.
 #[cycle(own)]
-fn owned_once_$module$<'a>(
+fn once_owned_$module$<'a>(
     alloc: Global,
     view: &Option<Box<$view_name$<'a>>>,
 ) -> Result<Option<Box<$name$>>, DecodeError>
@@ -141,12 +141,12 @@ const OF_LEAF: [Template; 2] = [
 
 const OF_EACH: Template = (
     "owns",
-    "    let own_$field$ = owned_each_$of_module$(alloc, &view.$field$)?;\n",
+    "    let own_$field$ = each_owned_$of_module$(alloc, &view.$field$)?;\n",
 );
 
 const OF_ONCE: Template = (
     "owns",
-    "    let own_$field$ = owned_once_$of_module$(alloc, &view.$field$)?;\n",
+    "    let own_$field$ = once_owned_$of_module$(alloc, &view.$field$)?;\n",
 );
 
 const OF_CHOICE: Template = (

@@ -101,8 +101,8 @@ use Rattle.$crate$.proofs.$own_module$.+own.Given as goal
 $invariants$";
 
 const INVARIANT: &str = "
-abbrev pub invariant-owned_each_$of_module$-loop-view : goal.invariant-owned_each_$of_module$-loop-view
-invariant-owned_each_$of_module$-loop-view l =
+abbrev pub invariant-each_owned_$of_module$-loop-view : goal.invariant-each_owned_$of_module$-loop-view
+invariant-each_owned_$of_module$-loop-view l =
     map $of_home$$of_module$-value l.messages.items
     ≡ map $of_home$$of_module$-view_value (take l.view-index l.views)
 ";

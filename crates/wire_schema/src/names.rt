@@ -26,10 +26,11 @@ const TYPES: &str = "AllocError Always AlwaysEmbedded AlwaysEmbeddedIn AlwaysGro
 
 // Names of types that some generated modules bring in, and type parameters of what is written. A
 // message, an enum or a oneof of such a name has an underscore behind it.
-const BROUGHT_IN: &str = "Alone AlwaysGroup B ClosedMapIn Extension FamilyView FieldPath \
-    MessageFields MessageName Needed OwnTypes Parts Place RecursiveAlone RecursiveHeld \
-    RecursiveMember RecursiveSlice RecursiveView Required RequiredAlone RequiredMember \
-    RequiredSlice Requirement RowRequirement S WireType WrittenKind WrittenView";
+const BROUGHT_IN: &str = "Alone AlwaysGroup B Beside ClosedMapIn Dropped Extension FamilyView \
+    FieldPath LeafBeside MessageFields MessageName Missing Needed NeededValue OwnTypes Parts \
+    Place RecursiveAlone RecursiveHeld RecursiveMember RecursiveSlice RecursiveView Required \
+    RequiredAlone RequiredMember RequiredSlice Requirement RowRequirement S Spot Varint WireType \
+    WrittenKind WrittenView";
 
 // Modules of each crate whose names are no words, so that fields may have them.
 const MODULES: &str = "services";
