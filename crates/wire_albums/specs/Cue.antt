@@ -21,7 +21,7 @@ use Rattle.wire_fields.specs.Grounds.{Grounds, fixed32_back, numeric_back}
 use Rattle.wire_fields.specs.Messages.{or_else}
 use Rattle.wire_fields.specs.Nest.{done, nest, row, row_count, row_of}
 use Rattle.wire_fields.specs.NestBack.{beside_returned}
-use Rattle.wire_fields.specs.NestChoice.{Choice, beside_row, rows_alone, rows_beside_field}
+use Rattle.wire_fields.specs.NestChoice.{beside_row, rows_alone, rows_beside_field}
 use Rattle.wire_fields.specs.NestRange.{IsPlaceOf, beside_range, followed, known_back, leaf_range}
 use Rattle.wire_fields.specs.NestRange.{piece, runs_from, same_order}
 use Rattle.wire_fields.specs.NestTable.{alone, empty_of, if_number, nest_records, nest_single}
@@ -37,6 +37,7 @@ use Rattle.wire_fields.specs.Nest as nests
 use Rattle.wire_fields.specs.NestTable as tables
 use Rattle.wire_fields.specs.declared.recursive.Place as place
 use Rattle.wire_fields.specs.declared.recursive.Place.TheVariants as places
+use Rattle.wire_fields.specs.NestChoice as choices
 use Rattle.wire_albums.specs.declared.cue_next.CueNext.TheOpen as cue_next_variants
 use Rattle.wire_albums.specs.declared.cue_next_view.CueNextView.TheOpen as view_variants
 
@@ -147,7 +148,7 @@ abbrev pub cue-place : ℕ → place.Place
 cue-place n = if_number (n == 2) (places.Once 0) (if_number (n == 3) (places.Once 1) (places.Leaf))
 
 -- the oneof `CueNext`, whose fields are all rows
-abbrev pub cue-choice : Choice Cue-Leaf
+abbrev pub cue-choice : choices.Choice Cue-Leaf
 cue-choice = rows_alone (λ i. (i == 0) || (i == 1))
 
 abbrev pub cue-table : tables.Table Cue-Leaf

@@ -30,7 +30,7 @@ use Rattle.wire_fields.specs.Grounds.{Grounds, string_back}
 use Rattle.wire_fields.specs.Messages.{or_else}
 use Rattle.wire_fields.specs.Nest.{done, nest, row, row_count, row_of}
 use Rattle.wire_fields.specs.NestBack.{beside_returned}
-use Rattle.wire_fields.specs.NestChoice.{Choice, beside_row, in_first, in_second, no_variant}
+use Rattle.wire_fields.specs.NestChoice.{beside_row, in_first, in_second, no_variant}
 use Rattle.wire_fields.specs.NestChoice.{rows_beside_field}
 use Rattle.wire_fields.specs.NestRange.{IsPlaceOf, beside_range, followed, known_back, leaf_range}
 use Rattle.wire_fields.specs.NestRange.{piece, runs_from, same_order}
@@ -46,6 +46,7 @@ use Rattle.wire_fields.specs.Nest as nests
 use Rattle.wire_fields.specs.NestTable as tables
 use Rattle.wire_fields.specs.declared.recursive.Place as place
 use Rattle.wire_fields.specs.declared.recursive.Place.TheVariants as places
+use Rattle.wire_fields.specs.NestChoice as choices
 use Rattle.wire_albums.specs.declared.programme_part.ProgrammePart.TheOpen as programme_part_variants
 use Rattle.wire_albums.specs.declared.programme_part_view.ProgrammePartView.TheOpen as view_variants
 
@@ -177,7 +178,7 @@ abbrev pub programme-place : ℕ → place.Place
 programme-place n = if_number (n == 5) (places.Once 0) (if_number (n == 7) (places.Once 1) (places.Leaf))
 
 -- the oneof `ProgrammePart`: its fields of the leaf, and its rows
-abbrev pub programme-choice : Choice Programme-Leaf
+abbrev pub programme-choice : choices.Choice Programme-Leaf
 programme-choice = record {
   is_plain = programme_part-is_plain;
   is_row = λ i. (i == 0) || (i == 1);

@@ -101,8 +101,8 @@ pub(crate) fn owned_band<'a>(alloc: Global, view: &BandView<'a>) -> Result<Band,
     ensures err { IfErr result (λ e. e ≡ OutOfMemory) }
 {
     let own_name = <OptionalIn<TextIn<'a>> as ViewKind>::own(alloc, &view.name)?;
-    let own_players = owned_each_player(alloc, &view.players)?;
-    let own_singer = owned_once_player(alloc, &view.singer)?;
+    let own_players = each_owned_player(alloc, &view.players)?;
+    let own_singer = once_owned_player(alloc, &view.singer)?;
     let own_unknown = own_spans(alloc, &view.unknown)?;
     Ok(Band {
         name: own_name,
@@ -114,7 +114,7 @@ pub(crate) fn owned_band<'a>(alloc: Global, view: &BandView<'a>) -> Result<Band,
 
 // The messages of the same values.
 #[cycle(own)]
-fn owned_each_band<'a>(alloc: Global, views: &[BandView<'a>]) -> Result<Vec<Band>, DecodeError>
+fn each_owned_band<'a>(alloc: Global, views: &[BandView<'a>]) -> Result<Vec<Band>, DecodeError>
     ensures ok { IfOk result (λ messages. map band-value messages.items
         ≡ map band-view_value views.now) }
     ensures err { IfErr result (λ e. e ≡ OutOfMemory) }
@@ -135,7 +135,7 @@ pub(crate) fn owned_player<'a>(alloc: Global, view: &PlayerView<'a>) -> Result<P
 {
     let own_name = <OptionalIn<TextIn<'a>> as ViewKind>::own(alloc, &view.name)?;
     let own_since = <CopiedIn<&'a [u8], Optional<Fixed64>> as ViewKind>::own(alloc, &view.since)?;
-    let own_bands = owned_each_band(alloc, &view.bands)?;
+    let own_bands = each_owned_band(alloc, &view.bands)?;
     let own_unknown = own_spans(alloc, &view.unknown)?;
     Ok(Player {
         name: own_name,
@@ -147,7 +147,7 @@ pub(crate) fn owned_player<'a>(alloc: Global, view: &PlayerView<'a>) -> Result<P
 
 // The messages of the same values.
 #[cycle(own)]
-fn owned_each_player<'a>(
+fn each_owned_player<'a>(
     alloc: Global,
     views: &[PlayerView<'a>],
 ) -> Result<Vec<Player>, DecodeError>
@@ -165,7 +165,7 @@ fn owned_each_player<'a>(
 
 // The message of the same value, where there is one.
 #[cycle(own)]
-fn owned_once_player<'a>(
+fn once_owned_player<'a>(
     alloc: Global,
     view: &Option<Box<PlayerView<'a>>>,
 ) -> Result<Option<Box<Player>>, DecodeError>

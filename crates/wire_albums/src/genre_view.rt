@@ -160,8 +160,8 @@ fn owned_genre<'a>(alloc: Global, view: &GenreView<'a>) -> Result<Genre, DecodeE
     ensures err { IfErr result (λ e. e ≡ OutOfMemory) }
 {
     let own_name = <OptionalIn<TextIn<'a>> as ViewKind>::own(alloc, &view.name)?;
-    let own_within = owned_each_genre(alloc, &view.within)?;
-    let own_like = owned_once_genre(alloc, &view.like)?;
+    let own_within = each_owned_genre(alloc, &view.within)?;
+    let own_like = once_owned_genre(alloc, &view.like)?;
     let own_mood = <CopiedIn<&'a [u8], Optional<Enum<GenreMood>>> as ViewKind>::own(
         alloc, &view.mood,
     )?;
@@ -179,7 +179,7 @@ fn owned_genre<'a>(alloc: Global, view: &GenreView<'a>) -> Result<Genre, DecodeE
 
 // The messages of the same values.
 #[cycle(own)]
-fn owned_each_genre<'a>(alloc: Global, views: &[GenreView<'a>]) -> Result<Vec<Genre>, DecodeError>
+fn each_owned_genre<'a>(alloc: Global, views: &[GenreView<'a>]) -> Result<Vec<Genre>, DecodeError>
     ensures ok { IfOk result (λ messages. map genre-value messages.items
         ≡ map genre-view_value views.now) }
     ensures err { IfErr result (λ e. e ≡ OutOfMemory) }
@@ -194,7 +194,7 @@ fn owned_each_genre<'a>(alloc: Global, views: &[GenreView<'a>]) -> Result<Vec<Ge
 
 // The message of the same value, where there is one.
 #[cycle(own)]
-fn owned_once_genre<'a>(
+fn once_owned_genre<'a>(
     alloc: Global,
     view: &Option<Box<GenreView<'a>>>,
 ) -> Result<Option<Box<Genre>>, DecodeError>

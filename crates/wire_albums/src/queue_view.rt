@@ -136,7 +136,7 @@ fn owned_queue<'a>(alloc: Global, view: &QueueView<'a>) -> Result<Queue, DecodeE
     ensures ok { IfOk result (λ message. queue-value message ≡ queue-view_value view.now) }
     ensures err { IfErr result (λ e. e ≡ OutOfMemory) }
 {
-    let own_behind = owned_once_queue(alloc, &view.behind)?;
+    let own_behind = once_owned_queue(alloc, &view.behind)?;
     let own_unknown = own_spans(alloc, &view.unknown)?;
     Ok(Queue {
         behind: own_behind,
@@ -146,7 +146,7 @@ fn owned_queue<'a>(alloc: Global, view: &QueueView<'a>) -> Result<Queue, DecodeE
 
 // The message of the same value, where there is one.
 #[cycle(own)]
-fn owned_once_queue<'a>(
+fn once_owned_queue<'a>(
     alloc: Global,
     view: &Option<Box<QueueView<'a>>>,
 ) -> Result<Option<Box<Queue>>, DecodeError>

@@ -17,8 +17,8 @@ use Rattle.wire_fields.specs.Grounds.{Grounds, string_back}
 use Rattle.wire_fields.specs.Messages.{or_else}
 use Rattle.wire_fields.specs.Nest.{boxed_row, done, nest, row, row_count, row_of}
 use Rattle.wire_fields.specs.NestBack.{beside_returned}
-use Rattle.wire_fields.specs.NestChoice.{Choice, beside_row, in_first, no_variant}
-use Rattle.wire_fields.specs.NestChoice.{rows_beside_field, second_choice}
+use Rattle.wire_fields.specs.NestChoice.{beside_row, in_first, no_variant, rows_beside_field}
+use Rattle.wire_fields.specs.NestChoice.{second_choice}
 use Rattle.wire_fields.specs.NestRange.{Beside, GoesToLeaf, IsPlaceOf, IsReadBack, LeafBack}
 use Rattle.wire_fields.specs.NestRange.{LeafBeside, all_runs, any_beside, beside_range, followed}
 use Rattle.wire_fields.specs.NestRange.{known_back, leaf_range, piece, same_order, table_back}
@@ -74,6 +74,7 @@ use Rattle.wire_fields.specs.NestTable as tables
 use Rattle.wire_fields.specs.declared.recursive.Place as place
 use Rattle.wire_fields.specs.declared.recursive.Place.TheVariants as places
 use Rattle.wire_well_known.specs.declared.list_value_family_view.FamilyView.TheVariants as views
+use Rattle.wire_fields.specs.NestChoice as choices
 use Rattle.wire_well_known.specs.declared.value_kind.ValueKind.TheOpen as variants
 use Rattle.wire_well_known.specs.declared.value_kind_view.ValueKindView.TheOpen as view_variants
 
@@ -418,7 +419,7 @@ abbrev pub value-place : ℕ → place.Place
 value-place n = if_number (n == 5) (places.Once 0) (if_number (n == 6) (places.Once 1) (places.Leaf))
 
 -- the oneof `ValueKind`: its fields of the leaf, and its rows
-abbrev pub value-choice : Choice Value-Leaf
+abbrev pub value-choice : choices.Choice Value-Leaf
 value-choice = record {
   is_plain = value_kind-is_plain;
   is_row = λ i. (i == 0) || (i == 1);

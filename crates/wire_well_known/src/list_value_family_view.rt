@@ -131,7 +131,7 @@ pub(crate) fn owned_list_value<'a>(
     ensures ok { IfOk result (λ message. list_value-value message ≡ list_value-view_value view.now) }
     ensures err { IfErr result (λ e. e ≡ OutOfMemory) }
 {
-    let own_values = owned_each_value(alloc, &view.values)?;
+    let own_values = each_owned_value(alloc, &view.values)?;
     let own_unknown = own_spans(alloc, &view.unknown)?;
     Ok(ListValue {
         values: own_values,
@@ -145,7 +145,7 @@ pub(crate) fn owned_struct_<'a>(alloc: Global, view: &StructView<'a>) -> Result<
     ensures ok { IfOk result (λ message. struct_-value message ≡ struct_-view_value view.now) }
     ensures err { IfErr result (λ e. e ≡ OutOfMemory) }
 {
-    let own_fields = owned_each_struct_fields_entry(alloc, &view.fields)?;
+    let own_fields = each_owned_struct_fields_entry(alloc, &view.fields)?;
     let own_unknown = own_spans(alloc, &view.unknown)?;
     Ok(Struct {
         fields: own_fields,
@@ -163,7 +163,7 @@ pub(crate) fn owned_struct_fields_entry<'a>(
     ensures err { IfErr result (λ e. e ≡ OutOfMemory) }
 {
     let own_key = <ImplicitIn<TextIn<'a>> as ViewKind>::own(alloc, &view.key)?;
-    let own_value = owned_once_value(alloc, &view.value)?;
+    let own_value = once_owned_value(alloc, &view.value)?;
     let own_unknown = own_spans(alloc, &view.unknown)?;
     Ok(StructFieldsEntry {
         key: own_key,
@@ -174,7 +174,7 @@ pub(crate) fn owned_struct_fields_entry<'a>(
 
 // The messages of the same values.
 #[cycle(own)]
-fn owned_each_struct_fields_entry<'a>(
+fn each_owned_struct_fields_entry<'a>(
     alloc: Global,
     views: &[StructFieldsEntryView<'a>],
 ) -> Result<Vec<StructFieldsEntry>, DecodeError>
@@ -206,7 +206,7 @@ pub(crate) fn owned_value<'a>(alloc: Global, view: &ValueView<'a>) -> Result<Val
 
 // The messages of the same values.
 #[cycle(own)]
-fn owned_each_value<'a>(alloc: Global, views: &[ValueView<'a>]) -> Result<Vec<Value>, DecodeError>
+fn each_owned_value<'a>(alloc: Global, views: &[ValueView<'a>]) -> Result<Vec<Value>, DecodeError>
     ensures ok { IfOk result (λ messages. map value-value messages.items
         ≡ map value-view_value views.now) }
     ensures err { IfErr result (λ e. e ≡ OutOfMemory) }
@@ -221,7 +221,7 @@ fn owned_each_value<'a>(alloc: Global, views: &[ValueView<'a>]) -> Result<Vec<Va
 
 // The message of the same value, where there is one.
 #[cycle(own)]
-fn owned_once_value<'a>(
+fn once_owned_value<'a>(
     alloc: Global,
     view: &Option<Box<ValueView<'a>>>,
 ) -> Result<Option<Box<Value>>, DecodeError>

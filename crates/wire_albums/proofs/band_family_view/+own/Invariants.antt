@@ -2,12 +2,12 @@ use Rattle.std.proofs.Common.{◌≡◌, map, take}
 use Rattle.wire_albums.specs.BandFamily as family
 use Rattle.wire_albums.proofs.band_family_view.+own.Given as goal
 
-abbrev pub invariant-owned_each_player-loop-view : goal.invariant-owned_each_player-loop-view
-invariant-owned_each_player-loop-view l =
+abbrev pub invariant-each_owned_player-loop-view : goal.invariant-each_owned_player-loop-view
+invariant-each_owned_player-loop-view l =
     map family.player-value l.messages.items
     ≡ map family.player-view_value (take l.view-index l.views)
 
-abbrev pub invariant-owned_each_band-loop-view : goal.invariant-owned_each_band-loop-view
-invariant-owned_each_band-loop-view l =
+abbrev pub invariant-each_owned_band-loop-view : goal.invariant-each_owned_band-loop-view
+invariant-each_owned_band-loop-view l =
     map family.band-value l.messages.items
     ≡ map family.band-view_value (take l.view-index l.views)

@@ -1,11 +1,11 @@
 use Rattle.std.proofs.Common.{ap, refl, rules, sym, ◌∙◌, ◌≡◌}
 use Rattle.std.proofs.lemmas.Result.{err_from_is_err_and}
-use Rattle.std.specs.Prelude.{List, None, Option, Some, option_map, string_bytes, ℕ, ℤ}
+use Rattle.std.specs.Prelude.{None, Option, Some, option_map}
 use Rattle.wire_albums.specs.Programme.{Programme-Value, ProgrammePart-Held, programme-known}
 use Rattle.wire_albums.specs.Programme.{programme-leaf, programme-note-kind, programme-one}
 use Rattle.wire_albums.specs.Programme.{programme-value, programme_part-none, programme_part-one}
 use Rattle.wire_albums.specs.Programme.{programme_part-value}
-use Rattle.wire_albums.specs.Silence.{Silence-Value, silence-shape, silence-value}
+use Rattle.wire_albums.specs.Silence.{silence-shape, silence-value}
 use Rattle.wire_albums.specs.declared.programme.Programme.{Programme, Programme-F}
 use Rattle.wire_albums.specs.declared.programme.Programme.{fold_out-Programme, out-Programme}
 use Rattle.wire_albums.specs.declared.programme_part.ProgrammePart.{ProgrammePart}

@@ -1,12 +1,11 @@
 use Rattle.std.proofs.Common.{ap, refl, rules, sym, ◌∙◌, ◌≡◌}
 use Rattle.std.proofs.lemmas.Result.{err_from_is_err_and}
-use Rattle.std.specs.Prelude.{List, None, Option, Some, option_map, string_bytes, ℕ, ℤ}
+use Rattle.std.specs.Prelude.{None, Option, Some, option_map}
 use Rattle.wire_albums.specs.Programme.{Programme-Value, ProgrammePart-Held, programme-known}
 use Rattle.wire_albums.specs.Programme.{programme-leaf, programme-note-kind, programme-view_one}
 use Rattle.wire_albums.specs.Programme.{programme-view_value, programme_part-none}
 use Rattle.wire_albums.specs.Programme.{programme_part-view_one, programme_part-view_value}
-use Rattle.wire_albums.specs.Silence.{Silence-Value, silence-shape, silence-value}
-use Rattle.wire_albums.specs.Silence.{silence-view_value}
+use Rattle.wire_albums.specs.Silence.{silence-shape, silence-view_value}
 use Rattle.wire_albums.specs.declared.programme_part_view.ProgrammePartView.{ProgrammePartView}
 use Rattle.wire_albums.specs.declared.programme_part_view.ProgrammePartView.{fold_out-ProgrammePartView}
 use Rattle.wire_albums.specs.declared.programme_part_view.ProgrammePartView.TheFolds.{fold-roll-ProgrammeView}
