@@ -6,4 +6,6 @@
 mod nested_tests;
 pub mod number;
 #[cfg(test)]
+mod region_tests;
+#[cfg(test)]
 mod tests;

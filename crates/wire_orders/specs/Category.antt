@@ -3,29 +3,45 @@
 use Rattle.std.proofs.Common.{ap, arith, inl, inr, refl, suc, zero, ◌≡◌}
 use Rattle.std.specs.Prelude.{Bool, List, None, Option, [], codes, false, option_map, string_bytes}
 use Rattle.std.specs.Prelude.{true, ℕ, ◌<◌, ◌==◌, ◌∷◌}
-use Rattle.wire_codec.specs.Field.{Fields}
+use Rattle.wire_codec.specs.Charge.{payload_charge}
+use Rattle.wire_codec.specs.EnumValue.{EnumValue}
+use Rattle.wire_codec.specs.Field.{Fields, Payload}
 use Rattle.wire_codec.specs.FieldNumber.{IsFieldNumber}
 use Rattle.wire_codec.specs.Folds.{IsSingle}
-use Rattle.wire_codec.specs.Records.{Records, none}
+use Rattle.wire_codec.specs.Limits.{Charge}
+use Rattle.wire_codec.specs.Records.{Records, joined_records, none}
 use Rattle.wire_codec.specs.TakingLaws.{OneReading}
-use Rattle.wire_fields.specs.Grounds.{Grounds, string_back}
+use Rattle.wire_codec.specs.ValueMap.{uint32}
+use Rattle.wire_fields.specs.ClosedMaps.{closed_unsigned_map}
+use Rattle.wire_fields.specs.ClosedMapsBack.{closed_map_returned, entries_left}
+use Rattle.wire_fields.specs.Enums.{open_enum}
+use Rattle.wire_fields.specs.Grounds.{Grounds, numeric_back, string_back, uint32_back}
+use Rattle.wire_fields.specs.Leaving.{Leaving, both_leaving, leaving_none, with_unknown}
+use Rattle.wire_fields.specs.LeavingBack.{ReturnedBeside, both_returned, none_returned}
+use Rattle.wire_fields.specs.LeavingLeaf.{charged_leaf_back, charged_leaf_range}
+use Rattle.wire_fields.specs.Maps.{viewed}
 use Rattle.wire_fields.specs.Messages.{boxed_value, embedded_once}
 use Rattle.wire_fields.specs.Nest.{boxed_row, done, nest, row, row_count, row_of}
 use Rattle.wire_fields.specs.NestBack.{nest_returned}
-use Rattle.wire_fields.specs.NestRange.{IsPlaceOf, followed, leaf_back, leaf_range, nest_range}
-use Rattle.wire_fields.specs.NestRange.{piece, runs_from, same_order}
+use Rattle.wire_fields.specs.NestRange.{IsPlaceOf, followed, nest_range, piece, runs_from}
+use Rattle.wire_fields.specs.NestRange.{same_order, table_back}
 use Rattle.wire_fields.specs.NestTable.{as_it_was, empty_of, if_number, nest_records, nest_single}
 use Rattle.wire_fields.specs.NestTable.{nest_takes}
-use Rattle.wire_fields.specs.Presence.{optional}
-use Rattle.wire_fields.specs.Ranges.{Range, once_range, optional_range, pair_range, string_range}
+use Rattle.wire_fields.specs.Numbers.{numeric}
+use Rattle.wire_fields.specs.Presence.{always, optional}
+use Rattle.wire_fields.specs.Ranges.{Range, closed_range, once_range, optional_range, pair_range}
+use Rattle.wire_fields.specs.Ranges.{string_range, uint32_range, unsigned_map_range}
 use Rattle.wire_fields.specs.Returned.{Returned, embedded_once_returned, known_returned}
-use Rattle.wire_fields.specs.Returned.{optional_returned, two_returned}
-use Rattle.wire_fields.specs.Shape.{Lawful, Shape, known, two, unknown}
+use Rattle.wire_fields.specs.Returned.{optional_returned}
+use Rattle.wire_fields.specs.Shape.{Lawful, Shape, known, unknown}
 use Rattle.wire_fields.specs.Texts.{string}
+use Rattle.wire_fields.specs.declared.form.Form.TheVariants.{Varint}
 use Rattle.wire_orders.specs.Money.{Money-Value, money-missing, money-range, money-returned}
 use Rattle.wire_orders.specs.Money.{money-shape, money-value}
+use Rattle.wire_orders.specs.Region.{region-number, region-of}
 use Rattle.wire_orders.specs.declared.category.Category.{Category, Category-F, fold-Category}
 use Rattle.wire_orders.specs.declared.category.Category.{fold_out-Category}
+use Rattle.wire_orders.specs.declared.region.Region.{Region}
 use Rattle.wire_required.specs.Missing.{Missing, first_of, needs, within}
 use Rattle.wire_fields.specs.Nest as nests
 use Rattle.wire_fields.specs.NestTable as tables
@@ -45,10 +61,19 @@ category-least-kind = embedded_once money-shape
 abbrev pub category-least-range : Range (Option Money-Value)
 category-least-range = once_range money-shape money-range
 
+abbrev pub category-regions-kind : Leaving (List (ℕ × (EnumValue Region)))
+category-regions-kind = closed_unsigned_map 56 Varint uint32 region-number region-of 5
+
+abbrev pub category-regions-range : Range (List (ℕ × (EnumValue Region)))
+category-regions-range =
+    unsigned_map_range 56 Varint uint32 (always (numeric Varint (open_enum region-number region-of)))
+    uint32_range (closed_range region-number region-of)
+
 abbrev pub Category-Known : Type 0
 Category-Known =
-    ((Option (List ℕ))
+    (((Option (List ℕ))
     × (Option Money-Value))
+    × (List (ℕ × (EnumValue Region))))
 
 abbrev pub Category-Leaf : Type 0
 Category-Leaf = Category-Known × Fields
@@ -61,8 +86,11 @@ abbrev pub category-one : Category-F Category-Value → Category-Value
 category-one m =
     nest (
       (
-        option_map (λ s. string_bytes s) m.name,
-        boxed_value money-value m.least,
+        (
+          option_map (λ s. string_bytes s) m.name,
+          boxed_value money-value m.least,
+        ),
+        viewed (λ v. v) (λ v. v) m.regions.entries,
       ),
       m.unknown,
     )
@@ -71,22 +99,24 @@ category-one m =
 abbrev pub category-value : Category → Category-Value
 category-value = fold-Category Category-Value category-one
 
-abbrev pub category-known : Shape Category-Known
+abbrev pub category-known : Leaving Category-Known
 category-known =
-    two (known 1 category-name-kind)
-    (known 3 category-least-kind)
+    both_leaving (both_leaving (leaving_none (known 1 category-name-kind))
+    (leaving_none (known 3 category-least-kind)))
+    (category-regions-kind)
 
 abbrev pub category-leaf : Shape Category-Leaf
-category-leaf = two category-known unknown
+category-leaf = with_unknown category-known
 
 -- the records of the leaf before the first row, behind the first, and so on
 abbrev pub category-run : ℕ → Category-Leaf → Records
 category-run zero l =
-    (known 1 category-name-kind).records l.0.0
+    (leaving_none (known 1 category-name-kind)).records l.0.0.0
 category-run (suc zero) l =
-    (known 3 category-least-kind).records l.0.1
+    (leaving_none (known 3 category-least-kind)).records l.0.0.1
 category-run (suc (suc i)) l =
-    unknown.records l.1
+    joined_records ((category-regions-kind).records l.0.1)
+    (unknown.records l.1)
 
 abbrev pub category-number : ℕ → ℕ
 category-number zero = 2
@@ -97,7 +127,7 @@ category-once zero = false
 category-once (suc i) = true
 
 abbrev pub category-place : ℕ → place.Place
-category-place n = if_number (n == 2) (places.Each 0 88) (if_number (n == 4) (places.Once 1) (places.Leaf))
+category-place n = if_number (n == 2) (places.Each 0 112) (if_number (n == 4) (places.Once 1) (places.Leaf))
 
 abbrev pub category-table : tables.Table Category-Leaf
 category-table = record {
@@ -130,10 +160,10 @@ category-shape = record {
 -- what is asked of the leaf before the first row, behind the first, and so on
 abbrev pub category-asked-run : ℕ → Category-Leaf → Missing
 category-asked-run zero l =
-    first_of (needs (codes "name") l.0.0
+    first_of (needs (codes "name") l.0.0.0
     ∷ [])
 category-asked-run (suc zero) l =
-    first_of (within (codes "least") money-missing l.0.1
+    first_of (within (codes "least") money-missing l.0.0.1
     ∷ [])
 category-asked-run (suc (suc i)) l = None
 
@@ -149,58 +179,82 @@ category-asked = record { run = λ s. category-asked-run; row = λ s. category-a
 abbrev pub category-missing : Category-Value → Missing
 category-missing = nested.family_missing (tables.alone category-table) category-asked tt
 
--- what is read back once it is written
-abbrev pub category-range-of-known : Range Category-Known
-category-range-of-known =
-    pair_range (category-name-range)
-    (category-least-range)
+-- what each record is charged that is left: by the numbers of the fields that lead to its message,
+-- from the outermost one on, by its own number and by its payload
+abbrev pub category-account : List ℕ → ℕ → Payload → Charge
+category-account [] = entries_left 56 5 (λ n p. payload_charge p)
+category-account (number ∷ path) =
+    λ n p. payload_charge p
 
-abbrev pub category-returned-of-known : Grounds → Returned category-known category-range-of-known
-category-returned-of-known g =
-    two_returned g
-    (known_returned g 1 category-name-kind category-name-range
-    (omega arith) (omega arith)
-    (optional_returned g _ _ string_back))
-    (known_returned g 3 category-least-kind category-least-range
-    (omega arith) (omega arith)
-    (embedded_once_returned g _ _ (money-returned g)))
-    (λ n p h. rw h refl)
+-- for what each record is charged that a map of a closed enum left, for its reading too: by the
+-- numbers of the fields that lead to its message, from the outermost one on, by its own number and
+-- by its payload; of types that hold one another the place of the one that leads out is before them
+module _ (charges : List ℕ → ℕ → Payload → Charge) where
+  -- what is read back once it is written
+  abbrev pub category-range-of-known : Range Category-Known
+  category-range-of-known =
+      pair_range (pair_range (category-name-range)
+      (category-least-range))
+      (category-regions-range)
 
-pub category-row_numbers : Grounds → (i : ℕ) → i < 2 → IsFieldNumber (category-number i)
-category-row_numbers g zero low = g.number 2 (omega arith) (omega arith)
-category-row_numbers g (suc zero) low = g.number 4 (omega arith) (omega arith)
-category-row_numbers g (suc (suc i)) low = absurd (omega (arith, low))
+  abbrev pub category-returned-of-known : Grounds → ReturnedBeside category-known category-range-of-known
+  category-returned-of-known g =
+      both_returned g
+      (both_returned g
+      (none_returned
+      (known_returned g 1 category-name-kind category-name-range
+      (omega arith) (omega arith)
+      (optional_returned g _ _ string_back)))
+      (none_returned
+      (known_returned g 3 category-least-kind category-least-range
+      (omega arith) (omega arith)
+      (embedded_once_returned g _ _ (money-returned g))))
+      (λ n p h. rw h refl))
+      (closed_map_returned g _ _ _ region-number region-of uint32_range
+      (numeric_back (uint32_back g)) 5 (omega arith) (omega arith))
+      (λ n p h. rw h refl)
 
-pub category-row_places : (i : ℕ) → i < 2
-    → IsPlaceOf i (category-once i) (category-place (category-number i))
-category-row_places zero low = (refl, refl)
-category-row_places (suc zero) low = (refl, refl)
-category-row_places (suc (suc i)) low = absurd (omega (arith, low))
+  pub category-row_numbers : Grounds → (i : ℕ) → i < 2 → IsFieldNumber (category-number i)
+  category-row_numbers g zero low = g.number 2 (omega arith) (omega arith)
+  category-row_numbers g (suc zero) low = g.number 4 (omega arith) (omega arith)
+  category-row_numbers g (suc (suc i)) low = absurd (omega (arith, low))
 
--- the runs, one behind another, are the records of the leaf
-pub category-runs_in_order : (l : Category-Leaf)
-    → runs_from category-table l 0 (suc 2) ≡ category-leaf.records l
-category-runs_in_order l = same_order
-    (followed (piece ((known 1 category-name-kind).records l.0.0))
-    (followed (piece ((known 3 category-least-kind).records l.0.1))
-    (followed (piece (unknown.records l.1))
-    (piece none))))
-    (followed (followed (piece ((known 1 category-name-kind).records l.0.0))
-    (piece ((known 3 category-least-kind).records l.0.1)))
-    (piece (unknown.records l.1))) refl
+  pub category-row_places : (i : ℕ) → i < 2
+      → IsPlaceOf i (category-once i) (category-place (category-number i))
+  category-row_places zero low = (refl, refl)
+  category-row_places (suc zero) low = (refl, refl)
+  category-row_places (suc (suc i)) low = absurd (omega (arith, low))
 
-abbrev pub category-range : Range Category-Value
-category-range =
-    nest_range category-table (leaf_range category-table category-known category-range-of-known)
+  -- the runs, one behind another, are the records of the leaf
+  pub category-runs_in_order : (l : Category-Leaf)
+      → runs_from category-table l 0 (suc 2) ≡ category-leaf.records l
+  category-runs_in_order l = same_order
+      (followed (piece ((leaving_none (known 1 category-name-kind)).records l.0.0.0))
+      (followed (piece ((leaving_none (known 3 category-least-kind)).records l.0.0.1))
+      (followed (followed (piece ((category-regions-kind).records l.0.1)) (piece (unknown.records l.1)))
+      (piece none))))
+      (followed (followed (followed (piece ((leaving_none (known 1 category-name-kind)).records l.0.0.0))
+      (piece ((leaving_none (known 3 category-least-kind)).records l.0.0.1)))
+      (piece ((category-regions-kind).records l.0.1)))
+      (piece (unknown.records l.1))) refl
 
-pub category-returned : Grounds → Returned category-shape category-range
-category-returned g =
-    nest_returned g category-table (leaf_range category-table category-known category-range-of-known)
-    (category-leaf.single g.reading)
-    (leaf_back g category-table category-known category-range-of-known (category-returned-of-known g)
-    refl refl category-runs_in_order (λ n h. elim h [
-      | inl h ↦ rw h refl
-      | inr h ↦ rw h refl
-    ])
-    (category-row_numbers g) category-row_places (λ i m. refl) (λ n rs. refl))
-    category-shape refl refl refl (λ n p. refl)
+  abbrev pub category-range : Range Category-Value
+  category-range = nest_range category-table (charged_leaf_range category-table category-known (charges []) category-range-of-known)
+
+  pub category-returned : Grounds → Returned category-shape category-range
+  category-returned g =
+      nest_returned g category-table (charged_leaf_range category-table category-known (charges []) category-range-of-known)
+      (category-leaf.single g.reading)
+      (table_back category-table (charged_leaf_range category-table category-known (charges []) category-range-of-known)
+      category-leaf.takes category-leaf.default category-leaf.records
+      (charged_leaf_back g category-table category-known (charges []) category-range-of-known
+      (category-returned-of-known g) (λ n h. elim h [
+        | inl h ↦ elim h [
+          | inl h ↦ rw h refl
+          | inr h ↦ rw h refl
+        ]
+        | inr h ↦ rw h refl
+      ]))
+      refl refl category-runs_in_order
+      (category-row_numbers g) category-row_places (λ i m. refl) (λ n rs. refl))
+      category-shape refl refl refl (λ n p. refl)

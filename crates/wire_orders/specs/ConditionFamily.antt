@@ -3,31 +3,45 @@
 use Rattle.std.proofs.Common.{List, ap, arith, inl, inr, map, refl, suc, zero, ◌≡◌, ◌⊎◌}
 use Rattle.std.specs.Prelude.{Bool, List, None, Option, Some, [], box_value, codes, false, is_some}
 use Rattle.std.specs.Prelude.{option_map, string_bytes, true, ℕ, ◌<◌, ◌==◌, ◌∷◌}
-use Rattle.wire_codec.specs.Field.{Fields}
+use Rattle.wire_codec.specs.Charge.{payload_charge}
+use Rattle.wire_codec.specs.EnumValue.{EnumValue}
+use Rattle.wire_codec.specs.Field.{Fields, Payload}
 use Rattle.wire_codec.specs.FieldNumber.{IsFieldNumber}
 use Rattle.wire_codec.specs.Folds.{IsSingle}
+use Rattle.wire_codec.specs.Limits.{Charge}
 use Rattle.wire_codec.specs.Records.{Records, joined_records, none}
 use Rattle.wire_codec.specs.TakingLaws.{OneReading}
 use Rattle.wire_codec.specs.ValueMap.{uint32}
 use Rattle.wire_fields.specs.ChoiceBack.{IsChoice, choice_back, first_is_choice, one_stands}
-use Rattle.wire_fields.specs.ChoiceSpot.{first_spot, leaf_choice, second_spot}
+use Rattle.wire_fields.specs.ChoiceLeaving.{first_leaving, leaving_choice, none_spot}
+use Rattle.wire_fields.specs.ChoiceLeaving.{second_leaving}
+use Rattle.wire_fields.specs.Closed.{closed_once}
+use Rattle.wire_fields.specs.ClosedBack.{closed_once_returned}
+use Rattle.wire_fields.specs.ClosedMaps.{closed_text_map}
+use Rattle.wire_fields.specs.ClosedMapsBack.{closed_map_returned, entries_left}
+use Rattle.wire_fields.specs.Enums.{open_enum}
 use Rattle.wire_fields.specs.Grounds.{Grounds, numeric_back, string_back, uint32_back}
+use Rattle.wire_fields.specs.Leaving.{Leaving, both_leaving, leaving_none, with_unknown}
+use Rattle.wire_fields.specs.LeavingBack.{ReturnedBeside, both_returned, none_returned}
+use Rattle.wire_fields.specs.LeavingLeaf.{charged_leaf_back, charged_leaf_range, leaving_leaf_back}
+use Rattle.wire_fields.specs.LeavingLeaf.{leaving_leaf_range}
+use Rattle.wire_fields.specs.Maps.{viewed}
 use Rattle.wire_fields.specs.Messages.{boxed_value, embedded_once, or_else}
 use Rattle.wire_fields.specs.Nest.{boxed_row, done, nest, row, row_count, row_of}
 use Rattle.wire_fields.specs.NestBack.{beside_returned}
-use Rattle.wire_fields.specs.NestChoice.{Choice, beside_row, first_choice, in_first, in_second}
-use Rattle.wire_fields.specs.NestChoice.{no_variant, rows_beside_field}
+use Rattle.wire_fields.specs.NestChoice.{beside_row, first_choice, in_first, in_second, no_variant}
+use Rattle.wire_fields.specs.NestChoice.{rows_beside_field}
 use Rattle.wire_fields.specs.NestRange.{Beside, GoesToLeaf, IsPlaceOf, IsReadBack, LeafBack}
 use Rattle.wire_fields.specs.NestRange.{LeafBeside, all_runs, any_beside, beside_range, followed}
 use Rattle.wire_fields.specs.NestRange.{known_back, leaf_range, piece, same_order, table_back}
 use Rattle.wire_fields.specs.NestTable.{all_counted, as_it_was, empty_of, family_records}
 use Rattle.wire_fields.specs.NestTable.{family_single, family_takes, if_number, message_at}
 use Rattle.wire_fields.specs.Numbers.{numeric}
-use Rattle.wire_fields.specs.Presence.{implicit, optional}
-use Rattle.wire_fields.specs.Ranges.{Range, once_range, optional_range, pair_range, string_range}
-use Rattle.wire_fields.specs.Ranges.{uint32_range}
+use Rattle.wire_fields.specs.Presence.{always, implicit, optional}
+use Rattle.wire_fields.specs.Ranges.{Range, closed_range, once_range, optional_range, pair_range}
+use Rattle.wire_fields.specs.Ranges.{string_range, text_map_range, uint32_range}
 use Rattle.wire_fields.specs.Returned.{Returned, embedded_once_returned, implicit_returned}
-use Rattle.wire_fields.specs.Returned.{known_returned, optional_returned, two_returned}
+use Rattle.wire_fields.specs.Returned.{known_returned, optional_returned}
 use Rattle.wire_fields.specs.Shape.{Lawful, Shape, known, two, unknown}
 use Rattle.wire_fields.specs.Sums.{first_back, first_range, first_single, first_takes, of_first}
 use Rattle.wire_fields.specs.Sums.{of_second, second_back, second_range, second_single}
@@ -40,6 +54,7 @@ use Rattle.wire_orders.specs.ConditionTest.{condition_test-returned, condition_t
 use Rattle.wire_orders.specs.ConditionTest.{condition_test-spot, condition_test-tells}
 use Rattle.wire_orders.specs.Money.{Money-Value, money-missing, money-range, money-returned}
 use Rattle.wire_orders.specs.Money.{money-shape, money-value}
+use Rattle.wire_orders.specs.Region.{region-number, region-of}
 use Rattle.wire_orders.specs.declared.condition.Condition.{Condition, Condition-F, fold-Condition}
 use Rattle.wire_orders.specs.declared.condition.Condition.{fold_out-Condition}
 use Rattle.wire_orders.specs.declared.condition_family.FamilyHeld.{FamilyHeld}
@@ -51,6 +66,7 @@ use Rattle.wire_orders.specs.declared.rebate_unless_entry.RebateUnlessEntry.{Reb
 use Rattle.wire_orders.specs.declared.rebate_unless_entry.RebateUnlessEntry.{RebateUnlessEntry-F}
 use Rattle.wire_orders.specs.declared.rebate_unless_entry.RebateUnlessEntry.{fold-RebateUnlessEntry}
 use Rattle.wire_orders.specs.declared.rebate_unless_entry.RebateUnlessEntry.{fold_out-RebateUnlessEntry}
+use Rattle.wire_orders.specs.declared.region.Region.{Region}
 use Rattle.wire_required.specs.Missing.{Missing, first_of, needs, within}
 use Rattle.wire_required.specs.Nested.{asked_first, asked_second}
 use Rattle.wire_orders.specs.declared.condition_family.FamilyHeld.TheVariants as held
@@ -60,6 +76,7 @@ use Rattle.wire_fields.specs.NestTable as tables
 use Rattle.wire_fields.specs.declared.recursive.Place as place
 use Rattle.wire_fields.specs.declared.recursive.Place.TheVariants as places
 use Rattle.wire_required.specs.Nested as nested
+use Rattle.wire_fields.specs.NestChoice as choices
 use Rattle.wire_orders.specs.declared.condition_test.ConditionTest.TheOpen as variants
 
 -- which of them a message is
@@ -80,11 +97,18 @@ condition-least-kind = embedded_once money-shape
 abbrev pub condition-least-range : Range (Option Money-Value)
 condition-least-range = once_range money-shape money-range
 
+abbrev pub condition-region-kind : Leaving (Option (EnumValue Region))
+condition-region-kind = closed_once region-number region-of 5
+
+abbrev pub condition-region-range : Range (Option (EnumValue Region))
+condition-region-range = optional_range (closed_range region-number region-of)
+
 abbrev pub Condition-Known : Type 0
 Condition-Known =
     (((Option (List ℕ))
     × ConditionTest-Value)
-    × (Option Money-Value))
+    × ((Option Money-Value)
+    × (Option (EnumValue Region))))
 
 abbrev pub Condition-Leaf : Type 0
 Condition-Leaf = Condition-Known × Fields
@@ -95,9 +119,18 @@ rebate-percent-kind = optional (numeric Varint uint32)
 abbrev pub rebate-percent-range : Range (Option ℕ)
 rebate-percent-range = optional_range uint32_range
 
+abbrev pub rebate-regions-kind : Leaving (List ((List ℕ) × (EnumValue Region)))
+rebate-regions-kind = closed_text_map 64 region-number region-of 4
+
+abbrev pub rebate-regions-range : Range (List ((List ℕ) × (EnumValue Region)))
+rebate-regions-range =
+    text_map_range 64 (always (numeric Varint (open_enum region-number region-of)))
+    (closed_range region-number region-of)
+
 abbrev pub Rebate-Known : Type 0
 Rebate-Known =
-    (Option ℕ)
+    ((Option ℕ)
+    × (List ((List ℕ) × (EnumValue Region))))
 
 abbrev pub Rebate-Leaf : Type 0
 Rebate-Leaf = Rebate-Known × Fields
@@ -142,7 +175,10 @@ condition-one m =
           option_map (λ s. string_bytes s) m.note,
           (or_else condition_test-none m.test).0,
         ),
-        boxed_value money-value m.least,
+        (
+          boxed_value money-value m.least,
+          m.region,
+        ),
       ),
       m.unknown,
     ))
@@ -152,7 +188,10 @@ condition-one m =
 abbrev pub rebate-one : Rebate-F ConditionTest-Held Family-Tree Family-Tree Family-Tree → Family-Tree
 rebate-one m =
     nest (inr (inl (
-      option_map (λ v. v) m.percent,
+      (
+        option_map (λ v. v) m.percent,
+        viewed (λ s. string_bytes s) (λ v. v) m.regions.entries,
+      ),
       m.unknown,
     )))
     (row (row_of (boxed_row m.when)) (row (row_of m.unless.items) done))
@@ -178,26 +217,28 @@ rebate-value = fold-Rebate ConditionTest-Held Family-Tree Family-Tree Family-Tre
 abbrev pub rebate_unless_entry-value : RebateUnlessEntry → Family-Tree
 rebate_unless_entry-value = fold-RebateUnlessEntry ConditionTest-Held Family-Tree Family-Tree Family-Tree condition_test-one condition-one rebate-one rebate_unless_entry-one
 
-abbrev pub condition-known : Shape Condition-Known
+abbrev pub condition-known : Leaving Condition-Known
 condition-known =
-    two (two (known 1 condition-note-kind)
-    (condition_test-shape))
-    (known 3 condition-least-kind)
+    both_leaving (both_leaving (leaving_none (known 1 condition-note-kind))
+    (leaving_none (condition_test-shape)))
+    (both_leaving (leaving_none (known 3 condition-least-kind))
+    (condition-region-kind))
 
 abbrev pub condition-leaf : Shape Condition-Leaf
-condition-leaf = two condition-known unknown
+condition-leaf = with_unknown condition-known
 
 -- the records of the fields of `ConditionTest` that are of the leaf
 abbrev pub condition-records-4 : Condition-Leaf → Records
-condition-records-4 l = (condition_test-shape).records l.0.0.1
+condition-records-4 l = (leaving_none (condition_test-shape)).records l.0.0.1
 
 -- the records of the leaf before the first row, behind the first, and so on
 abbrev pub condition-run : ℕ → Condition-Leaf → Records
 condition-run zero l =
-    joined_records ((known 1 condition-note-kind).records l.0.0.0)
-    ((condition_test-shape).records l.0.0.1)
+    joined_records ((leaving_none (known 1 condition-note-kind)).records l.0.0.0)
+    ((leaving_none (condition_test-shape)).records l.0.0.1)
 condition-run (suc i) l =
-    joined_records ((known 3 condition-least-kind).records l.0.1)
+    joined_records (joined_records ((leaving_none (known 3 condition-least-kind)).records l.0.1.0)
+    ((condition-region-kind).records l.0.1.1))
     (unknown.records l.1)
 
 abbrev pub condition-number : ℕ → ℕ
@@ -210,7 +251,7 @@ abbrev pub condition-place : ℕ → place.Place
 condition-place n = if_number (n == 2) (places.Once 0) (places.Leaf)
 
 -- the oneof `ConditionTest`: its fields of the leaf, and its rows
-abbrev pub condition-choice : Choice Condition-Leaf
+abbrev pub condition-choice : choices.Choice Condition-Leaf
 condition-choice = record {
   is_plain = condition_test-is_plain;
   is_row = λ i. i == 0;
@@ -233,33 +274,36 @@ condition-table = record {
 
 pub condition-is_choice : IsChoice condition-leaf.takes condition-leaf.default condition-choice
 condition-is_choice =
-    leaf_choice condition-known condition-choice
-    (first_spot condition-known unknown condition_test-is_plain
-    (λ m. is_some m.0.1) (in_first (in_second no_variant)) (first_spot (two (known 1 condition-note-kind)
-    (condition_test-shape))
-    (known 3 condition-least-kind) condition_test-is_plain
+    leaving_choice condition-known condition-choice
+    (λ m. is_some m.0.1) (in_first (in_second no_variant)) (first_leaving (both_leaving (leaving_none (known 1 condition-note-kind))
+    (leaving_none (condition_test-shape)))
+    (both_leaving (leaving_none (known 3 condition-least-kind))
+    (condition-region-kind)) condition_test-is_plain
     (λ m. is_some m.1) (in_second no_variant)
-    (second_spot (known 1 condition-note-kind)
-    (condition_test-shape) condition_test-is_plain
+    (second_leaving (leaving_none (known 1 condition-note-kind))
+    (leaving_none (condition_test-shape)) condition_test-is_plain
     is_some no_variant
-    condition_test-spot
+    (none_spot condition_test-shape condition_test-is_plain is_some no_variant
+    condition_test-spot)
     condition_test-plain condition_test-tells
-    (λ n p h. rw h refl))))
+    (λ n p h. rw h refl))) (λ m. refl) (λ m. refl)
 
-abbrev pub rebate-known : Shape Rebate-Known
+abbrev pub rebate-known : Leaving Rebate-Known
 rebate-known =
-    known 2 rebate-percent-kind
+    both_leaving (leaving_none (known 2 rebate-percent-kind))
+    (rebate-regions-kind)
 
 abbrev pub rebate-leaf : Shape Rebate-Leaf
-rebate-leaf = two rebate-known unknown
+rebate-leaf = with_unknown rebate-known
 
 -- the records of the leaf before the first row, behind the first, and so on
 abbrev pub rebate-run : ℕ → Rebate-Leaf → Records
 rebate-run zero l = none
 rebate-run (suc zero) l =
-    (known 2 rebate-percent-kind).records l.0
+    (leaving_none (known 2 rebate-percent-kind)).records l.0.0
 rebate-run (suc (suc i)) l =
-    unknown.records l.1
+    joined_records ((rebate-regions-kind).records l.0.1)
+    (unknown.records l.1)
 
 abbrev pub rebate-number : ℕ → ℕ
 rebate-number zero = 1
@@ -397,7 +441,7 @@ family-slice-counted (slices.RebateUnlessEntry ms) i =
 abbrev pub condition-asked-run : ℕ → Condition-Leaf → Missing
 condition-asked-run zero l = None
 condition-asked-run (suc i) l =
-    first_of (within (codes "least") money-missing l.0.1
+    first_of (within (codes "least") money-missing l.0.1.0
     ∷ [])
 
 -- and of each row
@@ -408,7 +452,7 @@ condition-asked-row i = nested.once (codes "also")
 abbrev pub rebate-asked-run : ℕ → Rebate-Leaf → Missing
 rebate-asked-run zero l = None
 rebate-asked-run (suc zero) l =
-    first_of (needs (codes "percent") l.0
+    first_of (needs (codes "percent") l.0.0
     ∷ [])
 rebate-asked-run (suc (suc i)) l = None
 
@@ -449,195 +493,240 @@ family-stands Condition-Sort = one_stands (first_choice condition-choice)
 family-stands Rebate-Sort = any_beside
 family-stands RebateUnlessEntry-Sort = any_beside
 
--- what is read back once it is written
-abbrev pub condition-range-of-known : Range Condition-Known
-condition-range-of-known =
-    pair_range (pair_range (condition-note-range)
-    (condition_test-range))
-    (condition-least-range)
+-- what each record is charged that is left: by the place of the type that leads out, the numbers of
+-- the fields that lead to its message, its own number and its payload
+abbrev pub family-account : List ℕ → ℕ → Payload → Charge
+family-account [] = λ n p. payload_charge p
+family-account (zero ∷ []) = λ n p. payload_charge p
+family-account ((suc zero) ∷ []) = entries_left 64 4 (λ n p. payload_charge p)
+family-account ((suc (suc zero)) ∷ []) = λ n p. payload_charge p
+family-account ((suc (suc (suc i))) ∷ []) = λ n p. payload_charge p
+family-account (zero ∷ number ∷ path) =
+    λ n p. payload_charge p
+family-account ((suc zero) ∷ number ∷ path) =
+    λ n p. payload_charge p
+family-account ((suc (suc zero)) ∷ number ∷ path) =
+    λ n p. payload_charge p
+family-account ((suc (suc (suc i))) ∷ number ∷ path) = λ n p. payload_charge p
 
-abbrev pub condition-returned-of-known : Grounds → Returned condition-known condition-range-of-known
-condition-returned-of-known g =
-    two_returned g
-    (two_returned g
-    (known_returned g 1 condition-note-kind condition-note-range
-    (omega arith) (omega arith)
-    (optional_returned g _ _ string_back))
-    (condition_test-returned g)
-    (λ n p h. rw h refl))
-    (known_returned g 3 condition-least-kind condition-least-range
-    (omega arith) (omega arith)
-    (embedded_once_returned g _ _ (money-returned g)))
-    (λ n p h. rw h refl)
+-- for what each record is charged that a map of a closed enum left, for its reading too: by the
+-- numbers of the fields that lead to its message, from the outermost one on, by its own number and
+-- by its payload; of types that hold one another the place of the one that leads out is before them
+module _ (charges : List ℕ → ℕ → Payload → Charge) where
+  -- what is read back once it is written
+  abbrev pub condition-range-of-known : Range Condition-Known
+  condition-range-of-known =
+      pair_range (pair_range (condition-note-range)
+      (condition_test-range charges))
+      (pair_range (condition-least-range)
+      (condition-region-range))
 
-pub condition-row_numbers : Grounds → (i : ℕ) → i < 1 → IsFieldNumber (condition-number i)
-condition-row_numbers g zero low = g.number 2 (omega arith) (omega arith)
-condition-row_numbers g (suc i) low = absurd (omega (arith, low))
-
-pub condition-row_places : (i : ℕ) → i < 1
-    → IsPlaceOf i (condition-once i) (condition-place (condition-number i))
-condition-row_places zero low = (refl, refl)
-condition-row_places (suc i) low = absurd (omega (arith, low))
-
--- the runs, one behind another, are the records of the leaf
-pub condition-runs_in_order : (l : Family-Leaves) → all_runs condition-table l ≡ (of_first condition-leaf.records) l
-condition-runs_in_order (inr (inl l)) = refl
-condition-runs_in_order (inr (inr l)) = refl
-condition-runs_in_order (inl l) = same_order
-    (followed (followed (piece ((known 1 condition-note-kind).records l.0.0.0)) (piece ((condition_test-shape).records l.0.0.1)))
-    (followed (followed (piece ((known 3 condition-least-kind).records l.0.1)) (piece (unknown.records l.1)))
-    (piece none)))
-    (followed (followed (followed (piece ((known 1 condition-note-kind).records l.0.0.0))
-    (piece ((condition_test-shape).records l.0.0.1)))
-    (piece ((known 3 condition-least-kind).records l.0.1)))
-    (piece (unknown.records l.1))) refl
-
-abbrev pub condition-range-of-leaf : Range Condition-Leaf
-condition-range-of-leaf = leaf_range condition-table condition-known condition-range-of-known
-
-pub condition-known-back : (g : Grounds)
-    → IsReadBack condition-leaf.takes condition-leaf.default condition-leaf.records
-    (GoesToLeaf condition-table) condition-range-of-leaf
-condition-known-back g =
-    known_back g condition-table condition-known condition-range-of-known
-    (condition-returned-of-known g) (λ n h. elim h [
-      | inl h ↦ elim h [
+  abbrev pub condition-returned-of-known : Grounds → ReturnedBeside condition-known condition-range-of-known
+  condition-returned-of-known g =
+      both_returned g
+      (both_returned g
+      (none_returned
+      (known_returned g 1 condition-note-kind condition-note-range
+      (omega arith) (omega arith)
+      (optional_returned g _ _ string_back)))
+      (none_returned
+      (condition_test-returned charges g))
+      (λ n p h. rw h refl))
+      (both_returned g
+      (none_returned
+      (known_returned g 3 condition-least-kind condition-least-range
+      (omega arith) (omega arith)
+      (embedded_once_returned g _ _ (money-returned g))))
+      (closed_once_returned g region-number region-of 5
+      (omega arith) (omega arith))
+      (λ n p h. rw h refl))
+      (λ n p h. elim h [
         | inl h ↦ rw h refl
         | inr h ↦ rw h refl
-      ]
-      | inr h ↦ rw h refl
-    ])
+      ])
 
-pub condition-back : Grounds → LeafBeside condition-table (first_range condition-range-of-leaf) (one_stands (first_choice condition-choice))
-condition-back g =
-    choice_back condition-table (first_range condition-range-of-leaf) (first_choice condition-choice) (first_takes condition-leaf.takes)
-    (inl condition-leaf.default) (of_first condition-leaf.records)
-    (first_is_choice condition-leaf.takes condition-choice condition-is_choice)
-    (first_back condition-leaf.takes condition-leaf.default condition-leaf.records (GoesToLeaf condition-table)
-    condition-range-of-leaf (condition-known-back g))
-    refl refl condition-runs_in_order (condition-row_numbers g) condition-row_places (λ i m. refl)
-    (λ n rs. refl)
+  pub condition-row_numbers : Grounds → (i : ℕ) → i < 1 → IsFieldNumber (condition-number i)
+  condition-row_numbers g zero low = g.number 2 (omega arith) (omega arith)
+  condition-row_numbers g (suc i) low = absurd (omega (arith, low))
 
--- what is read back once it is written
-abbrev pub rebate-range-of-known : Range Rebate-Known
-rebate-range-of-known =
-    rebate-percent-range
+  pub condition-row_places : (i : ℕ) → i < 1
+      → IsPlaceOf i (condition-once i) (condition-place (condition-number i))
+  condition-row_places zero low = (refl, refl)
+  condition-row_places (suc i) low = absurd (omega (arith, low))
 
-abbrev pub rebate-returned-of-known : Grounds → Returned rebate-known rebate-range-of-known
-rebate-returned-of-known g =
-    known_returned g 2 rebate-percent-kind rebate-percent-range
-    (omega arith) (omega arith)
-    (optional_returned g _ _ (numeric_back (uint32_back g)))
+  -- the runs, one behind another, are the records of the leaf
+  pub condition-runs_in_order : (l : Family-Leaves) → all_runs condition-table l ≡ (of_first condition-leaf.records) l
+  condition-runs_in_order (inr (inl l)) = refl
+  condition-runs_in_order (inr (inr l)) = refl
+  condition-runs_in_order (inl l) = same_order
+      (followed (followed (piece ((leaving_none (known 1 condition-note-kind)).records l.0.0.0)) (piece ((leaving_none (condition_test-shape)).records l.0.0.1)))
+      (followed (followed (followed (piece ((leaving_none (known 3 condition-least-kind)).records l.0.1.0)) (piece ((condition-region-kind).records l.0.1.1))) (piece (unknown.records l.1)))
+      (piece none)))
+      (followed (followed (followed (piece ((leaving_none (known 1 condition-note-kind)).records l.0.0.0))
+      (piece ((leaving_none (condition_test-shape)).records l.0.0.1)))
+      (followed (piece ((leaving_none (known 3 condition-least-kind)).records l.0.1.0))
+      (piece ((condition-region-kind).records l.0.1.1))))
+      (piece (unknown.records l.1))) refl
 
-pub rebate-row_numbers : Grounds → (i : ℕ) → i < 2 → IsFieldNumber (rebate-number i)
-rebate-row_numbers g zero low = g.number 1 (omega arith) (omega arith)
-rebate-row_numbers g (suc zero) low = g.number 3 (omega arith) (omega arith)
-rebate-row_numbers g (suc (suc i)) low = absurd (omega (arith, low))
+  abbrev pub condition-range-of-leaf : Range Condition-Leaf
+  condition-range-of-leaf = leaving_leaf_range condition-table condition-known condition-range-of-known
 
-pub rebate-row_places : (i : ℕ) → i < 2
-    → IsPlaceOf i (rebate-once i) (rebate-place (rebate-number i))
-rebate-row_places zero low = (refl, refl)
-rebate-row_places (suc zero) low = (refl, refl)
-rebate-row_places (suc (suc i)) low = absurd (omega (arith, low))
+  pub condition-known-back : (g : Grounds)
+      → IsReadBack condition-leaf.takes condition-leaf.default condition-leaf.records
+      (GoesToLeaf condition-table) condition-range-of-leaf
+  condition-known-back g =
+      leaving_leaf_back g condition-table condition-known condition-range-of-known
+      (condition-returned-of-known g) (λ n h. elim h [
+        | inl h ↦ elim h [
+          | inl h ↦ rw h refl
+          | inr h ↦ rw h refl
+        ]
+        | inr h ↦ elim h [
+          | inl h ↦ rw h refl
+          | inr h ↦ rw h refl
+        ]
+      ])
 
--- the runs, one behind another, are the records of the leaf
-pub rebate-runs_in_order : (l : Family-Leaves) → all_runs rebate-table l ≡ (of_second (of_first rebate-leaf.records)) l
-rebate-runs_in_order (inl l) = refl
-rebate-runs_in_order (inr (inr l)) = refl
-rebate-runs_in_order (inr (inl l)) = same_order
-    (followed (piece none)
-    (followed (piece ((known 2 rebate-percent-kind).records l.0))
-    (followed (piece (unknown.records l.1))
-    (piece none))))
-    (followed (piece ((known 2 rebate-percent-kind).records l.0))
-    (piece (unknown.records l.1))) refl
+  pub condition-back : Grounds → LeafBeside condition-table (first_range condition-range-of-leaf) (one_stands (first_choice condition-choice))
+  condition-back g =
+      choice_back condition-table (first_range condition-range-of-leaf) (first_choice condition-choice) (first_takes condition-leaf.takes)
+      (inl condition-leaf.default) (of_first condition-leaf.records)
+      (first_is_choice condition-leaf.takes condition-choice condition-is_choice)
+      (first_back condition-leaf.takes condition-leaf.default condition-leaf.records (GoesToLeaf condition-table)
+      condition-range-of-leaf (condition-known-back g))
+      refl refl condition-runs_in_order (condition-row_numbers g) condition-row_places (λ i m. refl)
+      (λ n rs. refl)
 
-abbrev pub rebate-range-of-leaf : Range Rebate-Leaf
-rebate-range-of-leaf = leaf_range rebate-table rebate-known rebate-range-of-known
+  -- what is read back once it is written
+  abbrev pub rebate-range-of-known : Range Rebate-Known
+  rebate-range-of-known =
+      pair_range (rebate-percent-range)
+      (rebate-regions-range)
 
-pub rebate-known-back : (g : Grounds)
-    → IsReadBack rebate-leaf.takes rebate-leaf.default rebate-leaf.records
-    (GoesToLeaf rebate-table) rebate-range-of-leaf
-rebate-known-back g =
-    known_back g rebate-table rebate-known rebate-range-of-known
-    (rebate-returned-of-known g) (λ n h. rw h refl)
+  abbrev pub rebate-returned-of-known : Grounds → ReturnedBeside rebate-known rebate-range-of-known
+  rebate-returned-of-known g =
+      both_returned g
+      (none_returned
+      (known_returned g 2 rebate-percent-kind rebate-percent-range
+      (omega arith) (omega arith)
+      (optional_returned g _ _ (numeric_back (uint32_back g)))))
+      (closed_map_returned g _ _ _ region-number region-of string_range
+      string_back 4 (omega arith) (omega arith))
+      (λ n p h. rw h refl)
 
-pub rebate-back : Grounds → LeafBack rebate-table (second_range (first_range rebate-range-of-leaf))
-rebate-back g =
-    table_back rebate-table (second_range (first_range rebate-range-of-leaf)) (second_takes (first_takes rebate-leaf.takes))
-    (inr (inl rebate-leaf.default)) (of_second (of_first rebate-leaf.records))
-    (second_back (first_takes rebate-leaf.takes) (inl rebate-leaf.default) (of_first rebate-leaf.records) (GoesToLeaf rebate-table)
-    (first_range rebate-range-of-leaf) (first_back rebate-leaf.takes rebate-leaf.default rebate-leaf.records (GoesToLeaf rebate-table)
-    rebate-range-of-leaf (rebate-known-back g)))
-    refl refl rebate-runs_in_order (rebate-row_numbers g) rebate-row_places (λ i m. refl)
-    (λ n rs. refl)
+  pub rebate-row_numbers : Grounds → (i : ℕ) → i < 2 → IsFieldNumber (rebate-number i)
+  rebate-row_numbers g zero low = g.number 1 (omega arith) (omega arith)
+  rebate-row_numbers g (suc zero) low = g.number 3 (omega arith) (omega arith)
+  rebate-row_numbers g (suc (suc i)) low = absurd (omega (arith, low))
 
--- what is read back once it is written
-abbrev pub rebate_unless_entry-range-of-known : Range RebateUnlessEntry-Known
-rebate_unless_entry-range-of-known =
-    rebate_unless_entry-key-range
+  pub rebate-row_places : (i : ℕ) → i < 2
+      → IsPlaceOf i (rebate-once i) (rebate-place (rebate-number i))
+  rebate-row_places zero low = (refl, refl)
+  rebate-row_places (suc zero) low = (refl, refl)
+  rebate-row_places (suc (suc i)) low = absurd (omega (arith, low))
 
-abbrev pub rebate_unless_entry-returned-of-known : Grounds → Returned rebate_unless_entry-known rebate_unless_entry-range-of-known
-rebate_unless_entry-returned-of-known g =
-    known_returned g 1 rebate_unless_entry-key-kind rebate_unless_entry-key-range
-    (omega arith) (omega arith)
-    (implicit_returned g _ _ string_back)
+  -- the runs, one behind another, are the records of the leaf
+  pub rebate-runs_in_order : (l : Family-Leaves) → all_runs rebate-table l ≡ (of_second (of_first rebate-leaf.records)) l
+  rebate-runs_in_order (inl l) = refl
+  rebate-runs_in_order (inr (inr l)) = refl
+  rebate-runs_in_order (inr (inl l)) = same_order
+      (followed (piece none)
+      (followed (piece ((leaving_none (known 2 rebate-percent-kind)).records l.0.0))
+      (followed (followed (piece ((rebate-regions-kind).records l.0.1)) (piece (unknown.records l.1)))
+      (piece none))))
+      (followed (followed (piece ((leaving_none (known 2 rebate-percent-kind)).records l.0.0))
+      (piece ((rebate-regions-kind).records l.0.1)))
+      (piece (unknown.records l.1))) refl
 
-pub rebate_unless_entry-row_numbers : Grounds → (i : ℕ) → i < 1 → IsFieldNumber (rebate_unless_entry-number i)
-rebate_unless_entry-row_numbers g zero low = g.number 2 (omega arith) (omega arith)
-rebate_unless_entry-row_numbers g (suc i) low = absurd (omega (arith, low))
+  abbrev pub rebate-range-of-leaf : Range Rebate-Leaf
+  rebate-range-of-leaf = charged_leaf_range rebate-table rebate-known (charges ((suc zero) ∷ [])) rebate-range-of-known
 
-pub rebate_unless_entry-row_places : (i : ℕ) → i < 1
-    → IsPlaceOf i (rebate_unless_entry-once i) (rebate_unless_entry-place (rebate_unless_entry-number i))
-rebate_unless_entry-row_places zero low = (refl, refl)
-rebate_unless_entry-row_places (suc i) low = absurd (omega (arith, low))
+  pub rebate-known-back : (g : Grounds)
+      → IsReadBack rebate-leaf.takes rebate-leaf.default rebate-leaf.records
+      (GoesToLeaf rebate-table) rebate-range-of-leaf
+  rebate-known-back g =
+      charged_leaf_back g rebate-table rebate-known (charges ((suc zero) ∷ [])) rebate-range-of-known
+      (rebate-returned-of-known g) (λ n h. elim h [
+        | inl h ↦ rw h refl
+        | inr h ↦ rw h refl
+      ])
 
--- the runs, one behind another, are the records of the leaf
-pub rebate_unless_entry-runs_in_order : (l : Family-Leaves) → all_runs rebate_unless_entry-table l ≡ (of_second (of_second rebate_unless_entry-leaf.records)) l
-rebate_unless_entry-runs_in_order (inl l) = refl
-rebate_unless_entry-runs_in_order (inr (inl l)) = refl
-rebate_unless_entry-runs_in_order (inr (inr l)) = same_order
-    (followed (piece ((known 1 rebate_unless_entry-key-kind).records l.0))
-    (followed (piece (unknown.records l.1))
-    (piece none)))
-    (followed (piece ((known 1 rebate_unless_entry-key-kind).records l.0))
-    (piece (unknown.records l.1))) refl
+  pub rebate-back : Grounds → LeafBack rebate-table (second_range (first_range rebate-range-of-leaf))
+  rebate-back g =
+      table_back rebate-table (second_range (first_range rebate-range-of-leaf)) (second_takes (first_takes rebate-leaf.takes))
+      (inr (inl rebate-leaf.default)) (of_second (of_first rebate-leaf.records))
+      (second_back (first_takes rebate-leaf.takes) (inl rebate-leaf.default) (of_first rebate-leaf.records) (GoesToLeaf rebate-table)
+      (first_range rebate-range-of-leaf) (first_back rebate-leaf.takes rebate-leaf.default rebate-leaf.records (GoesToLeaf rebate-table)
+      rebate-range-of-leaf (rebate-known-back g)))
+      refl refl rebate-runs_in_order (rebate-row_numbers g) rebate-row_places (λ i m. refl)
+      (λ n rs. refl)
 
-abbrev pub rebate_unless_entry-range-of-leaf : Range RebateUnlessEntry-Leaf
-rebate_unless_entry-range-of-leaf = leaf_range rebate_unless_entry-table rebate_unless_entry-known rebate_unless_entry-range-of-known
+  -- what is read back once it is written
+  abbrev pub rebate_unless_entry-range-of-known : Range RebateUnlessEntry-Known
+  rebate_unless_entry-range-of-known =
+      rebate_unless_entry-key-range
 
-pub rebate_unless_entry-known-back : (g : Grounds)
-    → IsReadBack rebate_unless_entry-leaf.takes rebate_unless_entry-leaf.default rebate_unless_entry-leaf.records
-    (GoesToLeaf rebate_unless_entry-table) rebate_unless_entry-range-of-leaf
-rebate_unless_entry-known-back g =
-    known_back g rebate_unless_entry-table rebate_unless_entry-known rebate_unless_entry-range-of-known
-    (rebate_unless_entry-returned-of-known g) (λ n h. rw h refl)
+  abbrev pub rebate_unless_entry-returned-of-known : Grounds → Returned rebate_unless_entry-known rebate_unless_entry-range-of-known
+  rebate_unless_entry-returned-of-known g =
+      known_returned g 1 rebate_unless_entry-key-kind rebate_unless_entry-key-range
+      (omega arith) (omega arith)
+      (implicit_returned g _ _ string_back)
 
-pub rebate_unless_entry-back : Grounds → LeafBack rebate_unless_entry-table (second_range (second_range rebate_unless_entry-range-of-leaf))
-rebate_unless_entry-back g =
-    table_back rebate_unless_entry-table (second_range (second_range rebate_unless_entry-range-of-leaf)) (second_takes (second_takes rebate_unless_entry-leaf.takes))
-    (inr (inr rebate_unless_entry-leaf.default)) (of_second (of_second rebate_unless_entry-leaf.records))
-    (second_back (second_takes rebate_unless_entry-leaf.takes) (inr rebate_unless_entry-leaf.default) (of_second rebate_unless_entry-leaf.records) (GoesToLeaf rebate_unless_entry-table)
-    (second_range rebate_unless_entry-range-of-leaf) (second_back rebate_unless_entry-leaf.takes rebate_unless_entry-leaf.default rebate_unless_entry-leaf.records (GoesToLeaf rebate_unless_entry-table)
-    rebate_unless_entry-range-of-leaf (rebate_unless_entry-known-back g)))
-    refl refl rebate_unless_entry-runs_in_order (rebate_unless_entry-row_numbers g) rebate_unless_entry-row_places (λ i m. refl)
-    (λ n rs. refl)
+  pub rebate_unless_entry-row_numbers : Grounds → (i : ℕ) → i < 1 → IsFieldNumber (rebate_unless_entry-number i)
+  rebate_unless_entry-row_numbers g zero low = g.number 2 (omega arith) (omega arith)
+  rebate_unless_entry-row_numbers g (suc i) low = absurd (omega (arith, low))
 
-abbrev pub family-leaf-ranges : Family-Sorts → Range Family-Leaves
-family-leaf-ranges Condition-Sort = (first_range condition-range-of-leaf)
-family-leaf-ranges Rebate-Sort = (second_range (first_range rebate-range-of-leaf))
-family-leaf-ranges RebateUnlessEntry-Sort = (second_range (second_range rebate_unless_entry-range-of-leaf))
+  pub rebate_unless_entry-row_places : (i : ℕ) → i < 1
+      → IsPlaceOf i (rebate_unless_entry-once i) (rebate_unless_entry-place (rebate_unless_entry-number i))
+  rebate_unless_entry-row_places zero low = (refl, refl)
+  rebate_unless_entry-row_places (suc i) low = absurd (omega (arith, low))
 
-abbrev pub family-ranges : Family-Sorts → Range Family-Tree
-family-ranges = beside_range family-all family-leaf-ranges family-stands
+  -- the runs, one behind another, are the records of the leaf
+  pub rebate_unless_entry-runs_in_order : (l : Family-Leaves) → all_runs rebate_unless_entry-table l ≡ (of_second (of_second rebate_unless_entry-leaf.records)) l
+  rebate_unless_entry-runs_in_order (inl l) = refl
+  rebate_unless_entry-runs_in_order (inr (inl l)) = refl
+  rebate_unless_entry-runs_in_order (inr (inr l)) = same_order
+      (followed (piece ((known 1 rebate_unless_entry-key-kind).records l.0))
+      (followed (piece (unknown.records l.1))
+      (piece none)))
+      (followed (piece ((known 1 rebate_unless_entry-key-kind).records l.0))
+      (piece (unknown.records l.1))) refl
 
-pub family-leaves-back : Grounds → (s : Family-Sorts)
-    → LeafBeside (family-tables s) (family-leaf-ranges s) (family-stands s)
-family-leaves-back g Condition-Sort = condition-back g
-family-leaves-back g Rebate-Sort = rebate-back g
-family-leaves-back g RebateUnlessEntry-Sort = rebate_unless_entry-back g
+  abbrev pub rebate_unless_entry-range-of-leaf : Range RebateUnlessEntry-Leaf
+  rebate_unless_entry-range-of-leaf = leaf_range rebate_unless_entry-table rebate_unless_entry-known rebate_unless_entry-range-of-known
 
-pub family-returned : Grounds → (s : Family-Sorts) → Returned (family-shapes s) (family-ranges s)
-family-returned g s =
-    beside_returned g family-all family-leaf-ranges family-stands (family-singles g.reading)
-    (family-leaves-back g) s (family-shapes s) refl refl refl (λ n p. refl)
+  pub rebate_unless_entry-known-back : (g : Grounds)
+      → IsReadBack rebate_unless_entry-leaf.takes rebate_unless_entry-leaf.default rebate_unless_entry-leaf.records
+      (GoesToLeaf rebate_unless_entry-table) rebate_unless_entry-range-of-leaf
+  rebate_unless_entry-known-back g =
+      known_back g rebate_unless_entry-table rebate_unless_entry-known rebate_unless_entry-range-of-known
+      (rebate_unless_entry-returned-of-known g) (λ n h. rw h refl)
+
+  pub rebate_unless_entry-back : Grounds → LeafBack rebate_unless_entry-table (second_range (second_range rebate_unless_entry-range-of-leaf))
+  rebate_unless_entry-back g =
+      table_back rebate_unless_entry-table (second_range (second_range rebate_unless_entry-range-of-leaf)) (second_takes (second_takes rebate_unless_entry-leaf.takes))
+      (inr (inr rebate_unless_entry-leaf.default)) (of_second (of_second rebate_unless_entry-leaf.records))
+      (second_back (second_takes rebate_unless_entry-leaf.takes) (inr rebate_unless_entry-leaf.default) (of_second rebate_unless_entry-leaf.records) (GoesToLeaf rebate_unless_entry-table)
+      (second_range rebate_unless_entry-range-of-leaf) (second_back rebate_unless_entry-leaf.takes rebate_unless_entry-leaf.default rebate_unless_entry-leaf.records (GoesToLeaf rebate_unless_entry-table)
+      rebate_unless_entry-range-of-leaf (rebate_unless_entry-known-back g)))
+      refl refl rebate_unless_entry-runs_in_order (rebate_unless_entry-row_numbers g) rebate_unless_entry-row_places (λ i m. refl)
+      (λ n rs. refl)
+
+  abbrev pub family-leaf-ranges : Family-Sorts → Range Family-Leaves
+  family-leaf-ranges Condition-Sort = (first_range condition-range-of-leaf)
+  family-leaf-ranges Rebate-Sort = (second_range (first_range rebate-range-of-leaf))
+  family-leaf-ranges RebateUnlessEntry-Sort = (second_range (second_range rebate_unless_entry-range-of-leaf))
+
+  abbrev pub family-ranges : Family-Sorts → Range Family-Tree
+  family-ranges = beside_range family-all family-leaf-ranges family-stands
+
+  pub family-leaves-back : Grounds → (s : Family-Sorts)
+      → LeafBeside (family-tables s) (family-leaf-ranges s) (family-stands s)
+  family-leaves-back g Condition-Sort = condition-back g
+  family-leaves-back g Rebate-Sort = rebate-back g
+  family-leaves-back g RebateUnlessEntry-Sort = rebate_unless_entry-back g
+
+  pub family-returned : Grounds → (s : Family-Sorts) → Returned (family-shapes s) (family-ranges s)
+  family-returned g s =
+      beside_returned g family-all family-leaf-ranges family-stands (family-singles g.reading)
+      (family-leaves-back g) s (family-shapes s) refl refl refl (λ n p. refl)

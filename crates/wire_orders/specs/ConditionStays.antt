@@ -2,9 +2,9 @@
 -- be edited.
 use Rattle.wire_fields.specs.Grounds.{Grounds}
 use Rattle.wire_fields.specs.Stays.{Stays}
-use Rattle.wire_orders.specs.Condition.{condition-range, condition-shape}
+use Rattle.wire_orders.specs.Condition.{condition-account, condition-range, condition-shape}
 use Rattle.wire_orders.specs.ConditionFamily.{Condition-Sort}
 use Rattle.wire_orders.specs.ConditionFamilyStays.{family-stays}
 
-pub condition-stays : Grounds → Stays condition-shape condition-range
+pub condition-stays : Grounds → Stays condition-shape (condition-range condition-account)
 condition-stays g = family-stays g Condition-Sort

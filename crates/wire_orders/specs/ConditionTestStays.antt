@@ -12,6 +12,7 @@ use Rattle.wire_fields.specs.Stays.{FieldsStay, KindStays}
 use Rattle.wire_fields.specs.StaysKinds.{always_stays, numeric_stays, uint32_stays}
 use Rattle.wire_fields.specs.StaysMessages.{oneof_stays, variant_stays}
 use Rattle.wire_fields.specs.declared.form.Form.TheVariants.{Varint}
+use Rattle.wire_orders.specs.Condition.{condition-account}
 use Rattle.wire_orders.specs.ConditionTest.{ConditionTest-Value, condition_test-holds}
 use Rattle.wire_orders.specs.ConditionTest.{condition_test-range, condition_test-records}
 use Rattle.wire_orders.specs.ConditionTest.{condition_test-shape, count-of-condition_test-as}
@@ -34,12 +35,12 @@ count-of-condition_test-there g None h = (count-of-condition_test-stays g).start
 count-of-condition_test-there g (Some x) h = h
 
 pub condition_test-in-range : (g : Grounds) (m : ConditionTest-Value) → condition_test-is g m
-    → AreShort (condition_test-records m) → condition_test-holds m
+    → AreShort (condition_test-records m) → condition_test-holds condition-account m
 condition_test-in-range g None h short = tt
 condition_test-in-range g (Some x) h short =
     (count-of-condition_test-stays g).holds 4 x h short
 
-abbrev pub condition_test-stays : Grounds → FieldsStay condition_test-shape condition_test-range
+abbrev pub condition_test-stays : Grounds → FieldsStay condition_test-shape (condition_test-range condition-account)
 condition_test-stays g =
     oneof_stays None condition_test-records _ (condition_test-is g) tt
     (variant_stays 4 (always (numeric Varint uint32)) count-of-condition_test-as

@@ -22,3 +22,4 @@ pub mod Rebate
 pub mod RebateStays
 pub mod RebateUnlessEntry
 pub mod RebateUnlessEntryStays
+pub mod Region

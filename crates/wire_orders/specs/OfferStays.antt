@@ -4,15 +4,15 @@ use Rattle.wire_fields.specs.Grounds.{Grounds}
 use Rattle.wire_fields.specs.Stays.{Stays, known_stays, two_stays, whole_stays}
 use Rattle.wire_fields.specs.StaysMessages.{embedded_each_stays, embedded_once_stays}
 use Rattle.wire_orders.specs.CategoryStays.{category-stays}
-use Rattle.wire_orders.specs.Offer.{offer-category-kind, offer-range, offer-rebates-kind}
-use Rattle.wire_orders.specs.Offer.{offer-shape}
+use Rattle.wire_orders.specs.Offer.{offer-account, offer-category-kind, offer-range}
+use Rattle.wire_orders.specs.Offer.{offer-rebates-kind, offer-shape}
 use Rattle.wire_orders.specs.RebateStays.{rebate-stays}
 
-pub offer-stays : Grounds → Stays offer-shape offer-range
+pub offer-stays : Grounds → Stays offer-shape (offer-range offer-account)
 offer-stays g =
     whole_stays
     (two_stays
     (known_stays 1 offer-category-kind
     (embedded_once_stays g (category-stays g)))
     (known_stays 2 offer-rebates-kind
-    (embedded_each_stays g (rebate-stays g) 72)))
+    (embedded_each_stays g (rebate-stays g) 96)))

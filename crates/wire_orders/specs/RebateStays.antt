@@ -4,7 +4,7 @@ use Rattle.wire_fields.specs.Grounds.{Grounds}
 use Rattle.wire_fields.specs.Stays.{Stays}
 use Rattle.wire_orders.specs.ConditionFamily.{Rebate-Sort}
 use Rattle.wire_orders.specs.ConditionFamilyStays.{family-stays}
-use Rattle.wire_orders.specs.Rebate.{rebate-range, rebate-shape}
+use Rattle.wire_orders.specs.Rebate.{rebate-account, rebate-range, rebate-shape}
 
-pub rebate-stays : Grounds → Stays rebate-shape rebate-range
+pub rebate-stays : Grounds → Stays rebate-shape (rebate-range rebate-account)
 rebate-stays g = family-stays g Rebate-Sort

@@ -4,8 +4,9 @@ use Rattle.wire_fields.specs.Grounds.{Grounds}
 use Rattle.wire_fields.specs.Stays.{Stays}
 use Rattle.wire_orders.specs.ConditionFamily.{RebateUnlessEntry-Sort}
 use Rattle.wire_orders.specs.ConditionFamilyStays.{family-stays}
+use Rattle.wire_orders.specs.RebateUnlessEntry.{rebate_unless_entry-account}
 use Rattle.wire_orders.specs.RebateUnlessEntry.{rebate_unless_entry-range}
 use Rattle.wire_orders.specs.RebateUnlessEntry.{rebate_unless_entry-shape}
 
-pub rebate_unless_entry-stays : Grounds → Stays rebate_unless_entry-shape rebate_unless_entry-range
+pub rebate_unless_entry-stays : Grounds → Stays rebate_unless_entry-shape (rebate_unless_entry-range rebate_unless_entry-account)
 rebate_unless_entry-stays g = family-stays g RebateUnlessEntry-Sort

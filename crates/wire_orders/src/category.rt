@@ -2,16 +2,19 @@
 ghost use Rattle.wire_orders.specs.Category.{category-value};
 
 use crate::money::Money;
+use crate::region::Region;
 use bytes::Buf;
 use std::alloc::{AllocError, Global};
+use std::collections::BTreeMap;
 use std::slice::from_ref;
 use wire_codec::{
-    DecodeContext, DecodeError, EncodeError, EncodeSink, MessageFields, MessageName, SizeCache,
-    Tag, UnknownFields,
+    DecodeContext, DecodeError, EncodeError, EncodeSink, EnumValue, MessageFields, MessageName,
+    SizeCache, Tag, UnknownFields,
 };
 use wire_fields::{
-    Alone, Embedded, Kind, Known, Optional, Parts, Place, RecursiveAlone, RecursiveMember, Rest,
-    Text, keep, merge_held, push_message, slice_size, write_slice,
+    Alone, Always, ClosedMap, Embedded, Enum, Kind, Known, Map, Optional, Parts, Place,
+    RecursiveAlone, RecursiveMember, Rest, Text, Uint32, keep, merge_held, push_message,
+    slice_size, write_slice,
 };
 use wire_required::{
     FieldPath, Needed, Required, RequiredAlone, RequiredMember, RowRequirement, first_missing,
@@ -28,6 +31,7 @@ pub struct Category {
     pub parts: Vec<Category>,
     pub least: Option<Box<Money>>,
     pub like: Option<Box<Category>>,
+    pub regions: BTreeMap<u32, EnumValue<Region>>,
     /// The fields that the schema lacks, as they came.
     pub unknown: UnknownFields,
 }
@@ -70,6 +74,7 @@ impl RecursiveMember<Category> for Category {
             parts: Vec::new(alloc),
             least: <Embedded<Money> as Kind>::empty(alloc),
             like: None,
+            regions: <Map<Uint32, Always<Enum<Region>>, 56> as Kind>::empty(alloc),
             unknown: UnknownFields::new(alloc),
         }
     }
@@ -88,7 +93,7 @@ impl RecursiveMember<Category> for Category {
 
     fn place(number: u32) -> Place {
         match number {
-            2 => Place::Each(0, 88),
+            2 => Place::Each(0, 112),
             4 => Place::Once(1),
             _ => Place::Leaf,
         }
@@ -144,10 +149,14 @@ impl RecursiveMember<Category> for Category {
                 field_3.len(cache)
             }
             _ => {
+                let field_5: Known<Map<Uint32, Always<Enum<Region>>, 56>> = Known {
+                    number: 5,
+                    held: &self.regions,
+                };
                 let rest = Rest {
                     fields: &self.unknown,
                 };
-                rest.len(cache)
+                (field_5, rest).len(cache)
             }
         }
     }
@@ -174,10 +183,14 @@ impl RecursiveMember<Category> for Category {
                 field_3.put(cache, sink)
             }
             _ => {
+                let field_5: Known<Map<Uint32, Always<Enum<Region>>, 56>> = Known {
+                    number: 5,
+                    held: &self.regions,
+                };
                 let rest = Rest {
                     fields: &self.unknown,
                 };
-                rest.put(cache, sink)
+                (field_5, rest).put(cache, sink)
             }
         }
     }
@@ -192,6 +205,14 @@ impl RecursiveMember<Category> for Category {
         match tag.field_number() {
             1 => <Optional<Text> as Kind>::merge(alloc, tag, &mut self.name, buf, context),
             3 => <Embedded<Money> as Kind>::merge(alloc, tag, &mut self.least, buf, context),
+            5 => <Map<Uint32, Always<Enum<Region>>, 56> as ClosedMap>::merge_closed(
+                alloc,
+                tag,
+                &mut self.regions,
+                &mut self.unknown,
+                buf,
+                context,
+            ),
             _ => keep(alloc, tag, &mut self.unknown, buf, context),
         }
     }
@@ -270,6 +291,7 @@ impl MessageFields for Category {
         self.parts.clear();
         <Embedded<Money> as Kind>::clear(&mut self.least);
         self.like = None;
+        <Map<Uint32, Always<Enum<Region>>, 56> as Kind>::clear(&mut self.regions);
         self.unknown.clear();
     }
 }

@@ -8,17 +8,18 @@ use crate::condition_family::{FamilyHeld, FamilySlice};
 use crate::condition_test::ConditionTest;
 use crate::money::Money;
 use crate::rebate::Rebate;
+use crate::region::Region;
 use bytes::Buf;
 use std::alloc::{AllocError, Global};
 use std::mem::replace;
 use std::slice::from_ref;
 use wire_codec::{
-    DecodeContext, DecodeError, EncodeError, EncodeSink, MessageFields, MessageName, SizeCache,
-    Tag, UnknownFields,
+    DecodeContext, DecodeError, EncodeError, EncodeSink, EnumValue, MessageFields, MessageName,
+    SizeCache, Tag, UnknownFields,
 };
 use wire_fields::{
-    Always, Embedded, Kind, Known, Optional, Parts, Place, RecursiveMember, Rest, Text, Uint32,
-    keep, merge_held, merge_new, slice_size, write_slice,
+    Always, Embedded, Enum, Kind, Known, Optional, Parts, Place, RecursiveMember, Rest, Text,
+    Uint32, keep, merge_closed, merge_held, merge_new, slice_size, write_slice,
 };
 use wire_required::{
     FieldPath, Required, RequiredMember, RowRequirement, first_missing, slice_missing,
@@ -34,6 +35,7 @@ pub struct Condition {
     pub note: Option<String>,
     pub test: Option<ConditionTest>,
     pub least: Option<Box<Money>>,
+    pub region: Option<EnumValue<Region>>,
     /// The fields that the schema lacks, as they came.
     pub unknown: UnknownFields,
 }
@@ -77,6 +79,7 @@ impl RecursiveMember<FamilyHeld> for Condition {
             note: <Optional<Text> as Kind>::empty(alloc),
             test: None,
             least: <Embedded<Money> as Kind>::empty(alloc),
+            region: <Optional<Enum<Region>> as Kind>::empty(alloc),
             unknown: UnknownFields::new(alloc),
         }
     }
@@ -143,10 +146,14 @@ impl RecursiveMember<FamilyHeld> for Condition {
                     number: 3,
                     held: &self.least,
                 };
+                let field_5: Known<Optional<Enum<Region>>> = Known {
+                    number: 5,
+                    held: &self.region,
+                };
                 let rest = Rest {
                     fields: &self.unknown,
                 };
-                (field_3, rest).len(cache)
+                ((field_3, field_5), rest).len(cache)
             }
         }
     }
@@ -171,10 +178,14 @@ impl RecursiveMember<FamilyHeld> for Condition {
                     number: 3,
                     held: &self.least,
                 };
+                let field_5: Known<Optional<Enum<Region>>> = Known {
+                    number: 5,
+                    held: &self.region,
+                };
                 let rest = Rest {
                     fields: &self.unknown,
                 };
-                (field_3, rest).put(cache, sink)
+                ((field_3, field_5), rest).put(cache, sink)
             }
         }
     }
@@ -194,6 +205,7 @@ impl RecursiveMember<FamilyHeld> for Condition {
                 Ok(())
             }
             3 => <Embedded<Money> as Kind>::merge(alloc, tag, &mut self.least, buf, context),
+            5 => merge_closed(tag, &mut self.region, &mut self.unknown, buf, context),
             _ => keep(alloc, tag, &mut self.unknown, buf, context),
         }
     }
@@ -272,6 +284,7 @@ impl MessageFields for Condition {
         <Optional<Text> as Kind>::clear(&mut self.note);
         self.test = None;
         <Embedded<Money> as Kind>::clear(&mut self.least);
+        <Optional<Enum<Region>> as Kind>::clear(&mut self.region);
         self.unknown.clear();
     }
 }

@@ -14,6 +14,7 @@ mod order_address;
 mod order_payment;
 mod rebate;
 mod rebate_unless_entry;
+mod region;
 
 pub use category::Category;
 pub use condition::Condition;
@@ -26,3 +27,4 @@ pub use order_address::OrderAddress;
 pub use order_payment::OrderPayment;
 pub use rebate::Rebate;
 pub use rebate_unless_entry::RebateUnlessEntry;
+pub use region::Region;

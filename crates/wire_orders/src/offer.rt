@@ -28,7 +28,7 @@ macro_rules! rows {
         fields!(
             $($call)*
             1 => category: Embedded<Category>,
-            2 => rebates: EachEmbedded<Rebate, 72>,
+            2 => rebates: EachEmbedded<Rebate, 96>,
             _ => unknown
         )
     };
@@ -104,7 +104,7 @@ impl Required for Offer {
             self,
             alloc,
             "category" => category: Embedded<Category>,
-            "rebates" => rebates: EachEmbedded<Rebate, 72>,
+            "rebates" => rebates: EachEmbedded<Rebate, 96>,
         )
     }
 }

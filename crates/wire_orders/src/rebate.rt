@@ -7,17 +7,19 @@ ghost use Rattle.wire_orders.specs.ConditionFamily.{family-holds, family-slice-s
 use crate::condition::Condition;
 use crate::condition_family::{FamilyHeld, FamilySlice};
 use crate::rebate_unless_entry::RebateUnlessEntry;
+use crate::region::Region;
 use bytes::Buf;
 use std::alloc::{AllocError, Global};
+use std::collections::BTreeMap;
 use std::mem::replace;
 use std::slice::from_ref;
 use wire_codec::{
-    DecodeContext, DecodeError, EncodeError, EncodeSink, MessageFields, MessageName, SizeCache,
-    Tag, UnknownFields,
+    DecodeContext, DecodeError, EncodeError, EncodeSink, EnumValue, MessageFields, MessageName,
+    SizeCache, Tag, UnknownFields,
 };
 use wire_fields::{
-    Kind, Known, Optional, Parts, Place, RecursiveMember, Rest, Uint32, keep, merge_held,
-    push_message, slice_size, write_slice,
+    Always, ClosedMap, Enum, Kind, Known, Map, Optional, Parts, Place, RecursiveMember, Rest, Text,
+    Uint32, keep, merge_held, push_message, slice_size, write_slice,
 };
 use wire_required::{
     FieldPath, Needed, Required, RequiredMember, RowRequirement, first_missing, slice_missing,
@@ -33,6 +35,7 @@ pub struct Rebate {
     pub when: Option<Box<Condition>>,
     pub percent: Option<u32>,
     pub unless: Vec<RebateUnlessEntry>,
+    pub regions: BTreeMap<String, EnumValue<Region>>,
     /// The fields that the schema lacks, as they came.
     pub unknown: UnknownFields,
 }
@@ -76,6 +79,7 @@ impl RecursiveMember<FamilyHeld> for Rebate {
             when: None,
             percent: <Optional<Uint32> as Kind>::empty(alloc),
             unless: Vec::new(alloc),
+            regions: <Map<Text, Always<Enum<Region>>, 64> as Kind>::empty(alloc),
             unknown: UnknownFields::new(alloc),
         }
     }
@@ -147,10 +151,14 @@ impl RecursiveMember<FamilyHeld> for Rebate {
                 field_2.len(cache)
             }
             _ => {
+                let field_4: Known<Map<Text, Always<Enum<Region>>, 64>> = Known {
+                    number: 4,
+                    held: &self.regions,
+                };
                 let rest = Rest {
                     fields: &self.unknown,
                 };
-                rest.len(cache)
+                (field_4, rest).len(cache)
             }
         }
     }
@@ -171,10 +179,14 @@ impl RecursiveMember<FamilyHeld> for Rebate {
                 field_2.put(cache, sink)
             }
             _ => {
+                let field_4: Known<Map<Text, Always<Enum<Region>>, 64>> = Known {
+                    number: 4,
+                    held: &self.regions,
+                };
                 let rest = Rest {
                     fields: &self.unknown,
                 };
-                rest.put(cache, sink)
+                (field_4, rest).put(cache, sink)
             }
         }
     }
@@ -188,6 +200,14 @@ impl RecursiveMember<FamilyHeld> for Rebate {
     ) -> Result<(), DecodeError> {
         match tag.field_number() {
             2 => <Optional<Uint32> as Kind>::merge(alloc, tag, &mut self.percent, buf, context),
+            4 => <Map<Text, Always<Enum<Region>>, 64> as ClosedMap>::merge_closed(
+                alloc,
+                tag,
+                &mut self.regions,
+                &mut self.unknown,
+                buf,
+                context,
+            ),
             _ => keep(alloc, tag, &mut self.unknown, buf, context),
         }
     }
@@ -266,6 +286,7 @@ impl MessageFields for Rebate {
         self.when = None;
         <Optional<Uint32> as Kind>::clear(&mut self.percent);
         self.unless.clear();
+        <Map<Text, Always<Enum<Region>>, 64> as Kind>::clear(&mut self.regions);
         self.unknown.clear();
     }
 }

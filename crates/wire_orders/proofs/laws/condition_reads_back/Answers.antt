@@ -3,4 +3,5 @@ use Rattle.wire_fields.specs.Returned.{reads_back}
 use Rattle.wire_orders.proofs.laws.condition_reads_back.Goals as goal
 
 pub returns : goal.returns
-returns c = reads_back (condition-returned c.grounds.ensures) c.text_decodes.ensures
+returns c =
+    λ charges. reads_back (condition-returned charges c.grounds.ensures) c.text_decodes.ensures

@@ -3,4 +3,5 @@ use Rattle.wire_fields.specs.Returned.{reads_back}
 use Rattle.wire_orders.proofs.laws.offer_reads_back.Goals as goal
 
 pub returns : goal.returns
-returns c = reads_back (offer-returned c.grounds.ensures) c.text_decodes.ensures
+returns c =
+    λ charges. reads_back (offer-returned charges c.grounds.ensures) c.text_decodes.ensures

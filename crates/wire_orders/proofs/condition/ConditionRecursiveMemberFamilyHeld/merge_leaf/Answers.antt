@@ -1,16 +1,17 @@
-use Rattle.std.proofs.Common.{rules, sym, ◌∙◌}
+use Rattle.std.proofs.Common.{refl, rules, sym, ◌∙◌}
 use Rattle.std.proofs.lemmas.Result.{err_from_is_err_and}
 use Rattle.std.specs.Prelude.{ℕ}
 use Rattle.wire_codec.specs.TagView.{tag_number}
 use Rattle.wire_codec.specs.ValueMap.{uint32}
-use Rattle.wire_fields.specs.Arms.{arm_err, neither, rest_err, unlike, untaken}
+use Rattle.wire_fields.specs.Arms.{arm_err, from_last, neither, unlike, untaken}
+use Rattle.wire_fields.specs.Leaving.{keeps_beside}
 use Rattle.wire_fields.specs.Numbers.{numeric}
 use Rattle.wire_fields.specs.Presence.{always}
 use Rattle.wire_fields.specs.Shape.{keeps}
 use Rattle.wire_fields.specs.Sums.{first_err, first_untaken}
 use Rattle.wire_fields.specs.declared.form.Form.TheVariants.{Varint}
 use Rattle.wire_orders.specs.ConditionFamily.{condition-known, condition-leaf, condition-least-kind}
-use Rattle.wire_orders.specs.ConditionFamily.{condition-note-kind}
+use Rattle.wire_orders.specs.ConditionFamily.{condition-note-kind, condition-region-kind}
 use Rattle.wire_orders.specs.declared.condition.Condition.{fold_out-Condition}
 use Rattle.wire_orders.specs.ConditionFamily as family
 use Rattle.wire_orders.proofs.condition.ConditionRecursiveMemberFamilyHeld.merge_leaf.Goals as goal
@@ -42,16 +43,31 @@ returns-in-3-clause-err g c =
     (first_err _ condition-leaf.takes _ _ _ _ _ _
     (arm_err condition-leaf.takes condition-least-kind.kind.takes 3 _
     (sym c.field_number.ensures.number ∙ c.in-3.is) _ _
-    (λ charge z p h. (z.0.1, h.0.0)) _ _ _
+    (λ charge z p h. (z.0.1.0, h.0.0.0)) _ _ _
     (c.merge-in-3).result (c.merge-in-3).ensures.err))
+
+pub returns-in-5-clause-err : goal.returns-in-5-clause-err
+returns-in-5-clause-err g c =
+    rw (fold_out-Condition family.ConditionTest-Held family.Family-Tree family.Family-Tree family.Family-Tree family.condition_test-one family.condition-one family.rebate-one family.rebate_unless_entry-one c.args.self.now)
+    (first_err _ condition-leaf.takes _ _ _ _ _ _
+    (arm_err condition-leaf.takes condition-region-kind.takes 5 _
+    (sym c.field_number.ensures.number ∙ c.in-5.is) _ _
+    (λ charge z p h. ((z.0.1.1, z.1), h.0.0)) _ _ _
+    c.merge_closed.result c.merge_closed.ensures.err))
 
 pub returns-in_default-clause-err : goal.returns-in_default-clause-err
 returns-in_default-clause-err g c =
     let n = tag_number c.args.tag in
     rw (fold_out-Condition family.ConditionTest-Held family.Family-Tree family.Family-Tree family.Family-Tree family.condition_test-one family.condition-one family.rebate-one family.rebate_unless_entry-one c.args.self.now)
     (first_err _ condition-leaf.takes _ _ _ _ _ _
-    (rest_err condition-known.owns condition-known.takes keeps _
-    (λ p. neither _ _ (neither _ _ (unlike n 1 (search rules))
-    (unlike n 4 (search rules)))
-    (unlike n 3 (search rules)))
-    _ _ _ _ c.keep.result c.keep.ensures.err))
+    (arm_err condition-leaf.takes keeps n n refl _ _
+    (λ charge z p h. (
+      z.1,
+      (from_last condition-known.owns condition-known.takes keeps_beside n
+          (λ p. neither _ _ (neither _ _ (unlike n 1 (search rules))
+          (unlike n 4 (search rules)))
+          (neither _ _ (unlike n 3 (search rules))
+          (unlike n 5 (search rules))))
+          _ z charge p h).0,
+    ))
+    _ _ _ c.keep.result c.keep.ensures.err))
