@@ -1,5 +1,5 @@
 -- The elements of a list so far.
-use Rattle.std.proofs.Common.{◌≡◌, ℕ, ◌≤◌, true, false, List, [], ◌∷◌, ◌++◌, map, drop, refl, sym, ap, ◌∙◌, subst, arith}
+use Rattle.std.proofs.Common.{◌≡◌, ℕ, ◌-◌, ◌≤◌, true, false, List, [], ◌∷◌, ◌++◌, map, drop, refl, sym, ap, ◌∙◌, subst, arith}
 use Rattle.wire_json.specs.declared.container.Next.{Next}
 use Rattle.wire_json.specs.declared.container.Next.TheVariants.{Item, End}
 use Rattle.wire_json.specs.declared.fault.FaultKind.{FaultKind}
@@ -8,7 +8,7 @@ use Rattle.wire_json.specs.Container.{FirstItem, NextItem, NoNext, NotOpen}
 use Rattle.wire_json.specs.Json.{Json, null, boolean, number, string, array, object, Elements, no_element, element, depth, elements_depth}
 use Rattle.wire_json.specs.Reading.{ReadsValue, ReadsElements, ReadsMoreElements}
 use Rattle.wire_json.proofs.OneReading.{one_value_lemma}
-use Rattle.wire_jsonfields.specs.Fields.{NothingMeant}
+use Rattle.wire_jsonfields.specs.Levels.{NothingMeant}
 use Rattle.wire_jsonfields.specs.Lists.{EachMeans, ListMeans, elements_joined}
 
 joined_more : (so : Elements) (e : Json) (es : Elements)
@@ -161,6 +161,13 @@ depth_at (element j so) e es =
     let deep = depth_at so e es in
     omega (arith, deep)
 
+pub depth_more : (so : Elements) (e : Json) (n : ℕ) → elements_depth so ≤ n → depth e ≤ n
+    → elements_depth (elements_joined so (element e no_element)) ≤ n
+depth_more no_element e n h fits = omega (arith, fits)
+depth_more (element j so) e n h fits =
+    let more = depth_more so e n (omega (arith, h)) fits in
+    omega (arith, h, more)
+
 pub map_more : {A B : Type 0} (f : A → B) (xs : List A) (x : A)
     → map f (xs ++ x ∷ []) ≡ map f xs ++ f x ∷ []
 map_more f [] x = refl
@@ -173,7 +180,7 @@ module _ {V : Type 0} (Means : Json → V → Type 0) (levels : ℕ) (old : List
   pub no_list : ((es : Elements) (vs : List V) (new : List ℕ) → ReadsValue (array es) old new
       → depth (array es) ≤ levels → EachMeans Means es vs → ⊥)
       → NothingMeant levels (ListMeans Means) old
-  no_list none = λ json vs new reads fits means. by_tree json vs new reads fits means
+  no_list none = λ vs new read. by_tree read.0 vs new read.1 read.2 read.3
     where
       by_tree : (json : Json) (vs : List V) (new : List ℕ) → ReadsValue json old new
           → depth json ≤ levels → ListMeans Means json vs → ⊥
@@ -183,6 +190,9 @@ module _ {V : Type 0} (Means : Json → V → Type 0) (levels : ℕ) (old : List
       by_tree (number text) vs new reads fits means = means
       by_tree (string bytes) vs new reads fits means = means
       by_tree (object ms) vs new reads fits means = means
+
+  pub none_so_deep : levels ≡ 0 → NothingMeant levels (ListMeans Means) old
+  none_so_deep none = no_list (λ es vs new reads fits means. omega (arith, none, fits))
 
   pub not_opened : (k : FaultKind) (left : List ℕ) → NotOpen 91 old k left
       → NothingMeant levels (ListMeans Means) old
@@ -201,14 +211,14 @@ module _ {V : Type 0} (Means : Json → V → Type 0) (levels : ℕ) (old : List
         subst P same reads
 
     pub element_refused : (item : List ℕ) → AtElement inside item so
-        → NothingMeant levels Means item → NothingMeant levels (ListMeans Means) old
+        → NothingMeant (levels - 1) Means item → NothingMeant levels (ListMeans Means) old
     element_refused item s nothing = no_list (λ all vs new reads fits means.
         let (e, es, rest, is, read, more) = s.only all new (inner all new reads) in
         let P : Elements → Type 0 = λ l. EachMeans Means l vs in
         let (v, m) = meant_at Means so e es vs (subst P is means) in
         let deep = depth_at so e es in
         let long = ap elements_depth is in
-        nothing e v rest read (omega (arith, fits, deep, long)) m)
+        nothing v rest (e, read, omega (arith, fits, deep, long), m))
 
     pub list_stops : (place rest : List ℕ) (e : Json) → AtElement inside place so
         → ReadsValue e place rest → (k : FaultKind) (left : List ℕ) → NoNext 93 rest k left

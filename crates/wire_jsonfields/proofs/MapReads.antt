@@ -11,9 +11,8 @@ use Rattle.std.specs.declared.cmp.Ordering.TheVariants.{Less, Equal, Greater}
 use Rattle.wire_json.specs.Json.{Json, Members, no_member, member, members_depth}
 use Rattle.wire_json.specs.Reading.{ReadsValue}
 use Rattle.wire_json.proofs.OneReading.{one_value_lemma}
-use Rattle.wire_protojson.specs.Reads.{ReadsMeaning}
 use Rattle.wire_jsonfields.specs.declared.object.Entry.{Entry}
-use Rattle.wire_jsonfields.specs.Fields.{NothingMeant}
+use Rattle.wire_jsonfields.specs.Levels.{NothingMeant, ReadsWithin}
 use Rattle.wire_jsonfields.specs.Maps.{IsNewKey, MembersPut, entries_seen}
 use Rattle.wire_jsonfields.specs.Objects.{AreEntries}
 use Rattle.wire_jsonfields.specs.OneValues.{IsOneValued}
@@ -156,7 +155,7 @@ module _ {K V : Type 0} (order : K → K → Ordering) (Key : List ℕ → K →
         let within : members_depth (member f.0 f.1 f.2) ≤ members_depth ms =
         subst (λ (l : Members). members_depth l ≤ members_depth ms) f.3 s.deep in
         let (new, reads) = f.5 in
-        nothing f.1 v new reads (omega (arith, within, fits)) means
+        nothing v new (f.1, reads, omega (arith, within, fits), means)
 
     module _ (one_key : (name : List ℕ) (j k : K) → Key name j → Key name k → j ≡ k) (k : K)
         (named : Key (cow_str_bytes entry.name) k) where
@@ -170,10 +169,10 @@ module _ {K V : Type 0} (order : K → K → Ordering) (Key : List ℕ → K →
           found_none (lookup (is_at (order k)) map) found
           (subst P (one_key f.0 j k mine again) new)
 
-      pub map_goes_on : IsOneValued Means → (v : V) (after : List ℕ)
-          → ReadsMeaning Means (drop entry.place text) v after → IsNewKey order k map
+      pub map_goes_on : IsOneValued Means → (levels : ℕ) (v : V) (after : List ℕ)
+          → ReadsWithin levels Means (drop entry.place text) v after → IsNewKey order k map
           → MapSofar rest (insert_entry order map k v) ms
-      map_goes_on one v after (json, reads, means) new =
+      map_goes_on one levels v after (json, reads, fits, means) new =
           let f = first_left in
           let (here, stands) = f.5 in
           let same = one_value_lemma json f.1 (drop entry.place text) after here reads stands in

@@ -6,7 +6,7 @@ use Rattle.wire_json.proofs.OneReading.{one_value_lemma}
 use Rattle.wire_jsonfields.specs.declared.object.Entry.{Entry}
 use Rattle.wire_protojson.specs.declared.refusal.ReadError.{ReadError}
 use Rattle.wire_protojson.specs.declared.refusal.ReadError.TheVariants.{Refused, OutOfMemory}
-use Rattle.wire_jsonfields.specs.Fields.{NothingMeant}
+use Rattle.wire_jsonfields.specs.Levels.{NothingMeant}
 use Rattle.wire_jsonfields.specs.Messages.{ObjectMeans}
 use Rattle.wire_jsonfields.specs.Objects.{AreEntries, NoObjectHere}
 use Rattle.wire_protojson.specs.Reads.{RefusedAt, UnlessNoMemory}
@@ -25,8 +25,8 @@ module _ {V : Type 0} (Say : Members → V → Type 0) (levels : ℕ) (old : Lis
   pub no_object : (text : List ℕ) (e : ReadError)
       → UnlessNoMemory e (λ refusal. RefusedAt text refusal (NoObjectHere levels old))
       → e ≢ OutOfMemory → NothingMeant levels (ObjectMeans Say) old
-  no_object text (Refused refusal) h other = λ json value new reads fits means.
-      none json value new reads fits means
+  no_object text (Refused refusal) h other = λ value new read.
+      none read.0 value new read.1 read.2 read.3
     where
       none : (json : Json) (value : V) (new : List ℕ) → ReadsValue json old new
           → depth json ≤ levels → ObjectMeans Say json value → ⊥
@@ -43,8 +43,7 @@ module _ {V : Type 0} (Say : Members → V → Type 0) (levels : ℕ) (old : Lis
   pub none_said : (ms : Members) (rest : List ℕ) → ReadsValue (object ms) old rest
       → ((value : V) → members_depth ms ≤ levels → Say ms value → ⊥)
       → NothingMeant levels (ObjectMeans Say) old
-  none_said ms rest stands says = λ json value new reads fits means.
-      none json value new reads fits means
+  none_said ms rest stands says = λ value new read. none read.0 value new read.1 read.2 read.3
     where
       none : (json : Json) (value : V) (new : List ℕ) → ReadsValue json old new
           → depth json ≤ levels → ObjectMeans Say json value → ⊥

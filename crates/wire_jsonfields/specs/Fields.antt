@@ -1,7 +1,6 @@
 -- What an object says of a field.
-use Rattle.std.specs.Prelude.{◌≡◌, ◌⊎◌, ℕ, ◌≤◌, List, [], ◌∷◌, Option, Some, None}
-use Rattle.wire_json.specs.Json.{Json, null, boolean, number, string, array, object, Members, no_member, member, depth}
-use Rattle.wire_json.specs.Reading.{ReadsValue}
+use Rattle.std.specs.Prelude.{◌≡◌, ◌⊎◌, ℕ, List, [], ◌∷◌, Option, Some, None}
+use Rattle.wire_json.specs.Json.{Json, null, boolean, number, string, array, object, Members, no_member, member}
 use Rattle.wire_jsonfields.specs.declared.known.FieldName.{FieldName}
 use Rattle.wire_jsonfields.specs.Objects.{AreValuesOf, IsNameOf}
 
@@ -35,12 +34,6 @@ abbrev pub FieldMeans : {V : Type 0} → V → (Json → V → Type 0) → (List
     → Type 0
 FieldMeans default Means Named ms value =
     (values : List Json) × AreValuesOf Named ms values × ValuesMean default Means values value
-
--- no tree that nests at most so deep is read that means a value
-abbrev pub NothingMeant : {V : Type 0} → ℕ → (Json → V → Type 0) → List ℕ → Type 0
-NothingMeant {V} levels Means old =
-    (json : Json) (value : V) (new : List ℕ) → ReadsValue json old new → depth json ≤ levels
-    → Means json value → ⊥
 
 -- a name of one of the fields
 abbrev pub IsKnown : List FieldName → List ℕ → Type 0

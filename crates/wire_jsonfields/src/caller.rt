@@ -1,9 +1,9 @@
 //! The caller of `CALLING.md`.
 ghost use Rattle.std.specs.Prelude.{◌≡◌, IfOk};
 ghost use Rattle.wire_json.specs.Json.{Json};
-ghost use Rattle.wire_json.specs.Reading.{Spells};
 ghost use Rattle.wire_json.specs.Written.{written};
 ghost use Rattle.wire_jsonfields.specs.Batch.{Batch-Value, batch-says, batch-trees};
+ghost use Rattle.wire_jsonfields.specs.Levels.{SpellsWithin};
 ghost use Rattle.wire_jsonfields.specs.Messages.{IsObjectTree, ObjectMeans};
 
 use crate::batch::Batch;
@@ -14,8 +14,8 @@ use wire_protojson::ReadError;
 /// Reads a batch from a text, in which at most 100 arrays and objects stand in one another, and
 /// writes it.
 pub fn rewrite_batch(alloc: Global, text: &[u8]) -> Result<Vec<u8>, ReadError>
-    ensures { IfOk result (λ out. (value : Batch-Value) × (read : Json) × Spells text.now read
-        × ObjectMeans batch-says read value × (json : Json)
+    ensures { IfOk result (λ out. (value : Batch-Value)
+        × SpellsWithin 100 (ObjectMeans batch-says) text.now value × (json : Json)
         × IsObjectTree batch-trees value json × (out.items ≡ written json)) }
 {
     let batch = from_json::<Batch>(alloc, text, 100)?;

@@ -7,7 +7,8 @@ ghost use Rattle.wire_json.specs.Json.{Json, Members, members_depth};
 ghost use Rattle.wire_json.specs.Kind.{kind_begun};
 ghost use Rattle.wire_json.specs.Written.{written};
 ghost use Rattle.wire_protojson.specs.declared.refusal.ReadError.TheVariants.{OutOfMemory};
-ghost use Rattle.wire_jsonfields.specs.Fields.{FieldMeans, NothingMeant};
+ghost use Rattle.wire_jsonfields.specs.Fields.{FieldMeans};
+ghost use Rattle.wire_jsonfields.specs.Levels.{NothingMeant, ReadsWithin};
 ghost use Rattle.wire_protojson.specs.Laws.{IsDecided};
 ghost use Rattle.wire_json.specs.Json.{member, no_member};
 ghost use Rattle.wire_jsonfields.specs.Messages.{IsFieldTree, comma_unless, is_no_member, text_of_members};
@@ -90,7 +91,7 @@ pub trait JsonValue {
         at: usize,
         levels: u32,
     ) -> Result<(Self::Held, usize), ReadError>
-        ensures ok { IfOk result (λ read. ReadsMeaning means (drop at text.now)
+        ensures ok { IfOk result (λ read. ReadsWithin levels means (drop at text.now)
             (view read.0) (drop read.1 text.now)) }
         ensures behind { IfOk result (λ read. IsBehind at read.1 text.now) }
         ensures err { IfErr result (λ e. e ≢ OutOfMemory

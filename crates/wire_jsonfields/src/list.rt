@@ -5,14 +5,13 @@ ghost use Rattle.wire_json.specs.Compact.{Extends};
 ghost use Rattle.wire_json.specs.Json.{Json};
 ghost use Rattle.wire_json.specs.Written.{written};
 ghost use Rattle.wire_protojson.specs.declared.refusal.ReadError.TheVariants.{OutOfMemory};
-ghost use Rattle.wire_jsonfields.specs.Fields.{NothingMeant};
+ghost use Rattle.wire_jsonfields.specs.Levels.{NothingMeant, ReadsWithin};
 ghost use Rattle.wire_jsonfields.specs.Lists.{IsListTree, ListMeans};
-ghost use Rattle.wire_protojson.specs.Reads.{ReadsMeaning};
 
 use crate::kind::{JsonKind, JsonValue, write_comma};
 use std::alloc::{AllocError, Global};
 use std::marker::PhantomData;
-use wire_json::{Mark, Next};
+use wire_json::{Fault, FaultKind, Mark, Next};
 use wire_protojson::{ReadError, no_json, no_value};
 
 /// A list, of which each element is a value of this kind; `null` is none.
@@ -62,14 +61,15 @@ impl<V: JsonValue> JsonKind for Repeated<V> {
     }
 }
 
+// The list at this place, whose elements nest one level less deep.
 fn read_elements<V: JsonValue>(
     alloc: Global,
     text: &[u8],
     at: usize,
     levels: u32,
 ) -> Result<(Vec<V::Held>, usize), ReadError>
-    ensures ok { IfOk result (λ read. ReadsMeaning (ListMeans V.means) (drop at text.now)
-        (map V.view read.0.items) (drop read.1 text.now)) }
+    ensures ok { IfOk result (λ read. ReadsWithin levels (ListMeans V.means)
+        (drop at text.now) (map V.view read.0.items) (drop read.1 text.now)) }
     ensures behind { IfOk result (λ read. IsBehind at read.1 text.now) }
     ensures err { IfErr result (λ e. e ≢ OutOfMemory
         → NothingMeant levels (ListMeans V.means) (drop at text.now)) }
@@ -79,10 +79,16 @@ fn read_elements<V: JsonValue>(
         Ok(next) => next,
         Err(_other) => return Err(no_value(at)),
     };
+    if levels == 0 {
+        return Err(no_json(Fault {
+            kind: FaultKind::TooDeep,
+            at,
+        }));
+    }
     loop {
         match next {
             Next::End(after) => return Ok((list, after)),
-            Next::Item(place) => match V::read_json(alloc, text, place, levels) {
+            Next::Item(place) => match V::read_json(alloc, text, place, levels - 1) {
                 Ok((held, after)) => {
                     push_held(&mut list, held)?;
                     next = match wire_json::next_element(text, after) {

@@ -1,14 +1,12 @@
 //! Messages, read from objects and from whole texts.
-ghost use Rattle.std.specs.Prelude.{◌≡◌, ◌≢◌, ◌≤◌, ◌++◌, drop, IfOk, IfErr, OnOk, OnErr};
+ghost use Rattle.std.specs.Prelude.{◌≡◌, ◌≢◌, ◌++◌, drop, IfOk, IfErr, OnOk, OnErr};
 ghost use Rattle.wire_json.specs.Answer.{IsBehind};
 ghost use Rattle.wire_json.specs.Compact.{Extends};
-ghost use Rattle.wire_json.specs.Json.{Json, depth};
-ghost use Rattle.wire_json.specs.Reading.{Spells};
+ghost use Rattle.wire_json.specs.Json.{Json};
 ghost use Rattle.wire_json.specs.Written.{written};
 ghost use Rattle.wire_protojson.specs.declared.refusal.ReadError.TheVariants.{OutOfMemory};
-ghost use Rattle.wire_jsonfields.specs.Fields.{NothingMeant};
+ghost use Rattle.wire_jsonfields.specs.Levels.{NothingMeant, ReadsWithin, SpellsWithin};
 ghost use Rattle.wire_jsonfields.specs.OneValues.{IsOneValued};
-ghost use Rattle.wire_protojson.specs.Reads.{ReadsMeaning};
 
 use crate::kind::{JsonKind, JsonValue};
 use std::alloc::{AllocError, Global};
@@ -39,7 +37,7 @@ pub trait JsonMessage: Drop + Sized {
         at: usize,
         levels: u32,
     ) -> Result<(Self, usize), ReadError>
-        ensures ok { IfOk result (λ read. ReadsMeaning means (drop at text.now)
+        ensures ok { IfOk result (λ read. ReadsWithin levels means (drop at text.now)
             (view read.0) (drop read.1 text.now)) }
         ensures behind { IfOk result (λ read. IsBehind at read.1 text.now) }
         ensures err { IfErr result (λ e. e ≢ OutOfMemory
@@ -69,9 +67,9 @@ pub fn to_json<M: JsonMessage>(alloc: Global, message: &M) -> Result<Vec<u8>, Al
 /// and objects stand in one another. It calls itself once for each of these.
 pub fn from_json<M: JsonMessage>(alloc: Global, text: &[u8], levels: u32) -> Result<M, ReadError>
     ensures ok { IfOk result (λ message.
-        (json : Json) × Spells text.now json × M.means json (M.view message)) }
-    ensures err { IfErr result (λ e. e ≢ OutOfMemory → (json : Json) (value : M.Value)
-        → Spells text.now json → depth json ≤ levels → M.means json value → ⊥) }
+        SpellsWithin levels M.means text.now (M.view message)) }
+    ensures err { IfErr result (λ e. e ≢ OutOfMemory → (value : M.Value)
+        → SpellsWithin levels M.means text.now value → ⊥) }
 {
     let at = wire_json::skip_space(text, 0);
     match M::read_json(alloc, text, at, levels) {

@@ -9,7 +9,7 @@ returns-in-Ok-clause-ok g c = λ ms are.
     let Named = IsNameOf c.args.field.now.name.now c.args.field.now.json_name.now in
     let only = rw c.in-Ok-Some.field-0-is at (c.in-Ok-Some.ensures.ok text ms are) in
     found_means g.K.JsonValue.absent g.K.JsonValue.means Named text ms c.in-Ok-Some.place only
-    c.if-is_null.ensures (g.K.JsonValue.view c.in-Ok.held) (drop c.in-Ok._after text)
+    c.if-is_null.ensures c.args.levels (g.K.JsonValue.view c.in-Ok.held) (drop c.in-Ok._after text)
     c.in-Ok.ensures.ok
 
 pub returns-in-Err-read_json-clause-err : goal.returns-in-Err-read_json-clause-err

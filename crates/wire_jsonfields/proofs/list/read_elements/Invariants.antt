@@ -1,6 +1,6 @@
-use Rattle.std.proofs.Common.{◌≡◌, ℕ, List, ◌∷◌, map, drop}
+use Rattle.std.proofs.Common.{◌≡◌, ◌≤◌, ℕ, suc, List, ◌∷◌, map, drop}
 use Rattle.wire_json.specs.Container.{NextIsBehind}
-use Rattle.wire_json.specs.Json.{Elements}
+use Rattle.wire_json.specs.Json.{Elements, elements_depth}
 use Rattle.wire_json.proofs.Elements.{left_at}
 use Rattle.wire_jsonfields.specs.Lists.{EachMeans}
 use Rattle.wire_jsonfields.proofs.Listing.{ListSofar}
@@ -9,7 +9,7 @@ use Rattle.wire_jsonfields.proofs.list.read_elements.Given as goal
 abbrev pub invariant-loop-next : goal.invariant-loop-next
 invariant-loop-next g l = record {
   sofar : (inside : List ℕ) × (so : Elements) × (drop l.at l.text ≡ 91 ∷ inside)
-      × ListSofar l.text inside l.next so
+      × ListSofar l.text inside l.next so × (suc (elements_depth so) ≤ l.levels)
       × EachMeans g.V.JsonValue.means so (map g.V.JsonValue.view l.list.items);
   onward : NextIsBehind l.at l.next l.text;
 }

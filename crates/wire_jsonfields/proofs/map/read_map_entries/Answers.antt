@@ -1,7 +1,7 @@
 use Rattle.std.proofs.Common.{◌+◌, List, drop, sym, ◌∙◌, subst}
 use Rattle.wire_jsonfields.specs.declared.object.Entry.{Entry}
 use Rattle.wire_jsonfields.specs.Maps.{entries_seen}
-use Rattle.wire_jsonfields.proofs.MapReads.{MapSofar, map_goes_on, next_member, none_found, old_key, seen_found, seen_insert}
+use Rattle.wire_jsonfields.proofs.MapReads.{MapSofar, map_goes_on, next_member, no_value, none_found, old_key, seen_found, seen_insert}
 use Rattle.wire_jsonfields.proofs.map.read_map_entries.Goals as goal
 
 pub returns-then-has_key-clause-err : goal.returns-then-has_key-clause-err
@@ -22,6 +22,20 @@ returns-then-has_key-clause-err g c = λ other ms are fits.
     (sym (seen_found key.view value.view _ key.order g.met.K.JsonKey.ordered c.loop-entry.map.entries
     c.in-Ok-Some.key) ∙ sym c.has_key.ensures ∙ c.if-has_key.true)
 
+pub returns-in-Err-read_json-clause-err : goal.returns-in-Err-read_json-clause-err
+returns-in-Err-read_json-clause-err g c = λ other ms are fits.
+    let key = g.K.JsonKey in
+    let value = g.V.JsonValue in
+    let entries = c.args.entries.now in
+    let i = c.loop-entry.entry-index in
+    let item = c.entry-item.result in
+    let map = entries_seen key.view value.view c.loop-entry.map.entries in
+    let P : List Entry → Type 0 = λ l. MapSofar key.order key.means value.means c.args.text.now l map ms in
+    let sofar = subst P (next_member entries i item c.loop-entry-test.true c.entry-item.is)
+    (c.loop-entry.invariant ms are) in
+    no_value key.order key.means value.means c.args.text.now item (drop (i + 1) entries) map ms sofar
+    c.args.levels (c.in-Err-read_json.ensures.err other) fits
+
 pub loop-entry-preserved : goal.loop-entry-preserved
 loop-entry-preserved g c = λ ms are.
     let key = g.K.JsonKey in
@@ -41,7 +55,7 @@ loop-entry-preserved g c = λ ms are.
     ∙ sym c.has_key.ensures ∙ c.if-has_key.false) in
     let next = map_goes_on key.order key.means value.means text item (drop (i + 1) entries) map ms
     sofar g.met.K.JsonKey.one_key (key.view c.in-Ok-Some.key) named g.met.V.JsonValue.one_value
-    (value.view c.in-Ok.value) _ c.in-Ok.ensures.ok new in
+    c.args.levels (value.view c.in-Ok.value) _ c.in-Ok.ensures.ok new in
     let put = seen_insert key.view value.view _ key.order g.met.K.JsonKey.ordered held
     c.in-Ok-Some.key c.in-Ok.value in
     rw (c.in_ok-put_entry-in-Ok.ensures, put) next

@@ -85,6 +85,7 @@ returns-clause-ok c =
     c.as_slice-entries.ensures.value are in (
       object ms,
       reads,
+      fits,
       (
         c.in_ok-check_names.ensures.ok text ms entries,
         c.in_ok-level.ensures.ok ms entries,

@@ -10,7 +10,7 @@ returns-in-Ok-read_map_entries-clause-ok g c =
     let (ms, reads, fits, are) = c.in-Ok.ensures.ok in
     let entries = in_slice text ms c.as_slice.result.now c.in-Ok.object.entries.items
     c.as_slice.ensures.value are in
-    (object ms, reads, c.in-Ok-read_map_entries.ensures.ok ms entries)
+    (object ms, reads, fits, c.in-Ok-read_map_entries.ensures.ok ms entries)
 
 pub returns-in-Ok-clause-err : goal.returns-in-Ok-clause-err
 returns-in-Ok-clause-err g c = λ other.
