@@ -4,6 +4,7 @@ pub mod Choosing
 pub mod EnumBack
 pub mod FieldReads
 pub mod Finding
+pub mod Firsts
 pub mod Gathering
 pub mod KeyBack
 pub mod Knowing

@@ -3,6 +3,7 @@ pub mod Batch
 pub mod Boxes
 pub mod EnumFields
 pub mod Fields
+pub mod Firsts
 pub mod Keys
 pub mod Levels
 pub mod Lists

@@ -1,8 +1,11 @@
 //! Names of fields.
-ghost use Rattle.std.specs.Prelude.{ℕ, List, MatchBool, OnErr, OnOk};
+ghost use Rattle.std.specs.Prelude.{◌≡◌, ℕ, List, IfErr, MatchBool, OnErr, OnOk};
 ghost use Rattle.std.specs.Cow.{cow_str_bytes};
 ghost use Rattle.wire_json.specs.Json.{Members};
+ghost use Rattle.wire_protojson.specs.declared.refusal.ReadError.TheVariants.{Refused};
+ghost use Rattle.wire_protojson.specs.declared.refusal.Reason.TheVariants.{UnknownName};
 ghost use Rattle.wire_jsonfields.specs.Fields.{EachKnown, IsKnown};
+ghost use Rattle.wire_jsonfields.specs.Firsts.{IsUnknown, StandsFirst};
 ghost use Rattle.wire_jsonfields.specs.Objects.{AreEntries, IsNameOf};
 
 use crate::object::Entry;
@@ -15,12 +18,15 @@ pub struct FieldName {
     pub json_name: &'static str,
 }
 
-/// Whether each member is of a field. The value of one that is not is refused at its place.
+/// Whether each member is of a field. The value of the first that is not is refused at its place.
 pub fn check_names(entries: &[Entry<'_>], fields: &[FieldName]) -> Result<(), ReadError>
     ensures ok { OnOk result ((text : List ℕ) (ms : Members) → AreEntries text entries.now ms
         → EachKnown (IsKnown fields.now) ms) }
     ensures err { OnErr result ((text : List ℕ) (ms : Members) → AreEntries text entries.now ms
         → EachKnown (IsKnown fields.now) ms → ⊥) }
+    ensures which { IfErr result (λ e. (first : Entry) × (behind : List Entry)
+        × StandsFirst (IsUnknown fields.now) entries.now first behind
+        × (e ≡ Refused (record { reason = UnknownName; at = first.place }))) }
 {
     for entry in entries {
         if !is_known(fields, entry) {
@@ -51,7 +57,9 @@ fn is_of(field: &FieldName, entry: &Entry<'_>) -> bool
     called == field.name || called == field.json_name
 }
 
-fn unknown(at: usize) -> ReadError {
+fn unknown(at: usize) -> ReadError
+    ensures { result ≡ Refused (record { reason = UnknownName; at = at }) }
+{
     ReadError::Refused(Refusal {
         reason: Reason::UnknownName,
         at,

@@ -1,6 +1,8 @@
 //! Oneofs, of whose members at most one has a value.
-ghost use Rattle.std.specs.Prelude.{◌≢◌};
-ghost use Rattle.wire_protojson.specs.declared.refusal.ReadError.TheVariants.{OutOfMemory};
+ghost use Rattle.std.specs.Prelude.{◌≡◌, ◌≤◌, ℕ, List, drop, length, IfNone, IfSome, MatchBool};
+ghost use Rattle.wire_protojson.specs.declared.refusal.ReadError.TheVariants.{Refused};
+ghost use Rattle.wire_protojson.specs.declared.refusal.Reason.TheVariants.{SecondOfOneof};
+ghost use Rattle.wire_jsonfields.specs.Firsts.{HasValue, HoldsOfNone, IsSecondPlace, StandsFirst};
 
 use crate::kind::is_null;
 use crate::known::{FieldName, is_known};
@@ -10,19 +12,55 @@ use wire_protojson::{ReadError, Reason, Refusal};
 /// The refusal of a oneof of which more than one of these fields has a value, at the second value;
 /// where one has, at it, and where none has, at the beginning of the text. `null` is none.
 pub fn second_of_oneof(text: &[u8], entries: &[Entry<'_>], fields: &[FieldName]) -> ReadError
-    ensures { result ≢ OutOfMemory }
+    ensures { (place : ℕ) × IsSecondPlace (HasValue fields.now text.now) entries.now place
+        × (result ≡ Refused (record { reason = SecondOfOneof; at = place })) }
 {
-    let mut at = 0;
-    let mut found = false;
+    match first_value(text, entries, fields) {
+        None => second(0),
+        Some(first) => match first_value(text, &entries[first.behind..], fields) {
+            None => second(first.place),
+            Some(value) => second(value.place),
+        },
+    }
+}
+
+// The place of a value, and the index behind its entry.
+#[derive(Clone, Copy)]
+struct FirstValue {
+    place: usize,
+    behind: usize,
+}
+
+fn first_value(text: &[u8], entries: &[Entry<'_>], fields: &[FieldName]) -> Option<FirstValue>
+    ensures some { IfSome result (λ first. (entry : Entry)
+        × StandsFirst (HasValue fields.now text.now) entries.now entry
+        (drop first.behind entries.now) × (first.place ≡ entry.place)) }
+    ensures within { IfSome result (λ first. first.behind ≤ length entries.now) }
+    ensures none { IfNone result (HoldsOfNone (HasValue fields.now text.now) entries.now) }
+{
+    let mut behind = 0;
     for entry in entries {
-        if is_known(fields, entry) && !is_null(text, entry.place) {
-            at = entry.place;
-            if found {
-                break;
-            }
-            found = true;
+        behind += 1;
+        if has_value(text, entry, fields) {
+            return Some(FirstValue {
+                place: entry.place,
+                behind,
+            });
         }
     }
+    None
+}
+
+fn has_value(text: &[u8], entry: &Entry<'_>, fields: &[FieldName]) -> bool
+    ensures { MatchBool result (HasValue fields.now text.now entry.now)
+        (HasValue fields.now text.now entry.now → ⊥) }
+{
+    is_known(fields, entry) && !is_null(text, entry.place)
+}
+
+fn second(at: usize) -> ReadError
+    ensures { result ≡ Refused (record { reason = SecondOfOneof; at = at }) }
+{
     ReadError::Refused(Refusal {
         reason: Reason::SecondOfOneof,
         at,
