@@ -1,27 +1,32 @@
 -- What is written of a `Batch` is read as it: a part a field, and one for the oneof.
-use Rattle.std.proofs.Common.{◌≡◌, ◌⊎◌, ℕ, List, [], ◌∷◌, ◌++◌, Option, Some, None, inl, inr, refl, sym, ap, ◌∙◌, subst}
+use Rattle.std.proofs.Common.{◌≡◌, ◌⊎◌, ℕ, suc, ◌≤◌, List, [], ◌∷◌, Option, Some, None, inl, inr, refl, sym, ap, ◌∙◌, subst, arith}
+use Rattle.std.proofs.lemmas.Cmp.{nat_list_cmp_total}
 use Rattle.std.specs.Cmp.Lexicographic.{slice_cmp}
 use Rattle.std.specs.Int.{w64}
+use Rattle.std.specs.List.{AllByRecursion}
 use Rattle.std.specs.Ordering.{nat_cmp}
 use Rattle.std.specs.Prelude.{ℤ, pos, codes, IsUtf8}
-use Rattle.wire_json.specs.Json.{Json, string, object, Members, IsLawful}
+use Rattle.wire_json.specs.Json.{Json, null, string, object, Members, IsLawful, depth, members_depth}
 use Rattle.wire_protojson.specs.Enums.{AreTexts, IsEnumTree, MeansEnum, NamesAgree}
 use Rattle.wire_protojson.specs.Numbers.{MeansSigned}
 use Rattle.wire_protojson.specs.Scalars.{MeansString}
 use Rattle.wire_protojson.specs.Trees.{long_signed_tree}
 use Rattle.wire_protojson.proofs.ReadBack.{by_meaning}
-use Rattle.wire_jsonfields.specs.Back.{EachComesBack, EntriesComeBack}
-use Rattle.wire_jsonfields.specs.Batch.{AreSamplesInRange, AreTotalsInRange, Batch-Value, BatchReadsBack, IsBatchInRange, IsOfFile, IsOfLevel, IsOfSamples, IsOfTemplate, IsOfTotals, IsOriginInRange, Origin-Value, batch-says, level-names, origin-says, origin-trees}
+use Rattle.wire_jsonfields.specs.Back.{ComesBack, EachComesBack, EntriesComeBack}
+use Rattle.wire_jsonfields.specs.Batch.{AreSamplesInRange, AreTotalsInRange, Batch-Value, BatchIsRead, BatchReadsBack, IsBatchInRange, IsOfFile, IsOfLevel, IsOfSamples, IsOfTemplate, IsOfTotals, IsOriginInRange, Origin-Value, batch-says, batch-trees, level-names, origin-says, origin-trees}
 use Rattle.wire_jsonfields.specs.Fields.{FieldMeans, MeansSome}
+use Rattle.wire_jsonfields.specs.Flat.{flat_enum, flat_tree}
+use Rattle.wire_jsonfields.specs.Levels.{WritesWithin}
 use Rattle.wire_jsonfields.specs.Lists.{IsListTree, ListMeans}
 use Rattle.wire_jsonfields.specs.Maps.{IsMapTree, MapMeans}
 use Rattle.wire_jsonfields.specs.Messages.{IsFieldTree, IsObjectTree, ObjectMeans, members_joined}
 use Rattle.wire_jsonfields.specs.Sample.{Sample-Value, sample-says, sample-trees}
-use Rattle.wire_jsonfields.proofs.Back.{list_back, map_back}
+use Rattle.wire_jsonfields.proofs.Back.{list_back, map_back, read_from}
+use Rattle.wire_jsonfields.proofs.Depths.{field_within, flat_within, joined_within, list_within, map_within, member_within, none_within}
 use Rattle.wire_jsonfields.proofs.EnumBack.{enum_back}
 use Rattle.wire_jsonfields.proofs.MessageBack.{name_is_text}
 use Rattle.wire_jsonfields.proofs.Parts.{PartBack, apart_from_either, apart_of_either, both_part, field_part, known_weaker, left_part, member_part, names_apart, no_part, none_part, right_part, said_alone}
-use Rattle.wire_jsonfields.proofs.SampleBack.{count_back, sample_back, string_back}
+use Rattle.wire_jsonfields.proofs.SampleBack.{count_back, sample_back, sample_within, string_back}
 
 -- ---- the enum
 
@@ -63,11 +68,10 @@ Key text k = text ≡ k
 abbrev TotalTree : ℤ → Json → Type 0
 TotalTree z json = json ≡ long_signed_tree z
 
-totals_back : (before es : List ((List ℕ) × ℤ)) → AreTotalsInRange before es
-    → EntriesComeBack (slice_cmp nat_cmp) Key (λ k. k) (MeansSigned w64) TotalTree before es
-totals_back before [] h = tt
-totals_back before (e ∷ es) h =
-    (h.0, refl, h.1, count_back e.1 h.2, totals_back (before ++ e ∷ []) es h.3)
+totals_back : (es : List ((List ℕ) × ℤ)) → AreTotalsInRange es
+    → EntriesComeBack Key (λ k. k) (MeansSigned w64) TotalTree es
+totals_back [] h = tt
+totals_back (e ∷ es) h = (h.0, refl, count_back e.1 h.1, totals_back es h.2)
 
 -- ---- the oneof
 
@@ -167,8 +171,8 @@ module _ (v : Batch-Value) (range : IsBatchInRange v) (level samples totals orig
       field_part [] (MapMeans (slice_cmp nat_cmp) Key (MeansSigned w64))
       (IsMapTree (λ k. k) TotalTree) (codes "totals") (codes "totals") v.2 totals totals_tree
       (name_is_text (codes "totals") refl)
-      (λ other. map_back (slice_cmp nat_cmp) Key (λ k. k) (MeansSigned w64) TotalTree v.2
-      (totals_back [] v.2 range.2))
+      (λ other. map_back (slice_cmp nat_cmp) nat_list_cmp_total Key (λ k. k) (MeansSigned w64)
+      TotalTree v.2 range.2 (totals_back v.2 range.3))
 
   parts2 : PartBack {V = Value2} Own2 Say2 (v.0, v.1) (members_joined level samples)
   parts2 =
@@ -190,7 +194,7 @@ module _ (v : Batch-Value) (range : IsBatchInRange v) (level samples totals orig
   parts4 =
       both_part Own3 OwnOrigin Say3 origin-says ((v.0, v.1), v.2) v.3
       (members_joined (members_joined level samples) totals) origin parts3
-      (origin_part v.3 range.3 origin origin_tree)
+      (origin_part v.3 range.4 origin origin_tree)
       (apart_of_either (apart_of_either
       (apart_from_either
       (names_apart (codes "level") (codes "level") (codes "file") (codes "file") refl)
@@ -223,10 +227,72 @@ module _ (v : Batch-Value) (range : IsBatchInRange v) (level samples totals orig
       let whole = said_alone {V = Value4} Own4 Say4 (((v.0, v.1), v.2), v.3) all parts4 in
       (known_weaker known all parts4.own, whole.0.0.0, whole.0.0.1, whole.0.1, whole.1)
 
-pub batch_read_back : BatchReadsBack
-batch_read_back v json range (all, (level, samples, totals, origin, lt, st, tt_, ot, is), tree) =
+object_not_null : (ms : Members) (e : Json) → e ≡ object ms → e ≡ null → ⊥
+object_not_null ms e is h = absurd cc
+
+batch_back : (v : Batch-Value) → IsBatchInRange v
+    → ComesBack (ObjectMeans batch-says) (IsObjectTree batch-trees) v
+batch_back v range json (all, (level, samples, totals, origin, lt, st, tt_, ot, is), tree) =
     let same = tree ∙ ap object is in
     let P : Json → Type 0 = λ j. ObjectMeans batch-says j v in
-    by_meaning (ObjectMeans batch-says) v json
-    (subst IsLawful (sym same) (lawful v range level samples totals origin lt st tt_ ot))
-    (subst P (sym same) (said v range level samples totals origin lt st tt_ ot))
+    record {
+      lawful = subst IsLawful (sym same) (lawful v range level samples totals origin lt st tt_ ot);
+      means = subst P (sym same) (said v range level samples totals origin lt st tt_ ot);
+      present = object_not_null _ json same;
+    }
+
+pub batch_read_back : BatchReadsBack
+batch_read_back v json range tree =
+    let b = batch_back v range json tree in
+    by_meaning (ObjectMeans batch-says) v json b.lawful b.means
+
+-- ---- its levels
+
+each_sample : (vs : List Sample-Value) → AllByRecursion (WritesWithin 1 SampleTree) vs
+each_sample [] = tt
+each_sample (v ∷ vs) = (sample_within v, each_sample vs)
+
+each_total : (es : List ((List ℕ) × ℤ)) → AllByRecursion (λ e. WritesWithin 0 TotalTree e.1) es
+each_total [] = tt
+each_total (e ∷ es) =
+    (flat_within TotalTree (λ z. flat_tree (long_signed_tree z) refl) 0 e.1, each_total es)
+
+more_levels : {V : Type 0} (Tree : V → Json → Type 0) (v : V) (few many : ℕ) → few ≤ many
+    → WritesWithin few Tree v → WritesWithin many Tree v
+more_levels Tree v few many up h json is =
+    let deep = h json is in
+    omega (arith, deep, up)
+
+origin_within : (v : Option Origin-Value) (ms : Members) → origin-trees v ms → members_depth ms ≤ 2
+origin_within None ms tree = none_within 2 ms tree
+origin_within (Some (inl file)) ms tree =
+    member_within StringTree (codes "file") 2 file ms
+    (flat_within StringTree (λ s. flat_tree (string s) refl) 2 file) tree
+origin_within (Some (inr sample)) ms tree =
+    member_within SampleTree (codes "templateSample") 2 sample ms
+    (more_levels SampleTree sample 1 2 (omega arith) (sample_within sample)) tree
+
+batch_within : (v : Batch-Value) → WritesWithin 3 (IsObjectTree batch-trees) v
+batch_within v json (all, (level, samples, totals, origin, lt, st, tt_, ot, is), tree) =
+    let LevelTree = IsEnumTree level-names in
+    let MapTree = IsMapTree (λ k. k) TotalTree in
+    let a = field_within LevelTree (codes "level") 2 v.0 level
+    (flat_within LevelTree (flat_enum level-names) 2 v.0) (pos 0) lt in
+    let b = field_within (IsListTree SampleTree) (codes "samples") 2 v.1 samples
+    (list_within SampleTree 1 v.1 (each_sample v.1)) [] st in
+    let c = field_within MapTree (codes "totals") 2 v.2 totals
+    (more_levels MapTree v.2 1 2 (omega arith)
+    (map_within TotalTree 0 (λ k. k) v.2 (each_total v.2))) [] tt_ in
+    let d = origin_within v.3 origin ot in
+    let three = members_joined (members_joined level samples) totals in
+    let deep = joined_within 2 three origin
+    (joined_within 2 (members_joined level samples) totals (joined_within 2 level samples a b) c)
+    d in
+    let same : depth json ≡ suc (members_depth (members_joined three origin)) =
+    ap depth (tree ∙ ap object is) in
+    omega (arith, deep, same)
+
+pub batch_is_read : BatchIsRead
+batch_is_read v json range tree =
+    (read_from (ObjectMeans batch-says) json v (batch_back v range json tree) 3).0
+    (batch_within v json tree)

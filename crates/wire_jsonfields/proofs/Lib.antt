@@ -1,6 +1,8 @@
+pub mod Ascending
 pub mod Back
 pub mod BatchBack
 pub mod Choosing
+pub mod Depths
 pub mod EnumBack
 pub mod FieldReads
 pub mod Finding

@@ -1,18 +1,22 @@
 -- What is written of a `Sample` is read as it: a part a field.
-use Rattle.std.proofs.Common.{◌≡◌, ◌≢◌, ◌⊎◌, ℕ, true, false, List, [], Option, Some, None, inl, inr, refl, sym, ap, ◌∙◌, subst}
+use Rattle.std.proofs.Common.{◌≡◌, ◌≢◌, ◌⊎◌, ℕ, suc, true, false, List, [], Option, Some, None, inl, inr, refl, sym, ap, ◌∙◌, subst, arith}
 use Rattle.std.proofs.lemmas.Str.{IsUtf8-from_ascii}
 use Rattle.std.specs.Prelude.{ℤ, codes, FitsSigned, IsUtf8}
 use Rattle.std.specs.Float.{Float, binary64, float_zero, nan, inf, fin}
 use Rattle.std.specs.Int.{w64}
 use Rattle.itoa.proofs.Decimal.{IsAscii-signed_decimal}
-use Rattle.wire_json.specs.Json.{Json, null, number, string, object, Members, IsLawful}
+use Rattle.wire_json.specs.Json.{Json, null, number, string, object, Members, IsLawful, depth, members_depth}
 use Rattle.wire_jsonfields.specs.Back.{ComesBack, IsBack}
 use Rattle.wire_jsonfields.specs.Fields.{FieldMeans, IsSomeTree, MeansSome}
+use Rattle.wire_jsonfields.specs.Flat.{flat_float, flat_tree}
+use Rattle.wire_jsonfields.specs.Levels.{WritesWithin}
 use Rattle.wire_jsonfields.specs.Messages.{IsFieldTree, IsObjectTree, ObjectMeans, members_joined}
 use Rattle.wire_protojson.specs.Numbers.{MeansFloat, MeansSigned}
-use Rattle.wire_jsonfields.specs.Sample.{IsOfCount, IsOfName, IsOfValue, IsSampleInRange, SampleReadsBack, Sample-Value, sample-says, sample-trees}
+use Rattle.wire_jsonfields.specs.Sample.{IsOfCount, IsOfName, IsOfValue, IsSampleInRange, SampleIsRead, SampleReadsBack, Sample-Value, sample-says, sample-trees}
 use Rattle.wire_protojson.specs.Scalars.{MeansString}
 use Rattle.wire_protojson.specs.Trees.{IsFloatTree, long_signed_tree}
+use Rattle.wire_jsonfields.proofs.Back.{read_from}
+use Rattle.wire_jsonfields.proofs.Depths.{field_within, flat_within, joined_within, some_within}
 use Rattle.wire_jsonfields.proofs.MessageBack.{name_is_text}
 use Rattle.wire_jsonfields.proofs.Parts.{PartBack, apart_of_either, both_part, field_part, known_weaker, names_apart, said_alone}
 use Rattle.wire_protojson.proofs.ReadBack.{by_meaning, float_means, signed_back, spells_integer}
@@ -149,6 +153,27 @@ sample_back v range json (all, (name, value, count, name_tree, value_tree, count
           (said v range name value count name_tree value_tree count_tree);
       present = object_not_null _ json same;
     }
+
+pub sample_within : (v : Sample-Value) → WritesWithin 1 (IsObjectTree sample-trees) v
+sample_within v json (all, (name, value, count, name_tree, value_tree, count_tree, is), tree) =
+    let a = field_within StringTree (codes "name") 0 v.0 name
+    (flat_within StringTree (λ s. flat_tree (string s) refl) 0 v.0) [] name_tree in
+    let b = field_within (IsFloatTree binary64) (codes "value") 0 v.1 value
+    (flat_within (IsFloatTree binary64) (flat_float binary64) 0 v.1) float_zero value_tree in
+    let Count : ℤ → Json → Type 0 = λ z e. e ≡ long_signed_tree z in
+    let c = field_within CountTree (codes "sampleCount") 0 v.2 count
+    (some_within Count 0 (flat_within Count (λ z. flat_tree (long_signed_tree z) refl) 0) v.2)
+    None count_tree in
+    let joined = members_joined (members_joined name value) count in
+    let deep = joined_within 0 (members_joined name value) count
+    (joined_within 0 name value a b) c in
+    let same : depth json ≡ suc (members_depth joined) = ap depth (tree ∙ ap object is) in
+    omega (arith, deep, same)
+
+pub sample_is_read : SampleIsRead
+sample_is_read v json range tree =
+    (read_from (ObjectMeans sample-says) json v (sample_back v range json tree) 1).0
+    (sample_within v json tree)
 
 pub sample_read_back : SampleReadsBack
 sample_read_back v json range tree =

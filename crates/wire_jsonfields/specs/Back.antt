@@ -1,7 +1,5 @@
 -- What is written of a value is read as that value.
-use Rattle.std.specs.Prelude.{◌≡◌, ℕ, List, [], ◌∷◌, ◌++◌, IsUtf8}
-use Rattle.std.specs.declared.cmp.Ordering.{Ordering}
-use Rattle.std.specs.declared.cmp.Ordering.TheVariants.{Greater}
+use Rattle.std.specs.Prelude.{◌≡◌, ℕ, List, [], ◌∷◌, IsUtf8}
 use Rattle.wire_json.specs.Json.{Json, null, IsLawful}
 use Rattle.wire_json.specs.Reading.{Spells}
 
@@ -21,21 +19,13 @@ abbrev pub EachComesBack : {V : Type 0} → (Json → V → Type 0) → (V → J
 EachComesBack Means Tree [] = Unit {0}
 EachComesBack Means Tree (v ∷ vs) = ComesBack Means Tree v × EachComesBack Means Tree vs
 
--- the key is above each key of these entries
-abbrev pub IsAboveEach : {K V : Type 0} → (K → K → Ordering) → K → List (K × V) → Type 0
-IsAboveEach order k [] = Unit {0}
-IsAboveEach order k (e ∷ es) = (order k e.0 ≡ Greater) × IsAboveEach order k es
-
--- the name of each key is UTF-8 and means it, each key is above those before it, and each value
--- comes back
-abbrev pub EntriesComeBack : {K V : Type 0} → (K → K → Ordering) → (List ℕ → K → Type 0)
-    → (K → List ℕ) → (Json → V → Type 0) → (V → Json → Type 0) → List (K × V) → List (K × V)
-    → Type 0
-EntriesComeBack order Key name Means Tree before [] = Unit {0}
-EntriesComeBack order Key name Means Tree before (e ∷ es) =
-    IsUtf8 (name e.0) × Key (name e.0) e.0 × IsAboveEach order e.0 before
-    × ComesBack Means Tree e.1
-    × EntriesComeBack order Key name Means Tree (before ++ e ∷ []) es
+-- the name of each key is UTF-8 and means it, and each value comes back
+abbrev pub EntriesComeBack : {K V : Type 0} → (List ℕ → K → Type 0) → (K → List ℕ)
+    → (Json → V → Type 0) → (V → Json → Type 0) → List (K × V) → Type 0
+EntriesComeBack Key name Means Tree [] = Unit {0}
+EntriesComeBack Key name Means Tree (e ∷ es) =
+    IsUtf8 (name e.0) × Key (name e.0) e.0 × ComesBack Means Tree e.1
+    × EntriesComeBack Key name Means Tree es
 
 -- a text spells one value at most
 abbrev pub SpellsOneValue : {V : Type 0} → (Json → V → Type 0) → Type 0

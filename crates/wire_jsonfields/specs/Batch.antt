@@ -1,10 +1,13 @@
 -- `Batch` as contracts see it, and what an object says of it.
-use Rattle.std.proofs.Common.{inl, inr}
-use Rattle.std.specs.Prelude.{◌≡◌, ◌⊎◌, ℕ, ℤ, pos, List, [], ◌∷◌, ◌++◌, map, codes, Option, Some, None, option_map, string_bytes, box_value, FitsSigned, IsUtf8}
+use Rattle.std.proofs.Common.{inl, inr, refl}
+use Rattle.std.specs.Prelude.{◌≡◌, ◌⊎◌, ℕ, ℤ, pos, List, [], ◌∷◌, map, codes, Option, Some, None, option_map, string_bytes, box_value, FitsSigned, IsUtf8}
 use Rattle.std.specs.Cmp.Lexicographic.{slice_cmp}
 use Rattle.std.specs.Int.{w32, w64}
+use Rattle.std.specs.List.Sorted.{IsStrictlySortedBy}
+use Rattle.std.specs.Map.{keys_of}
 use Rattle.std.specs.Ordering.{nat_cmp}
-use Rattle.wire_json.specs.Json.{Json, Members, string}
+use Rattle.wire_json.specs.Json.{Json, Members, no_member, string}
+use Rattle.wire_json.specs.Written.{written}
 use Rattle.wire_protojson.specs.DecidedScalars.{signed_decided, strings_decided}
 use Rattle.wire_protojson.specs.Enums.{EnumTable, IsEnumTree, MeansEnum}
 use Rattle.wire_protojson.specs.Laws.{IsReadAs}
@@ -16,10 +19,10 @@ use Rattle.wire_jsonfields.specs.declared.batch.Level.{Level}
 use Rattle.wire_jsonfields.specs.declared.batch.Level.TheVariants.{Low, High, Unknown}
 use Rattle.wire_jsonfields.specs.declared.batch.Origin.{Origin}
 use Rattle.wire_jsonfields.specs.declared.batch.Origin.TheVariants.{File, Template}
-use Rattle.wire_jsonfields.specs.Back.{IsAboveEach}
 use Rattle.wire_jsonfields.specs.EnumFields.{enum_decided}
-use Rattle.wire_jsonfields.specs.Fields.{EachKnown, FieldMeans, MeansSome}
+use Rattle.wire_jsonfields.specs.Fields.{EachKnown, FieldMeans, MeansSome, unsaid}
 use Rattle.wire_jsonfields.specs.Keys.{one_text_key}
+use Rattle.wire_jsonfields.specs.Levels.{SpellsWithin}
 use Rattle.wire_jsonfields.specs.Lists.{IsListTree, ListMeans}
 use Rattle.wire_jsonfields.specs.Maps.{IsMapTree, MapMeans, entries_seen}
 use Rattle.wire_jsonfields.specs.Messages.{IsFieldTree, IsObjectTree, ObjectMeans, members_joined}
@@ -94,6 +97,21 @@ batch-says ms v =
     ms v.2
     × origin-says ms v.3
 
+pub batch-unsaid : batch-says no_member batch-default
+batch-unsaid = (
+  tt,
+  unsaid (pos 0) (MeansEnum level-names) IsOfLevel,
+  unsaid [] (ListMeans (ObjectMeans sample-says)) IsOfSamples,
+  unsaid [] (MapMeans (slice_cmp nat_cmp) (λ text k. text ≡ k) (MeansSigned w64)) IsOfTotals,
+  (
+    None,
+    None,
+    unsaid None (MeansSome MeansString) IsOfFile,
+    unsaid None (MeansSome (ObjectMeans sample-says)) IsOfTemplate,
+    refl,
+  ),
+)
+
 pub one_file : SayOne (FieldMeans None (MeansSome MeansString) IsOfFile)
 one_file =
     one_field None (MeansSome MeansString) (one_some MeansString strings_decided.one_meaning)
@@ -151,12 +169,10 @@ abbrev pub AreSamplesInRange : List Sample-Value → Type 0
 AreSamplesInRange [] = Unit {0}
 AreSamplesInRange (v ∷ vs) = IsSampleInRange v × AreSamplesInRange vs
 
--- each key is UTF-8 and above those before it, and each value has 64 bits
-abbrev pub AreTotalsInRange : List ((List ℕ) × ℤ) → List ((List ℕ) × ℤ) → Type 0
-AreTotalsInRange before [] = Unit {0}
-AreTotalsInRange before (e ∷ es) =
-    IsUtf8 e.0 × IsAboveEach (slice_cmp nat_cmp) e.0 before × FitsSigned w64 e.1
-    × AreTotalsInRange (before ++ e ∷ []) es
+-- each key is UTF-8, and each value has 64 bits
+abbrev pub AreTotalsInRange : List ((List ℕ) × ℤ) → Type 0
+AreTotalsInRange [] = Unit {0}
+AreTotalsInRange (e ∷ es) = IsUtf8 e.0 × FitsSigned w64 e.1 × AreTotalsInRange es
 
 abbrev pub IsOriginInRange : Option Origin-Value → Type 0
 IsOriginInRange None = Unit {0}
@@ -165,10 +181,18 @@ IsOriginInRange (Some (inr sample)) = IsSampleInRange sample
 
 abbrev pub IsBatchInRange : Batch-Value → Type 0
 IsBatchInRange v =
-    FitsSigned w32 v.0 × AreSamplesInRange v.1 × AreTotalsInRange [] v.2 × IsOriginInRange v.3
+    FitsSigned w32 v.0 × AreSamplesInRange v.1
+    × IsStrictlySortedBy (slice_cmp nat_cmp) (keys_of v.2) × AreTotalsInRange v.2
+    × IsOriginInRange v.3
 
 -- what is written of a value is read as it
 abbrev pub BatchReadsBack : Type 0
 BatchReadsBack =
     (v : Batch-Value) (json : Json) → IsBatchInRange v → IsObjectTree batch-trees v json
     → IsReadAs (ObjectMeans batch-says) v json
+
+-- and so is its text, at three levels
+abbrev pub BatchIsRead : Type 0
+BatchIsRead =
+    (v : Batch-Value) (json : Json) → IsBatchInRange v → IsObjectTree batch-trees v json
+    → SpellsWithin 3 (ObjectMeans batch-says) (written json) v

@@ -1,4 +1,5 @@
 -- What an object says of a field.
+use Rattle.std.proofs.Common.{refl}
 use Rattle.std.specs.Prelude.{◌≡◌, ◌⊎◌, ℕ, List, [], ◌∷◌, Option, Some, None}
 use Rattle.wire_json.specs.Json.{Json, null, boolean, number, string, array, object, Members, no_member, member}
 use Rattle.wire_jsonfields.specs.declared.known.FieldName.{FieldName}
@@ -34,6 +35,11 @@ abbrev pub FieldMeans : {V : Type 0} → V → (Json → V → Type 0) → (List
     → Type 0
 FieldMeans default Means Named ms value =
     (values : List Json) × AreValuesOf Named ms values × ValuesMean default Means values value
+
+-- where there are no members a field is absent
+pub unsaid : {V : Type 0} (default : V) (Means : Json → V → Type 0) (Named : List ℕ → Type 0)
+    → FieldMeans default Means Named no_member default
+unsaid default Means Named = ([], refl, refl)
 
 -- a name of one of the fields
 abbrev pub IsKnown : List FieldName → List ℕ → Type 0

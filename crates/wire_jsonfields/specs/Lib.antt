@@ -4,6 +4,7 @@ pub mod Boxes
 pub mod EnumFields
 pub mod Fields
 pub mod Firsts
+pub mod Flat
 pub mod Keys
 pub mod Levels
 pub mod Lists

@@ -2,10 +2,12 @@
 use Rattle.std.specs.Prelude.{◌≡◌, ◌⊎◌, ℕ, ℤ, List, [], codes, Option, Some, None, option_map, string_bytes, FitsSigned, IsUtf8}
 use Rattle.std.specs.Float.{Float, binary64, float_zero}
 use Rattle.std.specs.Int.{w64}
-use Rattle.wire_json.specs.Json.{Json, Members, string}
+use Rattle.wire_json.specs.Json.{Json, Members, no_member, string}
 use Rattle.wire_jsonfields.specs.declared.sample.Sample.{Sample}
-use Rattle.wire_jsonfields.specs.Fields.{EachKnown, FieldMeans, IsSomeTree, MeansSome}
+use Rattle.wire_jsonfields.specs.Fields.{EachKnown, FieldMeans, IsSomeTree, MeansSome, unsaid}
+use Rattle.wire_json.specs.Written.{written}
 use Rattle.wire_protojson.specs.Laws.{IsReadAs}
+use Rattle.wire_jsonfields.specs.Levels.{SpellsWithin}
 use Rattle.wire_jsonfields.specs.Messages.{IsFieldTree, IsObjectTree, ObjectMeans, members_joined}
 use Rattle.wire_protojson.specs.Numbers.{MeansFloat, MeansSigned}
 use Rattle.wire_jsonfields.specs.Objects.{IsNameOf}
@@ -40,6 +42,14 @@ sample-says ms v =
     × FieldMeans float_zero (MeansFloat binary64) IsOfValue ms v.1
     × FieldMeans None (MeansSome (MeansSigned w64)) IsOfCount ms v.2
 
+pub sample-unsaid : sample-says no_member sample-default
+sample-unsaid = (
+  tt,
+  unsaid [] MeansString IsOfName,
+  unsaid float_zero (MeansFloat binary64) IsOfValue,
+  unsaid None (MeansSome (MeansSigned w64)) IsOfCount,
+)
+
 pub one_sample : SayOne sample-says
 one_sample ms v w p q =
     same_sample v w
@@ -71,3 +81,9 @@ abbrev pub SampleReadsBack : Type 0
 SampleReadsBack =
     (v : Sample-Value) (json : Json) → IsSampleInRange v → IsObjectTree sample-trees v json
     → IsReadAs (ObjectMeans sample-says) v json
+
+-- and so is its text, at one level
+abbrev pub SampleIsRead : Type 0
+SampleIsRead =
+    (v : Sample-Value) (json : Json) → IsSampleInRange v → IsObjectTree sample-trees v json
+    → SpellsWithin 1 (ObjectMeans sample-says) (written json) v

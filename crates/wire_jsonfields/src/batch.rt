@@ -5,7 +5,7 @@ ghost use Rattle.std.specs.Prelude.{◌≡◌, ◌≢◌, ◌≤◌, ◌++◌, �
 ghost use Rattle.wire_json.specs.Compact.{Extends};
 ghost use Rattle.wire_json.specs.Json.{Members, members_depth};
 ghost use Rattle.wire_protojson.specs.declared.refusal.ReadError.TheVariants.{OutOfMemory};
-ghost use Rattle.wire_jsonfields.specs.Batch.{Batch-Value, BatchReadsBack, Origin-Value, batch-default, batch-says, batch-trees, batch-value, level-names, level-number, one-origin-trees, one_batch, origin-says, origin-trees, origin-value};
+ghost use Rattle.wire_jsonfields.specs.Batch.{Batch-Value, BatchIsRead, BatchReadsBack, Origin-Value, batch-default, batch-says, batch-trees, batch-unsaid, batch-value, level-names, level-number, one-origin-trees, one_batch, origin-says, origin-trees, origin-value};
 ghost use Rattle.wire_jsonfields.specs.Messages.{is_no_member, text_of_members};
 ghost use Rattle.wire_jsonfields.specs.Objects.{AreEntries};
 
@@ -122,6 +122,8 @@ impl JsonMessage for Batch {
     ghost tree = { IsObjectTree batch-trees };
 
     ghost default = { batch-default };
+
+    ghost default_meant = { batch-unsaid };
 
     ghost one_value = { one_object batch-says one_batch };
 
@@ -244,7 +246,9 @@ fn write_present_origin(
     }
 }
 
-/// What is written of a value is read as that value.
+/// What is written of a value is read as that value, whatever follows, and as a text at three
+/// levels.
 pub fn batch_reads_back()
-    ensures { BatchReadsBack }
+    ensures back { BatchReadsBack }
+    ensures text { BatchIsRead }
 {}

@@ -35,6 +35,7 @@ pub struct EnumOf<E: JsonEnum> {
 impl<E: JsonEnum> JsonScalar for EnumOf<E> {
     ghost use Rattle.std.specs.Prelude.{pos};
     ghost use Rattle.wire_protojson.specs.Enums.{IsEnumTree, MeansEnum};
+    ghost use Rattle.wire_jsonfields.specs.Flat.{flat_enum};
     ghost use Rattle.wire_jsonfields.specs.EnumFields.{enum_decided};
 
     type Held = E;
@@ -50,6 +51,8 @@ impl<E: JsonEnum> JsonScalar for EnumOf<E> {
     ghost default = { pos 0 };
 
     ghost decided = { enum_decided E.table };
+
+    ghost flat = { flat_enum E.table };
 
     fn default_value(_alloc: Global) -> E {
         E::from_i32(0)

@@ -11,6 +11,8 @@ use wire_protojson::{
 };
 
 impl JsonScalar for i32 {
+    ghost use Rattle.std.proofs.Common.{refl};
+    ghost use Rattle.wire_jsonfields.specs.Flat.{flat_tree};
     ghost use Rattle.wire_protojson.specs.Trees.{short_signed_tree};
     ghost use Rattle.std.specs.Prelude.{◌≡◌, ℤ, pos};
     ghost use Rattle.std.specs.Int.{w32};
@@ -31,6 +33,8 @@ impl JsonScalar for i32 {
 
     ghost decided = { signed_decided w32 };
 
+    ghost flat = { λ z. flat_tree (short_signed_tree z) refl };
+
     fn default_value(_alloc: Global) -> i32 {
         0
     }
@@ -49,6 +53,8 @@ impl JsonScalar for i32 {
 }
 
 impl JsonScalar for i64 {
+    ghost use Rattle.std.proofs.Common.{refl};
+    ghost use Rattle.wire_jsonfields.specs.Flat.{flat_tree};
     ghost use Rattle.wire_protojson.specs.Trees.{long_signed_tree};
     ghost use Rattle.std.specs.Prelude.{◌≡◌, ℤ, pos};
     ghost use Rattle.std.specs.Int.{w64};
@@ -69,6 +75,8 @@ impl JsonScalar for i64 {
 
     ghost decided = { signed_decided w64 };
 
+    ghost flat = { λ z. flat_tree (long_signed_tree z) refl };
+
     fn default_value(_alloc: Global) -> i64 {
         0
     }
@@ -87,6 +95,8 @@ impl JsonScalar for i64 {
 }
 
 impl JsonScalar for u32 {
+    ghost use Rattle.std.proofs.Common.{refl};
+    ghost use Rattle.wire_jsonfields.specs.Flat.{flat_tree};
     ghost use Rattle.wire_protojson.specs.Trees.{short_unsigned_tree};
     ghost use Rattle.std.specs.Prelude.{◌≡◌, ℕ};
     ghost use Rattle.wire_protojson.specs.Numbers.{MeansUnsigned};
@@ -106,6 +116,8 @@ impl JsonScalar for u32 {
 
     ghost decided = { unsigned_decided 32 };
 
+    ghost flat = { λ n. flat_tree (short_unsigned_tree n) refl };
+
     fn default_value(_alloc: Global) -> u32 {
         0
     }
@@ -124,6 +136,8 @@ impl JsonScalar for u32 {
 }
 
 impl JsonScalar for u64 {
+    ghost use Rattle.std.proofs.Common.{refl};
+    ghost use Rattle.wire_jsonfields.specs.Flat.{flat_tree};
     ghost use Rattle.wire_protojson.specs.Trees.{long_unsigned_tree};
     ghost use Rattle.std.specs.Prelude.{◌≡◌, ℕ};
     ghost use Rattle.wire_protojson.specs.Numbers.{MeansUnsigned};
@@ -143,6 +157,8 @@ impl JsonScalar for u64 {
 
     ghost decided = { unsigned_decided 64 };
 
+    ghost flat = { λ n. flat_tree (long_unsigned_tree n) refl };
+
     fn default_value(_alloc: Global) -> u64 {
         0
     }
@@ -161,6 +177,8 @@ impl JsonScalar for u64 {
 }
 
 impl JsonScalar for bool {
+    ghost use Rattle.std.proofs.Common.{refl};
+    ghost use Rattle.wire_jsonfields.specs.Flat.{flat_tree};
     ghost use Rattle.wire_json.specs.Json.{boolean};
     ghost use Rattle.std.specs.Prelude.{◌≡◌, Bool, false};
     ghost use Rattle.wire_protojson.specs.Scalars.{MeansBool};
@@ -180,6 +198,8 @@ impl JsonScalar for bool {
 
     ghost decided = { bools_decided };
 
+    ghost flat = { λ b. flat_tree (boolean b) refl };
+
     fn default_value(_alloc: Global) -> bool {
         false
     }
@@ -198,6 +218,7 @@ impl JsonScalar for bool {
 }
 
 impl JsonScalar for f32 {
+    ghost use Rattle.wire_jsonfields.specs.Flat.{flat_float};
     ghost use Rattle.wire_protojson.specs.Trees.{IsFloatTree};
     ghost use Rattle.std.specs.Float.{Float, binary32, float_zero};
     ghost use Rattle.wire_protojson.specs.Numbers.{MeansFloat};
@@ -217,6 +238,8 @@ impl JsonScalar for f32 {
 
     ghost decided = { floats_decided binary32 };
 
+    ghost flat = { flat_float binary32 };
+
     fn default_value(_alloc: Global) -> f32 {
         0.0
     }
@@ -235,6 +258,7 @@ impl JsonScalar for f32 {
 }
 
 impl JsonScalar for f64 {
+    ghost use Rattle.wire_jsonfields.specs.Flat.{flat_float};
     ghost use Rattle.wire_protojson.specs.Trees.{IsFloatTree};
     ghost use Rattle.std.specs.Float.{Float, binary64, float_zero};
     ghost use Rattle.wire_protojson.specs.Numbers.{MeansFloat};
@@ -254,6 +278,8 @@ impl JsonScalar for f64 {
 
     ghost decided = { floats_decided binary64 };
 
+    ghost flat = { flat_float binary64 };
+
     fn default_value(_alloc: Global) -> f64 {
         0.0
     }
@@ -272,6 +298,8 @@ impl JsonScalar for f64 {
 }
 
 impl JsonScalar for String {
+    ghost use Rattle.std.proofs.Common.{refl};
+    ghost use Rattle.wire_jsonfields.specs.Flat.{flat_tree};
     ghost use Rattle.wire_json.specs.Json.{string};
     ghost use Rattle.std.specs.Prelude.{◌≡◌, ℕ, List, [], string_bytes};
     ghost use Rattle.wire_protojson.specs.Scalars.{MeansString};
@@ -291,6 +319,8 @@ impl JsonScalar for String {
 
     ghost decided = { strings_decided };
 
+    ghost flat = { λ s. flat_tree (string s) refl };
+
     fn default_value(alloc: Global) -> String {
         String::new(alloc)
     }
@@ -309,6 +339,8 @@ impl JsonScalar for String {
 }
 
 impl JsonScalar for Vec<u8> {
+    ghost use Rattle.std.proofs.Common.{refl};
+    ghost use Rattle.wire_jsonfields.specs.Flat.{flat_tree};
     ghost use Rattle.wire_protojson.specs.Trees.{bytes_tree};
     ghost use Rattle.std.specs.Prelude.{◌≡◌, ℕ, List, []};
     ghost use Rattle.wire_protojson.specs.Scalars.{MeansBytes};
@@ -327,6 +359,8 @@ impl JsonScalar for Vec<u8> {
     ghost default = { [] };
 
     ghost decided = { bytes_decided };
+
+    ghost flat = { λ b. flat_tree (bytes_tree b) refl };
 
     fn default_value(alloc: Global) -> Vec<u8> {
         Vec::new(alloc)

@@ -1,5 +1,6 @@
 //! Keys of maps, as names of members.
 ghost use Rattle.std.specs.Prelude.{◌≡◌, ◌++◌, ℕ, List, IfOk, MatchOption, OnOk, OnErr};
+ghost use Rattle.std.specs.Cmp.{IsTotalOrder};
 ghost use Rattle.std.specs.declared.cmp.Ordering.{Ordering};
 ghost use Rattle.wire_json.specs.Compact.{Extends};
 ghost use Rattle.wire_json.specs.Written.{written_name};
@@ -43,9 +44,12 @@ pub trait JsonKey {
 
     /// A map has its entries in this order.
     ghost ordered: { (x y : Self.Held) → Self.Held.cmp x y ≡ order (view x) (view y) };
+
+    ghost total: { IsTotalOrder order };
 }
 
 impl JsonKey for i32 {
+    ghost use Rattle.std.proofs.lemmas.Cmp.{int_cmp_total};
     ghost use Rattle.std.specs.Prelude.{ℤ};
     ghost use Rattle.std.proofs.Common.{refl};
     ghost use Rattle.std.specs.Int.{w32};
@@ -69,6 +73,8 @@ impl JsonKey for i32 {
 
     ghost ordered = { λ x y. refl };
 
+    ghost total = { int_cmp_total };
+
     fn read_key(_alloc: Global, text: &str) -> Result<Option<i32>, AllocError> {
         match text.parse::<i32>() {
             Ok(key) => Ok(Some(key)),
@@ -82,6 +88,7 @@ impl JsonKey for i32 {
 }
 
 impl JsonKey for i64 {
+    ghost use Rattle.std.proofs.lemmas.Cmp.{int_cmp_total};
     ghost use Rattle.std.specs.Prelude.{ℤ};
     ghost use Rattle.std.proofs.Common.{refl};
     ghost use Rattle.std.specs.Int.{w64};
@@ -105,6 +112,8 @@ impl JsonKey for i64 {
 
     ghost ordered = { λ x y. refl };
 
+    ghost total = { int_cmp_total };
+
     fn read_key(_alloc: Global, text: &str) -> Result<Option<i64>, AllocError> {
         match text.parse::<i64>() {
             Ok(key) => Ok(Some(key)),
@@ -118,6 +127,7 @@ impl JsonKey for i64 {
 }
 
 impl JsonKey for String {
+    ghost use Rattle.std.proofs.lemmas.Cmp.{nat_list_cmp_total};
     ghost use Rattle.std.specs.Prelude.{string_bytes};
     ghost use Rattle.std.proofs.Common.{refl};
     ghost use Rattle.std.specs.Cmp.Lexicographic.{slice_cmp};
@@ -140,6 +150,8 @@ impl JsonKey for String {
 
     ghost ordered = { λ x y. refl };
 
+    ghost total = { nat_list_cmp_total };
+
     fn read_key(alloc: Global, text: &str) -> Result<Option<String>, AllocError> {
         match String::from_str(alloc, text) {
             Ok(key) => Ok(Some(key)),
@@ -153,6 +165,7 @@ impl JsonKey for String {
 }
 
 impl JsonKey for bool {
+    ghost use Rattle.std.specs.Cmp.{bool_cmp_total};
     ghost use Rattle.std.specs.Prelude.{Bool};
     ghost use Rattle.std.proofs.Common.{refl};
     ghost use Rattle.std.specs.Ordering.{bool_cmp};
@@ -175,6 +188,8 @@ impl JsonKey for bool {
 
     ghost ordered = { λ x y. refl };
 
+    ghost total = { bool_cmp_total };
+
     fn read_key(_alloc: Global, text: &str) -> Result<Option<bool>, AllocError> {
         match text {
             "true" => Ok(Some(true)),
@@ -193,6 +208,7 @@ impl JsonKey for bool {
 }
 
 impl JsonKey for u32 {
+    ghost use Rattle.std.proofs.lemmas.Cmp.{nat_cmp_total};
     ghost use Rattle.std.proofs.Common.{refl};
     ghost use Rattle.std.specs.Prelude.{decimal};
     ghost use Rattle.std.specs.Ordering.{nat_cmp};
@@ -214,6 +230,8 @@ impl JsonKey for u32 {
 
     ghost ordered = { λ x y. refl };
 
+    ghost total = { nat_cmp_total };
+
     fn read_key(_alloc: Global, text: &str) -> Result<Option<u32>, AllocError> {
         match text.parse::<u32>() {
             Ok(key) => Ok(Some(key)),
@@ -227,6 +245,7 @@ impl JsonKey for u32 {
 }
 
 impl JsonKey for u64 {
+    ghost use Rattle.std.proofs.lemmas.Cmp.{nat_cmp_total};
     ghost use Rattle.std.proofs.Common.{refl};
     ghost use Rattle.std.specs.Prelude.{decimal};
     ghost use Rattle.std.specs.Ordering.{nat_cmp};
@@ -247,6 +266,8 @@ impl JsonKey for u64 {
     ghost one_key = { one_unsigned_key 64 };
 
     ghost ordered = { λ x y. refl };
+
+    ghost total = { nat_cmp_total };
 
     fn read_key(_alloc: Global, text: &str) -> Result<Option<u64>, AllocError> {
         match text.parse::<u64>() {

@@ -8,6 +8,7 @@ ghost use Rattle.wire_json.specs.Kind.{kind_begun};
 ghost use Rattle.wire_json.specs.Written.{written};
 ghost use Rattle.wire_protojson.specs.declared.refusal.ReadError.TheVariants.{OutOfMemory};
 ghost use Rattle.wire_jsonfields.specs.Fields.{FieldMeans};
+ghost use Rattle.wire_jsonfields.specs.Flat.{AreFlat};
 ghost use Rattle.wire_jsonfields.specs.Levels.{NothingMeant, ReadsWithin};
 ghost use Rattle.wire_protojson.specs.Laws.{IsDecided};
 ghost use Rattle.wire_json.specs.Json.{member, no_member};
@@ -63,6 +64,9 @@ pub trait JsonScalar {
         ensures err { OnErr result (Extends out.old.items out.new.items) };
 
     ghost decided: { IsDecided means };
+
+    /// No scalar is an array or an object.
+    ghost flat: { AreFlat tree };
 }
 
 /// A kind of value: of an element of a list, of a value of a map, or of a field.

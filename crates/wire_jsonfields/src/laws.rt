@@ -1,10 +1,15 @@
 //! Laws of kinds: each function is a theorem, and does nothing.
-ghost use Rattle.std.specs.Prelude.{ℕ, ℤ, List, [], ◌<◌, ◌^◌, FitsSigned, decimal};
+ghost use Rattle.std.specs.Prelude.{ℕ, suc, ℤ, List, ◌<◌, ◌^◌, FitsSigned, decimal};
 ghost use Rattle.std.specs.Fmt.{signed_decimal};
 ghost use Rattle.std.specs.Int.{Width, w32, w64};
+ghost use Rattle.std.specs.List.{AllByRecursion};
+ghost use Rattle.std.specs.List.Sorted.{IsStrictlySortedBy};
+ghost use Rattle.std.specs.Map.{keys_of};
+ghost use Rattle.wire_json.specs.Json.{Json};
 ghost use Rattle.wire_protojson.specs.Enums.{AreTexts, IsEnumTree, MeansEnum, NamesAgree};
-ghost use Rattle.wire_jsonfields.specs.Back.{ComesBack, EachComesBack, EntriesComeBack, SpellsOneValue};
+ghost use Rattle.wire_jsonfields.specs.Back.{ComesBack, EachComesBack, EntriesComeBack, IsBack, SpellsOneValue};
 ghost use Rattle.wire_jsonfields.specs.Keys.{IsSignedKey, IsUnsignedKey};
+ghost use Rattle.wire_jsonfields.specs.Levels.{IsReadFrom, WritesWithin};
 ghost use Rattle.wire_jsonfields.specs.Lists.{IsListTree, ListMeans};
 ghost use Rattle.wire_jsonfields.specs.Maps.{IsMapTree, MapMeans};
 
@@ -26,9 +31,34 @@ pub fn lists_come_back<V: JsonValue>()
 
 /// What is written of a map is read as it, where its keys ascend and that holds of each value.
 pub fn maps_come_back<K: JsonKey, V: JsonValue>()
-    ensures { (m : List (K.Value × V.Value))
-        → EntriesComeBack K.order K.means K.name V.means V.tree [] m
+    ensures { (m : List (K.Value × V.Value)) → IsStrictlySortedBy K.order (keys_of m)
+        → EntriesComeBack K.means K.name V.means V.tree m
         → ComesBack (MapMeans K.order K.means V.means) (IsMapTree K.name V.tree) m }
+{}
+
+/// The keys of what is read as a map ascend.
+pub fn maps_ascend<K: JsonKey, V: JsonValue>()
+    ensures { (json : Json) (m : List (K.Value × V.Value))
+        → MapMeans K.order K.means V.means json m → IsStrictlySortedBy K.order (keys_of m) }
+{}
+
+/// What is written of a message is read as it at just the levels that it has, or more.
+pub fn written_is_read<M: JsonMessage>()
+    ensures { (json : Json) (v : M.Value) → IsBack M.means json v → IsReadFrom M.means json v }
+{}
+
+/// What is written of a list has one level more than its elements.
+pub fn lists_add_a_level<V: JsonValue>()
+    ensures { (levels : ℕ) (vs : List V.Value)
+        → AllByRecursion (WritesWithin levels V.tree) vs
+        → WritesWithin (suc levels) (IsListTree V.tree) vs }
+{}
+
+/// What is written of a map has one level more than its values.
+pub fn maps_add_a_level<K: JsonKey, V: JsonValue>()
+    ensures { (levels : ℕ) (m : List (K.Value × V.Value))
+        → AllByRecursion (λ e. WritesWithin levels V.tree e.1) m
+        → WritesWithin (suc levels) (IsMapTree K.name V.tree) m }
 {}
 
 /// What is written of an enum is read as its number, where no name stands for two.

@@ -2,7 +2,7 @@
 ghost use Rattle.std.specs.Prelude.{◌≡◌, ◌≢◌, ◌++◌, drop, IfOk, IfErr, OnOk, OnErr};
 ghost use Rattle.wire_json.specs.Answer.{IsBehind};
 ghost use Rattle.wire_json.specs.Compact.{Extends};
-ghost use Rattle.wire_json.specs.Json.{Json};
+ghost use Rattle.wire_json.specs.Json.{Json, no_member, object};
 ghost use Rattle.wire_json.specs.Written.{written};
 ghost use Rattle.wire_protojson.specs.declared.refusal.ReadError.TheVariants.{OutOfMemory};
 ghost use Rattle.wire_jsonfields.specs.Levels.{NothingMeant, ReadsWithin, SpellsWithin};
@@ -29,6 +29,9 @@ pub trait JsonMessage: Drop + Sized {
 
     /// The value of a message of which an object says nothing.
     ghost default: { Value };
+
+    /// An object without members means it.
+    ghost default_meant: { means (object no_member) default };
 
     /// Reads a value, in which at most `levels` arrays and objects may stand in one another.
     fn read_json(

@@ -1,6 +1,6 @@
 //! A message type by hand, of `message Sample { string name = 1; double value = 2; optional int64
 //! sample_count = 3; }`.
-ghost use Rattle.wire_jsonfields.specs.Sample.{Sample-Value, sample-value, sample-says, sample-trees, SampleReadsBack};
+ghost use Rattle.wire_jsonfields.specs.Sample.{Sample-Value, sample-value, sample-says, sample-trees, SampleIsRead, SampleReadsBack};
 
 use crate::kind::{Implicit, Optional, read_field, write_field};
 use crate::known::{FieldName, check_names};
@@ -36,7 +36,7 @@ const SAMPLE_COUNT: FieldName = FieldName {
 impl JsonMessage for Sample {
     ghost use Rattle.wire_jsonfields.specs.Messages.{IsObjectTree, ObjectMeans};
     ghost use Rattle.wire_jsonfields.specs.OneValues.{one_object};
-    ghost use Rattle.wire_jsonfields.specs.Sample.{one_sample, sample-default};
+    ghost use Rattle.wire_jsonfields.specs.Sample.{one_sample, sample-default, sample-unsaid};
 
     ghost Value = { Sample-Value };
 
@@ -47,6 +47,8 @@ impl JsonMessage for Sample {
     ghost tree = { IsObjectTree sample-trees };
 
     ghost default = { sample-default };
+
+    ghost default_meant = { sample-unsaid };
 
     ghost one_value = { one_object sample-says one_sample };
 
@@ -88,7 +90,8 @@ impl JsonMessage for Sample {
     }
 }
 
-/// What is written of a value is read as that value.
+/// What is written of a value is read as that value, whatever follows, and as a text at one level.
 pub fn sample_reads_back()
-    ensures { SampleReadsBack }
+    ensures back { SampleReadsBack }
+    ensures text { SampleIsRead }
 {}

@@ -3,5 +3,5 @@ use Rattle.wire_jsonfields.proofs.laws.maps_come_back.Goals as goal
 
 pub returns : goal.returns
 returns g c =
-    map_back g.K.JsonKey.order g.K.JsonKey.means g.K.JsonKey.name g.V.JsonValue.means
-    g.V.JsonValue.tree
+    map_back g.K.JsonKey.order g.met.K.JsonKey.total g.K.JsonKey.means g.K.JsonKey.name
+    g.V.JsonValue.means g.V.JsonValue.tree

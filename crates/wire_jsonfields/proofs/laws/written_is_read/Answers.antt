@@ -1,0 +1,5 @@
+use Rattle.wire_jsonfields.proofs.Back.{read_from}
+use Rattle.wire_jsonfields.proofs.laws.written_is_read.Goals as goal
+
+pub returns : goal.returns
+returns g c = read_from g.M.JsonMessage.means
