@@ -13,10 +13,10 @@ use Rattle.wire_protojson.specs.Scalars.{MeansString}
 use Rattle.wire_protojson.specs.Trees.{long_signed_tree}
 use Rattle.wire_protojson.proofs.ReadBack.{by_meaning}
 use Rattle.wire_jsonfields.specs.Back.{ComesBack, EachComesBack, EntriesComeBack}
-use Rattle.wire_jsonfields.specs.Batch.{AreSamplesInRange, AreTotalsInRange, Batch-Value, BatchIsRead, BatchReadsBack, IsBatchInRange, IsOfFile, IsOfLevel, IsOfSamples, IsOfTemplate, IsOfTotals, IsOriginInRange, Origin-Value, batch-says, batch-trees, level-names, origin-says, origin-trees}
+use Rattle.wire_jsonfields.specs.Batch.{AreSamplesInRange, AreTotalsInRange, Batch-Value, BatchIsRead, BatchReadsBack, IsBatchInRange, IsOfFile, IsOfGrade, IsOfSamples, IsOfTemplate, IsOfTotals, IsOriginInRange, Origin-Value, batch-says, batch-trees, grade-names, origin-says, origin-trees}
 use Rattle.wire_jsonfields.specs.Fields.{FieldMeans, MeansSome}
 use Rattle.wire_jsonfields.specs.Flat.{flat_enum, flat_tree}
-use Rattle.wire_jsonfields.specs.Levels.{WritesWithin}
+use Rattle.wire_jsonfields.specs.Levels.{NestsWithin}
 use Rattle.wire_jsonfields.specs.Lists.{IsListTree, ListMeans}
 use Rattle.wire_jsonfields.specs.Maps.{IsMapTree, MapMeans}
 use Rattle.wire_jsonfields.specs.Messages.{IsFieldTree, IsObjectTree, ObjectMeans, members_joined}
@@ -30,9 +30,9 @@ use Rattle.wire_jsonfields.proofs.SampleBack.{count_back, sample_back, sample_wi
 
 -- ---- the enum
 
-level_agree : NamesAgree level-names
-level_agree z text (e, inl (h, is), named) = (e, inl (ap (λ x. x.0) is ∙ named, is), ap (λ x. x.1) (sym is) ∙ h)
-level_agree z text (e, inr (other, inl (h, is)), named) = (
+grade_agree : NamesAgree grade-names
+grade_agree z text (e, inl (h, is), named) = (e, inl (ap (λ x. x.0) is ∙ named, is), ap (λ x. x.1) (sym is) ∙ h)
+grade_agree z text (e, inr (other, inl (h, is)), named) = (
   e,
   inr (λ low. differ (low ∙ sym (ap (λ x. x.0) is ∙ named)), inl (ap (λ x. x.0) is ∙ named, is)),
   ap (λ x. x.1) (sym is) ∙ h,
@@ -40,14 +40,14 @@ level_agree z text (e, inr (other, inl (h, is)), named) = (
   where
     differ : codes "LOW" ≡ codes "HIGH" → ⊥
     differ k = absurd cc
-level_agree z text (e, inr (other, inr (nor, none)), named) = absurd none
+grade_agree z text (e, inr (other, inr (nor, none)), named) = absurd none
 
-level_texts : AreTexts level-names
-level_texts z text (e, inl (h, is), named) =
+grade_texts : AreTexts grade-names
+grade_texts z text (e, inl (h, is), named) =
     subst IsUtf8 (ap (λ x. x.0) is ∙ named) (name_is_text (codes "LOW") refl)
-level_texts z text (e, inr (other, inl (h, is)), named) =
+grade_texts z text (e, inr (other, inl (h, is)), named) =
     subst IsUtf8 (ap (λ x. x.0) is ∙ named) (name_is_text (codes "HIGH") refl)
-level_texts z text (e, inr (other, inr (nor, none)), named) = absurd none
+grade_texts z text (e, inr (other, inr (nor, none)), named) = absurd none
 
 -- ---- the values of the fields
 
@@ -107,8 +107,8 @@ origin_part (Some (inr sample)) range ms tree =
 
 -- ---- the message
 
-abbrev LevelSays : Members → ℤ → Type 0
-LevelSays = FieldMeans (pos 0) (MeansEnum level-names) IsOfLevel
+abbrev GradeSays : Members → ℤ → Type 0
+GradeSays = FieldMeans (pos 0) (MeansEnum grade-names) IsOfGrade
 
 abbrev SamplesSay : Members → List Sample-Value → Type 0
 SamplesSay = FieldMeans [] (ListMeans (ObjectMeans sample-says)) IsOfSamples
@@ -118,7 +118,7 @@ TotalsSay =
     FieldMeans [] (MapMeans (slice_cmp nat_cmp) (λ text k. text ≡ k) (MeansSigned w64)) IsOfTotals
 
 abbrev Own2 : List ℕ → Type 0
-Own2 n = IsOfLevel n ⊎ IsOfSamples n
+Own2 n = IsOfGrade n ⊎ IsOfSamples n
 
 abbrev Own3 : List ℕ → Type 0
 Own3 n = Own2 n ⊎ IsOfTotals n
@@ -139,7 +139,7 @@ abbrev Value4 : Type 0
 Value4 = Value3 × Option Origin-Value
 
 abbrev Say2 : Members → Value2 → Type 0
-Say2 ms v = LevelSays ms v.0 × SamplesSay ms v.1
+Say2 ms v = GradeSays ms v.0 × SamplesSay ms v.1
 
 abbrev Say3 : Members → Value3 → Type 0
 Say3 ms v = Say2 ms v.0 × TotalsSay ms v.1
@@ -147,18 +147,18 @@ Say3 ms v = Say2 ms v.0 × TotalsSay ms v.1
 abbrev Say4 : Members → Value4 → Type 0
 Say4 ms v = Say3 ms v.0 × origin-says ms v.1
 
-module _ (v : Batch-Value) (range : IsBatchInRange v) (level samples totals origin : Members)
-    (level_tree : IsFieldTree (pos 0) (IsEnumTree level-names) (codes "level") v.0 level)
+module _ (v : Batch-Value) (range : IsBatchInRange v) (grade samples totals origin : Members)
+    (grade_tree : IsFieldTree (pos 0) (IsEnumTree grade-names) (codes "grade") v.0 grade)
     (samples_tree : IsFieldTree [] (IsListTree (IsObjectTree sample-trees)) (codes "samples") v.1
     samples)
     (totals_tree : IsFieldTree [] (IsMapTree (λ k. k) (λ z json. json ≡ long_signed_tree z))
     (codes "totals") v.2 totals)
     (origin_tree : origin-trees v.3 origin) where
-  level_part : PartBack IsOfLevel LevelSays v.0 level
-  level_part =
-      field_part (pos 0) (MeansEnum level-names) (IsEnumTree level-names) (codes "level")
-      (codes "level") v.0 level level_tree (name_is_text (codes "level") refl)
-      (λ other. enum_back level-names level_agree level_texts v.0 range.0)
+  grade_part : PartBack IsOfGrade GradeSays v.0 grade
+  grade_part =
+      field_part (pos 0) (MeansEnum grade-names) (IsEnumTree grade-names) (codes "grade")
+      (codes "grade") v.0 grade grade_tree (name_is_text (codes "grade") refl)
+      (λ other. enum_back grade-names grade_agree grade_texts v.0 range.0)
 
   samples_part : PartBack IsOfSamples SamplesSay v.1 samples
   samples_part =
@@ -174,31 +174,31 @@ module _ (v : Batch-Value) (range : IsBatchInRange v) (level samples totals orig
       (λ other. map_back (slice_cmp nat_cmp) nat_list_cmp_total Key (λ k. k) (MeansSigned w64)
       TotalTree v.2 range.2 (totals_back v.2 range.3))
 
-  parts2 : PartBack {V = Value2} Own2 Say2 (v.0, v.1) (members_joined level samples)
+  parts2 : PartBack {V = Value2} Own2 Say2 (v.0, v.1) (members_joined grade samples)
   parts2 =
-      both_part IsOfLevel IsOfSamples LevelSays SamplesSay v.0 v.1 level samples level_part
+      both_part IsOfGrade IsOfSamples GradeSays SamplesSay v.0 v.1 grade samples grade_part
       samples_part
-      (names_apart (codes "level") (codes "level") (codes "samples") (codes "samples") refl)
+      (names_apart (codes "grade") (codes "grade") (codes "samples") (codes "samples") refl)
 
   parts3 : PartBack {V = Value3} Own3 Say3 ((v.0, v.1), v.2)
-      (members_joined (members_joined level samples) totals)
+      (members_joined (members_joined grade samples) totals)
   parts3 =
-      both_part Own2 IsOfTotals Say2 TotalsSay (v.0, v.1) v.2 (members_joined level samples) totals
+      both_part Own2 IsOfTotals Say2 TotalsSay (v.0, v.1) v.2 (members_joined grade samples) totals
       parts2 totals_part
       (apart_of_either
-      (names_apart (codes "level") (codes "level") (codes "totals") (codes "totals") refl)
+      (names_apart (codes "grade") (codes "grade") (codes "totals") (codes "totals") refl)
       (names_apart (codes "samples") (codes "samples") (codes "totals") (codes "totals") refl))
 
   parts4 : PartBack {V = Value4} Own4 Say4 (((v.0, v.1), v.2), v.3)
-      (members_joined (members_joined (members_joined level samples) totals) origin)
+      (members_joined (members_joined (members_joined grade samples) totals) origin)
   parts4 =
       both_part Own3 OwnOrigin Say3 origin-says ((v.0, v.1), v.2) v.3
-      (members_joined (members_joined level samples) totals) origin parts3
+      (members_joined (members_joined grade samples) totals) origin parts3
       (origin_part v.3 range.4 origin origin_tree)
       (apart_of_either (apart_of_either
       (apart_from_either
-      (names_apart (codes "level") (codes "level") (codes "file") (codes "file") refl)
-      (names_apart (codes "level") (codes "level") (codes "template_sample") (codes "templateSample")
+      (names_apart (codes "grade") (codes "grade") (codes "file") (codes "file") refl)
+      (names_apart (codes "grade") (codes "grade") (codes "template_sample") (codes "templateSample")
       refl))
       (apart_from_either
       (names_apart (codes "samples") (codes "samples") (codes "file") (codes "file") refl)
@@ -209,7 +209,7 @@ module _ (v : Batch-Value) (range : IsBatchInRange v) (level samples totals orig
       (names_apart (codes "totals") (codes "totals") (codes "template_sample")
       (codes "templateSample") refl)))
 
-  known : (n : List ℕ) → Own4 n → IsOfLevel n
+  known : (n : List ℕ) → Own4 n → IsOfGrade n
       ⊎ (IsOfSamples n ⊎ (IsOfTotals n ⊎ (IsOfFile n ⊎ (IsOfTemplate n ⊎ ⊥))))
   known n (inl (inl (inl h))) = inl h
   known n (inl (inl (inr h))) = inr (inl h)
@@ -218,12 +218,12 @@ module _ (v : Batch-Value) (range : IsBatchInRange v) (level samples totals orig
   known n (inr (inr h)) = inr (inr (inr (inr (inl h))))
 
   lawful : IsLawful (object
-      (members_joined (members_joined (members_joined level samples) totals) origin))
+      (members_joined (members_joined (members_joined grade samples) totals) origin))
   lawful = parts4.lawful
 
-  said : batch-says (members_joined (members_joined (members_joined level samples) totals) origin) v
+  said : batch-says (members_joined (members_joined (members_joined grade samples) totals) origin) v
   said =
-      let all = members_joined (members_joined (members_joined level samples) totals) origin in
+      let all = members_joined (members_joined (members_joined grade samples) totals) origin in
       let whole = said_alone {V = Value4} Own4 Say4 (((v.0, v.1), v.2), v.3) all parts4 in
       (known_weaker known all parts4.own, whole.0.0.0, whole.0.0.1, whole.0.1, whole.1)
 
@@ -232,12 +232,12 @@ object_not_null ms e is h = absurd cc
 
 batch_back : (v : Batch-Value) → IsBatchInRange v
     → ComesBack (ObjectMeans batch-says) (IsObjectTree batch-trees) v
-batch_back v range json (all, (level, samples, totals, origin, lt, st, tt_, ot, is), tree) =
+batch_back v range json (all, (grade, samples, totals, origin, lt, st, tt_, ot, is), tree) =
     let same = tree ∙ ap object is in
     let P : Json → Type 0 = λ j. ObjectMeans batch-says j v in
     record {
-      lawful = subst IsLawful (sym same) (lawful v range level samples totals origin lt st tt_ ot);
-      means = subst P (sym same) (said v range level samples totals origin lt st tt_ ot);
+      lawful = subst IsLawful (sym same) (lawful v range grade samples totals origin lt st tt_ ot);
+      means = subst P (sym same) (said v range grade samples totals origin lt st tt_ ot);
       present = object_not_null _ json same;
     }
 
@@ -248,17 +248,17 @@ batch_read_back v json range tree =
 
 -- ---- its levels
 
-each_sample : (vs : List Sample-Value) → AllByRecursion (WritesWithin 1 SampleTree) vs
+each_sample : (vs : List Sample-Value) → AllByRecursion (NestsWithin 1 SampleTree) vs
 each_sample [] = tt
 each_sample (v ∷ vs) = (sample_within v, each_sample vs)
 
-each_total : (es : List ((List ℕ) × ℤ)) → AllByRecursion (λ e. WritesWithin 0 TotalTree e.1) es
+each_total : (es : List ((List ℕ) × ℤ)) → AllByRecursion (λ e. NestsWithin 0 TotalTree e.1) es
 each_total [] = tt
 each_total (e ∷ es) =
     (flat_within TotalTree (λ z. flat_tree (long_signed_tree z) refl) 0 e.1, each_total es)
 
 more_levels : {V : Type 0} (Tree : V → Json → Type 0) (v : V) (few many : ℕ) → few ≤ many
-    → WritesWithin few Tree v → WritesWithin many Tree v
+    → NestsWithin few Tree v → NestsWithin many Tree v
 more_levels Tree v few many up h json is =
     let deep = h json is in
     omega (arith, deep, up)
@@ -272,21 +272,21 @@ origin_within (Some (inr sample)) ms tree =
     member_within SampleTree (codes "templateSample") 2 sample ms
     (more_levels SampleTree sample 1 2 (omega arith) (sample_within sample)) tree
 
-batch_within : (v : Batch-Value) → WritesWithin 3 (IsObjectTree batch-trees) v
-batch_within v json (all, (level, samples, totals, origin, lt, st, tt_, ot, is), tree) =
-    let LevelTree = IsEnumTree level-names in
+batch_within : (v : Batch-Value) → NestsWithin 3 (IsObjectTree batch-trees) v
+batch_within v json (all, (grade, samples, totals, origin, lt, st, tt_, ot, is), tree) =
+    let GradeTree = IsEnumTree grade-names in
     let MapTree = IsMapTree (λ k. k) TotalTree in
-    let a = field_within LevelTree (codes "level") 2 v.0 level
-    (flat_within LevelTree (flat_enum level-names) 2 v.0) (pos 0) lt in
+    let a = field_within GradeTree (codes "grade") 2 v.0 grade
+    (flat_within GradeTree (flat_enum grade-names) 2 v.0) (pos 0) lt in
     let b = field_within (IsListTree SampleTree) (codes "samples") 2 v.1 samples
     (list_within SampleTree 1 v.1 (each_sample v.1)) [] st in
     let c = field_within MapTree (codes "totals") 2 v.2 totals
     (more_levels MapTree v.2 1 2 (omega arith)
     (map_within TotalTree 0 (λ k. k) v.2 (each_total v.2))) [] tt_ in
     let d = origin_within v.3 origin ot in
-    let three = members_joined (members_joined level samples) totals in
+    let three = members_joined (members_joined grade samples) totals in
     let deep = joined_within 2 three origin
-    (joined_within 2 (members_joined level samples) totals (joined_within 2 level samples a b) c)
+    (joined_within 2 (members_joined grade samples) totals (joined_within 2 grade samples a b) c)
     d in
     let same : depth json ≡ suc (members_depth (members_joined three origin)) =
     ap depth (tree ∙ ap object is) in

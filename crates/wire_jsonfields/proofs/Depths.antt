@@ -4,7 +4,7 @@ use Rattle.std.specs.List.{AllByRecursion}
 use Rattle.wire_json.specs.Json.{Json, null, array, object, Elements, no_element, element, Members, no_member, member, depth, elements_depth, members_depth}
 use Rattle.wire_jsonfields.specs.Fields.{IsSomeTree}
 use Rattle.wire_jsonfields.specs.Flat.{AreFlat, flat_tree}
-use Rattle.wire_jsonfields.specs.Levels.{WritesWithin}
+use Rattle.wire_jsonfields.specs.Levels.{NestsWithin}
 use Rattle.wire_jsonfields.specs.Lists.{AreTrees, IsListTree}
 use Rattle.wire_jsonfields.specs.Maps.{AreEntryTrees, IsMapTree}
 use Rattle.wire_jsonfields.specs.Messages.{IsFieldTree, members_joined}
@@ -12,7 +12,7 @@ use Rattle.wire_jsonfields.specs.Oneofs.{IsMemberTree}
 
 -- a scalar has no more levels than there may be
 pub flat_within : {V : Type 0} (Tree : V → Json → Type 0) → AreFlat Tree → (levels : ℕ) (v : V)
-    → WritesWithin levels Tree v
+    → NestsWithin levels Tree v
 flat_within Tree flat levels v json is =
     let none = flat v json is in
     omega (arith, none)
@@ -20,14 +20,14 @@ flat_within Tree flat levels v json is =
 -- ---- kinds
 
 module _ {V : Type 0} (Tree : V → Json → Type 0) (levels : ℕ) where
-  pub some_within : ((v : V) → WritesWithin levels Tree v) → (o : Option V)
-      → WritesWithin levels (IsSomeTree Tree) o
+  pub some_within : ((v : V) → NestsWithin levels Tree v) → (o : Option V)
+      → NestsWithin levels (IsSomeTree Tree) o
   some_within h (Some v) json is = h v json is
   some_within h None json is =
       let flat = flat_tree null refl json is in
       omega (arith, flat)
 
-  elements_within : (vs : List V) (es : Elements) → AllByRecursion (WritesWithin levels Tree) vs
+  elements_within : (vs : List V) (es : Elements) → AllByRecursion (NestsWithin levels Tree) vs
       → AreTrees Tree vs es → elements_depth es ≤ levels
   elements_within [] no_element h t = omega arith
   elements_within (v ∷ vs) (element e es) h t =
@@ -37,8 +37,8 @@ module _ {V : Type 0} (Tree : V → Json → Type 0) (levels : ℕ) where
   elements_within [] (element e es) h t = absurd t
   elements_within (v ∷ vs) no_element h t = absurd t
 
-  pub list_within : (vs : List V) → AllByRecursion (WritesWithin levels Tree) vs
-      → WritesWithin (suc levels) (IsListTree Tree) vs
+  pub list_within : (vs : List V) → AllByRecursion (NestsWithin levels Tree) vs
+      → NestsWithin (suc levels) (IsListTree Tree) vs
   list_within vs h json (es, trees, is) =
       let deep = elements_within vs es h trees in
       let same : depth json ≡ depth (array es) = ap depth is in
@@ -46,7 +46,7 @@ module _ {V : Type 0} (Tree : V → Json → Type 0) (levels : ℕ) where
 
   module _ {K : Type 0} (name : K → List ℕ) where
     entries_within : (m : List (K × V)) (ms : Members)
-        → AllByRecursion (λ e. WritesWithin levels Tree e.1) m → AreEntryTrees name Tree m ms
+        → AllByRecursion (λ e. NestsWithin levels Tree e.1) m → AreEntryTrees name Tree m ms
         → members_depth ms ≤ levels
     entries_within [] no_member h t = omega arith
     entries_within (e ∷ es) (member text json ms) h t =
@@ -56,8 +56,8 @@ module _ {V : Type 0} (Tree : V → Json → Type 0) (levels : ℕ) where
     entries_within [] (member text json ms) h t = absurd t
     entries_within (e ∷ es) no_member h t = absurd t
 
-    pub map_within : (m : List (K × V)) → AllByRecursion (λ e. WritesWithin levels Tree e.1) m
-        → WritesWithin (suc levels) (IsMapTree name Tree) m
+    pub map_within : (m : List (K × V)) → AllByRecursion (λ e. NestsWithin levels Tree e.1) m
+        → NestsWithin (suc levels) (IsMapTree name Tree) m
     map_within m h json (ms, trees, is) =
         let deep = entries_within m ms h trees in
         let same : depth json ≡ depth (object ms) = ap depth is in
@@ -77,7 +77,7 @@ none_within levels ms is =
     omega (arith, same)
 
 module _ {V : Type 0} (Tree : V → Json → Type 0) (name : List ℕ) (levels : ℕ) (v : V)
-    (ms : Members) (within : WritesWithin levels Tree v) where
+    (ms : Members) (within : NestsWithin levels Tree v) where
   pub member_within : IsMemberTree Tree name v ms → members_depth ms ≤ levels
   member_within (e, is, one) = depth_of_one name e levels ms (within e is) one
 

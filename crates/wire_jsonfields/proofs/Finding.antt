@@ -5,8 +5,8 @@ use Rattle.std.specs.Prelude.{false, is_some}
 use Rattle.std.specs.Cow.{cow_str_bytes}
 use Rattle.wire_json.specs.Json.{Json, Members, no_member, member}
 use Rattle.wire_json.specs.Reading.{ReadsValue}
-use Rattle.wire_jsonfields.specs.declared.object.Entry.{Entry}
-use Rattle.wire_jsonfields.specs.Objects.{AreEntries, AreSeveral, AreValuesOf, IsOnlyPlace}
+use Rattle.wire_jsonfields.specs.declared.object.PlacedMember.{PlacedMember}
+use Rattle.wire_jsonfields.specs.Objects.{ArePlaced, AreSeveral, AreValuesOf, IsOnlyPlace}
 
 -- a list of values begins with this one, and the rest is of what is left
 pub record BeginsWith (Named : List ℕ → Type 0) (e : Json) (left ms : Members) : Type 0 where
@@ -27,10 +27,10 @@ module _ (Named : List ℕ → Type 0) (text : List ℕ) where
       (e : Json) × ((rest : List ℕ) × ReadsValue e (drop place text) rest)
       × BeginsWith Named e left ms
 
-  abbrev pub Sofar : List Entry → Option ℕ → Members → Type 0
-  Sofar rest found ms = (left : Members) × AreEntries text rest left × Found found left ms
+  abbrev pub Sofar : List PlacedMember → Option ℕ → Members → Type 0
+  Sofar rest found ms = (left : Members) × ArePlaced text rest left × Found found left ms
 
-  pub from_start : (entries : List Entry) (ms : Members) → AreEntries text entries ms
+  pub from_start : (entries : List PlacedMember) (ms : Members) → ArePlaced text entries ms
       → Sofar entries None ms
   from_start entries ms are = (ms, are, record { whole = λ v h. h; behind = λ v h. h })
 
@@ -65,7 +65,7 @@ module _ (Named : List ℕ → Type 0) (text : List ℕ) where
   past_found (Some place) name e left ms other (first, stands, s) =
       (first, stands, past_begun first name e left ms other s)
 
-  pub past_entry : (entry : Entry) (rest : List Entry) (found : Option ℕ) (ms : Members)
+  pub past_entry : (entry : PlacedMember) (rest : List PlacedMember) (found : Option ℕ) (ms : Members)
       → Sofar (entry ∷ rest) found ms → (Named (cow_str_bytes entry.name) → ⊥)
       → Sofar rest found ms
   past_entry entry rest found ms (no_member, are, s) other = absurd are
@@ -73,7 +73,7 @@ module _ (Named : List ℕ → Type 0) (text : List ℕ) where
       let not : Named name → ⊥ = λ mine. other (subst Named (sym are.0) mine) in
       (left, are.2, past_found found name e left ms not s)
 
-  pub first_entry : (entry : Entry) (rest : List Entry) (ms : Members)
+  pub first_entry : (entry : PlacedMember) (rest : List PlacedMember) (ms : Members)
       → Sofar (entry ∷ rest) None ms → Named (cow_str_bytes entry.name)
       → Sofar rest (Some entry.place) ms
   first_entry entry rest ms (no_member, are, s) mine = absurd are
@@ -94,7 +94,7 @@ module _ (Named : List ℕ → Type 0) (text : List ℕ) where
         ),
       )
 
-  pub second_entry : (entry : Entry) (rest : List Entry) (place : ℕ) (ms : Members)
+  pub second_entry : (entry : PlacedMember) (rest : List PlacedMember) (place : ℕ) (ms : Members)
       → Sofar (entry ∷ rest) (Some place) ms → Named (cow_str_bytes entry.name)
       → AreSeveral Named ms
   second_entry entry rest place ms (no_member, are, s) mine = absurd are
@@ -122,25 +122,25 @@ module _ (Named : List ℕ → Type 0) (text : List ℕ) where
 
   -- ---- at an index
 
-  pub item_here : (entries : List Entry) (i : ℕ) (item : Entry) → i < length entries
+  pub item_here : (entries : List PlacedMember) (i : ℕ) (item : PlacedMember) → i < length entries
       → item ≡ slice_index_or entries i item → (found : Option ℕ) (ms : Members)
       → Sofar (drop i entries) found ms → Sofar (item ∷ drop (suc i) entries) found ms
   item_here entries i item within is found ms s =
-      let whole = subst (λ (l : List Entry). Sofar l found ms) (drop-cons entries i item within) s in
-      subst (λ (x : Entry). Sofar (x ∷ drop (suc i) entries) found ms) (sym is) whole
+      let whole = subst (λ (l : List PlacedMember). Sofar l found ms) (drop-cons entries i item within) s in
+      subst (λ (x : PlacedMember). Sofar (x ∷ drop (suc i) entries) found ms) (sym is) whole
 
-  pub next_index : (entries : List Entry) (i : ℕ) (found : Option ℕ) (ms : Members)
+  pub next_index : (entries : List PlacedMember) (i : ℕ) (found : Option ℕ) (ms : Members)
       → Sofar (drop (suc i) entries) found ms → Sofar (drop (i + 1) entries) found ms
   next_index entries i found ms s =
       let next : suc i ≡ i + 1 = omega arith in
       subst (λ (k : ℕ). Sofar (drop k entries) found ms) next s
 
-  pub no_more : (entries : List Entry) (i : ℕ) (found : Option ℕ) (ms : Members)
+  pub no_more : (entries : List PlacedMember) (i : ℕ) (found : Option ℕ) (ms : Members)
       → length entries ≤ i → Sofar (drop i entries) found ms → Sofar [] found ms
   no_more entries i found ms past s =
-      subst (λ (l : List Entry). Sofar l found ms) (drop_past entries i past) s
+      subst (λ (l : List PlacedMember). Sofar l found ms) (drop_past entries i past) s
     where
-      drop_past : (xs : List Entry) (k : ℕ) → length xs ≤ k → drop k xs ≡ []
+      drop_past : (xs : List PlacedMember) (k : ℕ) → length xs ≤ k → drop k xs ≡ []
       drop_past [] zero h = refl
       drop_past [] (suc k) h = refl
       drop_past (x ∷ xs) zero h = absurd (omega (arith, h))

@@ -13,11 +13,11 @@ use Rattle.wire_json.specs.Fault.{MembersFault}
 use Rattle.wire_json.specs.Json.{Json, Members, no_member, member, depth, members_depth}
 use Rattle.wire_json.specs.Reading.{ReadsValue, ReadsMembers, ReadsMoreMembers}
 use Rattle.wire_json.specs.Text.{ReadsName}
-use Rattle.wire_jsonfields.specs.declared.object.Entry.{Entry}
+use Rattle.wire_jsonfields.specs.declared.object.PlacedMember.{PlacedMember}
 use Rattle.wire_protojson.specs.declared.refusal.Reason.{Reason}
 use Rattle.wire_protojson.specs.declared.refusal.Reason.TheVariants.{NoJson}
 use Rattle.wire_jsonfields.specs.Messages.{members_joined}
-use Rattle.wire_jsonfields.specs.Objects.{AreEntries, NoMembersHere, broken_members}
+use Rattle.wire_jsonfields.specs.Objects.{ArePlaced, NoMembersHere, broken_members}
 use Rattle.wire_protojson.specs.Reads.{RefusedAt, UnlessNoMemory, of_json_error}
 
 -- a member at the end
@@ -75,11 +75,11 @@ at_next start rest so next s comma = record {
 -- ---- places of a text
 
 -- what was read where an object goes on so
-abbrev pub Gathered : ℕ → List ℕ → List ℕ → Next → List Entry → Members → Type 0
+abbrev pub Gathered : ℕ → List ℕ → List ℕ → Next → List PlacedMember → Members → Type 0
 Gathered l text start (Item place) entries so =
-    AtOne start (drop place text) so × (members_depth so ≤ l) × AreEntries text entries so
+    AtOne start (drop place text) so × (members_depth so ≤ l) × ArePlaced text entries so
 Gathered l text start (End after) entries so =
-    ReadsMembers so start (drop after text) × (members_depth so ≤ l) × AreEntries text entries so
+    ReadsMembers so start (drop after text) × (members_depth so ≤ l) × ArePlaced text entries so
 
 pub opened : (l : ℕ) (text start : List ℕ) (next : Next) → FirstItem 125 text start next
     → Gathered l text start next [] no_member
@@ -88,18 +88,18 @@ opened l text start (Item place) (here, other) =
     (subst P (sym here) (at_first start), omega arith, tt)
 opened l text start (End after) close = (close, omega arith, tt)
 
-pushed : (text : List ℕ) (entries : List Entry) (so : Members) (entry : Entry) (name : List ℕ)
-    (e : Json) (rest : List ℕ) → AreEntries text entries so → cow_str_bytes entry.name ≡ name
+pushed : (text : List ℕ) (entries : List PlacedMember) (so : Members) (entry : PlacedMember) (name : List ℕ)
+    (e : Json) (rest : List ℕ) → ArePlaced text entries so → cow_str_bytes entry.name ≡ name
     → ReadsValue e (drop entry.place text) rest
-    → AreEntries text (entries ++ entry ∷ []) (with_member so name e)
+    → ArePlaced text (entries ++ entry ∷ []) (with_member so name e)
 pushed text [] no_member entry name e rest h is reads = (is, (rest, reads), tt)
 pushed text [] (member n j ms) entry name e rest h is reads = absurd h
 pushed text (x ∷ xs) no_member entry name e rest h is reads = absurd h
 pushed text (x ∷ xs) (member n j ms) entry name e rest (same, value, more) is reads =
     (same, value, pushed text xs ms entry name e rest more is reads)
 
-module _ (l : ℕ) (text start : List ℕ) (entries : List Entry) (so : Members) (place after : ℕ)
-    (entry : Entry) (e : Json)
+module _ (l : ℕ) (text start : List ℕ) (entries : List PlacedMember) (so : Members) (place after : ℕ)
+    (entry : PlacedMember) (e : Json)
     (s : Gathered l text start (Item place) entries so)
     (named : ReadsName (cow_str_bytes entry.name) (drop place text) (drop entry.place text))
     (reads : ReadsValue e (drop entry.place text) (drop after text)) (fits : depth e ≤ l) where
@@ -110,7 +110,7 @@ module _ (l : ℕ) (text start : List ℕ) (entries : List Entry) (so : Members)
   unfolding all
   deep = joined_depth l so (member (cow_str_bytes entry.name) e no_member) s.1 (omega (arith, fits))
 
-  entered : AreEntries text (entries ++ entry ∷ []) all
+  entered : ArePlaced text (entries ++ entry ∷ []) all
   unfolding all
   entered = pushed text entries so entry (cow_str_bytes entry.name) e (drop after text) s.2 refl reads
 

@@ -11,10 +11,10 @@ use Rattle.std.specs.declared.cmp.Ordering.TheVariants.{Less, Equal, Greater}
 use Rattle.wire_json.specs.Json.{Json, Members, no_member, member, members_depth}
 use Rattle.wire_json.specs.Reading.{ReadsValue}
 use Rattle.wire_json.proofs.OneReading.{one_value_lemma}
-use Rattle.wire_jsonfields.specs.declared.object.Entry.{Entry}
+use Rattle.wire_jsonfields.specs.declared.object.PlacedMember.{PlacedMember}
 use Rattle.wire_jsonfields.specs.Levels.{NothingMeant, ReadsWithin}
 use Rattle.wire_jsonfields.specs.Maps.{IsNewKey, MembersPut, entries_seen}
-use Rattle.wire_jsonfields.specs.Objects.{AreEntries}
+use Rattle.wire_jsonfields.specs.Objects.{ArePlaced}
 use Rattle.wire_jsonfields.specs.OneValues.{IsOneValued}
 
 -- ---- entries as they are held
@@ -70,15 +70,15 @@ found_none (Some x) h is = absurd cc
 
 -- ---- entries of the object
 
-pub next_member : (entries : List Entry) (i : ℕ) (item : Entry) → i < length entries
+pub next_member : (entries : List PlacedMember) (i : ℕ) (item : PlacedMember) → i < length entries
     → item ≡ slice_index_or entries i item → drop i entries ≡ item ∷ drop (i + 1) entries
 next_member entries i item within is =
     let next : suc i ≡ i + 1 = omega arith in
     drop-cons entries i item within
-    ∙ ap (λ (x : Entry). x ∷ drop (suc i) entries) (sym is)
+    ∙ ap (λ (x : PlacedMember). x ∷ drop (suc i) entries) (sym is)
     ∙ ap (λ (k : ℕ). item ∷ drop k entries) next
 
-pub no_members_left : (xs : List Entry) (k : ℕ) → length xs ≤ k → drop k xs ≡ []
+pub no_members_left : (xs : List PlacedMember) (k : ℕ) → length xs ≤ k → drop k xs ≡ []
 no_members_left [] zero h = refl
 no_members_left [] (suc k) h = refl
 no_members_left (x ∷ xs) zero h = absurd (omega (arith, h))
@@ -90,16 +90,16 @@ module _ {K V : Type 0} (order : K → K → Ordering) (Key : List ℕ → K →
   Puts = MembersPut order Key Means
 
   -- what the members that are left make of the map, all make of none, and the other way round
-  pub record MapSofar (rest : List Entry) (map : List (K × V)) (ms : Members) : Type 0 where
+  pub record MapSofar (rest : List PlacedMember) (map : List (K × V)) (ms : Members) : Type 0 where
     pub left : Members
-    pub are : AreEntries text rest left
+    pub are : ArePlaced text rest left
     pub whole : (m : List (K × V)) → MembersPut order Key Means left map m
         → MembersPut order Key Means ms [] m
     pub behind : (m : List (K × V)) → MembersPut order Key Means ms [] m
         → MembersPut order Key Means left map m
     pub deep : members_depth left ≤ members_depth ms
 
-  pub map_opened : (entries : List Entry) (ms : Members) → AreEntries text entries ms
+  pub map_opened : (entries : List PlacedMember) (ms : Members) → ArePlaced text entries ms
       → MapSofar entries [] ms
   map_opened entries ms h = record {
     left = ms;
@@ -112,27 +112,27 @@ module _ {K V : Type 0} (order : K → K → Ordering) (Key : List ℕ → K →
   pub map_read : (map : List (K × V)) (ms : Members) → MapSofar [] map ms → Puts ms [] map
   map_read map ms s = s.whole map (by_left s.left s.are)
     where
-      by_left : (left : Members) → AreEntries text [] left → Puts left map map
+      by_left : (left : Members) → ArePlaced text [] left → Puts left map map
       by_left no_member are = refl
       by_left (member n e more) are = absurd are
 
-  module _ (entry : Entry) (rest : List Entry) (map : List (K × V)) (ms : Members)
+  module _ (entry : PlacedMember) (rest : List PlacedMember) (map : List (K × V)) (ms : Members)
       (s : MapSofar (entry ∷ rest) map ms) where
     abbrev First : Type 0
     First =
         (name : List ℕ) × (e : Json) × (more : Members) × (s.left ≡ member name e more)
         × (cow_str_bytes entry.name ≡ name)
         × ((new : List ℕ) × ReadsValue e (drop entry.place text) new)
-        × AreEntries text rest more
+        × ArePlaced text rest more
 
     first_left : First
     first_left = by_left s.left s.are
       where
-        by_left : (left : Members) → AreEntries text (entry ∷ rest) left
+        by_left : (left : Members) → ArePlaced text (entry ∷ rest) left
             → (name : List ℕ) × (e : Json) × (more : Members) × (left ≡ member name e more)
             × (cow_str_bytes entry.name ≡ name)
             × ((new : List ℕ) × ReadsValue e (drop entry.place text) new)
-            × AreEntries text rest more
+            × ArePlaced text rest more
         by_left no_member are = absurd are
         by_left (member name e more) are = (name, e, more, refl, are.0, are.1, are.2)
 

@@ -3,19 +3,19 @@ use Rattle.std.proofs.Common.{◌≡◌, ◌≢◌, ℕ, ◌≤◌, List, drop, 
 use Rattle.wire_json.specs.Json.{Json, null, boolean, number, string, array, object, Members, depth, members_depth}
 use Rattle.wire_json.specs.Reading.{ReadsValue}
 use Rattle.wire_json.proofs.OneReading.{one_value_lemma}
-use Rattle.wire_jsonfields.specs.declared.object.Entry.{Entry}
+use Rattle.wire_jsonfields.specs.declared.object.PlacedMember.{PlacedMember}
 use Rattle.wire_protojson.specs.declared.refusal.ReadError.{ReadError}
 use Rattle.wire_protojson.specs.declared.refusal.ReadError.TheVariants.{Refused, OutOfMemory}
 use Rattle.wire_jsonfields.specs.Levels.{NothingMeant}
 use Rattle.wire_jsonfields.specs.Messages.{ObjectMeans}
-use Rattle.wire_jsonfields.specs.Objects.{AreEntries, NoObjectHere}
+use Rattle.wire_jsonfields.specs.Objects.{ArePlaced, NoObjectHere}
 use Rattle.wire_protojson.specs.Reads.{RefusedAt, UnlessNoMemory}
 use Rattle.wire_jsonfields.proofs.ObjectReads.{no_object_read}
 
 -- the members are those of the entries as a slice
-pub in_slice : (text : List ℕ) (ms : Members) (slice items : List Entry) → slice ≡ items
-    → AreEntries text items ms → AreEntries text slice ms
-in_slice text ms slice items is are = subst (λ (l : List Entry). AreEntries text l ms) (sym is) are
+pub in_slice : (text : List ℕ) (ms : Members) (slice items : List PlacedMember) → slice ≡ items
+    → ArePlaced text items ms → ArePlaced text slice ms
+in_slice text ms slice items is are = subst (λ (l : List PlacedMember). ArePlaced text l ms) (sym is) are
 
 same_members : (ms others : Members) → object ms ≡ object others → ms ≡ others
 same_members ms others h = cc

@@ -9,7 +9,7 @@ use Rattle.wire_json.specs.Json.{Json, null, number, string, object, Members, Is
 use Rattle.wire_jsonfields.specs.Back.{ComesBack, IsBack}
 use Rattle.wire_jsonfields.specs.Fields.{FieldMeans, IsSomeTree, MeansSome}
 use Rattle.wire_jsonfields.specs.Flat.{flat_float, flat_tree}
-use Rattle.wire_jsonfields.specs.Levels.{WritesWithin}
+use Rattle.wire_jsonfields.specs.Levels.{NestsWithin}
 use Rattle.wire_jsonfields.specs.Messages.{IsFieldTree, IsObjectTree, ObjectMeans, members_joined}
 use Rattle.wire_protojson.specs.Numbers.{MeansFloat, MeansSigned}
 use Rattle.wire_jsonfields.specs.Sample.{IsOfCount, IsOfName, IsOfValue, IsSampleInRange, SampleIsRead, SampleReadsBack, Sample-Value, sample-says, sample-trees}
@@ -154,7 +154,7 @@ sample_back v range json (all, (name, value, count, name_tree, value_tree, count
       present = object_not_null _ json same;
     }
 
-pub sample_within : (v : Sample-Value) → WritesWithin 1 (IsObjectTree sample-trees) v
+pub sample_within : (v : Sample-Value) → NestsWithin 1 (IsObjectTree sample-trees) v
 sample_within v json (all, (name, value, count, name_tree, value_tree, count_tree, is), tree) =
     let a = field_within StringTree (codes "name") 0 v.0 name
     (flat_within StringTree (λ s. flat_tree (string s) refl) 0 v.0) [] name_tree in

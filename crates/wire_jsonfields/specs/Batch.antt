@@ -15,8 +15,8 @@ use Rattle.wire_protojson.specs.Numbers.{MeansSigned}
 use Rattle.wire_protojson.specs.Scalars.{MeansString}
 use Rattle.wire_protojson.specs.Trees.{long_signed_tree}
 use Rattle.wire_jsonfields.specs.declared.batch.Batch.{Batch}
-use Rattle.wire_jsonfields.specs.declared.batch.Level.{Level}
-use Rattle.wire_jsonfields.specs.declared.batch.Level.TheVariants.{Low, High, Unknown}
+use Rattle.wire_jsonfields.specs.declared.batch.Grade.{Grade}
+use Rattle.wire_jsonfields.specs.declared.batch.Grade.TheVariants.{Low, High, Unknown}
 use Rattle.wire_jsonfields.specs.declared.batch.Origin.{Origin}
 use Rattle.wire_jsonfields.specs.declared.batch.Origin.TheVariants.{File, Template}
 use Rattle.wire_jsonfields.specs.EnumFields.{enum_decided}
@@ -33,13 +33,13 @@ use Rattle.wire_jsonfields.specs.Sample.{IsSampleInRange, Sample-Value, one_samp
 
 -- ---- the enum
 
-abbrev pub level-number : Level → ℤ
-level-number Low = pos 0
-level-number High = pos 1
-level-number (Unknown number) = number
+abbrev pub grade-number : Grade → ℤ
+grade-number Low = pos 0
+grade-number High = pos 1
+grade-number (Unknown number) = number
 
-abbrev pub level-names : EnumTable
-level-names = (codes "LOW", pos 0) ∷ (codes "HIGH", pos 1) ∷ []
+abbrev pub grade-names : EnumTable
+grade-names = (codes "LOW", pos 0) ∷ (codes "HIGH", pos 1) ∷ []
 
 -- ---- the oneof
 
@@ -60,14 +60,14 @@ batch-default = (pos 0, [], [], None)
 
 abbrev pub batch-value : Batch → Batch-Value
 batch-value m = (
-  level-number m.level,
+  grade-number m.grade,
   map sample-value m.samples.items,
   entries_seen (λ k. string_bytes k) (λ v. v) m.totals.entries,
   option_map origin-value m.origin,
 )
 
-abbrev pub IsOfLevel : List ℕ → Type 0
-IsOfLevel = IsNameOf (codes "level") (codes "level")
+abbrev pub IsOfGrade : List ℕ → Type 0
+IsOfGrade = IsNameOf (codes "grade") (codes "grade")
 
 abbrev pub IsOfSamples : List ℕ → Type 0
 IsOfSamples = IsNameOf (codes "samples") (codes "samples")
@@ -89,9 +89,9 @@ origin-says =
 -- a line a field, and one for the oneof
 abbrev pub batch-says : Members → Batch-Value → Type 0
 batch-says ms v =
-    EachKnown (λ name. IsOfLevel name ⊎ (IsOfSamples name ⊎ (IsOfTotals name ⊎ (IsOfFile name
+    EachKnown (λ name. IsOfGrade name ⊎ (IsOfSamples name ⊎ (IsOfTotals name ⊎ (IsOfFile name
     ⊎ (IsOfTemplate name ⊎ ⊥))))) ms
-    × FieldMeans (pos 0) (MeansEnum level-names) IsOfLevel ms v.0
+    × FieldMeans (pos 0) (MeansEnum grade-names) IsOfGrade ms v.0
     × FieldMeans [] (ListMeans (ObjectMeans sample-says)) IsOfSamples ms v.1
     × FieldMeans [] (MapMeans (slice_cmp nat_cmp) (λ text k. text ≡ k) (MeansSigned w64)) IsOfTotals
     ms v.2
@@ -100,7 +100,7 @@ batch-says ms v =
 pub batch-unsaid : batch-says no_member batch-default
 batch-unsaid = (
   tt,
-  unsaid (pos 0) (MeansEnum level-names) IsOfLevel,
+  unsaid (pos 0) (MeansEnum grade-names) IsOfGrade,
   unsaid [] (ListMeans (ObjectMeans sample-says)) IsOfSamples,
   unsaid [] (MapMeans (slice_cmp nat_cmp) (λ text k. text ≡ k) (MeansSigned w64)) IsOfTotals,
   (
@@ -130,7 +130,7 @@ one_origin =
 pub one_batch : SayOne batch-says
 one_batch ms v w p q =
     same_batch v w
-    (one_field (pos 0) (MeansEnum level-names) (enum_decided level-names).one_meaning IsOfLevel ms
+    (one_field (pos 0) (MeansEnum grade-names) (enum_decided grade-names).one_meaning IsOfGrade ms
     v.0 w.0 p.1 q.1)
     (one_field [] (ListMeans (ObjectMeans sample-says))
     (one_list (ObjectMeans sample-says) (one_object sample-says one_sample)) IsOfSamples ms v.1 w.1
@@ -155,13 +155,13 @@ origin-trees = OneofTrees one-origin-trees
 
 abbrev pub batch-trees : Batch-Value → Members → Type 0
 batch-trees v ms =
-    (level : Members) × (samples : Members) × (totals : Members) × (origin : Members)
-    × IsFieldTree (pos 0) (IsEnumTree level-names) (codes "level") v.0 level
+    (grade : Members) × (samples : Members) × (totals : Members) × (origin : Members)
+    × IsFieldTree (pos 0) (IsEnumTree grade-names) (codes "grade") v.0 grade
     × IsFieldTree [] (IsListTree (IsObjectTree sample-trees)) (codes "samples") v.1 samples
     × IsFieldTree [] (IsMapTree (λ k. k) (λ z json. json ≡ long_signed_tree z)) (codes "totals") v.2
     totals
     × origin-trees v.3 origin
-    × (ms ≡ members_joined (members_joined (members_joined level samples) totals) origin)
+    × (ms ≡ members_joined (members_joined (members_joined grade samples) totals) origin)
 
 -- ---- what comes back
 

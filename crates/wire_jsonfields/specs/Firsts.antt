@@ -4,35 +4,35 @@ use Rattle.std.specs.Cow.{cow_str_bytes}
 use Rattle.wire_json.specs.declared.kind.Kind.TheVariants as kinds
 use Rattle.wire_json.specs.Kind.{kind_begun}
 use Rattle.wire_jsonfields.specs.declared.known.FieldName.{FieldName}
-use Rattle.wire_jsonfields.specs.declared.object.Entry.{Entry}
+use Rattle.wire_jsonfields.specs.declared.object.PlacedMember.{PlacedMember}
 use Rattle.wire_jsonfields.specs.Fields.{IsKnown}
 
 -- this is the first entry of which it holds, and these stand behind it
-abbrev pub StandsFirst : (Entry → Type 0) → List Entry → Entry → List Entry → Type 0
+abbrev pub StandsFirst : (PlacedMember → Type 0) → List PlacedMember → PlacedMember → List PlacedMember → Type 0
 StandsFirst Holds [] first behind = ⊥
 StandsFirst Holds (entry ∷ entries) first behind =
     (Holds entry × (first ≡ entry) × (behind ≡ entries))
     ⊎ ((Holds entry → ⊥) × StandsFirst Holds entries first behind)
 
-abbrev pub HoldsOfNone : (Entry → Type 0) → List Entry → Type 0
+abbrev pub HoldsOfNone : (PlacedMember → Type 0) → List PlacedMember → Type 0
 HoldsOfNone Holds [] = Unit {0}
 HoldsOfNone Holds (entry ∷ entries) = (Holds entry → ⊥) × HoldsOfNone Holds entries
 
 -- the name of the entry is of none of the fields
-abbrev pub IsUnknown : List FieldName → Entry → Type 0
+abbrev pub IsUnknown : List FieldName → PlacedMember → Type 0
 IsUnknown fields entry = IsKnown fields (cow_str_bytes entry.name) → ⊥
 
 -- the name of the entry is of one of the fields, and its value is not `null`
-abbrev pub HasValue : List FieldName → List ℕ → Entry → Type 0
+abbrev pub HasValue : List FieldName → List ℕ → PlacedMember → Type 0
 HasValue fields text entry =
     IsKnown fields (cow_str_bytes entry.name)
     × (kind_begun (drop entry.place text) ≡ Some kinds.Null → ⊥)
 
 -- the place of the second value; of the first one where it is alone, and 0 where there is none
-abbrev pub IsSecondPlace : (Entry → Type 0) → List Entry → ℕ → Type 0
+abbrev pub IsSecondPlace : (PlacedMember → Type 0) → List PlacedMember → ℕ → Type 0
 IsSecondPlace Holds entries place =
     (HoldsOfNone Holds entries × (place ≡ 0))
-    ⊎ ((first : Entry) × (behind : List Entry) × StandsFirst Holds entries first behind
+    ⊎ ((first : PlacedMember) × (behind : List PlacedMember) × StandsFirst Holds entries first behind
     × ((HoldsOfNone Holds behind × (place ≡ first.place))
-    ⊎ ((second : Entry) × (more : List Entry) × StandsFirst Holds behind second more
+    ⊎ ((second : PlacedMember) × (more : List PlacedMember) × StandsFirst Holds behind second more
     × (place ≡ second.place))))

@@ -22,8 +22,8 @@ SpellsWithin levels Means text value =
 -- ---- what is written
 
 -- each tree of the value has at most so many levels
-abbrev pub WritesWithin : {V : Type 0} → ℕ → (V → Json → Type 0) → V → Type 0
-WritesWithin levels Tree value = (json : Json) → Tree value json → depth json ≤ levels
+abbrev pub NestsWithin : {V : Type 0} → ℕ → (V → Json → Type 0) → V → Type 0
+NestsWithin levels Tree value = (json : Json) → Tree value json → depth json ≤ levels
 
 -- the compact text of the tree is read as the value at just the levels that the tree has, or more
 abbrev pub IsReadFrom : {V : Type 0} → (Json → V → Type 0) → Json → V → Type 0

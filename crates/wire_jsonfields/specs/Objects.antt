@@ -9,18 +9,18 @@ use Rattle.wire_json.specs.Fault.{ValueFault, MembersFault}
 use Rattle.wire_json.specs.Json.{Json, Members, no_member, member}
 use Rattle.wire_json.specs.Kind.{kind_begun}
 use Rattle.wire_json.specs.Reading.{ReadsValue}
-use Rattle.wire_jsonfields.specs.declared.object.Entry.{Entry}
+use Rattle.wire_jsonfields.specs.declared.object.PlacedMember.{PlacedMember}
 use Rattle.wire_protojson.specs.declared.refusal.Reason.{Reason}
 use Rattle.wire_protojson.specs.declared.refusal.Reason.TheVariants.{NoJson, NoValue}
 
 -- the entries are the members, in their order, and where each says its value stands, that is read
-abbrev pub AreEntries : List ℕ → List Entry → Members → Type 0
-AreEntries text [] no_member = Unit {0}
-AreEntries text (entry ∷ entries) (member name e ms) =
+abbrev pub ArePlaced : List ℕ → List PlacedMember → Members → Type 0
+ArePlaced text [] no_member = Unit {0}
+ArePlaced text (entry ∷ entries) (member name e ms) =
     (cow_str_bytes entry.name ≡ name)
-    × ((rest : List ℕ) × ReadsValue e (drop entry.place text) rest) × AreEntries text entries ms
-AreEntries text [] (member name e ms) = ⊥
-AreEntries text (entry ∷ entries) no_member = ⊥
+    × ((rest : List ℕ) × ReadsValue e (drop entry.place text) rest) × ArePlaced text entries ms
+ArePlaced text [] (member name e ms) = ⊥
+ArePlaced text (entry ∷ entries) no_member = ⊥
 
 -- no object that nests at most so deep stands here
 pub data NoObjectHere (levels : ℕ) (old : List ℕ) : Reason → List ℕ → Type 0 where

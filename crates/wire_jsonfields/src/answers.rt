@@ -1,7 +1,10 @@
 //! What tests find of texts: written again, or refused.
-use crate::JsonValue;
+use crate::{
+    FieldName, JsonKind, JsonMessage, JsonValue, from_json, read_field, read_object, to_json,
+    write_field,
+};
 use std::alloc::Global;
-use wire_json::FaultKind;
+use wire_json::{FaultKind, Mark, write_mark};
 use wire_protojson::{ReadError, Reason, Refusal};
 
 /// What a row finds: its own answer, want of memory, or anything else.
@@ -18,6 +21,7 @@ pub(crate) enum Found {
 pub(crate) enum Answer {
     Is(&'static [u8]),
     Bad(usize),
+    Lone(usize),
     Deep(usize),
     Unfit(usize),
     Twice(usize),
@@ -34,6 +38,7 @@ fn is_refused(refusal: Refusal, answer: Answer) -> bool {
     let (reason, at) = match answer {
         Answer::Is(_) => return false,
         Answer::Bad(at) => (Reason::NoJson(FaultKind::Syntax), at),
+        Answer::Lone(at) => (Reason::NoJson(FaultKind::LoneSurrogate), at),
         Answer::Deep(at) => (Reason::NoJson(FaultKind::TooDeep), at),
         Answer::Unfit(at) => (Reason::NoValue, at),
         Answer::Twice(at) => (Reason::Duplicate, at),
@@ -60,4 +65,52 @@ pub(crate) fn found_in<V: JsonValue>(alloc: Global, row: &Row, levels: u32) -> F
         },
     };
     if own { Found::Own } else { Found::Other }
+}
+
+fn found_of(answered: Result<Vec<u8>, ReadError>, answer: Answer) -> Found {
+    let own = match answered {
+        Err(ReadError::OutOfMemory) => return Found::OutOfMemory,
+        Err(ReadError::Refused(refusal)) => is_refused(refusal, answer),
+        Ok(out) => match answer {
+            Answer::Is(text) => out.as_slice() == text,
+            _ => false,
+        },
+    };
+    if own { Found::Own } else { Found::Other }
+}
+
+fn rewrite_message<M: JsonMessage>(
+    alloc: Global,
+    text: &[u8],
+    levels: u32,
+) -> Result<Vec<u8>, ReadError> {
+    let message = from_json::<M>(alloc, text, levels)?;
+    let out = to_json(alloc, &message)?;
+    Ok(out)
+}
+
+/// Reads a message from a whole text, in which so many arrays and objects may stand in one another,
+/// and writes it.
+pub(crate) fn found_whole<M: JsonMessage>(alloc: Global, row: &Row, levels: u32) -> Found {
+    found_of(rewrite_message::<M>(alloc, row.0, levels), row.1)
+}
+
+const HELD: FieldName = FieldName {
+    name: "held",
+    json_name: "held",
+};
+
+fn rewrite_field<K: JsonKind>(alloc: Global, text: &[u8]) -> Result<Vec<u8>, ReadError> {
+    let object = read_object(alloc, text, 0, 2)?;
+    let held = read_field::<K>(alloc, text, object.members.as_slice(), 2, &HELD)?;
+    let mut out = Vec::new(alloc);
+    write_mark(&mut out, Mark::BeginObject)?;
+    write_field::<K>(alloc, &mut out, true, &HELD, &held)?;
+    write_mark(&mut out, Mark::EndObject)?;
+    Ok(out)
+}
+
+/// Reads an object with one field `held` of this kind, at two levels, and writes it.
+pub(crate) fn found_held<K: JsonKind>(alloc: Global, row: &Row) -> Found {
+    found_of(rewrite_field::<K>(alloc, row.0), row.1)
 }

@@ -1,13 +1,13 @@
 //! A message type by hand, with an enum, a list of messages, a map and a oneof, of `message Batch {
-//! Level level = 1; repeated Sample samples = 2; map<string, int64> totals = 3; oneof origin {
+//! Grade grade = 1; repeated Sample samples = 2; map<string, int64> totals = 3; oneof origin {
 //! string file = 4; Sample template_sample = 5; } }`.
 ghost use Rattle.std.specs.Prelude.{◌≡◌, ◌≢◌, ◌≤◌, ◌++◌, ◌&&◌, Option, false, option_map, IfOk, IfErr, OnOk, OnErr};
 ghost use Rattle.wire_json.specs.Compact.{Extends};
 ghost use Rattle.wire_json.specs.Json.{Members, members_depth};
 ghost use Rattle.wire_protojson.specs.declared.refusal.ReadError.TheVariants.{OutOfMemory};
-ghost use Rattle.wire_jsonfields.specs.Batch.{Batch-Value, BatchIsRead, BatchReadsBack, Origin-Value, batch-default, batch-says, batch-trees, batch-unsaid, batch-value, level-names, level-number, one-origin-trees, one_batch, origin-says, origin-trees, origin-value};
+ghost use Rattle.wire_jsonfields.specs.Batch.{Batch-Value, BatchIsRead, BatchReadsBack, Origin-Value, batch-default, batch-says, batch-trees, batch-unsaid, batch-value, grade-names, grade-number, one-origin-trees, one_batch, origin-says, origin-trees, origin-value};
 ghost use Rattle.wire_jsonfields.specs.Messages.{is_no_member, text_of_members};
-ghost use Rattle.wire_jsonfields.specs.Objects.{AreEntries};
+ghost use Rattle.wire_jsonfields.specs.Objects.{ArePlaced};
 
 use crate::enum_field::{EnumOf, JsonEnum};
 use crate::kind::{Implicit, Optional, read_field, write_field, write_member};
@@ -15,7 +15,7 @@ use crate::known::{FieldName, check_names};
 use crate::list::Repeated;
 use crate::map::Map;
 use crate::message::{AlwaysMessage, Embedded, JsonMessage};
-use crate::object::{Entry, read_object};
+use crate::object::{PlacedMember, read_object};
 use crate::oneof::second_of_oneof;
 use crate::sample::Sample;
 use std::alloc::{AllocError, Global};
@@ -25,13 +25,13 @@ use wire_protojson::{EnumName, ReadError};
 
 /// How much a batch weighs.
 #[derive(Clone, Copy, Debug, PartialEq, Eq)]
-pub enum Level {
+pub enum Grade {
     Low,
     High,
     Unknown(i32),
 }
 
-const LEVELS: [EnumName<'static>; 2] = [
+const GRADE_NAMES: [EnumName<'static>; 2] = [
     EnumName {
         name: "LOW",
         number: 0,
@@ -42,28 +42,28 @@ const LEVELS: [EnumName<'static>; 2] = [
     },
 ];
 
-impl JsonEnum for Level {
-    ghost table = { level-names };
+impl JsonEnum for Grade {
+    ghost table = { grade-names };
 
-    ghost number = { level-number };
+    ghost number = { grade-number };
 
     fn names() -> &'static [EnumName<'static>] {
-        &LEVELS
+        &GRADE_NAMES
     }
 
-    fn from_i32(value: i32) -> Level {
+    fn from_i32(value: i32) -> Grade {
         match value {
-            0 => Level::Low,
-            1 => Level::High,
-            other => Level::Unknown(other),
+            0 => Grade::Low,
+            1 => Grade::High,
+            other => Grade::Unknown(other),
         }
     }
 
     fn to_i32(&self) -> i32 {
         match self {
-            Level::Low => 0,
-            Level::High => 1,
-            Level::Unknown(number) => *number,
+            Grade::Low => 0,
+            Grade::High => 1,
+            Grade::Unknown(number) => *number,
         }
     }
 }
@@ -78,15 +78,15 @@ pub enum Origin {
 /// What was measured together.
 #[derive(Drop)]
 pub struct Batch {
-    pub level: Level,
+    pub grade: Grade,
     pub samples: Vec<Sample>,
     pub totals: BTreeMap<String, i64>,
     pub origin: Option<Origin>,
 }
 
-const LEVEL: FieldName = FieldName {
-    name: "level",
-    json_name: "level",
+const GRADE: FieldName = FieldName {
+    name: "grade",
+    json_name: "grade",
 };
 
 const SAMPLES: FieldName = FieldName {
@@ -134,19 +134,19 @@ impl JsonMessage for Batch {
         levels: u32,
     ) -> Result<(Batch, usize), ReadError> {
         let object = read_object(alloc, text, at, levels)?;
-        let entries = object.entries.as_slice();
-        check_names(entries, &[LEVEL, SAMPLES, TOTALS, FILE, TEMPLATE])?;
-        let level = read_field::<Implicit<EnumOf<Level>>>(alloc, text, entries, levels, &LEVEL)?;
+        let members = object.members.as_slice();
+        check_names(members, &[GRADE, SAMPLES, TOTALS, FILE, TEMPLATE])?;
+        let grade = read_field::<Implicit<EnumOf<Grade>>>(alloc, text, members, levels, &GRADE)?;
         let samples = read_field::<Repeated<AlwaysMessage<Sample>>>(
-            alloc, text, entries, levels, &SAMPLES,
+            alloc, text, members, levels, &SAMPLES,
         )?;
         let totals = read_field::<Map<String, Implicit<i64>>>(
-            alloc, text, entries, levels, &TOTALS,
+            alloc, text, members, levels, &TOTALS,
         )?;
-        let origin = read_origin(alloc, text, entries, levels)?;
+        let origin = read_origin(alloc, text, members, levels)?;
         Ok((
             Batch {
-                level,
+                grade,
                 samples,
                 totals,
                 origin,
@@ -158,7 +158,7 @@ impl JsonMessage for Batch {
     fn write_json(&self, alloc: Global, out: &mut Vec<u8>) -> Result<(), AllocError> {
         wire_json::write_mark(out, Mark::BeginObject)?;
         let mut first = true;
-        first = write_field::<Implicit<EnumOf<Level>>>(alloc, out, first, &LEVEL, &self.level)?;
+        first = write_field::<Implicit<EnumOf<Grade>>>(alloc, out, first, &GRADE, &self.grade)?;
         first = write_field::<Repeated<AlwaysMessage<Sample>>>(
             alloc,
             out,
@@ -182,17 +182,17 @@ impl JsonMessage for Batch {
 fn read_origin(
     alloc: Global,
     text: &[u8],
-    entries: &[Entry<'_>],
+    members: &[PlacedMember<'_>],
     levels: u32,
 ) -> Result<Option<Origin>, ReadError>
-    ensures ok { IfOk result (λ origin. (ms : Members) → AreEntries text.now entries.now ms
+    ensures ok { IfOk result (λ origin. (ms : Members) → ArePlaced text.now members.now ms
         → origin-says ms (option_map origin-value origin)) }
     ensures err { IfErr result (λ e. e ≢ OutOfMemory → (ms : Members)
-        → AreEntries text.now entries.now ms → members_depth ms ≤ levels
+        → ArePlaced text.now members.now ms → members_depth ms ≤ levels
         → (value : Option Origin-Value) → origin-says ms value → ⊥) }
 {
-    let file = read_field::<Optional<String>>(alloc, text, entries, levels, &FILE)?;
-    let sample = read_field::<Embedded<Sample>>(alloc, text, entries, levels, &TEMPLATE)?;
+    let file = read_field::<Optional<String>>(alloc, text, members, levels, &FILE)?;
+    let sample = read_field::<Embedded<Sample>>(alloc, text, members, levels, &TEMPLATE)?;
     match file {
         None => match sample {
             None => Ok(None),
@@ -200,7 +200,7 @@ fn read_origin(
         },
         Some(file) => match sample {
             None => Ok(Some(Origin::File(file))),
-            Some(_second) => Err(second_of_oneof(text, entries, &[FILE, TEMPLATE])),
+            Some(_second) => Err(second_of_oneof(text, members, &[FILE, TEMPLATE])),
         },
     }
 }

@@ -1,17 +1,19 @@
-//! What is read of texts as a `Batch`, and written again.
-use crate::answers::Answer::{Bad, Deep, Is, Second, Twice, Unfit, Unknown};
-use crate::answers::{Found, Row, found_in};
+//! What is read of texts as a `Batch`, and written again. A test that is refused a request for
+//! memory fails with `OutOfMemory` as what was found, or not at all.
+use crate::AlwaysMessage;
+use crate::answers::Answer::{Bad, Deep, Is, Lone, Second, Twice, Unfit, Unknown};
+use crate::answers::{Found, Row, found_in, found_whole};
 use crate::batch::Batch;
-use crate::{AlwaysMessage, from_json, to_json};
+use std::alloc::Global;
 
 const ROWS: [Row; 33] = [
     (b"{}", Is(b"{}")),
-    (b"{\"level\":\"HIGH\"}", Is(b"{\"level\":\"HIGH\"}")),
-    (b"{\"level\":0}", Is(b"{}")),
-    (b"{\"level\":-1}", Is(b"{\"level\":-1}")),
-    (b"{\"level\":null}", Is(b"{}")),
-    (b"{\"level\":\"TOP\"}", Unfit(9)),
-    (b"{\"level\":true}", Unfit(9)),
+    (b"{\"grade\":\"HIGH\"}", Is(b"{\"grade\":\"HIGH\"}")),
+    (b"{\"grade\":0}", Is(b"{}")),
+    (b"{\"grade\":-1}", Is(b"{\"grade\":-1}")),
+    (b"{\"grade\":null}", Is(b"{}")),
+    (b"{\"grade\":\"TOP\"}", Unfit(9)),
+    (b"{\"grade\":true}", Unfit(9)),
     (
         b"{\"samples\":[{\"name\":\"a\"},{}]}",
         Is(b"{\"samples\":[{\"name\":\"a\"},{}]}"),
@@ -55,8 +57,36 @@ const ROWS: [Row; 33] = [
     (b"{\"totals\":{\"a\":[[[]]]}}", Deep(16)),
 ];
 
-const WHOLE: &'static [u8] =
-    b"{\"level\":\"HIGH\",\"samples\":[{\"name\":\"a\"}],\"totals\":{\"a\":\"1\"},\"file\":\"b\"}";
+// Whole texts: of each way in which a batch is refused one.
+const WHOLE: [Row; 13] = [
+    (
+        b" {\"grade\":\"HIGH\",\"samples\":[{\"name\":\"a\"}],\"totals\":{\"a\":1}} ",
+        Is(b"{\"grade\":\"HIGH\",\"samples\":[{\"name\":\"a\"}],\"totals\":{\"a\":\"1\"}}"),
+    ),
+    (
+        b"{\"templateSample\":{\"value\":1.5},\"samples\":[{},{}],\"grade\":7}",
+        Is(b"{\"grade\":7,\"samples\":[{},{}],\"templateSample\":{\"value\":1.5}}"),
+    ),
+    (b"{}", Is(b"{}")),
+    (b"{} x", Bad(3)),
+    (b"", Bad(0)),
+    (b"{\"file\":\"\\ud800\"}", Lone(9)),
+    (b"{\"samples\":[{\"name\":[]}]}", Deep(20)),
+    (b"[]", Unfit(0)),
+    (b"{\"grade\":\"TOP\"}", Unfit(9)),
+    (b"{\"grade\":0,\"grade\":0}", Twice(19)),
+    (b"{\"totals\":{\"a\":1,\"\\u0061\":1}}", Twice(26)),
+    (b"{\"samples\":[{\"other\":1}]}", Unknown(21)),
+    (b"{\"file\":\"\",\"templateSample\":{}}", Second(28)),
+];
+
+const NO_LEVEL: [Row; 2] = [(b"{}", Deep(0)), (b" {\"grade\":0}", Deep(1))];
+
+const TWO_LEVELS: [Row; 3] = [
+    (b"{\"samples\":[]}", Is(b"{}")),
+    (b"{\"samples\":[{}]}", Deep(12)),
+    (b"{\"totals\":{\"a\":1}}", Is(b"{\"totals\":{\"a\":\"1\"}}")),
+];
 
 #[test]
 fn batches_are_read_and_written(rt: HostRuntime) {
@@ -66,11 +96,20 @@ fn batches_are_read_and_written(rt: HostRuntime) {
     }
 }
 
-#[test]
-fn a_whole_batch_is_rewritten(rt: HostRuntime) {
-    if let Ok(batch) = from_json::<Batch>(rt.alloc(), WHOLE, 3) {
-        if let Ok(out) = to_json(rt.alloc(), &batch) {
-            assert_eq!(rt; out.as_slice(), WHOLE);
+// The row that does not find its own answer, and what it finds.
+fn astray(alloc: Global, rows: &[Row], levels: u32) -> Option<(usize, Found)> {
+    for (place, row) in rows.iter().enumerate() {
+        let found = found_whole::<Batch>(alloc, row, levels);
+        if found != Found::Own {
+            return Some((place, found));
         }
     }
+    None
+}
+
+#[test]
+fn whole_batches_are_rewritten(rt: HostRuntime) {
+    assert_eq!(rt; astray(rt.alloc(), &WHOLE, 3), None);
+    assert_eq!(rt; astray(rt.alloc(), &TWO_LEVELS, 2), None);
+    assert_eq!(rt; astray(rt.alloc(), &NO_LEVEL, 0), None);
 }

@@ -13,13 +13,13 @@ ghost use Rattle.wire_jsonfields.specs.Levels.{NothingMeant, ReadsWithin};
 ghost use Rattle.wire_protojson.specs.Laws.{IsDecided};
 ghost use Rattle.wire_json.specs.Json.{member, no_member};
 ghost use Rattle.wire_jsonfields.specs.Messages.{IsFieldTree, comma_unless, is_no_member, text_of_members};
-ghost use Rattle.wire_jsonfields.specs.Objects.{AreEntries, IsNameOf};
+ghost use Rattle.wire_jsonfields.specs.Objects.{ArePlaced, IsNameOf};
 ghost use Rattle.wire_jsonfields.specs.OneValues.{IsOneValued};
 ghost use Rattle.wire_protojson.specs.Reads.{ReadsMeaning, Refuses, RefusedAt, UnlessNoMemory};
 
 use crate::find::find;
 use crate::known::FieldName;
-use crate::object::Entry;
+use crate::object::PlacedMember;
 use std::alloc::{AllocError, Global};
 use std::marker::PhantomData;
 use wire_json::Mark;
@@ -232,19 +232,19 @@ impl<S: JsonScalar> JsonKind for Optional<S> {
 pub fn read_field<K: JsonKind>(
     alloc: Global,
     text: &[u8],
-    entries: &[Entry<'_>],
+    members: &[PlacedMember<'_>],
     levels: u32,
     field: &FieldName,
 ) -> Result<K::Held, ReadError>
-    ensures ok { IfOk result (λ held. (ms : Members) → AreEntries text.now entries.now ms
+    ensures ok { IfOk result (λ held. (ms : Members) → ArePlaced text.now members.now ms
         → FieldMeans K.absent K.means
         (IsNameOf field.now.name.now field.now.json_name.now) ms (K.view held)) }
     ensures err { IfErr result (λ e. e ≢ OutOfMemory → (ms : Members)
-        → AreEntries text.now entries.now ms → members_depth ms ≤ levels
+        → ArePlaced text.now members.now ms → members_depth ms ≤ levels
         → (value : K.Value) → FieldMeans K.absent K.means
         (IsNameOf field.now.name.now field.now.json_name.now) ms value → ⊥) }
 {
-    match find(entries, field.name, field.json_name) {
+    match find(members, field.name, field.json_name) {
         Ok(None) => Ok(K::absent_value(alloc)),
         Ok(Some(place)) => {
             if is_null(text, place) {

@@ -3,7 +3,7 @@
 //! all.
 use crate::answers::Answer::{Bad, Deep, Is, NoKey, Twice, Unfit, Unknown};
 use crate::answers::{Found, Row, found_in};
-use crate::batch::Level;
+use crate::batch::Grade;
 use crate::sample::Sample;
 use crate::{AlwaysMessage, Embedded, EnumOf, Implicit, JsonValue, Map, Optional, Repeated};
 use std::alloc::Global;
@@ -40,7 +40,7 @@ const MESSAGE_LISTS: [Row; 6] = [
     (b"[{},[]]", Unfit(4)),
 ];
 
-const LEVELS: [Row; 6] = [
+const GRADES: [Row; 6] = [
     (b"\"HIGH\"", Is(b"\"HIGH\"")),
     (b"1", Is(b"\"HIGH\"")),
     (b"7", Is(b"7")),
@@ -117,6 +117,19 @@ const BYTES_BY_WORD: [Row; 2] = [
     (b"{\"4294967296\":\"\"}", NoKey(14)),
 ];
 
+// Where no array and no object may stand, at one level, and at two.
+const NO_LEVEL: [Row; 3] = [(b"[]", Deep(0)), (b"[1]", Deep(0)), (b"1", Unfit(0))];
+
+const NO_OBJECT: [Row; 2] = [(b"{}", Deep(0)), (b"[]", Unfit(0))];
+
+const FLAT: [Row; 2] = [(b"1", Is(b"\"1\"")), (b"[]", Unfit(0))];
+
+const ONE_LEVEL: [Row; 3] = [(b"[]", Is(b"[]")), (b"[{}]", Deep(1)), (b"[1]", Unfit(1))];
+
+const ONE_OBJECT: [Row; 2] = [(b"{}", Is(b"{}")), (b"{\"1\":{}}", Deep(5))];
+
+const TWO_LEVELS: [Row; 2] = [(b"[{}]", Is(b"[{}]")), (b"[{\"value\":[]}]", Deep(10))];
+
 // The row that does not find its own answer, and what it finds.
 fn astray<V: JsonValue>(alloc: Global, rows: &[Row], levels: u32) -> Option<(usize, Found)> {
     for (place, row) in rows.iter().enumerate() {
@@ -142,8 +155,35 @@ fn lists_are_read_and_written(rt: HostRuntime) {
 fn messages_and_enums_within_are_read_and_written(rt: HostRuntime) {
     let alloc = rt.alloc();
     assert_eq!(rt; astray::<Embedded<Sample>>(alloc, &MESSAGES, 2), None);
-    assert_eq!(rt; astray::<Implicit<EnumOf<Level>>>(alloc, &LEVELS, 1), None);
-    assert_eq!(rt; astray::<Optional<EnumOf<Level>>>(alloc, &LEVELS, 1), None);
+    assert_eq!(rt; astray::<Implicit<EnumOf<Grade>>>(alloc, &GRADES, 1), None);
+    assert_eq!(rt; astray::<Optional<EnumOf<Grade>>>(alloc, &GRADES, 1), None);
+}
+
+#[test]
+fn arrays_and_objects_are_levels(rt: HostRuntime) {
+    let alloc = rt.alloc();
+    assert_eq!(rt; astray::<Implicit<i64>>(alloc, &FLAT, 0), None);
+    assert_eq!(rt;
+        astray::<Repeated<Implicit<i64>>>(alloc, &NO_LEVEL, 0),
+        None
+    );
+    assert_eq!(rt; astray::<Embedded<Sample>>(alloc, &NO_OBJECT, 0), None);
+    assert_eq!(rt;
+        astray::<Map<u32, AlwaysMessage<Sample>>>(alloc, &NO_OBJECT, 0),
+        None
+    );
+    assert_eq!(rt;
+        astray::<Map<u32, AlwaysMessage<Sample>>>(alloc, &ONE_OBJECT, 1),
+        None
+    );
+    assert_eq!(rt;
+        astray::<Repeated<AlwaysMessage<Sample>>>(alloc, &ONE_LEVEL, 1),
+        None
+    );
+    assert_eq!(rt;
+        astray::<Repeated<AlwaysMessage<Sample>>>(alloc, &TWO_LEVELS, 2),
+        None
+    );
 }
 
 #[test]
@@ -162,7 +202,7 @@ fn maps_are_read_and_written(rt: HostRuntime) {
         None
     );
     assert_eq!(rt;
-        astray::<Map<bool, Implicit<EnumOf<Level>>>>(alloc, &BOOL_KEYS, 2),
+        astray::<Map<bool, Implicit<EnumOf<Grade>>>>(alloc, &BOOL_KEYS, 2),
         None
     );
     assert_eq!(rt;

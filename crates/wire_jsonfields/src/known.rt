@@ -6,9 +6,9 @@ ghost use Rattle.wire_protojson.specs.declared.refusal.ReadError.TheVariants.{Re
 ghost use Rattle.wire_protojson.specs.declared.refusal.Reason.TheVariants.{UnknownName};
 ghost use Rattle.wire_jsonfields.specs.Fields.{EachKnown, IsKnown};
 ghost use Rattle.wire_jsonfields.specs.Firsts.{IsUnknown, StandsFirst};
-ghost use Rattle.wire_jsonfields.specs.Objects.{AreEntries, IsNameOf};
+ghost use Rattle.wire_jsonfields.specs.Objects.{ArePlaced, IsNameOf};
 
-use crate::object::Entry;
+use crate::object::PlacedMember;
 use wire_protojson::{ReadError, Reason, Refusal};
 
 /// The names of a field: that of the schema, and that of JSON, which is written.
@@ -19,41 +19,41 @@ pub struct FieldName {
 }
 
 /// Whether each member is of a field. The value of the first that is not is refused at its place.
-pub fn check_names(entries: &[Entry<'_>], fields: &[FieldName]) -> Result<(), ReadError>
-    ensures ok { OnOk result ((text : List ℕ) (ms : Members) → AreEntries text entries.now ms
+pub fn check_names(members: &[PlacedMember<'_>], fields: &[FieldName]) -> Result<(), ReadError>
+    ensures ok { OnOk result ((text : List ℕ) (ms : Members) → ArePlaced text members.now ms
         → EachKnown (IsKnown fields.now) ms) }
-    ensures err { OnErr result ((text : List ℕ) (ms : Members) → AreEntries text entries.now ms
+    ensures err { OnErr result ((text : List ℕ) (ms : Members) → ArePlaced text members.now ms
         → EachKnown (IsKnown fields.now) ms → ⊥) }
-    ensures which { IfErr result (λ e. (first : Entry) × (behind : List Entry)
-        × StandsFirst (IsUnknown fields.now) entries.now first behind
+    ensures which { IfErr result (λ e. (first : PlacedMember) × (behind : List PlacedMember)
+        × StandsFirst (IsUnknown fields.now) members.now first behind
         × (e ≡ Refused (record { reason = UnknownName; at = first.place }))) }
 {
-    for entry in entries {
-        if !is_known(fields, entry) {
-            return Err(unknown(entry.place));
+    for member in members {
+        if !is_known(fields, member) {
+            return Err(unknown(member.place));
         }
     }
     Ok(())
 }
 
-pub(crate) fn is_known(fields: &[FieldName], entry: &Entry<'_>) -> bool
-    ensures { MatchBool result (IsKnown fields.now (cow_str_bytes entry.now.name))
-        (IsKnown fields.now (cow_str_bytes entry.now.name) → ⊥) }
+pub(crate) fn is_known(fields: &[FieldName], member: &PlacedMember<'_>) -> bool
+    ensures { MatchBool result (IsKnown fields.now (cow_str_bytes member.now.name))
+        (IsKnown fields.now (cow_str_bytes member.now.name) → ⊥) }
 {
     for field in fields {
-        if is_of(field, entry) {
+        if is_of(field, member) {
             return true;
         }
     }
     false
 }
 
-fn is_of(field: &FieldName, entry: &Entry<'_>) -> bool
+fn is_of(field: &FieldName, member: &PlacedMember<'_>) -> bool
     ensures { MatchBool result
-        (IsNameOf field.now.name.now field.now.json_name.now (cow_str_bytes entry.now.name))
-        (IsNameOf field.now.name.now field.now.json_name.now (cow_str_bytes entry.now.name) → ⊥) }
+        (IsNameOf field.now.name.now field.now.json_name.now (cow_str_bytes member.now.name))
+        (IsNameOf field.now.name.now field.now.json_name.now (cow_str_bytes member.now.name) → ⊥) }
 {
-    let called = entry.name.as_str();
+    let called = member.name.as_str();
     called == field.name || called == field.json_name
 }
 

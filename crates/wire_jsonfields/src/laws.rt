@@ -9,7 +9,7 @@ ghost use Rattle.wire_json.specs.Json.{Json};
 ghost use Rattle.wire_protojson.specs.Enums.{AreTexts, IsEnumTree, MeansEnum, NamesAgree};
 ghost use Rattle.wire_jsonfields.specs.Back.{ComesBack, EachComesBack, EntriesComeBack, IsBack, SpellsOneValue};
 ghost use Rattle.wire_jsonfields.specs.Keys.{IsSignedKey, IsUnsignedKey};
-ghost use Rattle.wire_jsonfields.specs.Levels.{IsReadFrom, WritesWithin};
+ghost use Rattle.wire_jsonfields.specs.Levels.{IsReadFrom, NestsWithin};
 ghost use Rattle.wire_jsonfields.specs.Lists.{IsListTree, ListMeans};
 ghost use Rattle.wire_jsonfields.specs.Maps.{IsMapTree, MapMeans};
 
@@ -50,15 +50,15 @@ pub fn written_is_read<M: JsonMessage>()
 /// What is written of a list has one level more than its elements.
 pub fn lists_add_a_level<V: JsonValue>()
     ensures { (levels : ℕ) (vs : List V.Value)
-        → AllByRecursion (WritesWithin levels V.tree) vs
-        → WritesWithin (suc levels) (IsListTree V.tree) vs }
+        → AllByRecursion (NestsWithin levels V.tree) vs
+        → NestsWithin (suc levels) (IsListTree V.tree) vs }
 {}
 
 /// What is written of a map has one level more than its values.
 pub fn maps_add_a_level<K: JsonKey, V: JsonValue>()
     ensures { (levels : ℕ) (m : List (K.Value × V.Value))
-        → AllByRecursion (λ e. WritesWithin levels V.tree e.1) m
-        → WritesWithin (suc levels) (IsMapTree K.name V.tree) m }
+        → AllByRecursion (λ e. NestsWithin levels V.tree e.1) m
+        → NestsWithin (suc levels) (IsMapTree K.name V.tree) m }
 {}
 
 /// What is written of an enum is read as its number, where no name stands for two.

@@ -17,6 +17,8 @@ mod caller;
 mod enum_field;
 mod find;
 mod held;
+#[cfg(test)]
+mod held_tests;
 mod key;
 mod kind;
 #[cfg(test)]
@@ -41,5 +43,5 @@ pub use known::{FieldName, check_names};
 pub use list::Repeated;
 pub use map::Map;
 pub use message::{AlwaysMessage, Embedded, JsonMessage, from_json, to_json};
-pub use object::{Entry, Object, read_object};
+pub use object::{Object, PlacedMember, read_object};
 pub use oneof::second_of_oneof;

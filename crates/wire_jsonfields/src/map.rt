@@ -10,11 +10,11 @@ ghost use Rattle.wire_protojson.specs.declared.refusal.ReadError.TheVariants.{Ou
 ghost use Rattle.wire_jsonfields.specs.Levels.{NothingMeant, ReadsWithin};
 ghost use Rattle.wire_jsonfields.specs.Maps.{IsMapTree, MapMeans, MembersPut, entries_seen};
 ghost use Rattle.wire_jsonfields.specs.Messages.{text_of_members};
-ghost use Rattle.wire_jsonfields.specs.Objects.{AreEntries};
+ghost use Rattle.wire_jsonfields.specs.Objects.{ArePlaced};
 
 use crate::key::JsonKey;
 use crate::kind::{JsonKind, JsonValue, write_comma};
-use crate::object::{Entry, read_object};
+use crate::object::{PlacedMember, read_object};
 use std::alloc::{AllocError, Global};
 use std::collections::BTreeMap;
 use std::marker::PhantomData;
@@ -53,7 +53,7 @@ impl<K: JsonKey, V: JsonValue> JsonValue for Map<K, V> {
     ) -> Result<(BTreeMap<K::Held, V::Held>, usize), ReadError> {
         match read_object(alloc, text, at, levels) {
             Ok(object) => {
-                match read_map_entries::<K, V>(alloc, text, object.entries.as_slice(), levels) {
+                match read_map_entries::<K, V>(alloc, text, object.members.as_slice(), levels) {
                     Ok(map) => Ok((map, object.after)),
                     Err(error) => Err(error),
                 }
@@ -85,28 +85,28 @@ impl<K: JsonKey, V: JsonValue> JsonKind for Map<K, V> {
 fn read_map_entries<K: JsonKey, V: JsonValue>(
     alloc: Global,
     text: &[u8],
-    entries: &[Entry<'_>],
+    members: &[PlacedMember<'_>],
     levels: u32,
 ) -> Result<BTreeMap<K::Held, V::Held>, ReadError>
-    ensures ok { IfOk result (λ map. (ms : Members) → AreEntries text.now entries.now ms
+    ensures ok { IfOk result (λ map. (ms : Members) → ArePlaced text.now members.now ms
         → MembersPut K.order K.means V.means ms [] (entries_seen K.view V.view map.entries)) }
     ensures err { IfErr result (λ e. e ≢ OutOfMemory → (ms : Members)
-        → AreEntries text.now entries.now ms → members_depth ms ≤ levels
+        → ArePlaced text.now members.now ms → members_depth ms ≤ levels
         → (m : List (K.Value × V.Value)) → MembersPut K.order K.means V.means ms [] m → ⊥) }
 {
     let mut map = BTreeMap::new(alloc);
-    for entry in entries {
-        match K::read_key(alloc, entry.name.as_str()) {
+    for member in members {
+        match K::read_key(alloc, member.name.as_str()) {
             Ok(Some(key)) => {
                 if has_key::<K, V>(&map, &key) {
-                    return Err(refused(Reason::Duplicate, entry.place));
+                    return Err(refused(Reason::Duplicate, member.place));
                 }
-                match V::read_json(alloc, text, entry.place, levels) {
+                match V::read_json(alloc, text, member.place, levels) {
                     Ok((value, _after)) => put_entry::<K, V>(&mut map, key, value)?,
                     Err(error) => return Err(error),
                 }
             }
-            Ok(None) => return Err(refused(Reason::NoKey, entry.place)),
+            Ok(None) => return Err(refused(Reason::NoKey, member.place)),
             Err(_full) => return Err(ReadError::OutOfMemory),
         }
     }

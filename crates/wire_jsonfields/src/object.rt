@@ -4,7 +4,7 @@ ghost use Rattle.wire_json.specs.Answer.{IsBehind};
 ghost use Rattle.wire_json.specs.Bytes.{begins, is_byte};
 ghost use Rattle.wire_json.specs.Json.{Members, depth, members_depth, object};
 ghost use Rattle.wire_json.specs.Reading.{ReadsMembers, ReadsValue};
-ghost use Rattle.wire_jsonfields.specs.Objects.{AreEntries, NoMembersHere, NoObjectHere};
+ghost use Rattle.wire_jsonfields.specs.Objects.{ArePlaced, NoMembersHere, NoObjectHere};
 ghost use Rattle.wire_protojson.specs.Reads.{RefusedAt, UnlessNoMemory};
 
 use std::alloc::{AllocError, Global};
@@ -14,7 +14,7 @@ use wire_protojson::{ReadError, no_json, no_value};
 
 /// A member of an object: its name, and the place of its value.
 #[derive(Drop)]
-pub struct Entry<'a> {
+pub struct PlacedMember<'a> {
     pub name: CowStr<'a>,
     pub place: usize,
 }
@@ -22,7 +22,7 @@ pub struct Entry<'a> {
 /// The members of an object in their order, also those of one name, and the place behind it.
 #[derive(Drop)]
 pub struct Object<'a> {
-    pub entries: Vec<Entry<'a>>,
+    pub members: Vec<PlacedMember<'a>>,
     pub after: usize,
 }
 
@@ -36,7 +36,7 @@ pub fn read_object<'a>(
 ) -> Result<Object<'a>, ReadError>
     ensures ok { IfOk result (λ read. (ms : Members)
         × ReadsValue (object ms) (drop at text.now) (drop read.after text.now)
-        × (depth (object ms) ≤ levels) × AreEntries text.now read.entries.items ms) }
+        × (depth (object ms) ≤ levels) × ArePlaced text.now read.members.items ms) }
     ensures behind { IfOk result (λ read. IsBehind at read.after text.now) }
     ensures err { IfErr result (λ e. UnlessNoMemory e
         (λ refusal. RefusedAt text.now refusal (NoObjectHere levels (drop at text.now)))) }
@@ -56,7 +56,7 @@ pub fn read_object<'a>(
                     at,
                 }));
             }
-            read_entries(alloc, text, at, levels - 1)
+            read_members(alloc, text, at, levels - 1)
         }
     }
 }
@@ -68,7 +68,7 @@ fn is_object(kind: Kind) -> bool
 }
 
 // The members of the object at this place, whose values nest at most so deep.
-fn read_entries<'a>(
+fn read_members<'a>(
     alloc: Global,
     text: &'a [u8],
     at: usize,
@@ -77,37 +77,37 @@ fn read_entries<'a>(
     requires { begins (is_byte 123) (drop at text.now) ≡ true }
     ensures ok { IfOk result (λ read. (inside : List ℕ) × (ms : Members)
         × (drop at text.now ≡ 123 ∷ inside) × ReadsMembers ms inside (drop read.after text.now)
-        × (members_depth ms ≤ levels) × AreEntries text.now read.entries.items ms) }
+        × (members_depth ms ≤ levels) × ArePlaced text.now read.members.items ms) }
     ensures behind { IfOk result (λ read. IsBehind at read.after text.now) }
     ensures err { IfErr result (λ e. UnlessNoMemory e (λ refusal. (inside : List ℕ)
         × (drop at text.now ≡ 123 ∷ inside)
         × RefusedAt text.now refusal (NoMembersHere levels inside))) }
 {
-    let mut entries = Vec::new(alloc);
+    let mut members = Vec::new(alloc);
     let mut next = wire_json::first_member(text, at)?;
     loop {
         match next {
-            Next::End(after) => return Ok(Object { entries, after }),
+            Next::End(after) => return Ok(Object { members, after }),
             Next::Item(place) => {
                 let name = wire_json::read_name(alloc, text, place)?;
                 let value = name.after;
                 let after = wire_json::skip_value(text, value, levels)?;
-                push_entry(&mut entries, name.value, value)?;
+                push_member(&mut members, name.value, value)?;
                 next = wire_json::next_member(text, after)?;
             }
         }
     }
 }
 
-fn push_entry<'a>(
-    entries: &mut Vec<Entry<'a>>,
+fn push_member<'a>(
+    members: &mut Vec<PlacedMember<'a>>,
     name: CowStr<'a>,
     place: usize,
 ) -> Result<(), AllocError>
-    ensures { OnOk result (entries.new.items
-        ≡ entries.old.items ++ record { name = name.entry; place = place } ∷ []) }
+    ensures { OnOk result (members.new.items
+        ≡ members.old.items ++ record { name = name.entry; place = place } ∷ []) }
 {
-    match entries.push(Entry { name, place }) {
+    match members.push(PlacedMember { name, place }) {
         Ok(()) => Ok(()),
         Err(_full) => Err(AllocError),
     }

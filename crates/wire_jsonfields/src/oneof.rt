@@ -6,44 +6,48 @@ ghost use Rattle.wire_jsonfields.specs.Firsts.{HasValue, HoldsOfNone, IsSecondPl
 
 use crate::kind::is_null;
 use crate::known::{FieldName, is_known};
-use crate::object::Entry;
+use crate::object::PlacedMember;
 use wire_protojson::{ReadError, Reason, Refusal};
 
 /// The refusal of a oneof of which more than one of these fields has a value, at the second value;
 /// where one has, at it, and where none has, at the beginning of the text. `null` is none.
-pub fn second_of_oneof(text: &[u8], entries: &[Entry<'_>], fields: &[FieldName]) -> ReadError
-    ensures { (place : ℕ) × IsSecondPlace (HasValue fields.now text.now) entries.now place
+pub fn second_of_oneof(text: &[u8], members: &[PlacedMember<'_>], fields: &[FieldName]) -> ReadError
+    ensures { (place : ℕ) × IsSecondPlace (HasValue fields.now text.now) members.now place
         × (result ≡ Refused (record { reason = SecondOfOneof; at = place })) }
 {
-    match first_value(text, entries, fields) {
+    match first_value(text, members, fields) {
         None => second(0),
-        Some(first) => match first_value(text, &entries[first.behind..], fields) {
+        Some(first) => match first_value(text, &members[first.behind..], fields) {
             None => second(first.place),
             Some(value) => second(value.place),
         },
     }
 }
 
-// The place of a value, and the index behind its entry.
+// The place of a value, and the index behind its member.
 #[derive(Clone, Copy)]
 struct FirstValue {
     place: usize,
     behind: usize,
 }
 
-fn first_value(text: &[u8], entries: &[Entry<'_>], fields: &[FieldName]) -> Option<FirstValue>
-    ensures some { IfSome result (λ first. (entry : Entry)
-        × StandsFirst (HasValue fields.now text.now) entries.now entry
-        (drop first.behind entries.now) × (first.place ≡ entry.place)) }
-    ensures within { IfSome result (λ first. first.behind ≤ length entries.now) }
-    ensures none { IfNone result (HoldsOfNone (HasValue fields.now text.now) entries.now) }
+fn first_value(
+    text: &[u8],
+    members: &[PlacedMember<'_>],
+    fields: &[FieldName],
+) -> Option<FirstValue>
+    ensures some { IfSome result (λ first. (member : PlacedMember)
+        × StandsFirst (HasValue fields.now text.now) members.now member
+        (drop first.behind members.now) × (first.place ≡ member.place)) }
+    ensures within { IfSome result (λ first. first.behind ≤ length members.now) }
+    ensures none { IfNone result (HoldsOfNone (HasValue fields.now text.now) members.now) }
 {
     let mut behind = 0;
-    for entry in entries {
+    for member in members {
         behind += 1;
-        if has_value(text, entry, fields) {
+        if has_value(text, member, fields) {
             return Some(FirstValue {
-                place: entry.place,
+                place: member.place,
                 behind,
             });
         }
@@ -51,11 +55,11 @@ fn first_value(text: &[u8], entries: &[Entry<'_>], fields: &[FieldName]) -> Opti
     None
 }
 
-fn has_value(text: &[u8], entry: &Entry<'_>, fields: &[FieldName]) -> bool
-    ensures { MatchBool result (HasValue fields.now text.now entry.now)
-        (HasValue fields.now text.now entry.now → ⊥) }
+fn has_value(text: &[u8], member: &PlacedMember<'_>, fields: &[FieldName]) -> bool
+    ensures { MatchBool result (HasValue fields.now text.now member.now)
+        (HasValue fields.now text.now member.now → ⊥) }
 {
-    is_known(fields, entry) && !is_null(text, entry.place)
+    is_known(fields, member) && !is_null(text, member.place)
 }
 
 fn second(at: usize) -> ReadError

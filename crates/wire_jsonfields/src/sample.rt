@@ -59,14 +59,14 @@ impl JsonMessage for Sample {
         levels: u32,
     ) -> Result<(Sample, usize), ReadError> {
         let object = read_object(alloc, text, at, levels)?;
-        let entries = object.entries.as_slice();
-        check_names(entries, &[NAME, VALUE, SAMPLE_COUNT])?;
-        let name = read_field::<Implicit<String>>(alloc, text, entries, levels, &NAME)?;
-        let value = read_field::<Implicit<f64>>(alloc, text, entries, levels, &VALUE)?;
+        let members = object.members.as_slice();
+        check_names(members, &[NAME, VALUE, SAMPLE_COUNT])?;
+        let name = read_field::<Implicit<String>>(alloc, text, members, levels, &NAME)?;
+        let value = read_field::<Implicit<f64>>(alloc, text, members, levels, &VALUE)?;
         let sample_count = read_field::<Optional<i64>>(
             alloc,
             text,
-            entries,
+            members,
             levels,
             &SAMPLE_COUNT,
         )?;

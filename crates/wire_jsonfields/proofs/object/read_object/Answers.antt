@@ -26,8 +26,8 @@ returns-else-levels-eq0-clause-err c =
     let old = drop c.args.at c.args.text.now in
     let begun : kind_begun old ≡ Some kinds.Object =
     sym c.kind_at.ensures.kind ∙ c.in-Some.is ∙ ap Some c.if-not-is_object.ensures in
-    passed_up c.args.text.now old c.args.levels begun c.if-levels-eq0.false c.read_entries.result
-    c.read_entries.ensures.err
+    passed_up c.args.text.now old c.args.levels begun c.if-levels-eq0.false c.read_members.result
+    c.read_members.ensures.err
 
 pub returns-then-not-is_object : goal.returns-then-not-is_object
 returns-then-not-is_object c =

@@ -19,24 +19,24 @@ returns-in_err-check_names-clause-err c =
     let text = c.args.text.now in
     let read = c.in_ok-object.object in
     let (ms, reads, fits, are) = c.in_ok-object.ensures.ok in
-    let entries = in_slice text ms c.as_slice-entries.result.now read.entries.items
-    c.as_slice-entries.ensures.value are in
+    let entries = in_slice text ms c.as_slice-members.result.now read.members.items
+    c.as_slice-members.ensures.value are in
     rw (p.1, p.2) (λ other. none_said batch-says c.args.levels (drop c.args.at text) ms
     (drop read.after text) reads
     (λ v deep says. c.in_err-check_names.ensures.err text ms entries says.0))
 
-pub returns-in_err-level-clause-err : goal.returns-in_err-level-clause-err
-returns-in_err-level-clause-err c =
-    let r = c.from_residual-in_err-level in
+pub returns-in_err-grade-clause-err : goal.returns-in_err-grade-clause-err
+returns-in_err-grade-clause-err c =
+    let r = c.from_residual-in_err-grade in
     let p = err_from_is_err_and r.result r.ensures.1 in
     let text = c.args.text.now in
     let read = c.in_ok-object.object in
     let (ms, reads, fits, are) = c.in_ok-object.ensures.ok in
-    let entries = in_slice text ms c.as_slice-entries.result.now read.entries.items
-    c.as_slice-entries.ensures.value are in
+    let entries = in_slice text ms c.as_slice-members.result.now read.members.items
+    c.as_slice-members.ensures.value are in
     rw (p.1, p.2) (λ other. none_said batch-says c.args.levels (drop c.args.at text) ms
     (drop read.after text) reads
-    (λ v deep says. c.in_err-level.ensures.err other ms entries deep v.0 says.1))
+    (λ v deep says. c.in_err-grade.ensures.err other ms entries deep v.0 says.1))
 
 pub returns-in_err-samples-clause-err : goal.returns-in_err-samples-clause-err
 returns-in_err-samples-clause-err c =
@@ -45,8 +45,8 @@ returns-in_err-samples-clause-err c =
     let text = c.args.text.now in
     let read = c.in_ok-object.object in
     let (ms, reads, fits, are) = c.in_ok-object.ensures.ok in
-    let entries = in_slice text ms c.as_slice-entries.result.now read.entries.items
-    c.as_slice-entries.ensures.value are in
+    let entries = in_slice text ms c.as_slice-members.result.now read.members.items
+    c.as_slice-members.ensures.value are in
     rw (p.1, p.2) (λ other. none_said batch-says c.args.levels (drop c.args.at text) ms
     (drop read.after text) reads
     (λ v deep says. c.in_err-samples.ensures.err other ms entries deep v.1 says.2))
@@ -58,8 +58,8 @@ returns-in_err-totals-clause-err c =
     let text = c.args.text.now in
     let read = c.in_ok-object.object in
     let (ms, reads, fits, are) = c.in_ok-object.ensures.ok in
-    let entries = in_slice text ms c.as_slice-entries.result.now read.entries.items
-    c.as_slice-entries.ensures.value are in
+    let entries = in_slice text ms c.as_slice-members.result.now read.members.items
+    c.as_slice-members.ensures.value are in
     rw (p.1, p.2) (λ other. none_said batch-says c.args.levels (drop c.args.at text) ms
     (drop read.after text) reads
     (λ v deep says. c.in_err-totals.ensures.err other ms entries deep v.2 says.3))
@@ -71,8 +71,8 @@ returns-in_err-origin-clause-err c =
     let text = c.args.text.now in
     let read = c.in_ok-object.object in
     let (ms, reads, fits, are) = c.in_ok-object.ensures.ok in
-    let entries = in_slice text ms c.as_slice-entries.result.now read.entries.items
-    c.as_slice-entries.ensures.value are in
+    let entries = in_slice text ms c.as_slice-members.result.now read.members.items
+    c.as_slice-members.ensures.value are in
     rw (p.1, p.2) (λ other. none_said batch-says c.args.levels (drop c.args.at text) ms
     (drop read.after text) reads
     (λ v deep says. c.in_err-origin.ensures.err other ms entries deep v.3 says.4))
@@ -81,14 +81,14 @@ pub returns-clause-ok : goal.returns-clause-ok
 returns-clause-ok c =
     let text = c.args.text.now in
     let (ms, reads, fits, are) = c.in_ok-object.ensures.ok in
-    let entries = in_slice text ms c.as_slice-entries.result.now c.in_ok-object.object.entries.items
-    c.as_slice-entries.ensures.value are in (
+    let entries = in_slice text ms c.as_slice-members.result.now c.in_ok-object.object.members.items
+    c.as_slice-members.ensures.value are in (
       object ms,
       reads,
       fits,
       (
         c.in_ok-check_names.ensures.ok text ms entries,
-        c.in_ok-level.ensures.ok ms entries,
+        c.in_ok-grade.ensures.ok ms entries,
         c.in_ok-samples.ensures.ok ms entries,
         c.in_ok-totals.ensures.ok ms entries,
         c.in_ok-origin.ensures.ok ms entries,

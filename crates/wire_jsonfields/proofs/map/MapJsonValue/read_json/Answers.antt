@@ -8,7 +8,7 @@ pub returns-in-Ok-read_map_entries-clause-ok : goal.returns-in-Ok-read_map_entri
 returns-in-Ok-read_map_entries-clause-ok g c =
     let text = c.args.text.now in
     let (ms, reads, fits, are) = c.in-Ok.ensures.ok in
-    let entries = in_slice text ms c.as_slice.result.now c.in-Ok.object.entries.items
+    let entries = in_slice text ms c.as_slice.result.now c.in-Ok.object.members.items
     c.as_slice.ensures.value are in
     (object ms, reads, fits, c.in-Ok-read_map_entries.ensures.ok ms entries)
 
@@ -16,7 +16,7 @@ pub returns-in-Ok-clause-err : goal.returns-in-Ok-clause-err
 returns-in-Ok-clause-err g c = λ other.
     let text = c.args.text.now in
     let (ms, reads, fits, are) = c.in-Ok.ensures.ok in
-    let entries = in_slice text ms c.as_slice.result.now c.in-Ok.object.entries.items
+    let entries = in_slice text ms c.as_slice.result.now c.in-Ok.object.members.items
     c.as_slice.ensures.value are in
     none_said (λ xs m. MembersPut g.K.JsonKey.order g.K.JsonKey.means g.V.JsonValue.means xs [] m)
     c.args.levels (drop c.args.at text) ms (drop c.in-Ok.object.after text) reads

@@ -19,8 +19,8 @@ returns-in_err-check_names-clause-err c =
     let text = c.args.text.now in
     let read = c.in_ok-object.object in
     let (ms, reads, fits, are) = c.in_ok-object.ensures.ok in
-    let entries = in_slice text ms c.as_slice-entries.result.now read.entries.items
-    c.as_slice-entries.ensures.value are in
+    let entries = in_slice text ms c.as_slice-members.result.now read.members.items
+    c.as_slice-members.ensures.value are in
     rw (p.1, p.2) (λ other. none_said sample-says c.args.levels (drop c.args.at text) ms
     (drop read.after text) reads
     (λ v deep says. c.in_err-check_names.ensures.err text ms entries says.0))
@@ -32,8 +32,8 @@ returns-in_err-name-clause-err c =
     let text = c.args.text.now in
     let read = c.in_ok-object.object in
     let (ms, reads, fits, are) = c.in_ok-object.ensures.ok in
-    let entries = in_slice text ms c.as_slice-entries.result.now read.entries.items
-    c.as_slice-entries.ensures.value are in
+    let entries = in_slice text ms c.as_slice-members.result.now read.members.items
+    c.as_slice-members.ensures.value are in
     rw (p.1, p.2) (λ other. none_said sample-says c.args.levels (drop c.args.at text) ms
     (drop read.after text) reads
     (λ v deep says. c.in_err-name.ensures.err other ms entries deep v.0 says.1))
@@ -45,8 +45,8 @@ returns-in_err-value-clause-err c =
     let text = c.args.text.now in
     let read = c.in_ok-object.object in
     let (ms, reads, fits, are) = c.in_ok-object.ensures.ok in
-    let entries = in_slice text ms c.as_slice-entries.result.now read.entries.items
-    c.as_slice-entries.ensures.value are in
+    let entries = in_slice text ms c.as_slice-members.result.now read.members.items
+    c.as_slice-members.ensures.value are in
     rw (p.1, p.2) (λ other. none_said sample-says c.args.levels (drop c.args.at text) ms
     (drop read.after text) reads
     (λ v deep says. c.in_err-value.ensures.err other ms entries deep v.1 says.2))
@@ -58,8 +58,8 @@ returns-in_err-sample_count-clause-err c =
     let text = c.args.text.now in
     let read = c.in_ok-object.object in
     let (ms, reads, fits, are) = c.in_ok-object.ensures.ok in
-    let entries = in_slice text ms c.as_slice-entries.result.now read.entries.items
-    c.as_slice-entries.ensures.value are in
+    let entries = in_slice text ms c.as_slice-members.result.now read.members.items
+    c.as_slice-members.ensures.value are in
     rw (p.1, p.2) (λ other. none_said sample-says c.args.levels (drop c.args.at text) ms
     (drop read.after text) reads
     (λ v deep says. c.in_err-sample_count.ensures.err other ms entries deep v.2 says.3))
@@ -68,8 +68,8 @@ pub returns-clause-ok : goal.returns-clause-ok
 returns-clause-ok c =
     let text = c.args.text.now in
     let (ms, reads, fits, are) = c.in_ok-object.ensures.ok in
-    let entries = in_slice text ms c.as_slice-entries.result.now c.in_ok-object.object.entries.items
-    c.as_slice-entries.ensures.value are in (
+    let entries = in_slice text ms c.as_slice-members.result.now c.in_ok-object.object.members.items
+    c.as_slice-members.ensures.value are in (
       object ms,
       reads,
       fits,

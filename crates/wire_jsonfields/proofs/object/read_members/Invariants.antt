@@ -4,14 +4,14 @@ use Rattle.wire_json.specs.Json.{Members}
 use Rattle.wire_json.proofs.Elements.{left_at}
 use Rattle.wire_json.proofs.Members as members
 use Rattle.wire_jsonfields.proofs.Gathering.{Gathered}
-use Rattle.wire_jsonfields.proofs.object.read_entries.Given as goal
+use Rattle.wire_jsonfields.proofs.object.read_members.Given as goal
 
 abbrev pub invariant-loop-next : goal.invariant-loop-next
 invariant-loop-next l = record {
   sofar : (inside : List ℕ) × (written_text : List ℕ) × (so : Members)
       × (drop l.at l.text ≡ 123 ∷ inside)
       × members.State l.levels l.text inside l.next written_text
-      × Gathered l.levels l.text inside l.next l.entries.items so;
+      × Gathered l.levels l.text inside l.next l.members.items so;
   onward : NextIsBehind l.at l.next l.text;
 }
 

@@ -6,7 +6,7 @@ use Rattle.wire_json.specs.Json.{no_member}
 use Rattle.wire_json.proofs.Members as members
 use Rattle.wire_json.proofs.Nested.{behind_further}
 use Rattle.wire_jsonfields.proofs.Gathering.{StandsBroken, broken_here, goes_on, opened, passed_on, with_member}
-use Rattle.wire_jsonfields.proofs.object.read_entries.Goals as goal
+use Rattle.wire_jsonfields.proofs.object.read_members.Goals as goal
 
 pub loop-next-init : goal.loop-next-init
 loop-next-init c =
@@ -19,7 +19,7 @@ loop-next-init c =
         no_member,
         opens,
         members.opened c.args.levels text inside c.in_ok-next.next first,
-        rw c.new-entries.ensures.items (opened c.args.levels text inside c.in_ok-next.next first),
+        rw c.new-members.ensures.items (opened c.args.levels text inside c.in_ok-next.next first),
       );
       onward = c.in_ok-next.ensures.behind;
     }
@@ -89,8 +89,8 @@ loop-next-preserved c =
         members.goes_on c.args.levels text inside before c.in-Item.place after _ e here
             (record { value = drop name.after text; named = named; reads = reads; fits = fits })
             next.next next.ensures.ok,
-        rw c.in_ok-push_entry-in-Item.ensures
-            (goes_on c.args.levels text inside c.loop-next.entries.items so c.in-Item.place after
+        rw c.in_ok-push_member-in-Item.ensures
+            (goes_on c.args.levels text inside c.loop-next.members.items so c.in-Item.place after
             (record { name = name.value; place = name.after }) e sofar named reads fits next.next
             next.ensures.ok),
       );
