@@ -1,0 +1,3 @@
+pub mod DurationBack
+pub mod Reading
+pub mod Taken

@@ -1,0 +1,3 @@
+pub mod Digits
+pub mod Durations
+pub mod Laws

@@ -1,0 +1,13 @@
+//! Laws of times: each function is a theorem, and does nothing.
+ghost use Rattle.wire_jsontimes.specs.Laws.{DurationIsDecided, DurationReadsBack};
+
+/// What is written of a duration is read as it, whatever follows, where that goes on no number.
+pub fn durations_are_read_back()
+    ensures { DurationReadsBack }
+{}
+
+/// A tree means one duration at most, and of the same bytes one is read or one refusal told, and
+/// never both.
+pub fn durations_are_decided()
+    ensures { DurationIsDecided }
+{}
