@@ -1,7 +1,12 @@
 pub mod Arms
 pub mod CountedLists
+pub mod KeptTexts
+pub mod KeptUnknown
 pub mod PassedRecords
 pub mod Reading
 pub mod Shown
+pub mod UnknownKept
+pub mod UnknownReads
+pub mod UnknownSizes
 pub mod WalkLemmas
 pub mod Writing

@@ -1,8 +1,10 @@
 pub mod Counts
 pub mod Flags
+pub mod KeptFields
 pub mod ListLaws
 pub mod Passed
 pub mod Payloads
 pub mod Showing
+pub mod Unknown
 pub mod Walks
 pub mod Within

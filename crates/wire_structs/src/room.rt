@@ -9,9 +9,9 @@ use wire_base::laws::what_fits_is_written;
 use wire_codec::Room;
 
 // `GTV_OK` and `GTV_NO_ROOM`.
-const OK: u32 = 0;
+pub(crate) const OK: u32 = 0;
 
-const NO_ROOM: u32 = 32;
+pub(crate) const NO_ROOM: u32 = 32;
 
 /// How many bytes the shortest encoding takes, or `usize::MAX` where it is more.
 pub fn written_size<P: StructPart + Drop>(parts: P) -> usize
