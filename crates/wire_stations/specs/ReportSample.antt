@@ -3,6 +3,7 @@ use Rattle.std.specs.Prelude.{◌≡◌, ℕ, List, pos, [], false, ⊤}
 use Rattle.wire_codec.specs.Field.{Fields}
 use Rattle.wire_codec.specs.Limits.{Limits, Fits}
 use Rattle.wire_codec.specs.Records.{text}
+use Rattle.wire_codec.specs.Taking.{Decodes}
 use Rattle.wire_fields.specs.Floats.{double}
 use Rattle.wire_fields.specs.Shape.{Shape, two}
 use Rattle.wire_report.specs.ReportSample.{ReportSample-Known, ReportSample-Value}
@@ -10,7 +11,6 @@ use Rattle.wire_report.specs.ReportSample.{report_sample-known, report_sample-ra
 use Rattle.wire_report.specs.ReportSample.{report_sample-shape}
 use Rattle.wire_structs.specs.Flags.{flagged}
 use Rattle.wire_structs.specs.Passed.{passed_by}
-use Rattle.wire_structs.specs.Within.{DecodesSeen}
 use Rattle.wire_stations.specs.declared.report_sample.ReportSampleInC.{ReportSampleInC}
 
 -- all but the unknown fields
@@ -53,12 +53,13 @@ report_sample-written m fs = ((report_sample-shown m).0, fs)
 abbrev pub report_sample-encoding : ReportSampleInC → Fields → List ℕ
 report_sample-encoding m fs = text (report_sample-shape.records (report_sample-written m fs))
 
--- what is written of a struct is read as what it shows, where it is in the range of the message, its
--- name being text, and the limits suffice
+-- what is written of a struct and of unknown fields is read as both, where they are in the range of
+-- the message, its name being text, and the limits suffice; and what is seen of it is what is shown
 abbrev pub ReportSampleReadsBack : Type 0
 ReportSampleReadsBack =
     (l : Limits) (m : ReportSampleInC) (fs : Fields)
     → report_sample-range.Holds (report_sample-written m fs)
     → Fits (report_sample-range.charge_of (report_sample-written m fs)) l
-    → DecodesSeen report_sample-shape report_sample-seen l (report_sample-encoding m fs)
-    (report_sample-shown m)
+    → Decodes report_sample-shape.takes l report_sample-shape.default (report_sample-encoding m fs)
+    (report_sample-written m fs)
+    × (report_sample-seen (report_sample-written m fs) ≡ report_sample-shown m)

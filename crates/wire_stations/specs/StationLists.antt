@@ -41,7 +41,7 @@ station_power-levels = record {
       (λ x. Some (inr (inr x))) (inside_levels report_sample-shape.takes));
 }
 
-station-levels : HasLevels station-shape
+pub station-levels : HasLevels station-shape
 station-levels =
     two_levels _ _
     (two_levels _ _

@@ -21,4 +21,7 @@ pub use station_lists::StationListsInC;
 pub use station_power::StationPowerInC;
 pub use station_samples::next_station_sample;
 pub use station_tags::next_station_tag;
-pub use write::{report_sample_size, station_size, write_report_sample, write_station};
+pub use write::{
+    report_sample_size, report_sample_size_keeping, station_size, station_size_keeping,
+    write_report_sample, write_report_sample_keeping, write_station, write_station_keeping,
+};

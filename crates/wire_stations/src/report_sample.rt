@@ -2,8 +2,8 @@
 use wire_codec::{DecodeContext, DecodeError, EncodeError, EncodeSink, Tag};
 use wire_fields::Int64;
 use wire_structs::{
-    DoubleInC, MessageStruct, NumberInC, StructPart, TextInC, WrittenStruct, implicit_part,
-    merge_optional, merge_value, optional_part, pass_by,
+    DoubleInC, FieldNumbers, MessageStruct, NumberInC, StructPart, TextInC, WrittenStruct,
+    implicit_part, merge_optional, merge_value, optional_part, pass_by,
 };
 
 /// What was measured once.
@@ -61,6 +61,21 @@ impl<'a> MessageStruct for ReportSampleInC<'a> {
             ),
             _ => pass_by(tag, buf, context),
         }
+    }
+}
+
+impl<'a> FieldNumbers for ReportSampleInC<'a> {
+    ghost use Rattle.std.specs.Prelude.{◌≡◌};
+    ghost use Rattle.wire_codec.specs.Field.{Payload};
+    ghost use Rattle.wire_report.specs.ReportSample.{report_sample-known};
+
+    ghost owns = { report_sample-known.owns };
+
+    #[inline(always)]
+    fn has(number: u32) -> bool
+        ensures { (p : Payload) → report_sample-known.owns number p ≡ result }
+    {
+        matches!(number, 1..=3)
     }
 }
 

@@ -5,8 +5,8 @@ use wire_codec::{DecodeContext, DecodeError, Tag};
 use wire_fields::{Bool, Sint32};
 use wire_report::ReportLevel;
 use wire_structs::{
-    BytesInC, EnumInC, MessageStruct, NumberInC, TextInC, merge_count, merge_message_count,
-    merge_optional, merge_optional_message, merge_value, pass_by,
+    BytesInC, EnumInC, FieldNumbers, MessageStruct, NumberInC, TextInC, merge_count,
+    merge_message_count, merge_optional, merge_optional_message, merge_value, pass_by,
 };
 
 /// A station.
@@ -105,5 +105,20 @@ impl<'a> MessageStruct for StationInC<'a> {
             ),
             _ => pass_by(tag, buf, context),
         }
+    }
+}
+
+impl<'a> FieldNumbers for StationInC<'a> {
+    ghost use Rattle.std.specs.Prelude.{◌≡◌};
+    ghost use Rattle.wire_codec.specs.Field.{Payload};
+    ghost use Rattle.wire_stations.specs.Station.{station-known};
+
+    ghost owns = { station-known.owns };
+
+    #[inline(always)]
+    fn has(number: u32) -> bool
+        ensures { (p : Payload) → station-known.owns number p ≡ result }
+    {
+        matches!(number, 1..=12)
     }
 }

@@ -6,4 +6,4 @@ use Rattle.wire_stations.proofs.laws.report_sample_reads_back.Goals as goal
 pub returns : goal.returns
 returns c l m fs holds fits =
     let v = report_sample-written m fs in
-    (v, (report_sample-range.charge_of v, c.report_sample_reads_back.ensures l v holds fits), refl)
+    ((report_sample-range.charge_of v, c.report_sample_reads_back.ensures l v holds fits), refl)
