@@ -31,7 +31,8 @@
  *   fields, of which the others are zero;
  * - of a list, how many there are, in `NAME_count`; `MESSAGE_next_NAME` gives them, from the same
  *   bytes;
- * - fields that the schema lacks are passed over.
+ * - fields that the schema lacks are passed over; `MESSAGE_write_keeping` takes them from the bytes
+ *   that were read.
  *
  * A struct is zero where each number in it is 0, each flag is false, and each string is of no
  * bytes; `data` of no bytes is some pointer, and is not to be followed. */

@@ -1,11 +1,14 @@
 //! Tries the structs of Rust on the rows of `rows.tsv`, and says how many stood. What was read is
-//! made anew from what it shows, and written: into room of just its size, and of a byte less.
+//! made anew from what it shows, and written, as it is and with the unknown fields of its bytes:
+//! into room of just its size, and of a byte less.
+mod report_sample;
 mod station;
 mod structs;
 
-use station::{ReportSample, Samples, Station, StationLists, StationPower, Tags};
+use report_sample::ReportSample;
+use station::{Samples, Station, StationLists, StationPower, Tags};
 use std::process::ExitCode;
-use structs::{Limits, NoRoom, Text};
+use structs::{Limits, NoRoom, NotWritten, Refusal, Text};
 
 fn hex(bytes: &[u8]) -> String {
     if bytes.is_empty() {
@@ -88,28 +91,46 @@ fn station_again<'a>(it: &Station<'a>) -> Station<'a> {
 }
 
 // What is written into room of so many bytes, in hexadecimal digits.
-fn said_written(size: usize, write: impl Fn(&mut [u8]) -> Result<usize, NoRoom>) -> String {
+fn said_written(
+    size: Result<usize, Refusal>,
+    write: impl Fn(&mut [u8]) -> Result<usize, NotWritten>,
+) -> String {
+    let size = match size {
+        Ok(size) => size,
+        Err(refusal) => return refusal.to_string(),
+    };
     let mut room = vec![0; size];
     if write(&mut room) != Ok(size) {
         return "not written".to_string();
     }
-    if size > 0 && write(&mut vec![0; size - 1]) != Err(NoRoom(size)) {
+    let no_room = NotWritten::NoRoom(NoRoom(size));
+    if size > 0 && write(&mut vec![0; size - 1]) != Err(no_room) {
         return "written into less room".to_string();
     }
     hex(&room).to_uppercase()
 }
 
-fn say_sample_written(it: &ReportSample<'_>) -> String {
+// What is written as it is, and with the unknown fields of the bytes.
+fn say_sample_written(it: &ReportSample<'_>, bytes: &[u8]) -> [String; 2] {
     let again = sample_again(it);
-    said_written(again.size(), |room| again.write(room))
+    [
+        said_written(Ok(again.size()), |room| again.write(room).map_err(NotWritten::NoRoom)),
+        said_written(again.size_keeping(bytes), |room| again.write_keeping(bytes, room)),
+    ]
 }
 
-fn say_station_written(it: &Station<'_>, bytes: &[u8]) -> String {
+fn say_station_written(it: &Station<'_>, bytes: &[u8]) -> [String; 2] {
     let again = station_again(it);
     let tags: Vec<Text<'_>> = Tags::new(bytes).map(Text::new).collect();
     let samples: Vec<ReportSample<'_>> = Samples::new(bytes).filter_map(Result::ok).collect();
     let lists = StationLists::new(&tags, &samples);
-    said_written(again.size(&lists), |room| again.write(&lists, room))
+    let size = again.size_keeping(&lists, bytes);
+    [
+        said_written(Ok(again.size(&lists)), |room| {
+            again.write(&lists, room).map_err(NotWritten::NoRoom)
+        }),
+        said_written(size, |room| again.write_keeping(&lists, bytes, room)),
+    ]
 }
 
 fn bytes_of(digits: &str) -> Vec<u8> {
@@ -130,18 +151,18 @@ fn limits_of(words: &str) -> Option<Limits> {
 }
 
 // What a message shows and what is written of it, or the status.
-fn found(message: &str, bytes: &[u8], limits: Option<Limits>) -> (String, String) {
+fn found(message: &str, bytes: &[u8], limits: Option<Limits>) -> (String, [String; 2]) {
     let station = |it: Station<'_>| {
         (say_station(&it) + &say_lists(bytes), say_station_written(&it, bytes))
     };
-    let sample = |it: ReportSample<'_>| (say_sample(&it), say_sample_written(&it));
+    let sample = |it: ReportSample<'_>| (say_sample(&it), say_sample_written(&it, bytes));
     let said = match (message, &limits) {
         ("station", None) => Station::read(bytes).map(station),
         ("station", Some(limits)) => Station::read_within(bytes, limits).map(station),
         (_, None) => ReportSample::read(bytes).map(sample),
         (_, Some(limits)) => ReportSample::read_within(bytes, limits).map(sample),
     };
-    said.unwrap_or_else(|refusal| (refusal.to_string(), String::new()))
+    said.unwrap_or_else(|refusal| (refusal.to_string(), [String::new(), String::new()]))
 }
 
 fn main() -> ExitCode {
@@ -151,8 +172,10 @@ fn main() -> ExitCode {
     for line in rows.lines().filter(|line| !line.starts_with('#')) {
         let parts: Vec<&str> = line.split('\t').collect();
         let bytes = bytes_of(parts[2]);
-        let (shown, written) = found(parts[1], &bytes, limits_of(parts[3]));
-        for (wanted, said) in [(parts[4], shown), (parts.get(5).unwrap_or(&""), written)] {
+        let (shown, [written, kept]) = found(parts[1], &bytes, limits_of(parts[3]));
+        let encoding = *parts.get(5).unwrap_or(&"");
+        let keeping = *parts.get(6).unwrap_or(&encoding);
+        for (wanted, said) in [(parts[4], shown), (encoding, written), (keeping, kept)] {
             if said != wanted {
                 println!("{}: wanted {wanted}, found {said}", parts[0]);
                 astray += 1;

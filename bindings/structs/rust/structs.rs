@@ -2,6 +2,7 @@
 //! statuses.
 use std::fmt;
 use std::marker::PhantomData;
+use std::mem::MaybeUninit;
 
 /// Some of the bytes that were read, or of a program's own.
 #[repr(C)]
@@ -77,6 +78,26 @@ impl fmt::Display for NoRoom {
 
 impl std::error::Error for NoRoom {}
 
+/// Why nothing is written with unknown fields behind it.
+#[derive(Clone, Copy, Debug, PartialEq, Eq)]
+pub enum NotWritten {
+    /// The room is smaller than the encoding, which has so many bytes.
+    NoRoom(NoRoom),
+    /// The bytes of the unknown fields are no records.
+    Refused(Refusal),
+}
+
+impl fmt::Display for NotWritten {
+    fn fmt(&self, f: &mut fmt::Formatter<'_>) -> fmt::Result {
+        match self {
+            NotWritten::NoRoom(cause) => cause.fmt(f),
+            NotWritten::Refused(cause) => cause.fmt(f),
+        }
+    }
+}
+
+impl std::error::Error for NotWritten {}
+
 /// What may be taken at most.
 #[repr(C)]
 #[derive(Clone, Copy, Debug)]
@@ -112,3 +133,33 @@ impl fmt::Display for Refusal {
 }
 
 impl std::error::Error for Refusal {}
+
+// The library sets the struct whatever it answers.
+pub(crate) fn told<T>(status: u32, it: MaybeUninit<T>) -> Result<T, Refusal> {
+    if status != 0 {
+        return Err(Refusal(status));
+    }
+    Ok(unsafe { it.assume_init() })
+}
+
+// The library tells the length of the encoding whatever it answers.
+pub(crate) fn wrote(status: u32, len: usize) -> Result<usize, NoRoom> {
+    if status == 0 {
+        Ok(len)
+    } else {
+        Err(NoRoom(len))
+    }
+}
+
+pub(crate) fn measured(status: u32, len: usize) -> Result<usize, Refusal> {
+    if status == 0 { Ok(len) } else { Err(Refusal(status)) }
+}
+
+// 32 is the status of room that is too small.
+pub(crate) fn kept(status: u32, len: usize) -> Result<usize, NotWritten> {
+    match status {
+        0 => Ok(len),
+        32 => Err(NotWritten::NoRoom(NoRoom(len))),
+        _ => Err(NotWritten::Refused(Refusal(status))),
+    }
+}

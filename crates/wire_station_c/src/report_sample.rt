@@ -6,13 +6,16 @@ ghost use Rattle.wire_codec.specs.Options.{default_limits};
 ghost use Rattle.wire_codec.specs.Taking.{NotDecoded};
 ghost use Rattle.wire_fields.specs.Numbers.{in_64_bits};
 ghost use Rattle.wire_fields.specs.Shape.{NotDecodedAs};
-ghost use Rattle.wire_report.specs.ReportSample.{report_sample-shape};
+ghost use Rattle.wire_report.specs.ReportSample.{report_sample-known, report_sample-shape};
 ghost use Rattle.wire_stations.specs.ReportSample.{ReportSample-IsZero, report_sample-encoding};
 ghost use Rattle.wire_stations.specs.ReportSample.{report_sample-seen, report_sample-shown};
+ghost use Rattle.wire_structs.specs.Unknown.{HasStatus, OfUnknown};
 ghost use Rattle.wire_structs.specs.Within.{DecodesSeen, within_numbers};
 
 use wire_read::numbers::LimitNumbers;
-use wire_stations::{ReportSampleInC, read_report_sample, write_report_sample};
+use wire_stations::{
+    ReportSampleInC, read_report_sample, write_report_sample, write_report_sample_keeping,
+};
 use wire_structs::{context_within, default_context};
 
 /// Sets the sample to what all of the bytes are, within the limits of `Message::decode`: 0, exactly
@@ -71,4 +74,41 @@ pub extern "C" fn report_sample_write(
     ensures stays { result ≢ 0 → room.new ≡ room.old }
 {
     write_report_sample(sample, room, len)
+}
+
+/// How many bytes the shortest encoding takes of what the sample shows and of the unknown fields of
+/// these bytes behind it, or `SIZE_MAX` where it is more: 0. Else the number of the error, exactly
+/// where the bytes are no records, or these nest more than 100 groups, and the length is 0.
+#[unsafe(no_mangle)]
+pub extern "C" fn report_sample_size_keeping(
+    sample: &ReportSampleInC<'_>,
+    bytes: &[u8],
+    len: &mut usize,
+) -> u32
+    ensures ok { result ≡ 0 → OfUnknown report_sample-known.owns bytes.now (λ fs.
+        len.new ≡ in_64_bits (length (report_sample-encoding sample.now fs))) }
+    ensures fault { result ≢ 0 → HasStatus bytes.now result × (len.new ≡ 0) }
+{
+    wire_stations::report_sample_size_keeping(sample, bytes, len)
+}
+
+/// Writes that encoding at the front of the room, and tells how many bytes it takes, or `SIZE_MAX`
+/// where it is more: 0, or 32 exactly where the room has fewer. Else refused as
+/// `report_sample_size_keeping`. Where it answers no 0 the room stays.
+#[unsafe(no_mangle)]
+pub extern "C" fn report_sample_write_keeping(
+    sample: &ReportSampleInC<'_>,
+    bytes: &[u8],
+    room: &mut [u8],
+    len: &mut usize,
+) -> u32
+    ensures ok { result ≡ 0 → OfUnknown report_sample-known.owns bytes.now (λ fs.
+        FillsSlice (report_sample-encoding sample.now fs) 0 room.old room.new len.new) }
+    ensures no_room { result ≡ 32 → OfUnknown report_sample-known.owns bytes.now (λ fs.
+        (len.new ≡ in_64_bits (length (report_sample-encoding sample.now fs)))
+        × (length room.old < length (report_sample-encoding sample.now fs))) }
+    ensures fault { result ≢ 0 → result ≢ 32 → HasStatus bytes.now result × (len.new ≡ 0) }
+    ensures stays { result ≢ 0 → room.new ≡ room.old }
+{
+    write_report_sample_keeping(sample, bytes, room, len)
 }

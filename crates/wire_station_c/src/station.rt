@@ -8,14 +8,16 @@ ghost use Rattle.wire_fields.specs.Numbers.{in_64_bits};
 ghost use Rattle.wire_fields.specs.Shape.{NotDecodedAs};
 ghost use Rattle.wire_stations.specs.Station.{Station-IsZero, station-seen, station-shape};
 ghost use Rattle.wire_stations.specs.Station.{samples-of-station, station-encoding};
-ghost use Rattle.wire_stations.specs.Station.{station-shown, tags-of-station};
+ghost use Rattle.wire_stations.specs.Station.{station-known, station-shown, tags-of-station};
 ghost use Rattle.wire_stations.specs.StationLists.{MakesSample, SameBytes};
+ghost use Rattle.wire_structs.specs.Unknown.{HasStatus, OfUnknown};
 ghost use Rattle.wire_structs.specs.Walks.{GivesNext, EndsList, MakesNothing};
 ghost use Rattle.wire_structs.specs.Within.{DecodesSeen, within_numbers};
 
 use wire_read::numbers::LimitNumbers;
 use wire_stations::{
-    StationInC, StationListsInC, next_station_sample, next_station_tag, read_station, write_station,
+    StationInC, StationListsInC, next_station_sample, next_station_tag, read_station,
+    write_station, write_station_keeping,
 };
 use wire_structs::{SliceInC, context_within, default_context};
 
@@ -109,4 +111,44 @@ pub extern "C" fn station_write(
     ensures stays { result ≢ 0 → room.new ≡ room.old }
 {
     write_station(station, lists, room, len)
+}
+
+/// How many bytes the shortest encoding takes of what the station and its lists show and of the
+/// unknown fields of these bytes behind them, or `SIZE_MAX` where it is more: 0. Else the number of
+/// the error, exactly where the bytes are no records, or these nest more than 100 groups, and the
+/// length is 0.
+#[unsafe(no_mangle)]
+pub extern "C" fn station_size_keeping(
+    station: &StationInC<'_>,
+    lists: &StationListsInC<'_>,
+    bytes: &[u8],
+    len: &mut usize,
+) -> u32
+    ensures ok { result ≡ 0 → OfUnknown station-known.owns bytes.now (λ fs.
+        len.new ≡ in_64_bits (length (station-encoding station.now lists.now fs))) }
+    ensures fault { result ≢ 0 → HasStatus bytes.now result × (len.new ≡ 0) }
+{
+    wire_stations::station_size_keeping(station, lists, bytes, len)
+}
+
+/// Writes that encoding at the front of the room, and tells how many bytes it takes, or `SIZE_MAX`
+/// where it is more: 0, or 32 exactly where the room has fewer. Else refused as
+/// `station_size_keeping`. Where it answers no 0 the room stays.
+#[unsafe(no_mangle)]
+pub extern "C" fn station_write_keeping(
+    station: &StationInC<'_>,
+    lists: &StationListsInC<'_>,
+    bytes: &[u8],
+    room: &mut [u8],
+    len: &mut usize,
+) -> u32
+    ensures ok { result ≡ 0 → OfUnknown station-known.owns bytes.now (λ fs.
+        FillsSlice (station-encoding station.now lists.now fs) 0 room.old room.new len.new) }
+    ensures no_room { result ≡ 32 → OfUnknown station-known.owns bytes.now (λ fs.
+        (len.new ≡ in_64_bits (length (station-encoding station.now lists.now fs)))
+        × (length room.old < length (station-encoding station.now lists.now fs))) }
+    ensures fault { result ≢ 0 → result ≢ 32 → HasStatus bytes.now result × (len.new ≡ 0) }
+    ensures stays { result ≢ 0 → room.new ≡ room.old }
+{
+    write_station_keeping(station, lists, bytes, room, len)
 }
