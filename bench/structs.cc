@@ -42,7 +42,18 @@ size_t cpp_write(bool is_station) {
     return done ? written.size() : 0;
 }
 
-std::string message(bool is_station) {
+// Three fields that the schema lacks.
+void add_unknown(google::protobuf::Message &one) {
+    auto *fields = one.GetReflection()->MutableUnknownFields(&one);
+    fields->AddVarint(100, 300);
+    fields->AddLengthDelimited(101, "a text that nobody knows");
+    fields->AddFixed64(102, 1);
+}
+
+std::string message(bool is_station, bool keeps) {
+    if (keeps) {
+        add_unknown(is_station ? static_cast<google::protobuf::Message &>(it) : sample);
+    }
     sample.set_name("Ada");
     sample.set_value(1.5);
     sample.set_count(7);
@@ -75,9 +86,10 @@ int main(int count, char **words) {
     }
     const std::string work = words[1], worker = words[3];
     const bool is_station = std::string(words[2]) == "station";
-    const std::string bytes = message(is_station);
+    const bool keeps = work == "keep";
+    const std::string bytes = message(is_station, keeps);
     const auto *data = reinterpret_cast<const uint8_t *>(bytes.data());
-    const bool writes = work == "write", with_lists = work != "front";
+    const bool writes = work == "write" || keeps, with_lists = work != "front";
     const bool is_here = worker == "here", is_cpp = worker == "cpp";
     uint64_t sum = 0;
     here_read(is_station, data, bytes.size(), true);
@@ -85,7 +97,9 @@ int main(int count, char **words) {
     for (int round = std::atoi(words[4]); round > 0; round--) {
         uint8_t room[256];
         if (writes) {
-            sum += is_here  ? here_write(is_station, room, sizeof room)
+            sum += is_here && keeps
+                       ? here_keep(is_station, data, bytes.size(), room, sizeof room)
+                   : is_here ? here_write(is_station, room, sizeof room)
                    : is_cpp ? cpp_write(is_station)
                             : nanopb_write(is_station, room, sizeof room);
         } else {

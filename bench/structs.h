@@ -12,6 +12,9 @@ extern "C" {
 
 uint64_t here_read(int is_station, const uint8_t *bytes, size_t len, int with_lists);
 size_t here_write(int is_station, uint8_t *room, size_t room_len);
+/* Writes it with the unknown fields of these bytes. */
+size_t here_keep(int is_station, const uint8_t *bytes, size_t bytes_len, uint8_t *room,
+                 size_t room_len);
 uint64_t nanopb_read(int is_station, const uint8_t *bytes, size_t len);
 size_t nanopb_write(int is_station, uint8_t *room, size_t room_len);
 

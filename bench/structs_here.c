@@ -51,3 +51,13 @@ size_t here_write(int is_station, uint8_t *room, size_t room_len) {
                                  : report_sample_write(&sample, room, room_len, &len);
     return status == GTV_OK ? len : 0;
 }
+
+size_t here_keep(int is_station, const uint8_t *bytes, size_t bytes_len, uint8_t *room,
+                 size_t room_len) {
+    size_t len = 0;
+    uint32_t status =
+        is_station
+            ? station_write_keeping(&it, &lists, bytes, bytes_len, room, room_len, &len)
+            : report_sample_write_keeping(&sample, bytes, bytes_len, room, room_len, &len);
+    return status == GTV_OK ? len : 0;
+}
