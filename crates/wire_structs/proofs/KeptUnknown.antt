@@ -10,7 +10,7 @@ use Rattle.wire_codec.specs.Limits.{Charge}
 use Rattle.wire_fields.specs.Shape.{Shape, keeps, on, two, unknown}
 use Rattle.wire_structs.specs.KeptFields.{KeepsUnknown}
 use Rattle.wire_structs.specs.ListLaws.{HasLevels, TakesLevels}
-use Rattle.wire_structs.specs.Unknown.{unknown_of, unless_owned}
+use Rattle.wire_structs.specs.Unknown.{unowned, unless_owned}
 
 -- the groups of records are charged their levels
 folds_levels : {V : Type 0} (takes : Step V) → TakesLevels takes → (fs : Fields) (m z : V)
@@ -33,12 +33,12 @@ module _ {V : Type 0} (s : Shape V) where
       ap (λ (fs : Fields). joined fs others) h.0.1 ∙ joined_assoc m.1 (field n p none) others
 
   kept_are_unknown : (fs : Fields) (m z : V × Fields) (c : Charge)
-      → Folds (two s unknown).takes m fs c z → z.1 ≡ joined m.1 (unknown_of s.owns fs)
+      → Folds (two s unknown).takes m fs c z → z.1 ≡ joined m.1 (unowned s.owns fs)
   kept_are_unknown none m z c h =
       ap (λ (x : V × Fields). x.1) h.1 ∙ sym (joined-none m.1)
   kept_are_unknown (field n p others) m z c (mid, first, rest, step, more, sum) =
       kept_are_unknown others mid z rest more
-      ∙ one_kept (s.owns n p) n p first m mid (unknown_of s.owns others) step
+      ∙ one_kept (s.owns n p) n p first m mid (unowned s.owns others) step
 
   pub keeps_unknown : HasLevels (two s unknown) → KeepsUnknown s
   keeps_unknown h l bytes m low (c, taken) =

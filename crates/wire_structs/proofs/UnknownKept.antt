@@ -19,7 +19,7 @@ use Rattle.wire_base.specs.declared.tag.WireType.{WireType}
 use Rattle.wire_fields.specs.Numbers.{in_64_bits}
 use Rattle.wire_fields.specs.Shape.{Owns}
 use Rattle.wire_structs.proofs.UnknownSizes.{counted_push}
-use Rattle.wire_structs.specs.Unknown.{AreRecords, unknown_of, unless_owned}
+use Rattle.wire_structs.specs.Unknown.{SpellsShallow, unowned, unless_owned}
 
 -- ---- one record more at the end
 
@@ -28,13 +28,13 @@ unless_joined : (b : Bool) (n : ℕ) (p : Payload) (fs gs : Fields)
 unless_joined true n p fs gs = refl
 unless_joined false n p fs gs = refl
 
-pub unknown_of-push : (owns : Owns) (fs : Fields) (n : ℕ) (p : Payload)
-    → unknown_of owns (push fs n p)
-    ≡ joined (unknown_of owns fs) (unknown_of owns (field n p none))
-unknown_of-push owns none n p = refl
-unknown_of-push owns (field m q fs) n p =
-    ap (unless_owned (owns m q) m q) (unknown_of-push owns fs n p)
-    ∙ unless_joined (owns m q) m q (unknown_of owns fs) (unknown_of owns (field n p none))
+pub unowned-push : (owns : Owns) (fs : Fields) (n : ℕ) (p : Payload)
+    → unowned owns (push fs n p)
+    ≡ joined (unowned owns fs) (unowned owns (field n p none))
+unowned-push owns none n p = refl
+unowned-push owns (field m q fs) n p =
+    ap (unless_owned (owns m q) m q) (unowned-push owns fs n p)
+    ∙ unless_joined (owns m q) m q (unowned owns fs) (unowned owns (field n p none))
 
 -- what such a record counts
 abbrev Counts : Bool → ℕ → ℕ → Type 0
@@ -57,14 +57,14 @@ by_owner true k taken owned not = owned refl
 by_owner false k taken owned not = not refl
 
 pub counted_more : (owns : Owns) (fs : Fields) (n : ℕ) (p : Payload) (len k taken sum : ℕ)
-    → len ≡ in_64_bits (size (unknown_of owns fs))
+    → len ≡ in_64_bits (size (unowned owns fs))
     → taken ≡ in_64_bits (length (record_text n p))
     → (owns n p ≡ true → k ≡ 0) → (owns n p ≡ false → k ≡ taken)
-    → sum ≡ min (len + k) (2 ^ 64 - 1) → sum ≡ in_64_bits (size (unknown_of owns (push fs n p)))
+    → sum ≡ min (len + k) (2 ^ 64 - 1) → sum ≡ in_64_bits (size (unowned owns (push fs n p)))
 counted_more owns fs n p len k taken sum one other owned not is =
-    counted_at (owns n p) (unknown_of owns fs) n p len k taken sum one other is
+    counted_at (owns n p) (unowned owns fs) n p len k taken sum one other is
     (by_owner (owns n p) k taken owned not)
-    ∙ ap (λ gs. in_64_bits (size gs)) (sym (unknown_of-push owns fs n p))
+    ∙ ap (λ gs. in_64_bits (size gs)) (sym (unowned-push owns fs n p))
 
 -- ---- the first record
 
@@ -125,15 +125,15 @@ text_unless false n p fs =
     ∙ sym (append_assoc (tag_text n (type_of p)) (payload_text n p ++ []) (text_of fs))
 
 pub text_first : (owns : Owns) (n : ℕ) (p : Payload) (others : Fields)
-    → text_of (unknown_of owns (field n p others))
-    ≡ text_of (unknown_of owns (field n p none)) ++ text_of (unknown_of owns others)
-text_first owns n p others = text_unless (owns n p) n p (unknown_of owns others)
+    → text_of (unowned owns (field n p others))
+    ≡ text_of (unowned owns (field n p none)) ++ text_of (unowned owns others)
+text_first owns n p others = text_unless (owns n p) n p (unowned owns others)
 
 -- ---- all of the bytes
 
 pub whole_records : (fs : Fields) (bytes left : List ℕ)
     → TakesFields (charge fs) (uncounted 100) fs bytes left → length left ≡ 0
-    → AreRecords bytes fs
+    → SpellsShallow bytes fs
 whole_records fs bytes left h empty = record {
   spelled = Spells-all fs bytes left h.read (nothing_left left empty);
   levels = h.fits.depth;

@@ -17,12 +17,12 @@ unless_owned true n p others = others
 unless_owned false n p others = field n p others
 
 -- the records that are not owned, in order
-abbrev pub unknown_of : Owns → Fields → Fields
-unknown_of owns none = none
-unknown_of owns (field n p others) = unless_owned (owns n p) n p (unknown_of owns others)
+abbrev pub unowned : Owns → Fields → Fields
+unowned owns none = none
+unowned owns (field n p others) = unless_owned (owns n p) n p (unowned owns others)
 
 -- all of the bytes spell these records, whose groups nest at most 100 deep
-pub record AreRecords (bytes : List ℕ) (fs : Fields) : Type 0 where
+pub record SpellsShallow (bytes : List ℕ) (fs : Fields) : Type 0 where
   pub spelled : Spells fs bytes
   pub levels : (charge fs).depth ≤ 100
 
@@ -32,12 +32,12 @@ RecordsFault = ListFault (uncounted 100) by_input
 
 -- the bytes are such records, and of those that are not owned this holds
 abbrev pub OfUnknown : Owns → List ℕ → (Fields → Type 0) → Type 0
-OfUnknown owns bytes Holds = (fs : Fields) × AreRecords bytes fs × Holds (unknown_of owns fs)
+OfUnknown owns bytes Holds = (fs : Fields) × SpellsShallow bytes fs × Holds (unowned owns fs)
 
 -- they are no such records, and this number says why
 abbrev pub HasStatus : List ℕ → ℕ → Type 0
 HasStatus bytes status = (e : DecodeError) × RecordsFault bytes e × (status ≡ status_of e)
 
 -- records, and unknown fields behind them
-abbrev pub with_unknown : Records → Fields → Records
-with_unknown rs fs = joined_records rs (of_fields fs)
+abbrev pub with_fields : Records → Fields → Records
+with_fields rs fs = joined_records rs (of_fields fs)

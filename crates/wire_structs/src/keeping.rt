@@ -6,8 +6,8 @@ ghost use Rattle.wire_codec.specs.Field.{Fields};
 ghost use Rattle.wire_codec.specs.Records.{text, text_size};
 ghost use Rattle.wire_codec.specs.Writes.{Writes};
 ghost use Rattle.wire_fields.specs.Numbers.{in_64_bits};
-ghost use Rattle.wire_structs.specs.Unknown.{AreRecords, HasStatus, OfUnknown, with_unknown};
-ghost use Rattle.wire_structs.specs.Unknown.{unknown_of};
+ghost use Rattle.wire_structs.specs.Unknown.{SpellsShallow, HasStatus, OfUnknown, with_fields};
+ghost use Rattle.wire_structs.specs.Unknown.{unowned};
 
 use crate::room::{NO_ROOM, OK};
 use crate::unknown::{FieldNumbers, put_unknown, unknown_len};
@@ -26,7 +26,7 @@ pub fn size_keeping<M: FieldNumbers, P: StructPart + Drop>(
     len: &mut usize,
 ) -> u32
     ensures ok { result ≡ 0 → OfUnknown M.owns bytes.now (λ fs.
-        len.new ≡ in_64_bits (text_size (with_unknown (P.records parts) fs))) }
+        len.new ≡ in_64_bits (text_size (with_fields (P.records parts) fs))) }
     ensures fault { result ≢ 0 → HasStatus bytes.now result × (len.new ≡ 0) }
 {
     match unknown_len::<M>(bytes) {
@@ -51,10 +51,10 @@ pub fn write_keeping<M: FieldNumbers, P: StructPart + Drop>(
     len: &mut usize,
 ) -> u32
     ensures ok { result ≡ 0 → OfUnknown M.owns bytes.now (λ fs.
-        FillsSlice (text (with_unknown (P.records parts) fs)) 0 room.old room.new len.new) }
+        FillsSlice (text (with_fields (P.records parts) fs)) 0 room.old room.new len.new) }
     ensures no_room { result ≡ 32 → OfUnknown M.owns bytes.now (λ fs.
-        (len.new ≡ in_64_bits (text_size (with_unknown (P.records parts) fs)))
-        × (length room.old < text_size (with_unknown (P.records parts) fs))) }
+        (len.new ≡ in_64_bits (text_size (with_fields (P.records parts) fs)))
+        × (length room.old < text_size (with_fields (P.records parts) fs))) }
     ensures fault { result ≢ 0 → result ≢ 32 → HasStatus bytes.now result × (len.new ≡ 0) }
     ensures stays { result ≢ 0 → room.new ≡ room.old }
 {
@@ -78,10 +78,10 @@ pub fn write_keeping<M: FieldNumbers, P: StructPart + Drop>(
 fn fill_keeping<M: FieldNumbers, P: StructPart + Drop>(parts: P, bytes: &[u8], room: &mut [u8])
     requires size { text_size (P.records parts) < 2 ^ 64 }
     requires there { OfUnknown M.owns bytes.now (λ fs.
-        text_size (with_unknown (P.records parts) fs) ≤ length room.old) }
+        text_size (with_fields (P.records parts) fs) ≤ length room.old) }
     ensures { OfUnknown M.owns bytes.now (λ fs.
-        FillsSlice (text (with_unknown (P.records parts) fs)) 0 room.old room.new
-        (text_size (with_unknown (P.records parts) fs))) }
+        FillsSlice (text (with_fields (P.records parts) fs)) 0 room.old room.new
+        (text_size (with_fields (P.records parts) fs))) }
 {
     what_fits_is_written();
     let mut sink = Room { room, place: 0 };
@@ -96,9 +96,9 @@ fn put_keeping<M: FieldNumbers, P: StructPart, E: EncodeSink>(
     sink: &mut E,
 ) -> Result<(), EncodeError>
     requires size { text_size (P.records parts.now) < 2 ^ 64 }
-    requires there { (fs : Fields) × AreRecords bytes.now fs }
-    ensures { (fs : Fields) → AreRecords bytes.now fs
-        → Writes (text (with_unknown (P.records parts.now) (unknown_of M.owns fs)))
+    requires there { (fs : Fields) × SpellsShallow bytes.now fs }
+    ensures { (fs : Fields) → SpellsShallow bytes.now fs
+        → Writes (text (with_fields (P.records parts.now) (unowned M.owns fs)))
         (E.held sink.old) (E.held sink.new) result }
 {
     laws::piece_by_piece();

@@ -11,7 +11,7 @@ ghost use Rattle.wire_codec.specs.Text.{size, text_of};
 ghost use Rattle.wire_codec.specs.Writes.{Writes};
 ghost use Rattle.wire_fields.specs.Numbers.{in_64_bits};
 ghost use Rattle.wire_fields.specs.Shape.{Owns};
-ghost use Rattle.wire_structs.specs.Unknown.{AreRecords, RecordsFault, unknown_of};
+ghost use Rattle.wire_structs.specs.Unknown.{SpellsShallow, RecordsFault, unowned};
 
 use crate::unknown_record::{put_unknown_record, unknown_record_len};
 use wire_codec::{
@@ -31,8 +31,8 @@ pub trait FieldNumbers {
 /// How many bytes the records take that no field of the message owns, or `u64::MAX` where it is
 /// more. Refused where the bytes are no records, or these nest more than 100 groups.
 pub fn unknown_len<M: FieldNumbers>(bytes: &[u8]) -> Result<u64, DecodeError>
-    ensures ok { IfOk result (λ len. (fs : Fields) × AreRecords bytes.now fs
-        × (len ≡ in_64_bits (size (unknown_of M.owns fs)))) }
+    ensures ok { IfOk result (λ len. (fs : Fields) × SpellsShallow bytes.now fs
+        × (len ≡ in_64_bits (size (unowned M.owns fs)))) }
     ensures fault { IfErr result (RecordsFault bytes.now) }
 {
     let mut buf = bytes;
@@ -62,8 +62,8 @@ pub fn put_unknown<M: FieldNumbers, E: EncodeSink>(
     bytes: &[u8],
     sink: &mut E,
 ) -> Result<(), EncodeError>
-    requires { (fs : Fields) × AreRecords bytes.now fs }
-    ensures { (fs : Fields) → AreRecords bytes.now fs → Writes (text_of (unknown_of M.owns fs))
+    requires { (fs : Fields) × SpellsShallow bytes.now fs }
+    ensures { (fs : Fields) → SpellsShallow bytes.now fs → Writes (text_of (unowned M.owns fs))
         (E.held sink.old) (E.held sink.new) result }
 {
     laws::piece_by_piece();
@@ -85,7 +85,7 @@ fn put_or_skip<M: FieldNumbers, E: EncodeSink>(
         (tag_number tag) (tag_type tag) p buf.old.now rest }
     ensures written { (p : Payload) (rest : List ℕ) → TakesPayload (payload_charge p)
         (uncounted 100) (tag_number tag) (tag_type tag) p buf.old.now rest
-        → Writes (text_of (unknown_of M.owns (field (tag_number tag) p none)))
+        → Writes (text_of (unowned M.owns (field (tag_number tag) p none)))
         (E.held sink.old) (E.held sink.new) result }
     ensures read { (p : Payload) (rest : List ℕ) → TakesPayload (payload_charge p)
         (uncounted 100) (tag_number tag) (tag_type tag) p buf.old.now rest

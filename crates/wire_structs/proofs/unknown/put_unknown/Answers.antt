@@ -5,7 +5,7 @@ use Rattle.wire_base.proofs.ReadLaws.{Reads-shorter}
 use Rattle.wire_base.specs.Field.{Fields}
 use Rattle.wire_base.specs.Text.{text_of}
 use Rattle.wire_structs.proofs.UnknownKept.{next_record, none_left, text_first}
-use Rattle.wire_structs.specs.Unknown.{unknown_of}
+use Rattle.wire_structs.specs.Unknown.{unowned}
 use Rattle.wire_structs.proofs.unknown.put_unknown.Goals as goal
 
 pub loop-tag-init : goal.loop-tag-init
@@ -43,7 +43,7 @@ loop-tag-preserved g c = λ fs h.
       rw (sym (done.read one.payload one.next one.taken)) at one.read,
       one.levels,
       c.piece_by_piece.ensures.more _ _ _ _ _ _ _ tt so_far.3
-          (ap (λ (fs : Fields). text_of (unknown_of g.M.FieldNumbers.owns fs)) one.is
+          (ap (λ (fs : Fields). text_of (unowned g.M.FieldNumbers.owns fs)) one.is
           ∙ text_first g.M.FieldNumbers.owns _ one.payload one.others)
           (done.written one.payload one.next one.taken),
     )
@@ -54,7 +54,7 @@ returns-in_err-put_or_skip g c = λ fs h.
     let so_far = c.loop-tag.invariant fs h in
     let one = next_record _ _ so_far.0 _ _ so_far.1 so_far.2 c.in-Ok.ensures.ok in
     rw (p.1, p.2) (c.piece_by_piece.ensures.refused _ _ _ _ _ _ _ _ so_far.3
-    (ap (λ (fs : Fields). text_of (unknown_of g.M.FieldNumbers.owns fs)) one.is
+    (ap (λ (fs : Fields). text_of (unowned g.M.FieldNumbers.owns fs)) one.is
     ∙ text_first g.M.FieldNumbers.owns _ one.payload one.others)
     (c.in_err-put_or_skip.ensures.written one.payload one.next one.taken))
 
@@ -63,4 +63,4 @@ returns g c = λ fs h.
     let so_far = c.loop-tag.invariant fs h in
     let none_is = none_left so_far.0 _ _ so_far.1 c.in_default.ensures.fault in
     c.piece_by_piece.ensures.done _ _ _
-    (rw (ap (λ (fs : Fields). text_of (unknown_of g.M.FieldNumbers.owns fs)) none_is) at so_far.3)
+    (rw (ap (λ (fs : Fields). text_of (unowned g.M.FieldNumbers.owns fs)) none_is) at so_far.3)
