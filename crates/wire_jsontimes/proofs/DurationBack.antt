@@ -41,11 +41,13 @@ whole_back n rest small other = by_size (zero_or_more n)
   where
     by_size : (n ≡ 0) ⊎ (0 < n) → whole_at (decimal n ++ rest) ≡ Some (n, rest)
     by_size (inl none) =
-        ap (λ (ds : List ℕ). whole_at (ds ++ rest)) (ap decimal none ∙ decimal_digit 0 (omega arith))
+        ap (λ (ds : List ℕ). whole_at (ds ++ rest))
+        (ap decimal none ∙ decimal_digit 0 (omega arith))
         ∙ ap (λ (m : ℕ). Some (m, rest)) (sym none)
     by_size (inr some) =
         let (numeral, value) = decimal_is_IsNumeral n (omega (arith, small)) in
-        whole_digits (decimal n) rest numeral.1 numeral.0 (first_decimal n some (omega (arith, small)))
+        whole_digits (decimal n) rest numeral.1 numeral.0
+        (first_decimal n some (omega (arith, small)))
         (length-decimal-le 12 n (omega arith) small (omega (arith, small))) other
         ∙ ap (λ (m : ℕ). Some (m, rest)) value
 
@@ -78,7 +80,8 @@ module _ (n c : ℕ) (more : List ℕ) (small : n < 1_000_000_000) (other : is_d
       (first_is_digit (n / 1_000_000) rest)
       ∙ ap Some (ap (times 6 place_more) start ∙ h)
 
-  millis : (n % 1_000_000 == 0) ≡ true → times 6 place_more (n / 1_000_000, c ∷ more) ≡ (n, c ∷ more)
+  millis : (n % 1_000_000 == 0) ≡ true
+      → times 6 place_more (n / 1_000_000, c ∷ more) ≡ (n, c ∷ more)
   millis h =
       let none : n % 1_000_000 ≡ 0 = grind (arith, nat_tests) in
       six_zeros (n / 1_000_000) (c ∷ more) other
@@ -186,8 +189,11 @@ ascii (b ∷ bytes) h =
     at zero more = h.0
     at (suc i) more = more i
 
-small_digit : (d : ℕ) → d < 10 → digit_char d < 128
+pub small_digit : (d : ℕ) → d < 10 → digit_char d < 128
 small_digit d small = grind (arith, nat_tests)
+
+pub ascii_text : (bytes : List ℕ) → AllByRecursion (λ b. b < 128) bytes → IsUtf8 bytes
+ascii_text bytes h = IsUtf8-from_ascii bytes (ascii bytes h)
 
 three_text : (n : ℕ) → IsUtf8 (three n)
 three_text n =
@@ -196,10 +202,10 @@ three_text n =
       (small_digit (n / 10 % 10) (omega arith), (small_digit (n % 10) (omega arith), tt)),
     ))
 
-one_text : (b : ℕ) → b < 128 → IsUtf8 (b ∷ [])
+pub one_text : (b : ℕ) → b < 128 → IsUtf8 (b ∷ [])
 one_text b small = IsUtf8-from_ascii (b ∷ []) (ascii (b ∷ []) (small, tt))
 
-fraction_is_text : (n : ℕ) → IsUtf8 (fraction_text n)
+pub fraction_is_text : (n : ℕ) → IsUtf8 (fraction_text n)
 fraction_is_text n = by_none (n == 0)
   where
     a : IsUtf8 (three (n / 1_000_000))
@@ -232,7 +238,8 @@ duration_is_text : (negative : Bool) (whole nanos : ℕ) → whole < 2 ^ 64
     → IsUtf8 (duration_text negative whole nanos)
 duration_is_text negative whole nanos small =
     IsUtf8-append (minus_text negative) _ (minus_is_text negative)
-    (IsUtf8-append (decimal whole) _ (IsUtf8-from_ascii (decimal whole) (IsAscii-decimal whole small))
+    (IsUtf8-append (decimal whole) _
+    (IsUtf8-from_ascii (decimal whole) (IsAscii-decimal whole small))
     (IsUtf8-append (fraction_text nanos) (115 ∷ []) (fraction_is_text nanos)
     (one_text 115 (omega arith))))
 

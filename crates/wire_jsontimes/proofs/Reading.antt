@@ -8,6 +8,7 @@ use Rattle.wire_protojson.specs.declared.refusal.Reason.{Reason}
 use Rattle.wire_protojson.specs.Reads.{Refuses, RefusedAt, UnlessNoMemory, no_meaning, no_scalar}
 use Rattle.wire_protojson.specs.Scalars.{MeansString}
 use Rattle.wire_jsontimes.specs.Durations.{MeansDuration, duration_of}
+use Rattle.wire_jsontimes.specs.Timestamps.{MeansTimestamp, timestamp_of}
 
 -- what means a value is a string
 abbrev pub IsOfStrings : {V : Type 0} → (Json → V → Type 0) → Type 0
@@ -51,3 +52,35 @@ no_duration (boolean b) bytes is none v means = means
 no_duration (number text) bytes is none v means = means
 no_duration (array es) bytes is none v means = means
 no_duration (object ms) bytes is none v means = means
+
+-- ---- timestamps
+
+pub timestamp_is_string : IsOfStrings MeansTimestamp
+timestamp_is_string (string bytes) v means = (bytes, refl)
+timestamp_is_string null v means = absurd means
+timestamp_is_string (boolean b) v means = absurd means
+timestamp_is_string (number text) v means = absurd means
+timestamp_is_string (array es) v means = absurd means
+timestamp_is_string (object ms) v means = absurd means
+
+pub no_timestamp : (json : Json) (bytes : List ℕ) → MeansString json bytes
+    → timestamp_of bytes ≡ None → (v : ℤ × ℤ) → MeansTimestamp json v → ⊥
+no_timestamp (string text) bytes is none v means =
+    absurd (unlike (sym means ∙ ap timestamp_of is ∙ none))
+  where
+    unlike : Some v ≡ None → ⊥
+    unlike h = absurd cc
+no_timestamp null bytes is none v means = means
+no_timestamp (boolean b) bytes is none v means = means
+no_timestamp (number text) bytes is none v means = means
+no_timestamp (array es) bytes is none v means = means
+no_timestamp (object ms) bytes is none v means = means
+
+pub timestamp_meant : (json : Json) (bytes : List ℕ) (v : ℤ × ℤ) → MeansString json bytes
+    → timestamp_of bytes ≡ Some v → MeansTimestamp json v
+timestamp_meant (string text) bytes v is h = ap timestamp_of is ∙ h
+timestamp_meant null bytes v is h = absurd is
+timestamp_meant (boolean b) bytes v is h = absurd is
+timestamp_meant (number text) bytes v is h = absurd is
+timestamp_meant (array es) bytes v is h = absurd is
+timestamp_meant (object ms) bytes v is h = absurd is

@@ -7,7 +7,7 @@ use Rattle.std.specs.Str.Parse.{AllDigits, digits_value_after}
 use Rattle.wire_json.specs.Bytes.{begins}
 use Rattle.wire_jsontimes.specs.Digits.{Front, digit_more, is_digit, place_more, three, times, whole_at}
 
-digit_test : (c : ℕ) → digit_value c < 10 → is_digit c ≡ true
+pub digit_test : (c : ℕ) → digit_value c < 10 → is_digit c ≡ true
 digit_test c small = grind (arith, nat_tests)
 
 -- ---- digits

@@ -1,3 +1,4 @@
 pub mod Digits
 pub mod Durations
 pub mod Laws
+pub mod Timestamps

@@ -19,7 +19,7 @@ pub(crate) fn byte_at(text: &[u8], at: usize) -> Option<u8>
     text.get(at).copied()
 }
 
-fn digit_of(byte: u8) -> Option<u32>
+pub(crate) fn digit_of(byte: u8) -> Option<u32>
     ensures { SomeIff result (digit_value byte < 10) (digit_value byte) }
 {
     char::from(byte).to_digit(10)

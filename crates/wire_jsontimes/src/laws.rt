@@ -1,5 +1,5 @@
 //! Laws of times: each function is a theorem, and does nothing.
-ghost use Rattle.wire_jsontimes.specs.Laws.{DurationIsDecided, DurationReadsBack};
+ghost use Rattle.wire_jsontimes.specs.Laws.{DurationIsDecided, DurationReadsBack, TimestampIsDecided, TimestampReadsBack};
 
 /// What is written of a duration is read as it, whatever follows, where that goes on no number.
 pub fn durations_are_read_back()
@@ -10,4 +10,13 @@ pub fn durations_are_read_back()
 /// never both.
 pub fn durations_are_decided()
     ensures { DurationIsDecided }
+{}
+
+/// The same of a timestamp.
+pub fn timestamps_are_read_back()
+    ensures { TimestampReadsBack }
+{}
+
+pub fn timestamps_are_decided()
+    ensures { TimestampIsDecided }
 {}

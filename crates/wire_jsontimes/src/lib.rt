@@ -7,9 +7,13 @@ mod caller;
 mod digits;
 mod duration;
 pub mod laws;
+mod stamp;
 #[cfg(test)]
 mod tests;
+mod timestamp;
 mod write;
 
 pub use duration::{JsonDuration, read_duration};
+pub use stamp::write_timestamp;
+pub use timestamp::{JsonTimestamp, read_timestamp};
 pub use write::{WriteError, write_duration};

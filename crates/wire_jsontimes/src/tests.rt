@@ -1,6 +1,9 @@
-//! What is read of texts as a duration, and what is written. A test that is refused a request for
-//! memory fails with `OutOfMemory` as what was found, or not at all.
-use crate::{JsonDuration, WriteError, read_duration, write_duration};
+//! What is read of texts as a duration or a timestamp, and what is written. A test that is refused a
+//! request for memory fails with `OutOfMemory` as what was found, or not at all.
+use crate::{
+    JsonDuration, JsonTimestamp, WriteError, read_duration, read_timestamp, write_duration,
+    write_timestamp,
+};
 use std::alloc::Global;
 use wire_json::FaultKind;
 use wire_protojson::{ReadError, Reason};
@@ -13,8 +16,8 @@ enum Found {
     OutOfMemory,
 }
 
-// What is answered of a text: what is written again, that it is no duration, or at which byte it is
-// no JSON.
+// What is answered of a text: what is written again, that it is no value, or at which byte it is no
+// JSON.
 #[derive(Clone, Copy)]
 enum Answer {
     Is(&'static [u8]),
@@ -66,21 +69,98 @@ const DURATIONS: [(&'static [u8], Answer); 36] = [
     (b"\"1s", Bad(3)),
 ];
 
-fn found_in(alloc: Global, text: &[u8], answer: Answer) -> Found {
-    let mut out = Vec::new(alloc);
-    let own = match read_duration(alloc, text, 0) {
-        Err(ReadError::OutOfMemory) => return Found::OutOfMemory,
-        Err(ReadError::Refused(refusal)) => match answer {
+const TIMESTAMPS: [(&'static [u8], Answer); 36] = [
+    (b"\"1970-01-01T00:00:00Z\"", Is(b"\"1970-01-01T00:00:00Z\"")),
+    (
+        b"\"1970-01-01T00:00:00.5Z\"",
+        Is(b"\"1970-01-01T00:00:00.500Z\""),
+    ),
+    (
+        b"\"2024-02-29T23:59:59.123456789Z\"",
+        Is(b"\"2024-02-29T23:59:59.123456789Z\""),
+    ),
+    (
+        b"\"2000-02-29T12:30:01.000001Z\"",
+        Is(b"\"2000-02-29T12:30:01.000001Z\""),
+    ),
+    (
+        b"\"1969-12-31T23:59:59.999Z\"",
+        Is(b"\"1969-12-31T23:59:59.999Z\""),
+    ),
+    (b"\"0001-01-01T00:00:00Z\"", Is(b"\"0001-01-01T00:00:00Z\"")),
+    (
+        b"\"9999-12-31T23:59:59.999999999Z\"",
+        Is(b"\"9999-12-31T23:59:59.999999999Z\""),
+    ),
+    (
+        b"\"1970-01-01T01:00:00+01:00\"",
+        Is(b"\"1970-01-01T00:00:00Z\""),
+    ),
+    (
+        b"\"1970-01-01T00:00:00-08:30\"",
+        Is(b"\"1970-01-01T08:30:00Z\""),
+    ),
+    (
+        b"\"2024-03-01T00:30:00+00:45\"",
+        Is(b"\"2024-02-29T23:45:00Z\""),
+    ),
+    (b"\"2023-02-29T00:00:00Z\"", Unfit),
+    (b"\"2100-02-29T00:00:00Z\"", Unfit),
+    (b"\"2024-04-31T00:00:00Z\"", Unfit),
+    (b"\"2024-13-01T00:00:00Z\"", Unfit),
+    (b"\"2024-00-01T00:00:00Z\"", Unfit),
+    (b"\"2024-01-00T00:00:00Z\"", Unfit),
+    (b"\"0000-01-01T00:00:00Z\"", Unfit),
+    (b"\"0001-01-01T00:00:00+00:01\"", Unfit),
+    (b"\"9999-12-31T23:59:59-00:01\"", Unfit),
+    (b"\"2024-01-01T24:00:00Z\"", Unfit),
+    (b"\"2024-01-01T00:60:00Z\"", Unfit),
+    (b"\"2024-01-01T00:00:60Z\"", Unfit),
+    (b"\"2024-01-01t00:00:00Z\"", Unfit),
+    (b"\"2024-01-01T00:00:00z\"", Unfit),
+    (b"\"2024-01-01T00:00:00\"", Unfit),
+    (b"\"2024-01-01 00:00:00Z\"", Unfit),
+    (b"\"2024-1-1T00:00:00Z\"", Unfit),
+    (b"\"2024-01-01T00:00Z\"", Unfit),
+    (b"\"2024-01-01T00:00:00.Z\"", Unfit),
+    (b"\"2024-01-01T00:00:00.1234567890Z\"", Unfit),
+    (b"\"2024-01-01T00:00:00+0100\"", Unfit),
+    (b"\"2024-01-01T00:00:00+24:00\"", Unfit),
+    (b"\"2024-01-01T00:00:00Z \"", Unfit),
+    (b"\"20240101T000000Z\"", Unfit),
+    (b"\"\"", Unfit),
+    (b"1", Unfit),
+];
+
+// Why nothing is written again.
+enum Error {
+    Read(ReadError),
+    Write(WriteError),
+}
+
+fn rewrite_duration(alloc: Global, text: &[u8], out: &mut Vec<u8>) -> Result<usize, Error> {
+    let (duration, after) = read_duration(alloc, text, 0).map_err(Error::Read)?;
+    write_duration(alloc, out, duration).map_err(Error::Write)?;
+    Ok(after)
+}
+
+fn rewrite_timestamp(alloc: Global, text: &[u8], out: &mut Vec<u8>) -> Result<usize, Error> {
+    let (timestamp, after) = read_timestamp(alloc, text, 0).map_err(Error::Read)?;
+    write_timestamp(alloc, out, timestamp).map_err(Error::Write)?;
+    Ok(after)
+}
+
+fn found_of(out: &[u8], end: usize, answered: Result<usize, Error>, answer: Answer) -> Found {
+    let own = match answered {
+        Err(Error::Read(ReadError::OutOfMemory)) => return Found::OutOfMemory,
+        Err(Error::Write(WriteError::OutOfMemory)) => return Found::OutOfMemory,
+        Err(Error::Write(WriteError::OutOfRange)) => false,
+        Err(Error::Read(ReadError::Refused(refusal))) => match answer {
             Is(_) => false,
             Unfit => refusal.reason == Reason::NoValue && refusal.at == 0,
             Bad(at) => refusal.reason == Reason::NoJson(FaultKind::Syntax) && refusal.at == at,
         },
-        Ok((duration, after)) => match write_duration(alloc, &mut out, duration) {
-            Err(WriteError::OutOfMemory) => return Found::OutOfMemory,
-            Err(WriteError::OutOfRange) => false,
-            Ok(()) =>
-                matches!(answer, Is(wanted) if out.as_slice() == wanted && after == text.len()),
-        },
+        Ok(after) => matches!(answer, Is(wanted) if out == wanted && after == end),
     };
     if own { Found::Own } else { Found::Other }
 }
@@ -88,7 +168,20 @@ fn found_in(alloc: Global, text: &[u8], answer: Answer) -> Found {
 #[test]
 fn durations_are_read_and_written(rt: HostRuntime) {
     for (place, row) in DURATIONS.iter().enumerate() {
-        assert_eq!(rt; found_in(rt.alloc(), row.0, row.1), Found::Own, "{place}");
+        let mut out = Vec::new(rt.alloc());
+        let answered = rewrite_duration(rt.alloc(), row.0, &mut out);
+        let found = found_of(out.as_slice(), row.0.len(), answered, row.1);
+        assert_eq!(rt; found, Found::Own, "{place}");
+    }
+}
+
+#[test]
+fn timestamps_are_read_and_written(rt: HostRuntime) {
+    for (place, row) in TIMESTAMPS.iter().enumerate() {
+        let mut out = Vec::new(rt.alloc());
+        let answered = rewrite_timestamp(rt.alloc(), row.0, &mut out);
+        let found = found_of(out.as_slice(), row.0.len(), answered, row.1);
+        assert_eq!(rt; found, Found::Own, "{place}");
     }
 }
 
@@ -103,6 +196,14 @@ const OUT_OF_RANGE: [(i64, i32); 7] = [
     (-1, 1),
 ];
 
+const NO_TIMESTAMPS: [(i64, i32); 5] = [
+    (-62_135_596_801, 0),
+    (253_402_300_800, 0),
+    (i64::MAX, 0),
+    (0, -1),
+    (0, 1_000_000_000),
+];
+
 #[test]
 fn what_is_out_of_range_is_not_written(rt: HostRuntime) {
     for (place, row) in OUT_OF_RANGE.iter().enumerate() {
@@ -112,6 +213,15 @@ fn what_is_out_of_range_is_not_written(rt: HostRuntime) {
             nanos: row.1,
         };
         let written = write_duration(rt.alloc(), &mut out, duration);
+        assert_eq!(rt; written, Err(WriteError::OutOfRange), "{place}");
+    }
+    for (place, row) in NO_TIMESTAMPS.iter().enumerate() {
+        let mut out = Vec::new(rt.alloc());
+        let timestamp = JsonTimestamp {
+            seconds: row.0,
+            nanos: row.1,
+        };
+        let written = write_timestamp(rt.alloc(), &mut out, timestamp);
         assert_eq!(rt; written, Err(WriteError::OutOfRange), "{place}");
     }
 }

@@ -34,7 +34,7 @@ impl From<AllocError> for WriteError {
     }
 }
 
-fn push_digit(out: &mut String, digit: u32) -> Result<(), AllocError>
+pub(crate) fn push_digit(out: &mut String, digit: u32) -> Result<(), AllocError>
     requires { digit < 10 }
     ensures { OnOk result (string_bytes out.new ≡ string_bytes out.old ++ digit_char digit ∷ []) }
 {
@@ -66,7 +66,7 @@ fn push_places(out: &mut String, nanos: u32) -> Result<(), AllocError>
     push_three(out, nanos % 1000)
 }
 
-fn push_fraction(out: &mut String, nanos: u32) -> Result<(), AllocError>
+pub(crate) fn push_fraction(out: &mut String, nanos: u32) -> Result<(), AllocError>
     ensures { OnOk result (string_bytes out.new ≡ string_bytes out.old ++ fraction_text nanos) }
 {
     if nanos == 0 {
