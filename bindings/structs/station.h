@@ -110,9 +110,9 @@ uint32_t station_write(const station *it, const station_lists *lists, uint8_t *r
  * usually those that the struct was read from, those whose numbers the message lacks, in order,
  * each in its shortest form and groups whole. So nothing is lost of a message that is read, changed
  * and written, but the unknown fields of messages inside it. Each answers GTV_OK; of those that
- * write, GTV_NO_ROOM, exactly where the room is smaller; or, exactly where the bytes are no
- * records, or these nest more than 100 groups, the status of the error: GTV_UNEXPECTED_EOF,
- * GTV_VARINT_TOO_LONG, GTV_INVALID_WIRE_TYPE, GTV_INVALID_FIELD_NUMBER, GTV_MESSAGE_TOO_LARGE,
+ * write, GTV_NO_ROOM, exactly where the bytes are such records and the room is smaller; or, exactly
+ * where they are no records, or these nest more than 100 groups, the status of the error:
+ * GTV_UNEXPECTED_EOF, GTV_VARINT_TOO_LONG, GTV_INVALID_WIRE_TYPE, GTV_INVALID_FIELD_NUMBER,
  * GTV_RECURSION_LIMIT_EXCEEDED or GTV_INVALID_END_GROUP. Then `*len` is 0. Without GTV_OK the room
  * stays. Bytes that were read as the message are such records. */
 uint32_t report_sample_size_keeping(const report_sample *it, const uint8_t *bytes,

@@ -98,6 +98,8 @@ returns-in_default-clause-err $given$ =
 // Of many such fields the search does not find what is kept either.
 const MANY_BESIDE: usize = 40;
 
+const MANY_BESIDE_OF_LEAF: usize = 3;
+
 const BESIDE_TAKEN: &str = "
 pub returns-in_default-clause-ok : goal.returns-in_default-clause-ok
 returns-in_default-clause-ok $given$ =
@@ -112,6 +114,18 @@ returns-in_default-clause-ok $given$ =
 const USES_OF_BESIDE_TAKEN: &str = "\
 $taken_uses$\
 Rattle.wire_fields.specs.Arms to_last
+";
+
+// The same of a leaf.
+const BESIDE_OF_LEAF: &str = "
+pub returns-in_default-clause-ok : goal.returns-in_default-clause-ok
+returns-in_default-clause-ok $given$ =
+    let n = tag_number c.args.tag in
+    let other : (p : Payload) → $module$-known.owns n p ≡ false = λ p. $near$ in
+    leaf_ok $all_takes$ keeps n n refl _ _$levels$ _ _
+    (λ charge p h. to_last $module$-known.owns $module$-known.takes keeps_beside n other
+    _ _ charge p (h, refl))
+    _ _ _ _ _ $rest_call$.result $rest_call$.ensures.ok
 ";
 
 // What a group hands on is of none of its fields.
@@ -229,6 +243,10 @@ pub(crate) fn put_rest(page: &mut Words, fields: &[Field]) {
         if is_whole && fields.len() > MANY_BESIDE {
             set_near(page, fields);
             page.append_all(&[("uses", USES_OF_BESIDE_TAKEN), ("rest", BESIDE_TAKEN)]);
+        } else if !is_whole && fields.len() > MANY_BESIDE_OF_LEAF {
+            set_near(page, fields);
+            page.append_all(&[("uses", USES_OF_BESIDE_TAKEN), ("rest", BESIDE_OF_LEAF)]);
+            page.append("uses", USES_OF_REST_OF_LEAF);
         }
         page.append_all(&[("uses", USES_OF_BESIDE), ("rest", REST_BESIDE)]);
     } else if is_kept {

@@ -65,7 +65,7 @@ pub trait JsonScalar {
 
     ghost decided: { IsDecided means };
 
-    /// No scalar is an array or an object.
+    /// What is written of a scalar is no array and no object.
     ghost flat: { AreFlat tree };
 }
 

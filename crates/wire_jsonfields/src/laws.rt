@@ -47,14 +47,14 @@ pub fn written_is_read<M: JsonMessage>()
     ensures { (json : Json) (v : M.Value) → IsBack M.means json v → IsReadFrom M.means json v }
 {}
 
-/// What is written of a list has one level more than its elements.
+/// What is written of a list has at most one level more than its elements.
 pub fn lists_add_a_level<V: JsonValue>()
     ensures { (levels : ℕ) (vs : List V.Value)
         → AllByRecursion (NestsWithin levels V.tree) vs
         → NestsWithin (suc levels) (IsListTree V.tree) vs }
 {}
 
-/// What is written of a map has one level more than its values.
+/// What is written of a map has at most one level more than its values.
 pub fn maps_add_a_level<K: JsonKey, V: JsonValue>()
     ensures { (levels : ℕ) (m : List (K.Value × V.Value))
         → AllByRecursion (λ e. NestsWithin levels V.tree e.1) m

@@ -66,7 +66,7 @@ offset_of negative text =
     option_and_then (λ h. option_and_then (λ m. offset_if negative h.0 m.0 m.1)
     (two_more (0, h.1))) (two_then 58 text)
 
--- how far the clock is before UTC: a `Z`, or a sign, hours and minutes
+-- how far the clock is ahead of UTC: a `Z`, or a sign, hours and minutes
 abbrev pub offset_at : List ℕ → Option ℤ
 offset_at [] = None
 offset_at (c ∷ rest) =
@@ -86,7 +86,7 @@ abbrev pub seconds_of : ℤ → ℕ → ℤ → ℤ
 seconds_of day clock offset = day *ℤ pos 86_400 +ℤ pos clock -ℤ offset
 
 -- The seconds from 1970 on, and the nanoseconds, of a text: a date, a `T`, a time of the day, a
--- point and one to nine digits where a point stands, and how far the clock is before UTC.
+-- point and one to nine digits where a point stands, and how far the clock is ahead of UTC.
 abbrev pub timestamp_of : List ℕ → Option (ℤ × ℤ)
 timestamp_of text =
     option_and_then (λ date. option_and_then (λ clock. option_and_then (λ nanos. option_and_then

@@ -1,7 +1,7 @@
 //! Laws of times: each function is a theorem, and does nothing.
 ghost use Rattle.wire_jsontimes.specs.Laws.{DurationIsDecided, DurationReadsBack, TimestampIsDecided, TimestampReadsBack};
 
-/// What is written of a duration is read as it, whatever follows, where that goes on no number.
+/// What is written of a duration is read as it.
 pub fn durations_are_read_back()
     ensures { DurationReadsBack }
 {}
@@ -17,6 +17,7 @@ pub fn timestamps_are_read_back()
     ensures { TimestampReadsBack }
 {}
 
+/// A tree means one timestamp at most, and so on.
 pub fn timestamps_are_decided()
     ensures { TimestampIsDecided }
 {}

@@ -123,6 +123,8 @@ pub fn write_timestamp(
         × (out.new.items ≡ out.old.items ++ written json)) }
     ensures out_of_range { IfErr result (λ e. e ≡ WriteError.OutOfRange → (json : Json)
         → IsTimestampTree (timestamp.seconds, timestamp.nanos) json → ⊥) }
+    ensures stays { IfErr result (λ e. e ≡ WriteError.OutOfRange
+        → out.new.items ≡ out.old.items) }
     ensures err { OnErr result (Extends out.old.items out.new.items) }
 {
     if !is_in_range(timestamp.seconds) || timestamp.nanos < 0 || timestamp.nanos > 999_999_999 {

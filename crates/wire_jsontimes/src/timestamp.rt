@@ -207,7 +207,7 @@ fn clock_at(text: &[u8], at: usize) -> Option<Front>
     }
 }
 
-// How far a clock is before UTC, in seconds, where nothing stands behind it.
+// How far a clock is ahead of UTC, in seconds, where nothing stands behind it.
 fn offset_of(text: &[u8], at: usize, negative: bool) -> Option<Offset>
     ensures offset { MatchOption result (spec.offset_of negative (drop at text.now) ≡ None)
         (λ offset. spec.offset_of negative (drop at text.now) ≡ Some offset.seconds) }
@@ -229,7 +229,7 @@ fn offset_of(text: &[u8], at: usize, negative: bool) -> Option<Offset>
     }
 }
 
-// How far a clock is before UTC.
+// How far a clock is ahead of UTC.
 #[derive(Clone, Copy)]
 struct Offset {
     seconds: i64,

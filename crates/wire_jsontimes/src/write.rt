@@ -143,6 +143,8 @@ pub fn write_duration(
         × (out.new.items ≡ out.old.items ++ written json)) }
     ensures out_of_range { IfErr result (λ e. e ≡ WriteError.OutOfRange → (json : Json)
         → IsDurationTree (duration.seconds, duration.nanos) json → ⊥) }
+    ensures stays { IfErr result (λ e. e ≡ WriteError.OutOfRange
+        → out.new.items ≡ out.old.items) }
     ensures err { OnErr result (Extends out.old.items out.new.items) }
 {
     match parts_of(duration) {
