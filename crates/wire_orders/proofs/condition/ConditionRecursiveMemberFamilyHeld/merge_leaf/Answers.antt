@@ -1,18 +1,21 @@
 use Rattle.std.proofs.Common.{refl, rules, sym, ◌∙◌}
 use Rattle.std.proofs.lemmas.Result.{err_from_is_err_and}
-use Rattle.std.specs.Prelude.{ℕ}
+use Rattle.std.specs.Prelude.{false, ℕ, ◌≡◌}
+use Rattle.wire_codec.specs.Field.{Payload}
 use Rattle.wire_codec.specs.TagView.{tag_number}
 use Rattle.wire_codec.specs.ValueMap.{uint32}
-use Rattle.wire_fields.specs.Arms.{arm_err, from_last, neither, unlike, untaken}
+use Rattle.wire_fields.specs.Arms.{arm_err, from_last, neither, to_last, unlike, untaken}
 use Rattle.wire_fields.specs.Leaving.{keeps_beside}
+use Rattle.wire_fields.specs.NestArms.{leaf_ok}
 use Rattle.wire_fields.specs.Numbers.{numeric}
 use Rattle.wire_fields.specs.Presence.{always}
 use Rattle.wire_fields.specs.Shape.{keeps}
-use Rattle.wire_fields.specs.Sums.{first_err, first_untaken}
+use Rattle.wire_fields.specs.Sums.{first_err, first_takes, first_untaken}
 use Rattle.wire_fields.specs.declared.form.Form.TheVariants.{Varint}
 use Rattle.wire_orders.specs.ConditionFamily.{condition-known, condition-leaf, condition-least-kind}
 use Rattle.wire_orders.specs.ConditionFamily.{condition-note-kind, condition-region-kind}
 use Rattle.wire_orders.specs.declared.condition.Condition.{fold_out-Condition}
+use Rattle.wire_orders.specs.declared.condition_test.ConditionTest.TheFolds.{fold-roll-Condition}
 use Rattle.wire_orders.specs.ConditionFamily as family
 use Rattle.wire_orders.proofs.condition.ConditionRecursiveMemberFamilyHeld.merge_leaf.Goals as goal
 
@@ -54,6 +57,20 @@ returns-in-5-clause-err g c =
     (sym c.field_number.ensures.number ∙ c.in-5.is) _ _
     (λ charge z p h. ((z.0.1.1, z.1), h.0.0)) _ _ _
     c.merge_closed.result c.merge_closed.ensures.err))
+
+pub returns-in_default-clause-ok : goal.returns-in_default-clause-ok
+returns-in_default-clause-ok g c =
+    let n = tag_number c.args.tag in
+    let other : (p : Payload) → condition-known.owns n p ≡ false = λ p. neither _ _ (neither _ _ (unlike n 1 (search rules))
+    (unlike n 4 (search rules)))
+    (neither _ _ (unlike n 3 (search rules))
+    (unlike n 5 (search rules))) in
+    leaf_ok (first_takes condition-leaf.takes) keeps n n refl _ _ _ _
+    (fold_out-Condition family.ConditionTest-Held family.Family-Tree family.Family-Tree family.Family-Tree family.condition_test-one family.condition-one family.rebate-one family.rebate_unless_entry-one c.args.self.now)
+    (fold-roll-Condition family.ConditionTest-Held family.Family-Tree family.Family-Tree family.Family-Tree family.condition_test-one family.condition-one family.rebate-one family.rebate_unless_entry-one _) _ _
+    (λ charge p h. to_last condition-known.owns condition-known.takes keeps_beside n other
+    _ _ charge p (h, refl))
+    _ _ _ _ _ c.keep.result c.keep.ensures.ok
 
 pub returns-in_default-clause-err : goal.returns-in_default-clause-err
 returns-in_default-clause-err g c =
