@@ -94,11 +94,11 @@ DEEP = [
 # A schema, further parameters, and parts of the code that is written.
 CHOICES = [
     ("proto2", "enum E { Z = 0; } message A { oneof b { A x = 1; int32 y = 2; } optional E z = 3; "
-     "map<int32, E> w = 4; } message B { optional A a = 1; }", "",
+     "map<int32, E> w = 4; } message C { optional A a = 1; }", "",
      ["            4 => <Map<Int32, Always<Enum<E>>, 56> as ClosedMap>::merge_closed(",
       "            3 => merge_closed(tag, &mut self.z, &mut self.unknown, buf, context),",
       "    leaving_choice a-known a-choice", "a-account [] = entries_left 56 4 (λ n p.",
-      "b-account (number ∷ path) =\n    account_where (number == 1) (a-account path)"]),
+      "c-account (number ∷ path) =\n    account_where (number == 1) (a-account path)"]),
     ("proto2", "enum E { Z = 0; } message A { oneof b { B x = 1; int32 y = 2; } optional E z = 3; "
      "map<int32, E> w = 4; } message B { optional A a = 1; }", "",
      ["family-account (zero ∷ []) = entries_left 56 4 (λ n p.",
