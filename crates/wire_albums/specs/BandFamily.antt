@@ -26,8 +26,9 @@ use Rattle.wire_fields.specs.NestBack.{family_returned}
 use Rattle.wire_fields.specs.NestRange.{GoesToLeaf, IsPlaceOf, IsReadBack, LeafBack, all_runs}
 use Rattle.wire_fields.specs.NestRange.{family_range, followed, known_back, leaf_range, piece}
 use Rattle.wire_fields.specs.NestRange.{same_order, table_back}
-use Rattle.wire_fields.specs.NestTable.{all_counted, as_it_was, empty_of, family_records}
-use Rattle.wire_fields.specs.NestTable.{family_single, family_takes, if_number, message_at}
+use Rattle.wire_fields.specs.NestTable.{all_counted, as_it_was, as_they_were, empty_of}
+use Rattle.wire_fields.specs.NestTable.{family_records, family_single, family_takes, if_number}
+use Rattle.wire_fields.specs.NestTable.{message_at}
 use Rattle.wire_fields.specs.Numbers.{numeric}
 use Rattle.wire_fields.specs.Presence.{optional}
 use Rattle.wire_fields.specs.Ranges.{Range, fixed64_range, optional_range, pair_range, string_range}
@@ -194,7 +195,7 @@ band-table = record {
   once = band-once;
   place = band-place;
   beside = as_it_was;
-  rows_beside = as_it_was;
+  rows_beside = as_they_were;
 }
 
 abbrev pub player-known : Shape Player-Known
@@ -232,7 +233,7 @@ player-table = record {
   once = player-once;
   place = player-place;
   beside = as_it_was;
-  rows_beside = as_it_was;
+  rows_beside = as_they_were;
 }
 
 abbrev pub family-tables : Family-Sorts → tables.Table Family-Leaves
@@ -354,7 +355,7 @@ band-back g =
     (first_back band-leaf.takes band-leaf.default band-leaf.records (GoesToLeaf band-table)
     band-range-of-leaf (band-known-back g))
     refl refl band-runs_in_order (band-row_numbers g) band-row_places (λ i m. refl)
-    (λ n rs. refl)
+    (λ n l rs. refl)
 
 -- what is read back once it is written
 abbrev pub player-range-of-known : Range Player-Known
@@ -413,7 +414,7 @@ player-back g =
     (second_back player-leaf.takes player-leaf.default player-leaf.records (GoesToLeaf player-table)
     player-range-of-leaf (player-known-back g))
     refl refl player-runs_in_order (player-row_numbers g) player-row_places (λ i m. refl)
-    (λ n rs. refl)
+    (λ n l rs. refl)
 
 abbrev pub family-leaf-ranges : Family-Sorts → Range Family-Leaves
 family-leaf-ranges Band-Sort = (first_range band-range-of-leaf)

@@ -33,7 +33,7 @@ pub band-leaf-stays : Grounds
 band-leaf-stays g =
     table_stays band-table
     (first_stay (known_stay band-table (band-stays-of-known g)))
-    refl refl band-runs_in_order band-there (λ i m. refl) (λ n rs. refl)
+    refl refl band-runs_in_order band-there (λ i m. refl) (λ n l rs. refl)
 
 pub player-there : (n : ℕ) → IsThere player-table (player-place n)
 player-there n = there_where player-table (n == 3) _ _ (omega arith, refl)
@@ -52,7 +52,7 @@ pub player-leaf-stays : Grounds
 player-leaf-stays g =
     table_stays player-table
     (second_stay (known_stay player-table (player-stays-of-known g)))
-    refl refl player-runs_in_order player-there (λ i m. refl) (λ n rs. refl)
+    refl refl player-runs_in_order player-there (λ i m. refl) (λ n l rs. refl)
 
 pub family-leaves-stay : Grounds → (s : Family-Sorts)
     → LeafStays (family-tables s) (family-leaf-ranges s) any_beside

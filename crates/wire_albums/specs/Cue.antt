@@ -164,8 +164,8 @@ cue-table = record {
   rows_beside = rows_beside_field cue-choice;
 }
 
-pub cue-is_choice : IsChoice cue-leaf.takes cue-leaf.default cue-choice
-cue-is_choice = alone_choice _ _ _
+pub cue-is_choice : IsChoice cue-leaf.takes cue-choice
+cue-is_choice = alone_choice _ _
 
 pub cue-counted : (m : Cue) → row_count (cue-value m) ≡ 2
 cue-counted m = ap row_count (fold_out-Cue CueNext-Held Cue-Value cue_next-one cue-one m)
@@ -232,5 +232,5 @@ cue-returned g =
     (known_back g cue-table cue-known cue-range-of-known
     (cue-returned-of-known g) (λ n h. rw h refl))
     refl refl cue-runs_in_order
-    (cue-row_numbers g) cue-row_places (λ i m. refl) (λ n rs. refl))
+    (cue-row_numbers g) cue-row_places (λ i m. refl) (λ n l rs. refl))
     tt cue-shape refl refl refl (λ n p. refl)

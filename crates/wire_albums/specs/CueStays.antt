@@ -42,5 +42,5 @@ cue-stays g =
     (λ s. one_stands cue-choice)
     (λ s. choice_stays cue-table cue-choice cue-is_choice
     (known_stay cue-table (cue-stays-of-known g)) (cue-kept g)
-    refl refl cue-runs_in_order cue-there cue-choice_rows (λ i m. refl) (λ n rs. refl))
+    refl refl cue-runs_in_order cue-there cue-choice_rows (λ i m. refl) (λ n l rs. refl))
     tt cue-shape refl refl refl

@@ -27,8 +27,8 @@ use Rattle.wire_fields.specs.Nest.{boxed_row, done, nest, row, row_count, row_of
 use Rattle.wire_fields.specs.NestBack.{nest_returned}
 use Rattle.wire_fields.specs.NestRange.{IsPlaceOf, followed, nest_range, piece, runs_from}
 use Rattle.wire_fields.specs.NestRange.{same_order, table_back}
-use Rattle.wire_fields.specs.NestTable.{as_it_was, empty_of, if_number, nest_records, nest_single}
-use Rattle.wire_fields.specs.NestTable.{nest_takes}
+use Rattle.wire_fields.specs.NestTable.{as_it_was, as_they_were, empty_of, if_number, nest_records}
+use Rattle.wire_fields.specs.NestTable.{nest_single, nest_takes}
 use Rattle.wire_fields.specs.Packed.{unpacked}
 use Rattle.wire_fields.specs.Presence.{optional}
 use Rattle.wire_fields.specs.Ranges.{Range, closed_range, optional_range, pair_range, sint32_range}
@@ -163,7 +163,7 @@ genre-table = record {
   once = genre-once;
   place = genre-place;
   beside = as_it_was;
-  rows_beside = as_it_was;
+  rows_beside = as_they_were;
 }
 
 pub genre-counted : (m : Genre) → row_count (genre-value m) ≡ 2
@@ -247,5 +247,5 @@ genre-returned g =
       | inr h ↦ rw h refl
     ]))
     refl refl genre-runs_in_order
-    (genre-row_numbers g) genre-row_places (λ i m. refl) (λ n rs. refl))
+    (genre-row_numbers g) genre-row_places (λ i m. refl) (λ n l rs. refl))
     genre-shape refl refl refl (λ n p. refl)

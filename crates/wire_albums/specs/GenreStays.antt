@@ -42,5 +42,5 @@ pub genre-stays : Grounds → Stays genre-shape genre-range
 genre-stays g =
     nest_stays g genre-table (leaving_leaf_range genre-table genre-known genre-range-of-known)
     (table_stays genre-table (leaving_leaf_stay genre-table (genre-stays-of-known g))
-    refl refl genre-runs_in_order genre-there (λ i m. refl) (λ n rs. refl))
+    refl refl genre-runs_in_order genre-there (λ i m. refl) (λ n l rs. refl))
     genre-shape refl refl refl

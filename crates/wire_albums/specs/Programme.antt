@@ -4,9 +4,8 @@ use Rattle.std.proofs.Common.{ap, arith, inl, inr, refl, suc, zero, ◌≡◌}
 use Rattle.std.specs.Prelude.{Bool, List, None, Option, Some, [], box_value, is_some, option_map}
 use Rattle.std.specs.Prelude.{string_bytes, true, ℕ, ◌<◌, ◌==◌, ◌||◌, ◌∷◌}
 use Rattle.wire_albums.specs.ProgrammePart.{ProgrammePart-Value, programme_part-is_plain}
-use Rattle.wire_albums.specs.ProgrammePart.{programme_part-plain, programme_part-range}
-use Rattle.wire_albums.specs.ProgrammePart.{programme_part-returned, programme_part-shape}
-use Rattle.wire_albums.specs.ProgrammePart.{programme_part-spot, programme_part-tells}
+use Rattle.wire_albums.specs.ProgrammePart.{programme_part-range, programme_part-returned}
+use Rattle.wire_albums.specs.ProgrammePart.{programme_part-shape, programme_part-spot}
 use Rattle.wire_albums.specs.Silence.{silence-value, silence-view_value}
 use Rattle.wire_albums.specs.declared.programme.Programme.{Programme, Programme-F, fold-Programme}
 use Rattle.wire_albums.specs.declared.programme.Programme.{fold_out-Programme}
@@ -199,25 +198,14 @@ programme-table = record {
   rows_beside = rows_beside_field programme-choice;
 }
 
-pub programme-is_choice : IsChoice programme-leaf.takes programme-leaf.default programme-choice
+pub programme-is_choice : IsChoice programme-leaf.takes programme-choice
 programme-is_choice =
     leaf_choice programme-known programme-choice
     (first_spot programme-known unknown programme_part-is_plain
     (λ m. is_some m.1) (in_second no_variant) (second_spot (known 1 programme-note-kind)
     (programme_part-shape) programme_part-is_plain
     is_some no_variant
-    programme_part-spot
-    programme_part-plain programme_part-tells
-    (λ n p h. elim h [
-      | inl h ↦ elim h [
-        | inl h ↦ elim h [
-          | inl h ↦ rw h refl
-          | inr h ↦ rw h refl
-        ]
-        | inr h ↦ rw h refl
-      ]
-      | inr h ↦ rw h refl
-    ])))
+    programme_part-spot))
 
 pub programme-counted : (m : Programme) → row_count (programme-value m) ≡ 2
 programme-counted m = ap row_count (fold_out-Programme ProgrammePart-Held Programme-Value programme_part-one programme-one m)
@@ -310,5 +298,5 @@ programme-returned g =
       ]
     ]))
     refl refl programme-runs_in_order
-    (programme-row_numbers g) programme-row_places (λ i m. refl) (λ n rs. refl))
+    (programme-row_numbers g) programme-row_places (λ i m. refl) (λ n l rs. refl))
     tt programme-shape refl refl refl (λ n p. refl)

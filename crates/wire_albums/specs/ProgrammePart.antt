@@ -9,8 +9,7 @@ use Rattle.wire_codec.specs.Limits.{Charge, no_charge}
 use Rattle.wire_codec.specs.Records.{Records, none, plain}
 use Rattle.wire_codec.specs.ValueMap.{sint64}
 use Rattle.wire_fields.specs.Back.{AllAre, FoldsBack}
-use Rattle.wire_fields.specs.ChoiceSpot.{Spot, either_sets, here_spot, tells_either, tells_one}
-use Rattle.wire_fields.specs.ChoiceSpot.{variant_sets}
+use Rattle.wire_fields.specs.ChoiceSpot.{Spot, either_sets, here_spot, variant_sets}
 use Rattle.wire_fields.specs.Grounds.{Grounds, any_bytes_back, numeric_back, sint64_back}
 use Rattle.wire_fields.specs.Grounds.{string_back}
 use Rattle.wire_fields.specs.Messages.{embedded_always}
@@ -108,12 +107,6 @@ programme_part-shape =
 -- its field numbers
 abbrev pub programme_part-is_plain : ℕ → Bool
 programme_part-is_plain n = ((((n == 2) || (n == 3)) || (n == 4)) || (n == 6))
-
-abbrev pub programme_part-plain : ℕ → Type 0
-programme_part-plain n = ((((n ≡ 2) ⊎ (n ≡ 3)) ⊎ (n ≡ 4)) ⊎ (n ≡ 6))
-
-pub programme_part-tells : (n : ℕ) → programme_part-is_plain n ≡ true → programme_part-plain n
-programme_part-tells n = tells_either _ _ (tells_either _ _ (tells_either _ _ (tells_one n 2) (tells_one n 3)) (tells_one n 4)) (tells_one n 6)
 
 pub programme_part-spot : Spot programme_part-shape programme_part-is_plain is_some no_variant
 programme_part-spot =

@@ -46,5 +46,5 @@ programme-stays g =
     (λ s. one_stands programme-choice)
     (λ s. choice_stays programme-table programme-choice programme-is_choice
     (known_stay programme-table (programme-stays-of-known g)) (programme-kept g)
-    refl refl programme-runs_in_order programme-there programme-choice_rows (λ i m. refl) (λ n rs. refl))
+    refl refl programme-runs_in_order programme-there programme-choice_rows (λ i m. refl) (λ n l rs. refl))
     tt programme-shape refl refl refl

@@ -17,8 +17,8 @@ use Rattle.wire_fields.specs.Nest.{boxed_row, done, nest, row, row_count, row_of
 use Rattle.wire_fields.specs.NestBack.{nest_returned}
 use Rattle.wire_fields.specs.NestRange.{IsPlaceOf, followed, leaf_back, leaf_range, nest_range}
 use Rattle.wire_fields.specs.NestRange.{piece, runs_from, same_order}
-use Rattle.wire_fields.specs.NestTable.{as_it_was, empty_of, if_number, nest_records, nest_single}
-use Rattle.wire_fields.specs.NestTable.{nest_takes}
+use Rattle.wire_fields.specs.NestTable.{as_it_was, as_they_were, empty_of, if_number, nest_records}
+use Rattle.wire_fields.specs.NestTable.{nest_single, nest_takes}
 use Rattle.wire_fields.specs.NoFields.{no_fields, no_fields_range, no_fields_returned}
 use Rattle.wire_fields.specs.Ranges.{Range}
 use Rattle.wire_fields.specs.Returned.{Returned}
@@ -108,7 +108,7 @@ queue-table = record {
   once = queue-once;
   place = queue-place;
   beside = as_it_was;
-  rows_beside = as_it_was;
+  rows_beside = as_they_were;
 }
 
 pub queue-counted : (m : Queue) → row_count (queue-value m) ≡ 1
@@ -164,5 +164,5 @@ queue-returned g =
     (queue-leaf.single g.reading)
     (leaf_back g queue-table queue-known queue-range-of-known (queue-returned-of-known g)
     refl refl queue-runs_in_order (λ n h. absurd h)
-    (queue-row_numbers g) queue-row_places (λ i m. refl) (λ n rs. refl))
+    (queue-row_numbers g) queue-row_places (λ i m. refl) (λ n l rs. refl))
     queue-shape refl refl refl (λ n p. refl)

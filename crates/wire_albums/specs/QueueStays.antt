@@ -24,5 +24,5 @@ pub queue-stays : Grounds → Stays queue-shape queue-range
 queue-stays g =
     nest_stays g queue-table (leaf_range queue-table queue-known queue-range-of-known)
     (table_stays queue-table (known_stay queue-table (queue-stays-of-known g))
-    refl refl queue-runs_in_order queue-there (λ i m. refl) (λ n rs. refl))
+    refl refl queue-runs_in_order queue-there (λ i m. refl) (λ n l rs. refl))
     queue-shape refl refl refl

@@ -11,7 +11,8 @@ const OF_LEAF: [Template; 7] = [
     ("view_seen", "(or_else $module$-none m.$field$).0"),
     (
         "definitions",
-        "$specs$ $name$-Value\n$specs$ $module$-shape\nRattle.wire_fields.specs.Messages or_else\n",
+        "$specs$ $name$-Value\n$specs$ $module$-shape\nRattle.wire_fields.specs.Messages or_else\n\
+        $all_closing_uses$",
     ),
     ("view_definitions", ""),
     ("code", ""),
@@ -114,6 +115,20 @@ $choice_module$-value = fold-$choice$$trees$$ones$
 
 ";
 
+// Where a variant is of a closed enum.
+const HELD: &str = "\
+abbrev pub $choice_module$-held : Option $choice$ → $choice$-Held
+$choice_module$-held m = or_else $choice_module$-none (option_map $choice_module$-value m)
+
+-- the messages of its rows that stay beside such a variant of the leaf
+abbrev pub $choice_module$-beside : $plain_value$ → $rows_value$ → $rows_value$
+$choice_module$-beside None rows = rows
+$choice_module$-beside (Some x) rows = $rows_none$
+
+";
+
+const USES_OF_HELD: &str = "Rattle.std.specs.Prelude option_map\n";
+
 const CHOICE: &str = "\
 -- the oneof `$choice$`: its fields of the leaf, and its rows
 abbrev pub $module$-choice : choices.Choice $name$-Leaf
@@ -138,7 +153,7 @@ $module$-choice = rows_alone (λ i. $choice_rows$)
 pub(crate) fn put_choice(page: &mut Words, fields: &[Field]) {
     page.fill_all(&[("helds", ""), ("choice_folds", ""), ("choice_table", "")]);
     page.set("held_types", "");
-    page.fill_all(&[("beside", "as_it_was"), ("rows_beside", "as_it_was")]);
+    page.fill_all(&[("beside", "as_it_was"), ("rows_beside", "as_they_were")]);
     if page.get("choice").is_empty() {
         return;
     }
@@ -168,6 +183,9 @@ pub(crate) fn put_choice(page: &mut Words, fields: &[Field]) {
     page.fill_all(&OF_CHOICE);
     page.fill("helds", if is_alone { "$held_types$" } else { "" });
     page.append("helds", HELD_ONE);
+    if !page.get("closed_choice").is_empty() {
+        page.append_all(&[("choice_folds", HELD), ("uses", USES_OF_HELD)]);
+    }
     page.fill("choice_table", if is_plain { CHOICE } else { ROWS_ALONE });
 }
 
@@ -182,6 +200,7 @@ const OF_CHOICE: [Template; 5] = [
 // A line of each variant.
 fn put_lines(page: &mut Words, fields: &[Field]) {
     page.fill_all(&[("variant_lines", ""), ("variant_uses", "")]);
+    page.set("closed_choice", "");
     for field in fields {
         if let Some(oneof) = &field.oneof {
             if !field.words.get("in_choice").is_empty() {
@@ -216,6 +235,7 @@ fn put_plain_lines(page: &mut Words, oneof: &Oneof) {
     for (place, variant) in oneof.variants.iter().enumerate() {
         page.copy(variant, &["variant", "before", "behind", "definitions"]);
         page.copy(variant, &["ghosts"]);
+        page.append("closed_choice", variant.get("closed"));
         set_opened(page, variant.get("variant"));
         put_values(page, place, last);
         page.append(

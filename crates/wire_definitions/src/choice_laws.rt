@@ -26,8 +26,10 @@ Rattle.wire_fields.specs.ChoiceBack IsChoice
 ";
 
 const USES_OF_PLAIN: &str = "\
+Rattle.wire_fields.specs.ChoiceLeaving closed_set
 Rattle.wire_fields.specs.ChoiceLeaving dropping_choice
 Rattle.wire_fields.specs.ChoiceLeaving first_leaving
+Rattle.wire_fields.specs.ChoiceLeaving here_leaving
 Rattle.wire_fields.specs.ChoiceLeaving leaving_choice
 Rattle.wire_fields.specs.ChoiceLeaving none_spot
 Rattle.wire_fields.specs.ChoiceLeaving second_leaving
@@ -35,9 +37,8 @@ Rattle.wire_fields.specs.ChoiceSpot first_spot
 Rattle.wire_fields.specs.ChoiceSpot leaf_choice
 Rattle.wire_fields.specs.ChoiceSpot second_spot
 Rattle.wire_fields.specs.Dropped dropped
-Rattle.$crate$.specs.$choice$ $choice_module$-plain
+Rattle.$crate$.specs.$choice$ $choice_module$-set
 Rattle.$crate$.specs.$choice$ $choice_module$-spot
-Rattle.$crate$.specs.$choice$ $choice_module$-tells
 ";
 
 const USES_OF_ROWS: &str = "\
@@ -45,7 +46,7 @@ Rattle.wire_fields.specs.ChoiceBack alone_choice
 ";
 
 const PLAIN: &str = "\
-pub $module$-is_choice : IsChoice $module$-leaf.takes $module$-leaf.default $module$-choice
+pub $module$-is_choice : IsChoice $module$-leaf.takes $module$-choice
 $module$-is_choice =
     $choice_of_leaf$
 
@@ -74,8 +75,8 @@ const OF_DROPPING: [Template; 1] = [(
 )];
 
 const ROWS_ALONE: &str = "\
-pub $module$-is_choice : IsChoice $module$-leaf.takes $module$-leaf.default $module$-choice
-$module$-is_choice = alone_choice _ _ _
+pub $module$-is_choice : IsChoice $module$-leaf.takes $module$-choice
+$module$-is_choice = alone_choice _ _
 
 ";
 
@@ -114,13 +115,8 @@ Rattle.std.specs.Prelude true
 Rattle.std.specs.Prelude ℕ
 Rattle.std.specs.Prelude ◌==◌
 Rattle.std.specs.Prelude ◌||◌
-Rattle.wire_fields.specs.ChoiceSpot Spot
 Rattle.wire_fields.specs.ChoiceSpot either_sets
-Rattle.wire_fields.specs.ChoiceSpot here_spot
-Rattle.wire_fields.specs.ChoiceSpot tells_either
-Rattle.wire_fields.specs.ChoiceSpot tells_one
 Rattle.wire_fields.specs.ChoiceSpot variant_sets
-Rattle.wire_fields.specs.NestChoice no_variant
 ";
 
 /// The numbers of the variants that are of the leaf.
@@ -130,43 +126,65 @@ abbrev pub $module$-is_plain : ℕ → Bool
 $module$-is_plain n = $is_plain$
 ";
 
-/// What records make of them.
-pub(crate) const SPOT: &str = "
-abbrev pub $module$-plain : ℕ → Type 0
-$module$-plain n = $numbers$
-
-pub $module$-tells : (n : ℕ) → $module$-is_plain n ≡ true → $module$-plain n
-$module$-tells n = $tells$
-
+// What records make of them.
+const SPOT: &str = "
 pub $module$-spot : Spot $module$-shape $module$-is_plain is_some no_variant
 $module$-spot =
     here_spot $module$-records $all$ $module$-is_plain (λ n p. refl)
     $sets$
 ";
 
-const ONE: [Template; 3] = [
+const ONE: [Template; 2] = [
     ("is_this", "(n == $digits$)"),
-    ("tells_this", "tells_one n $digits$"),
     (
         "sets_this",
         "(variant_sets $digits$ $definition$ $word$-of-$module$-as (λ x. Some $one$) (λ x. refl))",
     ),
 ];
 
-const FIRST: [Template; 3] = [
-    ("is_plain", "$is_this$"),
-    ("tells", "$tells_this$"),
-    ("sets", "$sets_this$"),
-];
+const FIRST: [Template; 2] = [("is_plain", "$is_this$"), ("sets", "$sets_this$")];
 
-const NEXT: [Template; 3] = [
+const NEXT: [Template; 2] = [
     ("is_plain", "($is_plain$ || $is_this$)"),
-    ("tells", "tells_either _ _ ($tells$) ($tells_this$)"),
     (
         "sets",
         "(either_sets $all$ $word$-of-$module$\n    $sets$\n    $sets_this$)",
     ),
 ];
+
+const USES_OF_STANDING: &str = "\
+Rattle.wire_fields.specs.ChoiceSpot Spot
+Rattle.wire_fields.specs.ChoiceSpot here_spot
+Rattle.wire_fields.specs.NestChoice no_variant
+";
+
+// The same where some are of closed enums, but for these.
+const SET: &str = "
+pub $module$-set : LeavesSet (leaving_none $module$-shape)
+$module$-set =
+    others_set $module$-records $all$
+    $sets$
+";
+
+const USES_OF_SET: &str = "\
+Rattle.wire_fields.specs.ChoiceLeaving LeavesSet
+Rattle.wire_fields.specs.ChoiceLeaving others_set
+Rattle.wire_fields.specs.Leaving leaving_none
+";
+
+/// Puts what records make of the variants of the leaf into the word `standing`.
+pub(crate) fn put_standing(page: &mut Words, variants: &[Words]) {
+    let is_closing = variants.iter().any(|it| !it.get("closed").is_empty());
+    page.fill("standing", if is_closing { SET } else { SPOT });
+    page.append(
+        "uses",
+        if is_closing {
+            USES_OF_SET
+        } else {
+            USES_OF_STANDING
+        },
+    );
+}
 
 /// The variant at this place of those of the leaf.
 pub(crate) fn put_spot(page: &mut Words, place: usize) {

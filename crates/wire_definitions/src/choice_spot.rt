@@ -2,13 +2,12 @@
 use crate::rows::is_row;
 use wire_schema::{Field, Template, Words};
 
-/// Where it stands in a tree of fields: that it does, by what it is told from other values, and how it
-/// is taken away.
-pub(crate) const SPOT: [Template; 7] = [
+/// Where it stands in a tree of fields: what records make of it, whether one of its variants does, and
+/// how that is taken away.
+pub(crate) const SPOT: [Template; 6] = [
     ("spot", "$module$-spot"),
     ("spot_step", "spot"),
     ("spot_of", "$module$"),
-    ("spot_apart", "$apart$"),
     ("spot_path", ""),
     ("spot_stands", "is_some"),
     ("spot_without", "no_variant"),
@@ -19,6 +18,15 @@ pub(crate) const LEAVING_SPOT: [Template; 2] = [
     (
         "spot",
         "(none_spot $module$-shape $module$-is_plain is_some no_variant\n    $spot$)",
+    ),
+    ("spot_step", "leaving"),
+];
+
+/// The same where a variant of its own may leave records.
+pub(crate) const CLOSED_SPOT: [Template; 2] = [
+    (
+        "spot",
+        "(here_leaving $table$ $module$-is_plain (λ n p. refl)\n    $set_part$)",
     ),
     ("spot_step", "leaving"),
 ];
@@ -39,8 +47,7 @@ pub(crate) const SPOT_IN_SECOND: [Template; 4] = [
     (
         "spot",
         "(second_$spot_step$ ($table$)\n    ($right_table$) $spot_of$-is_plain\n    \
-        $spot_stands$ $spot_without$\n    $spot$\n    \
-        $spot_of$-plain $spot_of$-tells\n    (λ n p h. $spot_apart$))",
+        $spot_stands$ $spot_without$\n    $spot$)",
     ),
     ("spot_path", ".1$spot_path$"),
     ("spot_stands", "(λ m. is_some m$spot_path$)"),
@@ -54,7 +61,8 @@ pub(crate) fn set_choice(page: &mut Words, fields: &[Field], tree: &Words) {
     page.fill_all(&[("choice_rows", ""), ("choice_plain", "")]);
     page.fill(
         "uses_of_beside",
-        "Rattle.wire_fields.specs.NestTable as_it_was\n",
+        "Rattle.wire_fields.specs.NestTable as_it_was\n\
+        Rattle.wire_fields.specs.NestTable as_they_were\n",
     );
     if page.get("choice").is_empty() {
         return;

@@ -32,7 +32,15 @@ const VALUE: &str = "\
 abbrev pub $choice_module$-view_value : $choice_view$ → $choice$-Held
 $choice_module$-view_value = fold-$choice_view$$view_trees$$view_ones$
 
-$view_value$";
+$view_held$$view_value$";
+
+// Where a variant is of a closed enum.
+const HELD: &str = "\
+abbrev pub $choice_module$-view_held : Option $choice_view$ → $choice$-Held
+$choice_module$-view_held m =
+    or_else $choice_module$-none (option_map $choice_module$-view_value m)
+
+";
 
 // That what stands is seen alike whether the messages are seen in it, or behind it.
 const LAWS: &str = "\
@@ -65,6 +73,8 @@ pub(crate) fn put_choice_view(page: &mut Words, fields: &[Field]) {
         }
     }
     put_row_lines(page, fields);
+    let is_closing = !page.get("closed_choice").is_empty();
+    page.fill("view_held", if is_closing { HELD } else { "" });
     page.append("uses", USES);
     page.fill_all(&[
         ("view_one", ONE),

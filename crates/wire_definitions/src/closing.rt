@@ -170,6 +170,11 @@ const OF_ONEOF: [Template; 2] = [("of_goals", "$module$"), ("given", "g c")];
 
 const OF_VIEW: [Template; 2] = [("of_goals", "$view_module$"), ("given", "c")];
 
+// Of a oneof of which some variants are rows: the function stands beside the message.
+const OF_CHOICE: [Template; 2] = [("of_goals", "$holder$"), ("given", "g c")];
+
+const OF_CHOICE_VIEW: [Template; 2] = [("of_goals", "$holder_view$"), ("given", "c")];
+
 /// The proof of that function.
 pub fn closed_answers(base: &Words, variant: &Words) -> Result<String, GenerateError> {
     answers_of(base, variant, &OF_ONEOF)
@@ -178,6 +183,14 @@ pub fn closed_answers(base: &Words, variant: &Words) -> Result<String, GenerateE
 /// The proof of that of the oneof's view.
 pub fn closed_view_answers(base: &Words, variant: &Words) -> Result<String, GenerateError> {
     answers_of(base, variant, &OF_VIEW)
+}
+
+/// That of a oneof of which some variants are rows, and that of its view.
+pub fn closed_choice_answers(base: &Words, variant: &Words) -> Result<[String; 2], GenerateError> {
+    Ok([
+        answers_of(base, variant, &OF_CHOICE)?,
+        answers_of(base, variant, &OF_CHOICE_VIEW)?,
+    ])
 }
 
 fn answers_of(

@@ -39,7 +39,7 @@ mod view_definitions;
 mod view_folds;
 
 pub use choice_names::{put_all_variants, put_others, set_names};
-pub use closing::{OF_CLOSED_VARIANT, closed_answers, closed_view_answers};
+pub use closing::{OF_CLOSED_VARIANT, closed_answers, closed_choice_answers, closed_view_answers};
 pub use comments::{put_comment, set_heading};
 pub use copied_parts::copied_part;
 pub use definitions::definitions_of;
@@ -55,7 +55,7 @@ pub use members::{
 };
 pub use mentioned::use_mentioned_of;
 pub use nests_stay::{family_stays, member_stays, nest_stays, put_leaf_stays};
-pub use oneofs::oneof_definitions;
+pub use oneofs::{inject, oneof_definitions, put_values};
 pub use oneofs_stay::oneof_stays;
 pub use recursion::{recursive_definitions, table_page};
 pub use required::{DOCUMENTED, put_required, use_asked};

@@ -52,7 +52,7 @@ $module$-back g =
     $sum_start$ $sum_records$$law_of_choice$
     $sum_back$
     refl refl $module$-runs_in_order ($module$-row_numbers g) $module$-row_places (λ i m. refl)
-    (λ n rs. refl)
+    (λ n l rs. refl)
 ";
 
 const WHAT: &str = "`$name$` as contracts see it, which is one of the types of `$family_name$`.";

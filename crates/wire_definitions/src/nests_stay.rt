@@ -36,7 +36,7 @@ $module$-stays g =
     (λ s. one_stands $module$-choice)
     (λ s. choice_stays $module$-table $module$-choice $module$-is_choice
     ($leaf_stay$ ($module$-stays-of-known g)) ($module$-kept g)
-    refl refl $runs_in_order$ $module$-there $module$-choice_rows (λ i m. refl) (λ n rs. refl))
+    refl refl $runs_in_order$ $module$-there $module$-choice_rows (λ i m. refl) (λ n l rs. refl))
     tt $module$-shape refl refl refl
 ";
 
@@ -47,7 +47,7 @@ $module$-leaf-stays g =
     choice_stays $module$-table $sum_choice$ $sum_is_choice$
     $sum_stay$
     $sum_kept$
-    refl refl $runs_in_order$ $module$-there $module$-choice_rows (λ i m. refl) (λ n rs. refl)
+    refl refl $runs_in_order$ $module$-there $module$-choice_rows (λ i m. refl) (λ n l rs. refl)
 ";
 
 const ALONE: &str = "$of_leaf$
@@ -55,7 +55,7 @@ pub $module$-stays : Grounds → Stays $module$-shape $accounted_range$
 $module$-stays g =
     nest_stays g $module$-table ($leaf_range$ $known_range$)
     (table_stays $module$-table ($leaf_stay$ ($module$-stays-of-known g))
-    refl refl $runs_in_order$ $module$-there (λ i m. refl) (λ n rs. refl))
+    refl refl $runs_in_order$ $module$-there (λ i m. refl) (λ n l rs. refl))
     $module$-shape refl refl refl
 ";
 
@@ -65,7 +65,7 @@ pub $module$-leaf-stays : Grounds
 $module$-leaf-stays g =
     table_stays $module$-table
     $sum_stay$
-    refl refl $runs_in_order$ $module$-there (λ i m. refl) (λ n rs. refl)
+    refl refl $runs_in_order$ $module$-there (λ i m. refl) (λ n l rs. refl)
 ";
 
 const WHAT: &str = "What decoding leaves of messages that hold one another is in range: $listed$.";

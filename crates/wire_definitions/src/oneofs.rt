@@ -1,5 +1,5 @@
 //! The definitions of a oneof.
-use crate::choice_laws::{IS_PLAIN, SPOT, USES_OF_SPOT as USES_OF_PLAIN, put_spot};
+use crate::choice_laws::{IS_PLAIN, USES_OF_SPOT as USES_OF_PLAIN, put_spot, put_standing};
 use crate::closing::{CLOSED_DEFINITIONS, put_apart_variants};
 use crate::comments::set_heading;
 use crate::definitions::TABLE;
@@ -276,6 +276,7 @@ pub fn oneof_definitions(base: &Words, oneof: &Oneof) -> Result<String, Generate
             page.append_all(&OF_RETURNED);
         }
     }
+    page.set("standing", "");
     if is_read_back {
         page.append("uses", USES_OF_RANGE);
         use_charges(&mut page);
@@ -285,6 +286,9 @@ pub fn oneof_definitions(base: &Words, oneof: &Oneof) -> Result<String, Generate
         page.fill("all", "(either_of $module$-front $word$-of-$module$)");
     }
     if is_read_back {
+        if !is_whole {
+            put_standing(&mut page, &oneof.variants);
+        }
         put_apart_variants(&mut page, &oneof.variants);
         put_owned(&mut page, &oneof.variants);
     }
@@ -303,7 +307,7 @@ pub fn oneof_definitions(base: &Words, oneof: &Oneof) -> Result<String, Generate
     page.append("text", if is_whole { WHOLE_KIND } else { IS_PLAIN });
     put_missing_in_one(&mut page);
     if is_read_back {
-        page.append("text", if is_whole { "" } else { SPOT });
+        page.append("text", "$standing$");
         page.fill("ranges", RANGE);
         page.append("ranges", "$apart_variants$$owned_variants$");
         under_charges(&mut page);
@@ -329,7 +333,7 @@ fn put_numbers(page: &mut Words, place: usize, last: usize) {
 
 /// A value of the variant at this place, of which the sum of types has so many: as it is seen, as
 /// `x`, and the lines of the other variants, those before and those behind.
-pub(crate) fn put_values(page: &mut Words, place: usize, last: usize) {
+pub fn put_values(page: &mut Words, place: usize, last: usize) {
     page.fill("injected", "$before$x$behind$");
     let is_word = page.get("injected") == "x";
     page.fill("injected", if is_word { "x" } else { "($injected$)" });
@@ -351,8 +355,8 @@ pub(crate) fn put_values(page: &mut Words, place: usize, last: usize) {
     }
 }
 
-// Puts a value into the part at this place of a sum of types, which leans to the right.
-fn inject(page: &mut Words, place: usize, last: usize) {
+/// Puts the value `injected` into the part at this place of a sum of types, which leans to the right.
+pub fn inject(page: &mut Words, place: usize, last: usize) {
     if place < last {
         page.fill("injected", "(inl $injected$)");
     }

@@ -62,7 +62,7 @@ $module$-returned g =
     ($module$-leaf.single g.reading)
     (leaf_back g $module$-table $module$-known $module$-range-of-known ($module$-returned-of-known g)
     refl refl $module$-runs_in_order (λ n h. $apart$)
-    ($module$-row_numbers g) $module$-row_places (λ i m. refl) (λ n rs. refl))
+    ($module$-row_numbers g) $module$-row_places (λ i m. refl) (λ n l rs. refl))
     $module$-shape refl refl refl (λ n p. refl)
 ";
 
@@ -79,7 +79,7 @@ $module$-returned g =
     ($leaf_known_back$ $module$-range-of-known
     ($module$-returned-of-known g) (λ n h. $apart$))
     refl refl $module$-runs_in_order
-    ($module$-row_numbers g) $module$-row_places (λ i m. refl) (λ n rs. refl))
+    ($module$-row_numbers g) $module$-row_places (λ i m. refl) (λ n l rs. refl))
     $module$-shape refl refl refl (λ n p. refl)
 ";
 
@@ -102,7 +102,7 @@ $module$-returned g =
     ($leaf_known_back$ $module$-range-of-known
     ($module$-returned-of-known g) (λ n h. $apart$))
     refl refl $module$-runs_in_order
-    ($module$-row_numbers g) $module$-row_places (λ i m. refl) (λ n rs. refl))
+    ($module$-row_numbers g) $module$-row_places (λ i m. refl) (λ n l rs. refl))
     tt $module$-shape refl refl refl (λ n p. refl)
 ";
 

@@ -54,9 +54,6 @@ pub fn leaf_tree(
     if base.get("mismatch") == "keep" {
         return Err(base.refused(KEEPING));
     }
-    if leaf.iter().any(is_closed_choice) {
-        return Err(base.refused(CLOSED_CHOICE));
-    }
     let mut tree = tree_of(base, &mut leaf, false)?;
     if leaf.is_empty() {
         tree.words.fill_all(&NO_FIELDS);
@@ -78,15 +75,6 @@ const SEVERAL: &str = "$full$: messages that hold themselves or one another by s
                        encoded=FIELD";
 
 const KEEPING: &str = "$full$: a message that holds itself, or what holds it, has no mismatch=keep";
-
-const CLOSED_CHOICE: &str = "$full$: a message that holds itself, or what holds it, by a oneof has \
-                             no closed enum in that oneof";
-
-// Whether a field is a oneof with rows and a closed enum.
-fn is_closed_choice(field: &Field) -> bool {
-    let is_choice = !field.words.get("in_choice").is_empty();
-    is_choice && field.words.get("sort") == "Leaving"
-}
 
 // The tree of no fields.
 const NO_FIELDS: [Template; 9] = [

@@ -1,6 +1,6 @@
 //! The fields of a message as a balanced tree of pairs, which its code, its definitions and its
 //! proofs have alike.
-use crate::choice_spot::{LEAVING_SPOT, SPOT, SPOT_IN_FIRST, SPOT_IN_SECOND};
+use crate::choice_spot::{CLOSED_SPOT, LEAVING_SPOT, SPOT, SPOT_IN_FIRST, SPOT_IN_SECOND};
 use crate::spans::{Span, has_groups, is_before_others, is_few, parts_of};
 use wire_schema::{Field, GenerateError, Template, Words};
 
@@ -150,10 +150,13 @@ const NAMES: [Template; 5] = [
     ("copies_words", "$module$-copies-$low$-to-$high$"),
 ];
 
+// The word of a base whose parts stand where they are as what they are, and are not named.
+const IN_PLACE: &str = "in_place";
+
 // The name in the place of what it is.
 const NAMED: [Template; 4] = [
     ("value", "$part_value$"),
-    ("view", "$part_words$-value m"),
+    ("view", "$part_words$-$part_view$ m"),
     ("view_seen", "$part_words$-view_value m"),
     ("table", "$part_words$"),
 ];
@@ -177,7 +180,9 @@ const SECOND: [Template; 3] = [
 
 /// The tree of these fields, with parts by themselves where they may be: of each part, and of the
 /// whole, what stands there is paired with its neighbour, and so are the pairs. Each field is told
-/// its `path`.
+/// its `path`. A part is seen by its definition of the `part_view` of the base, or `value`;
+/// where that is `in_place`, by none. Where a field has the word `leaves`, why a record of another
+/// number leaves the list that it is, the word becomes why it does so among all fields.
 pub fn tree_of(base: &Words, fields: &mut [Field], has_parts: bool) -> Result<Tree, GenerateError> {
     let alloc = base.alloc();
     let mut parts = Vec::new(alloc);
@@ -277,7 +282,10 @@ fn joined(mut nodes: Vec<Node>, fields: &mut [Field]) -> Result<Option<Node>, Ge
 
 fn leaf(base: &Words, place: usize, field: &Words) -> Node {
     let mut words = Words::new(field.alloc());
-    words.copy(base, &["name", "module"]);
+    words.copy(base, &["name", "module", "part_view"]);
+    if words.get("part_view").is_empty() {
+        words.set("part_view", "value");
+    }
     words.copy(
         field,
         &[
@@ -304,9 +312,11 @@ fn leaf(base: &Words, place: usize, field: &Words) -> Node {
     );
     words.fill_all(&LEAF);
     if !field.get("in_choice").is_empty() {
-        words.copy(field, &["module"]);
+        words.copy(field, &["module", "set_part"]);
         words.fill_all(&SPOT);
-        if words.get("both") == "both_leaving" {
+        if field.get("sort") == "Leaving" {
+            words.fill_all(&CLOSED_SPOT);
+        } else if words.get("both") == "both_leaving" {
             words.fill_all(&LEAVING_SPOT);
         }
         words.copy(base, &["module"]);
@@ -334,13 +344,31 @@ fn leaf(base: &Words, place: usize, field: &Words) -> Node {
 // Tells the fields of two parts that they are a pair.
 fn reach(left: &Node, right: &Node, fields: &mut [Field]) {
     for (place, field) in fields.iter_mut().enumerate() {
-        if left.first <= place && place < left.behind {
-            field.words.fill_all(&FIRST);
-        } else if right.first <= place && place < right.behind {
-            field.words.fill_all(&SECOND);
+        let is_first = left.first <= place && place < left.behind;
+        if !is_first && (place < right.first || right.behind <= place) {
+            continue;
         }
+        if !field.words.get("leaves").is_empty() {
+            field.words.set("left_table", left.words.get("table"));
+            field.words.set("right_table", right.words.get("table"));
+            field.words.indent_rest("left_table");
+            field.words.indent_rest("right_table");
+            field
+                .words
+                .fill("side", if is_first { "left" } else { "right" });
+            field.words.fill_all(&LEAVES);
+        }
+        field
+            .words
+            .fill_all(if is_first { &FIRST } else { &SECOND });
     }
 }
+
+// Why a record of another number leaves a list among both.
+const LEAVES: [Template; 1] = [(
+    "leaves",
+    "$side$_leaves ($left_table$)\n      ($right_table$) $number$ (λ v. v$path$)\n      ($leaves$)",
+)];
 
 fn pair(left: Node, right: Node) -> Node {
     let mut words = left.words;
@@ -357,10 +385,7 @@ fn pair(left: Node, right: Node) -> Node {
     if !words.get("spot").is_empty() {
         words.fill_all(&SPOT_IN_FIRST);
     } else if !right.words.get("spot").is_empty() {
-        words.copy(
-            &right.words,
-            &["spot", "spot_of", "spot_step", "spot_apart", "spot_path"],
-        );
+        words.copy(&right.words, &["spot", "spot_of", "spot_step", "spot_path"]);
         words.copy(&right.words, &["spot_stands", "spot_without"]);
         words.fill_all(&SPOT_IN_SECOND);
     }
@@ -394,6 +419,8 @@ fn named(mut node: Node, parts: &mut Vec<Node>) -> Result<Node, GenerateError> {
         behind: node.behind,
         words: Words::like(&node.words),
     })?;
-    node.words.fill_all(&NAMED);
+    if node.words.get("part_view") != IN_PLACE {
+        node.words.fill_all(&NAMED);
+    }
     Ok(node)
 }

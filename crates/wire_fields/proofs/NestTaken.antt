@@ -66,7 +66,7 @@ module _ {S L : Type 0} (family : Family S L) (steps : Steps S (Nest L)) (s : S)
     (n : ℕ)
     (w : WireType) (m : Nest L) (old : List ℕ) where
   pub leaf_taken : (k : Limits) (z : Nest L) (new : List ℕ)
-      → rows_of z ≡ (family.table s).rows_beside n (rows_of m)
+      → rows_of z ≡ (family.table s).rows_beside n (leaf_of z) (rows_of m)
       → IsCharged l k (λ c. TakesRecord (family.table s).takes l n w (leaf_of m) old c
       (leaf_of z) new)
       → IsCharged l k (λ c. TakesRecord (takes_at family steps s Leaf) l n w m old c z new)

@@ -2,10 +2,10 @@
 -- leaves of them is in range.
 use Rattle.std.proofs.Common.{◌≡◌, ◌⊎◌, inl, inr, ℕ, zero, suc, List, [], ◌∷◌, refl, sym, ap, ◌∙◌, subst}
 use Rattle.std.proofs.lemmas.Bool.Decides.{eqb_tells}
-use Rattle.std.specs.Prelude.{Bool, true, false, ◌==◌, ◌<◌}
-use Rattle.wire_codec.specs.Field.{Payload, Fields, none, field}
+use Rattle.std.specs.Prelude.{Bool, true, false, ◌==◌, ◌&&◌, ◌<◌}
+use Rattle.wire_codec.specs.Field.{Payload}
 use Rattle.wire_codec.specs.FieldNumber.{IsFieldNumber}
-use Rattle.wire_codec.specs.Folds.{Step, Folds}
+use Rattle.wire_codec.specs.Folds.{Step}
 use Rattle.wire_codec.specs.Limits.{Charge}
 use Rattle.wire_codec.specs.Records.{Records, plain}
 use Rattle.wire_fields.specs.Back.{AllAre, FoldsBack, same_owned}
@@ -85,13 +85,13 @@ pub record OneRow {L : Type 0} (c : Choice L) (l : L) (rows : Rows L) : Type 0 w
 abbrev pub one_stands : {L : Type 0} → Choice L → Beside L
 one_stands c l rows = NoneOf c.is_row rows ⊎ OneRow c l rows
 
--- What a step makes of the oneof: nothing by another number, and one that stands by one of its own.
-pub record IsChoice {L : Type 0} (takes : Step L) (start : L) (c : Choice L) : Type 0 where
-  pub begins : c.stands start ≡ false
+-- What a step makes of the oneof: nothing by another number, and what stands is followed by what
+-- stands.
+pub record IsChoice {L : Type 0} (takes : Step L) (c : Choice L) : Type 0 where
   pub apart : (m z : L) (n : ℕ) (p : Payload) (k : Charge) → c.is_plain n ≡ false
       → takes m n p k z → c.stands z ≡ c.stands m
-  pub sets : (m z : L) (n : ℕ) (p : Payload) (k : Charge) → c.is_plain n ≡ true
-      → takes m n p k z → c.stands z ≡ true
+  pub lasts : (m z : L) (n : ℕ) (p : Payload) (k : Charge) → c.is_plain n ≡ true
+      → takes m n p k z → c.stands m ≡ true → c.stands z ≡ true
   pub same : (m : L) → c.stands m ≡ false → c.without m ≡ m
   pub gone : (m : L) → c.stands (c.without m) ≡ false
 
@@ -121,56 +121,24 @@ module _ {L : Type 0} (c : Choice L) where
 
 -- ---- read back
 
-module _ {L : Type 0} (takes : Step L) (start : L) (c : Choice L) (x : IsChoice takes start c) where
-  stands_then : (b : Bool) (m z : L) (n : ℕ) (p : Payload) (k : Charge) → c.is_plain n ≡ b
-      → takes m n p k z → c.stands m ≡ true → c.stands z ≡ true
-  stands_then true m z n p k is taken stands = x.sets m z n p k is taken
-  stands_then false m z n p k is taken stands = x.apart m z n p k is taken ∙ stands
-
-  stands_on : (fs : Fields) (m z : L) (k : Charge) → Folds takes m fs k z → c.stands m ≡ true
-      → c.stands z ≡ true
-  stands_on none m z k folded stands = ap c.stands folded.1 ∙ stands
-  stands_on (field n p rest) m z k (mid, first, others, one, more, sum) stands =
-      stands_on rest mid z others more
-      (stands_then (c.is_plain n) m mid n p first refl one stands)
-
-  -- a record of the oneof is there only where it stands in the end
-  abbrev IsOfStanding : L → ℕ → Type 0
-  IsOfStanding l n = (c.is_plain n ≡ false) ⊎ (c.stands l ≡ true)
-
-  one_of_standing : (b : Bool) (rest : Fields) (m mid z : L) (n : ℕ) (p : Payload)
-      (first others : Charge) → c.is_plain n ≡ b → takes m n p first mid
-      → Folds takes mid rest others z → IsOfStanding z n
-  one_of_standing true rest m mid z n p first others is one more =
-      inr (stands_on rest mid z others more (x.sets m mid n p first is one))
-  one_of_standing false rest m mid z n p first others is one more = inl is
-
-  all_of_standing : (fs : Fields) (m z : L) (k : Charge) → Folds takes m fs k z
-      → AllAre (IsOfStanding z) fs
-  all_of_standing none m z k folded = tt
-  all_of_standing (field n p rest) m z k (mid, first, others, one, more, sum) = (
-    one_of_standing (c.is_plain n) rest m mid z n p first others refl one more,
-    all_of_standing rest mid z others more,
-  )
-
-all_both : (Is Other : ℕ → Type 0) (fs : Fields) → AllAre Is fs → AllAre Other fs
-    → AllAre (λ n. Is n × Other n) fs
-all_both Is Other none h k = tt
-all_both Is Other (field n p rest) h k = ((h.0, k.0), all_both Is Other rest h.1 k.1)
-
-module _ {L : Type 0} (t : Table L) (r : Range L) (c : Choice L) (takes : Step L) (start : L)
-    (records : L → Records) (x : IsChoice takes start c) where
-  abbrev HasNumber : L → ℕ → Type 0
-  HasNumber l n = GoesToLeaf t n × IsOfStanding takes start c x l n
-
+module _ {L : Type 0} (takes : Step L) (c : Choice L) (x : IsChoice takes c) where
   abbrev IsOnWay : L → L → Type 0
   IsOnWay l m = c.stands l ≡ false → c.stands m ≡ false
 
-  goes_on_way : (l m z : L) (n : ℕ) (p : Payload) (k : Charge) → IsOfStanding takes start c x l n
-      → IsOnWay l m → takes m n p k z → IsOnWay l z
-  goes_on_way l m z n p k (inl other) way taken nothing = x.apart m z n p k other taken ∙ way nothing
-  goes_on_way l m z n p k (inr there) way taken nothing =
-      absurd (both_not (c.stands l) there nothing)
+  -- what does not stand did not stand before
+  stood_not : (b : Bool) (m z : L) (n : ℕ) (p : Payload) (k : Charge) → c.is_plain n ≡ b
+      → takes m n p k z → (set : Bool) → c.stands m ≡ set → c.stands z ≡ false
+      → c.stands m ≡ false
+  stood_not b m z n p k own taken false is nothing = is
+  stood_not true m z n p k own taken true is nothing =
+      absurd (both_not (c.stands z) (x.lasts m z n p k own taken is) nothing)
+  stood_not false m z n p k own taken true is nothing =
+      sym (x.apart m z n p k own taken) ∙ nothing
+
+  way_before : (l m z : L) (n : ℕ) (p : Payload) (k : Charge) → takes m n p k z → IsOnWay l z
+      → IsOnWay l m
+  way_before l m z n p k taken way nothing =
+      stood_not (c.is_plain n) m z n p k refl taken (c.stands m) refl (way nothing)
 
   beside_same : (b : Bool) (l m : L) (rows into : Rows L) (i : ℕ) (k : Nest L) (ks : List (Nest L))
       → c.is_row i ≡ b → one_stands c l rows → IsOnWay l m → IsWithin rows into
@@ -184,82 +152,71 @@ module _ {L : Type 0} (t : Table L) (r : Range L) (c : Choice L) (takes : Step L
       ∙ ap (λ (y : Rows L). nest m y)
       (rows_same (other_row c i) into (λ j gone. within j (others j gone)))
 
-  rows_stay : (b : Bool) (l : L) (rows into : Rows L) (n : ℕ) → c.is_plain n ≡ b
-      → IsOfStanding takes start c x l n → one_stands c l rows → IsWithin rows into
-      → rows_if c b into ≡ into
-  rows_stay false l rows into n own has stands within = refl
-  rows_stay true l rows into n own (inl other) stands within =
-      absurd (both_not (c.is_plain n) own other)
-  rows_stay true l rows into n own (inr there) (inl nothing) within =
+  rows_stay : (b set : Bool) (l m : L) (rows into : Rows L) → c.stands m ≡ set
+      → one_stands c l rows → IsOnWay l m → IsWithin rows into → rows_if c (b && set) into ≡ into
+  rows_stay false set l m rows into is stands way within = refl
+  rows_stay true false l m rows into is stands way within = refl
+  rows_stay true true l m rows into is (inl nothing) way within =
       rows_same c.is_row into (λ j gone. within j (nothing j gone))
-  rows_stay true l rows into n own (inr there) (inr one) within =
-      absurd (both_not (c.stands l) there one.none)
+  rows_stay true true l m rows into is (inr one) way within =
+      absurd (both_not (c.stands m) is (way one.none))
 
 -- What a type shows of its rows, of which some are variants of a oneof.
 pub choice_back : {L : Type 0} (t : Table L) (r : Range L) (c : Choice L) (takes : Step L) (start : L)
-    (records : L → Records) → IsChoice takes start c
+    (records : L → Records) → IsChoice takes c
     → IsReadBack takes start records (GoesToLeaf t) r
     → t.takes ≡ takes → t.default ≡ start → ((l : L) → all_runs t l ≡ records l)
     → ((i : ℕ) → i < t.rows → IsFieldNumber (t.number i))
     → ((i : ℕ) → i < t.rows → IsPlaceOf i (t.once i) (t.place (t.number i)))
     → ((i : ℕ) (m : Nest L) → t.beside i m ≡ beside_row c i m)
-    → ((n : ℕ) (rs : Rows L) → t.rows_beside n rs ≡ rows_beside_field c n rs)
+    → ((n : ℕ) (l : L) (rs : Rows L) → t.rows_beside n l rs ≡ rows_beside_field c n l rs)
     → LeafBeside t r (one_stands c)
 choice_back {L} t r c takes start records x back takes_is start_is runs_are number place beside
     rows_beside = record {
       number = number;
       place = place;
-      Has = HasNumber t r c takes start records x;
-      here = λ l n has. has.0;
-      OnWay = IsOnWay t r c takes start records x;
-      begins = λ l nothing. ap c.stands start_is ∙ x.begins;
-      goes_on = λ l m z n p k holds has way step. goes_on_way t r c takes start records x l m z n p k
-          has.1 way (subst (λ (s : Step L). s m n p k z) takes_is step);
+      OnWay = IsOnWay takes c x;
+      ends = λ l nothing. nothing;
+      comes_from = λ l m z n p k step. way_before takes c x l m z n p k
+          (subst (λ (s : Step L). s m n p k z) takes_is step);
       beside = λ l m rows into i k ks holds stands way within once is. beside i (nest m into)
-          ∙ beside_same t r c takes start records x (c.is_row i) l m rows into i k ks refl stands way
-          within is;
-      rows_beside = λ l rows into n holds stands has within. rows_beside n into
-          ∙ rows_stay t r c takes start records x (c.is_plain n) l rows into n refl has.1 stands
-          within;
+          ∙ beside_same takes c x (c.is_row i) l m rows into i k ks refl stands way within is;
+      rows_beside = λ l m rows into n holds stands way within. rows_beside n m into
+          ∙ rows_stay takes c x (c.is_plain n) (c.stands m) l m rows into refl stands way within;
       back = λ l holds. (
         subst (λ rs. FoldsBack t.takes t.default (plain rs) (r.charge_of l) l) (sym (runs_are l))
             (subst (λ s. FoldsBack t.takes s (plain (records l)) (r.charge_of l) l) (sym start_is)
             (subst (λ s. FoldsBack s start (plain (records l)) (r.charge_of l) l) (sym takes_is)
             (back l holds).0)),
-        subst (λ rs. AllAre (HasNumber t r c takes start records x l) (plain rs))
-            (sym (runs_are l))
-            (all_both (GoesToLeaf t) (IsOfStanding takes start c x l) (plain (records l))
-            (back l holds).1
-            (all_of_standing takes start c x (plain (records l)) start l (r.charge_of l)
-            (back l holds).0.folded)),
+        subst (λ rs. AllAre (GoesToLeaf t) (plain rs)) (sym (runs_are l)) (back l holds).1,
       );
     }
 
 -- where all variants are rows
-pub alone_choice : {L : Type 0} (takes : Step L) (start : L) (is_row : ℕ → Bool)
-    → IsChoice takes start (rows_alone is_row)
-alone_choice takes start is_row = record {
-  begins = refl;
+pub alone_choice : {L : Type 0} (takes : Step L) (is_row : ℕ → Bool)
+    → IsChoice takes (rows_alone is_row)
+alone_choice takes is_row = record {
   apart = λ m z n p k other taken. refl;
-  sets = λ m z n p k own taken. absurd cc;
+  lasts = λ m z n p k own taken stands. stands;
   same = λ m is. refl;
   gone = λ m. refl;
 }
 
 -- ---- types that hold one another
 
-module _ {A B : Type 0} {start : A} (takes : Step A) (c : Choice A) (x : IsChoice takes start c) where
+module _ {A B : Type 0} (takes : Step A) (c : Choice A) (x : IsChoice takes c) where
   first_apart_in : (m z : A ⊎ B) (n : ℕ) (p : Payload) (k : Charge) → c.is_plain n ≡ false
       → first_takes takes m n p k z → (first_choice {B = B} c).stands z ≡ (first_choice {B = B} c).stands m
   first_apart_in (inr m) z n p k other taken = absurd taken
   first_apart_in (inl m) (inr z) n p k other taken = absurd taken
   first_apart_in (inl m) (inl z) n p k other taken = x.apart m z n p k other taken
 
-  first_sets_in : (m z : A ⊎ B) (n : ℕ) (p : Payload) (k : Charge) → c.is_plain n ≡ true
-      → first_takes takes m n p k z → (first_choice {B = B} c).stands z ≡ true
-  first_sets_in (inr m) z n p k own taken = absurd taken
-  first_sets_in (inl m) (inr z) n p k own taken = absurd taken
-  first_sets_in (inl m) (inl z) n p k own taken = x.sets m z n p k own taken
+  first_lasts_in : (m z : A ⊎ B) (n : ℕ) (p : Payload) (k : Charge) → c.is_plain n ≡ true
+      → first_takes takes m n p k z → (first_choice {B = B} c).stands m ≡ true
+      → (first_choice {B = B} c).stands z ≡ true
+  first_lasts_in (inr m) z n p k own taken stands = absurd taken
+  first_lasts_in (inl m) (inr z) n p k own taken stands = absurd taken
+  first_lasts_in (inl m) (inl z) n p k own taken stands = x.lasts m z n p k own taken stands
 
   first_same_in : (m : A ⊎ B) → (first_choice {B = B} c).stands m ≡ false
       → (first_choice {B = B} c).without m ≡ m
@@ -271,27 +228,27 @@ module _ {A B : Type 0} {start : A} (takes : Step A) (c : Choice A) (x : IsChoic
   first_gone_in (inl m) = x.gone m
   first_gone_in (inr m) = refl
 
-  pub first_is_choice : IsChoice (first_takes {B = B} takes) (inl start) (first_choice c)
+  pub first_is_choice : IsChoice (first_takes {B = B} takes) (first_choice c)
   first_is_choice = record {
-    begins = x.begins;
     apart = first_apart_in;
-    sets = first_sets_in;
+    lasts = first_lasts_in;
     same = first_same_in;
     gone = first_gone_in;
   }
 
-module _ {A B : Type 0} {start : B} (takes : Step B) (c : Choice B) (x : IsChoice takes start c) where
+module _ {A B : Type 0} (takes : Step B) (c : Choice B) (x : IsChoice takes c) where
   second_apart_in : (m z : A ⊎ B) (n : ℕ) (p : Payload) (k : Charge) → c.is_plain n ≡ false
       → second_takes takes m n p k z → (second_choice {A = A} c).stands z ≡ (second_choice {A = A} c).stands m
   second_apart_in (inl m) z n p k other taken = absurd taken
   second_apart_in (inr m) (inl z) n p k other taken = absurd taken
   second_apart_in (inr m) (inr z) n p k other taken = x.apart m z n p k other taken
 
-  second_sets_in : (m z : A ⊎ B) (n : ℕ) (p : Payload) (k : Charge) → c.is_plain n ≡ true
-      → second_takes takes m n p k z → (second_choice {A = A} c).stands z ≡ true
-  second_sets_in (inl m) z n p k own taken = absurd taken
-  second_sets_in (inr m) (inl z) n p k own taken = absurd taken
-  second_sets_in (inr m) (inr z) n p k own taken = x.sets m z n p k own taken
+  second_lasts_in : (m z : A ⊎ B) (n : ℕ) (p : Payload) (k : Charge) → c.is_plain n ≡ true
+      → second_takes takes m n p k z → (second_choice {A = A} c).stands m ≡ true
+      → (second_choice {A = A} c).stands z ≡ true
+  second_lasts_in (inl m) z n p k own taken stands = absurd taken
+  second_lasts_in (inr m) (inl z) n p k own taken stands = absurd taken
+  second_lasts_in (inr m) (inr z) n p k own taken stands = x.lasts m z n p k own taken stands
 
   second_same_in : (m : A ⊎ B) → (second_choice {A = A} c).stands m ≡ false
       → (second_choice {A = A} c).without m ≡ m
@@ -303,11 +260,10 @@ module _ {A B : Type 0} {start : B} (takes : Step B) (c : Choice B) (x : IsChoic
   second_gone_in (inl m) = refl
   second_gone_in (inr m) = x.gone m
 
-  pub second_is_choice : IsChoice (second_takes {A = A} takes) (inr start) (second_choice c)
+  pub second_is_choice : IsChoice (second_takes {A = A} takes) (second_choice c)
   second_is_choice = record {
-    begins = x.begins;
     apart = second_apart_in;
-    sets = second_sets_in;
+    lasts = second_lasts_in;
     same = second_same_in;
     gone = second_gone_in;
   }

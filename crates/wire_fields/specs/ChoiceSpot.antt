@@ -5,7 +5,7 @@ use Rattle.std.specs.Prelude.{Bool, true, false, ◌==◌, ◌||◌, Option, Som
 use Rattle.wire_codec.specs.Field.{Payload, Fields}
 use Rattle.wire_codec.specs.Limits.{Charge}
 use Rattle.wire_codec.specs.Records.{Records}
-use Rattle.wire_fields.specs.Back.{or_left, or_right}
+use Rattle.wire_fields.specs.Back.{or_right}
 use Rattle.wire_fields.specs.ChoiceBack.{IsChoice, both_not}
 use Rattle.wire_fields.specs.NestChoice.{Choice, in_first, in_second, no_variant}
 use Rattle.wire_fields.specs.Oneof.{Variants, variant, either_of, oneof}
@@ -29,12 +29,10 @@ tells_either false b first second is = inr (second is)
 -- a oneof among the fields of a shape
 pub record Spot {V : Type 0} (s : Shape V) (is_plain : ℕ → Bool) (stands : V → Bool)
     (without : V → V) : Type 0 where
-  pub owned : (n : ℕ) (p : Payload) → is_plain n ≡ true → s.owns n p ≡ true
-  pub begins : stands s.default ≡ false
   pub apart : (m z : V) (n : ℕ) (p : Payload) (k : Charge) → s.owns n p ≡ true
       → is_plain n ≡ false → s.takes m n p k z → stands z ≡ stands m
-  pub sets : (m z : V) (n : ℕ) (p : Payload) (k : Charge) → is_plain n ≡ true
-      → s.takes m n p k z → stands z ≡ true
+  pub lasts : (m z : V) (n : ℕ) (p : Payload) (k : Charge) → is_plain n ≡ true
+      → s.takes m n p k z → stands m ≡ true → stands z ≡ true
   pub same : (m : V) → stands m ≡ false → without m ≡ m
   pub gone : (m : V) → stands (without m) ≡ false
 
@@ -58,7 +56,7 @@ either_sets a b first second m z n p k h =
     sets_on (a.owns n p) (a.takes m n p k z) (b.takes m n p k z) z (first m z n p k)
     (second m z n p k) h
 
-none_same : {V : Type 0} (m : Option V) → is_some m ≡ false → None ≡ m
+pub none_same : {V : Type 0} (m : Option V) → is_some m ≡ false → None ≡ m
 none_same None h = refl
 none_same (Some v) h = absurd cc
 
@@ -67,11 +65,9 @@ pub here_spot : {V : Type 0} (records : Option V → Records) (v : Variants (Opt
     (is_plain : ℕ → Bool) → ((n : ℕ) (p : Payload) → v.owns n p ≡ is_plain n) → AlwaysSets v
     → Spot (oneof None records v) is_plain is_some no_variant
 here_spot records v is_plain owns sets = record {
-  owned = λ n p own. owns n p ∙ own;
-  begins = refl;
   apart = λ m z n p k own other taken.
       absurd (both_not (is_plain n) (sym (owns n p) ∙ own) other);
-  sets = λ m z n p k own taken. sets m z n p k taken;
+  lasts = λ m z n p k own taken stands. sets m z n p k taken;
   same = none_same;
   gone = λ m. refl;
 }
@@ -85,26 +81,21 @@ module _ {A B : Type 0} (a : Shape A) (b : Shape B) (is_plain : ℕ → Bool) wh
     first_apart true m z n p k own other h = x.apart m.0 z.0 n p k own other h.0
     first_apart false m z n p k own other h = ap stands h.1
 
-    first_sets : (t : Bool) (m z : A × B) (n : ℕ) (p : Payload) (k : Charge) → a.owns n p ≡ t
-        → is_plain n ≡ true
+    first_lasts : (t : Bool) (m z : A × B) (n : ℕ) (p : Payload) (k : Charge) → is_plain n ≡ true
         → on t (a.takes m.0 n p k z.0 × (z.1 ≡ m.1)) (b.takes m.1 n p k z.1 × (z.0 ≡ m.0))
-        → stands z.0 ≡ true
-    first_sets true m z n p k own is h = x.sets m.0 z.0 n p k is h.0
-    first_sets false m z n p k own is h = absurd (both_not (a.owns n p) (x.owned n p is) own)
+        → stands m.0 ≡ true → stands z.0 ≡ true
+    first_lasts true m z n p k is h stood = x.lasts m.0 z.0 n p k is h.0 stood
+    first_lasts false m z n p k is h stood = ap stands h.1 ∙ stood
 
     pub first_spot : Spot (two a b) is_plain (λ m. stands m.0) (in_first without)
     first_spot = record {
-      owned = λ n p is. or_left (a.owns n p) (b.owns n p) (x.owned n p is);
-      begins = x.begins;
       apart = λ m z n p k own other h. first_apart (a.owns n p) m z n p k refl other h;
-      sets = λ m z n p k is h. first_sets (a.owns n p) m z n p k refl is h;
+      lasts = λ m z n p k is h. first_lasts (a.owns n p) m z n p k is h;
       same = λ m is. ap (λ (y : A). (y, m.1)) (x.same m.0 is);
       gone = λ m. x.gone m.0;
     }
 
-  module _ (stands : B → Bool) (without : B → B) (x : Spot b is_plain stands without)
-      (Numbers : ℕ → Type 0) (tells : (n : ℕ) → is_plain n ≡ true → Numbers n)
-      (others : (n : ℕ) (p : Payload) → Numbers n → a.owns n p ≡ false) where
+  module _ (stands : B → Bool) (without : B → B) (x : Spot b is_plain stands without) where
     second_apart : (t : Bool) (m z : A × B) (n : ℕ) (p : Payload) (k : Charge)
         → (t || b.owns n p) ≡ true → is_plain n ≡ false
         → on t (a.takes m.0 n p k z.0 × (z.1 ≡ m.1)) (b.takes m.1 n p k z.1 × (z.0 ≡ m.0))
@@ -112,20 +103,17 @@ module _ {A B : Type 0} (a : Shape A) (b : Shape B) (is_plain : ℕ → Bool) wh
     second_apart true m z n p k own other h = ap stands h.1
     second_apart false m z n p k own other h = x.apart m.1 z.1 n p k own other h.0
 
-    second_sets : (t : Bool) (m z : A × B) (n : ℕ) (p : Payload) (k : Charge) → a.owns n p ≡ t
+    second_lasts : (t : Bool) (m z : A × B) (n : ℕ) (p : Payload) (k : Charge)
         → is_plain n ≡ true
         → on t (a.takes m.0 n p k z.0 × (z.1 ≡ m.1)) (b.takes m.1 n p k z.1 × (z.0 ≡ m.0))
-        → stands z.1 ≡ true
-    second_sets true m z n p k own is h =
-        absurd (both_not (a.owns n p) own (others n p (tells n is)))
-    second_sets false m z n p k own is h = x.sets m.1 z.1 n p k is h.0
+        → stands m.1 ≡ true → stands z.1 ≡ true
+    second_lasts true m z n p k is h stood = ap stands h.1 ∙ stood
+    second_lasts false m z n p k is h stood = x.lasts m.1 z.1 n p k is h.0 stood
 
     pub second_spot : Spot (two a b) is_plain (λ m. stands m.1) (in_second without)
     second_spot = record {
-      owned = λ n p is. or_right (a.owns n p) (b.owns n p) (x.owned n p is);
-      begins = x.begins;
       apart = λ m z n p k own other h. second_apart (a.owns n p) m z n p k own other h;
-      sets = λ m z n p k is h. second_sets (a.owns n p) m z n p k refl is h;
+      lasts = λ m z n p k is h. second_lasts (a.owns n p) m z n p k is h;
       same = λ m is. ap (λ (y : B). (m.0, y)) (x.same m.1 is);
       gone = λ m. x.gone m.1;
     }
@@ -133,11 +121,10 @@ module _ {A B : Type 0} (a : Shape A) (b : Shape B) (is_plain : ℕ → Bool) wh
 -- fields with the unknown ones
 pub leaf_choice : {V : Type 0} (known : Shape V) (c : Choice (V × Fields))
     → Spot (two known unknown) c.is_plain c.stands c.without
-    → IsChoice (two known unknown).takes (two known unknown).default c
+    → IsChoice (two known unknown).takes c
 leaf_choice known c x = record {
-  begins = x.begins;
   apart = λ m z n p k other taken. x.apart m z n p k (or_right (known.owns n p) true refl) other taken;
-  sets = x.sets;
+  lasts = x.lasts;
   same = x.same;
   gone = x.gone;
 }

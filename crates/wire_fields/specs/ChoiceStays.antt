@@ -1,13 +1,13 @@
 -- That what decoding leaves of messages is in range of which some variants of a oneof are rows.
-use Rattle.std.proofs.Common.{◌≡◌, ◌⊎◌, inl, inr, ℕ, refl, sym, ◌∙◌, subst}
-use Rattle.std.specs.Prelude.{Bool, true, false}
+use Rattle.std.proofs.Common.{◌≡◌, inl, inr, ℕ, refl, sym, ◌∙◌, subst}
+use Rattle.std.specs.Prelude.{Bool, true, false, ◌&&◌}
 use Rattle.wire_codec.specs.Field.{Payload}
 use Rattle.wire_codec.specs.Folds.{Step}
 use Rattle.wire_codec.specs.Limits.{Charge}
 use Rattle.wire_codec.specs.Records.{Records}
-use Rattle.wire_fields.specs.ChoiceBack.{IsChoice, OneRow, one_stands, both_not, none_left}
+use Rattle.wire_fields.specs.ChoiceBack.{IsChoice, one_stands, both_not, none_left}
 use Rattle.wire_fields.specs.ChoiceBack.{rows_thin, none_set, not_itself, not_other}
-use Rattle.wire_fields.specs.Nest.{Nest, nest, Rows, row, Row, end, ahead}
+use Rattle.wire_fields.specs.Nest.{Nest, Rows, Row, end, ahead}
 use Rattle.wire_fields.specs.Nest.{leaf_of, rows_of, set_rows}
 use Rattle.wire_fields.specs.NestChoice.{Choice, rows_without, other_row, beside_if, beside_row}
 use Rattle.wire_fields.specs.NestChoice.{rows_if, rows_beside_field}
@@ -21,16 +21,20 @@ use Rattle.wire_fields.specs.StaysNest.{LeafStays, IsThinned, as_thin}
 
 -- ---- what decoding leaves
 
-module _ {L : Type 0} (takes : Step L) (start : L) (c : Choice L) (x : IsChoice takes start c) where
+module _ {L : Type 0} (takes : Step L) (c : Choice L) (x : IsChoice takes c) where
   thin_if : (b : Bool) (rows : Rows L) → IsThinned rows (rows_if c b rows)
   thin_if true rows = rows_thin c.is_row rows
   thin_if false rows = as_thin rows
 
-  stands_beside : (b : Bool) (l z : L) (rows : Rows L) (n : ℕ) (p : Payload) (k : Charge)
-      → c.is_plain n ≡ b → one_stands c l rows → takes l n p k z → one_stands c z (rows_if c b rows)
-  stands_beside true l z rows n p k own stands taken = inl (none_left c.is_row rows)
-  stands_beside false l z rows n p k own (inl nothing) taken = inl nothing
-  stands_beside false l z rows n p k own (inr one) taken = inr (record {
+  stands_beside : (b set : Bool) (l z : L) (rows : Rows L) (n : ℕ) (p : Payload) (k : Charge)
+      → c.is_plain n ≡ b → c.stands z ≡ set → one_stands c l rows → takes l n p k z
+      → one_stands c z (rows_if c (b && set) rows)
+  stands_beside true true l z rows n p k own is stands taken = inl (none_left c.is_row rows)
+  stands_beside true false l z rows n p k own is (inl nothing) taken = inl nothing
+  stands_beside true false l z rows n p k own is (inr one) taken =
+      inr (record { none = is; at = one.at; alone = one.alone })
+  stands_beside false set l z rows n p k own is (inl nothing) taken = inl nothing
+  stands_beside false set l z rows n p k own is (inr one) taken = inr (record {
     none = x.apart l z n p k own taken ∙ one.none;
     at = one.at;
     alone = one.alone;
@@ -75,12 +79,12 @@ row_is_many true once is many = absurd (both_not once (is refl) many)
 row_is_many false once is many = refl
 
 pub choice_stays : {L : Type 0} {r : Range L} {takes : Step L} {start : L} {records : L → Records}
-    (t : Table L) (c : Choice L) → IsChoice takes start c
+    (t : Table L) (c : Choice L) → IsChoice takes c
     → (s : StepStays takes start records (GoesToLeaf t) r) → ((m : L) → s.Is m → s.Is (c.without m))
     → t.takes ≡ takes → t.default ≡ start → ((l : L) → all_runs t l ≡ records l)
     → ((n : ℕ) → IsThere t (t.place n)) → ((i : ℕ) → c.is_row i ≡ true → t.once i ≡ true)
     → ((i : ℕ) (m : Nest L) → t.beside i m ≡ beside_row c i m)
-    → ((n : ℕ) (rs : Rows L) → t.rows_beside n rs ≡ rows_beside_field c n rs)
+    → ((n : ℕ) (l : L) (rs : Rows L) → t.rows_beside n l rs ≡ rows_beside_field c n l rs)
     → LeafStays t r (one_stands c)
 choice_stays {L} {r} {takes} {start} t c x s is_without takes_is start_is runs_are there once beside
     rows_beside = record {
@@ -92,14 +96,15 @@ choice_stays {L} {r} {takes} {start} t c x s is_without takes_is start_is runs_a
       there = there;
       none = inl (λ j own. no_messages L j t.rows);
       beside_leaf = λ n p k l z rows here is stands taken. (
-        subst (IsThinned rows) (sym (rows_beside n rows)) (thin_if takes start c x (c.is_plain n) rows),
-        subst (one_stands c z) (sym (rows_beside n rows))
-            (stands_beside takes start c x (c.is_plain n) l z rows n p k refl stands
+        subst (IsThinned rows) (sym (rows_beside n z rows))
+            (thin_if takes c x (c.is_plain n && c.stands z) rows),
+        subst (one_stands c z) (sym (rows_beside n z rows))
+            (stands_beside takes c x (c.is_plain n) (c.stands z) l z rows n p k refl refl stands
             (subst (λ (f : Step L). f l n p k z) takes_is taken)),
       );
       beside_one = λ i m after one is stands.
-          subst (Left takes start c x s.Is is_without i after m) (sym (beside i m))
-          (left_if takes start c x s.Is is_without (c.is_row i) i m after refl is stands);
-      beside_more = λ i l rows q many stands. stands_set takes start c x i q l rows
+          subst (Left takes c x s.Is is_without i after m) (sym (beside i m))
+          (left_if takes c x s.Is is_without (c.is_row i) i m after refl is stands);
+      beside_more = λ i l rows q many stands. stands_set takes c x i q l rows
           (row_is_many (c.is_row i) (t.once i) (once i) many) stands;
     }

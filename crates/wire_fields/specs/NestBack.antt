@@ -16,7 +16,7 @@ use Rattle.wire_fields.specs.Grounds.{Grounds}
 use Rattle.wire_fields.specs.Least.{rolled}
 use Rattle.wire_fields.specs.LeavingBack.{all_any}
 use Rattle.wire_fields.specs.MessageBack.{EncodingBack, prefixed_back, delimited_back}
-use Rattle.wire_fields.specs.Messages.{length_prefixed, or_else}
+use Rattle.wire_fields.specs.Messages.{or_else}
 use Rattle.wire_fields.specs.Nest.{Nest, nest, Rows, done, row, Row, end, ahead, listed, row_of}
 use Rattle.wire_fields.specs.Nest.{listed_row, row_listed, rows_row, set_rows, count_rows}
 use Rattle.wire_fields.specs.Nest.{empty_rows, with_row, first_in}
@@ -25,7 +25,7 @@ use Rattle.wire_fields.specs.NestParts.{swapped, paired, IsFitBehind, fit_behind
 use Rattle.wire_fields.specs.NestRange.{Beside, any_beside, FamilyHolds, nest_range, RowsHold}
 use Rattle.wire_fields.specs.NestRange.{RowHolds, price, family_charge, beside_range, IsWithin}
 use Rattle.wire_fields.specs.NestRange.{rows_charge, row_charge, family_range, runs_from, IsPlaceOf}
-use Rattle.wire_fields.specs.NestRange.{LeafBeside, LeafBack}
+use Rattle.wire_fields.specs.NestRange.{LeafBeside, LeafBack, GoesToLeaf}
 use Rattle.wire_fields.specs.NestRows.{set_same, set_again, row_set, row_behind, count_set}
 use Rattle.wire_fields.specs.NestRows.{within_set, no_messages, count_empty, with_rows, with_all_rows}
 use Rattle.wire_fields.specs.NestTable.{Family, is_grouped, encoding_of, encoding_at, empty_of}
@@ -56,32 +56,36 @@ module _ {S L : Type 0} (g : Grounds) (family : Family S L) (r : S → Range L)
       (subst (λ x. takes_at family (family_takes family) s x m n
       (plain_payload ((encoding_of (is_grouped x)).payload rs)) c z) (sym is) step)
 
+  -- before these records, too, the leaf is on its way
+  came_from : (s : S) (l : L) (fs : Fields) (m z : L) (c : Charge)
+      → Folds (family.table s).takes m fs c z → (h s).OnWay l z → (h s).OnWay l m
+  came_from s l none m z c folded way = subst ((h s).OnWay l) folded.1 way
+  came_from s l (field n p others) m z c (mid, first, rest, step, more, sum) way =
+      (h s).comes_from l m mid n p first step (came_from s l others mid z rest more way)
+
   -- records of a leaf, on the way to it
   leaf_lifted : (s : S) (l : L) (all rows : Rows L) → (r s).Holds l → stands s l all
-      → IsWithin all rows → (fs : Fields) (m z : L) (c : Charge) → AllAre ((h s).Has l) fs
-      → (h s).OnWay l m → Folds (family.table s).takes m fs c z
-      → Folds (family_takes family s) (nest m rows) fs c (nest z rows) × (h s).OnWay l z
-  leaf_lifted s l all rows holds stand within none m z c has way folded = (
-    (folded.0, ap (λ x. nest x rows) folded.1),
-    subst ((h s).OnWay l) (sym folded.1) way,
-  )
-  leaf_lifted s l all rows holds stand within (field n p others) m z c has way
-      (mid, first, rest, step, more, sum) =
-      let behind = leaf_lifted s l all rows holds stand within others mid z rest has.1
-      ((h s).goes_on l m mid n p first holds has.0 way step) more in (
-        (
-          nest mid rows,
-          first,
-          rest,
-          rolled (level family) (grows family g.reading single) s (nest m rows) (nest mid rows) n p
-              first
-              (subst (λ x. takes_at family (family_takes family) s x (nest m rows) n p first
-              (nest mid rows)) (sym ((h s).here l n has.0))
-              (step, sym ((h s).rows_beside l all rows n holds stand has.0 within))),
-          behind.0,
-          sum,
-        ),
-        behind.1,
+      → IsWithin all rows → (fs : Fields) (m z : L) (c : Charge)
+      → AllAre (GoesToLeaf (family.table s)) fs → (h s).OnWay l z
+      → Folds (family.table s).takes m fs c z
+      → Folds (family_takes family s) (nest m rows) fs c (nest z rows)
+  leaf_lifted s l all rows holds stand within none m z c here way folded =
+      (folded.0, ap (λ x. nest x rows) folded.1)
+  leaf_lifted s l all rows holds stand within (field n p others) m z c here way
+      (mid, first, rest, step, more, sum) = (
+        nest mid rows,
+        first,
+        rest,
+        rolled (level family) (grows family g.reading single) s (nest m rows) (nest mid rows) n p
+            first
+            (subst (λ x. takes_at family (family_takes family) s x (nest m rows) n p first
+            (nest mid rows)) (sym here.0) (
+              step,
+              sym ((h s).rows_beside l mid all rows n holds stand
+                  (came_from s l others mid z rest more way) within),
+            )),
+        leaf_lifted s l all rows holds stand within others mid z rest here.1 way more,
+        sum,
       )
 
   -- the leaf on the way stays beside the messages of a row
@@ -183,24 +187,24 @@ module _ {S L : Type 0} (g : Grounds) (family : Family S L) (r : S → Range L)
         let behind_records = plain (rows_records family s l 0 rows) in
         let leaf = subst (λ k. FoldsBack t.takes t.default (plain (runs_from t l 0 (suc k)))
         ((r s).charge_of l) l) (sym holds.1) ((h s).back l holds.0).0 in
-        let own = subst (λ k. AllAre ((h s).Has l) (plain (runs_from t l 0 (suc k))))
+        let own = subst (λ k. AllAre (GoesToLeaf t) (plain (runs_from t l 0 (suc k))))
         (sym holds.1) ((h s).back l holds.0).1 in
         let is = plain_joined (t.run 0 l) (runs_from t l 1 (count_rows rows)) in
         let (u, first, last, front, behind, sum) = fold_split t.takes g.charges run runs t.default l
         ((r s).charge_of l) (subst (λ fs. Folds t.takes t.default fs
         ((r s).charge_of l) l) is leaf.folded)
         in
-        let has = all_split ((h s).Has l) run runs (subst (AllAre ((h s).Has l)) is own) in
+        let here = all_split (GoesToLeaf t) run runs (subst (AllAre (GoesToLeaf t)) is own) in
         let fitting = fitting_split run runs (subst AreFitting is leaf.fitting) in
         let numbered = numbered_split run runs (subst AreNumbered is leaf.numbered) in
         let within : IsWithin rows start = λ j nothing. no_messages L j t.rows in
-        let lifted = leaf_lifted s l rows start holds.0 holds.3 within run t.default u first has.0
-        ((h s).begins l) front in
+        let lifted = leaf_lifted s l rows start holds.0 holds.3 within run t.default u first here.0
+        (came_from s l runs u l last behind ((h s).ends l)) front in
         let more = rows_folded s 0 rows start rows u l last holds.0 holds.3
         (λ j k e. let same : j ≡ k = omega (arith, e) in ap (λ x. rows_row x rows) same)
-        lifted.1 within holds.2
+        within holds.2
         (λ j low. no_messages L j t.rows)
-        (omega (arith, holds.1)) (count_empty L t.rows) fitting.1 numbered.1 behind has.1 in
+        (omega (arith, holds.1)) (count_empty L t.rows) fitting.1 numbered.1 behind here.1 in
         subst (λ fs. FoldsBack (family_takes family s) (empty_of t) fs
         (both ((r s).charge_of l) (rows_charge family r s 0 rows)) (nest l rows))
         (sym (plain_joined (t.run 0 l) (rows_records family s l 0 rows)))
@@ -216,7 +220,7 @@ module _ {S L : Type 0} (g : Grounds) (family : Family S L) (r : S → Range L)
               (fold_on (family_takes family s) g.charges run behind_records (empty_of t)
               (nest u start)
               (nest l rows) first (both (rows_charge family r s 0 rows) last)
-              lifted.0
+              lifted
               (subst (λ x. Folds (family_takes family s) (nest u start) behind_records
               (both (rows_charge family r s 0 rows) last) (nest l x))
               (ap (λ k. with_rows 0 rows (empty_rows k)) (sym holds.1) ∙ with_all_rows rows)
@@ -225,7 +229,7 @@ module _ {S L : Type 0} (g : Grounds) (family : Family S L) (r : S → Range L)
 
     rows_folded : (s : S) (i : ℕ) (rs into all : Rows L) (l z : L) (c : Charge) → (r s).Holds z
         → stands s z all
-        → ((j k : ℕ) → j ≡ i + k → rows_row j all ≡ rows_row k rs) → (h s).OnWay z l
+        → ((j k : ℕ) → j ≡ i + k → rows_row j all ≡ rows_row k rs)
         → IsWithin all into → RowsHold family r stands s i rs
         → ((j : ℕ) → i ≤ j → rows_row j into ≡ [])
         → i + count_rows rs ≡ (family.table s).rows → count_rows into ≡ (family.table s).rows
@@ -233,11 +237,12 @@ module _ {S L : Type 0} (g : Grounds) (family : Family S L) (r : S → Range L)
         → AreNumbered (plain (runs_from (family.table s) z (suc i) (count_rows rs)))
         → Folds (family.table s).takes l (plain (runs_from (family.table s) z (suc i)
         (count_rows rs))) c z
-        → AllAre ((h s).Has z) (plain (runs_from (family.table s) z (suc i) (count_rows rs)))
+        → AllAre (GoesToLeaf (family.table s))
+        (plain (runs_from (family.table s) z (suc i) (count_rows rs)))
         → FoldsBack (family_takes family s) (nest l into) (plain (rows_records family s z i rs))
         (both (rows_charge family r s i rs) c) (nest z (with_rows i rs into))
-    rows_folded s i done into all l z c held stand rest way within holds empty count size fitting
-        numbered folded has = record {
+    rows_folded s i done into all l z c held stand rest within holds empty count size fitting
+        numbered folded own = record {
           fitting = tt;
           numbered = tt;
           folded = (
@@ -245,8 +250,8 @@ module _ {S L : Type 0} (g : Grounds) (family : Family S L) (r : S → Range L)
             ap (λ x. nest x into) folded.1,
           );
         }
-    rows_folded s i (row q rs) into all l z c leaf stand rest way within holds empty count size
-        fitting numbered folded has =
+    rows_folded s i (row q rs) into all l z c leaf stand rest within holds empty count size
+        fitting numbered folded own =
         let t = family.table s in
         let held = family.holds s i in
         let n = t.number i in
@@ -259,7 +264,9 @@ module _ {S L : Type 0} (g : Grounds) (family : Family S L) (r : S → Range L)
         let is = plain_joined (t.run (suc i) z) (runs_from t z (suc (suc i)) (count_rows rs)) in
         let (u, first, last, front, behind, sum) = fold_split t.takes g.charges run runs l z c
         (subst (λ fs. Folds t.takes l fs c z) is folded) in
-        let own = all_split ((h s).Has z) run runs (subst (AllAre ((h s).Has z)) is has) in
+        let goes = all_split (GoesToLeaf t) run runs (subst (AllAre (GoesToLeaf t)) is own) in
+        let mid_way = came_from s z runs u z last behind ((h s).ends z) in
+        let way = came_from s z run l u first front mid_way in
         let small = fitting_split run runs (subst AreFitting is fitting) in
         let num = numbered_split run runs (subst AreNumbered is numbered) in
         let one = row_folded s i (t.place n) refl ((h s).place i low) low l into [] (empty i
@@ -267,11 +274,12 @@ module _ {S L : Type 0} (g : Grounds) (family : Family S L) (r : S → Range L)
         (omega (arith, low, size)) q (fit_behind (t.once i) q holds.0) holds.1
         (row_kept s z l all into leaf stand way within i q (rest i 0 (omega arith))) in
         let inside = within_set (λ j. rows_row j all) i q into within (rest i 0 (omega arith)) in
-        let lifted = leaf_lifted s z all next leaf stand inside run l u first own.0 way front in
+        let lifted = leaf_lifted s z all next leaf stand inside run l u first goes.0 mid_way front
+        in
         let more = rows_folded s (suc i) rs next all u z last leaf stand
-        (λ j k e. rest j (suc k) (omega (arith, e))) lifted.1 inside holds.2
+        (λ j k e. rest j (suc k) (omega (arith, e))) inside holds.2
         (λ j above. row_behind i j q into (omega (arith, above)) ∙ empty j (omega (arith, above)))
-        (omega (arith, count)) (count_set i q into ∙ size) small.1 num.1 behind own.1 in
+        (omega (arith, count)) (count_set i q into ∙ size) small.1 num.1 behind goes.1 in
         let row_total = row_charge family r held (t.place n) q in
         let total = rows_charge family r s (suc i) rs in
         subst (λ fs. FoldsBack (family_takes family s) (nest l into) fs
@@ -296,7 +304,7 @@ module _ {S L : Type 0} (g : Grounds) (family : Family S L) (r : S → Range L)
               (nest l (set_rows i x into))) (row_listed q) one.folded)
               (fold_on (family_takes family s) g.charges run others (nest l next) (nest u next)
               (nest z (with_rows (suc i) rs next)) first (both total last)
-              lifted.0 more.folded));
+              lifted more.folded));
         })
 
     row_folded : (s : S) (i : ℕ) (place : Place) → (family.table s).place

@@ -1,7 +1,7 @@
 -- Messages that hold themselves or one another as one of a oneof: some of its variants are rows of
 -- messages, and the others a field of the leaf. One of all stands at most.
 use Rattle.std.proofs.Common.{ℕ, zero, suc, ◌⊎◌, inl, inr}
-use Rattle.std.specs.Prelude.{Bool, true, false, ◌==◌, Option, None}
+use Rattle.std.specs.Prelude.{Bool, true, false, ◌==◌, ◌&&◌, Option, None}
 use Rattle.wire_fields.specs.Nest.{Nest, nest, Rows, done, row, Row, end, leaf_of, rows_of}
 
 -- the field numbers of the variants that are of the leaf, and which rows are variants; whether one
@@ -54,9 +54,10 @@ abbrev pub rows_if : {L : Type 0} → Choice L → Bool → Rows L → Rows L
 rows_if c true rows = rows_without c.is_row rows
 rows_if c false rows = rows
 
--- beside the leaf's field of a number: no row that is a variant, where the field is one
-abbrev pub rows_beside_field : {L : Type 0} → Choice L → ℕ → Rows L → Rows L
-rows_beside_field c n rows = rows_if c (c.is_plain n) rows
+-- beside the leaf that a record of a number has left: no row that is a variant, where the number is
+-- of one of the leaf's and one of these stands
+abbrev pub rows_beside_field : {L : Type 0} → Choice L → ℕ → L → Rows L → Rows L
+rows_beside_field c n l rows = rows_if c (c.is_plain n && c.stands l) rows
 
 abbrev pub no_variant : {V : Type 0} → Option V → Option V
 no_variant m = None

@@ -127,27 +127,24 @@ abbrev pub IsWithin : {L : Type 0} → Rows L → Rows L → Type 0
 IsWithin rows into = (j : ℕ) → rows_row j rows ≡ [] → rows_row j into ≡ []
 
 -- What a type shows of its table. Each row has a number whose records go there. The runs of a leaf
--- fold back to it, under numbers that this leaf has and whose records go to the leaf. Until it is
--- read, a message of a row leaves the leaf and the rows so far as they are, and so does a record of
--- the leaf.
+-- fold back to it, under numbers whose records go to the leaf. Until it is read, a message of a row
+-- leaves the leaf and the rows so far as they are, and a record of the leaf the rows.
 pub record LeafBeside {L : Type 0} (t : Table L) (r : Range L) (Stands : Beside L) : Type 1 where
   pub number : (i : ℕ) → i < t.rows → IsFieldNumber (t.number i)
   pub place : (i : ℕ) → i < t.rows → IsPlaceOf i (t.once i) (t.place (t.number i))
-  pub Has : L → ℕ → Type 0
-  pub here : (l : L) (n : ℕ) → Has l n → GoesToLeaf t n
   pub back : (l : L) → r.Holds l
       → FoldsBack t.takes t.default (plain (all_runs t l)) (r.charge_of l) l
-      × AllAre (Has l) (plain (all_runs t l))
-  -- `OnWay l m`: m comes up while l is read
+      × AllAre (GoesToLeaf t) (plain (all_runs t l))
+  -- `OnWay l m`: m may come up while l is read, at whose end l does
   pub OnWay : L → L → Type 0
-  pub begins : (l : L) → OnWay l t.default
-  pub goes_on : (l m z : L) (n : ℕ) (p : Payload) (c : Charge) → r.Holds l → Has l n → OnWay l m
-      → t.takes m n p c z → OnWay l z
+  pub ends : (l : L) → OnWay l l
+  pub comes_from : (l m z : L) (n : ℕ) (p : Payload) (c : Charge) → t.takes m n p c z → OnWay l z
+      → OnWay l m
   pub beside : (l m : L) (rows into : Rows L) (i : ℕ) (k : Nest L) (ks : List (Nest L))
       → r.Holds l → Stands l rows → OnWay l m → IsWithin rows into → t.once i ≡ true
       → rows_row i rows ≡ k ∷ ks → t.beside i (nest m into) ≡ nest m into
-  pub rows_beside : (l : L) (rows into : Rows L) (n : ℕ) → r.Holds l → Stands l rows → Has l n
-      → IsWithin rows into → t.rows_beside n into ≡ into
+  pub rows_beside : (l m : L) (rows into : Rows L) (n : ℕ) → r.Holds l → Stands l rows
+      → OnWay l m → IsWithin rows into → t.rows_beside n m into ≡ into
 
 -- where no row is one of a oneof
 abbrev pub LeafBack : {L : Type 0} → Table L → Range L → Type 1
@@ -187,18 +184,16 @@ pub table_back : {L : Type 0} (t : Table L) (r : Range L) (takes : Step L) (star
     → ((i : ℕ) → i < t.rows → IsFieldNumber (t.number i))
     → ((i : ℕ) → i < t.rows → IsPlaceOf i (t.once i) (t.place (t.number i)))
     → ((i : ℕ) (m : Nest L) → t.beside i m ≡ m)
-    → ((n : ℕ) (rs : Rows L) → t.rows_beside n rs ≡ rs) → LeafBack t r
+    → ((n : ℕ) (l : L) (rs : Rows L) → t.rows_beside n l rs ≡ rs) → LeafBack t r
 table_back t r takes start records back takes_is start_is runs_are number place beside rows_beside =
     record {
       number = number;
       place = place;
-      Has = λ l. GoesToLeaf t;
-      here = λ l n has. has;
       OnWay = λ l m. Unit {0};
-      begins = λ l. tt;
-      goes_on = λ l m z n p c holds has way step. tt;
+      ends = λ l. tt;
+      comes_from = λ l m z n p c step way. tt;
       beside = λ l m rows into i k ks holds stands way within once is. beside i (nest m into);
-      rows_beside = λ l rows into n holds stands has within. rows_beside n into;
+      rows_beside = λ l m rows into n holds stands way within. rows_beside n m into;
       back = λ l holds. (
         subst (λ rs. FoldsBack t.takes t.default (plain rs) (r.charge_of l) l) (sym (runs_are l))
             (subst (λ s. FoldsBack t.takes s (plain (records l)) (r.charge_of l) l) (sym start_is)
@@ -219,7 +214,8 @@ module _ {V : Type 0} (g : Grounds) (t : Table (V × Fields)) (known : Shape V) 
     (number : (i : ℕ) → i < t.rows → IsFieldNumber (t.number i))
     (place : (i : ℕ) → i < t.rows → IsPlaceOf i (t.once i) (t.place (t.number i)))
     (beside : (i : ℕ) (m : Nest (V × Fields)) → t.beside i m ≡ m)
-    (rows_beside : (n : ℕ) (rs : Rows (V × Fields)) → t.rows_beside n rs ≡ rs) where
+    (rows_beside : (n : ℕ) (l : V × Fields) (rs : Rows (V × Fields))
+    → t.rows_beside n l rs ≡ rs) where
   pub leaf_back : LeafBack t (leaf_range t known r)
   leaf_back =
       table_back t (leaf_range t known r) (two known unknown).takes (two known unknown).default

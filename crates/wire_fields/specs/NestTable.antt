@@ -30,9 +30,9 @@ pub record Table (L : Type 0) : Type 1 where
   -- where the records of a field number go
   pub place : ℕ → Place
   -- what stays of a value beside the message of a row that has one at most, and which rows stay
-  -- beside the leaf's field of a number: all, but for the others of a oneof
+  -- beside the leaf that a record of a number has left: all, but for the others of a oneof
   pub beside : ℕ → Nest L → Nest L
-  pub rows_beside : ℕ → Rows L → Rows L
+  pub rows_beside : ℕ → L → Rows L → Rows L
 
 -- Types that hold one another: a table for each, and of which type the messages of a row are.
 pub record Family (S L : Type 0) : Type 1 where
@@ -75,6 +75,9 @@ if_number false here there = there
 -- all stays
 abbrev pub as_it_was : {V : Type 0} → ℕ → V → V
 as_it_was n v = v
+
+abbrev pub as_they_were : {L : Type 0} → ℕ → L → Rows L → Rows L
+as_they_were n l rows = rows
 
 -- the value of no records
 abbrev pub empty_of : {L : Type 0} → Table L → Nest L
@@ -150,7 +153,7 @@ placed bytes one = both (element_of bytes) one
 abbrev pub takes_at : {S L : Type 0} → Family S L → Steps S (Nest L) → S → Place → Step (Nest L)
 takes_at family steps s Leaf m n p c z =
     (family.table s).takes (leaf_of m) n p c (leaf_of z)
-    × (rows_of z ≡ (family.table s).rows_beside n (rows_of m))
+    × (rows_of z ≡ (family.table s).rows_beside n (leaf_of z) (rows_of m))
 takes_at family steps s (Once i) m n p c z =
     owned length_prefixed (one_in family s i) (with_one (family.table s) i) (λ one. one)
     (steps (family.holds s i)) m n p c z
@@ -248,8 +251,10 @@ module _ {S L : Type 0} (family : Family S L) (reading : OneReading)
   at_single s Leaf a one m u z w n p c d h k =
       let same = single s (leaf_of m) (leaf_of u) (leaf_of z) (leaf_of w) n p c d h.0 k.0 in (
         same.0,
-        λ e. same_nest z w (same.1 (ap leaf_of e)) (h.1
-            ∙ ap (λ (x : Nest L). (family.table s).rows_beside n (rows_of x)) e ∙ sym k.1),
+        λ e. let leaf = same.1 (ap leaf_of e) in
+            same_nest z w leaf (h.1
+            ∙ ap (λ (x : Nest L). (family.table s).rows_beside n (leaf_of z) (rows_of x)) e
+            ∙ ap (λ (x : L). (family.table s).rows_beside n x (rows_of u)) leaf ∙ sym k.1),
       )
   at_single s (Once i) a one m u z w n p c d h k =
       let held = family.holds s i in

@@ -129,7 +129,7 @@ pub table_stays : {L : Type 0} {r : Range L} {takes : Step L} {start : L} {recor
     (t : Table L) → (x : StepStays takes start records (GoesToLeaf t) r) → t.takes ≡ takes
     → t.default ≡ start → ((l : L) → all_runs t l ≡ records l)
     → ((n : ℕ) → IsThere t (t.place n)) → ((i : ℕ) (m : Nest L) → t.beside i m ≡ m)
-    → ((n : ℕ) (rs : Rows L) → t.rows_beside n rs ≡ rs) → LeafStays t r any_beside
+    → ((n : ℕ) (l : L) (rs : Rows L) → t.rows_beside n l rs ≡ rs) → LeafStays t r any_beside
 table_stays {L} {r} {takes} t x takes_is start_is runs_are there beside rows_beside = record {
   Is = x.Is;
   start = subst x.Is (sym start_is) x.begins;
@@ -139,7 +139,7 @@ table_stays {L} {r} {takes} t x takes_is start_is runs_are there beside rows_bes
   there = there;
   none = tt;
   beside_leaf = λ n p c l z rows here is stands taken.
-      (subst (IsThinned rows) (sym (rows_beside n rows)) (as_thin rows), tt);
+      (subst (IsThinned rows) (sym (rows_beside n z rows)) (as_thin rows), tt);
   beside_one = λ i m after once is stands. (
     subst (λ k. x.Is (leaf_of k)) (sym (beside i m)) is,
     subst (λ k. IsThinned (rows_of m) (rows_of k)) (sym (beside i m)) (as_thin (rows_of m)),

@@ -54,7 +54,7 @@ pub record LeafStays {L : Type 0} (t : Table L) (r : Range L) (Stands : Beside L
   pub none : Stands t.default (empty_rows t.rows)
   pub beside_leaf : (n : ℕ) (p : Payload) (c : Charge) (l z : L) (rows : Rows L) → GoesToLeaf t n
       → Is l → Stands l rows → t.takes l n p c z
-      → IsThinned rows (t.rows_beside n rows) × Stands z (t.rows_beside n rows)
+      → IsThinned rows (t.rows_beside n z rows) × Stands z (t.rows_beside n z rows)
   pub beside_one : (i : ℕ) (m after : Nest L) → t.once i ≡ true → Is (leaf_of m)
       → Stands (leaf_of m) (rows_of m) → Is (leaf_of (t.beside i m))
       × IsThinned (rows_of m) (rows_of (t.beside i m))
@@ -254,8 +254,8 @@ module _ {S L : Type 0} (g : Grounds) (family : Family S L) (r : S → Range L)
         let (thin, stand) = (h s).beside_leaf n p c l k rows is_leaf is.0 is.3 taken in
         subst (λ x. IsMessage s (nest k x)) (sym same) (
           (h s).step n p c l k sound is_leaf is.0 taken,
-          thinned_count rows (t.rows_beside n rows) thin ∙ is.1,
-          thinned_are s 0 rows (t.rows_beside n rows) thin is.2,
+          thinned_count rows (t.rows_beside n k rows) thin ∙ is.1,
+          thinned_are s 0 rows (t.rows_beside n k rows) thin is.2,
           stand,
         )
     at_place (Once i) m z c place_is there is taken = one_is false i m z c there.1 is taken

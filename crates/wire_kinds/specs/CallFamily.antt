@@ -14,8 +14,9 @@ use Rattle.wire_fields.specs.NestBack.{family_returned}
 use Rattle.wire_fields.specs.NestRange.{GoesToLeaf, IsPlaceOf, IsReadBack, LeafBack, all_runs}
 use Rattle.wire_fields.specs.NestRange.{family_range, followed, known_back, leaf_range, piece}
 use Rattle.wire_fields.specs.NestRange.{same_order, table_back}
-use Rattle.wire_fields.specs.NestTable.{all_counted, as_it_was, empty_of, family_records}
-use Rattle.wire_fields.specs.NestTable.{family_single, family_takes, if_number, message_at}
+use Rattle.wire_fields.specs.NestTable.{all_counted, as_it_was, as_they_were, empty_of}
+use Rattle.wire_fields.specs.NestTable.{family_records, family_single, family_takes, if_number}
+use Rattle.wire_fields.specs.NestTable.{message_at}
 use Rattle.wire_fields.specs.Numbers.{numeric}
 use Rattle.wire_fields.specs.Presence.{implicit}
 use Rattle.wire_fields.specs.Ranges.{Range, sint64_range, string_range}
@@ -132,7 +133,7 @@ call-table = record {
   once = call-once;
   place = call-place;
   beside = as_it_was;
-  rows_beside = as_it_was;
+  rows_beside = as_they_were;
 }
 
 abbrev pub expression-known : Shape Expression-Known
@@ -168,7 +169,7 @@ expression-table = record {
   once = expression-once;
   place = expression-place;
   beside = as_it_was;
-  rows_beside = as_it_was;
+  rows_beside = as_they_were;
 }
 
 abbrev pub family-tables : Family-Sorts → tables.Table Family-Leaves
@@ -277,7 +278,7 @@ call-back g =
     (first_back call-leaf.takes call-leaf.default call-leaf.records (GoesToLeaf call-table)
     call-range-of-leaf (call-known-back g))
     refl refl call-runs_in_order (call-row_numbers g) call-row_places (λ i m. refl)
-    (λ n rs. refl)
+    (λ n l rs. refl)
 
 -- what is read back once it is written
 abbrev pub expression-range-of-known : Range Expression-Known
@@ -326,7 +327,7 @@ expression-back g =
     (second_back expression-leaf.takes expression-leaf.default expression-leaf.records (GoesToLeaf expression-table)
     expression-range-of-leaf (expression-known-back g))
     refl refl expression-runs_in_order (expression-row_numbers g) expression-row_places (λ i m. refl)
-    (λ n rs. refl)
+    (λ n l rs. refl)
 
 abbrev pub family-leaf-ranges : Family-Sorts → Range Family-Leaves
 family-leaf-ranges Call-Sort = (first_range call-range-of-leaf)

@@ -32,7 +32,7 @@ pub call-leaf-stays : Grounds
 call-leaf-stays g =
     table_stays call-table
     (first_stay (known_stay call-table (call-stays-of-known g)))
-    refl refl call-runs_in_order call-there (λ i m. refl) (λ n rs. refl)
+    refl refl call-runs_in_order call-there (λ i m. refl) (λ n l rs. refl)
 
 pub expression-there : (n : ℕ) → IsThere expression-table (expression-place n)
 expression-there n = there_where expression-table (n == 2) _ _ (omega arith, refl)
@@ -48,7 +48,7 @@ pub expression-leaf-stays : Grounds
 expression-leaf-stays g =
     table_stays expression-table
     (second_stay (known_stay expression-table (expression-stays-of-known g)))
-    refl refl expression-runs_in_order expression-there (λ i m. refl) (λ n rs. refl)
+    refl refl expression-runs_in_order expression-there (λ i m. refl) (λ n l rs. refl)
 
 pub family-leaves-stay : Grounds → (s : Family-Sorts)
     → LeafStays (family-tables s) (family-leaf-ranges s) any_beside

@@ -13,8 +13,8 @@ use Rattle.wire_fields.specs.Nest.{boxed_row, done, nest, row, row_count, row_of
 use Rattle.wire_fields.specs.NestBack.{nest_returned}
 use Rattle.wire_fields.specs.NestRange.{IsPlaceOf, followed, leaf_back, leaf_range, nest_range}
 use Rattle.wire_fields.specs.NestRange.{piece, runs_from, same_order}
-use Rattle.wire_fields.specs.NestTable.{as_it_was, empty_of, if_number, nest_records, nest_single}
-use Rattle.wire_fields.specs.NestTable.{nest_takes}
+use Rattle.wire_fields.specs.NestTable.{as_it_was, as_they_were, empty_of, if_number, nest_records}
+use Rattle.wire_fields.specs.NestTable.{nest_single, nest_takes}
 use Rattle.wire_fields.specs.Numbers.{numeric}
 use Rattle.wire_fields.specs.Presence.{implicit}
 use Rattle.wire_fields.specs.Ranges.{Range, int32_range}
@@ -91,7 +91,7 @@ chain-table = record {
   once = chain-once;
   place = chain-place;
   beside = as_it_was;
-  rows_beside = as_it_was;
+  rows_beside = as_they_were;
 }
 
 pub chain-counted : (m : Chain) → row_count (chain-value m) ≡ 2
@@ -152,5 +152,5 @@ chain-returned g =
     (chain-leaf.single g.reading)
     (leaf_back g chain-table chain-known chain-range-of-known (chain-returned-of-known g)
     refl refl chain-runs_in_order (λ n h. rw h refl)
-    (chain-row_numbers g) chain-row_places (λ i m. refl) (λ n rs. refl))
+    (chain-row_numbers g) chain-row_places (λ i m. refl) (λ n l rs. refl))
     chain-shape refl refl refl (λ n p. refl)

@@ -26,5 +26,5 @@ pub chain-stays : Grounds → Stays chain-shape chain-range
 chain-stays g =
     nest_stays g chain-table (leaf_range chain-table chain-known chain-range-of-known)
     (table_stays chain-table (known_stay chain-table (chain-stays-of-known g))
-    refl refl chain-runs_in_order chain-there (λ i m. refl) (λ n rs. refl))
+    refl refl chain-runs_in_order chain-there (λ i m. refl) (λ n l rs. refl))
     chain-shape refl refl refl

@@ -13,8 +13,8 @@ use Rattle.wire_fields.specs.Nest.{boxed_row, done, nest, row, row_count, row_of
 use Rattle.wire_fields.specs.NestBack.{nest_returned}
 use Rattle.wire_fields.specs.NestRange.{IsPlaceOf, followed, leaf_back, leaf_range, nest_range}
 use Rattle.wire_fields.specs.NestRange.{piece, runs_from, same_order}
-use Rattle.wire_fields.specs.NestTable.{as_it_was, empty_of, if_number, nest_records, nest_single}
-use Rattle.wire_fields.specs.NestTable.{nest_takes}
+use Rattle.wire_fields.specs.NestTable.{as_it_was, as_they_were, empty_of, if_number, nest_records}
+use Rattle.wire_fields.specs.NestTable.{nest_single, nest_takes}
 use Rattle.wire_fields.specs.Numbers.{numeric}
 use Rattle.wire_fields.specs.Presence.{optional}
 use Rattle.wire_fields.specs.Ranges.{Range, optional_range, sint64_range}
@@ -91,7 +91,7 @@ nest-table = record {
   once = nest-once;
   place = nest-place;
   beside = as_it_was;
-  rows_beside = as_it_was;
+  rows_beside = as_they_were;
 }
 
 pub nest-counted : (m : Nest) → row_count (nest-value m) ≡ 2
@@ -152,5 +152,5 @@ nest-returned g =
     (nest-leaf.single g.reading)
     (leaf_back g nest-table nest-known nest-range-of-known (nest-returned-of-known g)
     refl refl nest-runs_in_order (λ n h. rw h refl)
-    (nest-row_numbers g) nest-row_places (λ i m. refl) (λ n rs. refl))
+    (nest-row_numbers g) nest-row_places (λ i m. refl) (λ n l rs. refl))
     nest-shape refl refl refl (λ n p. refl)

@@ -26,5 +26,5 @@ pub nest-stays : Grounds → Stays nest-shape nest-range
 nest-stays g =
     nest_stays g nest-table (leaf_range nest-table nest-known nest-range-of-known)
     (table_stays nest-table (known_stay nest-table (nest-stays-of-known g))
-    refl refl nest-runs_in_order nest-there (λ i m. refl) (λ n rs. refl))
+    refl refl nest-runs_in_order nest-there (λ i m. refl) (λ n l rs. refl))
     nest-shape refl refl refl

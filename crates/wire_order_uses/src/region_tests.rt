@@ -1,5 +1,5 @@
-//! Closed enums and maps of these beside the fields by which a type holds itself or others: a number
-//! that the enum lacks is kept among the unknown fields, and leaves a oneof as it stands.
+//! Closed enums and maps of these beside and among the fields by which a type holds itself or others:
+//! a number that the enum lacks is kept among the unknown fields, and leaves a oneof as it stands.
 use crate::tests::Found;
 use std::alloc::Global;
 use wire_codec::{DecodeError, EncodeError, Message};
@@ -28,7 +28,7 @@ const CATEGORIES: [Written; 5] = [
     (b"\x2a\x02\x08\x01", b"\x2a\x04\x08\x01\x10\x00"),
 ];
 
-const CONDITIONS: [Written; 8] = [
+const CONDITIONS: [Written; 18] = [
     (b"\x28\x02\x20\x04", b"\x20\x04\x28\x02"),
     (b"\x28\x05\x20\x04", b"\x20\x04\x28\x05"),
     (b"\x12\x00\x28\x05", b"\x12\x00\x28\x05"),
@@ -40,6 +40,19 @@ const CONDITIONS: [Written; 8] = [
         b"\x12\x06\x0a\x02\x28\x02\x10\x05\x28\x05",
     ),
     (b"\x28\x82\x00\x28\x80\x00", b"\x28\x00"),
+    (b"\x30\x02", b"\x30\x02"),
+    (b"\x30\x05", b"\x30\x05"),
+    (b"\x12\x00\x30\x05", b"\x12\x00\x30\x05"),
+    (b"\x12\x00\x30\x02", b"\x30\x02"),
+    (b"\x30\x05\x12\x00", b"\x12\x00\x30\x05"),
+    (b"\x30\x02\x12\x00", b"\x12\x00"),
+    (b"\x30\x02\x30\x05", b"\x30\x02\x30\x05"),
+    (b"\x20\x04\x30\x05", b"\x20\x04\x30\x05"),
+    (b"\x20\x04\x30\x05\x30\x00", b"\x30\x00\x30\x05"),
+    (
+        b"\x12\x02\x10\x05\x30\x05\x12\x04\x0a\x02\x30\x02",
+        b"\x12\x06\x0a\x02\x30\x02\x10\x05\x30\x05",
+    ),
 ];
 
 const REBATES: [Written; 3] = [

@@ -25,8 +25,8 @@ use Rattle.wire_fields.specs.Nest.{boxed_row, done, nest, row, row_count, row_of
 use Rattle.wire_fields.specs.NestBack.{nest_returned}
 use Rattle.wire_fields.specs.NestRange.{IsPlaceOf, followed, nest_range, piece, runs_from}
 use Rattle.wire_fields.specs.NestRange.{same_order, table_back}
-use Rattle.wire_fields.specs.NestTable.{as_it_was, empty_of, if_number, nest_records, nest_single}
-use Rattle.wire_fields.specs.NestTable.{nest_takes}
+use Rattle.wire_fields.specs.NestTable.{as_it_was, as_they_were, empty_of, if_number, nest_records}
+use Rattle.wire_fields.specs.NestTable.{nest_single, nest_takes}
 use Rattle.wire_fields.specs.Numbers.{numeric}
 use Rattle.wire_fields.specs.Presence.{always, optional}
 use Rattle.wire_fields.specs.Ranges.{Range, closed_range, once_range, optional_range, pair_range}
@@ -139,7 +139,7 @@ category-table = record {
   once = category-once;
   place = category-place;
   beside = as_it_was;
-  rows_beside = as_it_was;
+  rows_beside = as_they_were;
 }
 
 pub category-counted : (m : Category) → row_count (category-value m) ≡ 2
@@ -256,5 +256,5 @@ module _ (charges : List ℕ → ℕ → Payload → Charge) where
         | inr h ↦ rw h refl
       ]))
       refl refl category-runs_in_order
-      (category-row_numbers g) category-row_places (λ i m. refl) (λ n rs. refl))
+      (category-row_numbers g) category-row_places (λ i m. refl) (λ n l rs. refl))
       category-shape refl refl refl (λ n p. refl)

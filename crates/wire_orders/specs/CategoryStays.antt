@@ -46,5 +46,5 @@ category-stays g =
     (table_stays category-table (charged_leaf_stay category-table
     (entries_others category-known 56 5 _ (λ p. refl)
     (λ n p other. refl)) (category-stays-of-known g))
-    refl refl (category-runs_in_order category-account) category-there (λ i m. refl) (λ n rs. refl))
+    refl refl (category-runs_in_order category-account) category-there (λ i m. refl) (λ n l rs. refl))
     category-shape refl refl refl

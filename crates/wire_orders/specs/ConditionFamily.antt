@@ -13,12 +13,13 @@ use Rattle.wire_codec.specs.Records.{Records, joined_records, none}
 use Rattle.wire_codec.specs.TakingLaws.{OneReading}
 use Rattle.wire_codec.specs.ValueMap.{uint32}
 use Rattle.wire_fields.specs.ChoiceBack.{IsChoice, choice_back, first_is_choice, one_stands}
-use Rattle.wire_fields.specs.ChoiceLeaving.{first_leaving, leaving_choice, none_spot}
+use Rattle.wire_fields.specs.ChoiceLeaving.{closed_set, first_leaving, here_leaving, leaving_choice}
 use Rattle.wire_fields.specs.ChoiceLeaving.{second_leaving}
 use Rattle.wire_fields.specs.Closed.{closed_once}
-use Rattle.wire_fields.specs.ClosedBack.{closed_once_returned}
+use Rattle.wire_fields.specs.ClosedBack.{closed_once_returned, closing_returned}
 use Rattle.wire_fields.specs.ClosedMaps.{closed_text_map}
 use Rattle.wire_fields.specs.ClosedMapsBack.{closed_map_returned, entries_left}
+use Rattle.wire_fields.specs.ClosedOneof.{closing}
 use Rattle.wire_fields.specs.Enums.{open_enum}
 use Rattle.wire_fields.specs.Grounds.{Grounds, numeric_back, string_back, uint32_back}
 use Rattle.wire_fields.specs.Leaving.{Leaving, both_leaving, leaving_none, with_unknown}
@@ -34,8 +35,9 @@ use Rattle.wire_fields.specs.NestChoice.{rows_beside_field}
 use Rattle.wire_fields.specs.NestRange.{Beside, GoesToLeaf, IsPlaceOf, IsReadBack, LeafBack}
 use Rattle.wire_fields.specs.NestRange.{LeafBeside, all_runs, any_beside, beside_range, followed}
 use Rattle.wire_fields.specs.NestRange.{known_back, leaf_range, piece, same_order, table_back}
-use Rattle.wire_fields.specs.NestTable.{all_counted, as_it_was, empty_of, family_records}
-use Rattle.wire_fields.specs.NestTable.{family_single, family_takes, if_number, message_at}
+use Rattle.wire_fields.specs.NestTable.{all_counted, as_it_was, as_they_were, empty_of}
+use Rattle.wire_fields.specs.NestTable.{family_records, family_single, family_takes, if_number}
+use Rattle.wire_fields.specs.NestTable.{message_at}
 use Rattle.wire_fields.specs.Numbers.{numeric}
 use Rattle.wire_fields.specs.Presence.{always, implicit, optional}
 use Rattle.wire_fields.specs.Ranges.{Range, closed_range, once_range, optional_range, pair_range}
@@ -49,9 +51,10 @@ use Rattle.wire_fields.specs.Sums.{second_takes}
 use Rattle.wire_fields.specs.Texts.{string}
 use Rattle.wire_fields.specs.declared.form.Form.TheVariants.{Varint}
 use Rattle.wire_orders.specs.ConditionTest.{ConditionTest-Value, condition_test-is_plain}
-use Rattle.wire_orders.specs.ConditionTest.{condition_test-plain, condition_test-range}
-use Rattle.wire_orders.specs.ConditionTest.{condition_test-returned, condition_test-shape}
-use Rattle.wire_orders.specs.ConditionTest.{condition_test-spot, condition_test-tells}
+use Rattle.wire_orders.specs.ConditionTest.{condition_test-range, condition_test-returned}
+use Rattle.wire_orders.specs.ConditionTest.{condition_test-set, condition_test-shape}
+use Rattle.wire_orders.specs.ConditionTest.{place-of-condition_test-apart}
+use Rattle.wire_orders.specs.ConditionTest.{place-of-condition_test-from}
 use Rattle.wire_orders.specs.Money.{Money-Value, money-missing, money-range, money-returned}
 use Rattle.wire_orders.specs.Money.{money-shape, money-value}
 use Rattle.wire_orders.specs.Region.{region-number, region-of}
@@ -90,6 +93,11 @@ condition-note-kind = optional string
 
 abbrev pub condition-note-range : Range (Option (List ℕ))
 condition-note-range = optional_range string_range
+
+abbrev pub condition-test-kind : Leaving ConditionTest-Value
+condition-test-kind = closing 6 region-of
+    place-of-condition_test-from
+    (leaving_none condition_test-shape)
 
 abbrev pub condition-least-kind : Lawful (Option Money-Value)
 condition-least-kind = embedded_once money-shape
@@ -162,7 +170,8 @@ abbrev pub condition_test-none : ConditionTest-Held
 condition_test-none = (None, [])
 
 abbrev pub condition_test-one : ConditionTest-F ConditionTest-Held Family-Tree Family-Tree Family-Tree → ConditionTest-Held
-condition_test-one (variants.Count x) = (Some x, [])
+condition_test-one (variants.Count x) = (Some (inl x), [])
+condition_test-one (variants.Place x) = (Some (inr x), [])
 condition_test-one (variants.Also x) =
     (None, (box_value x ∷ []))
 
@@ -208,6 +217,14 @@ rebate_unless_entry-one m =
 abbrev pub condition_test-value : ConditionTest → ConditionTest-Held
 condition_test-value = fold-ConditionTest ConditionTest-Held Family-Tree Family-Tree Family-Tree condition_test-one condition-one rebate-one rebate_unless_entry-one
 
+abbrev pub condition_test-held : Option ConditionTest → ConditionTest-Held
+condition_test-held m = or_else condition_test-none (option_map condition_test-value m)
+
+-- the messages of its rows that stay beside such a variant of the leaf
+abbrev pub condition_test-beside : ConditionTest-Value → (List Family-Tree) → (List Family-Tree)
+condition_test-beside None rows = rows
+condition_test-beside (Some x) rows = []
+
 abbrev pub condition-value : Condition → Family-Tree
 condition-value = fold-Condition ConditionTest-Held Family-Tree Family-Tree Family-Tree condition_test-one condition-one rebate-one rebate_unless_entry-one
 
@@ -220,7 +237,7 @@ rebate_unless_entry-value = fold-RebateUnlessEntry ConditionTest-Held Family-Tre
 abbrev pub condition-known : Leaving Condition-Known
 condition-known =
     both_leaving (both_leaving (leaving_none (known 1 condition-note-kind))
-    (leaving_none (condition_test-shape)))
+    (condition-test-kind))
     (both_leaving (leaving_none (known 3 condition-least-kind))
     (condition-region-kind))
 
@@ -229,13 +246,13 @@ condition-leaf = with_unknown condition-known
 
 -- the records of the fields of `ConditionTest` that are of the leaf
 abbrev pub condition-records-4 : Condition-Leaf → Records
-condition-records-4 l = (leaving_none (condition_test-shape)).records l.0.0.1
+condition-records-4 l = (condition-test-kind).records l.0.0.1
 
 -- the records of the leaf before the first row, behind the first, and so on
 abbrev pub condition-run : ℕ → Condition-Leaf → Records
 condition-run zero l =
     joined_records ((leaving_none (known 1 condition-note-kind)).records l.0.0.0)
-    ((leaving_none (condition_test-shape)).records l.0.0.1)
+    ((condition-test-kind).records l.0.0.1)
 condition-run (suc i) l =
     joined_records (joined_records ((leaving_none (known 3 condition-least-kind)).records l.0.1.0)
     ((condition-region-kind).records l.0.1.1))
@@ -272,21 +289,21 @@ condition-table = record {
   rows_beside = rows_beside_field (first_choice condition-choice);
 }
 
-pub condition-is_choice : IsChoice condition-leaf.takes condition-leaf.default condition-choice
+pub condition-is_choice : IsChoice condition-leaf.takes condition-choice
 condition-is_choice =
     leaving_choice condition-known condition-choice
     (λ m. is_some m.0.1) (in_first (in_second no_variant)) (first_leaving (both_leaving (leaving_none (known 1 condition-note-kind))
-    (leaving_none (condition_test-shape)))
+    (condition-test-kind))
     (both_leaving (leaving_none (known 3 condition-least-kind))
     (condition-region-kind)) condition_test-is_plain
     (λ m. is_some m.1) (in_second no_variant)
     (second_leaving (leaving_none (known 1 condition-note-kind))
-    (leaving_none (condition_test-shape)) condition_test-is_plain
+    (condition-test-kind) condition_test-is_plain
     is_some no_variant
-    (none_spot condition_test-shape condition_test-is_plain is_some no_variant
-    condition_test-spot)
-    condition_test-plain condition_test-tells
-    (λ n p h. rw h refl))) (λ m. refl) (λ m. refl)
+    (here_leaving condition-test-kind condition_test-is_plain (λ n p. refl)
+    (closed_set 6 region-of place-of-condition_test-from
+    (leaving_none condition_test-shape) (λ e. refl)
+    condition_test-set)))) (λ m. refl) (λ m. refl)
 
 abbrev pub rebate-known : Leaving Rebate-Known
 rebate-known =
@@ -326,7 +343,7 @@ rebate-table = record {
   once = rebate-once;
   place = rebate-place;
   beside = as_it_was;
-  rows_beside = as_it_was;
+  rows_beside = as_they_were;
 }
 
 abbrev pub rebate_unless_entry-known : Shape RebateUnlessEntry-Known
@@ -362,7 +379,7 @@ rebate_unless_entry-table = record {
   once = rebate_unless_entry-once;
   place = rebate_unless_entry-place;
   beside = as_it_was;
-  rows_beside = as_it_was;
+  rows_beside = as_they_were;
 }
 
 abbrev pub family-tables : Family-Sorts → tables.Table Family-Leaves
@@ -529,9 +546,14 @@ module _ (charges : List ℕ → ℕ → Payload → Charge) where
       (known_returned g 1 condition-note-kind condition-note-range
       (omega arith) (omega arith)
       (optional_returned g _ _ string_back)))
-      (none_returned
-      (condition_test-returned charges g))
-      (λ n p h. rw h refl))
+      (closing_returned g region-number region-of 6
+      place-of-condition_test-from _ _
+      (none_returned (condition_test-returned charges g))
+      (place-of-condition_test-apart charges g))
+      (λ n p h. elim h [
+        | inl h ↦ rw h refl
+        | inr h ↦ rw h refl
+      ]))
       (both_returned g
       (none_returned
       (known_returned g 3 condition-least-kind condition-least-range
@@ -559,11 +581,11 @@ module _ (charges : List ℕ → ℕ → Payload → Charge) where
   condition-runs_in_order (inr (inl l)) = refl
   condition-runs_in_order (inr (inr l)) = refl
   condition-runs_in_order (inl l) = same_order
-      (followed (followed (piece ((leaving_none (known 1 condition-note-kind)).records l.0.0.0)) (piece ((leaving_none (condition_test-shape)).records l.0.0.1)))
+      (followed (followed (piece ((leaving_none (known 1 condition-note-kind)).records l.0.0.0)) (piece ((condition-test-kind).records l.0.0.1)))
       (followed (followed (followed (piece ((leaving_none (known 3 condition-least-kind)).records l.0.1.0)) (piece ((condition-region-kind).records l.0.1.1))) (piece (unknown.records l.1)))
       (piece none)))
       (followed (followed (followed (piece ((leaving_none (known 1 condition-note-kind)).records l.0.0.0))
-      (piece ((leaving_none (condition_test-shape)).records l.0.0.1)))
+      (piece ((condition-test-kind).records l.0.0.1)))
       (followed (piece ((leaving_none (known 3 condition-least-kind)).records l.0.1.0))
       (piece ((condition-region-kind).records l.0.1.1))))
       (piece (unknown.records l.1))) refl
@@ -579,7 +601,10 @@ module _ (charges : List ℕ → ℕ → Payload → Charge) where
       (condition-returned-of-known g) (λ n h. elim h [
         | inl h ↦ elim h [
           | inl h ↦ rw h refl
-          | inr h ↦ rw h refl
+          | inr h ↦ elim h [
+            | inl h ↦ rw h refl
+            | inr h ↦ rw h refl
+          ]
         ]
         | inr h ↦ elim h [
           | inl h ↦ rw h refl
@@ -595,7 +620,7 @@ module _ (charges : List ℕ → ℕ → Payload → Charge) where
       (first_back condition-leaf.takes condition-leaf.default condition-leaf.records (GoesToLeaf condition-table)
       condition-range-of-leaf (condition-known-back g))
       refl refl condition-runs_in_order (condition-row_numbers g) condition-row_places (λ i m. refl)
-      (λ n rs. refl)
+      (λ n l rs. refl)
 
   -- what is read back once it is written
   abbrev pub rebate-range-of-known : Range Rebate-Known
@@ -659,7 +684,7 @@ module _ (charges : List ℕ → ℕ → Payload → Charge) where
       (first_range rebate-range-of-leaf) (first_back rebate-leaf.takes rebate-leaf.default rebate-leaf.records (GoesToLeaf rebate-table)
       rebate-range-of-leaf (rebate-known-back g)))
       refl refl rebate-runs_in_order (rebate-row_numbers g) rebate-row_places (λ i m. refl)
-      (λ n rs. refl)
+      (λ n l rs. refl)
 
   -- what is read back once it is written
   abbrev pub rebate_unless_entry-range-of-known : Range RebateUnlessEntry-Known
@@ -710,7 +735,7 @@ module _ (charges : List ℕ → ℕ → Payload → Charge) where
       (second_range rebate_unless_entry-range-of-leaf) (second_back rebate_unless_entry-leaf.takes rebate_unless_entry-leaf.default rebate_unless_entry-leaf.records (GoesToLeaf rebate_unless_entry-table)
       rebate_unless_entry-range-of-leaf (rebate_unless_entry-known-back g)))
       refl refl rebate_unless_entry-runs_in_order (rebate_unless_entry-row_numbers g) rebate_unless_entry-row_places (λ i m. refl)
-      (λ n rs. refl)
+      (λ n l rs. refl)
 
   abbrev pub family-leaf-ranges : Family-Sorts → Range Family-Leaves
   family-leaf-ranges Condition-Sort = (first_range condition-range-of-leaf)

@@ -12,7 +12,7 @@ use Rattle.wire_fields.specs.NestChoice.{first_choice}
 use Rattle.wire_fields.specs.NestRange.{any_beside}
 use Rattle.wire_fields.specs.NestTable.{IsThere}
 use Rattle.wire_fields.specs.Stays.{FieldsStay, Stays, known_stays}
-use Rattle.wire_fields.specs.StaysClosed.{closed_once_stays}
+use Rattle.wire_fields.specs.StaysClosed.{closed_once_stays, closing_stays}
 use Rattle.wire_fields.specs.StaysClosedMaps.{closed_text_map_stays, entries_others}
 use Rattle.wire_fields.specs.StaysKinds.{implicit_stays, numeric_stays, optional_stays}
 use Rattle.wire_fields.specs.StaysKinds.{string_stays, uint32_stays}
@@ -37,6 +37,7 @@ use Rattle.wire_orders.specs.ConditionFamily.{rebate_unless_entry-known, rebate_
 use Rattle.wire_orders.specs.ConditionFamily.{rebate_unless_entry-range-of-known}
 use Rattle.wire_orders.specs.ConditionFamily.{rebate_unless_entry-runs_in_order}
 use Rattle.wire_orders.specs.ConditionFamily.{rebate_unless_entry-table}
+use Rattle.wire_orders.specs.ConditionTest.{place-of-condition_test-from}
 use Rattle.wire_orders.specs.ConditionTestStays.{condition_test-stays}
 use Rattle.wire_orders.specs.MoneyStays.{money-stays}
 use Rattle.wire_orders.specs.Region.{region-number, region-of, region-values}
@@ -53,8 +54,10 @@ condition-stays-of-known g =
     (none_stays
     (known_stays 1 condition-note-kind
     (optional_stays string_stays)))
-    (none_stays
-    (condition_test-stays g)))
+    (closing_stays region-number region-of
+    (first_numbered_keeps region-number region-values) 6 (λ x. refl)
+    place-of-condition_test-from
+    (condition_test-stays g _) (λ v h. h)))
     (both_stay
     (none_stays
     (known_stays 3 condition-least-kind
@@ -77,7 +80,7 @@ condition-leaf-stays g =
     choice_stays condition-table (first_choice condition-choice) (first_is_choice condition-leaf.takes condition-choice condition-is_choice)
     (first_stay (leaving_leaf_stay condition-table (condition-stays-of-known g)))
     (first_kept (leaving_leaf_stay condition-table (condition-stays-of-known g)) condition-choice (condition-kept g))
-    refl refl (condition-runs_in_order family-account) condition-there condition-choice_rows (λ i m. refl) (λ n rs. refl)
+    refl refl (condition-runs_in_order family-account) condition-there condition-choice_rows (λ i m. refl) (λ n l rs. refl)
 
 pub rebate-there : (n : ℕ) → IsThere rebate-table (rebate-place n)
 rebate-there n = there_where rebate-table (n == 1) _ _ (omega arith, refl)
@@ -102,7 +105,7 @@ rebate-leaf-stays g =
     (second_stay (first_stay (charged_leaf_stay rebate-table
     (entries_others rebate-known 64 4 _ (λ p. refl)
     (λ n p other. refl)) (rebate-stays-of-known g))))
-    refl refl (rebate-runs_in_order family-account) rebate-there (λ i m. refl) (λ n rs. refl)
+    refl refl (rebate-runs_in_order family-account) rebate-there (λ i m. refl) (λ n l rs. refl)
 
 pub rebate_unless_entry-there : (n : ℕ) → IsThere rebate_unless_entry-table (rebate_unless_entry-place n)
 rebate_unless_entry-there n = there_where rebate_unless_entry-table (n == 2) _ _ (omega arith, refl)
@@ -118,7 +121,7 @@ pub rebate_unless_entry-leaf-stays : Grounds
 rebate_unless_entry-leaf-stays g =
     table_stays rebate_unless_entry-table
     (second_stay (second_stay (known_stay rebate_unless_entry-table (rebate_unless_entry-stays-of-known g))))
-    refl refl (rebate_unless_entry-runs_in_order family-account) rebate_unless_entry-there (λ i m. refl) (λ n rs. refl)
+    refl refl (rebate_unless_entry-runs_in_order family-account) rebate_unless_entry-there (λ i m. refl) (λ n l rs. refl)
 
 pub family-leaves-stay : Grounds → (s : Family-Sorts)
     → LeafStays (family-tables s) (family-leaf-ranges family-account s) (family-stands s)

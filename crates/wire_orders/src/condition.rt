@@ -3,6 +3,13 @@ ghost use Rattle.std.specs.Prelude.{◌<◌, ◌≡◌};
 ghost use Rattle.wire_fields.specs.Nest.{row_at};
 ghost use Rattle.wire_orders.specs.ConditionFamily.{Condition-Sort, condition-value, condition-table};
 ghost use Rattle.wire_orders.specs.ConditionFamily.{family-holds, family-slice-sort, family-slice-values};
+ghost use Rattle.std.specs.Prelude.{IfErr, OnErr, OnOk, ◌≡◌, ◌≢◌};
+ghost use Rattle.wire_codec.specs.DecodeError.TheVariants.{OutOfMemory};
+ghost use Rattle.wire_codec.specs.Limits.{NoCountGrew};
+ghost use Rattle.wire_codec.specs.TagView.{tag_number, tag_type};
+ghost use Rattle.wire_codec.specs.Taking.{IsCharged, NotTaken, TakesRecord};
+ghost use Rattle.wire_orders.specs.ConditionFamily.{condition_test-beside, condition_test-held};
+ghost use Rattle.wire_orders.specs.ConditionTest.{place-of-condition_test-closed};
 
 use crate::condition_family::{FamilyHeld, FamilySlice};
 use crate::condition_test::ConditionTest;
@@ -138,7 +145,7 @@ impl RecursiveMember<FamilyHeld> for Condition {
                     number: 1,
                     held: &self.note,
                 };
-                let field_4 = ConditionTestFields4To4 { message: self };
+                let field_4 = ConditionTestFields4To6 { message: self };
                 (field_1, field_4).len(cache)
             }
             _ => {
@@ -170,7 +177,7 @@ impl RecursiveMember<FamilyHeld> for Condition {
                     number: 1,
                     held: &self.note,
                 };
-                let field_4 = ConditionTestFields4To4 { message: self };
+                let field_4 = ConditionTestFields4To6 { message: self };
                 (field_1, field_4).put(cache, sink)
             }
             _ => {
@@ -204,6 +211,7 @@ impl RecursiveMember<FamilyHeld> for Condition {
                 self.test = Some(ConditionTest::Count(value));
                 Ok(())
             }
+            6 => set_or_keep_place(tag, &mut self.test, &mut self.unknown, buf, context),
             3 => <Embedded<Money> as Kind>::merge(alloc, tag, &mut self.least, buf, context),
             5 => merge_closed(tag, &mut self.region, &mut self.unknown, buf, context),
             _ => keep(alloc, tag, &mut self.unknown, buf, context),
@@ -223,6 +231,7 @@ impl Condition {
                 match &self.test {
                     Some(ConditionTest::Also(message)) => FamilySlice::Rebate(from_ref(message)),
                     Some(ConditionTest::Count(_)) => FamilySlice::Rebate(&[]),
+                    Some(ConditionTest::Place(_)) => FamilySlice::Rebate(&[]),
                     None => FamilySlice::Rebate(&[]),
                 }
             }
@@ -289,13 +298,47 @@ impl MessageFields for Condition {
     }
 }
 
+// Takes the record behind this tag as the `Place` where the enum has the number in it, and else
+// keeps it as an unknown field, beside what stands. Refused as `merge_closed`.
+fn set_or_keep_place<B: Buf>(
+    tag: Tag,
+    held: &mut Option<ConditionTest>,
+    unknown: &mut UnknownFields,
+    buf: &mut B,
+    context: &mut DecodeContext,
+) -> Result<(), DecodeError>
+    ensures ok { OnOk result (IsCharged context.old context.new (λ c.
+        TakesRecord place-of-condition_test-closed context.old
+        (tag_number tag) (tag_type tag) ((condition_test-held held.old).0, unknown.old)
+        (B.unread buf.old) c ((condition_test-held held.new).0, unknown.new) (B.unread buf.new))) }
+    ensures rows { OnOk result ((condition_test-held held.new).1
+        ≡ condition_test-beside (condition_test-held held.new).0
+        (condition_test-held held.old).1) }
+    ensures err { IfErr result (λ e. e ≢ OutOfMemory → NotTaken
+        (TakesRecord place-of-condition_test-closed context.old
+        (tag_number tag) (tag_type tag) ((condition_test-held held.old).0, unknown.old)
+        (B.unread buf.old))) }
+    ensures counts { OnErr result (NoCountGrew context.old context.new) }
+    ensures kept { B.kept buf.new ≡ B.kept buf.old }
+{
+    let mut value = None;
+    merge_closed::<Region, B>(tag, &mut value, unknown, buf, context)?;
+    match value {
+        Some(value) => {
+            *held = Some(ConditionTest::Place(value));
+            Ok(())
+        }
+        None => Ok(()),
+    }
+}
+
 // The variants of `ConditionTest` that are no messages of a row.
 #[derive(Drop)]
-struct ConditionTestFields4To4<'a> {
+struct ConditionTestFields4To6<'a> {
     message: &'a Condition,
 }
 
-impl<'a> Parts for ConditionTestFields4To4<'a> {
+impl<'a> Parts for ConditionTestFields4To6<'a> {
     ghost use Rattle.wire_fields.specs.Nest.{leaf_of};
     ghost use Rattle.wire_fields.specs.Sums.{of_first};
     ghost use Rattle.wire_orders.specs.ConditionFamily.{condition-records-4};
@@ -312,6 +355,13 @@ impl<'a> Parts for ConditionTestFields4To4<'a> {
                 };
                 field.len(cache)
             }
+            Some(ConditionTest::Place(value)) => {
+                let field: Known<Always<Enum<Region>>> = Known {
+                    number: 6,
+                    held: value,
+                };
+                field.len(cache)
+            }
             Some(ConditionTest::Also(_)) => Ok(0),
             None => Ok(0),
         }
@@ -322,6 +372,13 @@ impl<'a> Parts for ConditionTestFields4To4<'a> {
             Some(ConditionTest::Count(value)) => {
                 let field: Known<Always<Uint32>> = Known {
                     number: 4,
+                    held: value,
+                };
+                field.put(cache, sink)
+            }
+            Some(ConditionTest::Place(value)) => {
+                let field: Known<Always<Enum<Region>>> = Known {
+                    number: 6,
                     held: value,
                 };
                 field.put(cache, sink)

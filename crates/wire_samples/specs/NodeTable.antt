@@ -9,7 +9,7 @@ use Rattle.wire_fields.specs.declared.recursive.Place.{Place}
 use Rattle.wire_fields.specs.declared.recursive.Place.TheVariants.{Leaf, Once, Each, Grouped}
 use Rattle.wire_fields.specs.Nest as nests
 use Rattle.wire_fields.specs.Nest.{Nest, nest, Row, row, done, end, row_count}
-use Rattle.wire_fields.specs.NestTable.{Table, if_number, as_it_was}
+use Rattle.wire_fields.specs.NestTable.{Table, if_number, as_it_was, as_they_were}
 use Rattle.wire_fields.specs.Numbers.{numeric}
 use Rattle.wire_fields.specs.Presence.{implicit}
 use Rattle.wire_fields.specs.Shape.{Shape, known, two, unknown}
@@ -85,7 +85,7 @@ node_table = record {
   once = row_once;
   place = node_place;
   beside = as_it_was;
-  rows_beside = as_it_was;
+  rows_beside = as_they_were;
 }
 
 pub node_counted : (m : Node) → row_count (node_nest m) ≡ 3

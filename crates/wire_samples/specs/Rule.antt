@@ -1,6 +1,6 @@
 -- A `Rule` as contracts see it, and its table.
 use Rattle.std.proofs.Common.{◌≡◌, ap, zero, suc, inl, inr, [], ◌∷◌}
-use Rattle.std.specs.Prelude.{ℕ, ◌⊎◌, List, Bool, true, false, ◌==◌, ◌||◌, Option, Some, None, box_value, string_bytes}
+use Rattle.std.specs.Prelude.{ℕ, ◌⊎◌, List, Bool, true, false, ◌==◌, ◌&&◌, ◌||◌, Option, Some, None, box_value, is_some, string_bytes}
 use Rattle.wire_codec.specs.Field.{Fields}
 use Rattle.wire_codec.specs.Folds.{IsSingle}
 use Rattle.wire_codec.specs.Records.{Records, none}
@@ -125,8 +125,8 @@ abbrev pub without_not : Bool → Rows RuleLeaf → Rows RuleLeaf
 without_not true rs = set_rows 0 end rs
 without_not false rs = rs
 
-abbrev pub rule_rows_beside : ℕ → Rows RuleLeaf → Rows RuleLeaf
-rule_rows_beside n rs = without_not (n == 2 || n == 5) rs
+abbrev pub rule_rows_beside : ℕ → RuleLeaf → Rows RuleLeaf → Rows RuleLeaf
+rule_rows_beside n l rs = without_not ((n == 2 || n == 5) && is_some l.0.1) rs
 
 abbrev pub rule : Table RuleLeaf
 rule = record {

@@ -1,13 +1,13 @@
 -- What decoding leaves of a `Rule` is in range, also of one whose test is a rule.
-use Rattle.std.proofs.Common.{◌≡◌, ◌⊎◌, inl, inr, ℕ, zero, suc, [], refl, sym, subst, arith}
-use Rattle.std.specs.Prelude.{Bool, true, false, Some, None, ◌==◌, ◌||◌}
+use Rattle.std.proofs.Common.{◌≡◌, inl, inr, ℕ, zero, suc, [], refl, sym, subst, arith}
+use Rattle.std.specs.Prelude.{Bool, true, false, Some, None, is_some, ◌==◌, ◌&&◌, ◌||◌}
 use Rattle.wire_codec.specs.Field.{Payload}
 use Rattle.wire_codec.specs.Limits.{Charge}
 use Rattle.wire_codec.specs.ValueMap.{uint64}
 use Rattle.wire_fields.specs.declared.form.Form.TheVariants.{Varint}
 use Rattle.wire_fields.specs.Grounds.{Grounds}
 use Rattle.wire_fields.specs.Messages.{or_else}
-use Rattle.wire_fields.specs.Nest.{Nest, nest, Rows, done, row, Row, end, ahead, leaf_of, rows_of}
+use Rattle.wire_fields.specs.Nest.{Rows, done, row, Row, leaf_of, rows_of}
 use Rattle.wire_fields.specs.Nest.{rows_row, set_rows}
 use Rattle.wire_fields.specs.NestTable.{alone, IsThere}
 use Rattle.wire_fields.specs.Numbers.{numeric}
@@ -26,7 +26,7 @@ use Rattle.wire_samples.specs.Rule.{test_records, rule_known, rule_leaf, rule_on
 use Rattle.wire_samples.specs.Rule.{without_not, rule, rule_shape}
 use Rattle.wire_samples.specs.RuleBack.{HasNone, known_range, rule_leaf_range, rule_range}
 use Rattle.wire_samples.specs.RuleBack.{rule_runs_in_order, rule_stands, test_holds, test_range}
-use Rattle.wire_samples.specs.RuleBack.{test_stays}
+use Rattle.wire_samples.specs.RuleBack.{none_where, test_stays}
 
 -- ---- its plain test
 
@@ -77,7 +77,8 @@ rule_there n = there_where rule (n == 3) _ _ (omega arith, refl)
 
 -- ---- a rule as the test
 
--- a record of a plain test leaves no rule as the test, and any other leaves the plain one
+-- where a record leaves a plain test no rule is the test, and one of another field leaves the plain
+-- one
 thinned : (b : Bool) (rows : Rows RuleLeaf) → IsThinned rows (without_not b rows)
 thinned false rows = as_thin rows
 thinned true done = tt
@@ -87,12 +88,13 @@ no_row : (rows : Rows RuleLeaf) → rows_row 0 (without_not true rows) ≡ []
 no_row done = refl
 no_row (row q rs) = refl
 
-stands_then : (n : ℕ) (p : Payload) (c : Charge) (l z : RuleLeaf) (rows : Rows RuleLeaf) (b : Bool)
-    → (n == 2 || n == 5) ≡ b → rule_stands l rows → rule_leaf.takes l n p c z
-    → rule_stands z (without_not b rows)
-stands_then n p c l z rows true is stands taken = inr (no_row rows)
-stands_then n p c l z rows false is stands taken = elim stands [
-  | inl nothing ↦ inl (subst HasNone (sym (test_stays l z n p c is taken)) nothing)
+stands_then : (n : ℕ) (p : Payload) (c : Charge) (l z : RuleLeaf) (rows : Rows RuleLeaf)
+    (b set : Bool) → (n == 2 || n == 5) ≡ b → is_some z.0.1 ≡ set → rule_stands l rows
+    → rule_leaf.takes l n p c z → rule_stands z (without_not (b && set) rows)
+stands_then n p c l z rows true true own is stands taken = inr (no_row rows)
+stands_then n p c l z rows true false own is stands taken = inl (none_where z.0.1 is)
+stands_then n p c l z rows false set own is stands taken = elim stands [
+  | inl nothing ↦ inl (subst HasNone (sym (test_stays l z n p c taken own)) nothing)
   | inr empty ↦ inr empty
 ]
 
@@ -132,8 +134,8 @@ module _ (g : Grounds) where
     there = rule_there;
     none = inl tt;
     beside_leaf = λ n p c l z rows here is stands taken. (
-      thinned (n == 2 || n == 5) rows,
-      stands_then n p c l z rows (n == 2 || n == 5) refl stands taken,
+      thinned ((n == 2 || n == 5) && is_some z.0.1) rows,
+      stands_then n p c l z rows (n == 2 || n == 5) (is_some z.0.1) refl refl stands taken,
     );
     beside_one = λ i m after once is stands. (
       one_is i m once is,

@@ -1,7 +1,12 @@
 //! Closed enums in a oneof: a number that the enum does not have goes to the unknown fields.
 use crate::words::{Template, Words};
 
-const CLOSING: [Template; 6] = [
+const CLOSING: [Template; 7] = [
+    (
+        "set_part",
+        "(closed_set $next$ $of_module$-of $word$-of-$module$-from\n    \
+        ($definition$) (λ e. refl)\n    $set_part$)",
+    ),
     (
         "definition",
         "closing $next$ $of_module$-of\n    $word$-of-$module$-from\n    ($definition$)",
@@ -22,15 +27,12 @@ const CLOSING: [Template; 6] = [
     ("sort", "Leaving"),
 ];
 
-const OF_CLOSING: [Template; 7] = [
+const OF_CLOSING: [Template; 6] = [
     (
-        "definitions",
+        "closing_uses",
         "$specs$ $word$-of-$module$-from\nRattle.wire_fields.specs.ClosedOneof closing\n\
-        $of_specs$.$of_name$ $of_module$-of\n",
-    ),
-    (
-        "definitions",
-        "Rattle.wire_fields.specs.Leaving leaving_none\n",
+        $of_specs$.$of_name$ $of_module$-of\n\
+        Rattle.wire_fields.specs.Leaving leaving_none\n",
     ),
     (
         "returned_uses",
@@ -56,10 +58,14 @@ pub(crate) fn set_closing(words: &mut Words, variant: &Words) {
             ("definition", "leaving_none $definition$"),
             ("returned", "none_returned ($returned$)"),
             ("stays", "$module$-stays g _"),
+            ("set_part", "$module$-set"),
         ]);
     }
     words.fill_all(&CLOSING);
+    words.set("closing_uses", "");
     words.append_all(&OF_CLOSING);
+    words.append("definitions", "$closing_uses$");
+    words.append("all_closing_uses", "$closing_uses$");
     if !words.get("view_name").is_empty() {
         words.append("view_code", "crate::$view_module$ set_or_keep_$word$\n");
     }

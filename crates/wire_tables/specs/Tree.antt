@@ -13,8 +13,8 @@ use Rattle.wire_fields.specs.Nest.{boxed_row, done, nest, row, row_count, row_of
 use Rattle.wire_fields.specs.NestBack.{nest_returned}
 use Rattle.wire_fields.specs.NestRange.{IsPlaceOf, followed, leaf_back, leaf_range, nest_range}
 use Rattle.wire_fields.specs.NestRange.{piece, runs_from, same_order}
-use Rattle.wire_fields.specs.NestTable.{as_it_was, empty_of, if_number, nest_records, nest_single}
-use Rattle.wire_fields.specs.NestTable.{nest_takes}
+use Rattle.wire_fields.specs.NestTable.{as_it_was, as_they_were, empty_of, if_number, nest_records}
+use Rattle.wire_fields.specs.NestTable.{nest_single, nest_takes}
 use Rattle.wire_fields.specs.Presence.{implicit}
 use Rattle.wire_fields.specs.Ranges.{Range, once_range, pair_range, string_range}
 use Rattle.wire_fields.specs.Returned.{Returned, embedded_once_returned, implicit_returned}
@@ -105,7 +105,7 @@ tree-table = record {
   once = tree-once;
   place = tree-place;
   beside = as_it_was;
-  rows_beside = as_it_was;
+  rows_beside = as_they_were;
 }
 
 pub tree-counted : (m : Tree) → row_count (tree-value m) ≡ 2
@@ -176,5 +176,5 @@ tree-returned g =
       | inl h ↦ rw h refl
       | inr h ↦ rw h refl
     ])
-    (tree-row_numbers g) tree-row_places (λ i m. refl) (λ n rs. refl))
+    (tree-row_numbers g) tree-row_places (λ i m. refl) (λ n l rs. refl))
     tree-shape refl refl refl (λ n p. refl)

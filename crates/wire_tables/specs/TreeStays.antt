@@ -32,5 +32,5 @@ pub tree-stays : Grounds → Stays tree-shape tree-range
 tree-stays g =
     nest_stays g tree-table (leaf_range tree-table tree-known tree-range-of-known)
     (table_stays tree-table (known_stay tree-table (tree-stays-of-known g))
-    refl refl tree-runs_in_order tree-there (λ i m. refl) (λ n rs. refl))
+    refl refl tree-runs_in_order tree-there (λ i m. refl) (λ n l rs. refl))
     tree-shape refl refl refl

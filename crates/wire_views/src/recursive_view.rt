@@ -77,7 +77,8 @@ pub trait RecursiveView<H: Drop>: Drop {
             (leaf_of (view self.old)) (Self.Source.unread buf.old) c (leaf_of (view self.new))
             (Self.Source.unread buf.new))) }
         ensures rows { OnOk result (rows_of (view self.new)
-            ≡ (family.table sort).rows_beside (tag_number tag) (rows_of (view self.old))) }
+            ≡ (family.table sort).rows_beside (tag_number tag) (leaf_of (view self.new))
+            (rows_of (view self.old))) }
         ensures err { IfErr result (λ e. e ≢ errors.OutOfMemory → NotTaken
             (TakesRecord (family.table sort).takes context.old (tag_number tag) (tag_type tag)
             (leaf_of (view self.old)) (Self.Source.unread buf.old))) }

@@ -22,8 +22,9 @@ use Rattle.wire_fields.specs.NestChoice.{second_choice}
 use Rattle.wire_fields.specs.NestRange.{Beside, GoesToLeaf, IsPlaceOf, IsReadBack, LeafBack}
 use Rattle.wire_fields.specs.NestRange.{LeafBeside, all_runs, any_beside, beside_range, followed}
 use Rattle.wire_fields.specs.NestRange.{known_back, leaf_range, piece, same_order, table_back}
-use Rattle.wire_fields.specs.NestTable.{all_counted, as_it_was, empty_of, family_records}
-use Rattle.wire_fields.specs.NestTable.{family_single, family_takes, if_number, message_at}
+use Rattle.wire_fields.specs.NestTable.{all_counted, as_it_was, as_they_were, empty_of}
+use Rattle.wire_fields.specs.NestTable.{family_records, family_single, family_takes, if_number}
+use Rattle.wire_fields.specs.NestTable.{message_at}
 use Rattle.wire_fields.specs.NoFields.{no_fields, no_fields_range, no_fields_returned}
 use Rattle.wire_fields.specs.Presence.{implicit}
 use Rattle.wire_fields.specs.Ranges.{Range, string_range}
@@ -314,7 +315,7 @@ list_value-table = record {
   once = list_value-once;
   place = list_value-place;
   beside = as_it_was;
-  rows_beside = as_it_was;
+  rows_beside = as_they_were;
 }
 
 abbrev pub struct_-known : Shape Struct-Known
@@ -349,7 +350,7 @@ struct_-table = record {
   once = struct_-once;
   place = struct_-place;
   beside = as_it_was;
-  rows_beside = as_it_was;
+  rows_beside = as_they_were;
 }
 
 abbrev pub struct_fields_entry-known : Shape StructFieldsEntry-Known
@@ -385,7 +386,7 @@ struct_fields_entry-table = record {
   once = struct_fields_entry-once;
   place = struct_fields_entry-place;
   beside = as_it_was;
-  rows_beside = as_it_was;
+  rows_beside = as_they_were;
 }
 
 abbrev pub value-known : Shape Value-Known
@@ -440,7 +441,7 @@ value-table = record {
   rows_beside = rows_beside_field (second_choice (second_choice (second_choice value-choice)));
 }
 
-pub value-is_choice : IsChoice value-leaf.takes value-leaf.default value-choice
+pub value-is_choice : IsChoice value-leaf.takes value-choice
 value-is_choice =
     leaf_choice value-known value-choice
     (first_spot value-known unknown value_kind-is_plain
@@ -597,7 +598,7 @@ list_value-back g =
     (first_back list_value-leaf.takes list_value-leaf.default list_value-leaf.records (GoesToLeaf list_value-table)
     list_value-range-of-leaf (list_value-known-back g))
     refl refl list_value-runs_in_order (list_value-row_numbers g) list_value-row_places (λ i m. refl)
-    (λ n rs. refl)
+    (λ n l rs. refl)
 
 -- what is read back once it is written
 abbrev pub struct_-range-of-known : Range Struct-Known
@@ -647,7 +648,7 @@ struct_-back g =
     (first_range struct_-range-of-leaf) (first_back struct_-leaf.takes struct_-leaf.default struct_-leaf.records (GoesToLeaf struct_-table)
     struct_-range-of-leaf (struct_-known-back g)))
     refl refl struct_-runs_in_order (struct_-row_numbers g) struct_-row_places (λ i m. refl)
-    (λ n rs. refl)
+    (λ n l rs. refl)
 
 -- what is read back once it is written
 abbrev pub struct_fields_entry-range-of-known : Range StructFieldsEntry-Known
@@ -700,7 +701,7 @@ struct_fields_entry-back g =
     (first_range struct_fields_entry-range-of-leaf) (first_back struct_fields_entry-leaf.takes struct_fields_entry-leaf.default struct_fields_entry-leaf.records (GoesToLeaf struct_fields_entry-table)
     struct_fields_entry-range-of-leaf (struct_fields_entry-known-back g))))
     refl refl struct_fields_entry-runs_in_order (struct_fields_entry-row_numbers g) struct_fields_entry-row_places (λ i m. refl)
-    (λ n rs. refl)
+    (λ n l rs. refl)
 
 -- what is read back once it is written
 abbrev pub value-range-of-known : Range Value-Known
@@ -764,7 +765,7 @@ value-back g =
     (second_range value-range-of-leaf) (second_back value-leaf.takes value-leaf.default value-leaf.records (GoesToLeaf value-table)
     value-range-of-leaf (value-known-back g))))
     refl refl value-runs_in_order (value-row_numbers g) value-row_places (λ i m. refl)
-    (λ n rs. refl)
+    (λ n l rs. refl)
 
 abbrev pub family-leaf-ranges : Family-Sorts → Range Family-Leaves
 family-leaf-ranges ListValue-Sort = (first_range list_value-range-of-leaf)

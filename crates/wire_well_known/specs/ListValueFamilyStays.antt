@@ -49,7 +49,7 @@ pub list_value-leaf-stays : Grounds
 list_value-leaf-stays g =
     table_stays list_value-table
     (first_stay (known_stay list_value-table (list_value-stays-of-known g)))
-    refl refl list_value-runs_in_order list_value-there (λ i m. refl) (λ n rs. refl)
+    refl refl list_value-runs_in_order list_value-there (λ i m. refl) (λ n l rs. refl)
 
 pub struct_-there : (n : ℕ) → IsThere struct_-table (struct_-place n)
 struct_-there n = there_where struct_-table (n == 1) _ _ (omega arith, refl)
@@ -64,7 +64,7 @@ pub struct_-leaf-stays : Grounds
 struct_-leaf-stays g =
     table_stays struct_-table
     (second_stay (first_stay (known_stay struct_-table (struct_-stays-of-known g))))
-    refl refl struct_-runs_in_order struct_-there (λ i m. refl) (λ n rs. refl)
+    refl refl struct_-runs_in_order struct_-there (λ i m. refl) (λ n l rs. refl)
 
 pub struct_fields_entry-there : (n : ℕ) → IsThere struct_fields_entry-table (struct_fields_entry-place n)
 struct_fields_entry-there n = there_where struct_fields_entry-table (n == 2) _ _ (omega arith, refl)
@@ -80,7 +80,7 @@ pub struct_fields_entry-leaf-stays : Grounds
 struct_fields_entry-leaf-stays g =
     table_stays struct_fields_entry-table
     (second_stay (second_stay (first_stay (known_stay struct_fields_entry-table (struct_fields_entry-stays-of-known g)))))
-    refl refl struct_fields_entry-runs_in_order struct_fields_entry-there (λ i m. refl) (λ n rs. refl)
+    refl refl struct_fields_entry-runs_in_order struct_fields_entry-there (λ i m. refl) (λ n l rs. refl)
 
 pub value-there : (n : ℕ) → IsThere value-table (value-place n)
 value-there n = there_where value-table (n == 5) _ _ (omega arith, refl)
@@ -107,7 +107,7 @@ value-leaf-stays g =
     choice_stays value-table (second_choice (second_choice (second_choice value-choice))) (second_is_choice (second_takes (second_takes value-leaf.takes)) (second_choice (second_choice value-choice)) (second_is_choice (second_takes value-leaf.takes) (second_choice value-choice) (second_is_choice value-leaf.takes value-choice value-is_choice)))
     (second_stay (second_stay (second_stay (known_stay value-table (value-stays-of-known g)))))
     (second_kept (second_stay (second_stay (known_stay value-table (value-stays-of-known g)))) (second_choice (second_choice value-choice)) (second_kept (second_stay (known_stay value-table (value-stays-of-known g))) (second_choice value-choice) (second_kept (known_stay value-table (value-stays-of-known g)) value-choice (value-kept g))))
-    refl refl value-runs_in_order value-there value-choice_rows (λ i m. refl) (λ n rs. refl)
+    refl refl value-runs_in_order value-there value-choice_rows (λ i m. refl) (λ n l rs. refl)
 
 pub family-leaves-stay : Grounds → (s : Family-Sorts)
     → LeafStays (family-tables s) (family-leaf-ranges s) (family-stands s)

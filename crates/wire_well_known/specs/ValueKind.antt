@@ -8,8 +8,7 @@ use Rattle.wire_codec.specs.Limits.{Charge, no_charge}
 use Rattle.wire_codec.specs.Records.{Records, none, plain}
 use Rattle.wire_codec.specs.ValueMap.{bool}
 use Rattle.wire_fields.specs.Back.{AllAre, FoldsBack}
-use Rattle.wire_fields.specs.ChoiceSpot.{Spot, either_sets, here_spot, tells_either, tells_one}
-use Rattle.wire_fields.specs.ChoiceSpot.{variant_sets}
+use Rattle.wire_fields.specs.ChoiceSpot.{Spot, either_sets, here_spot, variant_sets}
 use Rattle.wire_fields.specs.Enums.{open_enum}
 use Rattle.wire_fields.specs.Floats.{double}
 use Rattle.wire_fields.specs.Grounds.{Grounds, bool_back, double_back, enum_back, numeric_back}
@@ -110,12 +109,6 @@ value_kind-shape =
 -- its field numbers
 abbrev pub value_kind-is_plain : ℕ → Bool
 value_kind-is_plain n = ((((n == 1) || (n == 2)) || (n == 3)) || (n == 4))
-
-abbrev pub value_kind-plain : ℕ → Type 0
-value_kind-plain n = ((((n ≡ 1) ⊎ (n ≡ 2)) ⊎ (n ≡ 3)) ⊎ (n ≡ 4))
-
-pub value_kind-tells : (n : ℕ) → value_kind-is_plain n ≡ true → value_kind-plain n
-value_kind-tells n = tells_either _ _ (tells_either _ _ (tells_either _ _ (tells_one n 1) (tells_one n 2)) (tells_one n 3)) (tells_one n 4)
 
 pub value_kind-spot : Spot value_kind-shape value_kind-is_plain is_some no_variant
 value_kind-spot =

@@ -87,7 +87,7 @@ pub trait RecursiveHeld<B: Buf>: Drop {
         ensures err { IfErr result (λ e. e ≡ errors.OutOfMemory) };
 
     /// Takes a record into the leaf, as `Message::merge_field`. The rows stay, but for those of a
-    /// oneof that the field is of.
+    /// oneof of which the record sets another field.
     fn merge_leaf(
         &mut self,
         alloc: Global,
@@ -101,8 +101,8 @@ pub trait RecursiveHeld<B: Buf>: Drop {
             (leaf_of (view self.old)) (B.unread buf.old) c (leaf_of (view self.new))
             (B.unread buf.new))) }
         ensures rows { OnOk result (rows_of (view self.new)
-            ≡ (family.table (sort self.old)).rows_beside (tag_number tag) (rows_of
-            (view self.old))) }
+            ≡ (family.table (sort self.old)).rows_beside (tag_number tag) (leaf_of
+            (view self.new)) (rows_of (view self.old))) }
         ensures kind { sort self.new ≡ sort self.old }
         ensures err { IfErr result (λ e. e ≢ errors.OutOfMemory → NotTaken
             (TakesRecord (family.table (sort self.old)).takes context.old (tag_number tag)

@@ -125,7 +125,7 @@ pub trait RecursiveMember<H: Drop>: Drop {
             (length (sizes ((family.table sort).run run (leaf_of (view self.now)))))) };
 
     /// Takes a record into the leaf, as `Message::merge_field`. The rows stay, but for those of a
-    /// oneof that the field is of.
+    /// oneof of which the record sets another field.
     fn merge_leaf<B: Buf>(
         &mut self,
         alloc: Global,
@@ -138,7 +138,8 @@ pub trait RecursiveMember<H: Drop>: Drop {
             (leaf_of (view self.old)) (B.unread buf.old) c (leaf_of (view self.new))
             (B.unread buf.new))) }
         ensures rows { OnOk result (rows_of (view self.new)
-            ≡ (family.table sort).rows_beside (tag_number tag) (rows_of (view self.old))) }
+            ≡ (family.table sort).rows_beside (tag_number tag) (leaf_of (view self.new))
+            (rows_of (view self.old))) }
         ensures err { IfErr result (λ e. e ≢ errors.OutOfMemory → NotTaken
             (TakesRecord (family.table sort).takes context.old (tag_number tag) (tag_type tag)
             (leaf_of (view self.old)) (B.unread buf.old))) }
