@@ -4,8 +4,8 @@
  * were read, so these have to live and stay as they are for as long as the struct is used. Each
  * call is proved: for all bytes, and whatever the struct held before, it ends, reads only what it
  * is handed, writes only the struct, or the room and the length, that it is handed, asks for no
- * memory and keeps no state, so calls on structs of their own may run at once. What stands on trust: that a header is
- * that of its library, which `./run` looks at, the C compiler, and that a caller hands in what
+ * memory and keeps no state, so calls on structs of their own may run at once. What stands on
+ * trust: that a header is that of its library, the C compiler, and that a caller hands in what
  * these conditions say:
  *
  * - a pointer to a struct, to limits or to a length is not null and is aligned, and the struct, the
@@ -31,6 +31,7 @@
  *   fields, of which the others are zero;
  * - of a list, how many there are, in `NAME_count`; `MESSAGE_next_NAME` gives them, from the same
  *   bytes;
+ * - where nothing of a message is read in place, a member `no_bytes`, which is of no bytes;
  * - fields that the schema lacks are passed over; `MESSAGE_write_keeping` takes them from the bytes
  *   that were read.
  *
@@ -53,6 +54,13 @@ typedef struct gtv_bytes {
     size_t len;
 } gtv_bytes;
 
+/* What is left of a list of numbers: of the bytes that were read, and in front of it what is left
+ * of a payload that has many of them. A walk begins with the bytes and no payload. */
+typedef struct gtv_numbers {
+    gtv_bytes bytes;
+    gtv_bytes payload;
+} gtv_numbers;
+
 #ifdef __cplusplus
 }
 #endif
@@ -71,5 +79,16 @@ GTV_LAYOUT(size_of_double, sizeof(double) == 8);
 GTV_LAYOUT(size_of_float, sizeof(float) == 4);
 GTV_LAYOUT(size_of_bytes, sizeof(gtv_bytes) == 16);
 GTV_LAYOUT(bytes_len, offsetof(gtv_bytes, len) == 8);
+GTV_LAYOUT(size_of_numbers, sizeof(gtv_numbers) == 32);
+GTV_LAYOUT(numbers_payload, offsetof(gtv_numbers, payload) == 16);
+
+#if defined(__cplusplus) && __cplusplus >= 201703L
+#include <string_view>
+
+/* The same bytes as C++ has them. */
+inline std::string_view gtv_view(gtv_bytes bytes) {
+    return std::string_view(reinterpret_cast<const char *>(bytes.data), bytes.len);
+}
+#endif
 
 #endif

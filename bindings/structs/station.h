@@ -69,11 +69,14 @@ typedef struct station_lists {
  * within the limits. Any other status says that they are not, and then the struct is zero; it is
  * that of the error: GTV_UNEXPECTED_EOF, GTV_VARINT_TOO_LONG, GTV_INVALID_WIRE_TYPE,
  * GTV_INVALID_FIELD_NUMBER, GTV_MESSAGE_TOO_LARGE, GTV_WIRE_TYPE_MISMATCH, GTV_INVALID_UTF8,
- * GTV_RECURSION_LIMIT_EXCEEDED, GTV_INVALID_END_GROUP or GTV_UNKNOWN_FIELD_LIMIT_EXCEEDED.
+ * GTV_RECURSION_LIMIT_EXCEEDED, GTV_INVALID_END_GROUP, GTV_UNKNOWN_FIELD_LIMIT_EXCEEDED or
+ * GTV_ELEMENT_MEMORY_LIMIT_EXCEEDED.
  *
- * With no limits named these are 100 levels of messages and groups and 1,000,000 unknown fields.
- * Those of the caller are `depth`, of which no more than 100 are given; `records`, unknown fields,
- * those in groups counted; and `payload_bytes`, bytes of their length-delimited payloads. */
+ * With no limits named these are 100 levels of messages and groups, 1,000,000 unknown fields, and
+ * 33,554,432 bytes for the elements of lists, of which a tag takes 24 and a sample 80. Those of the
+ * caller are `depth`, of which no more than 100 are given; `records`, unknown fields, those in
+ * groups counted; and `payload_bytes`, bytes of their length-delimited payloads; lists have no
+ * limit of their own there. */
 uint32_t report_sample_read(const uint8_t *bytes, size_t len, report_sample *it);
 uint32_t report_sample_read_within(const uint8_t *bytes, size_t len, const gtv_limits *limits,
                                    report_sample *it);

@@ -30,6 +30,10 @@ impl<'a> Bytes<'a> {
     }
 }
 
+// SAFETY: they are those of a slice, which may be sent and shared.
+unsafe impl Send for Bytes<'_> {}
+unsafe impl Sync for Bytes<'_> {}
+
 /// A string in the bytes that were read, or of a program's own.
 #[repr(C)]
 #[derive(Clone, Copy)]
@@ -66,6 +70,10 @@ impl<'a, T> List<'a, T> {
     }
 }
 
+// SAFETY: they are those of a slice, which may be sent and shared where its elements may be shared.
+unsafe impl<T: Sync> Send for List<'_, T> {}
+unsafe impl<T: Sync> Sync for List<'_, T> {}
+
 /// The room is smaller than the encoding, which has so many bytes.
 #[derive(Clone, Copy, Debug, PartialEq, Eq)]
 pub struct NoRoom(pub usize);
@@ -83,7 +91,7 @@ impl std::error::Error for NoRoom {}
 pub enum NotWritten {
     /// The room is smaller than the encoding, which has so many bytes.
     NoRoom(NoRoom),
-    /// The bytes of the unknown fields are no records.
+    /// The bytes of the unknown fields are no records, or these nest more than 100 groups.
     Refused(Refusal),
 }
 
@@ -127,6 +135,7 @@ impl fmt::Display for Refusal {
             9 => "RecursionLimitExceeded",
             10 => "InvalidEndGroup",
             12 => "UnknownFieldLimitExceeded",
+            13 => "ElementMemoryLimitExceeded",
             _ => "unknown",
         })
     }

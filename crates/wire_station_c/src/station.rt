@@ -6,12 +6,13 @@ ghost use Rattle.wire_codec.specs.Options.{default_limits};
 ghost use Rattle.wire_codec.specs.Taking.{NotDecoded};
 ghost use Rattle.wire_fields.specs.Numbers.{in_64_bits};
 ghost use Rattle.wire_fields.specs.Shape.{NotDecodedAs};
+ghost use Rattle.wire_report.specs.ReportSample.{report_sample-shape};
 ghost use Rattle.wire_stations.specs.Station.{Station-IsZero, station-seen, station-shape};
 ghost use Rattle.wire_stations.specs.Station.{samples-of-station, station-encoding};
 ghost use Rattle.wire_stations.specs.Station.{station-known, station-shown, tags-of-station};
-ghost use Rattle.wire_stations.specs.StationLists.{MakesSample, SameBytes};
 ghost use Rattle.wire_structs.specs.Unknown.{HasStatus, OfUnknown};
-ghost use Rattle.wire_structs.specs.Walks.{GivesNext, EndsList, MakesNothing};
+ghost use Rattle.wire_structs.specs.Walks.{GivesNext, EndsList, IsElement};
+ghost use Rattle.wire_structs.specs.Walks.{MakesElement, MakesNothing};
 ghost use Rattle.wire_structs.specs.Within.{DecodesSeen, within_numbers};
 
 use wire_read::numbers::LimitNumbers;
@@ -56,7 +57,7 @@ pub extern "C" fn station_read_within<'a>(
 /// answers no 0 the bytes stay, and the tag is of no bytes.
 #[unsafe(no_mangle)]
 pub extern "C" fn station_next_tag<'a>(walk: &mut SliceInC<'a>, tag: &mut SliceInC<'a>) -> u32
-    ensures given { result ≡ 0 → GivesNext station-shape.takes tags-of-station SameBytes
+    ensures given { result ≡ 0 → GivesNext station-shape.takes tags-of-station IsElement
         walk.old.bytes.now walk.new.bytes.now tag.new.bytes.now }
     ensures ended { result ≡ 1 → EndsList station-shape.takes tags-of-station walk.old.bytes.now }
     ensures other { result ≢ 0 → result ≢ 1 → MakesNothing station-shape.takes
@@ -72,8 +73,9 @@ pub extern "C" fn station_next_tag<'a>(walk: &mut SliceInC<'a>, tag: &mut SliceI
 /// station. Where it answers no 0 the bytes stay, and the sample is of no bytes.
 #[unsafe(no_mangle)]
 pub extern "C" fn station_next_sample<'a>(walk: &mut SliceInC<'a>, sample: &mut SliceInC<'a>) -> u32
-    ensures given { result ≡ 0 → GivesNext station-shape.takes samples-of-station MakesSample
-        walk.old.bytes.now walk.new.bytes.now sample.new.bytes.now }
+    ensures given { result ≡ 0 → GivesNext station-shape.takes samples-of-station
+        (MakesElement report_sample-shape) walk.old.bytes.now walk.new.bytes.now
+        sample.new.bytes.now }
     ensures ended { result ≡ 1 → EndsList station-shape.takes samples-of-station
         walk.old.bytes.now }
     ensures other { result ≢ 0 → result ≢ 1 → MakesNothing station-shape.takes

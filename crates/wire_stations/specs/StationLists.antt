@@ -27,7 +27,7 @@ use Rattle.wire_structs.specs.ListLaws.{known_levels, left_leaves, merges_levels
 use Rattle.wire_structs.specs.ListLaws.{right_leaves}
 use Rattle.wire_structs.specs.ListLaws.{sets_levels, some_levels, two_levels, unknown_levels}
 use Rattle.wire_structs.specs.ListLaws.{variant_levels, whole_leaves}
-use Rattle.wire_structs.specs.Walks.{ListOf, Makes}
+use Rattle.wire_structs.specs.Walks.{IsElement, ListOf, MakesElement}
 
 station_power-levels : HasLevels station_power-shape
 station_power-levels = record {
@@ -72,17 +72,9 @@ station-levels =
     (λ m after. m ++ after ∷ [])))))
     unknown_levels
 
--- what is given is the element
-abbrev pub SameBytes : List ℕ → List ℕ → Type 0
-SameBytes b a = b ≡ a
-
--- what is given are the bytes of the element
-abbrev pub MakesSample : List ℕ → ReportSample-Value → Type 0
-MakesSample b a = Makes report_sample-shape.takes b report_sample-shape.default a
-
 -- the samples
 pub station-samples-list :
-    ListOf station-shape.takes samples-of-station MakesSample 12 any_bytes
+    ListOf station-shape.takes samples-of-station (MakesElement report_sample-shape) 12 any_bytes
 station-samples-list = record {
   own = λ levels limits whole l low m z p c fits h.
       message_more report_sample-shape 80 (λ ms after. ms ++ after ∷ []) levels limits whole l low
@@ -98,7 +90,7 @@ station-samples-list = record {
 }
 
 -- the tags
-pub station-tags-list : ListOf station-shape.takes tags-of-station SameBytes 11 string
+pub station-tags-list : ListOf station-shape.takes tags-of-station IsElement 11 string
 station-tags-list = record {
   own = λ levels limits whole l low m z p c fits h.
       let mine = h.0.0.0 in (mine.1, mine.2, mine.1, refl, mine.3);

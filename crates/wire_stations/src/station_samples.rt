@@ -1,8 +1,8 @@
 //! The samples of a station, one after another.
 ghost use Rattle.std.specs.Prelude.{◌≡◌, ◌≢◌, []};
+ghost use Rattle.wire_report.specs.ReportSample.{report_sample-shape};
 ghost use Rattle.wire_stations.specs.Station.{station-shape, samples-of-station};
-ghost use Rattle.wire_stations.specs.StationLists.{MakesSample};
-ghost use Rattle.wire_structs.specs.Walks.{GivesNext, EndsList, MakesNothing};
+ghost use Rattle.wire_structs.specs.Walks.{GivesNext, EndsList, MakesElement, MakesNothing};
 
 use std::marker::PhantomData;
 use wire_codec::{DecodeError, Tag};
@@ -16,9 +16,10 @@ struct StationSamples<'a> {
 impl<'a> ValueList for StationSamples<'a> {
     ghost use Rattle.std.specs.Prelude.{◌≡◌, ℕ, List};
     ghost use Rattle.wire_fields.specs.Texts.{any_bytes};
-    ghost use Rattle.wire_report.specs.ReportSample.{ReportSample-Value};
+    ghost use Rattle.wire_report.specs.ReportSample.{ReportSample-Value, report_sample-shape};
     ghost use Rattle.wire_stations.specs.Station.{Station-Value, station-shape, samples-of-station};
-    ghost use Rattle.wire_stations.specs.StationLists.{MakesSample, station-samples-list};
+    ghost use Rattle.wire_stations.specs.StationLists.{station-samples-list};
+    ghost use Rattle.wire_structs.specs.Walks.{MakesElement};
 
     type Source = &'a [u8];
 
@@ -38,7 +39,7 @@ impl<'a> ValueList for StationSamples<'a> {
 
     ghost list = { samples-of-station };
 
-    ghost Means = { MakesSample };
+    ghost Means = { MakesElement report_sample-shape };
 
     ghost number = { 12 };
 
@@ -59,8 +60,9 @@ impl<'a> ValueList for StationSamples<'a> {
 /// it; 1 where none is left; or the number of the error, nowhere in bytes that were read as a
 /// station. Where it answers no 0 the bytes stay, and the sample is of no bytes.
 pub fn next_station_sample<'a>(walk: &mut SliceInC<'a>, sample: &mut SliceInC<'a>) -> u32
-    ensures given { result ≡ 0 → GivesNext station-shape.takes samples-of-station MakesSample
-        walk.old.bytes.now walk.new.bytes.now sample.new.bytes.now }
+    ensures given { result ≡ 0 → GivesNext station-shape.takes samples-of-station
+        (MakesElement report_sample-shape) walk.old.bytes.now walk.new.bytes.now
+        sample.new.bytes.now }
     ensures ended { result ≡ 1 → EndsList station-shape.takes samples-of-station
         walk.old.bytes.now }
     ensures other { result ≢ 0 → result ≢ 1 → MakesNothing station-shape.takes

@@ -1,8 +1,7 @@
 //! The tags of a station, one after another.
 ghost use Rattle.std.specs.Prelude.{◌≡◌, ◌≢◌, []};
 ghost use Rattle.wire_stations.specs.Station.{station-shape, tags-of-station};
-ghost use Rattle.wire_stations.specs.StationLists.{SameBytes};
-ghost use Rattle.wire_structs.specs.Walks.{GivesNext, EndsList, MakesNothing};
+ghost use Rattle.wire_structs.specs.Walks.{GivesNext, EndsList, IsElement, MakesNothing};
 
 use std::marker::PhantomData;
 use wire_codec::{DecodeError, Tag};
@@ -17,7 +16,8 @@ impl<'a> ValueList for StationTags<'a> {
     ghost use Rattle.std.specs.Prelude.{◌≡◌, ℕ, List};
     ghost use Rattle.wire_fields.specs.Texts.{string};
     ghost use Rattle.wire_stations.specs.Station.{Station-Value, station-shape, tags-of-station};
-    ghost use Rattle.wire_stations.specs.StationLists.{SameBytes, station-tags-list};
+    ghost use Rattle.wire_stations.specs.StationLists.{station-tags-list};
+    ghost use Rattle.wire_structs.specs.Walks.{IsElement};
 
     type Source = &'a [u8];
 
@@ -37,7 +37,7 @@ impl<'a> ValueList for StationTags<'a> {
 
     ghost list = { tags-of-station };
 
-    ghost Means = { SameBytes };
+    ghost Means = { IsElement };
 
     ghost number = { 11 };
 
@@ -58,7 +58,7 @@ impl<'a> ValueList for StationTags<'a> {
 /// is left; or the number of the error, nowhere in bytes that were read as a station. Where it
 /// answers no 0 the bytes stay, and the tag is of no bytes.
 pub fn next_station_tag<'a>(walk: &mut SliceInC<'a>, tag: &mut SliceInC<'a>) -> u32
-    ensures given { result ≡ 0 → GivesNext station-shape.takes tags-of-station SameBytes
+    ensures given { result ≡ 0 → GivesNext station-shape.takes tags-of-station IsElement
         walk.old.bytes.now walk.new.bytes.now tag.new.bytes.now }
     ensures ended { result ≡ 1 → EndsList station-shape.takes tags-of-station walk.old.bytes.now }
     ensures other { result ≢ 0 → result ≢ 1 → MakesNothing station-shape.takes

@@ -1,6 +1,6 @@
 -- A record that a field of a struct takes or refuses is one that the struct takes or refuses: what
 -- the arms of `merge_field` cite, beside those of `wire_fields` of the same use.
-use Rattle.std.proofs.Common.{◌≡◌, ℕ, List, refl, subst, sym, false}
+use Rattle.std.proofs.Common.{◌≡◌, ℕ, List, refl, subst, false}
 use Rattle.std.specs.Prelude.{Option, Result, Ok, Err, OnErr, OnOk}
 use Rattle.wire_codec.specs.DecodeError.{DecodeError}
 use Rattle.wire_codec.specs.Field.{Payload}
@@ -38,30 +38,46 @@ rest_refused owns one other n is m l w old (Err e) h = λ c z new taken. h c z.1
       (other m.1 n taken.payload c z.1 × (z.0 ≡ m.0))) (is taken.payload) taken.step).0;
 })
 
--- the last variant of a oneof, for a record that those before it do not own, where its value t is
--- the one that stands, or that of no records
+-- what a call did of a value, where that is the one that stands
+module _ {T : Type 0} (step : Step T) (t s : T) (is : t ≡ s) {R : Type 0} (l : Limits) (n : ℕ)
+    (w : WireType) (old : List ℕ) (r : Result R DecodeError) where
+  pub stood_ok : (after : Limits) (u : T) (new : List ℕ)
+      → OnOk r (IsCharged l after (λ c. TakesRecord step l n w t old c u new))
+      → OnOk r (IsCharged l after (λ c. TakesRecord step l n w s old c u new))
+  stood_ok after u new =
+      subst (λ x. OnOk r (IsCharged l after (λ c. TakesRecord step l n w x old c u new))) is
+
+  pub stood_refused : OnErr r (NotTaken (TakesRecord step l n w t old))
+      → OnErr r (NotTaken (TakesRecord step l n w s old))
+  stood_refused = subst (λ x. OnErr r (NotTaken (TakesRecord step l n w x old))) is
+
+-- the last variant of a oneof, for a record that those before it do not own, whose value t takes
+-- the record as the one that stands does, or that of no records
 module _ {V T : Type 0} (front : Variants V) (f : FieldKind T) (get : V → Option T) (set : T → V)
-    (n : ℕ) (not : (p : Payload) → front.owns n p ≡ false) (m : V) (t : T)
-    (stood : t ≡ or_else f.default (get m)) where
-  pub last_ok : (u : T) {R : Type 0} (l after : Limits) (w : WireType) (old new : List ℕ)
+    (n : ℕ) (not : (p : Payload) → front.owns n p ≡ false) (m : V) (t : T) where
+  pub last_ok : ((c : Charge) (p : Payload) (u : T) → f.takes t n p c u
+      → f.takes (or_else f.default (get m)) n p c u)
+      → (u : T) {R : Type 0} (l after : Limits) (w : WireType) (old new : List ℕ)
       (r : Result R DecodeError)
       → OnOk r (IsCharged l after (λ c. TakesRecord f.takes l n w t old c u new))
       → OnOk r (IsCharged l after (λ c. TakesRecord
       (choice front.owns front.takes (takes_variant f.default get set f.takes)) l n w m old c
       (set u) new))
-  last_ok u l after w old new r h =
+  last_ok on u l after w old new r h =
       arm_ok (choice front.owns front.takes (takes_variant f.default get set f.takes)) f.takes n n
       refl m (set u) t u
       (λ c p k. to_last front.owns front.takes (takes_variant f.default get set f.takes) n not m
-      (set u) c p (u, subst (λ x. f.takes x n p c u) stood k, refl)) l after w old new r h
+      (set u) c p (u, on c p u k, refl)) l after w old new r h
 
-  pub last_refused : {R : Type 0} (l : Limits) (w : WireType) (old : List ℕ)
-      (r : Result R DecodeError) → OnErr r (NotTaken (TakesRecord f.takes l n w t old))
+  pub last_refused : ((c : Charge) (p : Payload) (u : T) → f.takes (or_else f.default (get m)) n p c u
+      → f.takes t n p c u)
+      → {R : Type 0} (l : Limits) (w : WireType) (old : List ℕ) (r : Result R DecodeError)
+      → OnErr r (NotTaken (TakesRecord f.takes l n w t old))
       → OnErr r (NotTaken (TakesRecord
       (choice front.owns front.takes (takes_variant f.default get set f.takes)) l n w m old))
-  last_refused l w old r h =
+  last_refused back l w old r h =
       arm_refused (choice front.owns front.takes (takes_variant f.default get set f.takes)) f.takes
       n n refl m t
       (λ c z p k.
       let mine = from_last front.owns front.takes (takes_variant f.default get set f.takes) n not m
-      z c p k in (mine.0, subst (λ x. f.takes x n p c mine.0) (sym stood) mine.1)) l w old r h
+      z c p k in (mine.0, back c p mine.0 mine.1)) l w old r h

@@ -1,7 +1,12 @@
 pub mod Arms
 pub mod CountedLists
+pub mod CountedNumbers
+pub mod FirstRecords
 pub mod KeptTexts
 pub mod KeptUnknown
+pub mod NumberWalkLemmas
+pub mod PackedFronts
+pub mod PackedWriting
 pub mod PassedRecords
 pub mod Reading
 pub mod Shown

@@ -1,6 +1,6 @@
 -- What is shown of a value is read where the value is.
 use Rattle.std.proofs.Common.{◌≡◌, ap, ◌∙◌, sym, subst, refl, List, Bool, true, false}
-use Rattle.std.specs.Prelude.{ℕ, Option, Some, None, option_map, ◌||◌}
+use Rattle.std.specs.Prelude.{ℕ, Option, Some, None, option_map, ◌||◌, if◌then◌else◌}
 use Rattle.wire_codec.specs.Field.{Payload, Fields, none, field, push}
 use Rattle.wire_codec.specs.Folds.{Step, Folds}
 use Rattle.wire_codec.specs.Limits.{Limits, Charge}
@@ -229,3 +229,9 @@ module _ {V W : Type 0} (show : V → W) (a b : Variants V) (c d : Variants W)
     on = λ m n p e z h. rw (same n p) (on_choice (a.owns n p) m z n p e h);
     back = λ m n p e w h. back_choice (a.owns n p) m w n p e (rw (same n p) at h);
   }
+
+-- one of two values, each of which shows what it should
+pub chosen_seen : {V W : Type 0} (show : V → W) (b : Bool) (x y : V) (u w : W) → show x ≡ u
+    → show y ≡ w → show (if b then x else y) ≡ (if b then u else w)
+chosen_seen show true x y u w first second = first
+chosen_seen show false x y u w first second = second

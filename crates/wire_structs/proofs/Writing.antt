@@ -73,7 +73,7 @@ embedded_text_size n rs =
     )
 
 -- a length that 64 bits do not hold makes the record one too
-delimited_cut : (n len size : ℕ) → len ≡ in_64_bits size
+pub delimited_cut : (n len size : ℕ) → len ≡ in_64_bits size
     → in_64_bits (delimited_size n len) ≡ in_64_bits (delimited_size n size)
 delimited_cut n len size is =
     let same : len ≡ size → length (shortest_varint len) ≡ length (shortest_varint size) =

@@ -2,6 +2,8 @@ pub mod Counts
 pub mod Flags
 pub mod KeptFields
 pub mod ListLaws
+pub mod NumberCounts
+pub mod NumberWalks
 pub mod Passed
 pub mod Payloads
 pub mod Showing

@@ -1,5 +1,5 @@
 -- Which records a list of a message has, as the table of the message is put together.
-use Rattle.std.proofs.Common.{◌≡◌, ◌≢◌, ◌≤◌, ℕ, Bool, true, false}
+use Rattle.std.proofs.Common.{◌≡◌, ◌≢◌, ◌≤◌, inl, inr, ℕ, Bool, true, false}
 use Rattle.std.proofs.Common.{List, [], refl, sym, ap, ◌∙◌, subst, arith}
 use Rattle.std.specs.Prelude.{Option, ◌||◌}
 use Rattle.wire_codec.specs.Charge.{payload_charge}
@@ -14,6 +14,7 @@ use Rattle.wire_fields.specs.Arms.{unlike}
 use Rattle.wire_fields.specs.Messages.{gathers, inside, length_prefixed, merges, or_else}
 use Rattle.wire_fields.specs.Numbers.{numeric, number_payload}
 use Rattle.wire_fields.specs.Oneof.{Variants, either_of, variant}
+use Rattle.wire_fields.specs.Packed.{adds_numbers}
 use Rattle.wire_fields.specs.Presence.{adds, sets, sets_some}
 use Rattle.wire_fields.specs.Scalar.{ScalarType}
 use Rattle.wire_fields.specs.Shape.{Lawful, Shape, keeps, known, on, two, unknown}
@@ -54,6 +55,13 @@ module _ {V : Type 0} (t : ScalarType V) (flat : IsFlat t) where
 
   pub adds_levels : (place : ℕ) → TakesLevels (adds place t)
   adds_levels place m z n p c h = omega (arith, flat p h.1 h.2)
+
+pub numbers_levels : {T : Type 0} (form : Form) (values : ValueMap T)
+    → TakesLevels (adds_numbers form values)
+numbers_levels form values m z n p c h = elim h.1 [
+  | inl k ↦ omega (arith, flat_numeric form values p k.value k.sets)
+  | inr k ↦ omega (arith, ap (λ x. (payload_charge x).depth) k.is)
+]
 
 module _ {V : Type 0} (takes : Step V) where
   pub inside_levels : TakesLevels (inside length_prefixed takes)

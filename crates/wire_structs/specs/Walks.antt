@@ -9,10 +9,19 @@ use Rattle.wire_codec.specs.RecordLaws.{WholeInput}
 use Rattle.wire_codec.specs.Taking.{Decodes}
 use Rattle.wire_codec.specs.TakingLaws.{LevelsAndCounts}
 use Rattle.wire_fields.specs.Scalar.{ScalarType}
+use Rattle.wire_fields.specs.Shape.{Shape}
 
 -- within some limits of no more than 100 levels the bytes make z of m
 abbrev pub Makes : {V : Type 0} → Step V → List ℕ → V → V → Type 0
 Makes takes bytes m z = (l : Limits) × (l.depth ≤ 100) × Decodes takes l m bytes z
+
+-- what is given is the element
+abbrev pub IsElement : List ℕ → List ℕ → Type 0
+IsElement b a = b ≡ a
+
+-- what is given are bytes that make the element, a message
+abbrev pub MakesElement : {V : Type 0} → Shape V → List ℕ → V → Type 0
+MakesElement s b a = Makes s.takes b s.default a
 
 -- Where old makes z of m, new makes z of a value whose list is that of m with one element more at
 -- its end, for which what is given stands: so those that were given and those that are left are the

@@ -9,11 +9,15 @@
 #![tactic(auto)]
 
 mod counting;
+mod counting_numbers;
 mod field_part;
 mod inside;
 mod keeping;
 mod message;
 mod number;
+mod number_forms;
+mod number_texts;
+mod numbers_walk;
 mod parts;
 mod passing;
 mod payload;
@@ -28,24 +32,28 @@ mod walking;
 mod written;
 mod written_lists;
 mod written_messages;
+mod written_numbers;
 mod written_scalars;
 
 pub use counting::{merge_count, merge_message_count};
+pub use counting_numbers::merge_numbers_count;
 pub use field_part::FieldPart;
 pub use inside::{merge_message, merge_optional_message};
 pub use keeping::{size_keeping, write_keeping};
 pub use message::MessageStruct;
 pub use number::{DoubleInC, EnumInC, FloatInC, NumberInC};
+pub use numbers_walk::{NumberList, NumbersWalk, begin_numbers, next_number, next_number_status};
 pub use parts::{always_part, implicit_part, optional_part};
 pub use passing::pass_by;
 pub use payload::ScalarPayload;
 pub use presence::{merge_optional, merge_value};
 pub use room::{write_status, written_size};
-pub use scalar::StructScalar;
+pub use scalar::{StructNumber, StructScalar};
 pub use status::{context_within, default_context, read_status};
-pub use text::{BytesInC, TextInC, TextSliceInC};
+pub use text::{BytesInC, BytesSliceInC, TextInC, TextSliceInC};
 pub use unknown::{FieldNumbers, put_unknown, unknown_len};
 pub use walking::{SliceInC, ValueList, next_status};
 pub use written::{StructPart, WrittenStruct, WrittenStructScalar};
 pub use written_lists::{messages_len, put_messages, put_values, values_len};
 pub use written_messages::{message_len, optional_message_len, put_message, put_optional_message};
+pub use written_numbers::{numbers_len, put_numbers};

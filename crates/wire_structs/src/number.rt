@@ -14,9 +14,9 @@ use wire_codec::{
 };
 use wire_fields::{Form, Number, Numeric};
 
-// Reads the number behind this tag. A tag of another wire type is `WireTypeMismatch`.
+/// Reads the number behind this tag. A tag of another wire type is `WireTypeMismatch`.
 #[inline(always)]
-fn read_number<B: Buf>(tag: Tag, form: Form, buf: &mut B) -> Result<u64, DecodeError>
+pub(crate) fn read_number<B: Buf>(tag: Tag, form: Form, buf: &mut B) -> Result<u64, DecodeError>
     ensures ok { IfOk result (λ x. ReadsNumber form (tag_number tag) (tag_type tag) x
         (B.unread buf.old) (B.unread buf.new)) }
     ensures narrow { IfOk result (λ x. form ≡ Fixed32 → x < 2 ^ 32) }

@@ -97,3 +97,31 @@ impl<'a> StructScalar for BytesInC<'a> {
         Ok(())
     }
 }
+
+/// The type `bytes` as an element of a list of C's.
+pub struct BytesSliceInC<'a> {
+    bytes: PhantomData<&'a [u8]>,
+}
+
+impl<'a> StructScalar for BytesSliceInC<'a> {
+    ghost use Rattle.std.specs.Prelude.{ℕ, List};
+    ghost use Rattle.wire_fields.specs.Texts.{any_bytes};
+
+    type Source = &'a [u8];
+
+    type Held = SliceInC<'a>;
+
+    ghost Value = { List ℕ };
+
+    ghost view = { λ b. b.bytes.now };
+
+    ghost scalar = { any_bytes };
+
+    fn empty() -> SliceInC<'a> {
+        SliceInC { bytes: &[] }
+    }
+
+    fn set(tag: Tag, held: &mut SliceInC<'a>, buf: &mut &'a [u8]) -> Result<(), DecodeError> {
+        <BytesInC<'a> as StructScalar>::set(tag, &mut held.bytes, buf)
+    }
+}

@@ -4,7 +4,7 @@ ghost use Rattle.wire_structs.specs.Payloads.{scalar_payload};
 
 use crate::number::{DoubleInC, EnumInC, FloatInC, NumberInC};
 use crate::payload::ScalarPayload;
-use crate::text::{BytesInC, TextInC, TextSliceInC};
+use crate::text::{BytesInC, BytesSliceInC, TextInC, TextSliceInC};
 use crate::walking::SliceInC;
 use crate::written::WrittenStructScalar;
 use wire_codec::Enumeration;
@@ -122,6 +122,18 @@ impl<'a> WrittenStructScalar for BytesInC<'a> {
 }
 
 impl<'a> WrittenStructScalar for TextSliceInC<'a> {
+    #[inline(always)]
+    fn is_default(held: &SliceInC<'a>) -> bool {
+        held.bytes.is_empty()
+    }
+
+    #[inline(always)]
+    fn payload<'h>(held: &'h SliceInC<'a>) -> ScalarPayload<'h> {
+        ScalarPayload::Bytes(held.bytes)
+    }
+}
+
+impl<'a> WrittenStructScalar for BytesSliceInC<'a> {
     #[inline(always)]
     fn is_default(held: &SliceInC<'a>) -> bool {
         held.bytes.is_empty()

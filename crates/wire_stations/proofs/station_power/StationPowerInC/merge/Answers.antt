@@ -8,7 +8,7 @@ use Rattle.wire_fields.specs.Numbers.{numeric}
 use Rattle.wire_fields.specs.Presence.{sets}
 use Rattle.wire_fields.specs.Texts.{string}
 use Rattle.wire_fields.specs.declared.form.Form.TheVariants.{Fixed32}
-use Rattle.wire_structs.proofs.Arms.{arm_refused, last_ok, last_refused}
+use Rattle.wire_structs.proofs.Arms.{arm_refused, last_ok, last_refused, stood_ok, stood_refused}
 use Rattle.wire_stations.specs.ReportSample.{ReportSample-Shown, report_sample-struct}
 use Rattle.wire_stations.specs.StationPower.{backup-of-station_power-as, station_power-front}
 use Rattle.wire_stations.specs.StationPower.{station_power-shown, station_power-struct}
@@ -49,8 +49,9 @@ returns-in_default-clause-ok c =
     (embedded_always report_sample-struct).kind backup-of-station_power-as
     (λ x. Some (inr (inr x))) n
     (λ p. neither _ _ (unlike n 8 (search rules)) (unlike n 9 (search rules)))
-    (station_power-shown c.args.self.now) _ ((c.stand-in_default).ensures.backup refl) _ _ _ _ _ _
-    c.merge_message.result c.merge_message.ensures.ok)
+    (station_power-shown c.args.self.now) _ (λ charge p u h. h) _ _ _ _ _ _
+    c.merge_message.result (stood_ok (embedded_always report_sample-struct).kind.takes _ _
+    ((c.stand-in_default).ensures.backup refl) _ _ _ _ _ _ _ _ c.merge_message.ensures.ok))
 
 pub returns-in_default-clause-err : goal.returns-in_default-clause-err
 returns-in_default-clause-err c =
@@ -59,5 +60,6 @@ returns-in_default-clause-err c =
     (embedded_always report_sample-struct).kind backup-of-station_power-as
     (λ x. Some (inr (inr x))) n
     (λ p. neither _ _ (unlike n 8 (search rules)) (unlike n 9 (search rules)))
-    (station_power-shown c.args.self.now) _ ((c.stand-in_default).ensures.backup refl) _ _ _
-    c.merge_message.result c.merge_message.ensures.err
+    (station_power-shown c.args.self.now) _ (λ charge p u h. h) _ _ _
+    c.merge_message.result (stood_refused (embedded_always report_sample-struct).kind.takes _ _
+    ((c.stand-in_default).ensures.backup refl) _ _ _ _ _ c.merge_message.ensures.err)
