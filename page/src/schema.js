@@ -1,6 +1,11 @@
 // Descriptor sets, read by the proved reader, and the types that they have. How a schema is made of
 // their records is not proved.
-'use strict';
+
+import {BYTES, END, FIXED32, FIXED64, START, VARINT, errorOf} from './reader.js';
+import {List, allLimits, reading} from './records.js';
+import {shown} from './shown.js';
+import {textOf} from './values.js';
+import {count} from './words.js';
 
 // The numbers that a `FieldDescriptorProto` has for types, in their order, and the wire types of
 // records of each.
@@ -11,9 +16,9 @@ const WIRES = {
   double: FIXED64, fixed64: FIXED64, sfixed64: FIXED64, float: FIXED32, fixed32: FIXED32,
   sfixed32: FIXED32, string: BYTES, bytes: BYTES, message: BYTES, group: START
 };
-const wireOf = (type) => WIRES[type] ?? VARINT;
+export const wireOf = (type) => WIRES[type] ?? VARINT;
 const REPEATED = 3, MOST_TYPES_WITHIN = 100, EDITION_2023 = 1000n;
-class NoSchema extends Error {}
+export class NoSchema extends Error {}
 
 // The records of a part of a descriptor set, by their numbers: of each the last, or all.
 class Descriptor {
@@ -35,7 +40,7 @@ class Descriptor {
   all(number) { return this.records.get(number) ?? []; }
   bytesOf({kind, value, place}) {
     if (kind !== BYTES) throw new NoSchema('This is no descriptor set: a name is no text.');
-    return module.bytes(module.input + place, Number(value));
+    return shown.module.bytes(shown.module.input + place, Number(value));
   }
   text(number) {
     const text = textOf(this.all(number).length ? this.bytesOf(this.all(number).at(-1))
@@ -151,9 +156,10 @@ class Schema {
 }
 
 // Reads a set where the input stands, which is read anew behind it.
-function readSchema(set) {
+export function readSchema(set) {
+  const {module} = shown;
   module.load(set);
   try {
     return new Schema(set.length);
-  } finally { module.load(bytes); }
+  } finally { module.load(shown.bytes); }
 }

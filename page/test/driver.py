@@ -1,5 +1,4 @@
 """The page in Chromium, and what is counted of what it shows."""
-import base64
 import json
 import os
 import shutil
@@ -8,8 +7,7 @@ import subprocess
 import time
 import urllib.request
 
-HERE = os.path.dirname(os.path.abspath(__file__))
-TOP = os.path.dirname(HERE)
+TOP = os.path.dirname(os.path.dirname(os.path.dirname(os.path.abspath(__file__))))
 UP, DOWN, LEFT, RIGHT, END, HOME = "\ue013", "\ue015", "\ue012", "\ue014", "\ue010", "\ue011"
 done, astray = 0, 0
 
@@ -44,7 +42,6 @@ class Browser:
             "--disable-gpu",
             *([] if has_bars else ["--hide-scrollbars"]),
             "--disable-dev-shm-usage",
-            "--allow-file-access-from-files",
             *words,
         ]
         options = {"args": words, "binary": shutil.which("chromium")}
@@ -93,19 +90,23 @@ class Browser:
         found = self.post("/element", using="css selector", value="#file")
         self.post(f"/element/{next(iter(found.values()))}/value", text=path)
 
-    def picture(self, name, height):
+    def size(self, width, height, scale=1, mobile=False):
+        """Has the page on a screen of so many pixels, until `any_size`."""
         self.tell(
             "Emulation.setDeviceMetricsOverride",
-            width=1280,
+            width=width,
             height=height,
-            deviceScaleFactor=1,
-            mobile=False,
+            deviceScaleFactor=scale,
+            mobile=mobile,
         )
-        time.sleep(0.4)
-        shot = self.tell("Page.captureScreenshot", format="png")
-        with open(f"{HERE}/{name}", "wb") as out:
-            out.write(base64.b64decode(shot["data"]))
+
+    def any_size(self):
         self.tell("Emulation.clearDeviceMetricsOverride")
+
+    def show_as(self, scheme):
+        """Has the page light or dark; with no scheme, as the system has it."""
+        features = [{"name": "prefers-color-scheme", "value": scheme}] if scheme else []
+        self.tell("Emulation.setEmulatedMedia", features=features)
 
     def quit(self):
         try:
@@ -126,7 +127,8 @@ const look = () => (document.body.dataset.run !== was ? done(true) : setTimeout(
 PUT = (
     """
 const set = (name, value) => { document.getElementById(name).value = value; };
-set('text', arguments[0]); set('kind', arguments[1]); document.getElementById('log').checked = arguments[2];
+set('text', arguments[0]); set('kind', arguments[1]);
+document.getElementById('log').checked = arguments[2];
 ['depth', 'records', 'payloads'].forEach((name, k) => set(name, arguments[3][k]));
 document.getElementById('text').dispatchEvent(new Event('input'));
 """
@@ -136,12 +138,13 @@ document.getElementById('text').dispatchEvent(new Event('input'));
 ROWS = """
 const tree = document.getElementById('tree'), found = new Map();
 const done = arguments[arguments.length - 1];
-const take = () => tree.querySelectorAll('.row').forEach((row) => found.set(Number(row.dataset.row), {
+const note = (row) => found.set(Number(row.dataset.row), {
   kind: /k(\\d)/.exec(row.className)?.[1] ?? 'fault', label: row.getAttribute('aria-label'),
   level: Number(row.getAttribute('aria-level')), open: row.getAttribute('aria-expanded'),
   number: row.querySelector('b').textContent, way: row.querySelector('.value')?.className ?? '',
   also: row.querySelector(':scope > .also')?.textContent ?? '',
-  value: row.querySelector('.value')?.firstChild?.textContent ?? '' }));
+  value: row.querySelector('.value')?.firstChild?.textContent ?? '' });
+const take = () => tree.querySelectorAll('.row').forEach(note);
 tree.scrollTop = 0;
 const step = () => { take(); const was = tree.scrollTop; tree.scrollTop += tree.clientHeight / 2;
   if (tree.scrollTop === was) done([...found].sort((a, b) => a[0] - b[0]).map((it) => it[1]));

@@ -229,6 +229,9 @@ def try_texts(page):
     alike("the other alphabet", [r["value"] for r in page.rows()], ["fb fb ff"])
     page.put("EgP7+/8=", "base64")
     alike("the first alphabet", [r["value"] for r in page.rows()], ["fb fb ff"])
+
+
+def try_troubles(page):
     for text, kind, said in [
         ("0a0", "hex", "Half a byte"),
         ("0g", "hex", "no hexadecimal"),
@@ -242,6 +245,9 @@ def try_texts(page):
         check(f"trouble of {text!r}", said in page.text("trouble"), page.text("trouble"))
     page.put("08 01", "hex", False, ("101", "", ""))
     check("a limit that is none", "A limit" in page.text("trouble"))
+
+
+def try_readings(page):
     page.put(
         "08 ff ff ff ff ff ff ff ff ff 01 15 00 00 c8 42 21 18 2d 44 54 fb 21 09 40 28 01", "hex"
     )
