@@ -222,8 +222,8 @@ pub(crate) fn written(
 
 // The page of what there is so far.
 fn finished(mut page: Words) -> Result<String, GenerateError> {
-    // (messages in a oneof with rows bring in more than each of them names)
-    if page.get("kinds_alias").is_empty() {
+    // (messages and closed enums in a oneof with rows bring in more than each of them names)
+    if page.get("kinds_alias").is_empty() && page.get("closed_types").is_empty() {
         definition_imports(&mut page);
     } else {
         page.fill("text", "$answers$$rest$");
@@ -232,6 +232,8 @@ fn finished(mut page: Words) -> Result<String, GenerateError> {
     let is_member = !page.get("family_name").is_empty();
     page.append("imports", if is_member { FAMILY } else { "" });
     page.append("imports", "$kinds_alias$");
+    let has_kinds = !page.get("kinds_alias").is_empty();
+    page.append("imports", if has_kinds { "" } else { "$closed_types$" });
     page.fill("text", HEAD);
     page.append("text", "$answers$$rest$");
     page.finish("text")

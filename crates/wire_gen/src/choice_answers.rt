@@ -22,6 +22,106 @@ Rattle.wire_fields.specs.Arms untaken
 $of_always$ $always$
 $definitions$$numeric$";
 
+// A variant of a closed enum, of which a number may be kept as an unknown field.
+const CLOSED: &str = "
+pub returns-in-$digits$-clause-err : goal.returns-in-$digits$-clause-err
+returns-in-$digits$-clause-err g c =
+    $before$arm_err $whole$.takes $word$-of-$choice_module$-closed $digits$ _
+    (sym c.field_number.ensures.number ∙ c.in-$digits$.is) _ _
+    (λ charge z p h. ((z.0$path$, z.1), rw (← $stood$) h$firsts$)) _ _ _
+    $kept$.result $kept$.ensures.err$behind$
+
+pub returns-in-$digits$-clause-ok : goal.returns-in-$digits$-clause-ok
+returns-in-$digits$-clause-ok g c =
+    leaf_ok $all_takes$ $word$-of-$choice_module$-closed $digits$ _
+    (sym c.field_number.ensures.number ∙ c.in-$digits$.is) _ _ _ _
+    (fold_out-$name$$their_trees$$their_ones$ c.args.self.now)
+    (fold-roll-$name$$their_trees$$their_ones$
+    (record $out$ { $field$ = $kept$.new.held; unknown = $kept$.new.unknown }))
+    _ _
+    (λ charge p h. $closed_open$rw ($stood$, $stands$) h$closed_close$)
+    _ _ _ _ _ $kept$.result $kept$.ensures.ok
+
+pub returns-in-$digits$-clause-rows : goal.returns-in-$digits$-clause-rows
+returns-in-$digits$-clause-rows g c =
+    rows_ok (rows_beside_field $sum_choice$) $digits$ _
+    (sym c.field_number.ensures.number ∙ c.in-$digits$.is) _ _ _ _
+    (fold_out-$name$$their_trees$$their_ones$ c.args.self.now)
+    (fold-roll-$name$$their_trees$$their_ones$ _)
+    (λ h. rows_then ($mapped$ $out$)
+    (or_else $of_home$$choice_module$-none ($mapped$ $out$).$field$)
+    (or_else $of_home$$choice_module$-none
+    ($mapped$ (record $out$ { $field$ = $kept$.new.held })).$field$)
+    (rw ($stood$, $stands$) h))
+    $kept$.result $kept$.ensures.rows
+";
+
+// What stands, seen by itself and in its message, and which rows stay beside it.
+const HELD: &str = "
+held : (m : $name$-F$fold_types$) (k : Option $choice$)
+    → or_else $of_home$$choice_module$-none (map-$name$$fold_types$$their_trees$$their_values$
+    (record m { $field$ = k })).$field$
+    ≡ $of_home$$choice_module$-held k
+held m None = refl
+held m (Some k) = refl
+
+rows_then : (m : $name$-F$their_trees$) (t u : $of_home$$choice$-Held)
+    → u.1 ≡ $of_home$$choice_module$-beside u.0 t.1
+    → rows_of ($of_home$$module$-one (record m { $field$ = Some u }))
+    ≡ rows_if $sum_choice$ (is_some u.0)
+    (rows_of ($of_home$$module$-one (record m { $field$ = Some t })))
+rows_then m t (None, rows) h =
+    ap (λ x. rows_of ($of_home$$module$-one (record m { $field$ = Some (None, x) }))) h
+rows_then m t (Some one, rows) h =
+    ap (λ x. rows_of ($of_home$$module$-one (record m { $field$ = Some (Some one, x) }))) h
+";
+
+// The call, the message before it, and what stands before and then.
+const OF_CLOSED: [Template; 5] = [
+    ("kept", "c.set_or_keep_$word$"),
+    ("out", "(out-$name$ c.args.self.now)"),
+    (
+        "mapped",
+        "map-$name$$fold_types$$their_trees$$their_values$",
+    ),
+    ("stood", "held $out$ $out$.$field$"),
+    ("stands", "held $out$ $kept$.new.held"),
+];
+
+const USES_OF_CLOSED: &str = "\
+$taken_uses$\
+Rattle.std.proofs.Common ap
+Rattle.std.proofs.Common refl
+Rattle.std.proofs.Common ◌≡◌
+Rattle.std.specs.Prelude None
+Rattle.std.specs.Prelude Option
+Rattle.std.specs.Prelude Some
+Rattle.std.specs.Prelude is_some
+Rattle.wire_fields.specs.Messages or_else
+Rattle.wire_fields.specs.Nest rows_of
+Rattle.wire_fields.specs.NestArms leaf_ok
+Rattle.wire_fields.specs.NestArms rows_ok
+Rattle.wire_fields.specs.NestChoice first_choice
+Rattle.wire_fields.specs.NestChoice rows_beside_field
+Rattle.wire_fields.specs.NestChoice rows_if
+Rattle.wire_fields.specs.NestChoice second_choice
+Rattle.$crate$.specs.$specs_of_own$ $module$-choice
+Rattle.$crate$.specs.$choice$ $word$-of-$choice_module$-closed
+Rattle.$crate$.specs.declared.$module$.$name$ $name$-F
+Rattle.$crate$.specs.declared.$module$.$name$ out-$name$
+Rattle.$crate$.specs.declared.$first_type$.TheFolds map-$name$
+";
+
+const USES_OF_CLOSED_ALONE: &str = "\
+Rattle.$crate$.specs.$name$ $choice_module$-beside
+Rattle.$crate$.specs.$name$ $choice_module$-held
+Rattle.$crate$.specs.$name$ $choice_module$-none
+Rattle.$crate$.specs.$name$ $choice_module$-value
+Rattle.$crate$.specs.$name$ $module$-value
+Rattle.$crate$.specs.declared.$module$.$name$ $name$
+Rattle.$crate$.specs.declared.$choice_module$.$choice$ $choice$
+";
+
 // What stands, seen by itself and in its message.
 const STANDING: &str = "
 -- what stands, as in its message and by itself
@@ -115,16 +215,38 @@ pub(crate) fn put_choice(page: &mut Words, field: &Words, oneof: &Oneof) {
     let (open, close) = field.get("taken").split_once('h').unwrap_or(("", ""));
     page.set("taken_open", open);
     page.set("taken_close", close);
+    page.set("closed_open", open.strip_prefix("(").unwrap_or(open));
+    page.set(
+        "closed_close",
+        close.strip_suffix(", refl)").unwrap_or(close),
+    );
     for variant in &oneof.variants {
         page.copy(variant, &["digits", "always", "of_always", "definition"]);
         page.copy(variant, &["definitions", "numeric", "word", "variant"]);
-        page.copy(variant, &["of_module"]);
-        if page.get("always") == "always" {
+        page.copy(variant, &["of_module", "closed"]);
+        if !page.get("closed").is_empty() {
+            put_closed(page);
+        } else if page.get("always") == "always" {
             put_set(page);
         } else {
             put_merged(page);
         }
     }
+}
+
+fn put_closed(page: &mut Words) {
+    let is_alone = page.get("family_name").is_empty();
+    let is_first = page.get("closed_before").is_empty();
+    page.append("closed_before", ".");
+    page.append("uses", USES_OF_CLOSED);
+    if is_first {
+        page.set("of_home", if is_alone { "" } else { "family." });
+        page.append("uses", if is_alone { USES_OF_CLOSED_ALONE } else { "" });
+        page.fill("closed_types", "$type_uses$");
+        page.append("answers", HELD);
+    }
+    page.fill_all(&OF_CLOSED);
+    page.append("answers", CLOSED);
 }
 
 fn put_set(page: &mut Words) {

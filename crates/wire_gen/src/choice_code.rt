@@ -1,4 +1,5 @@
 //! The code of a oneof of which some variants are rows.
+use crate::arms::put_arm;
 use crate::code::put_field_comment;
 use wire_definitions::{
     code_imports, ghost_imports, put_choice_requirement, put_others, set_heading,
@@ -144,6 +145,61 @@ const MERGED: &str = "            $digits$ => {
             }
 ";
 
+// Of a closed enum.
+const CLOSED: &str = "
+// Takes the record behind this tag as the `$variant$` where the enum has the number in it, and else
+// keeps it as an unknown field, beside what stands. Refused as `merge_closed`.
+fn set_or_keep_$word$<B: Buf>(
+    tag: Tag,
+    held: &mut Option<$choice$>,
+    unknown: &mut UnknownFields,
+    buf: &mut B,
+    context: &mut DecodeContext,
+) -> Result<(), DecodeError>
+    ensures ok { OnOk result (IsCharged context.old context.new (λ c.
+        TakesRecord $word$-of-$choice_module$-closed context.old
+        (tag_number tag) (tag_type tag) (($choice_module$-held held.old).0, unknown.old)
+        (B.unread buf.old) c (($choice_module$-held held.new).0, unknown.new) (B.unread buf.new))) }
+    ensures rows { OnOk result (($choice_module$-held held.new).1
+        ≡ $choice_module$-beside ($choice_module$-held held.new).0
+        ($choice_module$-held held.old).1) }
+    ensures err { IfErr result (λ e. e ≢ OutOfMemory → NotTaken
+        (TakesRecord $word$-of-$choice_module$-closed context.old
+        (tag_number tag) (tag_type tag) (($choice_module$-held held.old).0, unknown.old)
+        (B.unread buf.old))) }
+    ensures counts { OnErr result (NoCountGrew context.old context.new) }
+    ensures kept { B.kept buf.new ≡ B.kept buf.old }
+{
+    let mut value = None;
+    merge_closed::<$of_name$, B>(tag, &mut value, unknown, buf, context)?;
+    match value {
+        Some(value) => {
+            *held = Some($choice$::$variant$(value));
+            Ok(())
+        }
+        None => Ok(()),
+    }
+}
+";
+
+const CLOSED_GHOSTS: &str = "\
+Rattle.std.specs.Prelude IfErr
+Rattle.std.specs.Prelude OnErr
+Rattle.std.specs.Prelude OnOk
+Rattle.std.specs.Prelude ◌≡◌
+Rattle.std.specs.Prelude ◌≢◌
+Rattle.wire_codec.specs.DecodeError.TheVariants OutOfMemory
+Rattle.wire_codec.specs.Limits NoCountGrew
+Rattle.wire_codec.specs.TagView tag_number
+Rattle.wire_codec.specs.TagView tag_type
+Rattle.wire_codec.specs.Taking IsCharged
+Rattle.wire_codec.specs.Taking NotTaken
+Rattle.wire_codec.specs.Taking TakesRecord
+Rattle.$crate$.specs.$choice$ $word$-of-$choice_module$-closed
+Rattle.$crate$.specs.$home$ $choice_module$-beside
+Rattle.$crate$.specs.$home$ $choice_module$-held
+";
+
 const PLAIN: &str = "
 // The variants of `$choice$` that are no messages of a row.
 #[derive(Drop)]
@@ -181,13 +237,16 @@ pub(crate) fn put_plain(page: &mut Words, oneof: &Oneof) {
             &["variant", "digits", "presence", "kind", "code", "word"],
         );
         page.copy(variant, &["held", "of_module", "of_name", "of_specs"]);
+        page.copy(variant, &["closed"]);
         page.append_all(&OF_VARIANT);
         if page.get("of_low").is_empty() {
             page.fill("of_low", "$digits$");
         }
         page.fill("of_high", "$digits$");
         let is_scalar = page.get("presence") == "Always";
-        if is_scalar {
+        if !page.get("closed").is_empty() {
+            put_closed(page);
+        } else if is_scalar {
             page.append("uses", "wire_fields merge_new\n");
             page.append("arms", SET);
         } else {
@@ -207,6 +266,17 @@ pub(crate) fn put_plain(page: &mut Words, oneof: &Oneof) {
     page.set("choice_names", &names);
     page.append("parts", PLAIN);
     put_choice_requirement(page, oneof);
+}
+
+// The arm of a closed enum, and the function that it calls.
+fn put_closed(page: &mut Words) {
+    page.fill_all(&[("number", "$digits$"), ("call", "set_or_keep_$word$")]);
+    put_arm(page);
+    page.append(
+        "uses",
+        "wire_codec UnknownFields\nwire_fields merge_closed\n",
+    );
+    page.append_all(&[("parts", CLOSED), ("choice_ghosts", CLOSED_GHOSTS)]);
 }
 
 // The function that takes the message of a variant out.

@@ -8,9 +8,9 @@ use crate::recursive::recursive_code;
 use crate::row_answers::{held_answers, row_answers};
 use crate::view_choice::choice_view_code;
 use wire_definitions::{
-    MEMBER_MERGE, Tree, family_definitions, family_stays, has_laws, has_view, is_row, leaf_tree,
-    member_definitions, member_stays, nest_stays, oneof_definitions, oneof_stays, put_all_variants,
-    put_leaf_stays, recursive_definitions, set_leaf, table_page,
+    MEMBER_MERGE, Tree, closed_choice_answers, family_definitions, family_stays, has_laws,
+    has_view, is_row, leaf_tree, member_definitions, member_stays, nest_stays, oneof_definitions,
+    oneof_stays, put_all_variants, put_leaf_stays, recursive_definitions, set_leaf, table_page,
 };
 use wire_schema::{Field, GenerateError, MessageType, Oneof, Schema, Template, Words, fields_of};
 
@@ -120,6 +120,11 @@ impl Package {
             return self.add_code(&mut page, code);
         }
         page.set("in_choice", "in_choice");
+        for variant in &oneof.variants {
+            if !variant.get("closed").is_empty() {
+                self.add_closed_choice(base, &page, variant)?;
+            }
+        }
         let definitions = oneof_definitions(&page, oneof)?;
         self.add_type(&mut page, code, definitions)?;
         if has_laws(&self.base) {
@@ -127,6 +132,27 @@ impl Package {
             self.add_stays(&mut page, proof)?;
         }
         Ok(())
+    }
+
+    // The answers of the function of a variant of a closed enum, which stands beside the message,
+    // and of the one beside its view.
+    fn add_closed_choice(
+        &mut self,
+        base: &Words,
+        oneof: &Words,
+        variant: &Words,
+    ) -> Result<(), GenerateError> {
+        let mut page = Words::like(oneof);
+        page.set("holder_view", base.get("view_module"));
+        let [answers, view_answers] = closed_choice_answers(&page, variant)?;
+        page.copy(variant, &["word"]);
+        let path = "proofs/$holder$/set_or_keep_$word$/Answers.antt";
+        self.add(&mut page, path, answers)?;
+        if !has_view(base) {
+            return Ok(());
+        }
+        let path = "proofs/$holder_view$/set_or_keep_$word$/Answers.antt";
+        self.add(&mut page, path, view_answers)
     }
 
     // The answers of the leaf of such a type.

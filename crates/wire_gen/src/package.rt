@@ -103,6 +103,7 @@ impl Package {
         self.add_types(schema)?;
         self.add_extensions(schema)?;
         self.add_services(schema)?;
+        self.add_structs(schema)?;
         self.add_roots()
     }
 

@@ -55,13 +55,59 @@ const ARMS: [&str; 2] = [
             ),",
 ];
 
+// Of closed enums: one that stands once, a variant or a list, and a map.
+const CLOSED_ARMS: [&str; 2] = [
+    "            $number$ => $call$(alloc, tag, &mut self.$field$, &mut self.unknown, buf, \
+     context),",
+    "            $number$ => {
+                $call$(alloc, tag, &mut self.$field$, &mut self.unknown, buf, context)
+            }",
+];
+
+const MAP_ARMS: [&str; 2] = [MAP_ARM, MAP_ARM];
+
+const MAP_ARM: &str = "            $number$ => <$view_kind$ as ViewClosedMap>::merge_closed(
+                alloc,
+                tag,
+                &mut self.$field$,
+                &mut self.unknown,
+                buf,
+                context,
+            ),";
+
 /// The arms of such a field, one for each of its numbers.
 pub(crate) fn put_arms(page: &mut Words, field: &Words) {
+    let is_map = field.get("kind").starts_with("Map<");
+    let mut calls = field.get("all_calls").split(' ');
     for number in field.get("numbers").split(' ') {
         page.set("number", number);
-        fill_line(page, &ARMS);
-        page.append("arms", "$line$\n");
+        page.set("call", field.get("call"));
+        let own = calls.next().unwrap_or("");
+        if own != "" {
+            page.set("call", own);
+        }
+        put_arm(page, is_map);
     }
+}
+
+// The arm of one number.
+fn put_arm(page: &mut Words, is_map: bool) {
+    let arms = match page.get("call") {
+        "merge" => &ARMS,
+        "merge_closed" if is_map => &MAP_ARMS,
+        _ => &CLOSED_ARMS,
+    };
+    fill_line(page, arms);
+    page.append("arms", "$line$\n");
+    page.append(
+        "uses",
+        match page.get("call") {
+            "merge_closed" if is_map => "wire_views ViewClosedMap\n",
+            "merge_closed" => "wire_views merge_closed\n",
+            "merge_closed_each" => "wire_views merge_closed_each\n",
+            _ => "",
+        },
+    );
 }
 
 const SET: &str = "            $digits$ => {
@@ -110,14 +156,79 @@ Rattle.$crate$.specs.$home$ $choice_module$-none
 Rattle.$crate$.specs.$home$ $choice_module$-view_value
 ";
 
+// Of a closed enum.
+const CLOSED: &str = "
+// Takes the record behind this tag as the `$variant$` where the enum has the number in it, and else
+// keeps it as an unknown field, where it stands, beside what stands. Refused as `merge_closed`.
+fn set_or_keep_$word$<'a>(
+    alloc: Global,
+    tag: Tag,
+    held: &mut Option<$choice_view$<'a>>,
+    spans: &mut Vec<UnknownSpan<'a>>,
+    buf: &mut &'a [u8],
+    context: &mut DecodeContext,
+) -> Result<(), DecodeError>
+    ensures ok { OnOk result (IsCharged context.old context.new (λ c.
+        TakesRecord $word$-of-$choice_module$-closed context.old (tag_number tag) (tag_type tag)
+        (($choice_module$-view_held held.old).0, fields_of spans.old.items) buf.old.now c
+        (($choice_module$-view_held held.new).0, fields_of spans.new.items) buf.new.now)) }
+    ensures rows { OnOk result (($choice_module$-view_held held.new).1
+        ≡ $choice_module$-beside ($choice_module$-view_held held.new).0
+        ($choice_module$-view_held held.old).1) }
+    ensures err { IfErr result (λ e. e ≢ OutOfMemory → NotTaken
+        (TakesRecord $word$-of-$choice_module$-closed context.old (tag_number tag) (tag_type tag)
+        (($choice_module$-view_held held.old).0, fields_of spans.old.items) buf.old.now)) }
+    ensures counts { OnErr result (NoCountGrew context.old context.new) }
+{
+    let mut value = None;
+    merge_closed(alloc, tag, &mut value, spans, buf, context)?;
+    match value {
+        Some(value) => {
+            *held = Some($choice_view$::$variant$(value));
+            Ok(())
+        }
+        None => Ok(()),
+    }
+}
+";
+
+const CLOSED_GHOSTS: &str = "\
+Rattle.std.specs.Prelude IfErr
+Rattle.std.specs.Prelude OnErr
+Rattle.std.specs.Prelude OnOk
+Rattle.std.specs.Prelude ◌≡◌
+Rattle.std.specs.Prelude ◌≢◌
+Rattle.wire_codec.specs.DecodeError.TheVariants OutOfMemory
+Rattle.wire_codec.specs.Limits NoCountGrew
+Rattle.wire_codec.specs.TagView tag_number
+Rattle.wire_codec.specs.TagView tag_type
+Rattle.wire_codec.specs.Taking IsCharged
+Rattle.wire_codec.specs.Taking NotTaken
+Rattle.wire_codec.specs.Taking TakesRecord
+Rattle.wire_views.specs.Spans fields_of
+Rattle.$crate$.specs.$choice$ $word$-of-$choice_module$-closed
+Rattle.$crate$.specs.$home$ $choice_module$-beside
+Rattle.$crate$.specs.$home$ $choice_module$-view_held
+";
+
+// The arm of such a variant, and the function that it calls.
+fn put_closed(page: &mut Words) {
+    page.fill_all(&[("number", "$digits$"), ("call", "set_or_keep_$word$")]);
+    put_arm(page, false);
+    page.append("uses", "wire_views UnknownSpan\nwire_views merge_closed\n");
+    page.append_all(&[("view_parts", CLOSED), ("choice_ghosts", CLOSED_GHOSTS)]);
+}
+
 /// The arms of the variants that are of the leaf, and the functions that take messages out.
 pub(crate) fn put_variants(page: &mut Words, oneof: &Oneof) {
     for variant in &oneof.variants {
         page.copy(variant, &["variant", "digits", "presence", "word"]);
         page.copy(variant, &["view_kind", "view_held", "view_code"]);
-        page.copy(variant, &["of_module", "of_name", "of_specs"]);
+        page.copy(variant, &["of_module", "of_name", "of_specs", "closed"]);
         page.append("uses", "$view_code$wire_views ViewKind\n");
-        if page.get("presence") == "Always" {
+        if !page.get("closed").is_empty() {
+            put_closed(page);
+        } else if page.get("presence") == "Always" {
             page.append("arms", SET);
         } else {
             page.append("arms", MERGED);

@@ -223,7 +223,7 @@ pub(crate) fn put_owned_answers(page: &mut Words, fields: &[Field]) {
         } else if is_row(field) && !kind.starts_with("Each") {
             page.append_all(&[("steps", STEPS_OF_ONCE), ("uses", USES_OF_ONCE)]);
             page.append("uses", if is_member { "" } else { USES_OF_ONCE_ALONE });
-        } else if field.words.get("call") == "merge_closed" {
+        } else if field.words.get("call") == "merge_closed" && !kind.starts_with("Map<") {
             page.append_all(&[("steps", STEPS_OF_CLOSED), ("uses", USES_OF_CLOSED)]);
         } else {
             page.append("steps", "      c.in_ok-own_$field$.ensures.ok,\n");

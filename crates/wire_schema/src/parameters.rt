@@ -15,7 +15,8 @@ use wire_descriptor::CodeGeneratorRequest;
 /// `enums=open` takes closed enums as open ones, `strings=bytes` strings that need not be UTF-8 as
 /// bytes, and `required=optional` required fields as optional ones; `views=true` writes views;
 /// `services=skip` passes over services, `defaults=skip` over default values, and `laws=skip`
-/// writes no laws; `split=COUNT` writes crates of about so many message types; and each
+/// writes no laws; `split=COUNT` writes crates of about so many message types; `c=NAME`
+/// writes structs for C, whose names begin so, and the crate of their library; and each
 /// `encoded=FIELD` names a field of messages that is held as the bytes of their encodings.
 pub fn set_crate(base: &mut Words, request: &CodeGeneratorRequest) -> Result<(), GenerateError> {
     base.set("crate", first_name(request));
@@ -51,6 +52,20 @@ pub fn set_crate(base: &mut Words, request: &CodeGeneratorRequest) -> Result<(),
     if !is_plain && !base.get("views").is_empty() {
         return Err(base.refused("views=true wants unknown=keep and mismatch=refuse"));
     }
+    set_structs(base)
+}
+
+// Makes the words of a crate those of one beside which a library of structs stands, if it does.
+fn set_structs(base: &mut Words) -> Result<(), GenerateError> {
+    if base.get("c").is_empty() {
+        return Ok(());
+    }
+    let is_plain = base.get("unknown") == "keep" && base.get("mismatch") == "refuse";
+    let has_laws = base.get("without_laws").is_empty();
+    if !is_plain || !has_laws || !base.get("split").is_empty() {
+        return Err(base.refused(PLAIN_IN_C));
+    }
+    base.fill_all(&[("target", "crates"), ("crate_folder", "$crate$/")]);
     Ok(())
 }
 
@@ -67,7 +82,10 @@ const NO_NAME: &str = "\
 const PARAMETERS: &str = "\
     parameters are crate=NAME, import=PACKAGE=CRATE, element=BYTES, unknown=keep or drop, \
     mismatch=refuse or keep, enums=open, strings=bytes, required=optional, views=true, \
-    services=skip, defaults=skip, laws=skip, split=COUNT, and encoded=FIELD: $option$";
+    services=skip, defaults=skip, laws=skip, split=COUNT, c=NAME, and encoded=FIELD: $option$";
+
+const PLAIN_IN_C: &str =
+    "c=NAME wants unknown=keep and mismatch=refuse, and neither laws=skip nor split=";
 
 fn set_parameter(base: &mut Words, name: &str, choice: &str) -> Result<(), GenerateError> {
     match (name, choice) {
@@ -87,6 +105,7 @@ fn set_parameter(base: &mut Words, name: &str, choice: &str) -> Result<(), Gener
             base.fill("of_text", "$element$");
         }
         ("split", _) if is_size(choice) => base.set("split", choice),
+        ("c", _) if is_crate_name(choice) => base.set("c", choice),
         ("encoded", _) => {
             base.set("name", choice);
             base.append("encoded", ".$name$\n");

@@ -1,0 +1,128 @@
+//! Which messages have no struct for C, and why.
+use crate::struct_fields::is_c_word;
+use crate::struct_numbers::is_of_numbers;
+use wire_definitions::has_groups;
+use wire_schema::{Field, MessageType, Oneof, Schema, Words};
+
+/// Why a message of these fields can have no struct: the first that it can't have, and what that
+/// is. Those that may be inside are between spaces.
+pub(crate) fn reason<'a>(fields: &'a [Field], inside: &str) -> Option<(&'a str, &'static str)> {
+    if fields.is_empty() {
+        return Some(("", "it has no fields"));
+    }
+    if has_groups(fields.len()) {
+        return Some(("", "it has more than 80 fields"));
+    }
+    if let Some(field) = fields.iter().find(|it| is_called_as_a_member(it, fields)) {
+        return Some((
+            field.words.get("field"),
+            "called as what there is of another field",
+        ));
+    }
+    for field in fields {
+        let what = why_not(field, inside);
+        if !what.is_empty() {
+            return Some((field.words.get("field"), what));
+        }
+    }
+    None
+}
+
+// Why a struct can't have a field, or nothing where it can.
+fn why_not(field: &Field, inside: &str) -> &'static str {
+    if matches!(field.words.get("field"), "new" | "old" | "now") {
+        return "called as a word of clauses";
+    }
+    if let Some(oneof) = &field.oneof {
+        return why_not_oneof(&field.words, oneof, inside);
+    }
+    let kind = field.words.get("kind");
+    let is_scalar = kind.starts_with("Implicit<") || kind.starts_with("Optional<");
+    match kind {
+        _ if !field.words.get("closed").is_empty() => "of a closed enum",
+        _ if is_scalar => "",
+        _ if kind.starts_with("Map<") => "a map",
+        _ if kind.starts_with("Repeated<") || is_of_numbers(kind) => "",
+        _ if kind.starts_with("EachEmbedded<") && is_there(&field.words, inside) => "",
+        _ if kind.starts_with("EachEmbedded<") => "a list of messages without a struct of its own",
+        _ if kind.starts_with("Embedded<") && is_there(&field.words, inside) => "",
+        _ if kind.starts_with("Embedded<") => "a message that has no struct, or lists",
+        _ if kind.starts_with("Group<") => "a group",
+        _ if kind.starts_with("EachGroup<") => "a list of groups",
+        _ => "a field of another kind",
+    }
+}
+
+// The same of a oneof.
+fn why_not_oneof(words: &Words, oneof: &Oneof, inside: &str) -> &'static str {
+    if !oneof.rows.is_empty() {
+        return "a oneof by which messages hold themselves";
+    }
+    if ENDS.split(' ').any(|it| words.get("module").ends_with(it)) {
+        return "a oneof called as a call";
+    }
+    if TYPES.split(' ').any(|it| it == words.get("name")) {
+        return "a oneof called as a type of the library";
+    }
+    for variant in &oneof.variants {
+        let can_stand = match variant.get("presence") {
+            "Always" => variant.get("closed").is_empty(),
+            "AlwaysEmbedded" => is_there(variant, inside),
+            _ => false,
+        };
+        let is_word = matches!(
+            variant.get("field"),
+            "new" | "old" | "now" | "which" | "no_bytes"
+        );
+        if is_word || !can_stand {
+            return "a oneof with a field that a struct can't have";
+        }
+    }
+    ""
+}
+
+// Whether the message of a field may be inside.
+fn is_there(field: &Words, inside: &str) -> bool {
+    let is_own = field.get("of_crate") == field.get("crate");
+    is_own && inside.split(' ').any(|it| it == field.get("of_module"))
+}
+
+// Whether a field has the name of what there is of another: its flag, its call that sets it, its
+// count or its length, or its name in C.
+fn is_called_as_a_member(field: &Field, fields: &[Field]) -> bool {
+    let name = field.words.get("field");
+    name == "no_bytes"
+        || fields.iter().any(|it| {
+            let other = Some(it.words.get("field"));
+            let kind = it.words.get("kind");
+            let is_list = kind.starts_with("Repeated<")
+                || kind.starts_with("Each")
+                || is_of_numbers(kind);
+            let has_flag = kind.starts_with("Optional<") || kind.starts_with("Embedded<");
+            let is_counted = name.strip_suffix("_count") == other;
+            let is_measured = name.strip_suffix("_len") == other;
+            let is_escaped = name.strip_suffix("_") == other;
+            is_list && (is_counted || is_measured)
+                || has_flag && name.strip_prefix("has_") == other
+                || name.strip_prefix("set_") == other
+                || is_escaped && is_c_word(it.words.get("field"))
+        })
+}
+
+/// Whether a message has the name of a call of another, or of its lists.
+pub(crate) fn is_called_as_a_call(message: &MessageType, schema: &Schema) -> bool {
+    let name = message.words.get("module");
+    schema.messages.iter().any(|it| {
+        let rest = name.strip_prefix(it.words.get("module")).unwrap_or("");
+        rest.starts_with("_next_") || ENDS.split(' ').any(|end| end == rest)
+    })
+}
+
+/// Types of the Rust crate, and what it brings in.
+pub(crate) const TYPES: &str =
+    "Bytes Default Iterator Limits List MaybeUninit NextCall NextNumberCall NoRoom NotWritten \
+    Numbers NumbersWalk ReadCall ReadWithinCall Refusal SizeCall SizeKeepingCall \
+    SizeKeepingWithCall SizeWithCall Struct Text Walk WriteCall WriteKeepingCall \
+    WriteKeepingWithCall WriteWithCall Written WrittenWith";
+
+const ENDS: &str = "_lists _read _read_within _size _size_keeping _write _write_keeping";

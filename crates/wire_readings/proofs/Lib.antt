@@ -1,0 +1,13 @@
+pub mod LogInCShows
+pub mod MarksInCShows
+pub mod PlanCountInCShows
+pub mod PlanInCShows
+pub mod PlanLastInCShows
+pub mod PointInCShows
+pub mod ReadingInCShows
+pub mod SensorInCShows
+pub mod SeriesInCShows
+pub mod SettingsInCShows
+pub mod VisitCauseInCShows
+pub mod VisitInCShows
+pub mod VisitOutcomeInCShows
