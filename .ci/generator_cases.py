@@ -14,9 +14,6 @@ REFUSED = [
      ".A.x: closed enums are not generated with unknown=drop or mismatch=keep"),
     ("proto3", "message A { A x = 1; int32 y = 2; }", ",mismatch=keep", ".A: a message that holds "
      "itself, or what holds it, has no mismatch=keep"),
-    ("proto2", "enum E { Z = 0; } message A { oneof b { A x = 1; E y = 2; } }", "",
-     ".A: a message that holds itself, or what holds it, by a oneof has no closed enum in that "
-     "oneof"),
     ("proto3", "message A { oneof b { A x = 1; } oneof c { A y = 2; int32 z = 3; } }", "",
      ".A: messages that hold themselves or one another by several oneofs want encoded=FIELD"),
     ("proto3", "message A { oneof b { B x = 1; } oneof c { A y = 2; int32 z = 3; } } "
@@ -30,6 +27,10 @@ REFUSED = [
      ".x: extensions are not generated with unknown=drop"),
     ("proto3", "message A {" + "".join(f"int32 x{it} = {it};" for it in range(1, 130)) + "}", "",
      ".A: more than 128 fields"),
+    *(("proto3", TYPE, f",c=a,{option}", "c=NAME wants unknown=keep and mismatch=refuse, and neither "
+       "laws=skip nor split=")
+      for option in ("unknown=drop", "mismatch=keep", "laws=skip", "split=2")),
+    ("proto3", TYPE, ",c=new", "c=new: a word of C"),
     *(("proto3", "message A {" + "".join(f"int32 x{it} = {it};" for it in range(1, 82)) + "}",
        options, MANY_OF_FLAT) for options in (",views=true", ",unknown=drop", ",mismatch=keep")),
     ("proto3", "message A { A a = 100; "
@@ -48,13 +49,13 @@ REFUSED = [
      "import=google.protobuf"),
     ("proto3", TYPE, ",element=many", "parameters are crate=NAME, import=PACKAGE=CRATE, "
      "element=BYTES, unknown=keep or drop, mismatch=refuse or keep, enums=open, strings=bytes, "
-     "required=optional, views=true, services=skip, defaults=skip, laws=skip, split=COUNT, and "
-     "encoded=FIELD: element=many"),
+     "required=optional, views=true, services=skip, defaults=skip, laws=skip, split=COUNT, c=NAME, "
+     "and encoded=FIELD: element=many"),
     ("proto2", TYPE.replace("int32", "optional string"), ",strings=texts",
      "parameters are crate=NAME, import=PACKAGE=CRATE, "
      "element=BYTES, unknown=keep or drop, mismatch=refuse or keep, enums=open, strings=bytes, "
-     "required=optional, views=true, services=skip, defaults=skip, laws=skip, split=COUNT, and "
-     "encoded=FIELD: strings=texts"),
+     "required=optional, views=true, services=skip, defaults=skip, laws=skip, split=COUNT, c=NAME, "
+     "and encoded=FIELD: strings=texts"),
     ("proto3", TYPE, ",unknown=drop,mismatch=keep", "mismatch=keep wants unknown=keep"),
     ("proto3", TYPE, ",views=true,unknown=drop",
      "views=true wants unknown=keep and mismatch=refuse"),
@@ -93,6 +94,24 @@ DEEP = [
 ]
 # A schema, further parameters, and parts of the code that is written.
 CHOICES = [
+    ("proto2", "enum E { Z = 0; } message A { optional int32 x = 1; optional int32 has_x = 2; } "
+     "message B { optional E x = 1; } message C { oneof y { E z = 1; } } message D {} "
+     "message F { map<int32, int32> x = 1; } message G { repeated int32 x = 1; } "
+     "message H { optional G x = 1; } message I { optional group J = 1 { optional int32 x = 1; } } "
+     "message K { repeated string x = 1; } message L { optional K x = 1; } "
+     "message Me { optional string register = 1; required double x = 2; } "
+     "message MeSize { optional int32 size = 1; }", ",c=a",
+     [" * - `A`: `has_x` is called as what there is of another field;",
+      " * - `B`: `x` is of a closed enum;",
+      " * - `C`: `y` is a oneof with a field that a struct can't have;",
+      " * - `D`: it has no fields;", " * - `F`: `x` is a map;",
+      " * - `H`: `x` is a message that has no struct, or lists;", " * - `I`: `j` is a group;",
+      " * - `L`: `x` is a message that has no struct, or lists;",
+      " * - `MeSize`: it is called as a call of another;",
+      "    gtv_bytes register_;\n    bool has_x;\n    double x;\n} a_me;",
+      "size_t a_k_size(const a_k *it, const a_k_lists *lists);",
+      "uint32_t a_g_next_x(gtv_numbers *walk, int32_t *number);",
+      "pub extern \"C\" fn a_k_next_x<'a>("]),
     ("proto2", "enum E { Z = 0; } message A { oneof b { A x = 1; int32 y = 2; } optional E z = 3; "
      "map<int32, E> w = 4; } message C { optional A a = 1; }", "",
      ["            4 => <Map<Int32, Always<Enum<E>>, 56> as ClosedMap>::merge_closed(",
