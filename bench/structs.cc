@@ -1,5 +1,5 @@
-// Reads and writes a sample or a station so many times: structs WORK MESSAGE WORKER ROUNDS. Says how
-// many bytes the message has, and a sum of what was read or written.
+// Reads and writes a sample or a station so many times: structs WORK MESSAGE WORKER ROUNDS. Says
+// how many bytes the message has, and a sum of what was read or written.
 #include "structs.h"
 
 #include "station.pb.h"
