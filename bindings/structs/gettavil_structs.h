@@ -3,28 +3,28 @@
  * A struct is of fixed size and owns nothing: strings and `bytes` are pointers into the bytes that
  * were read, so these have to live and stay as they are for as long as the struct is used. Each
  * call is proved: for all bytes, and whatever the struct held before, it ends, reads only what it
- * is handed, writes only the struct, or the room and the length, that it is handed, asks for no
- * memory and keeps no state, so calls on structs of their own may run at once. What stands on
- * trust: that a header is that of its library, the C compiler, and that a caller hands in what
- * these conditions say:
+ * is handed, writes only the struct, or the room and the length, or the walk and the element or
+ * number, that it is handed, asks for no memory and keeps no state, so calls on structs of their
+ * own may run at once. What stands on trust: that a header is that of its library, the C compiler,
+ * and that a caller hands in what these conditions say:
  *
- * - a pointer to a struct, to limits or to a length is not null and is aligned, and the struct, the
- *   room and the length that a call sets overlap nothing else that it is handed;
+ * - a pointer to a struct, to limits, to a length, to a walk, to an element or to a number is not
+ *   null and is aligned, and what a call sets overlaps nothing else that it is handed;
  * - `bytes` points to `len` bytes that nothing writes during the call; where `len` is 0 it may be
- *   any pointer, NULL too;
+ *   any pointer, NULL too; so does each part of a walk;
  * - so does each string and `bytes` of a struct that is written, each list beside it to as many
- *   elements, aligned, and `room` to `room_len` bytes; and each `bool` of it is true or false.
+ *   elements, aligned, and `room` to `room_len` bytes; and each `bool` of these is true or false.
  *
  * A struct that is to be written is one that was read, or one of the program's own, of which all
  * is zero that it does not set. It is written as it stands: of a field whose flag is false, and of
  * those of a oneof that do not stand, nothing; of a oneof whose number is that of no field of it,
- * nothing; and a string without a look whether it is UTF-8, which a reader then refuses. The same
- * holds of a message of more than 2,147,483,647 bytes, which readers take no more.
+ * nothing; and a string without a look whether it is UTF-8, which a reader then refuses. So do
+ * others with a message of more than 2,147,483,647 bytes, and this one with such a message inside.
  *
  * How a field of a message stands in its struct:
  *
  * - a number as itself, an enum as its number, also one that the schema does not know;
- * - a string or `bytes` as `gtv_bytes`; a string is UTF-8, with no zero byte at its end;
+ * - a string or `bytes` as `gtv_bytes`; a string is UTF-8, and no zero byte is put behind it;
  * - a message inside as its struct, with `has_NAME` before it: where that is false, it is zero;
  * - an optional number, string or `bytes` with `has_NAME` before it, as well;
  * - a oneof as a struct with `which`, the number of the field that stands, or 0, and all of its

@@ -276,24 +276,25 @@ typedef struct readings_plan_lists {
  * string or `bytes` takes 24 and a message what its fields take in Rattle. Those of the caller,
  * `_read_within`, are `depth`, of which no more than 100 are given; `records`, unknown fields,
  * those in groups counted; and `payload_bytes`, bytes of their length-delimited payloads; lists
- * have no limit of their own there.
+ * have no limit of their own there. Numbers in lists are charged nothing.
  *
- * Each `_size` is how many bytes the shortest encoding of what the struct shows has, or SIZE_MAX
- * where they are more: that of a message with these fields and no others, in the order of their
- * numbers. Each `_write` writes it at the front of the room: GTV_OK; or GTV_NO_ROOM, exactly where
- * the room is smaller, and then it stays as it was. `*len` is how many bytes the encoding has,
- * either way. Nothing behind it is written.
+ * Each `_size` is how many bytes the encoding of what the struct shows has, or SIZE_MAX where they
+ * are more: the records of a message with these fields and no others, each in its shortest form, in
+ * the order of their numbers, the field of a oneof at the place of its lowest number; and a list of
+ * numbers packed or not as the schema has it. Each `_write` writes it at the front of the room:
+ * GTV_OK; or GTV_NO_ROOM, exactly where the room is smaller, and then it stays as it was. `*len` is
+ * how many bytes the encoding has, either way. Nothing behind it is written.
  *
  * Of a list the struct has how many elements there are, `_count`. Each `_next_` gives them one
  * after another: set `walk` to the bytes that were read as the message, and call until the answer
  * is no GTV_OK. GTV_OK, and `element` is the next of them, a string or `bytes` as they are, a
  * message as bytes of its own, and `walk` is what is behind it; GTV_END, where none is left; or the
  * status of an error, which bytes that were read as the message never have. Without GTV_OK `walk`
- * stays, and `element` is of no bytes. The bytes of a message are such a message within the limits
- * in which the whole was read. Of a list of numbers, packed or not, `walk` is a `gtv_numbers`: set
- * its `bytes` to those that were read, and all else of it to zero; `number` is the next, and stays
- * without GTV_OK. What is written of lists is handed in beside the struct, whose counts are not
- * looked at.
+ * stays, and `element` is of no bytes. The bytes of a message are such a message, within some
+ * limits of no more than 100 levels. Of a list of numbers, packed or not, `walk` is a
+ * `gtv_numbers`: set its `bytes` to those that were read, and all else of it to zero; `number` is
+ * the next, and stays without GTV_OK. What is written of lists is handed in beside the struct,
+ * whose counts are not looked at.
  *
  * Each `_size_keeping` and `_write_keeping` has unknown fields behind it: of the records that
  * `bytes` are, usually those that the struct was read from, those whose numbers the message lacks,

@@ -103,37 +103,59 @@ static void show_sensor(const readings_sensor *it) {
     PUT_INSIDE(show_point, next);
 }
 
-/* A field of a oneof, and one that is a message. */
-#define PUT_ONE(number, put, name)                                                                 \
+static bool is_no_point(const readings_point *it) {
+    return it->x == 0 && it->y == 0;
+}
+
+static bool is_no_reading(const readings_reading *it) {
+    return it->sensor.len == 0 && it->celsius == 0 && !it->has_offset && it->offset == 0
+        && it->state == 0;
+}
+
+/* A field of a oneof, a string or `bytes`, and a message; one that does not stand is zero. */
+#define PUT_ONE_AS(number, is_zero, name, shown)                                                   \
     do {                                                                                           \
         if (it->which == (number)) {                                                               \
-            put(name);                                                                             \
+            shown;                                                                                 \
         } else {                                                                                   \
-            printf(" %s=-", #name);                                                                \
+            printf((is_zero) ? " %s=-" : " %s=astray", #name);                                     \
         }                                                                                          \
     } while (0)
-#define PUT_ONE_INSIDE(number, put, name)                                                          \
-    do {                                                                                           \
-        if (it->which == (number)) {                                                               \
-            printf(" %s={", #name);                                                                \
-            put(&it->name);                                                                        \
-            printf(" }");                                                                          \
-        } else {                                                                                   \
-            printf(" %s=-", #name);                                                                \
-        }                                                                                          \
-    } while (0)
+#define PUT_ONE(number, put, name) PUT_ONE_AS(number, it->name == 0, name, put(name))
+#define PUT_ONE_BYTES(number, name) PUT_ONE_AS(number, it->name.len == 0, name, PUT_BYTES(name))
+#define PUT_ONE_INSIDE(number, put, is_zero, name)                                                 \
+    PUT_ONE_AS(number, is_zero(&it->name), name, {                                                 \
+        printf(" %s={", #name);                                                                    \
+        put(&it->name);                                                                            \
+        printf(" }");                                                                              \
+    })
 
 static void show_cause(const readings_visit_cause *it) {
     PUT_ONE(READINGS_VISIT_CAUSE_STATE, PUT_SIGNED, state);
     PUT_ONE(READINGS_VISIT_CAUSE_LIMIT, PUT_DOUBLE, limit);
-    PUT_ONE(READINGS_VISIT_CAUSE_COMPLAINT, PUT_BYTES, complaint);
-    PUT_ONE_INSIDE(READINGS_VISIT_CAUSE_READING, show_reading, reading);
-    PUT_ONE(READINGS_VISIT_CAUSE_ORDER, PUT_BYTES, order);
+    PUT_ONE_BYTES(READINGS_VISIT_CAUSE_COMPLAINT, complaint);
+    PUT_ONE_INSIDE(READINGS_VISIT_CAUSE_READING, show_reading, is_no_reading, reading);
+    PUT_ONE_BYTES(READINGS_VISIT_CAUSE_ORDER, order);
     PUT_ONE(READINGS_VISIT_CAUSE_SHIFT, PUT_SIGNED, shift);
+    switch (it->which) {
+    case 0:
+    case READINGS_VISIT_CAUSE_STATE:
+    case READINGS_VISIT_CAUSE_LIMIT:
+    case READINGS_VISIT_CAUSE_COMPLAINT:
+    case READINGS_VISIT_CAUSE_READING:
+    case READINGS_VISIT_CAUSE_ORDER:
+    case READINGS_VISIT_CAUSE_SHIFT:
+        break;
+    default:
+        printf(" astray");
+    }
 }
 
 static void show_outcome(const readings_visit_outcome *it) {
     PUT_ONE(READINGS_VISIT_OUTCOME_IS_DONE, PUT_UNSIGNED, is_done);
+    if (it->which != 0 && it->which != READINGS_VISIT_OUTCOME_IS_DONE) {
+        printf(" astray");
+    }
 }
 
 static void show_visit(const readings_visit *it) {
@@ -257,9 +279,14 @@ static void show_marks(const readings_marks *it, size_t count) {
     marks_lists = lists;
 }
 
+static bool is_no_visit(const readings_visit *it) {
+    return it->by.len == 0 && it->cause.which == 0 && !it->has_minutes && it->minutes == 0
+        && it->outcome.which == 0 && !it->has_at && is_no_point(&it->at);
+}
+
 static void show_last(const readings_plan_last *it) {
-    PUT_ONE_INSIDE(READINGS_PLAN_LAST_VISIT, show_visit, visit);
-    PUT_ONE_INSIDE(READINGS_PLAN_LAST_PLACE, show_point, place);
+    PUT_ONE_INSIDE(READINGS_PLAN_LAST_VISIT, show_visit, is_no_visit, visit);
+    PUT_ONE_INSIDE(READINGS_PLAN_LAST_PLACE, show_point, is_no_point, place);
 }
 
 static void show_count(const readings_plan_count *it) {

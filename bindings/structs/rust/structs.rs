@@ -143,11 +143,13 @@ impl fmt::Display for Refusal {
 
 impl std::error::Error for Refusal {}
 
-// The library sets the struct whatever it answers.
+// What a call of the library answered, and the struct that it was handed, which it sets whatever it
+// answers.
 pub(crate) fn told<T>(status: u32, it: MaybeUninit<T>) -> Result<T, Refusal> {
     if status != 0 {
         return Err(Refusal(status));
     }
+    // SAFETY: it was handed to a call of the library, which set it.
     Ok(unsafe { it.assume_init() })
 }
 
