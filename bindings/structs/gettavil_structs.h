@@ -33,7 +33,7 @@
  *   bytes;
  * - where nothing of a message is read in place, a member `no_bytes`, which is of no bytes;
  * - fields that the schema lacks are passed over; `MESSAGE_write_keeping` takes them from the bytes
- *   that were read.
+ *   that were read, but for those of messages inside, which are not kept.
  *
  * A struct is zero where each number in it is 0, each flag is false, and each string is of no
  * bytes; `data` of no bytes is some pointer, and is not to be followed. */

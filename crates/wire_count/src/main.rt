@@ -28,8 +28,10 @@ pub fn count_of(alloc: Global, bytes: &[u8]) -> Result<Option<i64>, DecodeError>
     ensures err { IfErr result (λ e. e ≢ OutOfMemory
         → NotDecodedAs report_sample-shape bytes.now) }
 {
-    let sample = ReportSample::decode_from_slice(alloc, bytes)?;
-    Ok(sample.count)
+    match ReportSample::decode_from_slice(alloc, bytes) {
+        Ok(sample) => Ok(sample.count),
+        Err(error) => Err(error),
+    }
 }
 
 fn main(rt: HostRuntime) -> io::Result<ExitCode> {
