@@ -5,7 +5,6 @@
 //! documents.
 #![tactic(auto)]
 
-pub mod callers;
 mod extension;
 pub mod laws;
 mod putting;

@@ -2,4 +2,3 @@ pub mod Prefixes
 pub mod OneNext
 pub mod InChunks
 pub mod Extents
-pub mod Chunks

@@ -9,11 +9,9 @@ mod extent;
 mod frame;
 pub mod laws;
 mod message;
-mod whole;
 
 pub use decoder::FrameDecoder;
 pub use encode::{put_delimited_frame, put_grpc_frame};
 pub use error::{FrameError, Unfed, UnfedCause};
 pub use frame::{Frame, FrameText, Framing};
 pub use message::MessageError;
-pub use whole::frames_of;

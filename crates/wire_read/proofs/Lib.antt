@@ -1,5 +1,4 @@
 pub mod Budgets
-pub mod FieldBytes
 pub mod Fronts
 pub mod LastRecords
 pub mod Moving

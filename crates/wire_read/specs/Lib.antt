@@ -5,6 +5,5 @@ pub mod Laws
 pub mod Numbers
 pub mod Opened
 pub mod PartFault
-pub mod PayloadBytes
 pub mod Reading
 pub mod Rebuilt

@@ -8,11 +8,9 @@ pub mod laws;
 pub mod numbers;
 mod payload;
 mod reader;
-mod sums;
 mod validation;
 
 pub use event::{Event, Fault, Part, Value};
 pub use last::{Place, find_last};
 pub use reader::{MAX_OPEN_GROUPS, Reader};
-pub use sums::payload_bytes;
 pub use validation::validate;
