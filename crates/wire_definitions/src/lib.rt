@@ -23,6 +23,7 @@ mod mentioned;
 mod nests_stay;
 mod oneofs;
 mod oneofs_stay;
+mod pairs;
 mod recursion;
 mod recursive_back;
 mod required;

@@ -1,6 +1,6 @@
 //! The fields of a message as a balanced tree of pairs, which its code, its definitions and its
 //! proofs have alike.
-use crate::choice_spot::{CLOSED_SPOT, LEAVING_SPOT, SPOT, SPOT_IN_FIRST, SPOT_IN_SECOND};
+use crate::pairs::{leaf, pair, reach};
 use crate::spans::{Span, has_groups, is_before_others, is_few, parts_of};
 use wire_schema::{Field, GenerateError, Template, Words};
 
@@ -19,9 +19,9 @@ pub struct Tree {
 /// Fields in a row, as one part of the tree. Its words are the first and the last number, `low` and
 /// `high`; its type `value` as contracts see it, and how a message `m` is seen so, its `view`, the
 /// same field by field, `seen`, and the same of its view, `view_seen`; the `table`, how its fields
-/// are paired, the `grouping`, and why a number is none of it, `unlike`; the `range` of values that are read back, why they are,
-/// `returned`, why decoding gives such, `stays`, and why a number `h` that is one of it is none of
-/// others, `apart`.
+/// are paired, the `grouping`, and why a number is none of it, `unlike`; the `range` of values that
+/// are read back, why they are, `returned`, why decoding gives such, `stays`, and why a number `h`
+/// that is one of it is none of others, `apart`.
 #[derive(Drop)]
 pub struct Node {
     pub first: usize,
@@ -82,65 +82,6 @@ impl Tree {
     }
 }
 
-const LEAF: [Template; 11] = [
-    ("grouping", "single"),
-    ("low", "$number$"),
-    ("high", "$number$"),
-    ("value", "$bracketed$"),
-    ("view", "$view$"),
-    ("seen", "$view$"),
-    ("table", "$table$"),
-    ("range", "$range$"),
-    ("returned", "$returned$"),
-    ("stays", "$stays$"),
-    ("apart", "$apart$"),
-];
-
-// The widest line of such a word that may stand in another: it has room for what is before it.
-const MOST_NESTED: usize = 72;
-
-// What is taken over from the right part of a pair.
-const RIGHT: [Template; 12] = [
-    ("right_grouping", "grouping"),
-    ("right_view_seen", "view_seen"),
-    ("right_value", "value"),
-    ("right_view", "view"),
-    ("right_seen", "seen"),
-    ("right_table", "table"),
-    ("right_unlike", "unlike"),
-    ("right_range", "range"),
-    ("right_returned", "returned"),
-    ("right_stays", "stays"),
-    ("right_apart", "apart"),
-    ("high", "high"),
-];
-
-const PAIR: [Template; 11] = [
-    ("grouping", "(paired $grouping$\n    $right_grouping$)"),
-    ("view_seen", "(\n$view_seen$,\n$right_view_seen$,\n)"),
-    ("value", "($value$\n    × $right_value$)"),
-    ("view", "(\n$view$,\n$right_view$,\n)"),
-    ("seen", "(\n$seen$,\n$right_seen$,\n)"),
-    ("table", "$both$ ($table$)\n    ($right_table$)"),
-    (
-        "unlike",
-        "neither _ _$unlike_gap$($unlike$)\n$margin$($right_unlike$)",
-    ),
-    (
-        "range",
-        "pair_range$range_gap$($range$)\n    ($right_range$)",
-    ),
-    (
-        "returned",
-        "$both_returned$ g\n    ($returned$)\n    ($right_returned$)\n    (λ n p h. $right_apart$)",
-    ),
-    ("stays", "$both_stays$\n    ($stays$)\n    ($right_stays$)"),
-    (
-        "apart",
-        "elim h [\n      | inl h ↦ $apart$\n      | inr h ↦ $right_in$\n    ]",
-    ),
-];
-
 // What a part by itself is called, in code and in definitions, and its value.
 const NAMES: [Template; 5] = [
     ("part_type", "$name$Fields$low$To$high$"),
@@ -163,20 +104,6 @@ const NAMED: [Template; 4] = [
 
 // Behind the function that takes the records of a group, a record is none of these.
 const NONE_OF_GROUP: &str = "c.requires.others_$low$_to_$high$ p";
-
-// How the fields are reached that stand in the first of a pair, and in the second: the `path`, the
-// same with first parts alone, and the proof that a step is taken there.
-const FIRST: [Template; 3] = [
-    ("path", ".0$path$"),
-    ("firsts", ".0$firsts$"),
-    ("taken", "($taken$, refl)"),
-];
-
-const SECOND: [Template; 3] = [
-    ("path", ".1$path$"),
-    ("firsts", ".0$firsts$"),
-    ("taken", "($taken$, refl)"),
-];
 
 /// The tree of these fields, with parts by themselves where they may be: of each part, and of the
 /// whole, what stands there is paired with its neighbour, and so are the pairs. Each field is told
@@ -278,137 +205,6 @@ fn joined(mut nodes: Vec<Node>, fields: &mut [Field]) -> Result<Option<Node>, Ge
         nodes = next;
     }
     Ok(nodes.pop())
-}
-
-fn leaf(base: &Words, place: usize, field: &Words) -> Node {
-    let mut words = Words::new(field.alloc());
-    words.copy(base, &["name", "module", "part_view"]);
-    if words.get("part_view").is_empty() {
-        words.set("part_view", "value");
-    }
-    words.copy(
-        field,
-        &[
-            "number",
-            "bracketed",
-            "view",
-            "view_seen",
-            "table",
-            "both",
-            "margin",
-        ],
-    );
-    words.copy(
-        field,
-        &[
-            "range",
-            "returned",
-            "both_returned",
-            "both_stays",
-            "stays",
-            "apart",
-            "maps",
-        ],
-    );
-    words.fill_all(&LEAF);
-    if !field.get("in_choice").is_empty() {
-        words.copy(field, &["module", "set_part"]);
-        words.fill_all(&SPOT);
-        if field.get("sort") == "Leaving" {
-            words.fill_all(&CLOSED_SPOT);
-        } else if words.get("both") == "both_leaving" {
-            words.fill_all(&LEAVING_SPOT);
-        }
-        words.copy(base, &["module"]);
-    }
-    let mut is_first = true;
-    for number in field.get("numbers").split(' ') {
-        words.set("of", number);
-        words.fill(
-            "unlike",
-            if is_first {
-                "unlike n $of$ (search rules)"
-            } else {
-                "neither _ _ ($unlike$)\n$margin$(unlike n $of$ (search rules))"
-            },
-        );
-        is_first = false;
-    }
-    Node {
-        first: place,
-        behind: place.saturating_add(1),
-        words,
-    }
-}
-
-// Tells the fields of two parts that they are a pair.
-fn reach(left: &Node, right: &Node, fields: &mut [Field]) {
-    for (place, field) in fields.iter_mut().enumerate() {
-        let is_first = left.first <= place && place < left.behind;
-        if !is_first && (place < right.first || right.behind <= place) {
-            continue;
-        }
-        if !field.words.get("leaves").is_empty() {
-            field.words.set("left_table", left.words.get("table"));
-            field.words.set("right_table", right.words.get("table"));
-            field.words.indent_rest("left_table");
-            field.words.indent_rest("right_table");
-            field
-                .words
-                .fill("side", if is_first { "left" } else { "right" });
-            field.words.fill_all(&LEAVES);
-        }
-        field
-            .words
-            .fill_all(if is_first { &FIRST } else { &SECOND });
-    }
-}
-
-// Why a record of another number leaves a list among both.
-const LEAVES: [Template; 1] = [(
-    "leaves",
-    "$side$_leaves ($left_table$)\n      ($right_table$) $number$ (λ v. v$path$)\n      ($leaves$)",
-)];
-
-fn pair(left: Node, right: Node) -> Node {
-    let mut words = left.words;
-    words.copy(&right.words, &[]);
-    for (name, of) in &RIGHT {
-        words.set(name, right.words.get(of));
-    }
-    for name in ["view", "right_view", "seen", "right_seen"] {
-        words.indent(name);
-    }
-    for name in ["view_seen", "right_view_seen"] {
-        words.indent(name);
-    }
-    if !words.get("spot").is_empty() {
-        words.fill_all(&SPOT_IN_FIRST);
-    } else if !right.words.get("spot").is_empty() {
-        words.copy(&right.words, &["spot", "spot_of", "spot_step", "spot_path"]);
-        words.copy(&right.words, &["spot_stands", "spot_without"]);
-        words.fill_all(&SPOT_IN_SECOND);
-    }
-    words.indent_rest("apart");
-    words.set("right_in", right.words.get("apart"));
-    words.indent_rest("right_in");
-    for (name, gap, margin) in [
-        ("range", "range_gap", "\n    "),
-        ("unlike", "unlike_gap", "\n$margin$"),
-    ] {
-        let (line, _) = words
-            .get(name)
-            .split_once('\n')
-            .unwrap_or((words.get(name), ""));
-        let is_wide = line.len() > MOST_NESTED;
-        words.fill(gap, if is_wide { margin } else { " " });
-    }
-    words.fill_all(&PAIR);
-    Node {
-        first: left.first,
-        behind: right.behind,
-        words,
-    }
 }
 
 // Makes a node a part by itself, which is named where it stands.

@@ -9,6 +9,7 @@ pub mod PackedFronts
 pub mod PackedWriting
 pub mod PassedRecords
 pub mod Reading
+pub mod Runs
 pub mod Shown
 pub mod UnknownKept
 pub mod UnknownReads
