@@ -30,7 +30,8 @@ REFUSED = [
     *(("proto3", TYPE, f",c=a,{option}", "c=NAME wants unknown=keep and mismatch=refuse, and neither "
        "laws=skip nor split=")
       for option in ("unknown=drop", "mismatch=keep", "laws=skip", "split=2")),
-    ("proto3", TYPE, ",c=new", "c=new: a word of C"),
+    ("proto3", TYPE, ",c=new", "c=new: a word of C, or a name of the headers"),
+    ("proto3", TYPE, ",c=gtv_shop", "c=gtv_shop: a word of C, or a name of the headers"),
     *(("proto3", "message A {" + "".join(f"int32 x{it} = {it};" for it in range(1, 82)) + "}",
        options, MANY_OF_FLAT) for options in (",views=true", ",unknown=drop", ",mismatch=keep")),
     ("proto3", "message A { A a = 100; "

@@ -299,7 +299,8 @@ typedef struct readings_plan_lists {
  * Each `_size_keeping` and `_write_keeping` has unknown fields behind it: of the records that
  * `bytes` are, usually those that the struct was read from, those whose numbers the message lacks,
  * in order, each in its shortest form and groups whole. Where they are no records, or these nest
- * more than 100 groups, they answer the status of the error, `*len` is 0, and the room stays. */
+ * more than 100 groups, they answer the status of the error, `*len` is 0, and the room stays. The
+ * unknown fields of messages inside are not kept. */
 
 uint32_t readings_marks_read(const uint8_t *bytes, size_t len, readings_marks *it);
 uint32_t readings_marks_read_within(const uint8_t *bytes, size_t len,

@@ -40,6 +40,7 @@ macro_rules! written {
         let wanted = $it.size_keeping($($lists,)? $bytes).unwrap_or(0);
         let mut kept = vec![0xAA; wanted];
         is_astray |= $it.write_keeping($($lists,)? $bytes, &mut kept) != Ok(wanted);
+        is_astray |= $it.to_vec_keeping($($lists,)? $bytes).as_ref() != Ok(&kept);
         let astray = if is_astray { " astray" } else { "" };
         format!("{astray} written={} kept={}", hex(&written), hex(&kept))
     }};

@@ -5,6 +5,7 @@ use crate::c_oneof::put_oneof;
 use crate::rust_structs::RustCrate;
 use crate::struct_fields::has_no_bytes;
 use crate::struct_layout::Layout;
+use crate::struct_left_out::put_left_out;
 use std::alloc::Global;
 use wire_definitions::set_heading;
 use wire_schema::{EnumType, Field, GenerateError, MessageType, Schema, Template, Words};
@@ -43,8 +44,6 @@ $views$
 
 const LEFT_OUT: &str = " *\n * No struct is there for\n$left$";
 
-const LEFT: &str = " * - `$full$`: $why$;\n";
-
 // What the calls of each message do.
 const TOLD: &str = "\
 /* Each `_read` sets the struct to what all of the bytes are: GTV_OK, exactly where they are such a
@@ -80,7 +79,8 @@ const TOLD: &str = "\
  * Each `_size_keeping` and `_write_keeping` has unknown fields behind it: of the records that
  * `bytes` are, usually those that the struct was read from, those whose numbers the message lacks,
  * in order, each in its shortest form and groups whole. Where they are no records, or these nest
- * more than 100 groups, they answer the status of the error, `*len` is 0, and the room stays. */
+ * more than 100 groups, they answer the status of the error, `*len` is 0, and the room stays. The
+ * unknown fields of messages inside are not kept. */
 ";
 
 const CALLS: &str = "
@@ -179,22 +179,9 @@ impl CHeader {
     pub(crate) fn leave_out(
         &mut self,
         message: &MessageType,
-        (field, what): (&str, &str),
+        why: (&str, &str),
     ) -> Result<(), GenerateError> {
-        let words = &mut self.words;
-        words.set("full", message.words.get("full").trim_start_matches('.'));
-        words.set("field", field);
-        words.set("what", what);
-        words.fill(
-            "why",
-            if field.is_empty() {
-                "$what$"
-            } else {
-                "`$field$` is $what$"
-            },
-        );
-        words.append("left", LEFT);
-        words.ended()
+        put_left_out(&mut self.words, message, why)
     }
 
     /// The struct of a message, and its calls; its module in the Rust crate.
@@ -265,7 +252,14 @@ impl CHeader {
         schema: &Schema,
         of_enum: &EnumType,
     ) -> Result<(), GenerateError> {
-        put_enum(&mut self.words, &mut self.constants, schema, of_enum)
+        put_enum(&mut self.words, &mut self.constants, schema, of_enum)?;
+        let comment = schema.comment(of_enum.words.get("place"));
+        self.rust.put_enum(&self.words, comment)
+    }
+
+    /// A line for each message that has no struct, and why.
+    pub(crate) fn left_out(&self) -> &str {
+        self.words.get("told_left")
     }
 
     /// The header.

@@ -35,8 +35,10 @@ mod rest_answers;
 mod roots;
 mod row_answers;
 mod rust_calls;
+mod rust_enum;
 mod rust_oneof;
 mod rust_structs;
+mod rust_written;
 mod services;
 mod split;
 mod struct_answers;
@@ -55,6 +57,7 @@ mod struct_oneof_answers;
 mod struct_oneof_code;
 mod struct_oneof_definitions;
 mod struct_parts;
+mod struct_ranges;
 mod struct_trees;
 mod structs;
 mod view;
@@ -85,10 +88,11 @@ fn main(rt: HostRuntime) -> ExitCode {
         Ok(answer) => answer,
         Err(error) => return stopped(&rt, &error),
     };
-    match rt.stdout().write_all(&answer) {
-        Ok(()) => ExitCode::SUCCESS,
-        Err(_) => told(&rt, 4, "writing failed"),
+    if rt.stdout().write_all(&answer.bytes).is_err() {
+        return told(&rt, 4, "writing failed");
     }
+    let _ = eprint!(&rt; "{}", answer.notes);
+    ExitCode::SUCCESS
 }
 
 fn stopped(rt: &impl Eprint, error: &GenerateError) -> ExitCode {

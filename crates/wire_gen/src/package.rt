@@ -33,9 +33,17 @@ const OPTIONAL_OF_PROTO3: u64 = 1;
 
 const EDITIONS: u64 = 2;
 
-/// The answer of the plug-in to a request of protoc, as bytes both. What a schema has and a crate
-/// can't have is an error that is answered.
-pub(crate) fn answer(alloc: Global, request: &[u8]) -> Result<Vec<u8>, GenerateError> {
+/// The answer to a request of protoc, as bytes, and what is told beside it, in lines: which messages
+/// have no struct for C.
+#[derive(Drop)]
+pub(crate) struct PluginAnswer {
+    pub bytes: Vec<u8>,
+    pub notes: String,
+}
+
+/// The answer of the plug-in to a request of protoc, which is bytes too. What a schema has and a
+/// crate can't have is an error that is answered.
+pub(crate) fn answer(alloc: Global, request: &[u8]) -> Result<PluginAnswer, GenerateError> {
     let options = DecodeOptions::new();
     let request = match options.decode_from_slice(alloc, request) {
         Ok(request) => request,
@@ -45,21 +53,22 @@ pub(crate) fn answer(alloc: Global, request: &[u8]) -> Result<Vec<u8>, GenerateE
     response.supported_features = OPTIONAL_OF_PROTO3 | EDITIONS;
     response.minimum_edition = FIRST_EDITION;
     response.maximum_edition = LAST_EDITION;
-    match files_of(alloc, &request) {
-        Ok(files) => response.file = files,
+    let mut notes = String::new(alloc);
+    match package_of(alloc, &request) {
+        Ok(package) => {
+            response.file = package.files;
+            notes = package.notes;
+        }
         Err(GenerateError::Refused(why)) => response.error = why,
         Err(error) => return Err(error),
     }
     match response.try_encode_to_vec(alloc) {
-        Ok(bytes) => Ok(bytes),
+        Ok(bytes) => Ok(PluginAnswer { bytes, notes }),
         Err(error) => Err(GenerateError::Answer(error)),
     }
 }
 
-fn files_of(
-    alloc: Global,
-    request: &CodeGeneratorRequest,
-) -> Result<Vec<CodeGeneratorResponseFile>, GenerateError> {
+fn package_of(alloc: Global, request: &CodeGeneratorRequest) -> Result<Package, GenerateError> {
     let mut base = Words::new(alloc);
     set_crate(&mut base, request)?;
     let mut schema = Schema::of(&base, request)?;
@@ -68,13 +77,14 @@ fn files_of(
         roots: Words::like(&base),
         base,
         files: Vec::new(alloc),
+        notes: String::new(alloc),
     };
     if most > 0 {
         package.add_split(&mut schema, most)?;
     } else {
         package.add_all(&schema)?;
     }
-    Ok(package.files)
+    Ok(package)
 }
 
 // Refuses more fields than it was seen that they are proved.
@@ -95,6 +105,7 @@ fn stop_on_many(page: &mut Words, count: usize, holds_itself: bool) -> Result<()
 pub(crate) struct Package {
     pub base: Words,
     pub roots: Words,
+    pub notes: String,
     files: Vec<CodeGeneratorResponseFile>,
 }
 

@@ -20,6 +20,7 @@ With the schemas in a folder `schema`, in the repository's root, they are writte
         --rattle_out=$target$ \\
 $options$        -Ischema$command$
 
+Where a type goes or is renamed, take `src`, `specs` and `proofs` away before they are written anew.
 `rt check` proves of each type that encoding writes exactly the shortest encoding of the records
 that `specs/` tells of a value, and that decoding takes exactly the bytes that spell records of its
 table, within the limits, and gives their value.$viewed$

@@ -1,7 +1,9 @@
 //! The Rust crate over the static library of a schema's structs.
 use crate::c_header::comment_of;
 use crate::rust_calls::{FFI, FOREIGN, FOREIGN_LIST, FOREIGN_NUMBERS, FOREIGN_WITH_LISTS};
+use crate::rust_enum::put_enum;
 use crate::rust_oneof::{put_once, put_oneof};
+use crate::rust_written::{CALLS, CALLS_WITH_LISTS};
 use crate::struct_fields::{has_no_bytes, has_no_bytes_in};
 use wire_definitions::put_comment;
 use wire_schema::{Field, GenerateError, Schema, Template, Words};
@@ -15,7 +17,7 @@ mod gtv_ffi;
 mod gtv_structs;
 $modules$
 pub use gtv_structs::{Bytes, Limits, NoRoom, NotWritten, Refusal, Text};
-$exports$";
+$exports$$enums$";
 
 const MODULE: &str = "\
 //! The message `$full$`.
@@ -61,70 +63,6 @@ $shown$            .finish()
 }
 ";
 
-// How a message is written, and one with lists.
-const CALLS: &str = "    /// How many bytes the shortest encoding has.
-    pub fn size(&self) -> usize {
-        ffi::size(self)
-    }
-
-    /// Writes the shortest encoding at the front of the room, and says how many bytes it has.
-    pub fn write(&self, room: &mut [u8]) -> Result<usize, NoRoom> {
-        ffi::write(self, room)
-    }
-
-    /// The shortest encoding.
-    pub fn to_vec(&self) -> Vec<u8> {
-        let mut bytes = vec![0; self.size()];
-        let _ = self.write(&mut bytes);
-        bytes
-    }
-
-    /// How many bytes the shortest encoding has with the unknown fields of these bytes behind it:
-    /// the records of other numbers, usually of the bytes that the message was read from.
-    pub fn size_keeping(&self, bytes: &[u8]) -> Result<usize, Refusal> {
-        ffi::size_keeping(self, bytes)
-    }
-
-    /// Writes that encoding at the front of the room, and says how many bytes it has.
-    pub fn write_keeping(&self, bytes: &[u8], room: &mut [u8]) -> Result<usize, NotWritten> {
-        ffi::write_keeping(self, bytes, room)
-    }
-";
-
-const CALLS_WITH_LISTS: &str = "    /// How many bytes the shortest encoding has, with these lists.
-    pub fn size(&self, lists: &$name$Lists<'_>) -> usize {
-        ffi::size_with(self, lists)
-    }
-
-    /// Writes the shortest encoding at the front of the room, and says how many bytes it has.
-    pub fn write(&self, lists: &$name$Lists<'_>, room: &mut [u8]) -> Result<usize, NoRoom> {
-        ffi::write_with(self, lists, room)
-    }
-
-    /// The shortest encoding.
-    pub fn to_vec(&self, lists: &$name$Lists<'_>) -> Vec<u8> {
-        let mut bytes = vec![0; self.size(lists)];
-        let _ = self.write(lists, &mut bytes);
-        bytes
-    }
-
-    /// How many bytes the shortest encoding has with the unknown fields of these bytes behind it:
-    /// the records of other numbers, usually of the bytes that the message was read from.
-    pub fn size_keeping(&self, lists: &$name$Lists<'_>, bytes: &[u8]) -> Result<usize, Refusal> {
-        ffi::size_keeping_with(self, lists, bytes)
-    }
-
-    /// Writes that encoding at the front of the room, and says how many bytes it has.
-    pub fn write_keeping(
-        &self,
-        lists: &$name$Lists<'_>,
-        bytes: &[u8],
-        room: &mut [u8],
-    ) -> Result<usize, NotWritten> {
-        ffi::write_keeping_with(self, lists, bytes, room)
-    }
-";
-
 // The lists of a message that is written.
 const LISTS: &str = "
 /// The lists of a [`$name$`] that is written.
@@ -160,6 +98,17 @@ const OF_LIST: [Template; 5] = [
 ",
     ),
 ];
+
+// Of messages in a list.
+const WITHIN: &str = "
+    /// The same, each read within these limits.
+    pub fn $field$_within(
+        bytes: &'a [u8],
+        limits: Limits,
+    ) -> impl Iterator<Item = $item$> + 'a {
+        ffi::$field$_of_$module$(bytes).map(move |it| $of_name$::read_within(it, &limits))
+    }
+";
 
 const OF_IMPLICIT: [Template; 2] = [
     ("held", "    $field$: $rust_held$,\n"),
@@ -284,6 +233,11 @@ impl RustCrate {
         words.finish("text")
     }
 
+    /// The constants of an enum, whose words those of the header are.
+    pub(crate) fn put_enum(&mut self, header: &Words, comment: &str) -> Result<(), GenerateError> {
+        put_enum(&mut self.words, header, comment)
+    }
+
     /// The root, and the module of the calls.
     pub(crate) fn finish(&mut self) -> Result<(String, String), GenerateError> {
         self.words.fill_all(&[("root", ROOT), ("ffi", FFI)]);
@@ -387,6 +341,9 @@ fn put_list(words: &mut Words, field: &Words) {
     let is_first = words.get("lists_held").is_empty();
     words.set("comma", if is_first { "" } else { ", " });
     words.append_all(&OF_LIST);
+    if is_of_messages {
+        words.append("accessors", WITHIN);
+    }
     words.append(
         "shown",
         "            .field(\"$field$_count\", &self.$field$_count())\n",

@@ -72,17 +72,17 @@ $read_head$
     read_status(message, bytes, context)
 }
 
-/// How many bytes the shortest encoding of what a struct shows takes, or `usize::MAX` where it is
-/// more.
+/// How many bytes the encoding of what a struct shows takes, each record in its shortest form, or
+/// `usize::MAX` where it is more.
 $size_head$
     ensures { result ≡ in_64_bits (length ($module$-encoding message.now$of_lists$ Fields.none)) }
 {
     written_size(($name$InCFields { message$lists_field$ }, ()))
 }
 
-/// Writes the shortest encoding of what a struct shows at the front of the room, and tells how many
-/// bytes it takes, or `usize::MAX` where it is more: 0, or 32 exactly where the room has fewer, and
-/// then the room stays.
+/// Writes the encoding of what a struct shows at the front of the room, and tells how many bytes it
+/// takes, or `usize::MAX` where it is more: 0, or 32 exactly where the room has fewer, and then the
+/// room stays.
 $write_head$
     ensures len { len.new ≡ in_64_bits (length ($module$-encoding message.now$of_lists$ Fields.none)) }
     ensures ok { result ≡ 0 → FillsSlice ($module$-encoding message.now$of_lists$ Fields.none) 0
@@ -94,9 +94,9 @@ $write_head$
     write_status(($name$InCFields { message$lists_field$ }, ()), room, len)
 }
 
-/// How many bytes the shortest encoding takes of what a struct shows and of the unknown fields of
-/// these bytes behind it, or `usize::MAX` where it is more: 0. Else the number of the error, exactly
-/// where the bytes are no records, or these nest more than 100 groups, and the length is 0.
+/// How many bytes the encoding takes of what a struct shows and of the unknown fields of these bytes
+/// behind it, or `usize::MAX` where it is more: 0. Else the number of the error, exactly where the
+/// bytes are no records, or these nest more than 100 groups, and the length is 0.
 $measure_head$
     ensures ok { result ≡ 0 → OfUnknown $module$-known.owns bytes.now (λ fs.
         len.new ≡ in_64_bits (length ($module$-encoding message.now$of_lists$ fs))) }

@@ -4,6 +4,7 @@ use crate::struct_calls::{CALLS, HEADS};
 use crate::struct_fields::has_no_bytes;
 use crate::struct_heads::put_heads;
 use crate::struct_parts::put_fields;
+use crate::struct_ranges::set_has;
 use crate::struct_trees::StructTrees;
 use wire_definitions::{code_imports, ghost_imports, put_comment, set_heading};
 use wire_schema::{Field, GenerateError, MessageType, Schema, Template, Words};
@@ -130,8 +131,7 @@ impl<'a> FieldNumbers for $name$InC<'a> {
     fn has(number: u32) -> bool
         ensures { (p : Payload) → $module$-known.owns number p ≡ result }
     {
-        matches!(number, $ranges$)
-    }
+$has$    }
 }
 ";
 
@@ -211,7 +211,7 @@ pub(crate) fn struct_code_of(
     } else {
         page.append("uses", "crate::$module$_in_c_lists $name$InCLists\n");
     }
-    set_ranges(&mut page, fields)?;
+    set_has(&mut page, fields)?;
     code_imports(&mut page);
     page.set("full", message.words.get("full").trim_start_matches('.'));
     set_heading(&mut page, "//!", "The message `$full$` as a struct for C.");
@@ -307,48 +307,6 @@ fn set_zero(page: &mut Words) {
             "$name$InC { $zero_line$ }"
         } else {
             "$name$InC {\n$zeros$        }"
-        },
-    );
-}
-
-// The numbers of the fields as a pattern: those in a row as a range.
-fn set_ranges(page: &mut Words, fields: &[Field]) -> Result<(), GenerateError> {
-    let mut numbers = Vec::new(page.alloc());
-    for field in fields {
-        for number in field.words.get("numbers").split(' ') {
-            numbers.push(number.parse::<i32>().unwrap_or(0))?;
-        }
-    }
-    numbers.sort()?;
-    page.set("ranges", "");
-    let mut run: Option<(i32, i32)> = None;
-    for number in numbers {
-        run = match run {
-            Some((first, last)) if last.saturating_add(1) == number => Some((first, number)),
-            Some((first, last)) => {
-                put_range(page, first, last);
-                Some((number, number))
-            }
-            None => Some((number, number)),
-        };
-    }
-    if let Some((first, last)) = run {
-        put_range(page, first, last);
-    }
-    Ok(())
-}
-
-fn put_range(page: &mut Words, first: i32, last: i32) {
-    page.number("first", first);
-    page.number("last", last);
-    let is_first = page.get("ranges").is_empty();
-    page.append("ranges", if is_first { "" } else { " | " });
-    page.append(
-        "ranges",
-        if first == last {
-            "$first$"
-        } else {
-            "$first$..=$last$"
         },
     );
 }

@@ -32,7 +32,7 @@ $shown$
 pub record $name$-IsZero (m : $name$InC) : Type 0 where
 $clears$
 $written$
--- its shortest encoding
+-- its encoding, each record in its shortest form
 abbrev pub $module$-encoding : $name$InC →$lists_type$ Fields → List ℕ
 $module$-encoding m$lists_given$ fs = text ($module$-shape.records ($module$-written m$lists_given$ fs))
 

@@ -2,7 +2,34 @@
 use crate::struct_fields::is_c_word;
 use crate::struct_numbers::is_of_numbers;
 use wire_definitions::has_groups;
-use wire_schema::{Field, MessageType, Oneof, Schema, Words};
+use wire_schema::{Field, GenerateError, MessageType, Oneof, Schema, Template, Words};
+
+const LEFT: [Template; 2] = [
+    ("left", " * - `$full$`: $why$;\n"),
+    ("told_left", "wire_gen: no struct for `$full$`: $why$\n"),
+];
+
+/// Says why a message has no struct, in the header and beside the answer: the first field that it
+/// can't have, and what that is.
+pub(crate) fn put_left_out(
+    words: &mut Words,
+    message: &MessageType,
+    (field, what): (&str, &str),
+) -> Result<(), GenerateError> {
+    words.set("full", message.words.get("full").trim_start_matches('.'));
+    words.set("field", field);
+    words.set("what", what);
+    words.fill(
+        "why",
+        if field.is_empty() {
+            "$what$"
+        } else {
+            "`$field$` is $what$"
+        },
+    );
+    words.append_all(&LEFT);
+    words.ended()
+}
 
 /// Why a message of these fields can have no struct: the first that it can't have, and what that
 /// is. Those that may be inside are between spaces.
@@ -88,7 +115,7 @@ fn is_there(field: &Words, inside: &str) -> bool {
 }
 
 // Whether a field has the name of what there is of another: its flag, its call that sets it, its
-// count or its length, or its name in C.
+// count, its length or its call within limits, or its name in C.
 fn is_called_as_a_member(field: &Field, fields: &[Field]) -> bool {
     let name = field.words.get("field");
     name == "no_bytes"
@@ -101,8 +128,9 @@ fn is_called_as_a_member(field: &Field, fields: &[Field]) -> bool {
             let has_flag = kind.starts_with("Optional<") || kind.starts_with("Embedded<");
             let is_counted = name.strip_suffix("_count") == other;
             let is_measured = name.strip_suffix("_len") == other;
+            let is_limited = name.strip_suffix("_within") == other;
             let is_escaped = name.strip_suffix("_") == other;
-            is_list && (is_counted || is_measured)
+            is_list && (is_counted || is_measured || is_limited)
                 || has_flag && name.strip_prefix("has_") == other
                 || name.strip_prefix("set_") == other
                 || is_escaped && is_c_word(it.words.get("field"))
@@ -116,6 +144,17 @@ pub(crate) fn is_called_as_a_call(message: &MessageType, schema: &Schema) -> boo
         let rest = name.strip_prefix(it.words.get("module")).unwrap_or("");
         rest.starts_with("_next_") || ENDS.split(' ').any(|end| end == rest)
     })
+}
+
+/// Whether another type has the name of the struct of a message, or of what there is of it.
+pub(crate) fn is_struct_there(message: &MessageType, schema: &Schema) -> bool {
+    let name = message.words.get("name");
+    let is_its = |it: &Words| {
+        let rest = it.get("name").strip_prefix(name).unwrap_or("");
+        rest.starts_with("InC")
+    };
+    schema.messages.iter().any(|it| is_its(&it.words))
+        || schema.enums.iter().any(|it| is_its(&it.words))
 }
 
 /// Types of the Rust crate, and what it brings in.

@@ -222,8 +222,8 @@ $ghost_imports$
 }
 
 /// The next of `$field$` in this walk: 0, and it goes on behind it; 1 where none is left; or the
-/// number of the error, nowhere in a walk over bytes that were read as this message. Where it
-/// answers no 0 the walk and the number stay.
+/// number of the error, nowhere in a walk over bytes that were read as this message within no more
+/// than 100 levels. Where it answers no 0 the walk and the number stay.
 $next_head$
 $next_clauses$
 {
@@ -233,7 +233,8 @@ $next_clauses$
 
 const CLAUSES: &str = "    \
     ensures given { result ≡ 0 → GivesNumber $module$-shape.takes $field$-of-$module$ $form$
-        $map$ walk.old walk.new $number_seen$ }
+        $map$ walk.old walk.new
+        $number_seen$ }
     ensures ended { result ≡ 1 → EndsNumbers $module$-shape.takes $field$-of-$module$ $form$
         $map$ walk.old }
     ensures other { result ≢ 0 → result ≢ 1 → LeadsNowhere $module$-shape.takes
@@ -257,8 +258,8 @@ const NEXT_HEAD: [Head; 1] = [[
 /// The same call in the library.
 pub(crate) const NEXT_NUMBER: &str = "
 /// The next of `$field$` in this walk: 0, and it goes on behind it; 1 where none is left; or the
-/// number of the error, nowhere in a walk over bytes that were read as this message. Where it
-/// answers no 0 the walk and the number stay.
+/// number of the error, nowhere in a walk over bytes that were read as this message within no more
+/// than 100 levels. Where it answers no 0 the walk and the number stay.
 #[unsafe(no_mangle)]
 $next_head$
 $next_clauses$

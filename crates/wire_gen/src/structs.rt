@@ -12,11 +12,12 @@ use crate::struct_definitions::{
     keeps_answers_of, struct_definitions_of,
 };
 use crate::struct_fields::{is_c_word, set_in_struct};
-use crate::struct_left_out::{TYPES, is_called_as_a_call, reason};
+use crate::struct_left_out::{TYPES, is_called_as_a_call, is_struct_there, reason};
 use crate::struct_lists::{lists_code_of, lists_definitions_of};
 use crate::struct_oneof_answers::{oneof_in_c_answers_of, oneof_shows_of};
 use crate::struct_oneof_code::oneof_in_c_code_of;
 use crate::struct_oneof_definitions::oneof_in_c_definitions_of;
+use crate::struct_ranges::has_answers_of;
 use crate::struct_trees::{StructTrees, trees_of};
 use wire_definitions::{definition_imports, set_heading};
 use wire_schema::{Field, GenerateError, MessageType, Schema, Template, Words, fields_of};
@@ -48,8 +49,10 @@ impl Package {
         if self.base.get("c").is_empty() {
             return Ok(());
         }
-        if is_c_word(self.base.get("c")) {
-            return Err(self.base.refused("c=$c$: a word of C"));
+        let c = self.base.get("c");
+        if is_c_word(c) || c.starts_with("gtv") || c.starts_with("gettavil") {
+            let why = "c=$c$: a word of C, or a name of the headers";
+            return Err(self.base.refused(why));
         }
         let mut header = CHeader::new(&self.base);
         for of_enum in &schema.enums {
@@ -58,6 +61,7 @@ impl Package {
             }
         }
         self.add_all_structs(schema, &mut header)?;
+        self.notes.push_str(header.left_out())?;
         self.roots.set("base_needed", "wire_base ");
         self.roots
             .append_all(&[("needs", " wire_structs"), ("viewed", STRUCTS)]);
@@ -79,6 +83,8 @@ impl Package {
                 header.leave_out(message, ("", "it is called as a call of another"))?;
             } else if TYPES.split(' ').any(|it| it == message.words.get("name")) {
                 header.leave_out(message, ("", "it is called as a type of the library"))?;
+            } else if is_struct_there(message, schema) {
+                header.leave_out(message, ("", "another is called as its struct"))?;
             } else {
                 left.push(message)?;
             }
@@ -237,6 +243,10 @@ impl Package {
         let answers = struct_answers_of(page, fields, trees)?;
         let path = "proofs/$module$_in_c/$name$InCMessageStruct/merge_field/Answers.antt";
         self.add(page, path, answers)?;
+        if let Some(answers) = has_answers_of(page, fields, &trees.shown.words)? {
+            let path = "proofs/$module$_in_c/$name$InCFieldNumbers/has/Answers.antt";
+            self.add(page, path, answers)?;
+        }
         let answers = keeps_answers_of(page, fields, &trees.shown.words)?;
         let path = "proofs/laws/$module$_in_c_keeps_unknown/Answers.antt";
         self.add(page, path, answers)?;

@@ -216,7 +216,7 @@ log-written m l fs = (
   fs,
 )
 
--- its shortest encoding
+-- its encoding, each record in its shortest form
 abbrev pub log-encoding : LogInC → LogInCLists → Fields → List ℕ
 log-encoding m l fs = text (log-shape.records (log-written m l fs))
 

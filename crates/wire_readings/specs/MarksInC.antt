@@ -62,7 +62,7 @@ marks-written m l fs = (
   fs,
 )
 
--- its shortest encoding
+-- its encoding, each record in its shortest form
 abbrev pub marks-encoding : MarksInC → MarksInCLists → Fields → List ℕ
 marks-encoding m l fs = text (marks-shape.records (marks-written m l fs))
 

@@ -110,7 +110,7 @@ plan-written m l fs = (
   fs,
 )
 
--- its shortest encoding
+-- its encoding, each record in its shortest form
 abbrev pub plan-encoding : PlanInC → PlanInCLists → Fields → List ℕ
 plan-encoding m l fs = text (plan-shape.records (plan-written m l fs))
 

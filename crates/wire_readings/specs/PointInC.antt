@@ -42,7 +42,7 @@ pub record Point-IsZero (m : PointInC) : Type 0 where
 abbrev pub point-written : PointInC → Fields → Point-Value
 point-written m fs = ((point-shown m).0, fs)
 
--- its shortest encoding
+-- its encoding, each record in its shortest form
 abbrev pub point-encoding : PointInC → Fields → List ℕ
 point-encoding m fs = text (point-shape.records (point-written m fs))
 

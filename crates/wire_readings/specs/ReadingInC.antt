@@ -54,7 +54,7 @@ pub record Reading-IsZero (m : ReadingInC) : Type 0 where
 abbrev pub reading-written : ReadingInC → Fields → Reading-Value
 reading-written m fs = ((reading-shown m).0, fs)
 
--- its shortest encoding
+-- its encoding, each record in its shortest form
 abbrev pub reading-encoding : ReadingInC → Fields → List ℕ
 reading-encoding m fs = text (reading-shape.records (reading-written m fs))
 

@@ -203,7 +203,7 @@ sensor-written m fs = (
   fs,
 )
 
--- its shortest encoding
+-- its encoding, each record in its shortest form
 abbrev pub sensor-encoding : SensorInC → Fields → List ℕ
 sensor-encoding m fs = text (sensor-shape.records (sensor-written m fs))
 

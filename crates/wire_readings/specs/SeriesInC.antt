@@ -238,7 +238,7 @@ series-written m l fs = (
   fs,
 )
 
--- its shortest encoding
+-- its encoding, each record in its shortest form
 abbrev pub series-encoding : SeriesInC → SeriesInCLists → Fields → List ℕ
 series-encoding m l fs = text (series-shape.records (series-written m l fs))
 

@@ -132,7 +132,7 @@ pub record Settings-IsZero (m : SettingsInC) : Type 0 where
 abbrev pub settings-written : SettingsInC → Fields → Settings-Value
 settings-written m fs = ((settings-shown m).0, fs)
 
--- its shortest encoding
+-- its encoding, each record in its shortest form
 abbrev pub settings-encoding : SettingsInC → Fields → List ℕ
 settings-encoding m fs = text (settings-shape.records (settings-written m fs))
 

@@ -117,7 +117,7 @@ visit-written m fs = (
   fs,
 )
 
--- its shortest encoding
+-- its encoding, each record in its shortest form
 abbrev pub visit-encoding : VisitInC → Fields → List ℕ
 visit-encoding m fs = text (visit-shape.records (visit-written m fs))
 

@@ -156,17 +156,17 @@ pub fn read_marks<'a>(
     read_status(message, bytes, context)
 }
 
-/// How many bytes the shortest encoding of what a struct shows takes, or `usize::MAX` where it is
-/// more.
+/// How many bytes the encoding of what a struct shows takes, each record in its shortest form, or
+/// `usize::MAX` where it is more.
 pub fn marks_size(message: &MarksInC<'_>, lists: &MarksInCLists<'_>) -> usize
     ensures { result ≡ in_64_bits (length (marks-encoding message.now lists.now Fields.none)) }
 {
     written_size((MarksInCFields { message, lists }, ()))
 }
 
-/// Writes the shortest encoding of what a struct shows at the front of the room, and tells how many
-/// bytes it takes, or `usize::MAX` where it is more: 0, or 32 exactly where the room has fewer, and
-/// then the room stays.
+/// Writes the encoding of what a struct shows at the front of the room, and tells how many bytes it
+/// takes, or `usize::MAX` where it is more: 0, or 32 exactly where the room has fewer, and then the
+/// room stays.
 pub fn write_marks(
     message: &MarksInC<'_>,
     lists: &MarksInCLists<'_>,
@@ -183,9 +183,9 @@ pub fn write_marks(
     write_status((MarksInCFields { message, lists }, ()), room, len)
 }
 
-/// How many bytes the shortest encoding takes of what a struct shows and of the unknown fields of
-/// these bytes behind it, or `usize::MAX` where it is more: 0. Else the number of the error, exactly
-/// where the bytes are no records, or these nest more than 100 groups, and the length is 0.
+/// How many bytes the encoding takes of what a struct shows and of the unknown fields of these bytes
+/// behind it, or `usize::MAX` where it is more: 0. Else the number of the error, exactly where the
+/// bytes are no records, or these nest more than 100 groups, and the length is 0.
 pub fn marks_size_keeping(
     message: &MarksInC<'_>,
     lists: &MarksInCLists<'_>,

@@ -60,11 +60,12 @@ impl NumberList for MarksInCWalk1 {
 }
 
 /// The next of `marks` in this walk: 0, and it goes on behind it; 1 where none is left; or the
-/// number of the error, nowhere in a walk over bytes that were read as this message. Where it
-/// answers no 0 the walk and the number stay.
+/// number of the error, nowhere in a walk over bytes that were read as this message within no more
+/// than 100 levels. Where it answers no 0 the walk and the number stay.
 pub fn next_marks_marks(walk: &mut NumbersWalk<'_>, number: &mut i64) -> u32
     ensures given { result ≡ 0 → GivesNumber marks-shape.takes marks-of-marks Varint
-        int64 walk.old walk.new number.new }
+        int64 walk.old walk.new
+        number.new }
     ensures ended { result ≡ 1 → EndsNumbers marks-shape.takes marks-of-marks Varint
         int64 walk.old }
     ensures other { result ≢ 0 → result ≢ 1 → LeadsNowhere marks-shape.takes

@@ -210,17 +210,17 @@ pub fn read_plan<'a>(bytes: &'a [u8], context: &mut DecodeContext, message: &mut
     read_status(message, bytes, context)
 }
 
-/// How many bytes the shortest encoding of what a struct shows takes, or `usize::MAX` where it is
-/// more.
+/// How many bytes the encoding of what a struct shows takes, each record in its shortest form, or
+/// `usize::MAX` where it is more.
 pub fn plan_size(message: &PlanInC<'_>, lists: &PlanInCLists<'_>) -> usize
     ensures { result ≡ in_64_bits (length (plan-encoding message.now lists.now Fields.none)) }
 {
     written_size((PlanInCFields { message, lists }, ()))
 }
 
-/// Writes the shortest encoding of what a struct shows at the front of the room, and tells how many
-/// bytes it takes, or `usize::MAX` where it is more: 0, or 32 exactly where the room has fewer, and
-/// then the room stays.
+/// Writes the encoding of what a struct shows at the front of the room, and tells how many bytes it
+/// takes, or `usize::MAX` where it is more: 0, or 32 exactly where the room has fewer, and then the
+/// room stays.
 pub fn write_plan(
     message: &PlanInC<'_>,
     lists: &PlanInCLists<'_>,
@@ -237,9 +237,9 @@ pub fn write_plan(
     write_status((PlanInCFields { message, lists }, ()), room, len)
 }
 
-/// How many bytes the shortest encoding takes of what a struct shows and of the unknown fields of
-/// these bytes behind it, or `usize::MAX` where it is more: 0. Else the number of the error, exactly
-/// where the bytes are no records, or these nest more than 100 groups, and the length is 0.
+/// How many bytes the encoding takes of what a struct shows and of the unknown fields of these bytes
+/// behind it, or `usize::MAX` where it is more: 0. Else the number of the error, exactly where the
+/// bytes are no records, or these nest more than 100 groups, and the length is 0.
 pub fn plan_size_keeping(
     message: &PlanInC<'_>,
     lists: &PlanInCLists<'_>,

@@ -173,17 +173,17 @@ pub fn read_reading<'a>(
     read_status(message, bytes, context)
 }
 
-/// How many bytes the shortest encoding of what a struct shows takes, or `usize::MAX` where it is
-/// more.
+/// How many bytes the encoding of what a struct shows takes, each record in its shortest form, or
+/// `usize::MAX` where it is more.
 pub fn reading_size(message: &ReadingInC<'_>) -> usize
     ensures { result ≡ in_64_bits (length (reading-encoding message.now Fields.none)) }
 {
     written_size((ReadingInCFields { message }, ()))
 }
 
-/// Writes the shortest encoding of what a struct shows at the front of the room, and tells how many
-/// bytes it takes, or `usize::MAX` where it is more: 0, or 32 exactly where the room has fewer, and
-/// then the room stays.
+/// Writes the encoding of what a struct shows at the front of the room, and tells how many bytes it
+/// takes, or `usize::MAX` where it is more: 0, or 32 exactly where the room has fewer, and then the
+/// room stays.
 pub fn write_reading(message: &ReadingInC<'_>, room: &mut [u8], len: &mut usize) -> u32
     ensures len { len.new ≡ in_64_bits (length (reading-encoding message.now Fields.none)) }
     ensures ok { result ≡ 0 → FillsSlice (reading-encoding message.now Fields.none) 0
@@ -195,9 +195,9 @@ pub fn write_reading(message: &ReadingInC<'_>, room: &mut [u8], len: &mut usize)
     write_status((ReadingInCFields { message }, ()), room, len)
 }
 
-/// How many bytes the shortest encoding takes of what a struct shows and of the unknown fields of
-/// these bytes behind it, or `usize::MAX` where it is more: 0. Else the number of the error, exactly
-/// where the bytes are no records, or these nest more than 100 groups, and the length is 0.
+/// How many bytes the encoding takes of what a struct shows and of the unknown fields of these bytes
+/// behind it, or `usize::MAX` where it is more: 0. Else the number of the error, exactly where the
+/// bytes are no records, or these nest more than 100 groups, and the length is 0.
 pub fn reading_size_keeping(message: &ReadingInC<'_>, bytes: &[u8], len: &mut usize) -> u32
     ensures ok { result ≡ 0 → OfUnknown reading-known.owns bytes.now (λ fs.
         len.new ≡ in_64_bits (length (reading-encoding message.now fs))) }

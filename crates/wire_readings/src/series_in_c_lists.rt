@@ -82,11 +82,12 @@ impl NumberList for SeriesInCWalk1 {
 }
 
 /// The next of `values` in this walk: 0, and it goes on behind it; 1 where none is left; or the
-/// number of the error, nowhere in a walk over bytes that were read as this message. Where it
-/// answers no 0 the walk and the number stay.
+/// number of the error, nowhere in a walk over bytes that were read as this message within no more
+/// than 100 levels. Where it answers no 0 the walk and the number stay.
 pub fn next_series_values(walk: &mut NumbersWalk<'_>, number: &mut i32) -> u32
     ensures given { result ≡ 0 → GivesNumber series-shape.takes values-of-series Varint
-        sint32 walk.old walk.new number.new }
+        sint32 walk.old walk.new
+        number.new }
     ensures ended { result ≡ 1 → EndsNumbers series-shape.takes values-of-series Varint
         sint32 walk.old }
     ensures other { result ≢ 0 → result ≢ 1 → LeadsNowhere series-shape.takes
@@ -140,11 +141,12 @@ impl NumberList for SeriesInCWalk3 {
 }
 
 /// The next of `weights` in this walk: 0, and it goes on behind it; 1 where none is left; or the
-/// number of the error, nowhere in a walk over bytes that were read as this message. Where it
-/// answers no 0 the walk and the number stay.
+/// number of the error, nowhere in a walk over bytes that were read as this message within no more
+/// than 100 levels. Where it answers no 0 the walk and the number stay.
 pub fn next_series_weights(walk: &mut NumbersWalk<'_>, number: &mut u64) -> u32
     ensures given { result ≡ 0 → GivesNumber series-shape.takes weights-of-series Fixed64
-        double walk.old walk.new (double.dec number.new) }
+        double walk.old walk.new
+        (double.dec number.new) }
     ensures ended { result ≡ 1 → EndsNumbers series-shape.takes weights-of-series Fixed64
         double walk.old }
     ensures other { result ≢ 0 → result ≢ 1 → LeadsNowhere series-shape.takes
@@ -198,11 +200,12 @@ impl NumberList for SeriesInCWalk4 {
 }
 
 /// The next of `marks` in this walk: 0, and it goes on behind it; 1 where none is left; or the
-/// number of the error, nowhere in a walk over bytes that were read as this message. Where it
-/// answers no 0 the walk and the number stay.
+/// number of the error, nowhere in a walk over bytes that were read as this message within no more
+/// than 100 levels. Where it answers no 0 the walk and the number stay.
 pub fn next_series_marks(walk: &mut NumbersWalk<'_>, number: &mut bool) -> u32
     ensures given { result ≡ 0 → GivesNumber series-shape.takes marks-of-series Varint
-        bool walk.old walk.new number.new }
+        bool walk.old walk.new
+        number.new }
     ensures ended { result ≡ 1 → EndsNumbers series-shape.takes marks-of-series Varint
         bool walk.old }
     ensures other { result ≢ 0 → result ≢ 1 → LeadsNowhere series-shape.takes
@@ -259,11 +262,12 @@ impl NumberList for SeriesInCWalk5 {
 }
 
 /// The next of `states` in this walk: 0, and it goes on behind it; 1 where none is left; or the
-/// number of the error, nowhere in a walk over bytes that were read as this message. Where it
-/// answers no 0 the walk and the number stay.
+/// number of the error, nowhere in a walk over bytes that were read as this message within no more
+/// than 100 levels. Where it answers no 0 the walk and the number stay.
 pub fn next_series_states(walk: &mut NumbersWalk<'_>, number: &mut i32) -> u32
     ensures given { result ≡ 0 → GivesNumber series-shape.takes states-of-series Varint
-        (open_enum state-number state-of) walk.old walk.new (known_or (state-of number.new) number.new) }
+        (open_enum state-number state-of) walk.old walk.new
+        (known_or (state-of number.new) number.new) }
     ensures ended { result ≡ 1 → EndsNumbers series-shape.takes states-of-series Varint
         (open_enum state-number state-of) walk.old }
     ensures other { result ≢ 0 → result ≢ 1 → LeadsNowhere series-shape.takes
@@ -317,11 +321,12 @@ impl NumberList for SeriesInCWalk6 {
 }
 
 /// The next of `addresses` in this walk: 0, and it goes on behind it; 1 where none is left; or the
-/// number of the error, nowhere in a walk over bytes that were read as this message. Where it
-/// answers no 0 the walk and the number stay.
+/// number of the error, nowhere in a walk over bytes that were read as this message within no more
+/// than 100 levels. Where it answers no 0 the walk and the number stay.
 pub fn next_series_addresses(walk: &mut NumbersWalk<'_>, number: &mut u32) -> u32
     ensures given { result ≡ 0 → GivesNumber series-shape.takes addresses-of-series Fixed32
-        fixed32 walk.old walk.new number.new }
+        fixed32 walk.old walk.new
+        number.new }
     ensures ended { result ≡ 1 → EndsNumbers series-shape.takes addresses-of-series Fixed32
         fixed32 walk.old }
     ensures other { result ≢ 0 → result ≢ 1 → LeadsNowhere series-shape.takes
@@ -375,11 +380,12 @@ impl NumberList for SeriesInCWalk7 {
 }
 
 /// The next of `factors` in this walk: 0, and it goes on behind it; 1 where none is left; or the
-/// number of the error, nowhere in a walk over bytes that were read as this message. Where it
-/// answers no 0 the walk and the number stay.
+/// number of the error, nowhere in a walk over bytes that were read as this message within no more
+/// than 100 levels. Where it answers no 0 the walk and the number stay.
 pub fn next_series_factors(walk: &mut NumbersWalk<'_>, number: &mut u32) -> u32
     ensures given { result ≡ 0 → GivesNumber series-shape.takes factors-of-series Fixed32
-        float walk.old walk.new (float.dec number.new) }
+        float walk.old walk.new
+        (float.dec number.new) }
     ensures ended { result ≡ 1 → EndsNumbers series-shape.takes factors-of-series Fixed32
         float walk.old }
     ensures other { result ≢ 0 → result ≢ 1 → LeadsNowhere series-shape.takes
@@ -433,11 +439,12 @@ impl NumberList for SeriesInCWalk8 {
 }
 
 /// The next of `serials` in this walk: 0, and it goes on behind it; 1 where none is left; or the
-/// number of the error, nowhere in a walk over bytes that were read as this message. Where it
-/// answers no 0 the walk and the number stay.
+/// number of the error, nowhere in a walk over bytes that were read as this message within no more
+/// than 100 levels. Where it answers no 0 the walk and the number stay.
 pub fn next_series_serials(walk: &mut NumbersWalk<'_>, number: &mut u64) -> u32
     ensures given { result ≡ 0 → GivesNumber series-shape.takes serials-of-series Varint
-        uint64 walk.old walk.new number.new }
+        uint64 walk.old walk.new
+        number.new }
     ensures ended { result ≡ 1 → EndsNumbers series-shape.takes serials-of-series Varint
         uint64 walk.old }
     ensures other { result ≢ 0 → result ≢ 1 → LeadsNowhere series-shape.takes
@@ -564,11 +571,12 @@ impl NumberList for SeriesInCWalk10 {
 }
 
 /// The next of `worst` in this walk: 0, and it goes on behind it; 1 where none is left; or the
-/// number of the error, nowhere in a walk over bytes that were read as this message. Where it
-/// answers no 0 the walk and the number stay.
+/// number of the error, nowhere in a walk over bytes that were read as this message within no more
+/// than 100 levels. Where it answers no 0 the walk and the number stay.
 pub fn next_series_worst(walk: &mut NumbersWalk<'_>, number: &mut i32) -> u32
     ensures given { result ≡ 0 → GivesNumber series-shape.takes worst-of-series Varint
-        (open_enum state-number state-of) walk.old walk.new (known_or (state-of number.new) number.new) }
+        (open_enum state-number state-of) walk.old walk.new
+        (known_or (state-of number.new) number.new) }
     ensures ended { result ≡ 1 → EndsNumbers series-shape.takes worst-of-series Varint
         (open_enum state-number state-of) walk.old }
     ensures other { result ≢ 0 → result ≢ 1 → LeadsNowhere series-shape.takes

@@ -173,7 +173,11 @@ impl<'a> FieldNumbers for SettingsInC<'a> {
     fn has(number: u32) -> bool
         ensures { (p : Payload) → settings-known.owns number p ≡ result }
     {
-        matches!(number, 1..=18 | 20..=21)
+        match number {
+            1..=18 => true,
+            20..=21 => true,
+            _ => false,
+        }
     }
 }
 
@@ -365,17 +369,17 @@ pub fn read_settings<'a>(
     read_status(message, bytes, context)
 }
 
-/// How many bytes the shortest encoding of what a struct shows takes, or `usize::MAX` where it is
-/// more.
+/// How many bytes the encoding of what a struct shows takes, each record in its shortest form, or
+/// `usize::MAX` where it is more.
 pub fn settings_size(message: &SettingsInC<'_>) -> usize
     ensures { result ≡ in_64_bits (length (settings-encoding message.now Fields.none)) }
 {
     written_size((SettingsInCFields { message }, ()))
 }
 
-/// Writes the shortest encoding of what a struct shows at the front of the room, and tells how many
-/// bytes it takes, or `usize::MAX` where it is more: 0, or 32 exactly where the room has fewer, and
-/// then the room stays.
+/// Writes the encoding of what a struct shows at the front of the room, and tells how many bytes it
+/// takes, or `usize::MAX` where it is more: 0, or 32 exactly where the room has fewer, and then the
+/// room stays.
 pub fn write_settings(message: &SettingsInC<'_>, room: &mut [u8], len: &mut usize) -> u32
     ensures len { len.new ≡ in_64_bits (length (settings-encoding message.now Fields.none)) }
     ensures ok { result ≡ 0 → FillsSlice (settings-encoding message.now Fields.none) 0
@@ -387,9 +391,9 @@ pub fn write_settings(message: &SettingsInC<'_>, room: &mut [u8], len: &mut usiz
     write_status((SettingsInCFields { message }, ()), room, len)
 }
 
-/// How many bytes the shortest encoding takes of what a struct shows and of the unknown fields of
-/// these bytes behind it, or `usize::MAX` where it is more: 0. Else the number of the error, exactly
-/// where the bytes are no records, or these nest more than 100 groups, and the length is 0.
+/// How many bytes the encoding takes of what a struct shows and of the unknown fields of these bytes
+/// behind it, or `usize::MAX` where it is more: 0. Else the number of the error, exactly where the
+/// bytes are no records, or these nest more than 100 groups, and the length is 0.
 pub fn settings_size_keeping(message: &SettingsInC<'_>, bytes: &[u8], len: &mut usize) -> u32
     ensures ok { result ≡ 0 → OfUnknown settings-known.owns bytes.now (λ fs.
         len.new ≡ in_64_bits (length (settings-encoding message.now fs))) }

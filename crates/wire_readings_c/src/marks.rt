@@ -52,8 +52,8 @@ pub extern "C" fn readings_marks_read_within<'a>(
     read_marks(bytes, &mut context, message)
 }
 
-/// How many bytes the shortest encoding of what the struct shows takes, or `SIZE_MAX` where it is
-/// more.
+/// How many bytes the encoding of what the struct shows takes, each record in its shortest form, or
+/// `SIZE_MAX` where it is more.
 #[unsafe(no_mangle)]
 pub extern "C" fn readings_marks_size(message: &MarksInC<'_>, lists: &MarksInCLists<'_>) -> usize
     ensures { result ≡ in_64_bits (length (marks-encoding message.now lists.now Fields.none)) }
@@ -61,9 +61,9 @@ pub extern "C" fn readings_marks_size(message: &MarksInC<'_>, lists: &MarksInCLi
     marks_size(message, lists)
 }
 
-/// Writes the shortest encoding of what the struct shows at the front of the room, and tells how
-/// many bytes it takes, or `SIZE_MAX` where it is more: 0, or 32 exactly where the room has fewer,
-/// and then the room stays.
+/// Writes the encoding of what the struct shows at the front of the room, and tells how many bytes
+/// it takes, or `SIZE_MAX` where it is more: 0, or 32 exactly where the room has fewer, and then the
+/// room stays.
 #[unsafe(no_mangle)]
 pub extern "C" fn readings_marks_write(
     message: &MarksInC<'_>,
@@ -81,9 +81,9 @@ pub extern "C" fn readings_marks_write(
     write_marks(message, lists, room, len)
 }
 
-/// How many bytes the shortest encoding takes of what the struct shows and of the unknown fields of
-/// these bytes behind it, or `SIZE_MAX` where it is more: 0. Else the number of the error, exactly
-/// where the bytes are no records, or these nest more than 100 groups, and the length is 0.
+/// How many bytes the encoding takes of what the struct shows and of the unknown fields of these bytes
+/// behind it, or `SIZE_MAX` where it is more: 0. Else the number of the error, exactly where the
+/// bytes are no records, or these nest more than 100 groups, and the length is 0.
 #[unsafe(no_mangle)]
 pub extern "C" fn readings_marks_size_keeping(
     message: &MarksInC<'_>,
@@ -121,12 +121,13 @@ pub extern "C" fn readings_marks_write_keeping(
 }
 
 /// The next of `marks` in this walk: 0, and it goes on behind it; 1 where none is left; or the
-/// number of the error, nowhere in a walk over bytes that were read as this message. Where it
-/// answers no 0 the walk and the number stay.
+/// number of the error, nowhere in a walk over bytes that were read as this message within no more
+/// than 100 levels. Where it answers no 0 the walk and the number stay.
 #[unsafe(no_mangle)]
 pub extern "C" fn readings_marks_next_marks(walk: &mut NumbersWalk<'_>, number: &mut i64) -> u32
     ensures given { result ≡ 0 → GivesNumber marks-shape.takes marks-of-marks Varint
-        int64 walk.old walk.new number.new }
+        int64 walk.old walk.new
+        number.new }
     ensures ended { result ≡ 1 → EndsNumbers marks-shape.takes marks-of-marks Varint
         int64 walk.old }
     ensures other { result ≢ 0 → result ≢ 1 → LeadsNowhere marks-shape.takes

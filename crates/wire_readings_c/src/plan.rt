@@ -50,8 +50,8 @@ pub extern "C" fn readings_plan_read_within<'a>(
     read_plan(bytes, &mut context, message)
 }
 
-/// How many bytes the shortest encoding of what the struct shows takes, or `SIZE_MAX` where it is
-/// more.
+/// How many bytes the encoding of what the struct shows takes, each record in its shortest form, or
+/// `SIZE_MAX` where it is more.
 #[unsafe(no_mangle)]
 pub extern "C" fn readings_plan_size(message: &PlanInC<'_>, lists: &PlanInCLists<'_>) -> usize
     ensures { result ≡ in_64_bits (length (plan-encoding message.now lists.now Fields.none)) }
@@ -59,9 +59,9 @@ pub extern "C" fn readings_plan_size(message: &PlanInC<'_>, lists: &PlanInCLists
     plan_size(message, lists)
 }
 
-/// Writes the shortest encoding of what the struct shows at the front of the room, and tells how
-/// many bytes it takes, or `SIZE_MAX` where it is more: 0, or 32 exactly where the room has fewer,
-/// and then the room stays.
+/// Writes the encoding of what the struct shows at the front of the room, and tells how many bytes
+/// it takes, or `SIZE_MAX` where it is more: 0, or 32 exactly where the room has fewer, and then the
+/// room stays.
 #[unsafe(no_mangle)]
 pub extern "C" fn readings_plan_write(
     message: &PlanInC<'_>,
@@ -79,9 +79,9 @@ pub extern "C" fn readings_plan_write(
     write_plan(message, lists, room, len)
 }
 
-/// How many bytes the shortest encoding takes of what the struct shows and of the unknown fields of
-/// these bytes behind it, or `SIZE_MAX` where it is more: 0. Else the number of the error, exactly
-/// where the bytes are no records, or these nest more than 100 groups, and the length is 0.
+/// How many bytes the encoding takes of what the struct shows and of the unknown fields of these bytes
+/// behind it, or `SIZE_MAX` where it is more: 0. Else the number of the error, exactly where the
+/// bytes are no records, or these nest more than 100 groups, and the length is 0.
 #[unsafe(no_mangle)]
 pub extern "C" fn readings_plan_size_keeping(
     message: &PlanInC<'_>,

@@ -64,8 +64,8 @@ pub extern "C" fn readings_series_read_within<'a>(
     read_series(bytes, &mut context, message)
 }
 
-/// How many bytes the shortest encoding of what the struct shows takes, or `SIZE_MAX` where it is
-/// more.
+/// How many bytes the encoding of what the struct shows takes, each record in its shortest form, or
+/// `SIZE_MAX` where it is more.
 #[unsafe(no_mangle)]
 pub extern "C" fn readings_series_size(message: &SeriesInC<'_>, lists: &SeriesInCLists<'_>) -> usize
     ensures { result ≡ in_64_bits (length (series-encoding message.now lists.now Fields.none)) }
@@ -73,9 +73,9 @@ pub extern "C" fn readings_series_size(message: &SeriesInC<'_>, lists: &SeriesIn
     series_size(message, lists)
 }
 
-/// Writes the shortest encoding of what the struct shows at the front of the room, and tells how
-/// many bytes it takes, or `SIZE_MAX` where it is more: 0, or 32 exactly where the room has fewer,
-/// and then the room stays.
+/// Writes the encoding of what the struct shows at the front of the room, and tells how many bytes
+/// it takes, or `SIZE_MAX` where it is more: 0, or 32 exactly where the room has fewer, and then the
+/// room stays.
 #[unsafe(no_mangle)]
 pub extern "C" fn readings_series_write(
     message: &SeriesInC<'_>,
@@ -93,9 +93,9 @@ pub extern "C" fn readings_series_write(
     write_series(message, lists, room, len)
 }
 
-/// How many bytes the shortest encoding takes of what the struct shows and of the unknown fields of
-/// these bytes behind it, or `SIZE_MAX` where it is more: 0. Else the number of the error, exactly
-/// where the bytes are no records, or these nest more than 100 groups, and the length is 0.
+/// How many bytes the encoding takes of what the struct shows and of the unknown fields of these bytes
+/// behind it, or `SIZE_MAX` where it is more: 0. Else the number of the error, exactly where the
+/// bytes are no records, or these nest more than 100 groups, and the length is 0.
 #[unsafe(no_mangle)]
 pub extern "C" fn readings_series_size_keeping(
     message: &SeriesInC<'_>,
@@ -133,12 +133,13 @@ pub extern "C" fn readings_series_write_keeping(
 }
 
 /// The next of `values` in this walk: 0, and it goes on behind it; 1 where none is left; or the
-/// number of the error, nowhere in a walk over bytes that were read as this message. Where it
-/// answers no 0 the walk and the number stay.
+/// number of the error, nowhere in a walk over bytes that were read as this message within no more
+/// than 100 levels. Where it answers no 0 the walk and the number stay.
 #[unsafe(no_mangle)]
 pub extern "C" fn readings_series_next_values(walk: &mut NumbersWalk<'_>, number: &mut i32) -> u32
     ensures given { result ≡ 0 → GivesNumber series-shape.takes values-of-series Varint
-        sint32 walk.old walk.new number.new }
+        sint32 walk.old walk.new
+        number.new }
     ensures ended { result ≡ 1 → EndsNumbers series-shape.takes values-of-series Varint
         sint32 walk.old }
     ensures other { result ≢ 0 → result ≢ 1 → LeadsNowhere series-shape.takes
@@ -149,12 +150,13 @@ pub extern "C" fn readings_series_next_values(walk: &mut NumbersWalk<'_>, number
 }
 
 /// The next of `weights` in this walk: 0, and it goes on behind it; 1 where none is left; or the
-/// number of the error, nowhere in a walk over bytes that were read as this message. Where it
-/// answers no 0 the walk and the number stay.
+/// number of the error, nowhere in a walk over bytes that were read as this message within no more
+/// than 100 levels. Where it answers no 0 the walk and the number stay.
 #[unsafe(no_mangle)]
 pub extern "C" fn readings_series_next_weights(walk: &mut NumbersWalk<'_>, number: &mut u64) -> u32
     ensures given { result ≡ 0 → GivesNumber series-shape.takes weights-of-series Fixed64
-        double walk.old walk.new (double.dec number.new) }
+        double walk.old walk.new
+        (double.dec number.new) }
     ensures ended { result ≡ 1 → EndsNumbers series-shape.takes weights-of-series Fixed64
         double walk.old }
     ensures other { result ≢ 0 → result ≢ 1 → LeadsNowhere series-shape.takes
@@ -165,12 +167,13 @@ pub extern "C" fn readings_series_next_weights(walk: &mut NumbersWalk<'_>, numbe
 }
 
 /// The next of `marks` in this walk: 0, and it goes on behind it; 1 where none is left; or the
-/// number of the error, nowhere in a walk over bytes that were read as this message. Where it
-/// answers no 0 the walk and the number stay.
+/// number of the error, nowhere in a walk over bytes that were read as this message within no more
+/// than 100 levels. Where it answers no 0 the walk and the number stay.
 #[unsafe(no_mangle)]
 pub extern "C" fn readings_series_next_marks(walk: &mut NumbersWalk<'_>, number: &mut bool) -> u32
     ensures given { result ≡ 0 → GivesNumber series-shape.takes marks-of-series Varint
-        bool walk.old walk.new number.new }
+        bool walk.old walk.new
+        number.new }
     ensures ended { result ≡ 1 → EndsNumbers series-shape.takes marks-of-series Varint
         bool walk.old }
     ensures other { result ≢ 0 → result ≢ 1 → LeadsNowhere series-shape.takes
@@ -181,12 +184,13 @@ pub extern "C" fn readings_series_next_marks(walk: &mut NumbersWalk<'_>, number:
 }
 
 /// The next of `states` in this walk: 0, and it goes on behind it; 1 where none is left; or the
-/// number of the error, nowhere in a walk over bytes that were read as this message. Where it
-/// answers no 0 the walk and the number stay.
+/// number of the error, nowhere in a walk over bytes that were read as this message within no more
+/// than 100 levels. Where it answers no 0 the walk and the number stay.
 #[unsafe(no_mangle)]
 pub extern "C" fn readings_series_next_states(walk: &mut NumbersWalk<'_>, number: &mut i32) -> u32
     ensures given { result ≡ 0 → GivesNumber series-shape.takes states-of-series Varint
-        (open_enum state-number state-of) walk.old walk.new (known_or (state-of number.new) number.new) }
+        (open_enum state-number state-of) walk.old walk.new
+        (known_or (state-of number.new) number.new) }
     ensures ended { result ≡ 1 → EndsNumbers series-shape.takes states-of-series Varint
         (open_enum state-number state-of) walk.old }
     ensures other { result ≢ 0 → result ≢ 1 → LeadsNowhere series-shape.takes
@@ -197,15 +201,16 @@ pub extern "C" fn readings_series_next_states(walk: &mut NumbersWalk<'_>, number
 }
 
 /// The next of `addresses` in this walk: 0, and it goes on behind it; 1 where none is left; or the
-/// number of the error, nowhere in a walk over bytes that were read as this message. Where it
-/// answers no 0 the walk and the number stay.
+/// number of the error, nowhere in a walk over bytes that were read as this message within no more
+/// than 100 levels. Where it answers no 0 the walk and the number stay.
 #[unsafe(no_mangle)]
 pub extern "C" fn readings_series_next_addresses(
     walk: &mut NumbersWalk<'_>,
     number: &mut u32,
 ) -> u32
     ensures given { result ≡ 0 → GivesNumber series-shape.takes addresses-of-series Fixed32
-        fixed32 walk.old walk.new number.new }
+        fixed32 walk.old walk.new
+        number.new }
     ensures ended { result ≡ 1 → EndsNumbers series-shape.takes addresses-of-series Fixed32
         fixed32 walk.old }
     ensures other { result ≢ 0 → result ≢ 1 → LeadsNowhere series-shape.takes
@@ -216,12 +221,13 @@ pub extern "C" fn readings_series_next_addresses(
 }
 
 /// The next of `factors` in this walk: 0, and it goes on behind it; 1 where none is left; or the
-/// number of the error, nowhere in a walk over bytes that were read as this message. Where it
-/// answers no 0 the walk and the number stay.
+/// number of the error, nowhere in a walk over bytes that were read as this message within no more
+/// than 100 levels. Where it answers no 0 the walk and the number stay.
 #[unsafe(no_mangle)]
 pub extern "C" fn readings_series_next_factors(walk: &mut NumbersWalk<'_>, number: &mut u32) -> u32
     ensures given { result ≡ 0 → GivesNumber series-shape.takes factors-of-series Fixed32
-        float walk.old walk.new (float.dec number.new) }
+        float walk.old walk.new
+        (float.dec number.new) }
     ensures ended { result ≡ 1 → EndsNumbers series-shape.takes factors-of-series Fixed32
         float walk.old }
     ensures other { result ≢ 0 → result ≢ 1 → LeadsNowhere series-shape.takes
@@ -232,12 +238,13 @@ pub extern "C" fn readings_series_next_factors(walk: &mut NumbersWalk<'_>, numbe
 }
 
 /// The next of `serials` in this walk: 0, and it goes on behind it; 1 where none is left; or the
-/// number of the error, nowhere in a walk over bytes that were read as this message. Where it
-/// answers no 0 the walk and the number stay.
+/// number of the error, nowhere in a walk over bytes that were read as this message within no more
+/// than 100 levels. Where it answers no 0 the walk and the number stay.
 #[unsafe(no_mangle)]
 pub extern "C" fn readings_series_next_serials(walk: &mut NumbersWalk<'_>, number: &mut u64) -> u32
     ensures given { result ≡ 0 → GivesNumber series-shape.takes serials-of-series Varint
-        uint64 walk.old walk.new number.new }
+        uint64 walk.old walk.new
+        number.new }
     ensures ended { result ≡ 1 → EndsNumbers series-shape.takes serials-of-series Varint
         uint64 walk.old }
     ensures other { result ≢ 0 → result ≢ 1 → LeadsNowhere series-shape.takes
@@ -268,12 +275,13 @@ pub extern "C" fn readings_series_next_notes<'a>(
 }
 
 /// The next of `worst` in this walk: 0, and it goes on behind it; 1 where none is left; or the
-/// number of the error, nowhere in a walk over bytes that were read as this message. Where it
-/// answers no 0 the walk and the number stay.
+/// number of the error, nowhere in a walk over bytes that were read as this message within no more
+/// than 100 levels. Where it answers no 0 the walk and the number stay.
 #[unsafe(no_mangle)]
 pub extern "C" fn readings_series_next_worst(walk: &mut NumbersWalk<'_>, number: &mut i32) -> u32
     ensures given { result ≡ 0 → GivesNumber series-shape.takes worst-of-series Varint
-        (open_enum state-number state-of) walk.old walk.new (known_or (state-of number.new) number.new) }
+        (open_enum state-number state-of) walk.old walk.new
+        (known_or (state-of number.new) number.new) }
     ensures ended { result ≡ 1 → EndsNumbers series-shape.takes worst-of-series Varint
         (open_enum state-number state-of) walk.old }
     ensures other { result ≢ 0 → result ≢ 1 → LeadsNowhere series-shape.takes

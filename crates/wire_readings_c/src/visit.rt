@@ -48,8 +48,8 @@ pub extern "C" fn readings_visit_read_within<'a>(
     read_visit(bytes, &mut context, message)
 }
 
-/// How many bytes the shortest encoding of what the struct shows takes, or `SIZE_MAX` where it is
-/// more.
+/// How many bytes the encoding of what the struct shows takes, each record in its shortest form, or
+/// `SIZE_MAX` where it is more.
 #[unsafe(no_mangle)]
 pub extern "C" fn readings_visit_size(message: &VisitInC<'_>) -> usize
     ensures { result ≡ in_64_bits (length (visit-encoding message.now Fields.none)) }
@@ -57,9 +57,9 @@ pub extern "C" fn readings_visit_size(message: &VisitInC<'_>) -> usize
     visit_size(message)
 }
 
-/// Writes the shortest encoding of what the struct shows at the front of the room, and tells how
-/// many bytes it takes, or `SIZE_MAX` where it is more: 0, or 32 exactly where the room has fewer,
-/// and then the room stays.
+/// Writes the encoding of what the struct shows at the front of the room, and tells how many bytes
+/// it takes, or `SIZE_MAX` where it is more: 0, or 32 exactly where the room has fewer, and then the
+/// room stays.
 #[unsafe(no_mangle)]
 pub extern "C" fn readings_visit_write(
     message: &VisitInC<'_>,
@@ -76,9 +76,9 @@ pub extern "C" fn readings_visit_write(
     write_visit(message, room, len)
 }
 
-/// How many bytes the shortest encoding takes of what the struct shows and of the unknown fields of
-/// these bytes behind it, or `SIZE_MAX` where it is more: 0. Else the number of the error, exactly
-/// where the bytes are no records, or these nest more than 100 groups, and the length is 0.
+/// How many bytes the encoding takes of what the struct shows and of the unknown fields of these bytes
+/// behind it, or `SIZE_MAX` where it is more: 0. Else the number of the error, exactly where the
+/// bytes are no records, or these nest more than 100 groups, and the length is 0.
 #[unsafe(no_mangle)]
 pub extern "C" fn readings_visit_size_keeping(
     message: &VisitInC<'_>,

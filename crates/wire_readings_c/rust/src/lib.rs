@@ -32,3 +32,12 @@ pub use plan::PlanLast;
 pub use plan::PlanCount;
 pub use plan::Plan;
 pub use plan::PlanLists;
+
+/// The numbers of the enum `readings.State`.
+///
+/// How a sensor is.
+pub mod state {
+    pub const FINE: i32 = 0;
+    pub const LOW_BATTERY: i32 = 1;
+    pub const BROKEN: i32 = 7;
+}

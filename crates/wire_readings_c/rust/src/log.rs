@@ -39,24 +39,24 @@ impl<'a> Log<'a> {
         ffi::read_within(bytes, limits)
     }
 
-    /// How many bytes the shortest encoding has, with these lists.
+    /// How many bytes the encoding has, with these lists.
     pub fn size(&self, lists: &LogLists<'_>) -> usize {
         ffi::size_with(self, lists)
     }
 
-    /// Writes the shortest encoding at the front of the room, and says how many bytes it has.
+    /// Writes the encoding at the front of the room, and says how many bytes it has.
     pub fn write(&self, lists: &LogLists<'_>, room: &mut [u8]) -> Result<usize, NoRoom> {
         ffi::write_with(self, lists, room)
     }
 
-    /// The shortest encoding.
+    /// The encoding.
     pub fn to_vec(&self, lists: &LogLists<'_>) -> Vec<u8> {
         let mut bytes = vec![0; self.size(lists)];
         let _ = self.write(lists, &mut bytes);
         bytes
     }
 
-    /// How many bytes the shortest encoding has with the unknown fields of these bytes behind it:
+    /// How many bytes the encoding has with the unknown fields of these bytes behind it:
     /// the records of other numbers, usually of the bytes that the message was read from.
     pub fn size_keeping(&self, lists: &LogLists<'_>, bytes: &[u8]) -> Result<usize, Refusal> {
         ffi::size_keeping_with(self, lists, bytes)
@@ -70,6 +70,17 @@ impl<'a> Log<'a> {
         room: &mut [u8],
     ) -> Result<usize, NotWritten> {
         ffi::write_keeping_with(self, lists, bytes, room)
+    }
+
+    /// That encoding.
+    pub fn to_vec_keeping(
+        &self,
+        lists: &LogLists<'_>,
+        bytes: &[u8],
+    ) -> Result<Vec<u8>, Refusal> {
+        let mut room = vec![0; self.size_keeping(lists, bytes)?];
+        let _ = self.write_keeping(lists, bytes, &mut room);
+        Ok(room)
     }
 
     /// How many of `notes` there are.
@@ -98,6 +109,14 @@ impl<'a> Log<'a> {
     /// The `readings` in bytes that were read as this message, one after another.
     pub fn readings(bytes: &'a [u8]) -> impl Iterator<Item = Result<Reading<'a>, Refusal>> + 'a {
         ffi::readings_of_log(bytes).map(Reading::read)
+    }
+
+    /// The same, each read within these limits.
+    pub fn readings_within(
+        bytes: &'a [u8],
+        limits: Limits,
+    ) -> impl Iterator<Item = Result<Reading<'a>, Refusal>> + 'a {
+        ffi::readings_of_log(bytes).map(move |it| Reading::read_within(it, &limits))
     }
 
     pub fn at(&self) -> Option<Point<'a>> {
@@ -129,6 +148,14 @@ impl<'a> Log<'a> {
     /// The `path` in bytes that were read as this message, one after another.
     pub fn path(bytes: &'a [u8]) -> impl Iterator<Item = Result<Point<'a>, Refusal>> + 'a {
         ffi::path_of_log(bytes).map(Point::read)
+    }
+
+    /// The same, each read within these limits.
+    pub fn path_within(
+        bytes: &'a [u8],
+        limits: Limits,
+    ) -> impl Iterator<Item = Result<Point<'a>, Refusal>> + 'a {
+        ffi::path_of_log(bytes).map(move |it| Point::read_within(it, &limits))
     }
 
     pub fn by(&self) -> &'a str {

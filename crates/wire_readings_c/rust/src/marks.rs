@@ -28,24 +28,24 @@ impl<'a> Marks<'a> {
         ffi::read_within(bytes, limits)
     }
 
-    /// How many bytes the shortest encoding has, with these lists.
+    /// How many bytes the encoding has, with these lists.
     pub fn size(&self, lists: &MarksLists<'_>) -> usize {
         ffi::size_with(self, lists)
     }
 
-    /// Writes the shortest encoding at the front of the room, and says how many bytes it has.
+    /// Writes the encoding at the front of the room, and says how many bytes it has.
     pub fn write(&self, lists: &MarksLists<'_>, room: &mut [u8]) -> Result<usize, NoRoom> {
         ffi::write_with(self, lists, room)
     }
 
-    /// The shortest encoding.
+    /// The encoding.
     pub fn to_vec(&self, lists: &MarksLists<'_>) -> Vec<u8> {
         let mut bytes = vec![0; self.size(lists)];
         let _ = self.write(lists, &mut bytes);
         bytes
     }
 
-    /// How many bytes the shortest encoding has with the unknown fields of these bytes behind it:
+    /// How many bytes the encoding has with the unknown fields of these bytes behind it:
     /// the records of other numbers, usually of the bytes that the message was read from.
     pub fn size_keeping(&self, lists: &MarksLists<'_>, bytes: &[u8]) -> Result<usize, Refusal> {
         ffi::size_keeping_with(self, lists, bytes)
@@ -59,6 +59,17 @@ impl<'a> Marks<'a> {
         room: &mut [u8],
     ) -> Result<usize, NotWritten> {
         ffi::write_keeping_with(self, lists, bytes, room)
+    }
+
+    /// That encoding.
+    pub fn to_vec_keeping(
+        &self,
+        lists: &MarksLists<'_>,
+        bytes: &[u8],
+    ) -> Result<Vec<u8>, Refusal> {
+        let mut room = vec![0; self.size_keeping(lists, bytes)?];
+        let _ = self.write_keeping(lists, bytes, &mut room);
+        Ok(room)
     }
 
     /// How many of `marks` there are.

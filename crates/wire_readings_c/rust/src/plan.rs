@@ -33,24 +33,24 @@ impl<'a> Plan<'a> {
         ffi::read_within(bytes, limits)
     }
 
-    /// How many bytes the shortest encoding has, with these lists.
+    /// How many bytes the encoding has, with these lists.
     pub fn size(&self, lists: &PlanLists<'_>) -> usize {
         ffi::size_with(self, lists)
     }
 
-    /// Writes the shortest encoding at the front of the room, and says how many bytes it has.
+    /// Writes the encoding at the front of the room, and says how many bytes it has.
     pub fn write(&self, lists: &PlanLists<'_>, room: &mut [u8]) -> Result<usize, NoRoom> {
         ffi::write_with(self, lists, room)
     }
 
-    /// The shortest encoding.
+    /// The encoding.
     pub fn to_vec(&self, lists: &PlanLists<'_>) -> Vec<u8> {
         let mut bytes = vec![0; self.size(lists)];
         let _ = self.write(lists, &mut bytes);
         bytes
     }
 
-    /// How many bytes the shortest encoding has with the unknown fields of these bytes behind it:
+    /// How many bytes the encoding has with the unknown fields of these bytes behind it:
     /// the records of other numbers, usually of the bytes that the message was read from.
     pub fn size_keeping(&self, lists: &PlanLists<'_>, bytes: &[u8]) -> Result<usize, Refusal> {
         ffi::size_keeping_with(self, lists, bytes)
@@ -64,6 +64,17 @@ impl<'a> Plan<'a> {
         room: &mut [u8],
     ) -> Result<usize, NotWritten> {
         ffi::write_keeping_with(self, lists, bytes, room)
+    }
+
+    /// That encoding.
+    pub fn to_vec_keeping(
+        &self,
+        lists: &PlanLists<'_>,
+        bytes: &[u8],
+    ) -> Result<Vec<u8>, Refusal> {
+        let mut room = vec![0; self.size_keeping(lists, bytes)?];
+        let _ = self.write_keeping(lists, bytes, &mut room);
+        Ok(room)
     }
 
     pub fn next(&self) -> Option<Visit<'a>> {
@@ -85,6 +96,14 @@ impl<'a> Plan<'a> {
     /// The `done` in bytes that were read as this message, one after another.
     pub fn done(bytes: &'a [u8]) -> impl Iterator<Item = Result<Visit<'a>, Refusal>> + 'a {
         ffi::done_of_plan(bytes).map(Visit::read)
+    }
+
+    /// The same, each read within these limits.
+    pub fn done_within(
+        bytes: &'a [u8],
+        limits: Limits,
+    ) -> impl Iterator<Item = Result<Visit<'a>, Refusal>> + 'a {
+        ffi::done_of_plan(bytes).map(move |it| Visit::read_within(it, &limits))
     }
 
     /// Which of `last` stands, where one does.

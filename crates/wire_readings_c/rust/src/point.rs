@@ -28,24 +28,24 @@ impl<'a> Point<'a> {
         ffi::read_within(bytes, limits)
     }
 
-    /// How many bytes the shortest encoding has.
+    /// How many bytes the encoding has.
     pub fn size(&self) -> usize {
         ffi::size(self)
     }
 
-    /// Writes the shortest encoding at the front of the room, and says how many bytes it has.
+    /// Writes the encoding at the front of the room, and says how many bytes it has.
     pub fn write(&self, room: &mut [u8]) -> Result<usize, NoRoom> {
         ffi::write(self, room)
     }
 
-    /// The shortest encoding.
+    /// The encoding.
     pub fn to_vec(&self) -> Vec<u8> {
         let mut bytes = vec![0; self.size()];
         let _ = self.write(&mut bytes);
         bytes
     }
 
-    /// How many bytes the shortest encoding has with the unknown fields of these bytes behind it:
+    /// How many bytes the encoding has with the unknown fields of these bytes behind it:
     /// the records of other numbers, usually of the bytes that the message was read from.
     pub fn size_keeping(&self, bytes: &[u8]) -> Result<usize, Refusal> {
         ffi::size_keeping(self, bytes)
@@ -54,6 +54,13 @@ impl<'a> Point<'a> {
     /// Writes that encoding at the front of the room, and says how many bytes it has.
     pub fn write_keeping(&self, bytes: &[u8], room: &mut [u8]) -> Result<usize, NotWritten> {
         ffi::write_keeping(self, bytes, room)
+    }
+
+    /// That encoding.
+    pub fn to_vec_keeping(&self, bytes: &[u8]) -> Result<Vec<u8>, Refusal> {
+        let mut room = vec![0; self.size_keeping(bytes)?];
+        let _ = self.write_keeping(bytes, &mut room);
+        Ok(room)
     }
 
     pub fn x(&self) -> i32 {
