@@ -1,13 +1,14 @@
 #!/usr/bin/python3
-"""Writes stdin and stdout of crates/wire_extension_rows: calls of extensions, and what protoc's
-Python makes of them. Run it at the top of the repository:
+"""Writes the rows of extensions in crates/wire_rows/stdin: calls, and what protoc's Python makes of
+them. Run it at the top of the repository:
 
     protoc --python_out=/tmp rows/extensions.proto
     PYTHONPATH=/tmp/rows /usr/bin/python3 rows/extensions.py
 
-with protoc 3.21.12 and python3-protobuf 4.21.12. Python writes fields in the order of their numbers,
-so a value is put where the message has none of a greater number.
+with protoc 3.21.12 and python3-protobuf 4.21.12. Python writes fields in the order of their
+numbers, so a value is put where the message has none of a greater number.
 """
+import pathlib
 import random
 
 import extensions_pb2 as pb
@@ -17,6 +18,8 @@ BY_NAME = {name: it for name, it in (
     (name, getattr(pb, name)) for name in (
         "priority", "title", "scores", "steps", "visits", "labels", "extra", "stamp", "flag",
         "counters", "picture"))}
+TABLE = pathlib.Path("crates/wire_rows/stdin")
+HEAD = "# ---- extensions: "
 REPEATED = ("scores", "steps", "labels", "counters")
 TOO_LARGE = "refused: message length exceeds the size limit (2 GiB protobuf maximum, or a " \
     "configured DecodeOptions limit)"
@@ -157,6 +160,13 @@ def skipped(data, at, tag):
         at = skipped(data, at, inner)
 
 
+def row(call, name, *parts, times=None):
+    """A call with the records of a message, and with those of another one where there are two."""
+    words = f"Extension.{call} of={name}" + (f" times={times}" if times is not None else "")
+    spans = " / ".join(it.hex(" ").upper() for it in parts).strip()
+    return f"{words} | {spans} |" if spans else f"{words} | |"
+
+
 def rows():
     for name in BY_NAME:
         for _ in range(12):
@@ -165,11 +175,11 @@ def rows():
             random.shuffle(parts)
             data = b"".join(parts)
             message = parsed(data)
-            yield f"get {name} {data.hex() or '-'}", written(value_of(message, name))
+            yield row("get", name, data), written(value_of(message, name))
             has = len(message.Extensions[BY_NAME[name]]) > 0 if name in REPEATED \
                 else message.HasExtension(BY_NAME[name])
             if has or name not in ("scores", "steps"):
-                yield f"has {name} {data.hex() or '-'}", "yes" if has else "no"
+                yield row("has", name, data), "yes" if has else "no"
         for _ in range(8):
             # The other records are as Python writes them; those of the extension lie anywhere.
             others = canonical(BY_NAME[name].number)
@@ -179,39 +189,40 @@ def rows():
             data, source = b"".join(parts), b"".join(own(name) for _ in range(random.randrange(3)))
             message, given = parsed(data), parsed(source)
             message.ClearExtension(BY_NAME[name])
-            yield f"clear {name} {data.hex() or '-'}", written(message)
+            yield row("clear", name, data), written(message)
             put(message, given, name)
-            yield f"set {name} {data.hex() or '-'} {source.hex() or '-'}", written(message)
+            yield row("set", name, data, source), written(message)
             if name in ("labels", "counters", "scores"):
                 message = parsed(others)
                 put(message, given, name)
                 before = message.SerializeToString(deterministic=True)
                 add(message, given, name)
-                yield f"add {name} {before.hex() or '-'} {source.hex() or '-'}", written(message)
-    yield f"get strict {own('priority').hex()}{foreign('priority').hex()}", \
+                yield row("add", name, before, source), written(message)
+    yield row("get", "strict", own("priority") + foreign("priority")), \
         "refused: wire type mismatch on field 100: expected 0, got 5"
     yield from limits()
 
 
 def limits():
     """What Python doesn't refuse: values past the greatest size, and past 100 levels."""
+    one = bytes.fromhex("0801")
     for call in ("set", "add"):
         for times in (2**30, 2**30 - 3):
-            yield f"{call} repeat 0801 {times}", TOO_LARGE
-        yield f"{call} repeat 0801 2", "0801fa060408000800"
+            yield row(call, "repeat", one, times=times), TOO_LARGE
+        yield row(call, "repeat", one, times=2), "0801fa060408000800"
         inner = "4b" * 99 + "4c" * 99
-        yield f"{call} deep 0801 99", f"0801d306{inner}d406"
+        yield row(call, "deep", one, times=99), f"0801d306{inner}d406"
         for levels in (100, 300):
-            yield f"{call} deep 0801 {levels}", "refused: recursion limit exceeded"
+            yield row(call, "deep", one, times=levels), "refused: recursion limit exceeded"
 
 
 def main():
-    pairs = list(rows())
-    with open("crates/wire_extension_rows/stdin", "w") as out:
-        out.writelines(f"{row}\n" for row, _ in pairs)
-    with open("crates/wire_extension_rows/stdout", "w") as out:
-        out.writelines(f"{answer}\n" for _, answer in pairs)
-    print(f"{len(pairs)} rows")
+    lines = [f"{row} {answer}" for row, answer in rows()]
+    text = TABLE.read_text()
+    begins = text.index("\n\n", text.index(HEAD)) + 2
+    ends = text.index("\n\n# ----", begins)
+    TABLE.write_text(text[:begins] + "\n".join(lines) + text[ends:])
+    print(f"{len(lines)} rows")
 
 
 main()

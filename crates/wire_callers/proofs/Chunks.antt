@@ -1,6 +1,6 @@
 -- Loops over frames and over chunks.
-use Rattle.std.proofs.Common.{◌≡◌, ◌≢◌, ℕ, List, [], ◌∷◌, ◌++◌, Option, Some, None, Result, Ok, Err, refl, sym, ap, subst, ◌∙◌, append_assoc}
-use Rattle.std.specs.Prelude.{IfNone, OnOk}
+use Rattle.std.proofs.Common.{◌≡◌, ◌≢◌, ℕ, List, [], ◌∷◌, ◌++◌, Result, Ok, Err, sym, ap, subst, ◌∙◌, append_assoc}
+use Rattle.std.specs.Prelude.{OnOk}
 use Rattle.std.specs.Result.{result_or}
 use Rattle.std.proofs.lemmas.List.{append-nil}
 use Rattle.std.specs.List.{concat}
@@ -15,15 +15,11 @@ use Rattle.wire_frames.specs.Prefix.{PrefixFault}
 use Rattle.wire_frames.specs.Stops.{StopsAt}
 use Rattle.wire_frames.specs.Stream.{Stream, unread}
 
-pub at_none : {T : Type 0} (o : Option T) (P : Type 0) → ((x : T) → o ≡ Some x → ⊥) → IfNone o P → P
-at_none None P full h = h
-at_none (Some x) P full h = absurd (full x refl)
-
 -- what is said of a success, where another error was put in the place of one
-pub at_ok : {T E D : Type 0} (r : Result T E) (e : D) (x : T) (P : Type 0)
+pub said_of_success : {T E D : Type 0} (r : Result T E) (e : D) (x : T) (P : Type 0)
     → Ok x ≡ result_or r (Err e) → OnOk r P → P
-at_ok (Ok y) e x P is h = h
-at_ok (Err y) e x P is h = absurd cc
+said_of_success (Ok y) e x P is h = h
+said_of_success (Err y) e x P is h = absurd cc
 
 -- so far some frames were taken off the decoder, and stand behind those before
 pub record HasTaken (was now : Stream) (before frames : List Frame) : Type 0 where

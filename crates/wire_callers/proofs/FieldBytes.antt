@@ -9,11 +9,10 @@ use Rattle.wire_read.specs.declared.event.Event.{Event}
 use Rattle.wire_read.specs.declared.event.Value.{Value}
 use Rattle.wire_read.specs.declared.event.Value.TheVariants as values
 use Rattle.wire_read.specs.declared.reader.Reader.{Reader}
-use Rattle.wire_read.specs.Laws.{ReaderGoesOn, ReaderIsDone}
+use Rattle.wire_read.specs.Laws.{ReaderGoesOn, ReaderIsDone, ReaderMovesOn}
 use Rattle.wire_read.specs.Opened.{items_of, payload_items}
-use Rattle.wire_read.specs.PayloadBytes.{bytes_of_payload, bytes_of_field, payload_length}
+use Rattle.wire_callers.specs.PayloadBytes.{bytes_of_payload, bytes_of_field, payload_length}
 use Rattle.wire_read.specs.Reading.{At, Gives, IsAt, IsDone, Moves, at, item}
-use Rattle.wire_read.proofs.Walks.{shorter}
 
 abbrev pub item_bytes : ℕ → Item → ℕ
 item_bytes n (start m) = 0
@@ -77,9 +76,9 @@ at_most true k = omega arith
 at_most false k = omega arith
 
 -- a payload's bytes are among those that its item takes
-room_for : (n : ℕ) (i : Item) (s t : At) (behind : List ℕ) → Moves i s behind t
+room_for : ReaderMovesOn → (n : ℕ) (i : Item) (s t : At) (behind : List ℕ) → Moves i s behind t
     → item_bytes n i + length t.rest ≤ length s.rest
-room_for n (whole m (bytes b)) s t behind (tag, taken, flat, groups, left) =
+room_for moves n (whole m (bytes b)) s t behind (tag, taken, flat, groups, left) =
     let text = taken.read.spelled.spelled in
     omega (
       arith,
@@ -88,16 +87,16 @@ room_for n (whole m (bytes b)) s t behind (tag, taken, flat, groups, left) =
       ap length taken.read.parts ∙ length-append taken.read.text t.rest,
       ap length text.parts ∙ length-append text.text b,
     )
-room_for n (start m) s t behind h = omega (arith, shorter (start m) s t behind h)
-room_for n (end m) s t behind h = omega (arith, shorter (end m) s t behind h)
-room_for n (whole m (varint v)) s t behind h =
-    omega (arith, shorter (whole m (varint v)) s t behind h)
-room_for n (whole m (fixed64 v)) s t behind h =
-    omega (arith, shorter (whole m (fixed64 v)) s t behind h)
-room_for n (whole m (fixed32 v)) s t behind h =
-    omega (arith, shorter (whole m (fixed32 v)) s t behind h)
-room_for n (whole m (group fs)) s t behind h =
-    omega (arith, shorter (whole m (group fs)) s t behind h)
+room_for moves n (start m) s t behind h = omega (arith, moves (start m) s t behind h)
+room_for moves n (end m) s t behind h = omega (arith, moves (end m) s t behind h)
+room_for moves n (whole m (varint v)) s t behind h =
+    omega (arith, moves (whole m (varint v)) s t behind h)
+room_for moves n (whole m (fixed64 v)) s t behind h =
+    omega (arith, moves (whole m (fixed64 v)) s t behind h)
+room_for moves n (whole m (fixed32 v)) s t behind h =
+    omega (arith, moves (whole m (fixed32 v)) s t behind h)
+room_for moves n (whole m (group fs)) s t behind h =
+    omega (arith, moves (whole m (group fs)) s t behind h)
 
 -- ---- the loop
 
@@ -107,27 +106,27 @@ pub record Sofar (l : Limits) (all : List ℕ) (n : ℕ) (r : Reader) (sum : ℕ
   pub is : sum ≡ total n items
   pub room : sum + length (at r all).rest ≤ length all
 
-pub fits_more : (l : Limits) (all : List ℕ) (n : ℕ) (r t : Reader) (sum : ℕ) (e : Event)
+fits_more : ReaderMovesOn → (l : Limits) (all : List ℕ) (n : ℕ) (r t : Reader) (sum : ℕ) (e : Event)
     → Sofar l all n r sum → Gives e all (at r all) (at t all)
     → sum + payload_length (nat_eq e.number n) e.value + length (at t all).rest ≤ length all
-fits_more l all n r t sum e h given =
+fits_more moves l all n r t sum e h given =
     omega (
       arith,
       h.room,
       item_is e.number n e.value,
-      room_for n (item e.number e.value) (at r all) (at t all) given.behind given.moves,
+      room_for moves n (item e.number e.value) (at r all) (at t all) given.behind given.moves,
     )
 
-pub one_more : ReaderGoesOn → (l : Limits) (all : List ℕ) (n : ℕ) (r t : Reader) (sum next : ℕ)
-    (e : Event) → Sofar l all n r sum → Gives e all (at r all) (at t all)
+pub one_more : ReaderGoesOn → ReaderMovesOn → (l : Limits) (all : List ℕ) (n : ℕ)
+    (r t : Reader) (sum next : ℕ) (e : Event) → Sofar l all n r sum → Gives e all (at r all) (at t all)
     → next ≡ sum + payload_length (nat_eq e.number n) e.value → Sofar l all n t next
-one_more law l all n r t sum next e h given same =
+one_more law moves l all n r t sum next e h given same =
     let i = item e.number e.value in
     record {
       items = h.items ++ i ∷ [];
       place = law l all h.items i (at r all) (at t all) given.behind h.place given.moves;
       is = omega (arith, same, h.is, item_is e.number n e.value, total-append n h.items (i ∷ []));
-      room = omega (arith, same, fits_more l all n r t sum e h given);
+      room = omega (arith, same, fits_more moves l all n r t sum e h given);
     }
 
 pub all_seen : ReaderIsDone → (l : Limits) (all : List ℕ) (n : ℕ) (r : Reader) (sum : ℕ)

@@ -1,1 +1,4 @@
+pub mod Chunks
 pub mod Counters
+pub mod FieldBytes
+pub mod Priorities

@@ -1,3 +1,4 @@
 pub mod Counter
 pub mod CounterLog
 pub mod CounterSingle
+pub mod PayloadBytes

@@ -7,12 +7,9 @@ ghost use Rattle.wire_frames.specs.Frames.{Frames, IsUnfinished};
 ghost use Rattle.wire_frames.specs.Stops.{StopsAt};
 ghost use Rattle.wire_frames.specs.Stream.{unread};
 
-use crate::decoder::FrameDecoder;
-use crate::error::FrameError;
-use crate::frame::{Frame, Framing};
-use crate::laws;
 use bytes::Bytes;
 use std::alloc::Global;
+use wire_frames::{Frame, FrameDecoder, FrameError, Framing, laws};
 
 /// The frames of an input that comes in these chunks, which are those that the joined bytes spell.
 pub fn frames_of(

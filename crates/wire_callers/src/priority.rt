@@ -1,4 +1,4 @@
-//! Callers of extensions, which `CALLING.md` shows.
+//! An extension that is put and read again.
 ghost use Rattle.std.specs.Prelude.{◌≡◌, ◌≢◌, ◌^◌, ◌-◌, None, Some, OnOk, IfOk, IfErr};
 ghost use Rattle.wire_codec.specs.DecodeError.TheVariants.{OutOfMemory};
 ghost use Rattle.wire_codec.specs.Limits.{counted};
@@ -8,10 +8,9 @@ ghost use Rattle.wire_fields.specs.Numbers.{numeric};
 ghost use Rattle.wire_fields.specs.Presence.{optional};
 ghost use Rattle.wire_extensions.specs.Extension.{is_own, others, NotStored};
 
-use crate::extension::Extension;
-use crate::laws as extensions;
 use std::alloc::Global;
 use wire_codec::{DecodeContext, DecodeError, UnknownFields, laws};
+use wire_extensions::{Extension, laws as extensions};
 use wire_fields::{Int32, Optional};
 
 /// Puts the priority, which is the extension 100, and reads it again. What stands in other fields

@@ -1,16 +1,14 @@
-//! A caller: the bytes of the payloads of one field number.
+//! Records read in place: the bytes of the payloads of one field number.
 ghost use Rattle.std.specs.Prelude.{◌≡◌, IfOk, IfErr};
 ghost use Rattle.wire_base.specs.Charge.{charge};
 ghost use Rattle.wire_base.specs.Field.{Fields};
 ghost use Rattle.wire_base.specs.Limits.{Fits, counted};
 ghost use Rattle.wire_base.specs.Spells.{Spells};
 ghost use Rattle.wire_read.specs.Faults.{IsFault};
-ghost use Rattle.wire_read.specs.PayloadBytes.{bytes_of_field, payload_length};
+ghost use Rattle.wire_callers.specs.PayloadBytes.{bytes_of_field, payload_length};
 
-use crate::event::{Fault, Value};
-use crate::laws;
-use crate::reader::Reader;
 use wire_codec::{DecodeContext, RECURSION_LIMIT};
+use wire_read::{Fault, Reader, Value, laws};
 
 /// How many bytes the length-delimited payloads of this field number are, at any nesting of groups,
 /// under 100 levels and 1,000,000 records.
@@ -21,6 +19,7 @@ pub fn payload_bytes(bytes: &[u8], number: u32) -> Result<usize, Fault>
 {
     laws::reader_begins();
     laws::reader_goes_on();
+    laws::reader_moves_on();
     laws::reader_is_done();
     laws::reader_stops();
     let mut reader = Reader::within(&DecodeContext::new(RECURSION_LIMIT, 1_000_000));

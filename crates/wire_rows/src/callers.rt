@@ -4,6 +4,8 @@ use crate::said::{Hex, Said};
 use bytes::{Buf, Bytes};
 use std::alloc::Global;
 use wire_callers::counter::Counter;
+use wire_callers::priority::put_priority;
+use wire_callers::sums::payload_bytes;
 use wire_callers::{first, log, messages as written, sinks};
 use wire_codec::{DecodeError, EncodeError, Message, ProtoString, Rope, UnknownFields, laws};
 use wire_vectors::callers::texts::ShortText;
@@ -41,6 +43,10 @@ pub fn tell(row: &Row<'_>, said: &mut Said) -> bool {
         "shortened" => say_bytes(sinks::shortened(alloc, bytes), bytes, said),
         "first_number" => said.show(&records::first_number(bytes)),
         "scores_of" => said.show_answer(scalars::scores_of(alloc, bytes)),
+        "payload_bytes" => match payload_bytes(bytes, number) {
+            Ok(sum) => said.show(&sum),
+            Err(fault) => said.refuse(fault.error),
+        },
         "body_of" => said.show_answer(scalars::body_of(bytes, number).map(Hex)),
         "without" => say_both(records::without(alloc, bytes, number), said),
         "unknown_twice" => say_both(views::unknown_twice(alloc, bytes), said),
@@ -83,6 +89,7 @@ fn tell_written(row: &Row<'_>, said: &mut Said) -> bool {
         }
         "counter_len" => said.show_answer(counter_len(alloc, &counter)),
         "in_rope" => say_rope(sinks::in_rope(alloc, &counter), row, said),
+        "put_priority" => say_priority(row, said),
         "pair" => {
             let mut sink = Vec::new(alloc);
             said.answered(records::put_pair(5, row.value(), &mut sink));
@@ -96,6 +103,17 @@ fn tell_written(row: &Row<'_>, said: &mut Said) -> bool {
         _ => return false,
     }
     true
+}
+
+// The priority that is read, and the records that stand then.
+fn say_priority(row: &Row<'_>, said: &mut Said) {
+    let alloc = said.alloc;
+    if let Some(mut fields) = said.answered(UnknownFields::decode_from_slice(alloc, row.bytes)) {
+        said.show_answer(put_priority(alloc, &mut fields, row.value()));
+        let mut sink = Vec::new(alloc);
+        said.made(fields.write_to(&mut sink));
+        said.also("; ", &Hex(&sink));
+    }
 }
 
 // The size that a counter measures itself, once it was tested.

@@ -2,8 +2,8 @@
 use crate::row::Row;
 use crate::said::Said;
 use crate::{
-    agreements, caches, callers, contexts, enums, errors, frames, lists, messages, readers, ropes,
-    scalars, sinks, texts, unknown, views,
+    agreements, caches, callers, contexts, enums, errors, extensions, frames, lists, messages,
+    readers, ropes, scalars, sinks, texts, unknown, views,
 };
 use bytes::Buf;
 
@@ -26,6 +26,7 @@ pub fn tell(row: &Row<'_>, said: &mut Said) -> bool {
         || views::tell(row, said)
         || readers::tell(row, said)
         || frames::tell(row, said)
+        || extensions::tell(row, said)
         || messages::tell(row, said)
         || ropes::tell(row, said)
         || caches::tell(row, said)

@@ -6,9 +6,10 @@ use bytes::Bytes;
 use std::alloc::{AllocError, Global};
 use std::fmt::Write;
 use wire_callers::counter::Counter;
+use wire_callers::frames::frames_of;
 use wire_codec::{DecodeError, DecodeOptions, EncodeError, EncodeSink, Room};
 use wire_frames::{
-    Frame, FrameDecoder, FrameError, FrameText, Framing, MessageError, UnfedCause, frames_of,
+    Frame, FrameDecoder, FrameError, FrameText, Framing, MessageError, UnfedCause,
     put_delimited_frame, put_grpc_frame,
 };
 

@@ -1,5 +1,6 @@
 //! Worked rows of the crates below. Standard input is a table with a row a line: a call, what it is
-//! given, and the answer that is wanted. Each row is tried, and each that is astray is told.
+//! given, and the answer that is wanted. Each row is tried, and each that is astray is told. Lines
+//! behind a line `mirror` are messages that are read and written again.
 #![tactic(auto)]
 
 mod agreements;
@@ -10,9 +11,11 @@ mod contexts;
 mod counted;
 mod enums;
 mod errors;
+mod extensions;
 mod frames;
 mod lists;
 mod messages;
+mod mirror;
 mod narrow;
 mod readers;
 mod ropes;

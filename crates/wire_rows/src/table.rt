@@ -1,7 +1,7 @@
 //! The table as a whole: its rows one after another, each whole and cut.
 use crate::row::{Bytes, Row};
 use crate::said::{Found, Said};
-use crate::{calls, scalars};
+use crate::{calls, mirror, scalars};
 use bytes::Buf;
 use std::alloc::Global;
 use std::io;
@@ -12,11 +12,14 @@ use wire_codec::{EncodeSink, Rope, RopeBuf};
 const SHORT: usize = 1000;
 
 /// Tries each row of a table, tells which are astray, and how many there are. Behind a line `half`
-/// rows are cut in the middle alone.
+/// rows are cut in the middle alone; behind a line `mirror` stand no rows, but messages that are
+/// answered by `mirror`.
 pub fn run<R: Print + AllocGlobal>(rt: &R, text: &str) -> io::Result<ExitCode> {
     let mut table = Table::new(rt.alloc());
     for (index, line) in text.lines().enumerate() {
-        if table.is_astray(line) {
+        if table.is_mirroring {
+            mirror::run(rt, line)?;
+        } else if table.is_astray(line) {
             let line = index.saturating_add(1);
             let (said, astray) = table.said.told();
             println!(rt; "line {line}: {said:?} {astray:?}")?;
@@ -36,6 +39,7 @@ struct Table {
     // 0 where each row found its own answer, 1 where one found another, else 2.
     status: u8,
     is_halving: bool,
+    is_mirroring: bool,
 }
 
 impl Table {
@@ -47,18 +51,21 @@ impl Table {
             astray: 0,
             status: 0,
             is_halving: false,
+            is_mirroring: false,
         }
     }
 
     // Whether a line is a row, and one that is astray.
     fn is_astray(&mut self, line: &str) -> bool {
-        if line == "half" {
-            self.is_halving = true;
-            return false;
+        match line {
+            "half" => self.is_halving = true,
+            "mirror" => self.is_mirroring = true,
+            _ => return !is_remark(line) && self.is_row_astray(line),
         }
-        if line.is_empty() || line.starts_with("#") {
-            return false;
-        }
+        false
+    }
+
+    fn is_row_astray(&mut self, line: &str) -> bool {
         self.rows = self.rows.saturating_add(1);
         self.said.clear();
         match self.found(line) {
@@ -79,6 +86,10 @@ impl Table {
             }
         }
     }
+}
+
+fn is_remark(line: &str) -> bool {
+    line.is_empty() || line.starts_with("#")
 }
 
 // What a row finds: its call's answer, and where it reads from a buffer also that on the bytes cut.

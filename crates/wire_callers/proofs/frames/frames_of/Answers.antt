@@ -5,8 +5,8 @@ use Rattle.std.proofs.lemmas.Result.{err_from_is_err_and}
 use Rattle.wire_frames.specs.Frames.{in_prefix}
 use Rattle.wire_frames.specs.Stream.{Stream, unread, fed}
 use Rattle.wire_frames.proofs.Prefixes.{nothing_is_begun}
-use Rattle.wire_frames.proofs.Chunks.{at_ok, nothing_fed, chunk_more, stops_in_chunk, stops_at_end}
-use Rattle.wire_frames.proofs.whole.frames_of.Goals as goal
+use Rattle.wire_callers.proofs.Chunks.{said_of_success, nothing_fed, chunk_more, stops_in_chunk, stops_at_end}
+use Rattle.wire_callers.proofs.frames.frames_of.Goals as goal
 
 pub loop-chunk-init : goal.loop-chunk-init
 loop-chunk-init c =
@@ -17,7 +17,7 @@ pub loop-chunk-preserved : goal.loop-chunk-preserved
 loop-chunk-preserved c =
     let before = c.loop-chunk.invariant in
     let was_fed : c.feed.new.self ≡ fed c.loop-chunk.decoder c.in-Some.chunk =
-    at_ok c.feed.result _ c.in_ok-or.field-0 _ c.in_ok-or.ensures c.feed.ensures.ok in
+    said_of_success c.feed.result _ c.in_ok-or.field-0 _ c.in_ok-or.ensures c.feed.ensures.ok in
     let form : c.feed.new.self.framing ≡ c.args.framing =
     ap (λ (s : Stream). s.framing) was_fed ∙ before.framing in
     let limit : c.feed.new.self.limit ≡ c.args.limit =
@@ -36,7 +36,7 @@ returns-in_err-take_whole-clause-err c =
     c.from_residual-in_err-take_whole.ensures.1 in
     let before = c.loop-chunk.invariant in
     let was_fed : c.feed.new.self ≡ fed c.loop-chunk.decoder c.in-Some.chunk =
-    at_ok c.feed.result _ c.in_ok-or.field-0 _ c.in_ok-or.ensures c.feed.ensures.ok in
+    said_of_success c.feed.result _ c.in_ok-or.field-0 _ c.in_ok-or.ensures c.feed.ensures.ok in
     let form : c.feed.new.self.framing ≡ c.args.framing =
     ap (λ (s : Stream). s.framing) was_fed ∙ before.framing in
     let limit : c.feed.new.self.limit ≡ c.args.limit =

@@ -1,6 +1,6 @@
 use Rattle.std.specs.List.{concat}
-use Rattle.wire_frames.proofs.Chunks.{IsFed}
-use Rattle.wire_frames.proofs.whole.frames_of.Given as goal
+use Rattle.wire_callers.proofs.Chunks.{IsFed}
+use Rattle.wire_callers.proofs.frames.frames_of.Given as goal
 
 abbrev pub invariant-loop-chunk : goal.invariant-loop-chunk
 invariant-loop-chunk l =

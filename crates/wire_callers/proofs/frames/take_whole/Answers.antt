@@ -1,9 +1,10 @@
 use Rattle.std.proofs.Common.{subst, sym}
 use Rattle.std.proofs.lemmas.Result.{err_from_is_err_and}
+use Rattle.wire_base.proofs.Results.{at_none}
 use Rattle.wire_frames.specs.Frames.{IsUnfinished, next}
 use Rattle.wire_frames.specs.Stream.{Stream, unread}
-use Rattle.wire_frames.proofs.Chunks.{at_none, not_truncated}
-use Rattle.wire_frames.proofs.whole.take_whole.Goals as goal
+use Rattle.wire_callers.proofs.Chunks.{not_truncated}
+use Rattle.wire_callers.proofs.frames.take_whole.Goals as goal
 
 pub returns-in_err-frame-clause-err : goal.returns-in_err-frame-clause-err
 returns-in_err-frame-clause-err c =

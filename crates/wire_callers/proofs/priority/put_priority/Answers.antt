@@ -6,10 +6,9 @@ use Rattle.wire_codec.specs.ValueMap.{int32}
 use Rattle.wire_fields.specs.declared.form.Form.TheVariants.{Varint}
 use Rattle.wire_fields.specs.Numbers.{numeric}
 use Rattle.wire_fields.specs.Presence.{some_single}
-use Rattle.wire_extensions.proofs.Priority.{priority_back, same_option}
-use Rattle.wire_extensions.proofs.Results.{at_ok}
+use Rattle.wire_callers.proofs.Priorities.{priority_back, same_option}
 use Rattle.wire_extensions.specs.ReadBack.{value_read, value_there, others_left}
-use Rattle.wire_extensions.proofs.callers.put_priority.Goals as goal
+use Rattle.wire_callers.proofs.priority.put_priority.Goals as goal
 
 pub returns-clause-same : goal.returns-clause-same
 returns-clause-same c =
@@ -33,9 +32,10 @@ returns-clause-others c =
     let number : IsFieldNumber 100 = search rules in
     let (more, stored, put) =
     rw (own.0, own.1, to_z-of_z c.ranges.priority) at c.in_ok-set.ensures.ok in
-    at_ok c.get.result (rw put
+    IfOk-weaker c.get.result _ _ (λ read got. rw put
     (others_left _ _ _ back c.one_leaves_others.ensures 100 number (Some c.args.priority)
     c.ranges.priority c.args.fields.now more _ stored c.stored_are_plain.ensures))
+    c.get.ensures.ok
 
 pub returns-clause-memory : goal.returns-clause-memory
 returns-clause-memory c =

@@ -1,9 +1,9 @@
 use Rattle.std.proofs.Common.{◌≡◌, ◌+◌, nat_eq, rules}
 use Rattle.std.proofs.lemmas.Result.{err_from_is_err_and}
-use Rattle.wire_read.specs.PayloadBytes.{payload_length}
+use Rattle.wire_callers.specs.PayloadBytes.{payload_length}
 use Rattle.wire_read.specs.Reading.{Gives, IsDone, at}
-use Rattle.wire_read.proofs.FieldBytes.{all_seen, one_more}
-use Rattle.wire_read.proofs.sums.payload_bytes.Goals as goal
+use Rattle.wire_callers.proofs.FieldBytes.{all_seen, one_more}
+use Rattle.wire_callers.proofs.sums.payload_bytes.Goals as goal
 
 pub returns-in_err-event-clause-fault : goal.returns-in_err-event-clause-fault
 returns-in_err-event-clause-fault c =
@@ -18,7 +18,8 @@ loop-event-preserved c =
     let given : Gives e all (at c.loop-event.reader all) (at c.next.new.self all) = search rules in
     let same : c.loop-event.sum + c.length_if-sum.result
     ≡ c.loop-event.sum + payload_length (nat_eq e.number c.args.number) e.value = search rules in
-    one_more c.reader_goes_on.ensures _ _ _ _ _ _ _ _ c.loop-event.invariant given same
+    one_more c.reader_goes_on.ensures c.reader_moves_on.ensures _ _ _ _ _ _ _ _
+    c.loop-event.invariant given same
 
 pub returns-clause-ok : goal.returns-clause-ok
 returns-clause-ok c =

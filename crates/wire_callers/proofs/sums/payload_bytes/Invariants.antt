@@ -1,7 +1,7 @@
 use Rattle.std.proofs.Common.{drop, length}
 use Rattle.wire_base.specs.Limits.{counted}
-use Rattle.wire_read.proofs.FieldBytes.{Sofar}
-use Rattle.wire_read.proofs.sums.payload_bytes.Given as goal
+use Rattle.wire_callers.proofs.FieldBytes.{Sofar}
+use Rattle.wire_callers.proofs.sums.payload_bytes.Given as goal
 
 abbrev pub invariant-loop-event : goal.invariant-loop-event
 invariant-loop-event l = Sofar (counted 100 1000000) l.fn.bytes l.fn.number l.reader l.sum

@@ -1,13 +1,9 @@
-//! Messages that are read and written again. Standard input has a line for each: the name of its
-//! type, and its bytes in hexadecimal digits. Standard output gets a line for each: the shortest
-//! encoding of a copy of what was read, or why there is none. A type by the name of a view is read
-//! as that; a report's view is written as the message that is made of it, since it has maps.
-#![tactic(auto)]
-
+//! Messages that are read and written again. A line has the name of a type and bytes in hexadecimal
+//! digits. It is answered by a line: the shortest encoding of a copy of what was read, or why there
+//! is none. A type by the name of a view is read as that; a report's view is written as the message
+//! that is made of it, since it has maps.
 use std::alloc::Global;
 use std::io;
-use std::io::Read;
-use std::process::ExitCode;
 use wire_codec::{DecodeError, EncodeError, Message};
 use wire_kinds::{
     Base, Call, Chain, Choice, Expression, Grants, Groups, Levels, Lists, Maps, MaybeVarints,
@@ -29,21 +25,17 @@ enum MirrorError {
     OutOfMemory,
 }
 
-fn main(rt: HostRuntime) -> io::Result<ExitCode> {
-    let mut input = String::new(rt.alloc());
-    rt.stdin().read_to_string(&mut input)?;
-    for line in input.lines() {
-        let (name, digits) = line.split_once(' ').unwrap_or((line, ""));
-        match answer(rt.alloc(), name, digits) {
-            Ok(digits) => println!(rt; "{digits}")?,
-            Err(MirrorError::Refused(error)) => println!(rt; "refused: {error}")?,
-            Err(MirrorError::TooLarge(error)) => println!(rt; "too large: {error}")?,
-            Err(MirrorError::NoType) => println!(rt; "no type is called {name}")?,
-            Err(MirrorError::NoDigits) => println!(rt; "no digits: {digits}")?,
-            Err(MirrorError::OutOfMemory) => println!(rt; "out of memory")?,
-        }
+/// Answers a line.
+pub fn run<R: Print + AllocGlobal>(rt: &R, line: &str) -> io::Result<()> {
+    let (name, digits) = line.split_once(' ').unwrap_or((line, ""));
+    match answer(rt.alloc(), name, digits) {
+        Ok(digits) => println!(rt; "{digits}"),
+        Err(MirrorError::Refused(error)) => println!(rt; "refused: {error}"),
+        Err(MirrorError::TooLarge(error)) => println!(rt; "too large: {error}"),
+        Err(MirrorError::NoType) => println!(rt; "no type is called {name}"),
+        Err(MirrorError::NoDigits) => println!(rt; "no digits: {digits}"),
+        Err(MirrorError::OutOfMemory) => println!(rt; "out of memory"),
     }
-    Ok(ExitCode::SUCCESS)
 }
 
 fn answer(alloc: Global, name: &str, digits: &str) -> Result<String, MirrorError> {
