@@ -4,8 +4,7 @@ use readings::{Reading, Refusal, state};
 fn main() -> Result<(), Refusal> {
     let bytes = [0x0A, 3, b'r', b'o', b'f', 0x18, 4, 0x20, 7];
     let mut reading = Reading::read(&bytes)?;
-    println!("{}: {:?}", reading.sensor(), reading.offset());
-    println!("{}", if reading.state() == state::BROKEN { "broken" } else { "not broken" });
+    println!("{}, broken: {}", reading.sensor(), reading.state() == state::BROKEN);
     reading.set_offset(Some(-1));
     println!("{:02X?}", reading.to_vec());
     Ok(())
