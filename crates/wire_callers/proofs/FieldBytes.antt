@@ -118,7 +118,8 @@ fits_more moves l all n r t sum e h given =
     )
 
 pub one_more : ReaderGoesOn → ReaderMovesOn → (l : Limits) (all : List ℕ) (n : ℕ)
-    (r t : Reader) (sum next : ℕ) (e : Event) → Sofar l all n r sum → Gives e all (at r all) (at t all)
+    (r t : Reader) (sum next : ℕ) (e : Event) → Sofar l all n r sum
+    → Gives e all (at r all) (at t all)
     → next ≡ sum + payload_length (nat_eq e.number n) e.value → Sofar l all n t next
 one_more law moves l all n r t sum next e h given same =
     let i = item e.number e.value in

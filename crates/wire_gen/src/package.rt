@@ -33,8 +33,8 @@ const OPTIONAL_OF_PROTO3: u64 = 1;
 
 const EDITIONS: u64 = 2;
 
-/// The answer to a request of protoc, as bytes, and what is told beside it, in lines: which messages
-/// have no struct for C.
+/// The answer to a request of protoc, as bytes, and what is told beside it, in lines: which
+/// messages have no struct for C.
 #[derive(Drop)]
 pub(crate) struct PluginAnswer {
     pub bytes: Vec<u8>,
