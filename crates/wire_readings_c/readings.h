@@ -6,7 +6,7 @@
  * from C++17 on what fields hold as `std::string_view` and `std::optional`.
  *
  * No struct is there for
- * - `readings.Totals`: `sums` is a map;
+ * - `readings.Book`: `logs` is a list of messages without a struct of its own;
  */
 #ifndef READINGS_H
 #define READINGS_H
@@ -128,6 +128,46 @@ typedef struct readings_reading {
     int64_t offset;
     int32_t state;
 } readings_reading;
+
+/* The message `readings.Totals.StatesEntry`. */
+typedef struct readings_totals_states_entry {
+    int64_t key;
+    int32_t value;
+    gtv_bytes no_bytes;
+} readings_totals_states_entry;
+
+/* The message `readings.Totals.LastEntry`. */
+typedef struct readings_totals_last_entry {
+    uint32_t key;
+    bool has_value;
+    readings_reading value;
+} readings_totals_last_entry;
+
+/* The message `readings.Totals.SumsEntry`. */
+typedef struct readings_totals_sums_entry {
+    gtv_bytes key;
+    int32_t value;
+} readings_totals_sums_entry;
+
+/* The message `readings.Totals`. */
+/* What was measured in all: a map of each kind that a struct has, among other fields. */
+typedef struct readings_totals {
+    uint64_t sums_count;
+    gtv_bytes by;
+    uint64_t last_count;
+    uint64_t states_count;
+} readings_totals;
+
+/* The lists of a `readings.Totals` that is written: pointers to the first element, and how many there
+ * are. All is zero where there are none. */
+typedef struct readings_totals_lists {
+    const readings_totals_sums_entry *sums;
+    size_t sums_len;
+    const readings_totals_last_entry *last;
+    size_t last_len;
+    const readings_totals_states_entry *states;
+    size_t states_len;
+} readings_totals_lists;
 
 /* The oneof `readings.Visit.cause`: `which` is the number of the field that stands, or 0. */
 enum {
@@ -372,6 +412,57 @@ uint32_t readings_reading_write_keeping(const readings_reading *it,
                                 const uint8_t *bytes, size_t bytes_len,
                                 uint8_t *room, size_t room_len, size_t *len);
 
+uint32_t readings_totals_states_entry_read(const uint8_t *bytes, size_t len, readings_totals_states_entry *it);
+uint32_t readings_totals_states_entry_read_within(const uint8_t *bytes, size_t len,
+                              const gtv_limits *limits, readings_totals_states_entry *it);
+size_t readings_totals_states_entry_size(const readings_totals_states_entry *it);
+uint32_t readings_totals_states_entry_write(const readings_totals_states_entry *it,
+                        uint8_t *room, size_t room_len, size_t *len);
+uint32_t readings_totals_states_entry_size_keeping(const readings_totals_states_entry *it,
+                               const uint8_t *bytes, size_t bytes_len, size_t *len);
+uint32_t readings_totals_states_entry_write_keeping(const readings_totals_states_entry *it,
+                                const uint8_t *bytes, size_t bytes_len,
+                                uint8_t *room, size_t room_len, size_t *len);
+
+uint32_t readings_totals_last_entry_read(const uint8_t *bytes, size_t len, readings_totals_last_entry *it);
+uint32_t readings_totals_last_entry_read_within(const uint8_t *bytes, size_t len,
+                              const gtv_limits *limits, readings_totals_last_entry *it);
+size_t readings_totals_last_entry_size(const readings_totals_last_entry *it);
+uint32_t readings_totals_last_entry_write(const readings_totals_last_entry *it,
+                        uint8_t *room, size_t room_len, size_t *len);
+uint32_t readings_totals_last_entry_size_keeping(const readings_totals_last_entry *it,
+                               const uint8_t *bytes, size_t bytes_len, size_t *len);
+uint32_t readings_totals_last_entry_write_keeping(const readings_totals_last_entry *it,
+                                const uint8_t *bytes, size_t bytes_len,
+                                uint8_t *room, size_t room_len, size_t *len);
+
+uint32_t readings_totals_sums_entry_read(const uint8_t *bytes, size_t len, readings_totals_sums_entry *it);
+uint32_t readings_totals_sums_entry_read_within(const uint8_t *bytes, size_t len,
+                              const gtv_limits *limits, readings_totals_sums_entry *it);
+size_t readings_totals_sums_entry_size(const readings_totals_sums_entry *it);
+uint32_t readings_totals_sums_entry_write(const readings_totals_sums_entry *it,
+                        uint8_t *room, size_t room_len, size_t *len);
+uint32_t readings_totals_sums_entry_size_keeping(const readings_totals_sums_entry *it,
+                               const uint8_t *bytes, size_t bytes_len, size_t *len);
+uint32_t readings_totals_sums_entry_write_keeping(const readings_totals_sums_entry *it,
+                                const uint8_t *bytes, size_t bytes_len,
+                                uint8_t *room, size_t room_len, size_t *len);
+
+uint32_t readings_totals_read(const uint8_t *bytes, size_t len, readings_totals *it);
+uint32_t readings_totals_read_within(const uint8_t *bytes, size_t len,
+                              const gtv_limits *limits, readings_totals *it);
+uint32_t readings_totals_next_sums(gtv_bytes *walk, gtv_bytes *element);
+uint32_t readings_totals_next_last(gtv_bytes *walk, gtv_bytes *element);
+uint32_t readings_totals_next_states(gtv_bytes *walk, gtv_bytes *element);
+size_t readings_totals_size(const readings_totals *it, const readings_totals_lists *lists);
+uint32_t readings_totals_write(const readings_totals *it, const readings_totals_lists *lists,
+                        uint8_t *room, size_t room_len, size_t *len);
+uint32_t readings_totals_size_keeping(const readings_totals *it, const readings_totals_lists *lists,
+                               const uint8_t *bytes, size_t bytes_len, size_t *len);
+uint32_t readings_totals_write_keeping(const readings_totals *it, const readings_totals_lists *lists,
+                                const uint8_t *bytes, size_t bytes_len,
+                                uint8_t *room, size_t room_len, size_t *len);
+
 uint32_t readings_visit_read(const uint8_t *bytes, size_t len, readings_visit *it);
 uint32_t readings_visit_read_within(const uint8_t *bytes, size_t len,
                               const gtv_limits *limits, readings_visit *it);
@@ -485,6 +576,23 @@ GTV_LAYOUT(readings_reading__celsius, offsetof(readings_reading, celsius) == 16)
 GTV_LAYOUT(readings_reading__has_offset, offsetof(readings_reading, has_offset) == 24);
 GTV_LAYOUT(readings_reading__offset, offsetof(readings_reading, offset) == 32);
 GTV_LAYOUT(readings_reading__state, offsetof(readings_reading, state) == 40);
+GTV_LAYOUT(size_of_readings_totals_states_entry, sizeof(readings_totals_states_entry) == 32);
+GTV_LAYOUT(readings_totals_states_entry__key, offsetof(readings_totals_states_entry, key) == 0);
+GTV_LAYOUT(readings_totals_states_entry__value, offsetof(readings_totals_states_entry, value) == 8);
+GTV_LAYOUT(readings_totals_states_entry__no_bytes, offsetof(readings_totals_states_entry, no_bytes) == 16);
+GTV_LAYOUT(size_of_readings_totals_last_entry, sizeof(readings_totals_last_entry) == 56);
+GTV_LAYOUT(readings_totals_last_entry__key, offsetof(readings_totals_last_entry, key) == 0);
+GTV_LAYOUT(readings_totals_last_entry__has_value, offsetof(readings_totals_last_entry, has_value) == 4);
+GTV_LAYOUT(readings_totals_last_entry__value, offsetof(readings_totals_last_entry, value) == 8);
+GTV_LAYOUT(size_of_readings_totals_sums_entry, sizeof(readings_totals_sums_entry) == 24);
+GTV_LAYOUT(readings_totals_sums_entry__key, offsetof(readings_totals_sums_entry, key) == 0);
+GTV_LAYOUT(readings_totals_sums_entry__value, offsetof(readings_totals_sums_entry, value) == 16);
+GTV_LAYOUT(size_of_readings_totals, sizeof(readings_totals) == 40);
+GTV_LAYOUT(readings_totals__sums_count, offsetof(readings_totals, sums_count) == 0);
+GTV_LAYOUT(readings_totals__by, offsetof(readings_totals, by) == 8);
+GTV_LAYOUT(readings_totals__last_count, offsetof(readings_totals, last_count) == 24);
+GTV_LAYOUT(readings_totals__states_count, offsetof(readings_totals, states_count) == 32);
+GTV_LAYOUT(size_of_readings_totals_lists, sizeof(readings_totals_lists) == 48);
 GTV_LAYOUT(size_of_readings_visit_cause, sizeof(readings_visit_cause) == 104);
 GTV_LAYOUT(readings_visit_cause__which, offsetof(readings_visit_cause, which) == 0);
 GTV_LAYOUT(readings_visit_cause__state, offsetof(readings_visit_cause, state) == 4);
@@ -703,6 +811,46 @@ inline std::optional<int64_t> offset(const readings_reading &it) {
 
 inline int32_t state(const readings_reading &it) {
     return it.state;
+}
+
+inline int64_t key(const readings_totals_states_entry &it) {
+    return it.key;
+}
+
+inline int32_t value(const readings_totals_states_entry &it) {
+    return it.value;
+}
+
+inline uint32_t key(const readings_totals_last_entry &it) {
+    return it.key;
+}
+
+inline std::optional<readings_reading> value(const readings_totals_last_entry &it) {
+    return it.has_value ? std::optional<readings_reading>(it.value) : std::nullopt;
+}
+
+inline std::string_view key(const readings_totals_sums_entry &it) {
+    return gtv_view(it.key);
+}
+
+inline int32_t value(const readings_totals_sums_entry &it) {
+    return it.value;
+}
+
+inline uint64_t sums_count(const readings_totals &it) {
+    return it.sums_count;
+}
+
+inline std::string_view by(const readings_totals &it) {
+    return gtv_view(it.by);
+}
+
+inline uint64_t last_count(const readings_totals &it) {
+    return it.last_count;
+}
+
+inline uint64_t states_count(const readings_totals &it) {
+    return it.states_count;
 }
 
 inline std::string_view by(const readings_visit &it) {

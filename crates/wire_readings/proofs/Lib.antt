@@ -8,6 +8,10 @@ pub mod ReadingInCShows
 pub mod SensorInCShows
 pub mod SeriesInCShows
 pub mod SettingsInCShows
+pub mod TotalsInCShows
+pub mod TotalsLastEntryInCShows
+pub mod TotalsStatesEntryInCShows
+pub mod TotalsSumsEntryInCShows
 pub mod VisitCauseInCShows
 pub mod VisitInCShows
 pub mod VisitOutcomeInCShows

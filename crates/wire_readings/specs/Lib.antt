@@ -1,3 +1,5 @@
+pub mod Book
+pub mod BookStays
 pub mod Log
 pub mod LogInC
 pub mod LogInCLists
@@ -34,7 +36,18 @@ pub mod SettingsInC
 pub mod SettingsStays
 pub mod State
 pub mod Totals
+pub mod TotalsInC
+pub mod TotalsInCLists
+pub mod TotalsLastEntry
+pub mod TotalsLastEntryInC
+pub mod TotalsLastEntryStays
+pub mod TotalsStatesEntry
+pub mod TotalsStatesEntryInC
+pub mod TotalsStatesEntryStays
 pub mod TotalsStays
+pub mod TotalsSumsEntry
+pub mod TotalsSumsEntryInC
+pub mod TotalsSumsEntryStays
 pub mod Visit
 pub mod VisitCause
 pub mod VisitCauseInC

@@ -2,6 +2,7 @@
 //! from readings.proto; not to be edited.
 ghost use Rattle.wire_fields.specs.Returned.{ReadsBack};
 ghost use Rattle.wire_fields.specs.Stays.{DecodesInRange};
+ghost use Rattle.wire_readings.specs.Book.{book-range, book-shape};
 ghost use Rattle.wire_readings.specs.Log.{log-known, log-range, log-shape};
 ghost use Rattle.wire_readings.specs.LogInC.{LogInC-ReadsBack};
 ghost use Rattle.wire_readings.specs.Marks.{marks-known, marks-range, marks-shape};
@@ -18,13 +19,42 @@ ghost use Rattle.wire_readings.specs.Series.{series-known, series-range, series-
 ghost use Rattle.wire_readings.specs.SeriesInC.{SeriesInC-ReadsBack};
 ghost use Rattle.wire_readings.specs.Settings.{settings-known, settings-range, settings-shape};
 ghost use Rattle.wire_readings.specs.SettingsInC.{SettingsInC-ReadsBack};
-ghost use Rattle.wire_readings.specs.Totals.{totals-range, totals-shape};
+ghost use Rattle.wire_readings.specs.Totals.{totals-known, totals-range, totals-shape};
+ghost use Rattle.wire_readings.specs.TotalsInC.{TotalsInC-ReadsBack};
+ghost use Rattle.wire_readings.specs.TotalsLastEntry.{totals_last_entry-known};
+ghost use Rattle.wire_readings.specs.TotalsLastEntry.{totals_last_entry-range};
+ghost use Rattle.wire_readings.specs.TotalsLastEntry.{totals_last_entry-shape};
+ghost use Rattle.wire_readings.specs.TotalsLastEntryInC.{TotalsLastEntryInC-ReadsBack};
+ghost use Rattle.wire_readings.specs.TotalsStatesEntry.{totals_states_entry-known};
+ghost use Rattle.wire_readings.specs.TotalsStatesEntry.{totals_states_entry-range};
+ghost use Rattle.wire_readings.specs.TotalsStatesEntry.{totals_states_entry-shape};
+ghost use Rattle.wire_readings.specs.TotalsStatesEntryInC.{TotalsStatesEntryInC-ReadsBack};
+ghost use Rattle.wire_readings.specs.TotalsSumsEntry.{totals_sums_entry-known};
+ghost use Rattle.wire_readings.specs.TotalsSumsEntry.{totals_sums_entry-range};
+ghost use Rattle.wire_readings.specs.TotalsSumsEntry.{totals_sums_entry-shape};
+ghost use Rattle.wire_readings.specs.TotalsSumsEntryInC.{TotalsSumsEntryInC-ReadsBack};
 ghost use Rattle.wire_readings.specs.Visit.{visit-known, visit-range, visit-shape};
 ghost use Rattle.wire_readings.specs.VisitInC.{VisitInC-ReadsBack};
 ghost use Rattle.wire_structs.specs.KeptFields.{KeepsUnknown};
 
 use wire_codec::laws::text_decodes;
 use wire_fields::laws::grounds;
+
+/// What is written of each `Book` in range decodes to it, where the limits suffice.
+pub fn book_reads_back()
+    ensures { ReadsBack book-shape book-range }
+{
+    grounds();
+    text_decodes::<crate::Book>();
+}
+
+/// What bytes decode to as `Book` is in range, where each message and group
+/// within it takes at most 2,147,483,647 bytes and any other payload less than 2^64.
+pub fn book_decodes_in_range()
+    ensures { DecodesInRange book-shape book-range }
+{
+    grounds();
+}
 
 /// What is written of each `Totals` in range decodes to it, where the limits suffice.
 pub fn totals_reads_back()
@@ -186,6 +216,54 @@ pub fn reading_decodes_in_range()
     grounds();
 }
 
+/// What is written of each `TotalsStatesEntry` in range decodes to it, where the limits suffice.
+pub fn totals_states_entry_reads_back()
+    ensures { ReadsBack totals_states_entry-shape totals_states_entry-range }
+{
+    grounds();
+    text_decodes::<crate::TotalsStatesEntry>();
+}
+
+/// What bytes decode to as `TotalsStatesEntry` is in range, where each message and group
+/// within it takes at most 2,147,483,647 bytes and any other payload less than 2^64.
+pub fn totals_states_entry_decodes_in_range()
+    ensures { DecodesInRange totals_states_entry-shape totals_states_entry-range }
+{
+    grounds();
+}
+
+/// What is written of each `TotalsLastEntry` in range decodes to it, where the limits suffice.
+pub fn totals_last_entry_reads_back()
+    ensures { ReadsBack totals_last_entry-shape totals_last_entry-range }
+{
+    grounds();
+    text_decodes::<crate::TotalsLastEntry>();
+}
+
+/// What bytes decode to as `TotalsLastEntry` is in range, where each message and group
+/// within it takes at most 2,147,483,647 bytes and any other payload less than 2^64.
+pub fn totals_last_entry_decodes_in_range()
+    ensures { DecodesInRange totals_last_entry-shape totals_last_entry-range }
+{
+    grounds();
+}
+
+/// What is written of each `TotalsSumsEntry` in range decodes to it, where the limits suffice.
+pub fn totals_sums_entry_reads_back()
+    ensures { ReadsBack totals_sums_entry-shape totals_sums_entry-range }
+{
+    grounds();
+    text_decodes::<crate::TotalsSumsEntry>();
+}
+
+/// What bytes decode to as `TotalsSumsEntry` is in range, where each message and group
+/// within it takes at most 2,147,483,647 bytes and any other payload less than 2^64.
+pub fn totals_sums_entry_decodes_in_range()
+    ensures { DecodesInRange totals_sums_entry-shape totals_sums_entry-range }
+{
+    grounds();
+}
+
 /// What is written of a `MarksInC` and of its lists is read as it is written, with the unknown fields
 /// behind it.
 pub fn marks_in_c_reads_back()
@@ -254,6 +332,62 @@ pub fn reading_in_c_reads_back()
 /// keeps which the bytes are.
 pub fn reading_in_c_keeps_unknown()
     ensures { KeepsUnknown reading-known }
+{}
+
+/// What is written of a `TotalsStatesEntryInC` is read as it is written, with the unknown fields
+/// behind it.
+pub fn totals_states_entry_in_c_reads_back()
+    ensures { TotalsStatesEntryInC-ReadsBack }
+{
+    totals_states_entry_reads_back();
+}
+
+/// The unknown fields of bytes, which are written behind a `TotalsStatesEntryInC`, are those that the message
+/// keeps which the bytes are.
+pub fn totals_states_entry_in_c_keeps_unknown()
+    ensures { KeepsUnknown totals_states_entry-known }
+{}
+
+/// What is written of a `TotalsLastEntryInC` is read as it is written, with the unknown fields
+/// behind it.
+pub fn totals_last_entry_in_c_reads_back()
+    ensures { TotalsLastEntryInC-ReadsBack }
+{
+    totals_last_entry_reads_back();
+}
+
+/// The unknown fields of bytes, which are written behind a `TotalsLastEntryInC`, are those that the message
+/// keeps which the bytes are.
+pub fn totals_last_entry_in_c_keeps_unknown()
+    ensures { KeepsUnknown totals_last_entry-known }
+{}
+
+/// What is written of a `TotalsSumsEntryInC` is read as it is written, with the unknown fields
+/// behind it.
+pub fn totals_sums_entry_in_c_reads_back()
+    ensures { TotalsSumsEntryInC-ReadsBack }
+{
+    totals_sums_entry_reads_back();
+}
+
+/// The unknown fields of bytes, which are written behind a `TotalsSumsEntryInC`, are those that the message
+/// keeps which the bytes are.
+pub fn totals_sums_entry_in_c_keeps_unknown()
+    ensures { KeepsUnknown totals_sums_entry-known }
+{}
+
+/// What is written of a `TotalsInC` and of its lists is read as it is written, with the unknown fields
+/// behind it.
+pub fn totals_in_c_reads_back()
+    ensures { TotalsInC-ReadsBack }
+{
+    totals_reads_back();
+}
+
+/// The unknown fields of bytes, which are written behind a `TotalsInC`, are those that the message
+/// keeps which the bytes are.
+pub fn totals_in_c_keeps_unknown()
+    ensures { KeepsUnknown totals-known }
 {}
 
 /// What is written of a `VisitInC` is read as it is written, with the unknown fields

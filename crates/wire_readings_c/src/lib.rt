@@ -13,4 +13,8 @@ mod reading;
 mod sensor;
 mod series;
 mod settings;
+mod totals;
+mod totals_last_entry;
+mod totals_states_entry;
+mod totals_sums_entry;
 mod visit;

@@ -175,8 +175,8 @@ impl Schema {
         }
     }
 
-    // Whether the values of a field, those of a map too, are of a closed enum.
-    fn is_of_closed_enum(&self, field: &FieldDescriptorProto) -> bool {
+    /// Whether the values of a field, those of a map too, are of a closed enum.
+    pub(crate) fn is_of_closed_enum(&self, field: &FieldDescriptorProto) -> bool {
         match self.enum_of(self.held(field)) {
             Some(of_enum) => of_enum.origin.features.is_closed(),
             None => false,

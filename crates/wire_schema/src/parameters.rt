@@ -16,8 +16,9 @@ use wire_descriptor::CodeGeneratorRequest;
 /// bytes, and `required=optional` required fields as optional ones; `views=true` writes views;
 /// `services=skip` passes over services, `defaults=skip` over default values, and `laws=skip`
 /// writes no laws; `split=COUNT` writes crates of about so many message types; `c=NAME`
-/// writes structs for C, whose names begin so, and the crate of their library; and each
-/// `encoded=FIELD` names a field of messages that is held as the bytes of their encodings.
+/// writes structs for C, whose names begin so, and the crate of their library, and makes maps lists
+/// of their entries; and each `encoded=FIELD` names a field of messages that is held as the bytes
+/// of their encodings.
 pub fn set_crate(base: &mut Words, request: &CodeGeneratorRequest) -> Result<(), GenerateError> {
     base.set("crate", first_name(request));
     base.fill_all(&DEFAULTS);

@@ -95,7 +95,7 @@ impl Schema {
             }
         }
         adapt(base, &mut schema)?;
-        schema.open_entries()?;
+        schema.open_entries(base)?;
         schema.find_families()?;
         schema.find_twins()?;
         schema.find_charged()?;

@@ -9,6 +9,11 @@ use crate::series::SeriesLists;
 use crate::point::Point;
 use crate::settings::Settings;
 use crate::reading::Reading;
+use crate::totals_states_entry::TotalsStatesEntry;
+use crate::totals_last_entry::TotalsLastEntry;
+use crate::totals_sums_entry::TotalsSumsEntry;
+use crate::totals::Totals;
+use crate::totals::TotalsLists;
 use crate::visit::Visit;
 use crate::log::Log;
 use crate::log::LogLists;
@@ -548,6 +553,221 @@ extern "C" {
         room_len: usize,
         len: *mut usize,
     ) -> u32;
+}
+
+// SAFETY: the struct is that of the header, and the calls are its own.
+unsafe impl<'a> Struct<'a> for TotalsStatesEntry<'a> {
+    const READ: ReadCall<Self> = readings_totals_states_entry_read;
+    const READ_WITHIN: ReadWithinCall<Self> = readings_totals_states_entry_read_within;
+}
+
+// SAFETY: as above.
+unsafe impl<'a> Written for TotalsStatesEntry<'a> {
+    const SIZE: SizeCall<Self> = readings_totals_states_entry_size;
+    const WRITE: WriteCall<Self> = readings_totals_states_entry_write;
+    const SIZE_KEEPING: SizeKeepingCall<Self> = readings_totals_states_entry_size_keeping;
+    const WRITE_KEEPING: WriteKeepingCall<Self> = readings_totals_states_entry_write_keeping;
+}
+
+const _: () = assert!(std::mem::size_of::<TotalsStatesEntry<'static>>() == 32);
+
+extern "C" {
+    fn readings_totals_states_entry_read<'a>(bytes: *const u8, len: usize, it: *mut TotalsStatesEntry<'a>) -> u32;
+    fn readings_totals_states_entry_read_within<'a>(
+        bytes: *const u8,
+        len: usize,
+        limits: *const Limits,
+        it: *mut TotalsStatesEntry<'a>,
+    ) -> u32;
+    fn readings_totals_states_entry_size<'a>(it: *const TotalsStatesEntry<'a>) -> usize;
+    fn readings_totals_states_entry_write<'a>(
+        it: *const TotalsStatesEntry<'a>,
+        room: *mut u8,
+        room_len: usize,
+        len: *mut usize,
+    ) -> u32;
+    fn readings_totals_states_entry_size_keeping<'a>(
+        it: *const TotalsStatesEntry<'a>,
+        bytes: *const u8,
+        bytes_len: usize,
+        len: *mut usize,
+    ) -> u32;
+    fn readings_totals_states_entry_write_keeping<'a>(
+        it: *const TotalsStatesEntry<'a>,
+        bytes: *const u8,
+        bytes_len: usize,
+        room: *mut u8,
+        room_len: usize,
+        len: *mut usize,
+    ) -> u32;
+}
+
+// SAFETY: the struct is that of the header, and the calls are its own.
+unsafe impl<'a> Struct<'a> for TotalsLastEntry<'a> {
+    const READ: ReadCall<Self> = readings_totals_last_entry_read;
+    const READ_WITHIN: ReadWithinCall<Self> = readings_totals_last_entry_read_within;
+}
+
+// SAFETY: as above.
+unsafe impl<'a> Written for TotalsLastEntry<'a> {
+    const SIZE: SizeCall<Self> = readings_totals_last_entry_size;
+    const WRITE: WriteCall<Self> = readings_totals_last_entry_write;
+    const SIZE_KEEPING: SizeKeepingCall<Self> = readings_totals_last_entry_size_keeping;
+    const WRITE_KEEPING: WriteKeepingCall<Self> = readings_totals_last_entry_write_keeping;
+}
+
+const _: () = assert!(std::mem::size_of::<TotalsLastEntry<'static>>() == 56);
+
+extern "C" {
+    fn readings_totals_last_entry_read<'a>(bytes: *const u8, len: usize, it: *mut TotalsLastEntry<'a>) -> u32;
+    fn readings_totals_last_entry_read_within<'a>(
+        bytes: *const u8,
+        len: usize,
+        limits: *const Limits,
+        it: *mut TotalsLastEntry<'a>,
+    ) -> u32;
+    fn readings_totals_last_entry_size<'a>(it: *const TotalsLastEntry<'a>) -> usize;
+    fn readings_totals_last_entry_write<'a>(
+        it: *const TotalsLastEntry<'a>,
+        room: *mut u8,
+        room_len: usize,
+        len: *mut usize,
+    ) -> u32;
+    fn readings_totals_last_entry_size_keeping<'a>(
+        it: *const TotalsLastEntry<'a>,
+        bytes: *const u8,
+        bytes_len: usize,
+        len: *mut usize,
+    ) -> u32;
+    fn readings_totals_last_entry_write_keeping<'a>(
+        it: *const TotalsLastEntry<'a>,
+        bytes: *const u8,
+        bytes_len: usize,
+        room: *mut u8,
+        room_len: usize,
+        len: *mut usize,
+    ) -> u32;
+}
+
+// SAFETY: the struct is that of the header, and the calls are its own.
+unsafe impl<'a> Struct<'a> for TotalsSumsEntry<'a> {
+    const READ: ReadCall<Self> = readings_totals_sums_entry_read;
+    const READ_WITHIN: ReadWithinCall<Self> = readings_totals_sums_entry_read_within;
+}
+
+// SAFETY: as above.
+unsafe impl<'a> Written for TotalsSumsEntry<'a> {
+    const SIZE: SizeCall<Self> = readings_totals_sums_entry_size;
+    const WRITE: WriteCall<Self> = readings_totals_sums_entry_write;
+    const SIZE_KEEPING: SizeKeepingCall<Self> = readings_totals_sums_entry_size_keeping;
+    const WRITE_KEEPING: WriteKeepingCall<Self> = readings_totals_sums_entry_write_keeping;
+}
+
+const _: () = assert!(std::mem::size_of::<TotalsSumsEntry<'static>>() == 24);
+
+extern "C" {
+    fn readings_totals_sums_entry_read<'a>(bytes: *const u8, len: usize, it: *mut TotalsSumsEntry<'a>) -> u32;
+    fn readings_totals_sums_entry_read_within<'a>(
+        bytes: *const u8,
+        len: usize,
+        limits: *const Limits,
+        it: *mut TotalsSumsEntry<'a>,
+    ) -> u32;
+    fn readings_totals_sums_entry_size<'a>(it: *const TotalsSumsEntry<'a>) -> usize;
+    fn readings_totals_sums_entry_write<'a>(
+        it: *const TotalsSumsEntry<'a>,
+        room: *mut u8,
+        room_len: usize,
+        len: *mut usize,
+    ) -> u32;
+    fn readings_totals_sums_entry_size_keeping<'a>(
+        it: *const TotalsSumsEntry<'a>,
+        bytes: *const u8,
+        bytes_len: usize,
+        len: *mut usize,
+    ) -> u32;
+    fn readings_totals_sums_entry_write_keeping<'a>(
+        it: *const TotalsSumsEntry<'a>,
+        bytes: *const u8,
+        bytes_len: usize,
+        room: *mut u8,
+        room_len: usize,
+        len: *mut usize,
+    ) -> u32;
+}
+
+// SAFETY: the struct is that of the header, and the calls are its own.
+unsafe impl<'a> Struct<'a> for Totals<'a> {
+    const READ: ReadCall<Self> = readings_totals_read;
+    const READ_WITHIN: ReadWithinCall<Self> = readings_totals_read_within;
+}
+
+// SAFETY: as above, and the lists are those of the header.
+unsafe impl<'a, 'h> WrittenWith<TotalsLists<'h>> for Totals<'a> {
+    const SIZE: SizeWithCall<Self, TotalsLists<'h>> = readings_totals_size;
+    const WRITE: WriteWithCall<Self, TotalsLists<'h>> = readings_totals_write;
+    const SIZE_KEEPING: SizeKeepingWithCall<Self, TotalsLists<'h>> = readings_totals_size_keeping;
+    const WRITE_KEEPING: WriteKeepingWithCall<Self, TotalsLists<'h>> = readings_totals_write_keeping;
+}
+
+const _: () = assert!(std::mem::size_of::<Totals<'static>>() == 40);
+
+extern "C" {
+    fn readings_totals_read<'a>(bytes: *const u8, len: usize, it: *mut Totals<'a>) -> u32;
+    fn readings_totals_read_within<'a>(
+        bytes: *const u8,
+        len: usize,
+        limits: *const Limits,
+        it: *mut Totals<'a>,
+    ) -> u32;
+    fn readings_totals_size<'a, 'h>(it: *const Totals<'a>, lists: *const TotalsLists<'h>) -> usize;
+    fn readings_totals_write<'a, 'h>(
+        it: *const Totals<'a>,
+        lists: *const TotalsLists<'h>,
+        room: *mut u8,
+        room_len: usize,
+        len: *mut usize,
+    ) -> u32;
+    fn readings_totals_size_keeping<'a, 'h>(
+        it: *const Totals<'a>,
+        lists: *const TotalsLists<'h>,
+        bytes: *const u8,
+        bytes_len: usize,
+        len: *mut usize,
+    ) -> u32;
+    fn readings_totals_write_keeping<'a, 'h>(
+        it: *const Totals<'a>,
+        lists: *const TotalsLists<'h>,
+        bytes: *const u8,
+        bytes_len: usize,
+        room: *mut u8,
+        room_len: usize,
+        len: *mut usize,
+    ) -> u32;
+}
+
+pub(crate) fn sums_of_totals(bytes: &[u8]) -> Walk<'_> {
+    Walk::new(bytes, readings_totals_next_sums)
+}
+
+extern "C" {
+    fn readings_totals_next_sums<'a>(walk: *mut Bytes<'a>, element: *mut Bytes<'a>) -> u32;
+}
+
+pub(crate) fn last_of_totals(bytes: &[u8]) -> Walk<'_> {
+    Walk::new(bytes, readings_totals_next_last)
+}
+
+extern "C" {
+    fn readings_totals_next_last<'a>(walk: *mut Bytes<'a>, element: *mut Bytes<'a>) -> u32;
+}
+
+pub(crate) fn states_of_totals(bytes: &[u8]) -> Walk<'_> {
+    Walk::new(bytes, readings_totals_next_states)
+}
+
+extern "C" {
+    fn readings_totals_next_states<'a>(walk: *mut Bytes<'a>, element: *mut Bytes<'a>) -> u32;
 }
 
 // SAFETY: the struct is that of the header, and the calls are its own.

@@ -1,0 +1,100 @@
+//! The message `readings.Totals.LastEntry`.
+use crate::gtv_ffi as ffi;
+use crate::gtv_structs::{Limits, NoRoom, NotWritten, Refusal};
+use crate::reading::Reading;
+use std::fmt;
+
+/// The message `readings.Totals.LastEntry`.
+#[repr(C)]
+#[derive(Clone, Copy)]
+pub struct TotalsLastEntry<'a> {
+    key: u32,
+    has_value: bool,
+    value: Reading<'a>,
+}
+
+impl<'a> TotalsLastEntry<'a> {
+    /// The message of no records.
+    pub fn new() -> TotalsLastEntry<'a> {
+        ffi::zero()
+    }
+
+    /// The message that all of the bytes are.
+    pub fn read(bytes: &'a [u8]) -> Result<TotalsLastEntry<'a>, Refusal> {
+        ffi::read(bytes)
+    }
+
+    /// The same within these limits.
+    pub fn read_within(bytes: &'a [u8], limits: &Limits) -> Result<TotalsLastEntry<'a>, Refusal> {
+        ffi::read_within(bytes, limits)
+    }
+
+    /// How many bytes the encoding has.
+    pub fn size(&self) -> usize {
+        ffi::size(self)
+    }
+
+    /// Writes the encoding at the front of the room, and says how many bytes it has.
+    pub fn write(&self, room: &mut [u8]) -> Result<usize, NoRoom> {
+        ffi::write(self, room)
+    }
+
+    /// The encoding.
+    pub fn to_vec(&self) -> Vec<u8> {
+        let mut bytes = vec![0; self.size()];
+        let _ = self.write(&mut bytes);
+        bytes
+    }
+
+    /// How many bytes the encoding has with the unknown fields of these bytes behind it:
+    /// the records of other numbers, usually of the bytes that the message was read from.
+    pub fn size_keeping(&self, bytes: &[u8]) -> Result<usize, Refusal> {
+        ffi::size_keeping(self, bytes)
+    }
+
+    /// Writes that encoding at the front of the room, and says how many bytes it has.
+    pub fn write_keeping(&self, bytes: &[u8], room: &mut [u8]) -> Result<usize, NotWritten> {
+        ffi::write_keeping(self, bytes, room)
+    }
+
+    /// That encoding.
+    pub fn to_vec_keeping(&self, bytes: &[u8]) -> Result<Vec<u8>, Refusal> {
+        let mut room = vec![0; self.size_keeping(bytes)?];
+        let _ = self.write_keeping(bytes, &mut room);
+        Ok(room)
+    }
+
+    pub fn key(&self) -> u32 {
+        self.key
+    }
+
+    pub fn set_key(&mut self, key: u32) {
+        self.key = key;
+    }
+
+    pub fn value(&self) -> Option<Reading<'a>> {
+        if self.has_value { Some(self.value) } else { None }
+    }
+
+    pub fn set_value(&mut self, value: Option<Reading<'a>>) {
+        self.has_value = value.is_some();
+        if let Some(value) = value {
+            self.value = value;
+        }
+    }
+}
+
+impl Default for TotalsLastEntry<'_> {
+    fn default() -> Self {
+        TotalsLastEntry::new()
+    }
+}
+
+impl fmt::Debug for TotalsLastEntry<'_> {
+    fn fmt(&self, f: &mut fmt::Formatter<'_>) -> fmt::Result {
+        f.debug_struct("TotalsLastEntry")
+            .field("key", &self.key())
+            .field("value", &self.value())
+            .finish()
+    }
+}

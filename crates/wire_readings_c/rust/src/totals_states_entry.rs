@@ -1,0 +1,96 @@
+//! The message `readings.Totals.StatesEntry`.
+use crate::gtv_ffi as ffi;
+use crate::gtv_structs::{Bytes, Limits, NoRoom, NotWritten, Refusal};
+use std::fmt;
+
+/// The message `readings.Totals.StatesEntry`.
+#[repr(C)]
+#[derive(Clone, Copy)]
+pub struct TotalsStatesEntry<'a> {
+    key: i64,
+    value: i32,
+    no_bytes: Bytes<'a>,
+}
+
+impl<'a> TotalsStatesEntry<'a> {
+    /// The message of no records.
+    pub fn new() -> TotalsStatesEntry<'a> {
+        ffi::zero()
+    }
+
+    /// The message that all of the bytes are.
+    pub fn read(bytes: &'a [u8]) -> Result<TotalsStatesEntry<'a>, Refusal> {
+        ffi::read(bytes)
+    }
+
+    /// The same within these limits.
+    pub fn read_within(bytes: &'a [u8], limits: &Limits) -> Result<TotalsStatesEntry<'a>, Refusal> {
+        ffi::read_within(bytes, limits)
+    }
+
+    /// How many bytes the encoding has.
+    pub fn size(&self) -> usize {
+        ffi::size(self)
+    }
+
+    /// Writes the encoding at the front of the room, and says how many bytes it has.
+    pub fn write(&self, room: &mut [u8]) -> Result<usize, NoRoom> {
+        ffi::write(self, room)
+    }
+
+    /// The encoding.
+    pub fn to_vec(&self) -> Vec<u8> {
+        let mut bytes = vec![0; self.size()];
+        let _ = self.write(&mut bytes);
+        bytes
+    }
+
+    /// How many bytes the encoding has with the unknown fields of these bytes behind it:
+    /// the records of other numbers, usually of the bytes that the message was read from.
+    pub fn size_keeping(&self, bytes: &[u8]) -> Result<usize, Refusal> {
+        ffi::size_keeping(self, bytes)
+    }
+
+    /// Writes that encoding at the front of the room, and says how many bytes it has.
+    pub fn write_keeping(&self, bytes: &[u8], room: &mut [u8]) -> Result<usize, NotWritten> {
+        ffi::write_keeping(self, bytes, room)
+    }
+
+    /// That encoding.
+    pub fn to_vec_keeping(&self, bytes: &[u8]) -> Result<Vec<u8>, Refusal> {
+        let mut room = vec![0; self.size_keeping(bytes)?];
+        let _ = self.write_keeping(bytes, &mut room);
+        Ok(room)
+    }
+
+    pub fn key(&self) -> i64 {
+        self.key
+    }
+
+    pub fn set_key(&mut self, key: i64) {
+        self.key = key;
+    }
+
+    pub fn value(&self) -> i32 {
+        self.value
+    }
+
+    pub fn set_value(&mut self, value: i32) {
+        self.value = value;
+    }
+}
+
+impl Default for TotalsStatesEntry<'_> {
+    fn default() -> Self {
+        TotalsStatesEntry::new()
+    }
+}
+
+impl fmt::Debug for TotalsStatesEntry<'_> {
+    fn fmt(&self, f: &mut fmt::Formatter<'_>) -> fmt::Result {
+        f.debug_struct("TotalsStatesEntry")
+            .field("key", &self.key())
+            .field("value", &self.value())
+            .finish()
+    }
+}
