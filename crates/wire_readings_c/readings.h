@@ -6,7 +6,7 @@
  * from C++17 on what fields hold as `std::string_view` and `std::optional`.
  *
  * No struct is there for
- * - `readings.Book`: `logs` is a list of messages without a struct of its own;
+ * - `readings.Book`: `logs` is of messages that have lists, or no struct; encoded=readings.Book.logs takes each as bytes;
  */
 #ifndef READINGS_H
 #define READINGS_H
@@ -130,6 +130,8 @@ typedef struct readings_reading {
 } readings_reading;
 
 /* The message `readings.Totals.StatesEntry`. */
+/* An entry of a map, as it came: of several of one key the last counts, and what is not there is
+ * zero, of no bytes, or a message of no records. */
 typedef struct readings_totals_states_entry {
     int64_t key;
     int32_t value;
@@ -137,6 +139,8 @@ typedef struct readings_totals_states_entry {
 } readings_totals_states_entry;
 
 /* The message `readings.Totals.LastEntry`. */
+/* An entry of a map, as it came: of several of one key the last counts, and what is not there is
+ * zero, of no bytes, or a message of no records. */
 typedef struct readings_totals_last_entry {
     uint32_t key;
     bool has_value;
@@ -144,6 +148,8 @@ typedef struct readings_totals_last_entry {
 } readings_totals_last_entry;
 
 /* The message `readings.Totals.SumsEntry`. */
+/* An entry of a map, as it came: of several of one key the last counts, and what is not there is
+ * zero, of no bytes, or a message of no records. */
 typedef struct readings_totals_sums_entry {
     gtv_bytes key;
     int32_t value;
@@ -325,16 +331,16 @@ typedef struct readings_plan_lists {
  * GTV_OK; or GTV_NO_ROOM, exactly where the room is smaller, and then it stays as it was. `*len` is
  * how many bytes the encoding has, either way. Nothing behind it is written.
  *
- * Of a list the struct has how many elements there are, `_count`. Each `_next_` gives them one
- * after another: set `walk` to the bytes that were read as the message, and call until the answer
- * is no GTV_OK. GTV_OK, and `element` is the next of them, a string or `bytes` as they are, a
- * message as bytes of its own, and `walk` is what is behind it; GTV_END, where none is left; or the
- * status of an error, which bytes that were read as the message never have. Without GTV_OK `walk`
- * stays, and `element` is of no bytes. The bytes of a message are such a message, within some
- * limits of no more than 100 levels. Of a list of numbers, packed or not, `walk` is a
- * `gtv_numbers`: set its `bytes` to those that were read, and all else of it to zero; `number` is
- * the next, and stays without GTV_OK. What is written of lists is handed in beside the struct,
- * whose counts are not looked at.
+ * Of a list the struct has how many elements there are, `_count`, and a map is a list of entries,
+ * in the order in which they came. Each `_next_` gives them one after another: set `walk` to the
+ * bytes that were read as the message, and call until the answer is no GTV_OK. GTV_OK, and
+ * `element` is the next of them, a string or `bytes` as they are, a message as bytes of its own,
+ * and `walk` is what is behind it; GTV_END, where none is left; or the status of an error, which
+ * bytes that were read as the message never have. Without GTV_OK `walk` stays, and `element` is of
+ * no bytes. The bytes of a message are such a message, within some limits of no more than 100
+ * levels. Of a list of numbers, packed or not, `walk` is a `gtv_numbers`: set its `bytes` to those
+ * that were read, and all else of it to zero; `number` is the next, and stays without GTV_OK. What
+ * is written of lists is handed in beside the struct, whose counts are not looked at.
  *
  * Each `_size_keeping` and `_write_keeping` has unknown fields behind it: of the records that
  * `bytes` are, usually those that the struct was read from, those whose numbers the message lacks,

@@ -65,16 +65,16 @@ const TOLD: &str = "\
  * GTV_OK; or GTV_NO_ROOM, exactly where the room is smaller, and then it stays as it was. `*len` is
  * how many bytes the encoding has, either way. Nothing behind it is written.
  *
- * Of a list the struct has how many elements there are, `_count`. Each `_next_` gives them one
- * after another: set `walk` to the bytes that were read as the message, and call until the answer
- * is no GTV_OK. GTV_OK, and `element` is the next of them, a string or `bytes` as they are, a
- * message as bytes of its own, and `walk` is what is behind it; GTV_END, where none is left; or the
- * status of an error, which bytes that were read as the message never have. Without GTV_OK `walk`
- * stays, and `element` is of no bytes. The bytes of a message are such a message, within some
- * limits of no more than 100 levels. Of a list of numbers, packed or not, `walk` is a
- * `gtv_numbers`: set its `bytes` to those that were read, and all else of it to zero; `number` is
- * the next, and stays without GTV_OK. What is written of lists is handed in beside the struct,
- * whose counts are not looked at.
+ * Of a list the struct has how many elements there are, `_count`, and a map is a list of entries,
+ * in the order in which they came. Each `_next_` gives them one after another: set `walk` to the
+ * bytes that were read as the message, and call until the answer is no GTV_OK. GTV_OK, and
+ * `element` is the next of them, a string or `bytes` as they are, a message as bytes of its own,
+ * and `walk` is what is behind it; GTV_END, where none is left; or the status of an error, which
+ * bytes that were read as the message never have. Without GTV_OK `walk` stays, and `element` is of
+ * no bytes. The bytes of a message are such a message, within some limits of no more than 100
+ * levels. Of a list of numbers, packed or not, `walk` is a `gtv_numbers`: set its `bytes` to those
+ * that were read, and all else of it to zero; `number` is the next, and stays without GTV_OK. What
+ * is written of lists is handed in beside the struct, whose counts are not looked at.
  *
  * Each `_size_keeping` and `_write_keeping` has unknown fields behind it: of the records that
  * `bytes` are, usually those that the struct was read from, those whose numbers the message lacks,
@@ -115,6 +115,11 @@ const STRUCT: &str = "
 $c_comment$typedef struct $c_name$ {
 $members$} $c_name$;
 ";
+
+// What is told of the entries of a map.
+const ENTRY: &str =
+    " An entry of a map, as it came: of several of one key the last counts, and what \
+    is not there is\n zero, of no bytes, or a message of no records.\n";
 
 const OF_MESSAGE: [Template; 3] = [
     ("types", STRUCT),
@@ -204,7 +209,10 @@ impl CHeader {
             ("list_marks", ""),
             ("c_comment", ""),
         ]);
-        let comment = schema.comment(message.words.get("place"));
+        let comment = match message.is_entry() {
+            true => ENTRY,
+            false => schema.comment(message.words.get("place")),
+        };
         put_c_comment(words, "c_comment", "", comment)?;
         let mut layout = Layout::new();
         for field in fields {
@@ -243,7 +251,7 @@ impl CHeader {
         }
         let module = String::from_str(words.alloc(), words.get("module"))?;
         self.layouts.push((module, layout))?;
-        self.rust.put_message(&self.words, schema, fields)
+        self.rust.put_message(&self.words, comment, schema, fields)
     }
 
     /// The constants of an enum.

@@ -26,7 +26,7 @@ $allowed$use crate::gtv_structs::{$support$};
 $inner_uses$use std::fmt;
 
 /// The message `$full$`.
-#[repr(C)]
+$told$#[repr(C)]
 #[derive(Clone, Copy)]
 pub struct $name$<'a> {
 $held$}
@@ -177,10 +177,11 @@ impl RustCrate {
         }
     }
 
-    /// The module of a message, whose words those of the header are.
+    /// The module of a message, whose words those of the header are, and what is told of it.
     pub(crate) fn put_message(
         &mut self,
         header: &Words,
+        comment: &str,
         schema: &Schema,
         fields: &[Field],
     ) -> Result<String, GenerateError> {
@@ -194,6 +195,8 @@ impl RustCrate {
             ("oneofs", ""),
         ]);
         words.fill_all(&EMPTY_LISTS);
+        words.set("told", if comment.is_empty() { "" } else { "///\n" });
+        put_comment(words, "told", "", comment);
         let mut has_text = false;
         let mut has_bytes = has_no_bytes(fields);
         for field in fields {

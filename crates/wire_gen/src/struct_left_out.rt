@@ -9,6 +9,17 @@ const LEFT: [Template; 2] = [
     ("told_left", "wire_gen: no struct for `$full$`: $why$\n"),
 ];
 
+// What a field is that a struct can't have, and how it can be had all the same.
+const CLOSED: &str = "of a closed enum; enums=open takes its numbers as they are";
+
+const CLOSED_MAP: &str = "a map of a closed enum; enums=open takes its numbers as they are";
+
+const EACH: &str =
+    "of messages that have lists, or no struct; encoded=$full$.$field$ takes each as bytes";
+
+const INSIDE: &str =
+    "a message that has lists, or no struct; encoded=$full$.$field$ takes it as bytes";
+
 /// Says why a message has no struct, in the header and beside the answer: the first field that it
 /// can't have, and what that is.
 pub(crate) fn put_left_out(
@@ -18,7 +29,7 @@ pub(crate) fn put_left_out(
 ) -> Result<(), GenerateError> {
     words.set("full", message.words.get("full").trim_start_matches('.'));
     words.set("field", field);
-    words.set("what", what);
+    words.fill("what", what);
     words.fill(
         "why",
         if field.is_empty() {
@@ -31,8 +42,8 @@ pub(crate) fn put_left_out(
     words.ended()
 }
 
-/// Why a message of these fields can have no struct: the first that it can't have, and what that
-/// is. Those that may be inside are between spaces.
+/// Why a message of these fields can have no struct: the first that it can't have, as the schema
+/// calls it, and what that is. Those that may be inside are between spaces.
 pub(crate) fn reason<'a>(fields: &'a [Field], inside: &str) -> Option<(&'a str, &'static str)> {
     if fields.is_empty() {
         return Some(("", "it has no fields"));
@@ -42,70 +53,78 @@ pub(crate) fn reason<'a>(fields: &'a [Field], inside: &str) -> Option<(&'a str, 
     }
     if let Some(field) = fields.iter().find(|it| is_called_as_a_member(it, fields)) {
         return Some((
-            field.words.get("field"),
+            field.words.get("proto"),
             "called as what there is of another field",
         ));
     }
-    for field in fields {
-        let what = why_not(field, inside);
-        if !what.is_empty() {
-            return Some((field.words.get("field"), what));
-        }
-    }
-    None
+    fields.iter().find_map(|it| why_not(it, inside))
 }
 
-// Why a struct can't have a field, or nothing where it can.
-fn why_not(field: &Field, inside: &str) -> &'static str {
+// Why a struct can't have a field, if it can't: what of it, as the schema calls it, and what that
+// is.
+fn why_not<'a>(field: &'a Field, inside: &str) -> Option<(&'a str, &'static str)> {
+    let name = field.words.get("proto");
     if matches!(field.words.get("field"), "new" | "old" | "now") {
-        return "called as a word of clauses";
+        return Some((name, "called as a word of clauses"));
     }
     if let Some(oneof) = &field.oneof {
         return why_not_oneof(&field.words, oneof, inside);
     }
-    let kind = field.words.get("kind");
+    match what_of(&field.words, inside) {
+        "" => None,
+        what => Some((name, what)),
+    }
+}
+
+// What a field is that a struct can't have, or nothing where it can.
+fn what_of(field: &Words, inside: &str) -> &'static str {
+    let kind = field.get("kind");
     let is_scalar = kind.starts_with("Implicit<") || kind.starts_with("Optional<");
     match kind {
-        _ if !field.words.get("closed").is_empty() => "of a closed enum",
+        _ if kind.starts_with("Map<") => CLOSED_MAP,
+        _ if !field.get("closed").is_empty() => CLOSED,
         _ if is_scalar => "",
-        _ if kind.starts_with("Map<") => "a map",
         _ if kind.starts_with("Repeated<") || is_of_numbers(kind) => "",
-        _ if kind.starts_with("EachEmbedded<") && is_there(&field.words, inside) => "",
-        _ if kind.starts_with("EachEmbedded<") => "a list of messages without a struct of its own",
-        _ if kind.starts_with("Embedded<") && is_there(&field.words, inside) => "",
-        _ if kind.starts_with("Embedded<") => "a message that has no struct, or lists",
+        _ if kind.starts_with("EachEmbedded<") && is_there(field, inside) => "",
+        _ if kind.starts_with("EachEmbedded<") => EACH,
+        _ if kind.starts_with("Embedded<") && is_there(field, inside) => "",
+        _ if kind.starts_with("Embedded<") => INSIDE,
         _ if kind.starts_with("Group<") => "a group",
         _ if kind.starts_with("EachGroup<") => "a list of groups",
         _ => "a field of another kind",
     }
 }
 
-// The same of a oneof.
-fn why_not_oneof(words: &Words, oneof: &Oneof, inside: &str) -> &'static str {
+// The same of a oneof, or of a field in it.
+fn why_not_oneof<'a>(
+    words: &'a Words,
+    oneof: &'a Oneof,
+    inside: &str,
+) -> Option<(&'a str, &'static str)> {
+    let name = words.get("proto");
     if !oneof.rows.is_empty() {
-        return "a oneof by which messages hold themselves";
+        return Some((name, "a oneof by which messages hold themselves"));
     }
     if ENDS.split(' ').any(|it| words.get("module").ends_with(it)) {
-        return "a oneof called as a call";
+        return Some((name, "a oneof called as a call"));
     }
     if TYPES.split(' ').any(|it| it == words.get("name")) {
-        return "a oneof called as a type of the library";
+        return Some((name, "a oneof called as a type of the library"));
     }
     for variant in &oneof.variants {
-        let can_stand = match variant.get("presence") {
-            "Always" => variant.get("closed").is_empty(),
-            "AlwaysEmbedded" => is_there(variant, inside),
-            _ => false,
+        let what = match (variant.get("field"), variant.get("presence")) {
+            ("new" | "old" | "now" | "which" | "no_bytes", _) => "called as a word of clauses",
+            (_, "Always") if variant.get("closed").is_empty() => "",
+            (_, "Always") => CLOSED,
+            (_, "AlwaysEmbedded") if is_there(variant, inside) => "",
+            (_, "AlwaysEmbedded") => INSIDE,
+            _ => "a group in a oneof",
         };
-        let is_word = matches!(
-            variant.get("field"),
-            "new" | "old" | "now" | "which" | "no_bytes"
-        );
-        if is_word || !can_stand {
-            return "a oneof with a field that a struct can't have";
+        if !what.is_empty() {
+            return Some((variant.get("proto"), what));
         }
     }
-    ""
+    None
 }
 
 // Whether the message of a field may be inside.

@@ -105,8 +105,10 @@ impl Package {
         }
         for message in left {
             let fields = fields_of(&self.base, schema, message)?;
-            if let Some(why) = reason(&fields, header.inside()) {
-                header.leave_out(message, why)?;
+            match reason(&fields, header.inside()) {
+                // (what is told of the message with the map says enough)
+                Some(why) if !message.is_entry() => header.leave_out(message, why)?,
+                _ => {}
             }
         }
         Ok(())

@@ -7,6 +7,8 @@ use crate::point::Point;
 use std::fmt;
 
 /// The message `readings.Log`.
+///
+/// What was read: each kind of list that a struct has.
 #[repr(C)]
 #[derive(Clone, Copy)]
 pub struct Log<'a> {

@@ -5,6 +5,8 @@ use crate::gtv_structs::{Bytes, Limits, List, NoRoom, NotWritten, Refusal, Text}
 use std::fmt;
 
 /// The message `readings.Marks`.
+///
+/// Numbers alone, in a list.
 #[repr(C)]
 #[derive(Clone, Copy)]
 pub struct Marks<'a> {

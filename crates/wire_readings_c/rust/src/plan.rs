@@ -7,6 +7,8 @@ use crate::point::Point;
 use std::fmt;
 
 /// The message `readings.Plan`.
+///
+/// Visits, which have oneofs, inside and in a list; and a oneof of messages alone.
 #[repr(C)]
 #[derive(Clone, Copy)]
 pub struct Plan<'a> {

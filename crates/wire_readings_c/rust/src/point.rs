@@ -4,6 +4,8 @@ use crate::gtv_structs::{Bytes, Limits, NoRoom, NotWritten, Refusal};
 use std::fmt;
 
 /// The message `readings.Point`.
+///
+/// Numbers alone.
 #[repr(C)]
 #[derive(Clone, Copy)]
 pub struct Point<'a> {

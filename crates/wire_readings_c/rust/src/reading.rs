@@ -4,6 +4,8 @@ use crate::gtv_structs::{Limits, NoRoom, NotWritten, Refusal, Text};
 use std::fmt;
 
 /// The message `readings.Reading`.
+///
+/// What a sensor measured once.
 #[repr(C)]
 #[derive(Clone, Copy)]
 pub struct Reading<'a> {

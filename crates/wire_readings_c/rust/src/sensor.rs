@@ -7,6 +7,8 @@ use crate::settings::Settings;
 use std::fmt;
 
 /// The message `readings.Sensor`.
+///
+/// A sensor, with messages inside.
 #[repr(C)]
 #[derive(Clone, Copy)]
 pub struct Sensor<'a> {

@@ -5,6 +5,8 @@ use crate::gtv_structs::{Bytes, Limits, List, NoRoom, NotWritten, Refusal, Text}
 use std::fmt;
 
 /// The message `readings.Series`.
+///
+/// What was measured one after another: lists of numbers, packed and not.
 #[repr(C)]
 #[derive(Clone, Copy)]
 pub struct Series<'a> {

@@ -4,6 +4,8 @@ use crate::gtv_structs::{Bytes, Limits, NoRoom, NotWritten, Refusal, Text};
 use std::fmt;
 
 /// The message `readings.Settings`.
+///
+/// What a sensor is set to: each kind of field that a struct has.
 #[repr(C)]
 #[derive(Clone, Copy)]
 pub struct Settings<'a> {

@@ -8,6 +8,8 @@ use crate::totals_states_entry::TotalsStatesEntry;
 use std::fmt;
 
 /// The message `readings.Totals`.
+///
+/// What was measured in all: a map of each kind that a struct has, among other fields.
 #[repr(C)]
 #[derive(Clone, Copy)]
 pub struct Totals<'a> {

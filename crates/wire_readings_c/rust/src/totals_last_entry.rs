@@ -5,6 +5,9 @@ use crate::reading::Reading;
 use std::fmt;
 
 /// The message `readings.Totals.LastEntry`.
+///
+/// An entry of a map, as it came: of several of one key the last counts, and what is not there is
+/// zero, of no bytes, or a message of no records.
 #[repr(C)]
 #[derive(Clone, Copy)]
 pub struct TotalsLastEntry<'a> {

@@ -4,6 +4,9 @@ use crate::gtv_structs::{Bytes, Limits, NoRoom, NotWritten, Refusal};
 use std::fmt;
 
 /// The message `readings.Totals.StatesEntry`.
+///
+/// An entry of a map, as it came: of several of one key the last counts, and what is not there is
+/// zero, of no bytes, or a message of no records.
 #[repr(C)]
 #[derive(Clone, Copy)]
 pub struct TotalsStatesEntry<'a> {

@@ -4,6 +4,9 @@ use crate::gtv_structs::{Limits, NoRoom, NotWritten, Refusal, Text};
 use std::fmt;
 
 /// The message `readings.Totals.SumsEntry`.
+///
+/// An entry of a map, as it came: of several of one key the last counts, and what is not there is
+/// zero, of no bytes, or a message of no records.
 #[repr(C)]
 #[derive(Clone, Copy)]
 pub struct TotalsSumsEntry<'a> {

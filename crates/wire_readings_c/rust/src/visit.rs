@@ -6,6 +6,8 @@ use crate::point::Point;
 use std::fmt;
 
 /// The message `readings.Visit`.
+///
+/// Why somebody goes to a sensor: a oneof of several kinds, among other fields, and one of one.
 #[repr(C)]
 #[derive(Clone, Copy)]
 pub struct Visit<'a> {
