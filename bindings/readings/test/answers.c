@@ -226,6 +226,7 @@ static readings_log_lists log_lists;
 static readings_plan_lists plan_lists;
 static readings_series_lists series_lists;
 static readings_marks_lists marks_lists;
+static readings_totals_lists totals_lists;
 
 static void show_log(const readings_log *it, size_t count) {
     static gtv_bytes notes[MOST_ELEMENTS], frames[MOST_ELEMENTS], more[MOST_ELEMENTS];
@@ -277,6 +278,36 @@ static void show_marks(const readings_marks *it, size_t count) {
     readings_marks_lists lists;
     PUT_NUMBERS(readings_marks_next_marks, put_signed, marks);
     marks_lists = lists;
+}
+
+static void show_sum(const readings_totals_sums_entry *it) {
+    PUT_BYTES(key);
+    PUT_SIGNED(value);
+}
+
+static void show_last_of(const readings_totals_last_entry *it) {
+    PUT_UNSIGNED(key);
+    PUT_INSIDE(show_reading, value);
+}
+
+static void show_state(const readings_totals_states_entry *it) {
+    PUT_SIGNED(key);
+    PUT_SIGNED(value);
+}
+
+static void show_totals(const readings_totals *it, size_t count) {
+    static readings_totals_sums_entry sums[MOST_ELEMENTS];
+    static readings_totals_last_entry last[MOST_ELEMENTS];
+    static readings_totals_states_entry states[MOST_ELEMENTS];
+    gtv_bytes whole = {bytes, count};
+    gtv_bytes element;
+    readings_totals_lists lists;
+    PUT_MESSAGES(readings_totals_next_sums, show_sum, readings_totals_sums_entry_read, sums);
+    PUT_BYTES(by);
+    PUT_MESSAGES(readings_totals_next_last, show_last_of, readings_totals_last_entry_read, last);
+    PUT_MESSAGES(readings_totals_next_states, show_state, readings_totals_states_entry_read,
+                 states);
+    totals_lists = lists;
 }
 
 static bool is_no_visit(const readings_visit *it) {
@@ -381,6 +412,7 @@ ANSWER_LISTS(log)
 ANSWER_LISTS(plan)
 ANSWER_LISTS(series)
 ANSWER_LISTS(marks)
+ANSWER_LISTS(totals)
 
 static int digit(char sign) {
     return sign <= '9' ? sign - '0' : sign - 'a' + 10;
@@ -413,6 +445,8 @@ int main(void) {
             put_series(count);
         } else if (strncmp(line, "marks ", 6) == 0) {
             put_marks(count);
+        } else if (strncmp(line, "totals ", 7) == 0) {
+            put_totals(count);
         } else {
             put_point(count);
         }

@@ -1,6 +1,7 @@
 //! What the messages of readings.proto show, as answers.c says it.
 use readings::{Bytes, Limits, Log, LogLists, Marks, MarksLists, Plan, PlanCount, PlanLast, PlanLists};
-use readings::{Point, Reading, Refusal, Sensor, Series, SeriesLists, Settings, Text, Visit};
+use readings::{Point, Reading, Refusal, Sensor, Series, SeriesLists, Settings, Text, Totals};
+use readings::{TotalsLastEntry, TotalsLists, TotalsStatesEntry, TotalsSumsEntry, Visit};
 use readings::{VisitCause, VisitOutcome};
 use std::io::{self, BufRead, Write};
 
@@ -249,6 +250,29 @@ fn marks(bytes: &[u8]) -> Result<String, Refusal> {
     Ok(shown + astray + &written!(it, bytes, &MarksLists::new(&marks)))
 }
 
+fn totals(bytes: &[u8]) -> Result<String, Refusal> {
+    let it = Totals::read(bytes)?;
+    let sums = Totals::sums(bytes).collect::<Result<Vec<TotalsSumsEntry>, Refusal>>()?;
+    let last = Totals::last(bytes).collect::<Result<Vec<TotalsLastEntry>, Refusal>>()?;
+    let states = Totals::states(bytes).collect::<Result<Vec<TotalsStatesEntry>, Refusal>>()?;
+    let counts = (it.sums_count(), it.last_count(), it.states_count());
+    let is_told = counts == (sums.len() as u64, last.len() as u64, states.len() as u64);
+    let shown = format!(
+        " sums={} by={} last={} states={}",
+        list(sums.iter().map(|it| {
+            inside(format!(" key={} value={}", hex(it.key().as_bytes()), it.value()))
+        })),
+        hex(it.by().as_bytes()),
+        list(last.iter().map(|it| {
+            let value = or_none(it.value().map(|it| inside(show_reading(it))));
+            inside(format!(" key={} value={value}", it.key()))
+        })),
+        list(states.iter().map(|it| inside(format!(" key={} value={}", it.key(), it.value())))),
+    );
+    let astray = if is_told { "" } else { " astray" };
+    Ok(shown + astray + &written!(it, bytes, &TotalsLists::new(&sums, &last, &states)))
+}
+
 // What is answered of a message without lists.
 macro_rules! answer {
     ($message:ident, $show:ident, $bytes:expr) => {
@@ -273,6 +297,7 @@ fn main() -> io::Result<()> {
             "plan" => plan(&bytes),
             "series" => series(&bytes),
             "marks" => marks(&bytes),
+            "totals" => totals(&bytes),
             _ => answer!(Point, show_point, &bytes),
         };
         match answer {
