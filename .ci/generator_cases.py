@@ -116,20 +116,25 @@ CHOICES = [
       "size_t a_k_size(const a_k *it, const a_k_lists *lists);",
       "uint32_t a_g_next_x(gtv_numbers *walk, int32_t *number);",
       "pub extern \"C\" fn a_k_next_x<'a>("]),
-    ("proto2", "enum E { Z = 0; } message A { map<int32, E> x = 1; } message B { repeated B x = 1; } "
-     "message D { map<string, B> x = 1; } message F { oneof y { D z = 1; } }", ",c=a",
+    ("proto2", "enum E { Z = 0; } message A { map<int32, E> x = 1; } "
+     "message B { repeated B x = 1; } message D { map<string, B> x = 1; } "
+     "message F { oneof y { D z = 1; } }", ",c=a",
      [" * - `A`: `x` is a map of a closed enum; enums=open takes its numbers as they are;",
-      " * - `B`: `x` is of messages that have lists, or no struct; encoded=B.x takes each as bytes;",
-      " * - `D`: `x` is of messages that have lists, or no struct; encoded=D.x takes each as bytes;",
+      " * - `B`: `x` is of messages that have lists, or no struct; "
+      "encoded=B.x takes each as bytes;",
+      " * - `D`: `x` is of messages that have lists, or no struct; "
+      "encoded=D.x takes each as bytes;",
       " * - `F`: `z` is a message that has lists, or no struct; encoded=F.z takes it as bytes;",
-      "    pub x: BTreeMap<i32, E>,", "    pub x: Vec<DXEntry>,"]),
-    ("proto2", "enum E { Z = 0; } message A { map<int32, E> x = 1; } message B { repeated B x = 1; } "
-     "message D { map<string, B> x = 1; } message F { oneof y { D z = 1; } }",
+      "    pub x: BTreeMap<i32, EnumValue<E>>,", "    pub x: Vec<DXEntry>,"]),
+    ("proto2", "enum E { Z = 0; } message A { map<int32, E> x = 1; } "
+     "message B { repeated B x = 1; } message D { map<string, B> x = 1; } "
+     "message F { oneof y { D z = 1; } }",
      ",c=a,enums=open,encoded=B.x,encoded=D.x,encoded=F.z",
      ["typedef struct a_fy {\n    uint32_t which;\n    gtv_bytes z;\n",
-      "typedef struct a_dxentry {\n    gtv_bytes key;\n    bool has_value;\n    gtv_bytes value;\n",
+      "typedef struct a_dxentry {\n    gtv_bytes key;\n    bool has_value;\n"
+      "    gtv_bytes value;\n",
       "uint32_t a_a_next_x(gtv_bytes *walk, gtv_bytes *element);",
-      "uint32_t a_b_next_x(gtv_bytes *walk, gtv_bytes *element);"]),
+      "uint32_t a_d_next_x(gtv_bytes *walk, gtv_bytes *element);"]),
     ("proto2", "enum E { Z = 0; } message A { oneof b { A x = 1; int32 y = 2; } optional E z = 3; "
      "map<int32, E> w = 4; } message C { optional A a = 1; }", "",
      ["            4 => <Map<Int32, Always<Enum<E>>, 56> as ClosedMap>::merge_closed(",

@@ -166,7 +166,8 @@ impl CHeader {
     /// The header of no messages.
     pub(crate) fn new(base: &Words) -> CHeader {
         let mut words = Words::like(base);
-        words.fill("prefix", "$c$");
+        // (parameters are called so too)
+        words.fill_all(&[("prefix", "$c$"), ("enums", ""), ("views", "")]);
         CHeader {
             rust: RustCrate::new(&words),
             layouts: Vec::new(words.alloc()),
