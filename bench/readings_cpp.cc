@@ -3,6 +3,9 @@
 
 #include "readings.pb.h"
 
+#include <google/protobuf/io/coded_stream.h>
+#include <google/protobuf/io/zero_copy_stream_impl_lite.h>
+
 #include <string>
 
 namespace {
@@ -105,6 +108,20 @@ uint64_t with(uint64_t sum, const Log &it) {
     return sum;
 }
 
+uint64_t with(uint64_t sum, const Totals &it) {
+    sum = with_string(sum, it.by());
+    for (const auto &entry : it.sums()) {
+        sum += with_number(with_string(1, entry.first), entry.second);
+    }
+    for (const auto &entry : it.last()) {
+        sum += with(with_number(1, entry.first), entry.second);
+    }
+    for (const auto &entry : it.states()) {
+        sum += with_number(with_number(1, entry.first), entry.second);
+    }
+    return sum;
+}
+
 template <typename Message> Message used;
 
 template <typename Message> uint64_t read(const uint8_t *bytes, size_t len) {
@@ -117,6 +134,15 @@ template <typename Message> size_t write(uint8_t *room, size_t room_len) {
     return done ? static_cast<size_t>(used<Message>.GetCachedSize()) : 0;
 }
 
+// In the order of its keys, so that the bytes are the same.
+size_t write_totals(uint8_t *room, size_t room_len) {
+    google::protobuf::io::ArrayOutputStream out(room, static_cast<int>(room_len));
+    google::protobuf::io::CodedOutputStream coded(&out);
+    coded.SetSerializationDeterministic(true);
+    const bool done = used<Totals>.SerializeToCodedStream(&coded);
+    return done ? static_cast<size_t>(coded.ByteCount()) : 0;
+}
+
 } // namespace
 
 const message_work cpp_work[] = {
@@ -125,5 +151,6 @@ const message_work cpp_work[] = {
     {"sensor", read<Sensor>, write<Sensor>},
     {"visit", read<Visit>, write<Visit>},
     {"log", read<Log>, write<Log>},
+    {"totals", read<Totals>, write_totals},
     {nullptr, nullptr, nullptr},
 };

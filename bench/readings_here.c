@@ -7,11 +7,17 @@ static readings_settings settings;
 static readings_sensor sensor;
 static readings_visit visit;
 static readings_log whole_log;
+static readings_totals totals;
 
 static gtv_bytes notes[MOST_ELEMENTS], frames[MOST_ELEMENTS], more[MOST_ELEMENTS];
 static readings_reading read_last[MOST_ELEMENTS];
 static readings_point path[MOST_ELEMENTS];
 static readings_log_lists lists = {notes, 0, read_last, 0, frames, 0, path, 0, more, 0};
+
+static readings_totals_sums_entry sums[MOST_ELEMENTS];
+static readings_totals_last_entry last[MOST_ELEMENTS];
+static readings_totals_states_entry states[MOST_ELEMENTS];
+static readings_totals_lists maps = {sums, 0, last, 0, states, 0};
 
 static uint64_t with_bytes(uint64_t sum, gtv_bytes bytes) {
     return with_text(sum, bytes.data, bytes.len);
@@ -124,6 +130,43 @@ static uint64_t with_path(uint64_t sum, gtv_bytes walk) {
     return sum;
 }
 
+/* The sums of entries are added up, since C++ has them in no order. */
+static uint64_t with_sums(uint64_t sum, gtv_bytes walk) {
+    gtv_bytes element;
+    readings_totals_sums_entry *it = sums;
+    while (it < sums + MOST_ELEMENTS && readings_totals_next_sums(&walk, &element) == GTV_OK &&
+           readings_totals_sums_entry_read(element.data, element.len, it) == GTV_OK) {
+        sum += with_number(with_bytes(1, it->key), it->value);
+        it++;
+    }
+    maps.sums_len = it - sums;
+    return sum;
+}
+
+static uint64_t with_last(uint64_t sum, gtv_bytes walk) {
+    gtv_bytes element;
+    readings_totals_last_entry *it = last;
+    while (it < last + MOST_ELEMENTS && readings_totals_next_last(&walk, &element) == GTV_OK &&
+           readings_totals_last_entry_read(element.data, element.len, it) == GTV_OK) {
+        sum += with_reading(with_number(1, it->key), &it->value);
+        it++;
+    }
+    maps.last_len = it - last;
+    return sum;
+}
+
+static uint64_t with_states(uint64_t sum, gtv_bytes walk) {
+    gtv_bytes element;
+    readings_totals_states_entry *it = states;
+    while (it < states + MOST_ELEMENTS && readings_totals_next_states(&walk, &element) == GTV_OK &&
+           readings_totals_states_entry_read(element.data, element.len, it) == GTV_OK) {
+        sum += with_number(with_number(1, it->key), it->value);
+        it++;
+    }
+    maps.states_len = it - states;
+    return sum;
+}
+
 static uint64_t read_reading(const uint8_t *bytes, size_t len) {
     return readings_reading_read(bytes, len, &reading) == GTV_OK ? with_reading(1, &reading) : 0;
 }
@@ -158,6 +201,14 @@ static uint64_t read_log(const uint8_t *bytes, size_t len) {
     return with_texts(sum, whole, more, &lists.more_len, readings_log_next_more);
 }
 
+static uint64_t read_totals(const uint8_t *bytes, size_t len) {
+    gtv_bytes whole = {bytes, len};
+    if (readings_totals_read(bytes, len, &totals) != GTV_OK) {
+        return 0;
+    }
+    return with_states(with_last(with_sums(with_bytes(1, totals.by), whole), whole), whole);
+}
+
 static size_t write_reading(uint8_t *room, size_t room_len) {
     size_t len;
     return readings_reading_write(&reading, room, room_len, &len) == GTV_OK ? len : 0;
@@ -183,6 +234,11 @@ static size_t write_log(uint8_t *room, size_t room_len) {
     return readings_log_write(&whole_log, &lists, room, room_len, &len) == GTV_OK ? len : 0;
 }
 
+static size_t write_totals(uint8_t *room, size_t room_len) {
+    size_t len;
+    return readings_totals_write(&totals, &maps, room, room_len, &len) == GTV_OK ? len : 0;
+}
+
 const message_work here_work[] = {
     {"reading", read_reading, write_reading},
     {"settings", read_settings, write_settings},
@@ -190,5 +246,6 @@ const message_work here_work[] = {
     {"visit", read_visit, write_visit},
     {"log", read_log, write_log},
     {"front", read_front, write_log},
+    {"totals", read_totals, write_totals},
     {NULL, NULL, NULL},
 };

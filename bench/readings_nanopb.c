@@ -9,6 +9,7 @@ static readings_Settings settings;
 static readings_Sensor sensor;
 static readings_Visit visit;
 static readings_Log whole_log;
+static readings_Totals totals;
 
 static uint64_t with_string(uint64_t sum, const char *text) {
     return with_text(sum, text, strlen(text));
@@ -107,6 +108,20 @@ static uint64_t with_log(uint64_t sum, const readings_Log *it) {
     return sum;
 }
 
+static uint64_t with_totals(uint64_t sum, const readings_Totals *it) {
+    sum = with_string(sum, it->by);
+    for (size_t i = 0; i < it->sums_count; i++) {
+        sum += with_number(with_string(1, it->sums[i].key), it->sums[i].value);
+    }
+    for (size_t i = 0; i < it->last_count; i++) {
+        sum += with_reading(with_number(1, it->last[i].key), &it->last[i].value);
+    }
+    for (size_t i = 0; i < it->states_count; i++) {
+        sum += with_number(with_number(1, it->states[i].key), it->states[i].value);
+    }
+    return sum;
+}
+
 static int decode(const uint8_t *bytes, size_t len, const pb_msgdesc_t *fields, void *it) {
     pb_istream_t from = pb_istream_from_buffer(bytes, len);
     return pb_decode(&from, fields, it);
@@ -138,6 +153,10 @@ static uint64_t read_log(const uint8_t *bytes, size_t len) {
     return decode(bytes, len, readings_Log_fields, &whole_log) ? with_log(1, &whole_log) : 0;
 }
 
+static uint64_t read_totals(const uint8_t *bytes, size_t len) {
+    return decode(bytes, len, readings_Totals_fields, &totals) ? with_totals(1, &totals) : 0;
+}
+
 static size_t write_reading(uint8_t *room, size_t room_len) {
     return encode(room, room_len, readings_Reading_fields, &reading);
 }
@@ -158,11 +177,16 @@ static size_t write_log(uint8_t *room, size_t room_len) {
     return encode(room, room_len, readings_Log_fields, &whole_log);
 }
 
+static size_t write_totals(uint8_t *room, size_t room_len) {
+    return encode(room, room_len, readings_Totals_fields, &totals);
+}
+
 const message_work nanopb_work[] = {
     {"reading", read_reading, write_reading},
     {"settings", read_settings, write_settings},
     {"sensor", read_sensor, write_sensor},
     {"visit", read_visit, write_visit},
     {"log", read_log, write_log},
+    {"totals", read_totals, write_totals},
     {NULL, NULL, NULL},
 };
