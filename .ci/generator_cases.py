@@ -62,6 +62,7 @@ REFUSED = [
      "views=true wants unknown=keep and mismatch=refuse"),
     ("proto3", TYPE, ",mismatch=keep,views=true",
      "views=true wants unknown=keep and mismatch=refuse"),
+    ("proto3", TYPE, ",encoded=inside", "encoded=inside wants c=NAME"),
     ("proto2", "enum E { B = 0; } message A { optional E x = 1; }", ",unknown=drop",
      ".A.x: closed enums are not generated with unknown=drop or mismatch=keep"),
 ]
@@ -106,9 +107,11 @@ CHOICES = [
       " * - `B`: `x` is of a closed enum; enums=open takes its numbers as they are;",
       " * - `C`: `z` is of a closed enum; enums=open takes its numbers as they are;",
       " * - `D`: it has no fields;",
-      " * - `H`: `x` is a message that has lists, or no struct; encoded=H.x takes it as bytes;",
+      " * - `H`: `x` is a message that has lists, or no struct; encoded=H.x takes it as bytes, "
+      "and encoded=inside all such;",
       " * - `I`: `j` is a group;",
-      " * - `L`: `x` is a message that has lists, or no struct; encoded=L.x takes it as bytes;",
+      " * - `L`: `x` is a message that has lists, or no struct; encoded=L.x takes it as bytes, "
+      "and encoded=inside all such;",
       " * - `MeSize`: it is called as a call of another;",
       "typedef struct a_fxentry {\n    int32_t key;\n    int32_t value;\n",
       "uint32_t a_f_next_x(gtv_bytes *walk, gtv_bytes *element);",
@@ -121,10 +124,11 @@ CHOICES = [
      "message F { oneof y { D z = 1; } }", ",c=a",
      [" * - `A`: `x` is a map of a closed enum; enums=open takes its numbers as they are;",
       " * - `B`: `x` is of messages that have lists, or no struct; "
-      "encoded=B.x takes each as bytes;",
+      "encoded=B.x takes each as bytes, and encoded=inside all such;",
       " * - `D`: `x` is of messages that have lists, or no struct; "
-      "encoded=D.x takes each as bytes;",
-      " * - `F`: `z` is a message that has lists, or no struct; encoded=F.z takes it as bytes;",
+      "encoded=D.x takes each as bytes, and encoded=inside all such;",
+      " * - `F`: `z` is a message that has lists, or no struct; encoded=F.z takes it as bytes, "
+      "and encoded=inside all such;",
       "    pub x: BTreeMap<i32, EnumValue<E>>,", "    pub x: Vec<DXEntry>,"]),
     ("proto2", "enum E { Z = 0; } message A { map<int32, E> x = 1; } "
      "message B { repeated B x = 1; } message D { map<string, B> x = 1; } "
@@ -135,6 +139,15 @@ CHOICES = [
       "    gtv_bytes value;\n",
       "uint32_t a_a_next_x(gtv_bytes *walk, gtv_bytes *element);",
       "uint32_t a_d_next_x(gtv_bytes *walk, gtv_bytes *element);"]),
+    ("proto3", "message List { repeated int32 x = 1; } message Flat { int32 x = 1; } "
+     "message Pair { Pair left = 1; Flat right = 2; List rest = 3; oneof o { List z = 4; } } "
+     "message Each { repeated Flat a = 1; repeated List b = 2; map<int32, Each> c = 3; }",
+     ",c=a,encoded=inside",
+     ["    bool has_left;\n    gtv_bytes left;\n    bool has_right;\n    a_flat right;\n"
+      "    bool has_rest;\n    gtv_bytes rest;\n    a_pair_o o;\n} a_pair;",
+      "    const a_flat *a;\n    size_t a_len;\n    const gtv_bytes *b;\n    size_t b_len;\n"
+      "    const a_each_centry *c;\n",
+      "    int32_t key;\n    bool has_value;\n    gtv_bytes value;\n} a_each_centry;"]),
     ("proto2", "enum E { Z = 0; } message A { oneof b { A x = 1; int32 y = 2; } optional E z = 3; "
      "map<int32, E> w = 4; } message C { optional A a = 1; }", "",
      ["            4 => <Map<Int32, Always<Enum<E>>, 56> as ClosedMap>::merge_closed(",

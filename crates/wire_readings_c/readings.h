@@ -6,7 +6,7 @@
  * from C++17 on what fields hold as `std::string_view` and `std::optional`.
  *
  * No struct is there for
- * - `readings.Book`: `logs` is of messages that have lists, or no struct; encoded=readings.Book.logs takes each as bytes;
+ * - `readings.Book`: `logs` is of messages that have lists, or no struct; encoded=readings.Book.logs takes each as bytes, and encoded=inside all such;
  */
 #ifndef READINGS_H
 #define READINGS_H

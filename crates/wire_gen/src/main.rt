@@ -47,6 +47,7 @@ mod struct_code;
 mod struct_definitions;
 mod struct_fields;
 mod struct_heads;
+mod struct_inside;
 mod struct_layout;
 mod struct_left_out;
 mod struct_lists;

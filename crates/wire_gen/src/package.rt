@@ -7,6 +7,7 @@ use crate::layout::laid_out;
 use crate::oneof::oneof_code;
 use crate::oneof_proofs::merge_answers;
 use crate::services::services_of;
+use crate::struct_inside::{encode_inside, takes_inside};
 use crate::written::{FieldAnswers, written_answers};
 use std::alloc::Global;
 use wire_codec::{DecodeOptions, Message};
@@ -71,7 +72,12 @@ pub(crate) fn answer(alloc: Global, request: &[u8]) -> Result<PluginAnswer, Gene
 fn package_of(alloc: Global, request: &CodeGeneratorRequest) -> Result<Package, GenerateError> {
     let mut base = Words::new(alloc);
     set_crate(&mut base, request)?;
+    let takes_inside = takes_inside(&mut base)?;
     let mut schema = Schema::of(&base, request)?;
+    if takes_inside {
+        encode_inside(&mut base, &schema);
+        schema = Schema::of(&base, request)?;
+    }
     let most = base.get("split").parse::<usize>().unwrap_or(0);
     let mut package = Package {
         roots: Words::like(&base),

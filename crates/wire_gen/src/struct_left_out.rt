@@ -15,10 +15,12 @@ const CLOSED: &str = "of a closed enum; enums=open takes its numbers as they are
 const CLOSED_MAP: &str = "a map of a closed enum; enums=open takes its numbers as they are";
 
 const EACH: &str =
-    "of messages that have lists, or no struct; encoded=$full$.$field$ takes each as bytes";
+    "of messages that have lists, or no struct; encoded=$full$.$field$ takes each as bytes, and \
+    encoded=inside all such";
 
 const INSIDE: &str =
-    "a message that has lists, or no struct; encoded=$full$.$field$ takes it as bytes";
+    "a message that has lists, or no struct; encoded=$full$.$field$ takes it as bytes, and \
+    encoded=inside all such";
 
 /// Says why a message has no struct, in the header and beside the answer: the first field that it
 /// can't have, and what that is.
