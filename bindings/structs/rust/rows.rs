@@ -1,6 +1,6 @@
-//! Tries the structs of Rust on the rows of `rows.tsv`, and says how many stood. What was read is
-//! made anew from what it shows, and written, as it is and with the unknown fields of its bytes:
-//! into room of just its size, and of a byte less.
+//! Tries the structs of Rust on the rows of `rows/structs.tsv`, and says how many stood. What was
+//! read is made anew from what it shows, and written, as it is and with the unknown fields of its
+//! bytes: into room of just its size, and of a byte less.
 mod report_sample;
 mod station;
 mod structs;
@@ -166,7 +166,7 @@ fn found(message: &str, bytes: &[u8], limits: Option<Limits>) -> (String, [Strin
 }
 
 fn main() -> ExitCode {
-    let path = std::env::args().nth(1).expect("rows.tsv");
+    let path = std::env::args().nth(1).expect("structs.tsv");
     let rows = std::fs::read_to_string(path).expect("the rows");
     let (mut tried, mut astray) = (0, 0);
     for line in rows.lines().filter(|line| !line.starts_with('#')) {

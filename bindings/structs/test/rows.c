@@ -1,10 +1,10 @@
-/* Tries the library on the rows of rows.tsv: with a page behind the bytes that no program may
- * touch, and a struct that held something else before. Each message is cut at each place besides,
- * of which is asked that a refusal leaves zero, and that all that is shown lies in the bytes. What
- * was read is written too: into room of just its size, before a page that no program may touch,
- * into all room that is smaller, and into room that is a byte greater; once as it is, and once with
- * the unknown fields of its bytes. So are structs of the program's own. Says how many rows stood,
- * and ends in 1 where one does not. */
+/* Tries the library on the rows of rows/structs.tsv: with a page behind the bytes that no
+ * program may touch, and a struct that held something else before. Each message is cut at each
+ * place besides, of which is asked that a refusal leaves zero, and that all that is shown lies
+ * in the bytes. What was read is written too: into room of just its size, before a page that no
+ * program may touch, into all room that is smaller, and into room that is a byte greater; once
+ * as it is, and once with the unknown fields of its bytes. So are structs of the program's own.
+ * Says how many rows stood, and ends in 1 where one does not. */
 #include "made.h"
 
 /* ---- a call ---- */
