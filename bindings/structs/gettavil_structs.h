@@ -31,6 +31,10 @@
  *   fields, of which the others are zero;
  * - of a list, how many there are, in `NAME_count`; `MESSAGE_next_NAME` gives them, from the same
  *   bytes;
+ * - a map as a list of its entries, each a message with `key` and `value`, as they came: of several
+ *   of one key the last stands for all;
+ * - a message that the schema's parameters hold as bytes as those of its encoding, which are not
+ *   looked at; the call of its own reads them, within limits of its own;
  * - where nothing of a message is read in place, a member `no_bytes`, which is of no bytes;
  * - fields that the schema lacks are passed over; `MESSAGE_write_keeping` takes them from the bytes
  *   that were read, but for those of messages inside, which are not kept.

@@ -2,6 +2,7 @@
 use crate::c_comment::put_c_comment;
 use crate::c_enum::put_enum;
 use crate::c_oneof::put_oneof;
+use crate::c_told::{ENTRY, TOLD, told_of};
 use crate::rust_structs::RustCrate;
 use crate::struct_fields::has_no_bytes;
 use crate::struct_layout::Layout;
@@ -44,45 +45,6 @@ $views$
 
 const LEFT_OUT: &str = " *\n * No struct is there for\n$left$";
 
-// What the calls of each message do.
-const TOLD: &str = "\
-/* Each `_read` sets the struct to what all of the bytes are: GTV_OK, exactly where they are such a
- * message within the limits. Any other status says that they are not, and then the struct is zero;
- * it is that of the error: GTV_UNEXPECTED_EOF, GTV_VARINT_TOO_LONG, GTV_INVALID_WIRE_TYPE,
- * GTV_INVALID_FIELD_NUMBER, GTV_MESSAGE_TOO_LARGE, GTV_WIRE_TYPE_MISMATCH, GTV_INVALID_UTF8,
- * GTV_RECURSION_LIMIT_EXCEEDED, GTV_INVALID_END_GROUP, GTV_UNKNOWN_FIELD_LIMIT_EXCEEDED or
- * GTV_ELEMENT_MEMORY_LIMIT_EXCEEDED. With no limits named these are 100 levels of messages and
- * groups, 1,000,000 unknown fields, and 33,554,432 bytes for the elements of lists, of which each
- * string or `bytes` takes 24 and a message what its fields take in Rattle. Those of the caller,
- * `_read_within`, are `depth`, of which no more than 100 are given; `records`, unknown fields,
- * those in groups counted; and `payload_bytes`, bytes of their length-delimited payloads; lists
- * have no limit of their own there. Numbers in lists are charged nothing.
- *
- * Each `_size` is how many bytes the encoding of what the struct shows has, or SIZE_MAX where they
- * are more: the records of a message with these fields and no others, each in its shortest form, in
- * the order of their numbers, the field of a oneof at the place of its lowest number; and a list of
- * numbers packed or not as the schema has it. Each `_write` writes it at the front of the room:
- * GTV_OK; or GTV_NO_ROOM, exactly where the room is smaller, and then it stays as it was. `*len` is
- * how many bytes the encoding has, either way. Nothing behind it is written.
- *
- * Of a list the struct has how many elements there are, `_count`, and a map is a list of entries,
- * in the order in which they came. Each `_next_` gives them one after another: set `walk` to the
- * bytes that were read as the message, and call until the answer is no GTV_OK. GTV_OK, and
- * `element` is the next of them, a string or `bytes` as they are, a message as bytes of its own,
- * and `walk` is what is behind it; GTV_END, where none is left; or the status of an error, which
- * bytes that were read as the message never have. Without GTV_OK `walk` stays, and `element` is of
- * no bytes. The bytes of a message are such a message, within some limits of no more than 100
- * levels. Of a list of numbers, packed or not, `walk` is a `gtv_numbers`: set its `bytes` to those
- * that were read, and all else of it to zero; `number` is the next, and stays without GTV_OK. What
- * is written of lists is handed in beside the struct, whose counts are not looked at.
- *
- * Each `_size_keeping` and `_write_keeping` has unknown fields behind it: of the records that
- * `bytes` are, usually those that the struct was read from, those whose numbers the message lacks,
- * in order, each in its shortest form and groups whole. Where they are no records, or these nest
- * more than 100 groups, they answer the status of the error, `*len` is 0, and the room stays. The
- * unknown fields of messages inside are not kept. */
-";
-
 const CALLS: &str = "
 uint32_t $c_name$_read(const uint8_t *bytes, size_t len, $c_name$ *it);
 uint32_t $c_name$_read_within(const uint8_t *bytes, size_t len,
@@ -115,11 +77,6 @@ const STRUCT: &str = "
 $c_comment$typedef struct $c_name$ {
 $members$} $c_name$;
 ";
-
-// What is told of the entries of a map.
-const ENTRY: &str =
-    " An entry of a map, as it came: of several of one key the last counts, and what \
-    is not there is\n zero, of no bytes, or a message of no records.\n";
 
 const OF_MESSAGE: [Template; 3] = [
     ("types", STRUCT),
@@ -232,7 +189,7 @@ impl CHeader {
                 words.fill("c_member", "has_$c_field$");
                 put_member(words, &mut layout, "bool", (1, 1));
             }
-            put_c_comment(words, "members", "    ", comment_of(schema, &field.words))?;
+            put_comments(words, schema, &field.words)?;
             let place = place_of(&self.layouts, &field.words);
             put_field(words, &mut layout, &field.words, place)?;
         }
@@ -293,7 +250,18 @@ impl CHeader {
 
 /// The comment of a field.
 pub(crate) fn comment_of<'a>(schema: &'a Schema, field: &Words) -> &'a str {
-    schema.comment(field.get("own_place"))
+    schema.comment(field.get("comment_place"))
+}
+
+/// Puts what is told of a field before its member.
+pub(crate) fn put_comments(
+    words: &mut Words,
+    schema: &Schema,
+    field: &Words,
+) -> Result<(), GenerateError> {
+    put_c_comment(words, "members", "    ", comment_of(schema, field))?;
+    let told = told_of(words, field);
+    put_c_comment(words, "members", "    ", told)
 }
 
 /// How many bytes a field takes, and what its place is a multiple of.

@@ -1,6 +1,6 @@
 //! The struct of a oneof in the header, and how it lies in memory.
 use crate::c_comment::put_c_comment;
-use crate::c_header::{capital, comment_of, place_of, put_member, set_view};
+use crate::c_header::{capital, comment_of, place_of, put_comments, put_member, set_view};
 use crate::struct_fields::has_no_bytes_in;
 use crate::struct_layout::Layout;
 use wire_schema::{Field, GenerateError, Oneof, Schema, Template, Words, apart};
@@ -67,7 +67,7 @@ pub(crate) fn put_oneof(
         put_number(&mut words, constants)?;
         words.fill("c_member", "$c_field$");
         let c_type = String::from_str(words.alloc(), variant.get("c_type"))?;
-        put_c_comment(&mut words, "members", "    ", comment_of(schema, variant))?;
+        put_comments(&mut words, schema, variant)?;
         put_member(&mut words, &mut layout, &c_type, place_of(layouts, variant));
         words.fill("c_member", "$oneof_field$.$c_field$");
         set_view(&mut words);

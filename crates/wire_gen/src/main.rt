@@ -10,6 +10,7 @@ mod c_enum;
 mod c_header;
 mod c_library;
 mod c_oneof;
+mod c_told;
 mod choice_answers;
 mod choice_code;
 mod code;

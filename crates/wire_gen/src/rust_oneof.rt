@@ -49,11 +49,12 @@ const OF_FIELD: [Template; 4] = [
     (
         "accessors",
         "
-    /// Which of `$field$` stands, where one does.
+$documented$    /// Which of `$field$` stands, where one does.
     pub fn $rust_field$(&self) -> Option<$oneof_name$$life$> {
         self.$field$.get()
     }
 
+    /// Has this one stand, or none.
     pub fn set_$field$(&mut self, $field$: Option<$oneof_name$$life$>) {
         self.$field$.set($field$);
     }

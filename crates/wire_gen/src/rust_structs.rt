@@ -1,5 +1,6 @@
 //! The Rust crate over the static library of a schema's structs.
 use crate::c_header::comment_of;
+use crate::c_told::told_of;
 use crate::rust_calls::{FFI, FOREIGN, FOREIGN_LIST, FOREIGN_NUMBERS, FOREIGN_WITH_LISTS};
 use crate::rust_enum::put_enum;
 use crate::rust_oneof::{put_once, put_oneof};
@@ -65,13 +66,15 @@ $shown$            .finish()
 
 // The lists of a message that is written.
 const LISTS: &str = "
-/// The lists of a [`$name$`] that is written.
+/// The lists of a [`$name$`] that is written, which has nothing of them itself.
 #[repr(C)]
 #[derive(Clone, Copy)]
 pub struct $name$Lists<'a> {
 $lists_held$}
 
 impl<'a> $name$Lists<'a> {
+    /// Each list in turn, in the order of the header, `&[]` where there is none; a string is
+    /// made by `Text::new`, and `bytes` by `Bytes::new`.
     pub fn new($lists_given$) -> $name$Lists<'a> {
         $name$Lists { $lists_made$ }
     }
@@ -91,7 +94,8 @@ const OF_LIST: [Template; 5] = [
         self.$field$_count
     }
 
-    /// The `$field$` in bytes that were read as this message, one after another.
+$documented$    /// The `$field$` in bytes that were read as this message, one after another. In others they
+    /// end where the bytes are no such message.
     pub fn $rust_field$(bytes: &'a [u8]) -> impl Iterator<Item = $item$> + 'a {
         ffi::$field$_of_$module$(bytes)$as_item$
     }
@@ -101,7 +105,7 @@ const OF_LIST: [Template; 5] = [
 
 // Of messages in a list.
 const WITHIN: &str = "
-    /// The same, each read within these limits.
+    /// The same, each read within these limits, and not the default ones.
     pub fn $field$_within(
         bytes: &'a [u8],
         limits: Limits,
@@ -203,6 +207,8 @@ impl RustCrate {
             words.set("documented", "");
             let comment = comment_of(schema, &field.words);
             put_comment(words, "documented", "    ", comment);
+            let told = told_of(words, &field.words);
+            put_comment(words, "documented", "    ", told);
             match &field.oneof {
                 Some(oneof) => put_oneof(words, &field.words, oneof),
                 None => put_field(words, &field.words),

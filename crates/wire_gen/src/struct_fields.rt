@@ -250,7 +250,7 @@ pub(crate) fn set_in_struct(field: &mut Field, place: &str) -> Result<(), Genera
     let words = &mut field.words;
     words.fill_all(&NOTHING_BROUGHT_IN);
     words.set("message_place", place);
-    words.fill("own_place", "$message_place$.2.$at$");
+    words.fill("comment_place", "$message_place$.2.$at$");
     // (the names of what a macro is handed)
     words.set("message", "$message");
     words.set("lists", "$lists");

@@ -115,7 +115,8 @@ fn why_not_oneof<'a>(
     }
     for variant in &oneof.variants {
         let what = match (variant.get("field"), variant.get("presence")) {
-            ("new" | "old" | "now" | "which" | "no_bytes", _) => "called as a word of clauses",
+            ("new" | "old" | "now", _) => "called as a word of clauses",
+            ("which" | "no_bytes", _) => "called as what each oneof has",
             (_, "Always") if variant.get("closed").is_empty() => "",
             (_, "Always") => CLOSED,
             (_, "AlwaysEmbedded") if is_there(variant, inside) => "",

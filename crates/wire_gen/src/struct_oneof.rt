@@ -67,10 +67,10 @@ pub(crate) fn set_oneof(
         ("oneof_name", "$name$"),
     ]);
     put_all(words, &IN_MESSAGE, &OF_MESSAGE);
-    words.set("own_place", oneof.words.get("place"));
+    words.set("comment_place", oneof.words.get("place"));
     for variant in &mut oneof.variants {
         variant.set("message_place", place);
-        variant.fill("own_place", "$message_place$.2.$at$");
+        variant.fill("comment_place", "$message_place$.2.$at$");
         set_variant(variant)?;
     }
     words.ended()

@@ -229,7 +229,7 @@ fn put_variant(page: &mut Words, schema: &Schema, variant: &Words) {
         page,
         "declared",
         "    ",
-        schema.comment(variant.get("own_place")),
+        schema.comment(variant.get("comment_place")),
     );
     page.append_all(&OF_VARIANT);
     page.set("taken", "");
