@@ -130,8 +130,8 @@ typedef struct readings_reading {
 } readings_reading;
 
 /* The message `readings.Totals.StatesEntry`. */
-/* An entry of a map, as it came: of several of one key the last counts, and what is not there is
- * zero, of no bytes, or a message of no records. */
+/* An entry of a map, as it came: of several of one key the last stands for all. A key or a value
+ * that is not there is zero, of no bytes, or the message of no records; such are not written. */
 typedef struct readings_totals_states_entry {
     int64_t key;
     int32_t value;
@@ -139,8 +139,8 @@ typedef struct readings_totals_states_entry {
 } readings_totals_states_entry;
 
 /* The message `readings.Totals.LastEntry`. */
-/* An entry of a map, as it came: of several of one key the last counts, and what is not there is
- * zero, of no bytes, or a message of no records. */
+/* An entry of a map, as it came: of several of one key the last stands for all. A key or a value
+ * that is not there is zero, of no bytes, or the message of no records; such are not written. */
 typedef struct readings_totals_last_entry {
     uint32_t key;
     bool has_value;
@@ -148,8 +148,8 @@ typedef struct readings_totals_last_entry {
 } readings_totals_last_entry;
 
 /* The message `readings.Totals.SumsEntry`. */
-/* An entry of a map, as it came: of several of one key the last counts, and what is not there is
- * zero, of no bytes, or a message of no records. */
+/* An entry of a map, as it came: of several of one key the last stands for all. A key or a value
+ * that is not there is zero, of no bytes, or the message of no records; such are not written. */
 typedef struct readings_totals_sums_entry {
     gtv_bytes key;
     int32_t value;
@@ -160,6 +160,7 @@ typedef struct readings_totals_sums_entry {
 typedef struct readings_totals {
     uint64_t sums_count;
     gtv_bytes by;
+    /* The last of each sensor, by its number. */
     uint64_t last_count;
     uint64_t states_count;
 } readings_totals;
@@ -176,6 +177,7 @@ typedef struct readings_totals_lists {
 } readings_totals_lists;
 
 /* The oneof `readings.Visit.cause`: `which` is the number of the field that stands, or 0. */
+/* What it is for. */
 enum {
     READINGS_VISIT_CAUSE_STATE = 2,
     READINGS_VISIT_CAUSE_LIMIT = 3,
@@ -255,6 +257,7 @@ typedef struct readings_log_lists {
 typedef struct readings_sensor {
     gtv_bytes name;
     bool has_at;
+    /* Where it stands. */
     readings_point at;
     bool has_last;
     readings_reading last;
@@ -318,29 +321,37 @@ typedef struct readings_plan_lists {
  * GTV_INVALID_FIELD_NUMBER, GTV_MESSAGE_TOO_LARGE, GTV_WIRE_TYPE_MISMATCH, GTV_INVALID_UTF8,
  * GTV_RECURSION_LIMIT_EXCEEDED, GTV_INVALID_END_GROUP, GTV_UNKNOWN_FIELD_LIMIT_EXCEEDED or
  * GTV_ELEMENT_MEMORY_LIMIT_EXCEEDED. With no limits named these are 100 levels of messages and
- * groups, 1,000,000 unknown fields, and 33,554,432 bytes for the elements of lists, of which each
- * string or `bytes` takes 24 and a message what its fields take in Rattle. Those of the caller,
- * `_read_within`, are `depth`, of which no more than 100 are given; `records`, unknown fields,
- * those in groups counted; and `payload_bytes`, bytes of their length-delimited payloads; lists
- * have no limit of their own there. Numbers in lists are charged nothing.
+ * groups, 1,000,000 unknown fields, and 33,554,432 bytes for the elements of lists and maps: of
+ * these a string or `bytes` counts 24, a number nothing, and a message or an entry 24 and for each
+ * of its fields 24 where it is a string, `bytes` or a list, 8 where it is a message, and 16 else.
+ * Those of the caller, `_read_within`, are `depth`, of which no more than 100 are given;
+ * `records`, unknown fields, those in groups counted; and `payload_bytes`, bytes of their
+ * length-delimited payloads; lists have no limit of their own there.
  *
- * Each `_size` is how many bytes the encoding of what the struct shows has, or SIZE_MAX where they
- * are more: the records of a message with these fields and no others, each in its shortest form, in
- * the order of their numbers, the field of a oneof at the place of its lowest number; and a list of
- * numbers packed or not as the schema has it. Each `_write` writes it at the front of the room:
- * GTV_OK; or GTV_NO_ROOM, exactly where the room is smaller, and then it stays as it was. `*len` is
- * how many bytes the encoding has, either way. Nothing behind it is written.
+ * Each `_size` is how many bytes the encoding of what the struct shows has, or SIZE_MAX where it
+ * is more: the records of a message with these fields and no others, each in its shortest form, in
+ * the order of their numbers, the field of a oneof at the place of its lowest number; and a list
+ * of numbers packed or not as the schema has it. Each `_write` writes it at the front of the room:
+ * GTV_OK; or GTV_NO_ROOM, exactly where the room is smaller, and then it stays as it was. `*len`
+ * is how many bytes the encoding has, either way. Nothing behind it is written.
  *
- * Of a list the struct has how many elements there are, `_count`, and a map is a list of entries,
- * in the order in which they came. Each `_next_` gives them one after another: set `walk` to the
- * bytes that were read as the message, and call until the answer is no GTV_OK. GTV_OK, and
- * `element` is the next of them, a string or `bytes` as they are, a message as bytes of its own,
- * and `walk` is what is behind it; GTV_END, where none is left; or the status of an error, which
- * bytes that were read as the message never have. Without GTV_OK `walk` stays, and `element` is of
- * no bytes. The bytes of a message are such a message, within some limits of no more than 100
- * levels. Of a list of numbers, packed or not, `walk` is a `gtv_numbers`: set its `bytes` to those
- * that were read, and all else of it to zero; `number` is the next, and stays without GTV_OK. What
- * is written of lists is handed in beside the struct, whose counts are not looked at.
+ * Of a list the struct has how many elements there are, `_count`. Each `_next_` gives them one
+ * after another, by a walk of its own: set `walk` to the bytes that were read as the message, and
+ * call until the answer is no GTV_OK. GTV_OK, and `element` is the next of them, a string or
+ * `bytes` as they are, a message as the bytes that its own `_read` takes, and `walk` is what is
+ * behind it; GTV_END, where none is left; or the status of an error, which bytes that were read as
+ * the message never have. Without GTV_OK `walk` stays, and `element` is of no bytes. The bytes of
+ * a message are such a message, within some limits of no more than 100 levels. Of a list of
+ * numbers, packed or not, `walk` is a `gtv_numbers`: set its `bytes` to those that were read, and
+ * all else of it to zero; `number` is the next, and stays without GTV_OK.
+ *
+ * A map is a list of its entries, as they came: `_count` counts entries, also those of one key,
+ * and an entry is read by the `_read` of its own type.
+ *
+ * What is written of lists and maps is handed in beside the struct, in arrays, and of nothing
+ * else: not of the struct, whose counts are not looked at, and not of bytes that are handed to a
+ * call that keeps unknown fields. Entries are written in the order of the array, and keys are not
+ * compared. `lists` is not NULL.
  *
  * Each `_size_keeping` and `_write_keeping` has unknown fields behind it: of the records that
  * `bytes` are, usually those that the struct was read from, those whose numbers the message lacks,

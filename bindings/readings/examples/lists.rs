@@ -19,8 +19,8 @@ fn with_sums(sums: &BTreeMap<&str, i32>) -> Vec<u8> {
 }
 
 fn main() -> Result<(), Refusal> {
-    let bytes = [0x0A, 7, 0x0A, 3, b'r', b'o', b'f', 0x10, 5, 0x0A, 6, 0x0A, 2, b'u', b'p', 0x10, 9];
-    let mut sums = sums_of(&bytes)?;
+    let bytes = b"\x0A\x07\x0A\x03rof\x10\x05\x0A\x06\x0A\x02up\x10\x09";
+    let mut sums = sums_of(bytes)?;
     println!("{sums:?}");
     sums.remove("rof");
     println!("{:02X?}", with_sums(&sums));

@@ -51,8 +51,8 @@ pub(crate) const TOLD: &str = "\
 /// What is told of the entries of a map, in lines.
 pub(crate) const ENTRY: &str =
     " An entry of a map, as it came: of several of one key the last stands for all. A key or a \
-    value\n that is not there is zero, or of no bytes, or the message of no records; and such are \
-    not written.\n";
+    value\n that is not there is zero, of no bytes, or the message of no records; such are not \
+    written.\n";
 
 /// What is told of a field that is held as bytes.
 const ENCODED: &str =

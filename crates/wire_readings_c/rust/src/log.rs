@@ -90,7 +90,8 @@ impl<'a> Log<'a> {
         self.notes_count
     }
 
-    /// The `notes` in bytes that were read as this message, one after another.
+    /// The `notes` in bytes that were read as this message, one after another. In others they
+    /// end where the bytes are no such message.
     pub fn notes(bytes: &'a [u8]) -> impl Iterator<Item = &'a str> + 'a {
         ffi::notes_of_log(bytes).filter_map(|it| std::str::from_utf8(it).ok())
     }
@@ -108,12 +109,13 @@ impl<'a> Log<'a> {
         self.readings_count
     }
 
-    /// The `readings` in bytes that were read as this message, one after another.
+    /// The `readings` in bytes that were read as this message, one after another. In others they
+    /// end where the bytes are no such message.
     pub fn readings(bytes: &'a [u8]) -> impl Iterator<Item = Result<Reading<'a>, Refusal>> + 'a {
         ffi::readings_of_log(bytes).map(Reading::read)
     }
 
-    /// The same, each read within these limits.
+    /// The same, each read within these limits, and not the default ones.
     pub fn readings_within(
         bytes: &'a [u8],
         limits: Limits,
@@ -137,7 +139,8 @@ impl<'a> Log<'a> {
         self.frames_count
     }
 
-    /// The `frames` in bytes that were read as this message, one after another.
+    /// The `frames` in bytes that were read as this message, one after another. In others they
+    /// end where the bytes are no such message.
     pub fn frames(bytes: &'a [u8]) -> impl Iterator<Item = &'a [u8]> + 'a {
         ffi::frames_of_log(bytes)
     }
@@ -147,12 +150,13 @@ impl<'a> Log<'a> {
         self.path_count
     }
 
-    /// The `path` in bytes that were read as this message, one after another.
+    /// The `path` in bytes that were read as this message, one after another. In others they
+    /// end where the bytes are no such message.
     pub fn path(bytes: &'a [u8]) -> impl Iterator<Item = Result<Point<'a>, Refusal>> + 'a {
         ffi::path_of_log(bytes).map(Point::read)
     }
 
-    /// The same, each read within these limits.
+    /// The same, each read within these limits, and not the default ones.
     pub fn path_within(
         bytes: &'a [u8],
         limits: Limits,
@@ -181,7 +185,8 @@ impl<'a> Log<'a> {
         self.more_count
     }
 
-    /// The `more` in bytes that were read as this message, one after another.
+    /// The `more` in bytes that were read as this message, one after another. In others they
+    /// end where the bytes are no such message.
     pub fn more(bytes: &'a [u8]) -> impl Iterator<Item = &'a str> + 'a {
         ffi::more_of_log(bytes).filter_map(|it| std::str::from_utf8(it).ok())
     }
@@ -218,7 +223,7 @@ impl fmt::Debug for Log<'_> {
     }
 }
 
-/// The lists of a [`Log`] that is written.
+/// The lists of a [`Log`] that is written, which has nothing of them itself.
 #[repr(C)]
 #[derive(Clone, Copy)]
 pub struct LogLists<'a> {
@@ -230,6 +235,8 @@ pub struct LogLists<'a> {
 }
 
 impl<'a> LogLists<'a> {
+    /// Each list in turn, in the order of the header, `&[]` where there is none; a string is
+    /// made by `Text::new`, and `bytes` by `Bytes::new`.
     pub fn new(notes: &'a [Text<'a>], readings: &'a [Reading<'a>], frames: &'a [Bytes<'a>], path: &'a [Point<'a>], more: &'a [Text<'a>]) -> LogLists<'a> {
         LogLists { notes: List::new(notes), readings: List::new(readings), frames: List::new(frames), path: List::new(path), more: List::new(more) }
     }

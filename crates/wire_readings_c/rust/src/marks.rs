@@ -79,7 +79,8 @@ impl<'a> Marks<'a> {
         self.marks_count
     }
 
-    /// The `marks` in bytes that were read as this message, one after another.
+    /// The `marks` in bytes that were read as this message, one after another. In others they
+    /// end where the bytes are no such message.
     pub fn marks(bytes: &'a [u8]) -> impl Iterator<Item = i64> + 'a {
         ffi::marks_of_marks(bytes)
     }
@@ -99,7 +100,7 @@ impl fmt::Debug for Marks<'_> {
     }
 }
 
-/// The lists of a [`Marks`] that is written.
+/// The lists of a [`Marks`] that is written, which has nothing of them itself.
 #[repr(C)]
 #[derive(Clone, Copy)]
 pub struct MarksLists<'a> {
@@ -107,6 +108,8 @@ pub struct MarksLists<'a> {
 }
 
 impl<'a> MarksLists<'a> {
+    /// Each list in turn, in the order of the header, `&[]` where there is none; a string is
+    /// made by `Text::new`, and `bytes` by `Bytes::new`.
     pub fn new(marks: &'a [i64]) -> MarksLists<'a> {
         MarksLists { marks: List::new(marks) }
     }

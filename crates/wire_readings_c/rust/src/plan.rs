@@ -95,12 +95,13 @@ impl<'a> Plan<'a> {
         self.done_count
     }
 
-    /// The `done` in bytes that were read as this message, one after another.
+    /// The `done` in bytes that were read as this message, one after another. In others they
+    /// end where the bytes are no such message.
     pub fn done(bytes: &'a [u8]) -> impl Iterator<Item = Result<Visit<'a>, Refusal>> + 'a {
         ffi::done_of_plan(bytes).map(Visit::read)
     }
 
-    /// The same, each read within these limits.
+    /// The same, each read within these limits, and not the default ones.
     pub fn done_within(
         bytes: &'a [u8],
         limits: Limits,
@@ -113,6 +114,7 @@ impl<'a> Plan<'a> {
         self.last.get()
     }
 
+    /// Has this one stand, or none.
     pub fn set_last(&mut self, last: Option<PlanLast<'a>>) {
         self.last.set(last);
     }
@@ -122,6 +124,7 @@ impl<'a> Plan<'a> {
         self.count.get()
     }
 
+    /// Has this one stand, or none.
     pub fn set_count(&mut self, count: Option<PlanCount>) {
         self.count.set(count);
     }
@@ -225,7 +228,7 @@ impl<'a> PlanCountHeld<'a> {
     }
 }
 
-/// The lists of a [`Plan`] that is written.
+/// The lists of a [`Plan`] that is written, which has nothing of them itself.
 #[repr(C)]
 #[derive(Clone, Copy)]
 pub struct PlanLists<'a> {
@@ -233,6 +236,8 @@ pub struct PlanLists<'a> {
 }
 
 impl<'a> PlanLists<'a> {
+    /// Each list in turn, in the order of the header, `&[]` where there is none; a string is
+    /// made by `Text::new`, and `bytes` by `Bytes::new`.
     pub fn new(done: &'a [Visit<'a>]) -> PlanLists<'a> {
         PlanLists { done: List::new(done) }
     }

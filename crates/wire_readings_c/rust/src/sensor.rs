@@ -88,6 +88,7 @@ impl<'a> Sensor<'a> {
         self.name = Text::new(name);
     }
 
+    /// Where it stands.
     pub fn at(&self) -> Option<Point<'a>> {
         if self.has_at { Some(self.at) } else { None }
     }

@@ -87,7 +87,8 @@ impl<'a> Series<'a> {
         self.values_count
     }
 
-    /// The `values` in bytes that were read as this message, one after another.
+    /// The `values` in bytes that were read as this message, one after another. In others they
+    /// end where the bytes are no such message.
     pub fn values(bytes: &'a [u8]) -> impl Iterator<Item = i32> + 'a {
         ffi::values_of_series(bytes)
     }
@@ -105,7 +106,8 @@ impl<'a> Series<'a> {
         self.weights_count
     }
 
-    /// The `weights` in bytes that were read as this message, one after another.
+    /// The `weights` in bytes that were read as this message, one after another. In others they
+    /// end where the bytes are no such message.
     pub fn weights(bytes: &'a [u8]) -> impl Iterator<Item = f64> + 'a {
         ffi::weights_of_series(bytes)
     }
@@ -115,7 +117,8 @@ impl<'a> Series<'a> {
         self.marks_count
     }
 
-    /// The `marks` in bytes that were read as this message, one after another.
+    /// The `marks` in bytes that were read as this message, one after another. In others they
+    /// end where the bytes are no such message.
     pub fn marks(bytes: &'a [u8]) -> impl Iterator<Item = bool> + 'a {
         ffi::marks_of_series(bytes)
     }
@@ -125,7 +128,8 @@ impl<'a> Series<'a> {
         self.states_count
     }
 
-    /// The `states` in bytes that were read as this message, one after another.
+    /// The `states` in bytes that were read as this message, one after another. In others they
+    /// end where the bytes are no such message.
     pub fn states(bytes: &'a [u8]) -> impl Iterator<Item = i32> + 'a {
         ffi::states_of_series(bytes)
     }
@@ -135,7 +139,8 @@ impl<'a> Series<'a> {
         self.addresses_count
     }
 
-    /// The `addresses` in bytes that were read as this message, one after another.
+    /// The `addresses` in bytes that were read as this message, one after another. In others they
+    /// end where the bytes are no such message.
     pub fn addresses(bytes: &'a [u8]) -> impl Iterator<Item = u32> + 'a {
         ffi::addresses_of_series(bytes)
     }
@@ -145,7 +150,8 @@ impl<'a> Series<'a> {
         self.factors_count
     }
 
-    /// The `factors` in bytes that were read as this message, one after another.
+    /// The `factors` in bytes that were read as this message, one after another. In others they
+    /// end where the bytes are no such message.
     pub fn factors(bytes: &'a [u8]) -> impl Iterator<Item = f32> + 'a {
         ffi::factors_of_series(bytes)
     }
@@ -155,7 +161,8 @@ impl<'a> Series<'a> {
         self.serials_count
     }
 
-    /// The `serials` in bytes that were read as this message, one after another.
+    /// The `serials` in bytes that were read as this message, one after another. In others they
+    /// end where the bytes are no such message.
     pub fn serials(bytes: &'a [u8]) -> impl Iterator<Item = u64> + 'a {
         ffi::serials_of_series(bytes)
     }
@@ -165,7 +172,8 @@ impl<'a> Series<'a> {
         self.notes_count
     }
 
-    /// The `notes` in bytes that were read as this message, one after another.
+    /// The `notes` in bytes that were read as this message, one after another. In others they
+    /// end where the bytes are no such message.
     pub fn notes(bytes: &'a [u8]) -> impl Iterator<Item = &'a str> + 'a {
         ffi::notes_of_series(bytes).filter_map(|it| std::str::from_utf8(it).ok())
     }
@@ -175,7 +183,8 @@ impl<'a> Series<'a> {
         self.worst_count
     }
 
-    /// The `worst` in bytes that were read as this message, one after another.
+    /// The `worst` in bytes that were read as this message, one after another. In others they
+    /// end where the bytes are no such message.
     pub fn worst(bytes: &'a [u8]) -> impl Iterator<Item = i32> + 'a {
         ffi::worst_of_series(bytes)
     }
@@ -204,7 +213,7 @@ impl fmt::Debug for Series<'_> {
     }
 }
 
-/// The lists of a [`Series`] that is written.
+/// The lists of a [`Series`] that is written, which has nothing of them itself.
 #[repr(C)]
 #[derive(Clone, Copy)]
 pub struct SeriesLists<'a> {
@@ -220,6 +229,8 @@ pub struct SeriesLists<'a> {
 }
 
 impl<'a> SeriesLists<'a> {
+    /// Each list in turn, in the order of the header, `&[]` where there is none; a string is
+    /// made by `Text::new`, and `bytes` by `Bytes::new`.
     pub fn new(values: &'a [i32], weights: &'a [f64], marks: &'a [bool], states: &'a [i32], addresses: &'a [u32], factors: &'a [f32], serials: &'a [u64], notes: &'a [Text<'a>], worst: &'a [i32]) -> SeriesLists<'a> {
         SeriesLists { values: List::new(values), weights: List::new(weights), marks: List::new(marks), states: List::new(states), addresses: List::new(addresses), factors: List::new(factors), serials: List::new(serials), notes: List::new(notes), worst: List::new(worst) }
     }

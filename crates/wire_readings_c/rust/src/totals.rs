@@ -84,12 +84,13 @@ impl<'a> Totals<'a> {
         self.sums_count
     }
 
-    /// The `sums` in bytes that were read as this message, one after another.
+    /// The `sums` in bytes that were read as this message, one after another. In others they
+    /// end where the bytes are no such message.
     pub fn sums(bytes: &'a [u8]) -> impl Iterator<Item = Result<TotalsSumsEntry<'a>, Refusal>> + 'a {
         ffi::sums_of_totals(bytes).map(TotalsSumsEntry::read)
     }
 
-    /// The same, each read within these limits.
+    /// The same, each read within these limits, and not the default ones.
     pub fn sums_within(
         bytes: &'a [u8],
         limits: Limits,
@@ -110,12 +111,14 @@ impl<'a> Totals<'a> {
         self.last_count
     }
 
-    /// The `last` in bytes that were read as this message, one after another.
+    /// The last of each sensor, by its number.
+    /// The `last` in bytes that were read as this message, one after another. In others they
+    /// end where the bytes are no such message.
     pub fn last(bytes: &'a [u8]) -> impl Iterator<Item = Result<TotalsLastEntry<'a>, Refusal>> + 'a {
         ffi::last_of_totals(bytes).map(TotalsLastEntry::read)
     }
 
-    /// The same, each read within these limits.
+    /// The same, each read within these limits, and not the default ones.
     pub fn last_within(
         bytes: &'a [u8],
         limits: Limits,
@@ -128,12 +131,13 @@ impl<'a> Totals<'a> {
         self.states_count
     }
 
-    /// The `states` in bytes that were read as this message, one after another.
+    /// The `states` in bytes that were read as this message, one after another. In others they
+    /// end where the bytes are no such message.
     pub fn states(bytes: &'a [u8]) -> impl Iterator<Item = Result<TotalsStatesEntry<'a>, Refusal>> + 'a {
         ffi::states_of_totals(bytes).map(TotalsStatesEntry::read)
     }
 
-    /// The same, each read within these limits.
+    /// The same, each read within these limits, and not the default ones.
     pub fn states_within(
         bytes: &'a [u8],
         limits: Limits,
@@ -159,7 +163,7 @@ impl fmt::Debug for Totals<'_> {
     }
 }
 
-/// The lists of a [`Totals`] that is written.
+/// The lists of a [`Totals`] that is written, which has nothing of them itself.
 #[repr(C)]
 #[derive(Clone, Copy)]
 pub struct TotalsLists<'a> {
@@ -169,6 +173,8 @@ pub struct TotalsLists<'a> {
 }
 
 impl<'a> TotalsLists<'a> {
+    /// Each list in turn, in the order of the header, `&[]` where there is none; a string is
+    /// made by `Text::new`, and `bytes` by `Bytes::new`.
     pub fn new(sums: &'a [TotalsSumsEntry<'a>], last: &'a [TotalsLastEntry<'a>], states: &'a [TotalsStatesEntry<'a>]) -> TotalsLists<'a> {
         TotalsLists { sums: List::new(sums), last: List::new(last), states: List::new(states) }
     }

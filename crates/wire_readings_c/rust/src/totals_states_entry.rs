@@ -5,8 +5,8 @@ use std::fmt;
 
 /// The message `readings.Totals.StatesEntry`.
 ///
-/// An entry of a map, as it came: of several of one key the last counts, and what is not there is
-/// zero, of no bytes, or a message of no records.
+/// An entry of a map, as it came: of several of one key the last stands for all. A key or a value
+/// that is not there is zero, of no bytes, or the message of no records; such are not written.
 #[repr(C)]
 #[derive(Clone, Copy)]
 pub struct TotalsStatesEntry<'a> {

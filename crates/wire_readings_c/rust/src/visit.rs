@@ -79,11 +79,13 @@ impl<'a> Visit<'a> {
         self.by = Text::new(by);
     }
 
+    /// What it is for.
     /// Which of `cause` stands, where one does.
     pub fn cause(&self) -> Option<VisitCause<'a>> {
         self.cause.get()
     }
 
+    /// Has this one stand, or none.
     pub fn set_cause(&mut self, cause: Option<VisitCause<'a>>) {
         self.cause.set(cause);
     }
@@ -104,6 +106,7 @@ impl<'a> Visit<'a> {
         self.outcome.get()
     }
 
+    /// Has this one stand, or none.
     pub fn set_outcome(&mut self, outcome: Option<VisitOutcome>) {
         self.outcome.set(outcome);
     }
