@@ -1,4 +1,4 @@
-//! What the messages of readings.proto show, as answers.c says it.
+//! What the messages of readings.proto show, as answers.h says it.
 use readings::{Bytes, Limits, Log, LogLists, Marks, MarksLists, Plan, PlanCount, PlanLast, PlanLists};
 use readings::{Point, Reading, Refusal, Sensor, Series, SeriesLists, Settings, Text, Totals};
 use readings::{TotalsLastEntry, TotalsLists, TotalsStatesEntry, TotalsSumsEntry, Visit};
@@ -250,6 +250,19 @@ fn marks(bytes: &[u8]) -> Result<String, Refusal> {
     Ok(shown + astray + &written!(it, bytes, &MarksLists::new(&marks)))
 }
 
+fn show_sum(it: TotalsSumsEntry<'_>) -> String {
+    format!(" key={} value={}", hex(it.key().as_bytes()), it.value())
+}
+
+fn show_last(it: TotalsLastEntry<'_>) -> String {
+    let value = or_none(it.value().map(|it| inside(show_reading(it))));
+    format!(" key={} value={value}", it.key())
+}
+
+fn show_state(it: TotalsStatesEntry<'_>) -> String {
+    format!(" key={} value={}", it.key(), it.value())
+}
+
 fn totals(bytes: &[u8]) -> Result<String, Refusal> {
     let it = Totals::read(bytes)?;
     let sums = Totals::sums(bytes).collect::<Result<Vec<TotalsSumsEntry>, Refusal>>()?;
@@ -259,15 +272,10 @@ fn totals(bytes: &[u8]) -> Result<String, Refusal> {
     let is_told = counts == (sums.len() as u64, last.len() as u64, states.len() as u64);
     let shown = format!(
         " sums={} by={} last={} states={}",
-        list(sums.iter().map(|it| {
-            inside(format!(" key={} value={}", hex(it.key().as_bytes()), it.value()))
-        })),
+        list(sums.iter().map(|it| inside(show_sum(*it)))),
         hex(it.by().as_bytes()),
-        list(last.iter().map(|it| {
-            let value = or_none(it.value().map(|it| inside(show_reading(it))));
-            inside(format!(" key={} value={value}", it.key()))
-        })),
-        list(states.iter().map(|it| inside(format!(" key={} value={}", it.key(), it.value())))),
+        list(last.iter().map(|it| inside(show_last(*it)))),
+        list(states.iter().map(|it| inside(show_state(*it)))),
     );
     let astray = if is_told { "" } else { " astray" };
     Ok(shown + astray + &written!(it, bytes, &TotalsLists::new(&sums, &last, &states)))
@@ -298,6 +306,9 @@ fn main() -> io::Result<()> {
             "series" => series(&bytes),
             "marks" => marks(&bytes),
             "totals" => totals(&bytes),
+            "totals_sums_entry" => answer!(TotalsSumsEntry, show_sum, &bytes),
+            "totals_last_entry" => answer!(TotalsLastEntry, show_last, &bytes),
+            "totals_states_entry" => answer!(TotalsStatesEntry, show_state, &bytes),
             _ => answer!(Point, show_point, &bytes),
         };
         match answer {
