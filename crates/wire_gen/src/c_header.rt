@@ -2,7 +2,7 @@
 use crate::c_comment::put_c_comment;
 use crate::c_enum::put_enum;
 use crate::c_oneof::put_oneof;
-use crate::c_told::{ENTRY, TOLD, told_of};
+use crate::c_told::{CHARGES, CHARGES_GIVEN, ENTRY, TOLD, told_of};
 use crate::rust_structs::RustCrate;
 use crate::struct_fields::has_no_bytes;
 use crate::struct_layout::Layout;
@@ -241,6 +241,8 @@ impl CHeader {
         if !words.get("left").is_empty() {
             words.fill("left_out", LEFT_OUT);
         }
+        let is_given = !words.get("element").is_empty();
+        words.fill("charges", if is_given { CHARGES_GIVEN } else { CHARGES });
         words.fill("told", "\n");
         words.append("told", TOLD);
         words.fill("header", HEADER);

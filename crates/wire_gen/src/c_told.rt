@@ -8,13 +8,13 @@ pub(crate) const TOLD: &str = "\
  * it is that of the error: GTV_UNEXPECTED_EOF, GTV_VARINT_TOO_LONG, GTV_INVALID_WIRE_TYPE,
  * GTV_INVALID_FIELD_NUMBER, GTV_MESSAGE_TOO_LARGE, GTV_WIRE_TYPE_MISMATCH, GTV_INVALID_UTF8,
  * GTV_RECURSION_LIMIT_EXCEEDED, GTV_INVALID_END_GROUP, GTV_UNKNOWN_FIELD_LIMIT_EXCEEDED or
- * GTV_ELEMENT_MEMORY_LIMIT_EXCEEDED. With no limits named these are 100 levels of messages and
- * groups, 1,000,000 unknown fields, and 33,554,432 bytes for the elements of lists and maps: of
- * these a string or `bytes` counts 24, a number nothing, and a message or an entry 24 and for each
- * of its fields 24 where it is a string, `bytes` or a list, 8 where it is a message, and 16 else.
- * Those of the caller, `_read_within`, are `depth`, of which no more than 100 are given;
+ * GTV_ELEMENT_MEMORY_LIMIT_EXCEEDED.
+ *
+ * With no limits named these are 100 levels of messages and groups, 1,000,000 unknown fields, and
+ * 33,554,432 bytes for the elements of lists and maps.
+$charges$ * Those of the caller, `_read_within`, are `depth`, of which no more than 100 are given;
  * `records`, unknown fields, those in groups counted; and `payload_bytes`, bytes of their
- * length-delimited payloads; lists have no limit of their own there.
+ * length-delimited payloads; lists and maps have no limit of their own there.
  *
  * Each `_size` is how many bytes the encoding of what the struct shows has, or SIZE_MAX where it
  * is more: the records of a message with these fields and no others, each in its shortest form, in
@@ -46,6 +46,18 @@ pub(crate) const TOLD: &str = "\
  * in order, each in its shortest form and groups whole. Where they are no records, or these nest
  * more than 100 groups, they answer the status of the error, `*len` is 0, and the room stays. The
  * unknown fields of messages inside are not kept. */
+";
+
+/// What elements are charged by the default limits.
+pub(crate) const CHARGES: &str = "\
+ * Of these a string or `bytes` counts 24, a number in a list nothing, and a message or an entry 24
+ * and for each of its fields 24 where it is a string, `bytes` or a list, 8 where it is a message,
+ * and 16 else.
+";
+
+/// The same where the schema's parameter says it.
+pub(crate) const CHARGES_GIVEN: &str = "\
+ * Of these each counts $element$, but a number in a list nothing.
 ";
 
 /// What is told of the entries of a map, in lines.
