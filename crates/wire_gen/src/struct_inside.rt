@@ -35,9 +35,9 @@ pub(crate) fn encode_inside(base: &mut Words, schema: &Schema) {
         }
         for field in &message.descriptor.field {
             if held_in(schema, field).is_some_and(|it| !is_inside(schema, message, it)) {
-                base.set("full", message.words.get("full"));
-                base.set("proto", &field.name);
-                base.append("encoded", "$full$.$proto$\n");
+                base.set("encoded_in", message.words.get("full"));
+                base.set("encoded_as", &field.name);
+                base.append("encoded", "$encoded_in$.$encoded_as$\n");
             }
         }
     }
