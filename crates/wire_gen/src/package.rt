@@ -72,9 +72,9 @@ pub(crate) fn answer(alloc: Global, request: &[u8]) -> Result<PluginAnswer, Gene
 fn package_of(alloc: Global, request: &CodeGeneratorRequest) -> Result<Package, GenerateError> {
     let mut base = Words::new(alloc);
     set_crate(&mut base, request)?;
-    let takes_inside = takes_inside(&mut base)?;
+    let is_asked = takes_inside(&mut base)?;
     let mut schema = Schema::of(&base, request)?;
-    if takes_inside {
+    if is_asked {
         encode_inside(&mut base, &schema);
         schema = Schema::of(&base, request)?;
     }

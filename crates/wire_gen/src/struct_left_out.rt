@@ -59,7 +59,13 @@ pub(crate) fn reason<'a>(fields: &'a [Field], inside: &str) -> Option<(&'a str, 
             "called as what there is of another field",
         ));
     }
-    fields.iter().find_map(|it| why_not(it, inside))
+    for field in fields {
+        let why = why_not(field, inside);
+        if why.is_some() {
+            return why;
+        }
+    }
+    None
 }
 
 // Why a struct can't have a field, if it can't: what of it, as the schema calls it, and what that
