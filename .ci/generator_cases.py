@@ -134,7 +134,8 @@ CHOICES = [
      "message B { repeated B x = 1; } message D { map<string, B> x = 1; } "
      "message F { oneof y { D z = 1; } }",
      ",c=a,enums=open,encoded=B.x,encoded=D.x,encoded=F.z",
-     ["typedef struct a_fy {\n    uint32_t which;\n    gtv_bytes z;\n",
+     ["typedef struct a_fy {\n    uint32_t which;\n    /* Encodings of messages, not looked at: "
+      "the calls of their type read and write them. */\n    gtv_bytes z;\n",
       "typedef struct a_dxentry {\n    gtv_bytes key;\n    bool has_value;\n"
       "    gtv_bytes value;\n",
       "uint32_t a_a_next_x(gtv_bytes *walk, gtv_bytes *element);",
@@ -143,8 +144,8 @@ CHOICES = [
      "message Pair { Pair left = 1; Flat right = 2; List rest = 3; oneof o { List z = 4; } } "
      "message Each { repeated Flat a = 1; repeated List b = 2; map<int32, Each> c = 3; }",
      ",c=a,encoded=inside",
-     ["    bool has_left;\n    gtv_bytes left;\n    bool has_right;\n    a_flat right;\n"
-      "    bool has_rest;\n    gtv_bytes rest;\n    a_pair_o o;\n} a_pair;",
+     [" */\n    gtv_bytes left;\n    bool has_right;\n    a_flat right;\n    bool has_rest;\n",
+      " */\n    gtv_bytes rest;\n    a_pair_o o;\n} a_pair;",
       "    const a_flat *a;\n    size_t a_len;\n    const gtv_bytes *b;\n    size_t b_len;\n"
       "    const a_each_centry *c;\n",
       "    int32_t key;\n    bool has_value;\n    gtv_bytes value;\n} a_each_centry;"]),
