@@ -3,13 +3,14 @@
  * A struct is of fixed size and owns nothing: strings and `bytes` are pointers into the bytes that
  * were read, so these have to live and stay as they are for as long as the struct is used. Each
  * call is proved: for all bytes, and whatever the struct held before, it ends, reads only what it
- * is handed, writes only the struct, or the room and the length, or the walk and the element or
- * number, that it is handed, asks for no memory and keeps no state, so calls on structs of their
- * own may run at once. What stands on trust: that a header is that of its library, the C compiler,
- * and that a caller hands in what these conditions say:
+ * is handed, writes only the struct, or the place, or the room and the length, or the walk and the
+ * element or number, that it is handed, asks for no memory and keeps no state, so calls on structs
+ * of their own may run at once. What stands on trust: that a header is that of its library, the C
+ * compiler, and that a caller hands in what these conditions say:
  *
- * - a pointer to a struct, to limits, to a length, to a walk, to an element or to a number is not
- *   null and is aligned, and what a call sets overlaps nothing else that it is handed;
+ * - a pointer to a struct, to limits, to a length or a place, to a walk, to an element or to a
+ *   number is not null and is aligned, and what a call sets overlaps nothing else that it is
+ *   handed;
  * - `bytes` points to `len` bytes that nothing writes during the call; where `len` is 0 it may be
  *   any pointer, NULL too; so does each part of a walk;
  * - so does each string and `bytes` of a struct that is written, each list beside it to as many

@@ -331,6 +331,12 @@ typedef struct readings_plan_lists {
  * `records`, unknown fields, those in groups counted; and `payload_bytes`, bytes of their
  * length-delimited payloads; lists and maps have no limit of their own there.
  *
+ * Each `_fault` answers as `_read`, and `_fault_within` as `_read_within`, and tells where: without
+ * GTV_OK `*place` is the byte at which the first record begins that is not taken. All records in
+ * front of it are, and no record that begins there is, within what they leave of the limits. These
+ * are the records of the message itself: what is refused inside a message or a group is told by
+ * the field that holds it. With GTV_OK `*place` is `len`.
+ *
  * Each `_size` is how many bytes the encoding of what the struct shows has, or SIZE_MAX where it
  * is more: the records of a message with these fields and no others, each in its shortest form, in
  * the order of their numbers, the field of a oneof at the place of its lowest number; and a list
@@ -347,6 +353,11 @@ typedef struct readings_plan_lists {
  * a message are such a message, within some limits of no more than 100 levels. Of a list of
  * numbers, packed or not, `walk` is a `gtv_numbers`: set its `bytes` to those that were read, and
  * all else of it to zero; `number` is the next, and stays without GTV_OK.
+ *
+ * Each `_unknown_record` gives so the records whose numbers the message lacks, one after another,
+ * as they came: `element` is a whole record, its tag too, and a group up to its end, and `walk` is
+ * what is behind it. A status of an error says that the bytes up to the next of them are no
+ * records, or that these nest more than 100 groups.
  *
  * A map is a list of its entries, as they came: `_count` counts entries, also those of one key,
  * and an entry is read by the `_read` of its own type.
@@ -365,6 +376,10 @@ typedef struct readings_plan_lists {
 uint32_t readings_marks_read(const uint8_t *bytes, size_t len, readings_marks *it);
 uint32_t readings_marks_read_within(const uint8_t *bytes, size_t len,
                               const gtv_limits *limits, readings_marks *it);
+uint32_t readings_marks_fault(const uint8_t *bytes, size_t len, size_t *place);
+uint32_t readings_marks_fault_within(const uint8_t *bytes, size_t len,
+                               const gtv_limits *limits, size_t *place);
+uint32_t readings_marks_unknown_record(gtv_bytes *walk, gtv_bytes *element);
 uint32_t readings_marks_next_marks(gtv_numbers *walk, int64_t *number);
 size_t readings_marks_size(const readings_marks *it, const readings_marks_lists *lists);
 uint32_t readings_marks_write(const readings_marks *it, const readings_marks_lists *lists,
@@ -378,6 +393,10 @@ uint32_t readings_marks_write_keeping(const readings_marks *it, const readings_m
 uint32_t readings_series_read(const uint8_t *bytes, size_t len, readings_series *it);
 uint32_t readings_series_read_within(const uint8_t *bytes, size_t len,
                               const gtv_limits *limits, readings_series *it);
+uint32_t readings_series_fault(const uint8_t *bytes, size_t len, size_t *place);
+uint32_t readings_series_fault_within(const uint8_t *bytes, size_t len,
+                               const gtv_limits *limits, size_t *place);
+uint32_t readings_series_unknown_record(gtv_bytes *walk, gtv_bytes *element);
 uint32_t readings_series_next_values(gtv_numbers *walk, int32_t *number);
 uint32_t readings_series_next_weights(gtv_numbers *walk, double *number);
 uint32_t readings_series_next_marks(gtv_numbers *walk, bool *number);
@@ -399,6 +418,10 @@ uint32_t readings_series_write_keeping(const readings_series *it, const readings
 uint32_t readings_point_read(const uint8_t *bytes, size_t len, readings_point *it);
 uint32_t readings_point_read_within(const uint8_t *bytes, size_t len,
                               const gtv_limits *limits, readings_point *it);
+uint32_t readings_point_fault(const uint8_t *bytes, size_t len, size_t *place);
+uint32_t readings_point_fault_within(const uint8_t *bytes, size_t len,
+                               const gtv_limits *limits, size_t *place);
+uint32_t readings_point_unknown_record(gtv_bytes *walk, gtv_bytes *element);
 size_t readings_point_size(const readings_point *it);
 uint32_t readings_point_write(const readings_point *it,
                         uint8_t *room, size_t room_len, size_t *len);
@@ -411,6 +434,10 @@ uint32_t readings_point_write_keeping(const readings_point *it,
 uint32_t readings_settings_read(const uint8_t *bytes, size_t len, readings_settings *it);
 uint32_t readings_settings_read_within(const uint8_t *bytes, size_t len,
                               const gtv_limits *limits, readings_settings *it);
+uint32_t readings_settings_fault(const uint8_t *bytes, size_t len, size_t *place);
+uint32_t readings_settings_fault_within(const uint8_t *bytes, size_t len,
+                               const gtv_limits *limits, size_t *place);
+uint32_t readings_settings_unknown_record(gtv_bytes *walk, gtv_bytes *element);
 size_t readings_settings_size(const readings_settings *it);
 uint32_t readings_settings_write(const readings_settings *it,
                         uint8_t *room, size_t room_len, size_t *len);
@@ -423,6 +450,10 @@ uint32_t readings_settings_write_keeping(const readings_settings *it,
 uint32_t readings_reading_read(const uint8_t *bytes, size_t len, readings_reading *it);
 uint32_t readings_reading_read_within(const uint8_t *bytes, size_t len,
                               const gtv_limits *limits, readings_reading *it);
+uint32_t readings_reading_fault(const uint8_t *bytes, size_t len, size_t *place);
+uint32_t readings_reading_fault_within(const uint8_t *bytes, size_t len,
+                               const gtv_limits *limits, size_t *place);
+uint32_t readings_reading_unknown_record(gtv_bytes *walk, gtv_bytes *element);
 size_t readings_reading_size(const readings_reading *it);
 uint32_t readings_reading_write(const readings_reading *it,
                         uint8_t *room, size_t room_len, size_t *len);
@@ -435,6 +466,10 @@ uint32_t readings_reading_write_keeping(const readings_reading *it,
 uint32_t readings_totals_states_entry_read(const uint8_t *bytes, size_t len, readings_totals_states_entry *it);
 uint32_t readings_totals_states_entry_read_within(const uint8_t *bytes, size_t len,
                               const gtv_limits *limits, readings_totals_states_entry *it);
+uint32_t readings_totals_states_entry_fault(const uint8_t *bytes, size_t len, size_t *place);
+uint32_t readings_totals_states_entry_fault_within(const uint8_t *bytes, size_t len,
+                               const gtv_limits *limits, size_t *place);
+uint32_t readings_totals_states_entry_unknown_record(gtv_bytes *walk, gtv_bytes *element);
 size_t readings_totals_states_entry_size(const readings_totals_states_entry *it);
 uint32_t readings_totals_states_entry_write(const readings_totals_states_entry *it,
                         uint8_t *room, size_t room_len, size_t *len);
@@ -447,6 +482,10 @@ uint32_t readings_totals_states_entry_write_keeping(const readings_totals_states
 uint32_t readings_totals_last_entry_read(const uint8_t *bytes, size_t len, readings_totals_last_entry *it);
 uint32_t readings_totals_last_entry_read_within(const uint8_t *bytes, size_t len,
                               const gtv_limits *limits, readings_totals_last_entry *it);
+uint32_t readings_totals_last_entry_fault(const uint8_t *bytes, size_t len, size_t *place);
+uint32_t readings_totals_last_entry_fault_within(const uint8_t *bytes, size_t len,
+                               const gtv_limits *limits, size_t *place);
+uint32_t readings_totals_last_entry_unknown_record(gtv_bytes *walk, gtv_bytes *element);
 size_t readings_totals_last_entry_size(const readings_totals_last_entry *it);
 uint32_t readings_totals_last_entry_write(const readings_totals_last_entry *it,
                         uint8_t *room, size_t room_len, size_t *len);
@@ -459,6 +498,10 @@ uint32_t readings_totals_last_entry_write_keeping(const readings_totals_last_ent
 uint32_t readings_totals_sums_entry_read(const uint8_t *bytes, size_t len, readings_totals_sums_entry *it);
 uint32_t readings_totals_sums_entry_read_within(const uint8_t *bytes, size_t len,
                               const gtv_limits *limits, readings_totals_sums_entry *it);
+uint32_t readings_totals_sums_entry_fault(const uint8_t *bytes, size_t len, size_t *place);
+uint32_t readings_totals_sums_entry_fault_within(const uint8_t *bytes, size_t len,
+                               const gtv_limits *limits, size_t *place);
+uint32_t readings_totals_sums_entry_unknown_record(gtv_bytes *walk, gtv_bytes *element);
 size_t readings_totals_sums_entry_size(const readings_totals_sums_entry *it);
 uint32_t readings_totals_sums_entry_write(const readings_totals_sums_entry *it,
                         uint8_t *room, size_t room_len, size_t *len);
@@ -471,6 +514,10 @@ uint32_t readings_totals_sums_entry_write_keeping(const readings_totals_sums_ent
 uint32_t readings_totals_read(const uint8_t *bytes, size_t len, readings_totals *it);
 uint32_t readings_totals_read_within(const uint8_t *bytes, size_t len,
                               const gtv_limits *limits, readings_totals *it);
+uint32_t readings_totals_fault(const uint8_t *bytes, size_t len, size_t *place);
+uint32_t readings_totals_fault_within(const uint8_t *bytes, size_t len,
+                               const gtv_limits *limits, size_t *place);
+uint32_t readings_totals_unknown_record(gtv_bytes *walk, gtv_bytes *element);
 uint32_t readings_totals_next_sums(gtv_bytes *walk, gtv_bytes *element);
 uint32_t readings_totals_next_last(gtv_bytes *walk, gtv_bytes *element);
 uint32_t readings_totals_next_states(gtv_bytes *walk, gtv_bytes *element);
@@ -486,6 +533,10 @@ uint32_t readings_totals_write_keeping(const readings_totals *it, const readings
 uint32_t readings_visit_read(const uint8_t *bytes, size_t len, readings_visit *it);
 uint32_t readings_visit_read_within(const uint8_t *bytes, size_t len,
                               const gtv_limits *limits, readings_visit *it);
+uint32_t readings_visit_fault(const uint8_t *bytes, size_t len, size_t *place);
+uint32_t readings_visit_fault_within(const uint8_t *bytes, size_t len,
+                               const gtv_limits *limits, size_t *place);
+uint32_t readings_visit_unknown_record(gtv_bytes *walk, gtv_bytes *element);
 size_t readings_visit_size(const readings_visit *it);
 uint32_t readings_visit_write(const readings_visit *it,
                         uint8_t *room, size_t room_len, size_t *len);
@@ -498,6 +549,10 @@ uint32_t readings_visit_write_keeping(const readings_visit *it,
 uint32_t readings_log_read(const uint8_t *bytes, size_t len, readings_log *it);
 uint32_t readings_log_read_within(const uint8_t *bytes, size_t len,
                               const gtv_limits *limits, readings_log *it);
+uint32_t readings_log_fault(const uint8_t *bytes, size_t len, size_t *place);
+uint32_t readings_log_fault_within(const uint8_t *bytes, size_t len,
+                               const gtv_limits *limits, size_t *place);
+uint32_t readings_log_unknown_record(gtv_bytes *walk, gtv_bytes *element);
 uint32_t readings_log_next_notes(gtv_bytes *walk, gtv_bytes *element);
 uint32_t readings_log_next_readings(gtv_bytes *walk, gtv_bytes *element);
 uint32_t readings_log_next_frames(gtv_bytes *walk, gtv_bytes *element);
@@ -515,6 +570,10 @@ uint32_t readings_log_write_keeping(const readings_log *it, const readings_log_l
 uint32_t readings_sensor_read(const uint8_t *bytes, size_t len, readings_sensor *it);
 uint32_t readings_sensor_read_within(const uint8_t *bytes, size_t len,
                               const gtv_limits *limits, readings_sensor *it);
+uint32_t readings_sensor_fault(const uint8_t *bytes, size_t len, size_t *place);
+uint32_t readings_sensor_fault_within(const uint8_t *bytes, size_t len,
+                               const gtv_limits *limits, size_t *place);
+uint32_t readings_sensor_unknown_record(gtv_bytes *walk, gtv_bytes *element);
 size_t readings_sensor_size(const readings_sensor *it);
 uint32_t readings_sensor_write(const readings_sensor *it,
                         uint8_t *room, size_t room_len, size_t *len);
@@ -527,6 +586,10 @@ uint32_t readings_sensor_write_keeping(const readings_sensor *it,
 uint32_t readings_plan_read(const uint8_t *bytes, size_t len, readings_plan *it);
 uint32_t readings_plan_read_within(const uint8_t *bytes, size_t len,
                               const gtv_limits *limits, readings_plan *it);
+uint32_t readings_plan_fault(const uint8_t *bytes, size_t len, size_t *place);
+uint32_t readings_plan_fault_within(const uint8_t *bytes, size_t len,
+                               const gtv_limits *limits, size_t *place);
+uint32_t readings_plan_unknown_record(gtv_bytes *walk, gtv_bytes *element);
 uint32_t readings_plan_next_done(gtv_bytes *walk, gtv_bytes *element);
 size_t readings_plan_size(const readings_plan *it, const readings_plan_lists *lists);
 uint32_t readings_plan_write(const readings_plan *it, const readings_plan_lists *lists,

@@ -7,10 +7,11 @@ int main(void) {
     static const uint8_t bytes[] = {0x0A, 3, 'r', 'o', 'f', 0x18, 4, 0x20, 7};
     readings_reading it;
     uint8_t room[64];
-    size_t len;
+    size_t len, place;
     uint32_t status = readings_reading_read(bytes, sizeof bytes, &it);
     if (status != GTV_OK) {
-        fprintf(stderr, "no reading: %s\n", gtv_status_text(status));
+        readings_reading_fault(bytes, sizeof bytes, &place);
+        fprintf(stderr, "no reading, at byte %zu: %s\n", place, gtv_status_text(status));
         return 1;
     }
     printf("%.*s: %s\n", (int)it.sensor.len, (const char *)it.sensor.data,

@@ -1,7 +1,8 @@
 /* What programs have in common that tell what the structs of a schema show: for each line
  * `MESSAGE HEX` a line with the status, and where that is GTV_OK each field, the shortest encoding,
- * and that with the unknown fields. What is of the schema is written by program_of: a function
- * `show_..` for each struct, and the table `answers`. */
+ * that with the unknown fields, and these as they came; else the byte at which the first record begins that is not
+ * taken. What is of the schema is written by program_of: a function `show_..` for each struct, and
+ * the table `answers`. */
 #include <inttypes.h>
 #include <stdio.h>
 #include <stdlib.h>
@@ -178,15 +179,51 @@ static const gtv_limits wide = {SIZE_MAX, SIZE_MAX, 100};
         }                                                                                          \
     } while (0)
 
+/* The records that the message lacks, one after another, as they came. */
+#define PUT_UNKNOWN(message)                                                                       \
+    do {                                                                                           \
+        gtv_bytes walk = {bytes, count}, record;                                                   \
+        printf(" unknown=[");                                                                      \
+        while (message##_unknown_record(&walk, &record) == GTV_OK) {                               \
+            put_hex("", record.data, record.len);                                                  \
+        }                                                                                          \
+        printf(record.len == 0 ? " ]" : " ] astray");                                              \
+    } while (0)
+
+/* Where the bytes are refused, or their length, by both calls that tell it. */
+#define PUT_PLACE(message)                                                                         \
+    do {                                                                                           \
+        size_t place = SIZE_MAX, within = SIZE_MAX;                                                \
+        if (message##_fault(bytes, count, &place) != status ||                                     \
+            message##_fault_within(bytes, count, &wide, &within) != status || place != within) {   \
+            printf(" astray");                                                                     \
+        }                                                                                          \
+        if (status == GTV_OK ? place != count : place >= count) {                                  \
+            printf(" astray");                                                                     \
+        }                                                                                          \
+        if (status != GTV_OK) {                                                                    \
+            printf(" at %zu", place);                                                              \
+        }                                                                                          \
+        /* (the front before the place is the longest that is read) */                             \
+        for (size_t more = 0; status != GTV_OK && more < 32 && place + more <= count; more++) {    \
+            message front;                                                                         \
+            if ((message##_read(bytes, place + more, &front) == GTV_OK) != (more == 0)) {          \
+                printf(" astray");                                                                 \
+            }                                                                                      \
+        }                                                                                          \
+    } while (0)
+
 #define ANSWER(prefix, name)                                                                       \
     static void put_##name(size_t count) {                                                         \
         prefix##_##name it;                                                                        \
         uint32_t status = prefix##_##name##_read(bytes, count, &it);                               \
         printf("%" PRIu32, status);                                                                \
         PUT_WITHIN(prefix##_##name);                                                               \
+        PUT_PLACE(prefix##_##name);                                                                \
         if (status == GTV_OK) {                                                                    \
             show_##name(&it);                                                                      \
             PUT_WRITTEN(prefix##_##name, &it);                                                     \
+            PUT_UNKNOWN(prefix##_##name);                                                          \
         }                                                                                          \
         putchar('\n');                                                                             \
     }
@@ -198,9 +235,11 @@ static const gtv_limits wide = {SIZE_MAX, SIZE_MAX, 100};
         uint32_t status = prefix##_##name##_read(bytes, count, &it);                               \
         printf("%" PRIu32, status);                                                                \
         PUT_WITHIN(prefix##_##name);                                                               \
+        PUT_PLACE(prefix##_##name);                                                                \
         if (status == GTV_OK) {                                                                    \
             show_##name(&it, count);                                                               \
             PUT_WRITTEN(prefix##_##name, &it, &name##_lists);                                      \
+            PUT_UNKNOWN(prefix##_##name);                                                          \
         }                                                                                          \
         putchar('\n');                                                                             \
     }

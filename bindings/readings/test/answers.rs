@@ -26,9 +26,9 @@ fn list(elements: impl Iterator<Item = String>) -> String {
 }
 
 // A message that was read, written: into room that has just its bytes, into one that lacks one, and
-// with its unknown fields.
+// with its unknown fields; and these as they came.
 macro_rules! written {
-    ($it:expr, $bytes:expr $(, $lists:expr)?) => {{
+    ($message:ident, $it:expr, $bytes:expr $(, $lists:expr)?) => {{
         let written = $it.to_vec($($lists)?);
         let mut room = vec![0xAA; written.len()];
         let wrote = $it.write($($lists,)? &mut room);
@@ -43,7 +43,8 @@ macro_rules! written {
         is_astray |= $it.write_keeping($($lists,)? $bytes, &mut kept) != Ok(wanted);
         is_astray |= $it.to_vec_keeping($($lists,)? $bytes).as_ref() != Ok(&kept);
         let astray = if is_astray { " astray" } else { "" };
-        format!("{astray} written={} kept={}", hex(&written), hex(&kept))
+        let unknown = list($message::unknown_records($bytes).map(|it| format!("={}", hex(it))));
+        format!("{astray} written={} kept={} unknown={unknown}", hex(&written), hex(&kept))
     }};
 }
 
@@ -136,7 +137,7 @@ fn log(bytes: &[u8]) -> Result<String, Refusal> {
     );
     let lists = LogLists::new(&notes, &readings, &frames, &path, &more);
     let astray = if is_told { "" } else { " astray" };
-    Ok(shown + astray + &written!(it, bytes, &lists))
+    Ok(shown + astray + &written!(Log, it, bytes, &lists))
 }
 
 // A field of a oneof, where it is the one that stands.
@@ -195,7 +196,7 @@ fn plan(bytes: &[u8]) -> Result<String, Refusal> {
     let again: Vec<Visit> = done.iter().copied().map(again).collect();
     let lists = PlanLists::new(&again);
     let astray = if it.done_count() == done.len() as u64 { "" } else { " astray" };
-    Ok(shown + astray + &written!(it, bytes, &lists))
+    Ok(shown + astray + &written!(Plan, it, bytes, &lists))
 }
 
 fn numbers<T: ToString>(numbers: &[T]) -> String {
@@ -239,7 +240,7 @@ fn series(bytes: &[u8]) -> Result<String, Refusal> {
         &values, &weights, &marks, &states, &addresses, &factors, &serials, &notes, &worst,
     );
     let astray = if is_told { "" } else { " astray" };
-    Ok(shown + astray + &written!(it, bytes, &lists))
+    Ok(shown + astray + &written!(Series, it, bytes, &lists))
 }
 
 fn marks(bytes: &[u8]) -> Result<String, Refusal> {
@@ -247,7 +248,7 @@ fn marks(bytes: &[u8]) -> Result<String, Refusal> {
     let marks: Vec<i64> = Marks::marks(bytes).collect();
     let astray = if it.marks_count() == marks.len() as u64 { "" } else { " astray" };
     let shown = format!(" marks={}", numbers(&marks));
-    Ok(shown + astray + &written!(it, bytes, &MarksLists::new(&marks)))
+    Ok(shown + astray + &written!(Marks, it, bytes, &MarksLists::new(&marks)))
 }
 
 fn show_sum(it: TotalsSumsEntry<'_>) -> String {
@@ -278,13 +279,13 @@ fn totals(bytes: &[u8]) -> Result<String, Refusal> {
         list(states.iter().map(|it| inside(show_state(*it)))),
     );
     let astray = if is_told { "" } else { " astray" };
-    Ok(shown + astray + &written!(it, bytes, &TotalsLists::new(&sums, &last, &states)))
+    Ok(shown + astray + &written!(Totals, it, bytes, &TotalsLists::new(&sums, &last, &states)))
 }
 
 // What is answered of a message without lists.
 macro_rules! answer {
     ($message:ident, $show:ident, $bytes:expr) => {
-        $message::read_within($bytes, &WIDE).map(|it| $show(it) + &written!(it, $bytes))
+        $message::read_within($bytes, &WIDE).map(|it| $show(it) + &written!($message, it, $bytes))
     };
 }
 
@@ -313,7 +314,10 @@ fn main() -> io::Result<()> {
         };
         match answer {
             Ok(shown) => writeln!(out, "0{shown}")?,
-            Err(refusal) => writeln!(out, "{}", refusal.0)?,
+            Err(refusal) => {
+                let place = refusal.place().map_or("-".to_string(), |it| it.to_string());
+                writeln!(out, "{} at {place}", refusal.status())?;
+            }
         }
     }
     Ok(())

@@ -3,6 +3,8 @@
 //! bytes: into room of just its size, and of a byte less.
 mod report_sample;
 mod station;
+// (the same for each schema, whatever its library has)
+#[allow(dead_code)]
 mod structs;
 
 use report_sample::ReportSample;

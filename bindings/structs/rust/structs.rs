@@ -118,19 +118,37 @@ pub struct Limits {
     pub depth: u32,
 }
 
-/// Why bytes are not the message, as its number in `gettavil.h`.
-#[derive(Clone, Copy, PartialEq, Eq)]
-pub struct Refusal(pub u32);
-
-impl fmt::Debug for Refusal {
-    fn fmt(&self, f: &mut fmt::Formatter<'_>) -> fmt::Result {
-        write!(f, "Refusal({}: {self})", self.0)
-    }
+/// Why bytes are not the message, and where.
+#[derive(Clone, Copy, Debug, PartialEq, Eq)]
+pub struct Refusal {
+    status: u32,
+    place: Option<usize>,
 }
 
-impl fmt::Display for Refusal {
-    fn fmt(&self, f: &mut fmt::Formatter<'_>) -> fmt::Result {
-        f.write_str(match self.0 {
+impl Refusal {
+    pub(crate) fn new(status: u32) -> Refusal {
+        Refusal { status, place: None }
+    }
+
+    pub(crate) fn at(self, place: usize) -> Refusal {
+        Refusal { place: Some(place), ..self }
+    }
+
+    /// The number of the error in `gettavil.h`.
+    pub fn status(&self) -> u32 {
+        self.status
+    }
+
+    /// The byte at which the first record begins that is not taken, where the bytes were read as a
+    /// message whose library tells it: for an element of a list counted from the element's own first
+    /// byte. A refusal is so read twice.
+    pub fn place(&self) -> Option<usize> {
+        self.place
+    }
+
+    /// The name of the error.
+    pub fn name(&self) -> &'static str {
+        match self.status {
             2 => "UnexpectedEof",
             3 => "VarintTooLong",
             4 => "InvalidWireType",
@@ -143,7 +161,16 @@ impl fmt::Display for Refusal {
             12 => "UnknownFieldLimitExceeded",
             13 => "ElementMemoryLimitExceeded",
             _ => "unknown",
-        })
+        }
+    }
+}
+
+impl fmt::Display for Refusal {
+    fn fmt(&self, f: &mut fmt::Formatter<'_>) -> fmt::Result {
+        match self.place {
+            Some(place) => write!(f, "{} in the record at byte {place}", self.name()),
+            None => f.write_str(self.name()),
+        }
     }
 }
 
@@ -153,7 +180,7 @@ impl std::error::Error for Refusal {}
 // answers.
 pub(crate) fn told<T>(status: u32, it: MaybeUninit<T>) -> Result<T, Refusal> {
     if status != 0 {
-        return Err(Refusal(status));
+        return Err(Refusal::new(status));
     }
     // SAFETY: it was handed to a call of the library, which set it.
     Ok(unsafe { it.assume_init() })
@@ -169,7 +196,7 @@ pub(crate) fn wrote(status: u32, len: usize) -> Result<usize, NoRoom> {
 }
 
 pub(crate) fn measured(status: u32, len: usize) -> Result<usize, Refusal> {
-    if status == 0 { Ok(len) } else { Err(Refusal(status)) }
+    if status == 0 { Ok(len) } else { Err(Refusal::new(status)) }
 }
 
 // 32 is the status of room that is too small.
@@ -177,6 +204,6 @@ pub(crate) fn kept(status: u32, len: usize) -> Result<usize, NotWritten> {
     match status {
         0 => Ok(len),
         32 => Err(NotWritten::NoRoom(NoRoom(len))),
-        _ => Err(NotWritten::Refused(Refusal(status))),
+        _ => Err(NotWritten::Refused(Refusal::new(status))),
     }
 }

@@ -34,7 +34,7 @@ use Rattle.wire_fields.specs.Shape.{Lawful, Shape, known, two, unknown}
 use Rattle.wire_fields.specs.Texts.{any_bytes, string}
 use Rattle.wire_fields.specs.declared.form.Form.TheVariants.{Varint}
 use Rattle.wire_views.specs.Rows.{all_grouped, in_rows, paired, single}
-use Rattle.wire_views.specs.Spans.{fields_of}
+use Rattle.wire_views.specs.Spans.{span_fields}
 
 abbrev pub album-released-kind : Lawful ℤ
 album-released-kind = implicit (numeric Varint int64)
@@ -193,7 +193,7 @@ album-view_value m = (
       album_source-view_of m.source,
     ),
   ),
-  fields_of m.unknown.items,
+  span_fields m.unknown.items,
 )
 
 abbrev pub released-of-album : Album-Value → ℤ

@@ -24,7 +24,7 @@ use Rattle.wire_fields.specs.Grounds.{Grounds, fixed64_back, numeric_back, strin
 use Rattle.wire_fields.specs.Nest.{boxed_row, done, nest, row, row_count, row_of}
 use Rattle.wire_fields.specs.NestBack.{family_returned}
 use Rattle.wire_fields.specs.NestRange.{GoesToLeaf, IsPlaceOf, IsReadBack, LeafBack, all_runs}
-use Rattle.wire_fields.specs.NestRange.{family_range, followed, known_back, leaf_range, piece}
+use Rattle.wire_fields.specs.NestRange.{family_range, followed, known_leaf_back, leaf_range, piece}
 use Rattle.wire_fields.specs.NestRange.{same_order, table_back}
 use Rattle.wire_fields.specs.NestTable.{all_counted, as_it_was, as_they_were, empty_of}
 use Rattle.wire_fields.specs.NestTable.{family_records, family_single, family_takes, if_number}
@@ -39,7 +39,7 @@ use Rattle.wire_fields.specs.Sums.{of_second, second_back, second_range, second_
 use Rattle.wire_fields.specs.Sums.{second_takes}
 use Rattle.wire_fields.specs.Texts.{string}
 use Rattle.wire_fields.specs.declared.form.Form.TheVariants.{Fixed64}
-use Rattle.wire_views.specs.Spans.{fields_of}
+use Rattle.wire_views.specs.Spans.{span_fields}
 use Rattle.wire_albums.specs.declared.band_family.FamilyHeld.TheVariants as held
 use Rattle.wire_albums.specs.declared.band_family.FamilySlice.TheVariants as slices
 use Rattle.wire_fields.specs.Nest as nests
@@ -124,7 +124,7 @@ abbrev pub band-view_one : BandView-F Family-Tree Family-Tree → Family-Tree
 band-view_one m =
     nest (inl (
       option_map (λ s. s.now) m.name,
-      fields_of m.unknown.items,
+      span_fields m.unknown.items,
     ))
     (row (row_of m.players.items) (row (row_of (boxed_row m.singer)) done))
 
@@ -136,7 +136,7 @@ player-view_one m =
         option_map (λ s. s.now) m.name,
         option_map (λ v. v) m.since,
       ),
-      fields_of m.unknown.items,
+      span_fields m.unknown.items,
     ))
     (row (row_of m.bands.items) done)
 
@@ -345,7 +345,7 @@ pub band-known-back : (g : Grounds)
     → IsReadBack band-leaf.takes band-leaf.default band-leaf.records
     (GoesToLeaf band-table) band-range-of-leaf
 band-known-back g =
-    known_back g band-table band-known band-range-of-known
+    known_leaf_back g band-table band-known band-range-of-known
     (band-returned-of-known g) (λ n h. rw h refl)
 
 pub band-back : Grounds → LeafBack band-table (first_range band-range-of-leaf)
@@ -401,7 +401,7 @@ pub player-known-back : (g : Grounds)
     → IsReadBack player-leaf.takes player-leaf.default player-leaf.records
     (GoesToLeaf player-table) player-range-of-leaf
 player-known-back g =
-    known_back g player-table player-known player-range-of-known
+    known_leaf_back g player-table player-known player-range-of-known
     (player-returned-of-known g) (λ n h. elim h [
       | inl h ↦ rw h refl
       | inr h ↦ rw h refl

@@ -28,7 +28,7 @@ use Rattle.wire_fields.specs.declared.form.Form.TheVariants.{Varint}
 use Rattle.wire_required.specs.Missing.{Missing, first_of, within_entries}
 use Rattle.wire_required.specs.Path.{int_key}
 use Rattle.wire_views.specs.Entries.{map_with}
-use Rattle.wire_views.specs.Spans.{fields_of}
+use Rattle.wire_views.specs.Spans.{span_fields}
 
 abbrev pub bill-owed-kind : Lawful (List ((List ℕ) × ℕ))
 bill-owed-kind = text_map 64 (always (numeric Varint uint64))
@@ -130,7 +130,7 @@ bill-view_value m = (
     map_with (slice_cmp nat_cmp)
         (viewed (λ s. s.now) (λ s. s.now) m.names.items),
   ),
-  fields_of m.unknown.items,
+  span_fields m.unknown.items,
 )
 
 abbrev pub owed-of-bill : Bill-Value → List ((List ℕ) × ℕ)

@@ -22,8 +22,8 @@ use Rattle.wire_fields.specs.Messages.{or_else}
 use Rattle.wire_fields.specs.Nest.{done, nest, row, row_count, row_of}
 use Rattle.wire_fields.specs.NestBack.{beside_returned}
 use Rattle.wire_fields.specs.NestChoice.{beside_row, rows_alone, rows_beside_field}
-use Rattle.wire_fields.specs.NestRange.{IsPlaceOf, beside_range, followed, known_back, leaf_range}
-use Rattle.wire_fields.specs.NestRange.{piece, runs_from, same_order}
+use Rattle.wire_fields.specs.NestRange.{IsPlaceOf, beside_range, followed, known_leaf_back}
+use Rattle.wire_fields.specs.NestRange.{leaf_range, piece, runs_from, same_order}
 use Rattle.wire_fields.specs.NestTable.{alone, empty_of, if_number, nest_records, nest_single}
 use Rattle.wire_fields.specs.NestTable.{nest_takes}
 use Rattle.wire_fields.specs.Numbers.{numeric}
@@ -32,7 +32,7 @@ use Rattle.wire_fields.specs.Ranges.{Range, fixed32_range, optional_range}
 use Rattle.wire_fields.specs.Returned.{Returned, known_returned, optional_returned}
 use Rattle.wire_fields.specs.Shape.{Lawful, Shape, known, two, unknown}
 use Rattle.wire_fields.specs.declared.form.Form.TheVariants.{Fixed32}
-use Rattle.wire_views.specs.Spans.{fields_of}
+use Rattle.wire_views.specs.Spans.{span_fields}
 use Rattle.wire_fields.specs.Nest as nests
 use Rattle.wire_fields.specs.NestTable as tables
 use Rattle.wire_fields.specs.declared.recursive.Place as place
@@ -97,7 +97,7 @@ abbrev pub cue-view_one : CueView-F CueNext-Held Cue-Value → Cue-Value
 cue-view_one m =
     nest (
       option_map (λ v. v) m.at,
-      fields_of m.unknown.items,
+      span_fields m.unknown.items,
     )
     (row (row_of (or_else cue_next-none m.next).1.0) (row (row_of (or_else cue_next-none m.next).1.1) done))
 
@@ -229,7 +229,7 @@ cue-returned g =
     (λ s. choice_back cue-table
     (leaf_range cue-table cue-known cue-range-of-known) cue-choice
     cue-leaf.takes cue-leaf.default cue-leaf.records cue-is_choice
-    (known_back g cue-table cue-known cue-range-of-known
+    (known_leaf_back g cue-table cue-known cue-range-of-known
     (cue-returned-of-known g) (λ n h. rw h refl))
     refl refl cue-runs_in_order
     (cue-row_numbers g) cue-row_places (λ i m. refl) (λ n l rs. refl))

@@ -38,7 +38,7 @@ use Rattle.wire_fields.specs.Returned.{unpacked_returned}
 use Rattle.wire_fields.specs.Shape.{Lawful, Shape, known, unknown}
 use Rattle.wire_fields.specs.Texts.{string}
 use Rattle.wire_fields.specs.declared.form.Form.TheVariants.{Varint}
-use Rattle.wire_views.specs.Spans.{fields_of}
+use Rattle.wire_views.specs.Spans.{span_fields}
 use Rattle.wire_fields.specs.Nest as nests
 use Rattle.wire_fields.specs.NestTable as tables
 use Rattle.wire_fields.specs.declared.recursive.Place as place
@@ -103,7 +103,7 @@ genre-view_one m =
         ),
         m.years.items,
       ),
-      fields_of m.unknown.items,
+      span_fields m.unknown.items,
     )
     (row (row_of m.within.items) (row (row_of (boxed_row m.like)) done))
 

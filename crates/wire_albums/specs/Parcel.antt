@@ -47,7 +47,7 @@ use Rattle.wire_fields.specs.declared.form.Form.TheVariants.{Fixed32, Varint}
 use Rattle.wire_required.specs.Missing.{Missing, first_of, needs}
 use Rattle.wire_views.specs.FixedLists.{list_values}
 use Rattle.wire_views.specs.Rows.{all_grouped, in_rows, paired, single}
-use Rattle.wire_views.specs.Spans.{fields_of}
+use Rattle.wire_views.specs.Spans.{span_fields}
 
 abbrev pub parcel-title-kind : Lawful (Option (List ℕ))
 parcel-title-kind = optional string
@@ -184,7 +184,7 @@ parcel-view_value m = (
     parcel-fields-1-to-9-view_value m,
     parcel-fields-10-to-10-view_value m,
   ),
-  fields_of m.unknown.items,
+  span_fields m.unknown.items,
 )
 
 abbrev pub title-of-parcel : Parcel-Value → Option (List ℕ)

@@ -15,7 +15,7 @@ use Rattle.wire_fields.specs.Returned.{repeated_returned, two_returned, whole_re
 use Rattle.wire_fields.specs.Shape.{Lawful, Shape, known, two, unknown}
 use Rattle.wire_fields.specs.Texts.{any_bytes, string}
 use Rattle.wire_views.specs.Rows.{all_grouped, in_rows, paired, single}
-use Rattle.wire_views.specs.Spans.{fields_of}
+use Rattle.wire_views.specs.Spans.{span_fields}
 
 abbrev pub parcel_booklet-text-kind : Lawful (Option (List ℕ))
 parcel_booklet-text-kind = optional string
@@ -53,7 +53,7 @@ parcel_booklet-view_value m = (
     option_map (λ s. s.now) m.text,
     map (λ b. b.now) m.pages.items,
   ),
-  fields_of m.unknown.items,
+  span_fields m.unknown.items,
 )
 
 abbrev pub text-of-parcel_booklet : ParcelBooklet-Value → Option (List ℕ)

@@ -15,7 +15,7 @@ use Rattle.wire_fields.specs.Returned.{Returned, known_returned, optional_return
 use Rattle.wire_fields.specs.Shape.{Lawful, Shape, known, two, unknown}
 use Rattle.wire_fields.specs.declared.form.Form.TheVariants.{Fixed32}
 use Rattle.wire_views.specs.Rows.{all_grouped, in_rows, paired, single}
-use Rattle.wire_views.specs.Spans.{fields_of}
+use Rattle.wire_views.specs.Spans.{span_fields}
 
 abbrev pub parcel_ribbon-colour-kind : Lawful (Option ℕ)
 parcel_ribbon-colour-kind = optional (numeric Fixed32 fixed32)
@@ -40,7 +40,7 @@ parcel_ribbon-value m = (
 abbrev pub parcel_ribbon-view_value : ParcelRibbonView → ParcelRibbon-Value
 parcel_ribbon-view_value m = (
   option_map (λ v. v) m.colour,
-  fields_of m.unknown.items,
+  span_fields m.unknown.items,
 )
 
 abbrev pub colour-of-parcel_ribbon : ParcelRibbon-Value → Option ℕ

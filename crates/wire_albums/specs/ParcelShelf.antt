@@ -15,7 +15,7 @@ use Rattle.wire_fields.specs.Returned.{Returned, embedded_each_returned, known_r
 use Rattle.wire_fields.specs.Returned.{whole_returned}
 use Rattle.wire_fields.specs.Shape.{Lawful, Shape, known, two, unknown}
 use Rattle.wire_views.specs.Rows.{all_grouped, in_rows, paired, single}
-use Rattle.wire_views.specs.Spans.{fields_of}
+use Rattle.wire_views.specs.Spans.{span_fields}
 
 abbrev pub parcel_shelf-albums-kind : Lawful (List Album-Value)
 parcel_shelf-albums-kind = embedded_each 280 album-shape
@@ -40,7 +40,7 @@ parcel_shelf-value m = (
 abbrev pub parcel_shelf-view_value : ParcelShelfView → ParcelShelf-Value
 parcel_shelf-view_value m = (
   map album-view_value m.albums.items,
-  fields_of m.unknown.items,
+  span_fields m.unknown.items,
 )
 
 abbrev pub albums-of-parcel_shelf : ParcelShelf-Value → List Album-Value

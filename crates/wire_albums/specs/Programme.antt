@@ -31,8 +31,8 @@ use Rattle.wire_fields.specs.Nest.{done, nest, row, row_count, row_of}
 use Rattle.wire_fields.specs.NestBack.{beside_returned}
 use Rattle.wire_fields.specs.NestChoice.{beside_row, in_first, in_second, no_variant}
 use Rattle.wire_fields.specs.NestChoice.{rows_beside_field}
-use Rattle.wire_fields.specs.NestRange.{IsPlaceOf, beside_range, followed, known_back, leaf_range}
-use Rattle.wire_fields.specs.NestRange.{piece, runs_from, same_order}
+use Rattle.wire_fields.specs.NestRange.{IsPlaceOf, beside_range, followed, known_leaf_back}
+use Rattle.wire_fields.specs.NestRange.{leaf_range, piece, runs_from, same_order}
 use Rattle.wire_fields.specs.NestTable.{alone, empty_of, if_number, nest_records, nest_single}
 use Rattle.wire_fields.specs.NestTable.{nest_takes}
 use Rattle.wire_fields.specs.Presence.{optional}
@@ -40,7 +40,7 @@ use Rattle.wire_fields.specs.Ranges.{Range, optional_range, pair_range, string_r
 use Rattle.wire_fields.specs.Returned.{Returned, known_returned, optional_returned, two_returned}
 use Rattle.wire_fields.specs.Shape.{Lawful, Shape, known, two, unknown}
 use Rattle.wire_fields.specs.Texts.{string}
-use Rattle.wire_views.specs.Spans.{fields_of}
+use Rattle.wire_views.specs.Spans.{span_fields}
 use Rattle.wire_fields.specs.Nest as nests
 use Rattle.wire_fields.specs.NestTable as tables
 use Rattle.wire_fields.specs.declared.recursive.Place as place
@@ -120,7 +120,7 @@ programme-view_one m =
         option_map (λ s. s.now) m.note,
         (or_else programme_part-none m.part).0,
       ),
-      fields_of m.unknown.items,
+      span_fields m.unknown.items,
     )
     (row (row_of (or_else programme_part-none m.part).1.0) (row (row_of (or_else programme_part-none m.part).1.1) done))
 
@@ -283,7 +283,7 @@ programme-returned g =
     (λ s. choice_back programme-table
     (leaf_range programme-table programme-known programme-range-of-known) programme-choice
     programme-leaf.takes programme-leaf.default programme-leaf.records programme-is_choice
-    (known_back g programme-table programme-known programme-range-of-known
+    (known_leaf_back g programme-table programme-known programme-range-of-known
     (programme-returned-of-known g) (λ n h. elim h [
       | inl h ↦ rw h refl
       | inr h ↦ elim h [

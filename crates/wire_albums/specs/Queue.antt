@@ -23,7 +23,7 @@ use Rattle.wire_fields.specs.NoFields.{no_fields, no_fields_range, no_fields_ret
 use Rattle.wire_fields.specs.Ranges.{Range}
 use Rattle.wire_fields.specs.Returned.{Returned}
 use Rattle.wire_fields.specs.Shape.{Shape, two, unknown}
-use Rattle.wire_views.specs.Spans.{fields_of}
+use Rattle.wire_views.specs.Spans.{span_fields}
 use Rattle.wire_fields.specs.Nest as nests
 use Rattle.wire_fields.specs.NestTable as tables
 use Rattle.wire_fields.specs.declared.recursive.Place as place
@@ -56,7 +56,7 @@ abbrev pub queue-view_one : QueueView-F Queue-Value → Queue-Value
 queue-view_one m =
     nest (
       tt,
-      fields_of m.unknown.items,
+      span_fields m.unknown.items,
     )
     (row (row_of (boxed_row m.behind)) done)
 

@@ -27,7 +27,7 @@ use Rattle.wire_fields.specs.Returned.{Returned}
 use Rattle.wire_fields.specs.Shape.{Shape}
 use Rattle.wire_fields.specs.declared.form.Form.TheVariants.{Varint}
 use Rattle.wire_views.specs.Rows.{all_grouped, in_rows, paired, single}
-use Rattle.wire_views.specs.Spans.{fields_of}
+use Rattle.wire_views.specs.Spans.{span_fields}
 
 abbrev pub rack-fronts-kind : Leaving (List (EnumValue Wear))
 rack-fronts-kind = closed_packed wear-number wear-of 1
@@ -78,7 +78,7 @@ rack-view_value m = (
     ),
     rack_sleeve-view_of m.sleeve,
   ),
-  fields_of m.unknown.items,
+  span_fields m.unknown.items,
 )
 
 abbrev pub fronts-of-rack : Rack-Value → List (EnumValue Wear)

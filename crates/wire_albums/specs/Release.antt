@@ -22,7 +22,7 @@ use Rattle.wire_fields.specs.Returned.{optional_returned, two_returned, whole_re
 use Rattle.wire_fields.specs.Shape.{Lawful, Shape, known, two, unknown}
 use Rattle.wire_fields.specs.Texts.{string}
 use Rattle.wire_views.specs.Entries.{map_with}
-use Rattle.wire_views.specs.Spans.{fields_of}
+use Rattle.wire_views.specs.Spans.{span_fields}
 use Rattle.wire_well_known.specs.Timestamp.{Timestamp-Value, timestamp-range, timestamp-returned}
 use Rattle.wire_well_known.specs.Timestamp.{timestamp-shape, timestamp-value, timestamp-view_value}
 use Rattle.wire_well_known.specs.Value.{Value-Value, value-range, value-returned, value-shape}
@@ -100,7 +100,7 @@ release-view_value m = (
     ),
     release_more-view_of m.more,
   ),
-  fields_of m.unknown.items,
+  span_fields m.unknown.items,
 )
 
 abbrev pub title-of-release : Release-Value → Option (List ℕ)

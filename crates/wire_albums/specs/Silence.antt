@@ -11,7 +11,7 @@ use Rattle.wire_fields.specs.Ranges.{Range, unknown_range}
 use Rattle.wire_fields.specs.Returned.{Returned, unknown_returned}
 use Rattle.wire_fields.specs.Shape.{Shape, unknown}
 use Rattle.wire_views.specs.Rows.{all_grouped, in_rows, single}
-use Rattle.wire_views.specs.Spans.{fields_of}
+use Rattle.wire_views.specs.Spans.{span_fields}
 
 abbrev pub Silence-Value : Type 0
 Silence-Value = Fields
@@ -21,7 +21,7 @@ silence-value m = m.unknown
 
 -- the same of its view
 abbrev pub silence-view_value : SilenceView → Silence-Value
-silence-view_value m = fields_of m.unknown.items
+silence-view_value m = span_fields m.unknown.items
 
 abbrev pub silence-shape : Shape Silence-Value
 silence-shape = unknown

@@ -16,7 +16,7 @@ use Rattle.wire_fields.specs.Returned.{Returned, embedded_each_returned, known_r
 use Rattle.wire_fields.specs.Returned.{two_returned, whole_returned}
 use Rattle.wire_fields.specs.Shape.{Lawful, Shape, known, two, unknown}
 use Rattle.wire_required.specs.Missing.{Missing, first_of, within_each}
-use Rattle.wire_views.specs.Spans.{fields_of}
+use Rattle.wire_views.specs.Spans.{span_fields}
 
 abbrev pub stock-genres-kind : Lawful (List Genre-Value)
 stock-genres-kind = embedded_each 120 genre-shape
@@ -54,7 +54,7 @@ stock-view_value m = (
     map genre-view_value m.genres.items,
     map parcel-view_value m.parcels.items,
   ),
-  fields_of m.unknown.items,
+  span_fields m.unknown.items,
 )
 
 abbrev pub genres-of-stock : Stock-Value → List Genre-Value

@@ -20,7 +20,7 @@ use Rattle.wire_fields.specs.Texts.{string}
 use Rattle.wire_fields.specs.declared.floats.DoubleBits.{DoubleBits}
 use Rattle.wire_fields.specs.declared.form.Form.TheVariants.{Fixed64, Varint}
 use Rattle.wire_views.specs.Rows.{all_grouped, in_rows, paired, single}
-use Rattle.wire_views.specs.Spans.{fields_of}
+use Rattle.wire_views.specs.Spans.{span_fields}
 
 abbrev pub track-title-kind : Lawful (List ℕ)
 track-title-kind = implicit string
@@ -71,7 +71,7 @@ track-view_value m = (
     ),
     option_map (λ v. v) m.plays,
   ),
-  fields_of m.unknown.items,
+  span_fields m.unknown.items,
 )
 
 abbrev pub title-of-track : Track-Value → List ℕ

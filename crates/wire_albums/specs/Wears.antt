@@ -29,7 +29,7 @@ use Rattle.wire_fields.specs.Shape.{Shape}
 use Rattle.wire_fields.specs.Texts.{string}
 use Rattle.wire_fields.specs.declared.form.Form.TheVariants.{Varint}
 use Rattle.wire_views.specs.Entries.{map_with}
-use Rattle.wire_views.specs.Spans.{fields_of}
+use Rattle.wire_views.specs.Spans.{span_fields}
 
 abbrev pub wears-by_name-kind : Leaving (List ((List ℕ) × (EnumValue Wear)))
 wears-by_name-kind = closed_text_map 64 wear-number wear-of 1
@@ -73,7 +73,7 @@ wears-view_value m = (
     map_with int_cmp
         (viewed (λ v. v) (λ v. v) m.by_number.items),
   ),
-  fields_of m.unknown.items,
+  span_fields m.unknown.items,
 )
 
 abbrev pub by_name-of-wears : Wears-Value → List ((List ℕ) × (EnumValue Wear))

@@ -5,7 +5,7 @@ ghost use Rattle.wire_codec.specs.DecodeError.TheVariants.{OutOfMemory};
 ghost use Rattle.wire_codec.specs.Limits.{NoCountGrew};
 ghost use Rattle.wire_codec.specs.TagView.{tag_number, tag_type};
 ghost use Rattle.wire_codec.specs.Taking.{IsCharged, NotTaken, TakesRecord};
-ghost use Rattle.wire_views.specs.Spans.{fields_of};
+ghost use Rattle.wire_views.specs.Spans.{span_fields};
 
 use crate::rack_sleeve::RackSleeve;
 use crate::wear::Wear;
@@ -109,11 +109,11 @@ pub(crate) fn set_or_keep_worn<'a>(
 ) -> Result<(), DecodeError>
     ensures ok { OnOk result (IsCharged context.old context.new (λ c.
         TakesRecord worn-of-rack_sleeve-closed context.old (tag_number tag) (tag_type tag)
-        (rack_sleeve-view_of held.old, fields_of spans.old.items) buf.old.now c
-        (rack_sleeve-view_of held.new, fields_of spans.new.items) buf.new.now)) }
+        (rack_sleeve-view_of held.old, span_fields spans.old.items) buf.old.now c
+        (rack_sleeve-view_of held.new, span_fields spans.new.items) buf.new.now)) }
     ensures err { IfErr result (λ e. e ≢ OutOfMemory → NotTaken
         (TakesRecord worn-of-rack_sleeve-closed context.old (tag_number tag) (tag_type tag)
-        (rack_sleeve-view_of held.old, fields_of spans.old.items) buf.old.now)) }
+        (rack_sleeve-view_of held.old, span_fields spans.old.items) buf.old.now)) }
     ensures counts { OnErr result (NoCountGrew context.old context.new) }
 {
     let mut value = None;

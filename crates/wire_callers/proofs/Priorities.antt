@@ -5,7 +5,7 @@ use Rattle.std.specs.Prelude.{FitsSigned, Option, None, Some, option_map}
 use Rattle.wire_codec.specs.Laws.{FieldsArePlain}
 use Rattle.wire_codec.specs.Limits.{no_charge}
 use Rattle.wire_codec.specs.LimitsLaws.{ChargesAddUp}
-use Rattle.wire_codec.specs.ScalarLaws.{ReadsBack}
+use Rattle.wire_codec.specs.ScalarLaws.{DecodesBack}
 use Rattle.wire_codec.specs.ValueMap.{int32}
 use Rattle.wire_fields.specs.declared.form.Form.TheVariants.{Varint}
 use Rattle.wire_fields.specs.Back.{KindBack}
@@ -13,7 +13,7 @@ use Rattle.wire_fields.specs.Numbers.{numeric}
 use Rattle.wire_fields.specs.Presence.{optional}
 use Rattle.wire_fields.specs.ScalarBack.{IfThere, number_back, narrow_fits, optional_back}
 
-pub priority_back : FieldsArePlain → ChargesAddUp → ReadsBack int32 (FitsSigned w32)
+pub priority_back : FieldsArePlain → ChargesAddUp → DecodesBack int32 (FitsSigned w32)
     → KindBack (optional (numeric Varint int32)).kind (IfThere (FitsSigned w32)) (λ o. no_charge)
 priority_back same charges back =
     optional_back same charges (numeric Varint int32) (FitsSigned w32)

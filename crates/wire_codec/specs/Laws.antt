@@ -21,7 +21,7 @@ MeasuredAreNext = (rs : Records) (t : Tape) → t ≡ recorded blank (cut_sizes 
     → text_size rs ≤ 2147483647 → NextAre (sizes rs) t
 
 -- records one behind another
-pub record JoinedAddsUp : Type 0 where
+pub record JoinedTextsAndSizes : Type 0 where
   pub text : (rs qs : Records) → text (joined_records rs qs) ≡ text rs ++ text qs
   pub sizes : (rs qs : Records) → sizes (joined_records rs qs) ≡ sizes rs ++ sizes qs
 

@@ -2,7 +2,7 @@
 //! Those of the crates below stand in modules of their own.
 ghost use Rattle.wire_codec.specs.Laws.{NoSizeIsAboveTheWhole, SmallSizesAreUncut, MeasuredAreNext};
 ghost use Rattle.std.specs.Prelude.{◌<◌, All};
-ghost use Rattle.wire_codec.specs.Laws.{JoinedAddsUp, FieldsArePlain, SpelledAreFitting};
+ghost use Rattle.wire_codec.specs.Laws.{JoinedTextsAndSizes, FieldsArePlain, SpelledAreFitting};
 ghost use Rattle.wire_codec.specs.Laws.{FlatKeepsTheTape};
 ghost use Rattle.wire_codec.specs.TakingLaws.{OneReading, RecordsInOrder, AllIsSpelled};
 ghost use Rattle.wire_codec.specs.TakingLaws.{DelimitedIsRead, LevelsAndCounts};
@@ -32,7 +32,7 @@ pub fn sizes_fit()
 
 /// The encoding and the sizes of records one behind another are theirs, one behind another.
 pub fn joined_records_add_up()
-    ensures { JoinedAddsUp }
+    ensures { JoinedTextsAndSizes }
 {}
 
 /// Records of the grammar, kept in a value as they are, stand for themselves and have no sizes.

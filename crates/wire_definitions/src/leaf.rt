@@ -16,7 +16,7 @@ const KEEPING: [Template; 11] = [
     ("leaf_returned", "Returned"),
     (
         "leaf_known_back",
-        "known_back g $module$-table $module$-known",
+        "known_leaf_back g $module$-table $module$-known",
     ),
     ("leaf_stay", "known_stay $module$-table"),
     ("leaf_uses", USES_OF_KEEPING),
@@ -85,7 +85,7 @@ Rattle.wire_fields.specs.Shape unknown
 ";
 
 const BACK_OF_KEEPING: &str = "\
-Rattle.wire_fields.specs.NestRange known_back
+Rattle.wire_fields.specs.NestRange known_leaf_back
 Rattle.wire_fields.specs.NestRange leaf_range
 ";
 

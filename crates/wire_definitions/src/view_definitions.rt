@@ -7,7 +7,7 @@ use wire_schema::{Field, Oneof, Template, Words};
 const MOST_OF_ROW: usize = 96;
 
 const USES: &str = "\
-Rattle.wire_views.specs.Spans fields_of
+Rattle.wire_views.specs.Spans span_fields
 Rattle.$crate$.specs.declared.$view_module$.$view_name$ $view_name$
 ";
 
@@ -21,14 +21,14 @@ const VALUE: &str = "\
 abbrev pub $module$-view_value : $view_name$ → $name$-Value
 $module$-view_value m = (
 $view_seen$,
-  fields_of m.unknown.items,
+  span_fields m.unknown.items,
 )
 
 ";
 
 const VALUE_OF_NONE: &str = "\
 abbrev pub $module$-view_value : $view_name$ → $name$-Value
-$module$-view_value m = fields_of m.unknown.items
+$module$-view_value m = span_fields m.unknown.items
 
 ";
 

@@ -7,7 +7,7 @@ use crate::view_definitions::has_view;
 use wire_schema::{Field, Template, Words};
 
 const USES: &str = "\
-Rattle.wire_views.specs.Spans fields_of
+Rattle.wire_views.specs.Spans span_fields
 Rattle.$crate$.specs.declared.$view_module$.$view_name$ $view_name$
 Rattle.$crate$.specs.declared.$view_module$.$view_name$ $view_name$-F
 Rattle.$crate$.specs.declared.$view_module$.$view_name$ fold-$view_name$
@@ -20,7 +20,7 @@ abbrev pub $module$-view_one : $view_name$-F$view_trees$ → $tree$
 $module$-view_one m =
     nest ($into_open$(
 $view_seen$,
-      fields_of m.unknown.items,
+      span_fields m.unknown.items,
     )$into_close$)
     $row_views$
 
@@ -32,7 +32,7 @@ abbrev pub $module$-view_one : $view_name$-F$view_trees$ → $tree$
 $module$-view_one m =
     nest (
 $view_seen$,
-      fields_of m.unknown.items,
+      span_fields m.unknown.items,
     )
     $row_views$
 

@@ -5,7 +5,7 @@ use Rattle.std.proofs.lemmas.List.{append-nil, map-append}
 use Rattle.std.proofs.Math.Seq.{set-append_seam}
 use Rattle.std.specs.Prelude.{slice_set, true, false, ◌==◌}
 use Rattle.std.proofs.lemmas.Bool.Decides.{eqb_tells}
-use Rattle.wire_codec.specs.Laws.{JoinedAddsUp}
+use Rattle.wire_codec.specs.Laws.{JoinedTextsAndSizes}
 use Rattle.wire_codec.specs.Records.{Records, none, field, embedded, joined_records}
 use Rattle.wire_codec.specs.Records.{text_size, text}
 use Rattle.wire_codec.specs.Sizes.{sizes, cut, cut_sizes}
@@ -37,11 +37,11 @@ nothing_recorded t =
 pub start : (whole : Records) (t : Tape) → IsMeasuredTo whole whole t t 0
 start whole t = record { size = omega arith; sizes = refl }
 
-pub size_joined : JoinedAddsUp → (a b : Records)
+pub size_joined : JoinedTextsAndSizes → (a b : Records)
     → text_size (joined_records a b) ≡ text_size a + text_size b
 size_joined joins a b = ap length (joins.text a b) ∙ length-append (text a) (text b)
 
-cut_joined : JoinedAddsUp → (a b : Records)
+cut_joined : JoinedTextsAndSizes → (a b : Records)
     → cut_sizes (joined_records a b) ≡ cut_sizes a ++ cut_sizes b
 cut_joined joins a b = ap (map cut) (joins.sizes a b) ∙ map-append cut (sizes a) (sizes b)
 
@@ -50,7 +50,7 @@ summed : (len k sum left piece after whole : ℕ) → cut (len + left) ≡ cut w
     → cut (sum + after) ≡ cut whole
 summed len k sum left piece after whole so_far parts one is = omega arith
 
-pub more : JoinedAddsUp → (whole left piece after : Records) (old now next : Tape) (len k sum : ℕ)
+pub more : JoinedTextsAndSizes → (whole left piece after : Records) (old now next : Tape) (len k sum : ℕ)
     → IsMeasuredTo whole left old now len → Splits left piece after → Measures piece now next k
     → sum ≡ min (len + k) (2 ^ 64 - 1) → IsMeasuredTo whole after old next sum
 more joins whole left piece after old now next len k sum w parts m is = record {

@@ -5,7 +5,7 @@ use Rattle.std.proofs.lemmas.List.{append-nil, drop-drop}
 use Rattle.std.proofs.Math.Seq.{drop-append_seam}
 use Rattle.std.specs.Prelude.{Result, Ok, Err}
 use Rattle.wire_codec.specs.EncodeError.{EncodeError}
-use Rattle.wire_codec.specs.Laws.{JoinedAddsUp, PieceByPiece}
+use Rattle.wire_codec.specs.Laws.{JoinedTextsAndSizes, PieceByPiece}
 use Rattle.wire_codec.specs.Records.{Records, none, field, embedded, group}
 use Rattle.wire_codec.specs.Records.{text_size, text}
 use Rattle.wire_codec.specs.Sizes.{sizes}
@@ -55,7 +55,7 @@ start pieces whole t old next small = record {
   small = small;
 }
 
-module _ (joins : JoinedAddsUp) (whole left piece after : Records) (t u : Tape)
+module _ (joins : JoinedTextsAndSizes) (whole left piece after : Records) (t u : Tape)
     (old now : Held) (w : IsPutTo whole left t u old now)
     (parts : Splits left piece after) where
   pub part_next : NextAre (sizes piece) u

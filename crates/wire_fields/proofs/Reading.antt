@@ -21,7 +21,7 @@ use Rattle.wire_fields.specs.declared.form.Form.{Form}
 use Rattle.wire_fields.specs.declared.form.Form.TheVariants as forms
 use Rattle.wire_fields.specs.Numbers.{number_payload, ReadsNumber, NoNumber}
 use Rattle.wire_fields.specs.Scalar.{NoScalar}
-use Rattle.wire_fields.specs.Texts.{delimited}
+use Rattle.wire_fields.specs.Texts.{length_delimited}
 
 -- ---- numbers
 
@@ -93,12 +93,12 @@ back_to_bytes n w p b old new is h =
 module _ (one : OneDelimited) (beside : NoDelimitedBesideFault) (n : ℕ) (w : WireType)
     (old : List ℕ) where
   no_payload_bytes : (IsText : List ℕ → Type 0) (e : DecodeError) → DelimitedFault None old e
-      → NoScalar (delimited IsText) n w old
+      → NoScalar (length_delimited IsText) n w old
   no_payload_bytes IsText e fault v new h =
       beside None v old new e (back_to_bytes n w h.payload v old new h.sets.has h.read) tt fault
 
   pub no_text : (e : DecodeError) → StringRefusal old e → e ≢ OutOfMemory
-      → NoScalar (delimited IsUtf8) n w old
+      → NoScalar (length_delimited IsUtf8) n w old
   no_text e (inl (no_payload fault)) other = no_payload_bytes IsUtf8 e fault
   no_text e (inl (not_utf8 payload rest read not)) other = λ v new h.
       not (subst IsUtf8 (one v payload old new rest
@@ -106,6 +106,6 @@ module _ (one : OneDelimited) (beside : NoDelimitedBesideFault) (n : ℕ) (w : W
   no_text e (inr memory) other = absurd (other memory.0)
 
   pub no_bytes : (e : DecodeError) → BytesRefusal old e → e ≢ OutOfMemory
-      → NoScalar (delimited (λ b. Unit {0})) n w old
+      → NoScalar (length_delimited (λ b. Unit {0})) n w old
   no_bytes e (inl fault) other = no_payload_bytes (λ b. Unit {0}) e fault
   no_bytes e (inr memory) other = absurd (other memory.0)

@@ -2,7 +2,7 @@
 use Rattle.std.proofs.Common.{◌≡◌, ℕ, suc, ◌+◌, ◌-◌, ◌^◌, ◌<◌, ◌≤◌, min, List, [], ◌∷◌, ◌++◌, length, get_or, map, drop, add-one, drop-cons, refl, sym, ap, ◌∙◌, subst, arith, length-append}
 use Rattle.std.proofs.lemmas.List.{drop_all}
 use Rattle.std.specs.Prelude.{Result, Ok, Err, OnOk}
-use Rattle.wire_codec.specs.Laws.{JoinedAddsUp, FieldsArePlain, FlatKeepsTheTape}
+use Rattle.wire_codec.specs.Laws.{JoinedTextsAndSizes, FieldsArePlain, FlatKeepsTheTape}
 use Rattle.wire_codec.specs.Limits.{Limits, Fits, left_after, element_of}
 use Rattle.wire_codec.specs.Records.{text, text_size}
 use Rattle.wire_codec.specs.Sizes.{sizes}
@@ -14,7 +14,7 @@ use Rattle.wire_fields.specs.Presence.{each_record, adds}
 use Rattle.wire_fields.specs.Scalar.{ScalarType, scalar_record, ReadsScalar, NoScalar}
 use Rattle.wire_fields.proofs.Scalars.{scalar_sizes}
 
-module _ {T V : Type 0} (t : ScalarType V) (view : T → V) (n : ℕ) (joins : JoinedAddsUp) where
+module _ {T V : Type 0} (t : ScalarType V) (view : T → V) (n : ℕ) (joins : JoinedTextsAndSizes) where
   -- the value at i, and those behind it
   next_value : (vs : List T) (i : ℕ) (v : T) → i < length vs → v ≡ get_or vs i v
       → map view (drop i vs) ≡ view v ∷ map view (drop (i + 1) vs)
@@ -58,7 +58,7 @@ module _ {T V : Type 0} (t : ScalarType V) (view : T → V) (n : ℕ) (joins : J
   counted_all vs i len all fits is = omega (arith, ap length (none_left vs i all))
 
 -- no message is embedded in scalars
-pub each_sizes : {V : Type 0} → JoinedAddsUp → FieldsArePlain → (t : ScalarType V) (n : ℕ)
+pub each_sizes : {V : Type 0} → JoinedTextsAndSizes → FieldsArePlain → (t : ScalarType V) (n : ℕ)
     (vs : List V) → sizes (each_record t n vs) ≡ []
 each_sizes joins same t n [] = refl
 each_sizes joins same t n (v ∷ vs) =
@@ -66,7 +66,7 @@ each_sizes joins same t n (v ∷ vs) =
     ∙ ap (λ (ns : List ℕ). ns ++ sizes (each_record t n vs)) (scalar_sizes same t n v)
     ∙ each_sizes joins same t n vs
 
-pub each_reads : {V T E : Type 0} → JoinedAddsUp → FieldsArePlain → FlatKeepsTheTape
+pub each_reads : {V T E : Type 0} → JoinedTextsAndSizes → FieldsArePlain → FlatKeepsTheTape
     → (t : ScalarType V) (n : ℕ) (vs : List V) (tape : Tape) (r : Result T E)
     → OnOk r (tape ≡ advanced tape (length (sizes (each_record t n vs))))
 each_reads joins same flat t n vs tape (Ok x) =

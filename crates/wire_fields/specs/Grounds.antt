@@ -6,10 +6,10 @@ use Rattle.std.specs.Prelude.{ℤ, pos, negsuc, FitsSigned, Option, IsUtf8}
 use Rattle.wire_codec.specs.Enumeration.{number_of, known_or}
 use Rattle.wire_codec.specs.FieldNumber.{IsFieldNumber}
 use Rattle.wire_codec.specs.InRange.{IsPayloadFitting}
-use Rattle.wire_codec.specs.Laws.{FieldsArePlain, JoinedAddsUp, SpelledAreFitting}
+use Rattle.wire_codec.specs.Laws.{FieldsArePlain, JoinedTextsAndSizes, SpelledAreFitting}
 use Rattle.wire_codec.specs.LimitsLaws.{ChargesAddUp}
 use Rattle.wire_codec.specs.RecordLaws.{ShortestTextSpells, SpelledAreNumbered}
-use Rattle.wire_codec.specs.ScalarLaws.{ReadsBack}
+use Rattle.wire_codec.specs.ScalarLaws.{DecodesBack}
 use Rattle.wire_codec.specs.TakingLaws.{OneReading}
 use Rattle.wire_codec.specs.ValueMap as maps
 use Rattle.wire_codec.specs.ValueMap.{ValueMap, wrapped, zigzag, truth}
@@ -30,25 +30,25 @@ pub record Grounds : Type 0 where
   pub reading : OneReading
   pub spells : ShortestTextSpells
   pub shortest : ShortestReadsBack
-  pub int32 : ReadsBack maps.int32 (FitsSigned w32)
-  pub int64 : ReadsBack maps.int64 (FitsSigned w64)
-  pub uint32 : ReadsBack maps.uint32 (λ v. v < 2 ^ 32)
-  pub uint64 : ReadsBack maps.uint64 (λ v. v < 2 ^ 64)
-  pub sint32 : ReadsBack maps.sint32 (FitsSigned w32)
-  pub sint64 : ReadsBack maps.sint64 (FitsSigned w64)
-  pub bool : ReadsBack maps.bool (λ v. Unit {0})
-  pub fixed32 : ReadsBack maps.fixed32 (λ v. v < 2 ^ 32)
-  pub fixed64 : ReadsBack maps.fixed64 (λ v. v < 2 ^ 64)
-  pub sfixed32 : ReadsBack maps.sfixed32 (FitsSigned w32)
-  pub sfixed64 : ReadsBack maps.sfixed64 (FitsSigned w64)
+  pub int32 : DecodesBack maps.int32 (FitsSigned w32)
+  pub int64 : DecodesBack maps.int64 (FitsSigned w64)
+  pub uint32 : DecodesBack maps.uint32 (λ v. v < 2 ^ 32)
+  pub uint64 : DecodesBack maps.uint64 (λ v. v < 2 ^ 64)
+  pub sint32 : DecodesBack maps.sint32 (FitsSigned w32)
+  pub sint64 : DecodesBack maps.sint64 (FitsSigned w64)
+  pub bool : DecodesBack maps.bool (λ v. Unit {0})
+  pub fixed32 : DecodesBack maps.fixed32 (λ v. v < 2 ^ 32)
+  pub fixed64 : DecodesBack maps.fixed64 (λ v. v < 2 ^ 64)
+  pub sfixed32 : DecodesBack maps.sfixed32 (FitsSigned w32)
+  pub sfixed64 : DecodesBack maps.sfixed64 (FitsSigned w64)
   pub fitting : SpelledAreFitting
   pub numbered : SpelledAreNumbered
-  pub joined : JoinedAddsUp
+  pub joined : JoinedTextsAndSizes
   pub number : (n : ℕ) → 1 ≤ n → n < 2 ^ 29 → IsFieldNumber n
 
 -- numbers in range are read back, and fit where they are written
 pub record NumberBack {V : Type 0} (form : Form) (map : ValueMap V) (r : Range V) : Type 0 where
-  pub back : ReadsBack map r.Holds
+  pub back : DecodesBack map r.Holds
   pub fits : (v : V) → r.Holds v → IsPayloadFitting (number_payload form (map.enc v))
 
 zigzag_fits : (v : ℤ) → FitsSigned w64 v → zigzag v < 2 ^ 64

@@ -163,11 +163,11 @@ leaf_range t known r = pair_range r (record {
 })
 
 -- the fields have numbers that go to the leaf
-pub known_back : {L V : Type 0} → Grounds → (t : Table L) (known : Shape V) (r : Range V)
+pub known_leaf_back : {L V : Type 0} → Grounds → (t : Table L) (known : Shape V) (r : Range V)
     (x : Returned known r) → ((n : ℕ) → x.Has n → GoesToLeaf t n)
     → IsReadBack (two known unknown).takes (two known unknown).default (two known unknown).records
     (GoesToLeaf t) (leaf_range t known r)
-known_back g t known r x here l holds =
+known_leaf_back g t known r x here l holds =
     let both_back = two_back known unknown r.Holds (AreOthers (IsOther t known)) r.charge_of charge
     x.Has (IsOther t known) g.charges x.back (unknown_back g.plain (IsOther t known))
     (λ n p h. h.0 p) in (
@@ -219,7 +219,7 @@ module _ {V : Type 0} (g : Grounds) (t : Table (V × Fields)) (known : Shape V) 
   pub leaf_back : LeafBack t (leaf_range t known r)
   leaf_back =
       table_back t (leaf_range t known r) (two known unknown).takes (two known unknown).default
-      (two known unknown).records (known_back g t known r x here) takes_is start_is runs_are number
+      (two known unknown).records (known_leaf_back g t known r x here) takes_is start_is runs_are number
       place beside rows_beside
 
 -- ---- records put together in one order or another

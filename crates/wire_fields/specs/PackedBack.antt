@@ -10,7 +10,7 @@ use Rattle.wire_codec.specs.Limits.{no_charge}
 use Rattle.wire_codec.specs.LimitsLaws.{ChargesAddUp}
 use Rattle.wire_codec.specs.Packed.{SpellsEach}
 use Rattle.wire_codec.specs.Records.{plain}
-use Rattle.wire_codec.specs.ScalarLaws.{ReadsBack}
+use Rattle.wire_codec.specs.ScalarLaws.{DecodesBack}
 use Rattle.wire_codec.specs.ValueMap.{ValueMap}
 use Rattle.wire_codec.specs.Varint.{IsSpelling, shortest_varint}
 use Rattle.wire_codec.specs.VarintLaws.{ShortestReadsBack}
@@ -42,7 +42,7 @@ pub record AreNumbers {T : Type 0} (form : Form) (values : ValueMap T) (InRange 
   pub short : length (packed_text form values vs) < 2 ^ 64
 
 module _ {T : Type 0} (shortest : ShortestReadsBack) (charges : ChargesAddUp) (form : Form)
-    (values : ValueMap T) (InRange : T → Type 0) (back : ReadsBack values InRange)
+    (values : ValueMap T) (InRange : T → Type 0) (back : DecodesBack values InRange)
     (fits : (v : T) → InRange v → IsPayloadFitting (number_payload form (values.enc v))) where
   pub spelled : (vs : List T) → AllHold InRange vs
       → SpellsEach (IsNumberText form) (map values.enc vs) (packed_text form values vs)

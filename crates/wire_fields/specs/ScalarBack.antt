@@ -12,7 +12,7 @@ use Rattle.wire_codec.specs.Laws.{FieldsArePlain}
 use Rattle.wire_codec.specs.Limits.{Charge, both, no_charge, element_of}
 use Rattle.wire_codec.specs.LimitsLaws.{ChargesAddUp}
 use Rattle.wire_codec.specs.Records.{plain}
-use Rattle.wire_codec.specs.ScalarLaws.{ReadsBack}
+use Rattle.wire_codec.specs.ScalarLaws.{DecodesBack}
 use Rattle.wire_codec.specs.ValueMap.{ValueMap, wrapped}
 use Rattle.wire_fields.specs.declared.form.Form.{Form}
 use Rattle.wire_fields.specs.declared.form.Form.TheVariants.{Varint, Fixed64, Fixed32}
@@ -21,7 +21,7 @@ use Rattle.wire_fields.specs.Numbers.{number_payload, numeric}
 use Rattle.wire_fields.specs.Presence.{implicit, optional, always, repeated, unless, sets, sets_some}
 use Rattle.wire_fields.specs.Presence.{adds, each_record}
 use Rattle.wire_fields.specs.Scalar.{ScalarType, scalar_record}
-use Rattle.wire_fields.specs.Texts.{delimited}
+use Rattle.wire_fields.specs.Texts.{length_delimited}
 
 -- the payload of a value that is held is in range and sets that value, and a value that is left out
 -- is the default
@@ -39,7 +39,7 @@ payload_numbered Fixed64 x = tt
 payload_numbered Fixed32 x = tt
 
 pub number_back : {T : Type 0} (form : Form) (map : ValueMap T) (InRange : T → Type 0)
-    → ReadsBack map InRange
+    → DecodesBack map InRange
     → ((v : T) → InRange v → IsPayloadFitting (number_payload form (map.enc v)))
     → ScalarBack (numeric form map) InRange
 number_back form map InRange back fits = record {
@@ -69,7 +69,7 @@ empty_is : (b : List ℕ) → (length b == 0) ≡ true → b ≡ []
 empty_is [] h = refl
 empty_is (x ∷ b) h = absurd (omega (arith, eqb-true (length (x ∷ b)) 0 h))
 
-pub bytes_back : (IsText : List ℕ → Type 0) → ScalarBack (delimited IsText) (Lengthy IsText)
+pub bytes_back : (IsText : List ℕ → Type 0) → ScalarBack (length_delimited IsText) (Lengthy IsText)
 bytes_back IsText = record {
   fitting = λ b h. h.short;
   numbered = λ b h. tt;

@@ -2,7 +2,7 @@
 -- stands behind a length, a text or a packed list, has a length that can be written.
 use Rattle.std.proofs.Common.{◌≡◌, ℕ, ◌+◌, ◌^◌, ◌<◌, ◌≤◌, ap, arith, ◌∙◌, List, [], ◌++◌, length, length-append}
 use Rattle.wire_codec.specs.Field as grammar
-use Rattle.wire_codec.specs.Laws.{JoinedAddsUp}
+use Rattle.wire_codec.specs.Laws.{JoinedTextsAndSizes}
 use Rattle.wire_codec.specs.Records.{ValuePayload, varint, fixed64, fixed32, bytes, group, embedded}
 use Rattle.wire_codec.specs.Records.{Records, none, field, plain, text, text_size, joined_records}
 use Rattle.wire_codec.specs.Tag.{tag_text}
@@ -68,7 +68,7 @@ group_length n fs =
       length-append (text_of fs) end,
     )
 
-module _ (joined : JoinedAddsUp) where
+module _ (joined : JoinedTextsAndSizes) where
   joined_size : (rs qs : Records)
       → text_size (joined_records rs qs) ≡ text_size rs + text_size qs
   joined_size rs qs = ap length (joined.text rs qs) ∙ length-append (text rs) (text qs)

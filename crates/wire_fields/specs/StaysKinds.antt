@@ -55,7 +55,7 @@ numeric_stays {V} {form} {values} {r} h = record {
 }
 
 bytes_stay : (IsText : List ℕ → Type 0) → IsText []
-    → ScalarStays (texts.delimited IsText) (uncharged (Lengthy IsText))
+    → ScalarStays (texts.length_delimited IsText) (uncharged (Lengthy IsText))
 bytes_stay IsText empty = record {
   start = record { text = empty; short = omega arith };
   sets = λ p v fits set.

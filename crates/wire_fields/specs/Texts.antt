@@ -12,8 +12,8 @@ pub record SetsBytes (IsText : List ℕ → Type 0) (p : Payload) (b : List ℕ)
 pub one_bytes : (p : Payload) (a b : List ℕ) → p ≡ bytes a → p ≡ bytes b → a ≡ b
 one_bytes p a b h k = cc
 
-abbrev pub delimited : (List ℕ → Type 0) → ScalarType (List ℕ)
-delimited IsText = record {
+abbrev pub length_delimited : (List ℕ → Type 0) → ScalarType (List ℕ)
+length_delimited IsText = record {
   default = [];
   is_default = λ b. length b == 0;
   payload = bytes;
@@ -23,8 +23,8 @@ delimited IsText = record {
 
 -- a string, which has to be UTF-8
 abbrev pub string : ScalarType (List ℕ)
-string = delimited IsUtf8
+string = length_delimited IsUtf8
 
 -- any bytes
 abbrev pub any_bytes : ScalarType (List ℕ)
-any_bytes = delimited (λ b. Unit {0})
+any_bytes = length_delimited (λ b. Unit {0})

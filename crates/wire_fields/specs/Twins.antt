@@ -20,11 +20,11 @@ same_list R seen each (x ∷ xs) (y ∷ ys) h =
     ap (λ v. v ∷ map seen ys) (each x y h.0)
     ∙ ap (λ vs. seen x ∷ vs) (same_list R seen each xs ys h.1)
 
-pub same_pair : {S T K V : Type 0} (C : S → S → Type 0) (D : T → T → Type 0) (key : S → K)
+pub same_entry : {S T K V : Type 0} (C : S → S → Type 0) (D : T → T → Type 0) (key : S → K)
     (value : T → V) → ((x y : S) → C x y → key y ≡ key x)
     → ((x y : T) → D x y → value y ≡ value x) → (p q : S × T) → C p.0 q.0 × D p.1 q.1
     → ◌≡◌ {A = K × V} (key q.0, value q.1) (key p.0, value p.1)
-same_pair C D key value keys values p q h =
+same_entry C D key value keys values p q h =
     ap (λ k. (k, value q.1)) (keys p.0 q.0 h.0) ∙ ap (λ v. (key p.0, v)) (values p.1 q.1 h.1)
 
 -- copies of numbers of an enum are equal where those of its values are

@@ -49,6 +49,10 @@ const CALLS: &str = "
 uint32_t $c_name$_read(const uint8_t *bytes, size_t len, $c_name$ *it);
 uint32_t $c_name$_read_within(const uint8_t *bytes, size_t len,
                               const gtv_limits *limits, $c_name$ *it);
+uint32_t $c_name$_fault(const uint8_t *bytes, size_t len, size_t *place);
+uint32_t $c_name$_fault_within(const uint8_t *bytes, size_t len,
+                               const gtv_limits *limits, size_t *place);
+uint32_t $c_name$_unknown_record(gtv_bytes *walk, gtv_bytes *element);
 $c_nexts$size_t $c_name$_size(const $c_name$ *it$c_lists$);
 uint32_t $c_name$_write(const $c_name$ *it$c_lists$,
                         uint8_t *room, size_t room_len, size_t *len);

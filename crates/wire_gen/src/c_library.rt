@@ -1,6 +1,4 @@
-//! The crate of the static library of a schema's structs, and what stands beside it: the header,
-//! the Rust crate, and what builds all of it.
-use crate::c_header::CHeader;
+//! The calls of the static library of a schema's structs.
 use crate::package::Package;
 use crate::struct_heads::{Head, put_heads};
 use crate::struct_lists::{NEXT, NEXT_GHOSTS, NEXT_HEAD, set_list_words};
@@ -8,30 +6,24 @@ use crate::struct_numbers::{NEXT_NUMBER, NEXT_NUMBER_GHOSTS, set_number_export};
 use wire_definitions::{code_imports, ghost_imports, set_heading};
 use wire_schema::{Field, GenerateError, Template, Words};
 
-const LIBRARY_IS: &str = "\
-    The structs of `$crate$` for C: a static library without state and without requests for memory.";
-
-const ROOT: &str = "\
-$heading$//!
-//! No call asks anything of what is handed to it: whatever the struct held before and the bytes
-//! are, it reads and writes only what it is handed. `make` builds all that a program needs.
-#![tactic(auto)]
-
-$modules$";
-
 const GHOSTS: &str = "\
 Rattle.std.specs.Prelude length
 Rattle.std.specs.Prelude ◌<◌
 Rattle.std.specs.Prelude ◌≡◌
 Rattle.std.specs.Prelude ◌≢◌
+Rattle.std.specs.Prelude []
 Rattle.wire_base.specs.WriteLaws FillsSlice
 Rattle.wire_codec.specs.Field Fields
 Rattle.wire_codec.specs.Options default_limits
 Rattle.wire_codec.specs.Taking NotDecoded
 Rattle.wire_fields.specs.Numbers in_64_bits
 Rattle.wire_fields.specs.Shape NotDecodedAs
+Rattle.wire_structs.specs.Refused IsDecoded
+Rattle.wire_structs.specs.Refused IsRefusedAt
 Rattle.wire_structs.specs.Unknown HasStatus
 Rattle.wire_structs.specs.Unknown OfUnknown
+Rattle.wire_structs.specs.UnknownWalks GivesUnknown
+Rattle.wire_structs.specs.UnknownWalks HasNoUnknown
 Rattle.wire_structs.specs.Within DecodesSeen
 Rattle.wire_structs.specs.Within within_numbers
 Rattle.$crate$.specs.$name$ $module$-known
@@ -44,10 +36,13 @@ Rattle.$crate$.specs.$name$InC $name$-IsZero
 
 const USES: &str = "\
 wire_read::numbers LimitNumbers
+wire_structs SliceInC
 wire_structs context_within
 wire_structs default_context
+$crate$::$module$_in_c $module$_fault
 $crate$::$module$_in_c $module$_size
 $crate$::$module$_in_c $module$_size_keeping
+$crate$::$module$_in_c $module$_unknown_record
 $crate$::$module$_in_c $name$InC
 $crate$::$module$_in_c read_$module$
 $crate$::$module$_in_c write_$module$
@@ -55,7 +50,7 @@ $crate$::$module$_in_c write_$module$_keeping
 ";
 
 // The heads of the calls.
-const HEADS: [Head; 6] = [
+const HEADS: [Head; 9] = [
     [
         "read_head",
         "pub extern \"C\" fn $c_name$_read<'a>",
@@ -66,6 +61,24 @@ const HEADS: [Head; 6] = [
         "within_head",
         "pub extern \"C\" fn $c_name$_read_within<'a>",
         "bytes: &'a [u8]; limits: &LimitNumbers; message: &mut $name$InC<'a>",
+        "u32",
+    ],
+    [
+        "fault_head",
+        "pub extern \"C\" fn $c_name$_fault",
+        "bytes: &[u8]; place: &mut usize",
+        "u32",
+    ],
+    [
+        "fault_within_head",
+        "pub extern \"C\" fn $c_name$_fault_within",
+        "bytes: &[u8]; limits: &LimitNumbers; place: &mut usize",
+        "u32",
+    ],
+    [
+        "unknown_head",
+        "pub extern \"C\" fn $c_name$_unknown_record<'a>",
+        "walk: &mut SliceInC<'a>; element: &mut SliceInC<'a>",
         "u32",
     ],
     [
@@ -123,6 +136,50 @@ $within_head$
     read_$module$(bytes, &mut context, message)
 }
 
+/// Looks whether all of the bytes are such a message, within the limits of `Message::decode`: 0,
+/// exactly where they are, and the place is behind the last byte. Else the number of the error, and
+/// the place is the byte at which the first record begins that is not taken.
+#[unsafe(no_mangle)]
+$fault_head$
+    ensures ok { result ≡ 0 → IsDecoded $module$-shape default_limits bytes.now }
+    ensures behind { result ≡ 0 → place.new ≡ length bytes.now }
+    ensures err { result ≢ 0 → NotDecodedAs $module$-shape bytes.now }
+    ensures place { result ≢ 0 → IsRefusedAt $module$-shape default_limits bytes.now place.new }
+{
+    let mut context = default_context();
+    $module$_fault(bytes, &mut context, place)
+}
+
+/// The same within limits that the caller names, of whose levels no more than 100 are given.
+#[unsafe(no_mangle)]
+$fault_within_head$
+    ensures ok { result ≡ 0 → IsDecoded $module$-shape (within_numbers limits.now) bytes.now }
+    ensures behind { result ≡ 0 → place.new ≡ length bytes.now }
+    ensures err { result ≢ 0 → NotDecoded $module$-shape.takes (within_numbers limits.now)
+        $module$-shape.default bytes.now }
+    ensures place { result ≢ 0 → IsRefusedAt $module$-shape (within_numbers limits.now)
+        bytes.now place.new }
+{
+    let mut context = context_within(limits);
+    $module$_fault(bytes, &mut context, place)
+}
+
+/// Gives the next of the records of the walk that no field of the message owns, as it came, its tag
+/// and a group whole: 0, and the walk begins behind it; 1 where none is left; else the number of
+/// the error, where the bytes are no records up to the next such, or nest more than 100 groups.
+/// Without 0 the walk stays, and the element is of no bytes.
+#[unsafe(no_mangle)]
+$unknown_head$
+    ensures given { result ≡ 0 → GivesUnknown $module$-known.owns walk.old.bytes.now
+        element.new.bytes.now walk.new.bytes.now }
+    ensures ended { result ≡ 1 → HasNoUnknown $module$-known.owns walk.old.bytes.now }
+    ensures other { result ≢ 0 → result ≢ 1 → HasStatus walk.old.bytes.now result }
+    ensures stays { result ≢ 0 → walk.new ≡ walk.old }
+    ensures empty { result ≢ 0 → element.new.bytes.now ≡ [] }
+{
+    $module$_unknown_record(walk, element)
+}
+
 /// How many bytes the encoding of what the struct shows takes, each record in its shortest form, or
 /// `SIZE_MAX` where it is more.
 #[unsafe(no_mangle)]
@@ -176,88 +233,19 @@ $keep_head$
 }
 $nexts$";
 
-const READ_ANSWERS: &str = "\
-use Rattle.$crate$_c.proofs.$module$.$c_name$_read.Goals as goal
+// Each call whose limits are told by another call's contract, that call, and what it makes.
+const ANSWERED: [[&str; 3]; 4] = [
+    ["read", "default_context", "read_$module$"],
+    ["read_within", "context_within", "read_$module$"],
+    ["fault", "default_context", "$module$_fault"],
+    ["fault_within", "context_within", "$module$_fault"],
+];
+
+const ANSWERS: &str = "\
+use Rattle.$crate$_c.proofs.$module$.$c_name$_$call$.Goals as goal
 
 pub returns-clause-err : goal.returns-clause-err
-returns-clause-err c = rw c.default_context-context.ensures at c.read_$module$.ensures.err
-";
-
-const WITHIN_ANSWERS: &str = "\
-use Rattle.$crate$_c.proofs.$module$.$c_name$_read_within.Goals as goal
-
-pub returns-clause-err : goal.returns-clause-err
-returns-clause-err c = rw c.context_within-context.ensures at c.read_$module$.ensures.err
-";
-
-const README: &str = "\
-# $crate$_c
-
-The static library of the structs of `$crate$` for C, C++ and Rust, generated by wire_gen and not to
-be edited. The lines of crates.txt are
-
-    $crate$: wire_base wire_codec wire_fields$needs$ bytes
-    $crate$_c staticlib: wire_base wire_codec wire_read wire_fields wire_structs $crate$
-
-`make` here proves both, and leaves in `out/$c$` the library, `$c$.h` and the headers that it
-includes, `$c$.pc`, and the Rust crate `$c$`: all that a program needs, on a machine without the kit.
-What the proof prints is in `out/$c$/proof.log`; `RTFLAGS` is handed to `rt lib`, as
-`--jobs 2`. It wants the headers of the repository that has `wire_structs`, in the folder GETTAVIL, by
-default this repository's root. Where a message goes or is renamed, take `src`, `proofs` and
-`rust/src` away before they are written anew.
-";
-
-const MAKEFILE: &str = "\
-# What a program of C, C++ or Rust needs of $schema$, in the folder INTO: the library, proved by
-# `rt lib` with RTFLAGS unless LIBRARY names one. Generated by wire_gen; not to be edited.
-GETTAVIL ?= ../..
-INTO ?= out/$c$
-
-all:
-\tmkdir -p $dollar$(INTO)/rust/src
-ifndef LIBRARY
-\t@echo \"$dollar$(strip rt lib $dollar$(RTFLAGS)): what it prints is in $dollar$(INTO)/proof.log\"
-\t@rt lib $dollar$(RTFLAGS) > $dollar$(INTO)/proof.log 2>&1 \\
-\t  || { tail -n 20 $dollar$(INTO)/proof.log; exit 1; }
-endif
-\tcp $dollar$(or $dollar$(LIBRARY),out/lib$crate$_c.a) $dollar$(INTO)/lib$c$.a
-\tcp $c$.h $dollar$(GETTAVIL)/bindings/c/gettavil.h \\
-\t  $dollar$(GETTAVIL)/bindings/structs/gettavil_structs.h $dollar$(INTO)
-\tcp $c$.pc $dollar$(INTO)
-\tcp -r rust $dollar$(INTO)
-\tcp $dollar$(GETTAVIL)/bindings/structs/rust/structs.rs $dollar$(INTO)/rust/src/gtv_structs.rs
-\tcp $dollar$(INTO)/lib$c$.a $dollar$(INTO)/rust
-
-.PHONY: all
-";
-
-const PKG_CONFIG: &str = "\
-folder=$dollar${pcfiledir}
-
-Name: $c$
-Description: Messages read and written by proved code
-Version: 1
-Cflags: -I$dollar${folder}
-Libs: -L$dollar${folder} -l$c$
-";
-
-const CARGO: &str = "\
-[package]
-name = \"$c$\"
-version = \"1.0.0\"
-edition = \"2021\"
-rust-version = \"1.63\"
-build = \"build.rs\"
-";
-
-const BUILD: &str = "\
-//! Links the static library that stands beside this file.
-fn main() {
-    let folder = std::env::var(\"CARGO_MANIFEST_DIR\").expect(\"cargo says where this is\");
-    println!(\"cargo:rustc-link-search=native={folder}\");
-    println!(\"cargo:rustc-link-lib=static=$c$\");
-    println!(\"cargo:rerun-if-changed=lib$c$.a\");
-}
+returns-clause-err c = rw c.$limits_call$-context.ensures at c.$made_call$.ensures.err
 ";
 
 const OF_LIST: [Template; 3] = [
@@ -310,26 +298,23 @@ impl Package {
         code_imports(&mut page);
         put_heads(&mut page, &HEADS);
         set_heading(&mut page, "//!", "The calls of `$name$InC`.");
-        page.fill_all(&[
-            ("text", CALLS),
-            ("answers", READ_ANSWERS),
-            ("within", WITHIN_ANSWERS),
-        ]);
+        page.fill("text", CALLS);
         let code = page.finish("text")?;
         self.add_beside(&mut page, "src/$module$.rt", code)?;
-        let answers = page.finish("answers")?;
-        self.add_beside(
-            &mut page,
-            "proofs/$module$/$c_name$_read/Answers.antt",
-            answers,
-        )?;
-        let answers = page.finish("within")?;
-        let path = "proofs/$module$/$c_name$_read_within/Answers.antt";
-        self.add_beside(&mut page, path, answers)
+        for [call, limits, made] in ANSWERED {
+            page.set("call", call);
+            page.set("limits_call", limits);
+            page.fill("made_call", made);
+            page.fill("answers", ANSWERS);
+            let answers = page.finish("answers")?;
+            let path = "proofs/$module$/$c_name$_$call$/Answers.antt";
+            self.add_beside(&mut page, path, answers)?;
+        }
+        Ok(())
     }
 
-    // A file of the library's folder.
-    fn add_beside(
+    /// A file of the library's folder.
+    pub(crate) fn add_beside(
         &mut self,
         page: &mut Words,
         path: &str,
@@ -344,53 +329,5 @@ impl Package {
     /// The module of a message in the Rust crate.
     pub(crate) fn add_rust(&mut self, page: &mut Words, text: String) -> Result<(), GenerateError> {
         self.add_beside(page, "rust/src/$module$.rs", text)
-    }
-
-    /// The other files of the library's folder.
-    pub(crate) fn add_library(&mut self, mut header: CHeader) -> Result<(), GenerateError> {
-        let mut page = Words::like(&self.roots);
-        page.fill("modules", "");
-        page.set("dollar", "$");
-        put_sorted(&mut page, "proofs", "proofs_page");
-        put_sorted(&mut page, "struct_modules", "modules");
-        let proofs = page.finish("proofs_page")?;
-        if !proofs.is_empty() {
-            self.add(&mut page, "proofs/Lib.antt", proofs)?;
-        }
-        set_heading(&mut page, "//!", LIBRARY_IS);
-        page.fill_all(&[
-            ("root", ROOT),
-            ("readme", README),
-            ("makefile", MAKEFILE),
-            ("pkg_config", PKG_CONFIG),
-            ("cargo", CARGO),
-            ("build", BUILD),
-        ]);
-        let c_header = header.finish()?;
-        let (rust, ffi) = header.rust.finish()?;
-        self.add_beside(&mut page, "$c$.h", c_header)?;
-        self.add_beside(&mut page, "rust/src/lib.rs", rust)?;
-        self.add_beside(&mut page, "rust/src/gtv_ffi.rs", ffi)?;
-        for (name, path) in [
-            ("root", "src/lib.rt"),
-            ("readme", "README.md"),
-            ("makefile", "Makefile"),
-            ("pkg_config", "$c$.pc"),
-            ("cargo", "rust/Cargo.toml"),
-            ("build", "rust/build.rs"),
-        ] {
-            let text = page.finish(name)?;
-            self.add_beside(&mut page, path, text)?;
-        }
-        Ok(())
-    }
-}
-
-// Puts the lines of one word in order behind another.
-fn put_sorted(page: &mut Words, of: &str, behind: &'static str) {
-    let lines = page.take(of);
-    for line in page.sorted(&lines) {
-        page.set("line", line);
-        page.append(behind, "$line$\n");
     }
 }

@@ -16,6 +16,12 @@ $charges$ * Those of the caller, `_read_within`, are `depth`, of which no more t
  * `records`, unknown fields, those in groups counted; and `payload_bytes`, bytes of their
  * length-delimited payloads; lists and maps have no limit of their own there.
  *
+ * Each `_fault` answers as `_read`, and `_fault_within` as `_read_within`, and tells where: without
+ * GTV_OK `*place` is the byte at which the first record begins that is not taken. All records in
+ * front of it are, and no record that begins there is, within what they leave of the limits. These
+ * are the records of the message itself: what is refused inside a message or a group is told by
+ * the field that holds it. With GTV_OK `*place` is `len`.
+ *
  * Each `_size` is how many bytes the encoding of what the struct shows has, or SIZE_MAX where it
  * is more: the records of a message with these fields and no others, each in its shortest form, in
  * the order of their numbers, the field of a oneof at the place of its lowest number; and a list
@@ -32,6 +38,11 @@ $charges$ * Those of the caller, `_read_within`, are `depth`, of which no more t
  * a message are such a message, within some limits of no more than 100 levels. Of a list of
  * numbers, packed or not, `walk` is a `gtv_numbers`: set its `bytes` to those that were read, and
  * all else of it to zero; `number` is the next, and stays without GTV_OK.
+ *
+ * Each `_unknown_record` gives so the records whose numbers the message lacks, one after another,
+ * as they came: `element` is a whole record, its tag too, and a group up to its end, and `walk` is
+ * what is behind it. A status of an error says that the bytes up to the next of them are no
+ * records, or that these nest more than 100 groups.
  *
  * A map is a list of its entries, as they came: `_count` counts entries, also those of one key,
  * and an entry is read by the `_read` of its own type.

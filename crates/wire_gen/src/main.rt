@@ -7,6 +7,7 @@ mod arms;
 mod breaks;
 mod c_comment;
 mod c_enum;
+mod c_folder;
 mod c_header;
 mod c_library;
 mod c_oneof;

@@ -2,10 +2,16 @@
 
 /// The calls of the library for one message.
 pub(crate) const FOREIGN: &str = "
+pub(crate) fn unknown_of_$module$(bytes: &[u8]) -> Walk<'_> {
+    Walk::new(bytes, $c_name$_unknown_record)
+}
+
 // SAFETY: the struct is that of the header, and the calls are its own.
 unsafe impl<'a> Struct<'a> for $name$<'a> {
     const READ: ReadCall<Self> = $c_name$_read;
     const READ_WITHIN: ReadWithinCall<Self> = $c_name$_read_within;
+    const FAULT: FaultCall = $c_name$_fault;
+    const FAULT_WITHIN: FaultWithinCall = $c_name$_fault_within;
 }
 
 // SAFETY: as above.
@@ -25,6 +31,14 @@ extern \"C\" {
         len: usize,
         limits: *const Limits,
         it: *mut $name$<'a>,
+    ) -> u32;
+    fn $c_name$_unknown_record<'a>(walk: *mut Bytes<'a>, element: *mut Bytes<'a>) -> u32;
+    fn $c_name$_fault(bytes: *const u8, len: usize, place: *mut usize) -> u32;
+    fn $c_name$_fault_within(
+        bytes: *const u8,
+        len: usize,
+        limits: *const Limits,
+        place: *mut usize,
     ) -> u32;
     fn $c_name$_size<'a>(it: *const $name$<'a>) -> usize;
     fn $c_name$_write<'a>(
@@ -52,10 +66,16 @@ extern \"C\" {
 
 /// The same for one with lists.
 pub(crate) const FOREIGN_WITH_LISTS: &str = "
+pub(crate) fn unknown_of_$module$(bytes: &[u8]) -> Walk<'_> {
+    Walk::new(bytes, $c_name$_unknown_record)
+}
+
 // SAFETY: the struct is that of the header, and the calls are its own.
 unsafe impl<'a> Struct<'a> for $name$<'a> {
     const READ: ReadCall<Self> = $c_name$_read;
     const READ_WITHIN: ReadWithinCall<Self> = $c_name$_read_within;
+    const FAULT: FaultCall = $c_name$_fault;
+    const FAULT_WITHIN: FaultWithinCall = $c_name$_fault_within;
 }
 
 // SAFETY: as above, and the lists are those of the header.
@@ -75,6 +95,14 @@ extern \"C\" {
         len: usize,
         limits: *const Limits,
         it: *mut $name$<'a>,
+    ) -> u32;
+    fn $c_name$_unknown_record<'a>(walk: *mut Bytes<'a>, element: *mut Bytes<'a>) -> u32;
+    fn $c_name$_fault(bytes: *const u8, len: usize, place: *mut usize) -> u32;
+    fn $c_name$_fault_within(
+        bytes: *const u8,
+        len: usize,
+        limits: *const Limits,
+        place: *mut usize,
     ) -> u32;
     fn $c_name$_size<'a, 'h>(it: *const $name$<'a>, lists: *const $name$Lists<'h>) -> usize;
     fn $c_name$_write<'a, 'h>(
@@ -114,6 +142,9 @@ $uses$use std::mem::MaybeUninit;
 pub(crate) type ReadCall<T> = unsafe extern \"C\" fn(*const u8, usize, *mut T) -> u32;
 pub(crate) type ReadWithinCall<T> =
     unsafe extern \"C\" fn(*const u8, usize, *const Limits, *mut T) -> u32;
+pub(crate) type FaultCall = unsafe extern \"C\" fn(*const u8, usize, *mut usize) -> u32;
+pub(crate) type FaultWithinCall =
+    unsafe extern \"C\" fn(*const u8, usize, *const Limits, *mut usize) -> u32;
 pub(crate) type NextCall = for<'a> unsafe extern \"C\" fn(*mut Bytes<'a>, *mut Bytes<'a>) -> u32;
 pub(crate) type NextNumberCall<T> =
     for<'a> unsafe extern \"C\" fn(*mut NumbersWalk<'a>, *mut T) -> u32;
@@ -140,6 +171,8 @@ pub(crate) type WriteKeepingWithCall<T, L> =
 pub(crate) unsafe trait Struct<'a>: Copy {
     const READ: ReadCall<Self>;
     const READ_WITHIN: ReadWithinCall<Self>;
+    const FAULT: FaultCall;
+    const FAULT_WITHIN: FaultWithinCall;
 }
 
 /// One that is written alone.
@@ -175,7 +208,12 @@ pub(crate) fn read<'a, T: Struct<'a>>(bytes: &'a [u8]) -> Result<T, Refusal> {
     let mut it = MaybeUninit::zeroed();
     // SAFETY: the library reads these bytes and sets the struct, of which all zero is one.
     let status = unsafe { T::READ(bytes.as_ptr(), bytes.len(), it.as_mut_ptr()) };
-    told(status, it)
+    told(status, it).map_err(|refusal| {
+        let mut place = 0;
+        // SAFETY: the library reads these bytes and sets the place.
+        unsafe { T::FAULT(bytes.as_ptr(), bytes.len(), &mut place) };
+        refusal.at(place)
+    })
 }
 
 pub(crate) fn read_within<'a, T: Struct<'a>>(
@@ -185,7 +223,12 @@ pub(crate) fn read_within<'a, T: Struct<'a>>(
     let mut it = MaybeUninit::zeroed();
     // SAFETY: as of `read`, and it reads the limits.
     let status = unsafe { T::READ_WITHIN(bytes.as_ptr(), bytes.len(), limits, it.as_mut_ptr()) };
-    told(status, it)
+    told(status, it).map_err(|refusal| {
+        let mut place = 0;
+        // SAFETY: as of `read`, and it reads the limits.
+        unsafe { T::FAULT_WITHIN(bytes.as_ptr(), bytes.len(), limits, &mut place) };
+        refusal.at(place)
+    })
 }
 
 pub(crate) fn size<T: Written>(it: &T) -> usize {

@@ -48,6 +48,12 @@ impl<'a> $name$<'a> {
         ffi::read_within(bytes, limits)
     }
 
+    /// The records of these bytes that no field of the message owns, one after another, each as it
+    /// came, with its tag; in bytes that are no records they end where these are none.
+    pub fn unknown_records(bytes: &'a [u8]) -> impl Iterator<Item = &'a [u8]> + 'a {
+        ffi::unknown_of_$module$(bytes)
+    }
+
 $calls$$accessors$}
 
 impl Default for $name$<'_> {

@@ -8,12 +8,17 @@ Rattle.std.specs.Prelude length
 Rattle.std.specs.Prelude ◌<◌
 Rattle.std.specs.Prelude ◌≡◌
 Rattle.std.specs.Prelude ◌≢◌
+Rattle.std.specs.Prelude []
 Rattle.wire_base.specs.WriteLaws FillsSlice
 Rattle.wire_codec.specs.Field Fields
 Rattle.wire_codec.specs.Taking NotDecoded
 Rattle.wire_fields.specs.Numbers in_64_bits
+Rattle.wire_structs.specs.Refused IsDecoded
+Rattle.wire_structs.specs.Refused IsRefusedAt
 Rattle.wire_structs.specs.Unknown HasStatus
 Rattle.wire_structs.specs.Unknown OfUnknown
+Rattle.wire_structs.specs.UnknownWalks GivesUnknown
+Rattle.wire_structs.specs.UnknownWalks HasNoUnknown
 Rattle.wire_structs.specs.Within DecodesSeen
 Rattle.$crate$.specs.$name$ $module$-known
 Rattle.$crate$.specs.$name$ $module$-shape
@@ -24,11 +29,23 @@ Rattle.$crate$.specs.$name$InC $name$-IsZero
 ";
 
 /// Their heads.
-pub(crate) const HEADS: [Head; 5] = [
+pub(crate) const HEADS: [Head; 7] = [
     [
         "read_head",
         "pub fn read_$module$<'a>",
         "bytes: &'a [u8]; context: &mut DecodeContext; message: &mut $name$InC<'a>",
+        "u32",
+    ],
+    [
+        "fault_head",
+        "pub fn $module$_fault<'a>",
+        "bytes: &'a [u8]; context: &mut DecodeContext; place: &mut usize",
+        "u32",
+    ],
+    [
+        "unknown_head",
+        "pub fn $module$_unknown_record<'a>",
+        "walk: &mut SliceInC<'a>; element: &mut SliceInC<'a>",
         "u32",
     ],
     [
@@ -70,6 +87,34 @@ $read_head$
     ensures zero { result ≢ 0 → $name$-IsZero message.new }
 {
     read_status(message, bytes, context)
+}
+
+/// Looks whether all of the bytes are its message, within the limits of the context: 0, exactly
+/// where they are, and the place is behind the last byte; else the number of the error, and the
+/// place is the byte at which the first record begins that is not taken.
+$fault_head$
+    ensures ok { result ≡ 0 → IsDecoded $module$-shape context.old bytes.now }
+    ensures behind { result ≡ 0 → place.new ≡ length bytes.now }
+    ensures err { result ≢ 0 → NotDecoded $module$-shape.takes context.old
+        $module$-shape.default bytes.now }
+    ensures place { result ≢ 0 → IsRefusedAt $module$-shape context.old bytes.now place.new }
+{
+    refused_status::<$name$InC<'a>>(bytes, context, place)
+}
+
+/// Gives the next of the records of the walk that no field of the message owns, as it came, its tag
+/// and a group whole: 0, and the walk begins behind it; 1 where none is left; else the number of
+/// the error, where the bytes are no records up to the next such, or nest more than 100 groups.
+/// Without 0 the walk stays, and the element is of no bytes.
+$unknown_head$
+    ensures given { result ≡ 0 → GivesUnknown $module$-known.owns walk.old.bytes.now
+        element.new.bytes.now walk.new.bytes.now }
+    ensures ended { result ≡ 1 → HasNoUnknown $module$-known.owns walk.old.bytes.now }
+    ensures other { result ≢ 0 → result ≢ 1 → HasStatus walk.old.bytes.now result }
+    ensures stays { result ≢ 0 → walk.new ≡ walk.old }
+    ensures empty { result ≢ 0 → element.new.bytes.now ≡ [] }
+{
+    next_unknown_status::<$name$InC<'a>>(walk, element)
 }
 
 /// How many bytes the encoding of what a struct shows takes, each record in its shortest form, or
@@ -190,6 +235,31 @@ pub returns-clause-err : goal.returns-clause-err
 returns-clause-err c = λ is.
     not_decoded_back $module$-seen $module$-shape.takes $module$-struct.takes
     $module$-shows.steps _ $module$-shape.default _ (c.read_status.ensures.err is)
+";
+
+pub(crate) const FAULT_ANSWERS: &str = "\
+use Rattle.wire_structs.proofs.FirstRefused.{refused_back}
+use Rattle.wire_structs.proofs.Shown.{decodes_back, not_decoded_back}
+use Rattle.$crate$.proofs.$name$InCShows.{$module$-shows}
+use Rattle.$crate$.specs.$name$.{$module$-shape}
+use Rattle.$crate$.specs.$name$InC.{$module$-seen, $module$-struct}
+use Rattle.$crate$.proofs.$module$_in_c.$module$_fault.Goals as goal
+
+pub returns-clause-ok : goal.returns-clause-ok
+returns-clause-ok c = λ is.
+    let value = decodes_back $module$-seen $module$-shape.takes $module$-struct.takes
+    $module$-shows.steps _ $module$-shape.default _ _ (c.refused_status.ensures.ok is).1 in
+    (value.0, value.1)
+
+pub returns-clause-err : goal.returns-clause-err
+returns-clause-err c = λ is.
+    not_decoded_back $module$-seen $module$-shape.takes $module$-struct.takes
+    $module$-shows.steps _ $module$-shape.default _ (c.refused_status.ensures.err is)
+
+pub returns-clause-place : goal.returns-clause-place
+returns-clause-place c = λ is.
+    refused_back $module$-seen $module$-shape.takes $module$-struct.takes
+    $module$-shows.steps _ $module$-shape.default _ _ (c.refused_status.ensures.refused is)
 ";
 
 /// What the calls of a message with lists have besides.

@@ -23,9 +23,12 @@ wire_codec EncodeSink
 wire_codec Tag
 wire_structs FieldNumbers
 wire_structs MessageStruct
+wire_structs SliceInC
 wire_structs StructPart
+wire_structs next_unknown_status
 wire_structs pass_by
 wire_structs read_status
+wire_structs refused_status
 wire_structs size_keeping
 wire_structs write_keeping
 wire_structs write_status

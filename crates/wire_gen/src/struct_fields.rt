@@ -224,7 +224,8 @@ const C_WORDS: &str =
 
 // Calls of a struct in Rust. A field of such a name has an underscore behind it there.
 const CALLS: &str =
-    "new read read_within size size_keeping to_vec to_vec_keeping write write_keeping";
+    "new read read_within size size_keeping to_vec to_vec_keeping unknown_records write \
+    write_keeping";
 
 /// Whether this is a word of C or C++, or a name that their headers have.
 pub(crate) fn is_c_word(name: &str) -> bool {

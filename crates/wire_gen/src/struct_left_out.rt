@@ -187,9 +187,11 @@ pub(crate) fn is_struct_there(message: &MessageType, schema: &Schema) -> bool {
 
 /// Types of the Rust crate, and what it brings in.
 pub(crate) const TYPES: &str =
-    "Bytes Default Iterator Limits List MaybeUninit NextCall NextNumberCall NoRoom NotWritten \
-    Numbers NumbersWalk ReadCall ReadWithinCall Refusal SizeCall SizeKeepingCall \
-    SizeKeepingWithCall SizeWithCall Struct Text Walk WriteCall WriteKeepingCall \
+    "Bytes Default FaultCall FaultWithinCall Iterator Limits List MaybeUninit NextCall \
+    NextNumberCall NoRoom NotWritten Numbers NumbersWalk ReadCall ReadWithinCall Refusal SizeCall \
+    SizeKeepingCall SizeKeepingWithCall SizeWithCall Struct Text Walk WriteCall WriteKeepingCall \
     WriteKeepingWithCall WriteWithCall Written WrittenWith";
 
-const ENDS: &str = "_lists _read _read_within _size _size_keeping _write _write_keeping";
+const ENDS: &str =
+    "_fault _fault_within _lists _read _read_within _size _size_keeping _unknown_record _write \
+    _write_keeping";

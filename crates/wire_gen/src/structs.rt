@@ -3,8 +3,8 @@ use crate::c_header::CHeader;
 use crate::package::Package;
 use crate::struct_answers::struct_answers_of;
 use crate::struct_calls::{
-    AS_SHOWN, AS_SHOWN_USES, MIXED, MIXED_SAME, MIXED_USES, READ_ANSWERS, SAME, SAME_USES, SHOWS,
-    SHOWS_USES, WITH_LISTS,
+    AS_SHOWN, AS_SHOWN_USES, FAULT_ANSWERS, MIXED, MIXED_SAME, MIXED_USES, READ_ANSWERS, SAME,
+    SAME_USES, SHOWS, SHOWS_USES, WITH_LISTS,
 };
 use crate::struct_code::struct_code_of;
 use crate::struct_definitions::{
@@ -255,6 +255,10 @@ impl Package {
         page.fill("answers", READ_ANSWERS);
         let answers = page.finish("answers")?;
         let path = "proofs/$module$_in_c/read_$module$/Answers.antt";
+        self.add(page, path, answers)?;
+        page.fill("answers", FAULT_ANSWERS);
+        let answers = page.finish("answers")?;
+        let path = "proofs/$module$_in_c/$module$_fault/Answers.antt";
         self.add(page, path, answers)?;
         let has_lists = !page.get("of_lists").is_empty();
         page.fill(

@@ -170,14 +170,14 @@ fn set_or_keep_$word$<'a>(
 ) -> Result<(), DecodeError>
     ensures ok { OnOk result (IsCharged context.old context.new (λ c.
         TakesRecord $word$-of-$choice_module$-closed context.old (tag_number tag) (tag_type tag)
-        (($choice_module$-view_held held.old).0, fields_of spans.old.items) buf.old.now c
-        (($choice_module$-view_held held.new).0, fields_of spans.new.items) buf.new.now)) }
+        (($choice_module$-view_held held.old).0, span_fields spans.old.items) buf.old.now c
+        (($choice_module$-view_held held.new).0, span_fields spans.new.items) buf.new.now)) }
     ensures rows { OnOk result (($choice_module$-view_held held.new).1
         ≡ $choice_module$-beside ($choice_module$-view_held held.new).0
         ($choice_module$-view_held held.old).1) }
     ensures err { IfErr result (λ e. e ≢ OutOfMemory → NotTaken
         (TakesRecord $word$-of-$choice_module$-closed context.old (tag_number tag) (tag_type tag)
-        (($choice_module$-view_held held.old).0, fields_of spans.old.items) buf.old.now)) }
+        (($choice_module$-view_held held.old).0, span_fields spans.old.items) buf.old.now)) }
     ensures counts { OnErr result (NoCountGrew context.old context.new) }
 {
     let mut value = None;
@@ -205,7 +205,7 @@ Rattle.wire_codec.specs.TagView tag_type
 Rattle.wire_codec.specs.Taking IsCharged
 Rattle.wire_codec.specs.Taking NotTaken
 Rattle.wire_codec.specs.Taking TakesRecord
-Rattle.wire_views.specs.Spans fields_of
+Rattle.wire_views.specs.Spans span_fields
 Rattle.$crate$.specs.$choice$ $word$-of-$choice_module$-closed
 Rattle.$crate$.specs.$home$ $choice_module$-beside
 Rattle.$crate$.specs.$home$ $choice_module$-view_held

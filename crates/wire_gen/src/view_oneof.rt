@@ -119,11 +119,11 @@ pub(crate) fn set_or_keep_$word$<'a>(
 ) -> Result<(), DecodeError>
     ensures ok { OnOk result (IsCharged context.old context.new (λ c.
         TakesRecord $word$-of-$module$-closed context.old (tag_number tag) (tag_type tag)
-        ($module$-view_of held.old, fields_of spans.old.items) buf.old.now c
-        ($module$-view_of held.new, fields_of spans.new.items) buf.new.now)) }
+        ($module$-view_of held.old, span_fields spans.old.items) buf.old.now c
+        ($module$-view_of held.new, span_fields spans.new.items) buf.new.now)) }
     ensures err { IfErr result (λ e. e ≢ OutOfMemory → NotTaken
         (TakesRecord $word$-of-$module$-closed context.old (tag_number tag) (tag_type tag)
-        ($module$-view_of held.old, fields_of spans.old.items) buf.old.now)) }
+        ($module$-view_of held.old, span_fields spans.old.items) buf.old.now)) }
     ensures counts { OnErr result (NoCountGrew context.old context.new) }
 {
     let mut value = None;
@@ -150,7 +150,7 @@ Rattle.wire_codec.specs.TagView tag_type
 Rattle.wire_codec.specs.Taking IsCharged
 Rattle.wire_codec.specs.Taking NotTaken
 Rattle.wire_codec.specs.Taking TakesRecord
-Rattle.wire_views.specs.Spans fields_of
+Rattle.wire_views.specs.Spans span_fields
 Rattle.$crate$.specs.$name$ $module$-view_of
 Rattle.$crate$.specs.$name$ $word$-of-$module$-closed
 ";

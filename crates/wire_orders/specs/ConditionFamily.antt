@@ -34,7 +34,7 @@ use Rattle.wire_fields.specs.NestChoice.{beside_row, first_choice, in_first, in_
 use Rattle.wire_fields.specs.NestChoice.{rows_beside_field}
 use Rattle.wire_fields.specs.NestRange.{Beside, GoesToLeaf, IsPlaceOf, IsReadBack, LeafBack}
 use Rattle.wire_fields.specs.NestRange.{LeafBeside, all_runs, any_beside, beside_range, followed}
-use Rattle.wire_fields.specs.NestRange.{known_back, leaf_range, piece, same_order, table_back}
+use Rattle.wire_fields.specs.NestRange.{known_leaf_back, leaf_range, piece, same_order, table_back}
 use Rattle.wire_fields.specs.NestTable.{all_counted, as_it_was, as_they_were, empty_of}
 use Rattle.wire_fields.specs.NestTable.{family_records, family_single, family_takes, if_number}
 use Rattle.wire_fields.specs.NestTable.{message_at}
@@ -724,7 +724,7 @@ module _ (charges : List ℕ → ℕ → Payload → Charge) where
       → IsReadBack rebate_unless_entry-leaf.takes rebate_unless_entry-leaf.default rebate_unless_entry-leaf.records
       (GoesToLeaf rebate_unless_entry-table) rebate_unless_entry-range-of-leaf
   rebate_unless_entry-known-back g =
-      known_back g rebate_unless_entry-table rebate_unless_entry-known rebate_unless_entry-range-of-known
+      known_leaf_back g rebate_unless_entry-table rebate_unless_entry-known rebate_unless_entry-range-of-known
       (rebate_unless_entry-returned-of-known g) (λ n h. rw h refl)
 
   pub rebate_unless_entry-back : Grounds → LeafBack rebate_unless_entry-table (second_range (second_range rebate_unless_entry-range-of-leaf))

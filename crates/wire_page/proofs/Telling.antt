@@ -6,10 +6,10 @@ use Rattle.wire_read.specs.declared.event.Event.{Event}
 use Rattle.wire_read.specs.Reading.{At, Gives}
 use Rattle.wire_page.specs.declared.record.Record.{Record}
 use Rattle.wire_page.specs.Batch.{Fills, Tells}
-use Rattle.wire_page.specs.Told.{told_event}
+use Rattle.wire_page.specs.Told.{page_record}
 
 tells-more : (all : List ℕ) (told : List Record) (s t u : At) (e : Event)
-    → Tells all told s t → Gives e all t u → Tells all (told ++ told_event e ∷ []) s u
+    → Tells all told s t → Gives e all t u → Tells all (told ++ page_record e ∷ []) s u
 tells-more all [] s t u e none given =
     (e, u, subst (λ a. Gives e all a u) (sym none) given, refl, refl)
 tells-more all (r ∷ told) s t u e (f, m, first, is, more) given =
@@ -26,9 +26,9 @@ front l i x room =
 
 pub fills-more : (all : List ℕ) (s t u : At) (old mid new : List Record) (count : ℕ) (e : Event)
     → count < length old → Fills all s t old mid count → Gives e all t u
-    → new ≡ set mid count (told_event e) → Fills all s u old new (count + 1)
+    → new ≡ set mid count (page_record e) → Fills all s u old new (count + 1)
 fills-more all s t u old mid new count e room so_far given is =
-    let x = told_event e in
+    let x = page_record e in
     let told = so_far.told in
     record {
       told = told ++ x ∷ [];

@@ -6,13 +6,13 @@ use Rattle.wire_read.specs.declared.numbers.FaultNumbers.{FaultNumbers}
 use Rattle.wire_read.specs.Numbers.{told_fault}
 use Rattle.wire_read.specs.Reading.{At, Gives, IsDone, Stops}
 use Rattle.wire_page.specs.declared.record.Record.{Record}
-use Rattle.wire_page.specs.Told.{told_event, stopped}
+use Rattle.wire_page.specs.Told.{page_record, stopped}
 
 -- the records tell events that a reader gives one behind the other, from s to t
 abbrev pub Tells : List ℕ → List Record → At → At → Type 0
 Tells all [] s t = s ≡ t
 Tells all (told ∷ more) s t =
-    (e : Event) × (m : At) × Gives e all s m × (told ≡ told_event e) × Tells all more m t
+    (e : Event) × (m : At) × Gives e all s m × (told ≡ page_record e) × Tells all more m t
 
 -- why a batch ends at t: the room is full, all is read, or a fault stands there
 pub data BatchEnds : List ℕ → At → List Record → ℕ → FaultNumbers → Type 0 where

@@ -5,8 +5,8 @@ use Rattle.wire_read.specs.declared.numbers.FaultNumbers.{FaultNumbers}
 use Rattle.wire_read.specs.Numbers.{kind_of, value_of}
 use Rattle.wire_page.specs.declared.record.Record.{Record}
 
-abbrev pub told_event : Event → Record
-told_event e = record {
+abbrev pub page_record : Event → Record
+page_record e = record {
   kind = kind_of e.value;
   number = e.number;
   value = value_of e.value;

@@ -17,26 +17,26 @@ use Rattle.wire_write.specs.Shortest.{SpellsIn, ShortestFault}
 use Rattle.wire_page.specs.Told.{stopped}
 
 -- all of the bytes spell records within the limits, or the fault is told
-pub record Validates (l : Limits) (all : List ℕ) (stop : FaultNumbers) : Type 0 where
+pub record TellsCheck (l : Limits) (all : List ℕ) (stop : FaultNumbers) : Type 0 where
   pub checked : Result (Unit {0}) Fault
   pub ok : OnOk checked ((fs : Fields) × SpellsIn l fs all × (stop ≡ stopped 1))
   pub fault : IfErr checked (IsFault l all)
   pub told : IfErr checked (λ f. stop ≡ told_fault f)
 
 -- what the page is told of a refusal: the fault, or how much room is wanted
-abbrev pub ToldError : ShortestError → ℕ → FaultNumbers → Type 0
-ToldError (errors.Fault f) len stop = (len ≡ 0) × (stop ≡ told_fault f)
-ToldError (errors.NoRoom wanted) len stop = (len ≡ wanted) × (stop ≡ stopped 0)
+abbrev pub ToldRefusal : ShortestError → ℕ → FaultNumbers → Type 0
+ToldRefusal (errors.Fault f) len stop = (len ≡ 0) × (stop ≡ told_fault f)
+ToldRefusal (errors.NoRoom wanted) len stop = (len ≡ wanted) × (stop ≡ stopped 0)
 
 -- the shortest encoding stands at the front of the room, or a refusal is told
-pub record Shortens (l : Limits) (all old new : List ℕ) (len : ℕ)
+pub record TellsShortest (l : Limits) (all old new : List ℕ) (len : ℕ)
     (stop : FaultNumbers) : Type 0 where
   pub written : Result ℕ ShortestError
   pub ok : IfOk written (λ n. (fs : Fields) × SpellsIn l fs all × FillsSlice (text_of fs) 0 old new n)
   pub err : IfErr written (ShortestFault l all old)
   pub unchanged : OnErr written (new ≡ old)
   pub told_ok : IfOk written (λ n. (len ≡ n) × (stop ≡ stopped 1))
-  pub told_error : IfErr written (λ e. ToldError e len stop)
+  pub told_error : IfErr written (λ e. ToldRefusal e len stop)
 
 -- a varint stands at the front of the bytes and takes so many of them, or none does
 pub record HasPrefix (all : List ℕ) (old new taken : ℕ) (stop : FaultNumbers) : Type 0 where

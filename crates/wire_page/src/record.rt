@@ -1,6 +1,6 @@
 //! An event as a record in memory.
 ghost use Rattle.std.specs.Prelude.{◌≡◌};
-ghost use Rattle.wire_page.specs.Told.{told_event};
+ghost use Rattle.wire_page.specs.Told.{page_record};
 
 use wire_read::Event;
 use wire_read::numbers::{kind_of, value_of};
@@ -24,7 +24,7 @@ pub struct Record {
 
 /// An event, as the page is told.
 pub(crate) fn tell_event(event: &Event<'_>) -> Record
-    ensures { result ≡ told_event event.now }
+    ensures { result ≡ page_record event.now }
 {
     Record {
         kind: kind_of(event.value),

@@ -1,7 +1,7 @@
 //! Calls on all of some bytes.
 ghost use Rattle.wire_read.specs.Budget.{read_limits};
 ghost use Rattle.wire_read.specs.Numbers.{context_of};
-ghost use Rattle.wire_page.specs.Whole.{Validates, Shortens, HasPrefix};
+ghost use Rattle.wire_page.specs.Whole.{TellsCheck, TellsShortest, HasPrefix};
 
 use crate::stop::{DONE, MORE, stopped};
 use wire_read::numbers::{FaultNumbers, LimitNumbers, context_of, status_of, tell_fault};
@@ -10,7 +10,7 @@ use wire_write::ShortestError;
 /// Whether all of the bytes are records within the limits: `stop` is `DONE`, or the fault.
 #[unsafe(no_mangle)]
 pub extern "C" fn page_validate(bytes: &[u8], limits: &LimitNumbers, stop: &mut FaultNumbers)
-    ensures { Validates (read_limits (context_of limits.now)) bytes.now stop.new }
+    ensures { TellsCheck (read_limits (context_of limits.now)) bytes.now stop.new }
 {
     *stop = match wire_read::validate(bytes, &context_of(limits)) {
         Ok(()) => stopped(DONE),
@@ -28,7 +28,7 @@ pub extern "C" fn page_shortest(
     room: &mut [u8],
     stop: &mut FaultNumbers,
 ) -> usize
-    ensures { Shortens (read_limits (context_of limits.now)) bytes.now room.old room.new
+    ensures { TellsShortest (read_limits (context_of limits.now)) bytes.now room.old room.new
         result stop.new }
 {
     match wire_write::write_shortest(bytes, &context_of(limits), room) {

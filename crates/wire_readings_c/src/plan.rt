@@ -9,13 +9,16 @@ ghost use Rattle.wire_fields.specs.Shape.{NotDecodedAs};
 ghost use Rattle.wire_readings.specs.Plan.{done-of-plan, plan-known, plan-shape};
 ghost use Rattle.wire_readings.specs.PlanInC.{Plan-IsZero, plan-encoding, plan-seen, plan-shown};
 ghost use Rattle.wire_readings.specs.Visit.{visit-shape};
+ghost use Rattle.wire_structs.specs.Refused.{IsDecoded, IsRefusedAt};
 ghost use Rattle.wire_structs.specs.Unknown.{HasStatus, OfUnknown};
+ghost use Rattle.wire_structs.specs.UnknownWalks.{GivesUnknown, HasNoUnknown};
 ghost use Rattle.wire_structs.specs.Walks.{EndsList, GivesNext, MakesElement, MakesNothing};
 ghost use Rattle.wire_structs.specs.Within.{DecodesSeen, within_numbers};
 
 use wire_read::numbers::LimitNumbers;
 use wire_readings::plan_in_c::{
-    PlanInC, plan_size, plan_size_keeping, read_plan, write_plan, write_plan_keeping,
+    PlanInC, plan_fault, plan_size, plan_size_keeping, plan_unknown_record, read_plan, write_plan,
+    write_plan_keeping,
 };
 use wire_readings::plan_in_c_lists::{PlanInCLists, next_plan_done};
 use wire_structs::{SliceInC, context_within, default_context};
@@ -48,6 +51,57 @@ pub extern "C" fn readings_plan_read_within<'a>(
 {
     let mut context = context_within(limits);
     read_plan(bytes, &mut context, message)
+}
+
+/// Looks whether all of the bytes are such a message, within the limits of `Message::decode`: 0,
+/// exactly where they are, and the place is behind the last byte. Else the number of the error, and
+/// the place is the byte at which the first record begins that is not taken.
+#[unsafe(no_mangle)]
+pub extern "C" fn readings_plan_fault(bytes: &[u8], place: &mut usize) -> u32
+    ensures ok { result ≡ 0 → IsDecoded plan-shape default_limits bytes.now }
+    ensures behind { result ≡ 0 → place.new ≡ length bytes.now }
+    ensures err { result ≢ 0 → NotDecodedAs plan-shape bytes.now }
+    ensures place { result ≢ 0 → IsRefusedAt plan-shape default_limits bytes.now place.new }
+{
+    let mut context = default_context();
+    plan_fault(bytes, &mut context, place)
+}
+
+/// The same within limits that the caller names, of whose levels no more than 100 are given.
+#[unsafe(no_mangle)]
+pub extern "C" fn readings_plan_fault_within(
+    bytes: &[u8],
+    limits: &LimitNumbers,
+    place: &mut usize,
+) -> u32
+    ensures ok { result ≡ 0 → IsDecoded plan-shape (within_numbers limits.now) bytes.now }
+    ensures behind { result ≡ 0 → place.new ≡ length bytes.now }
+    ensures err { result ≢ 0 → NotDecoded plan-shape.takes (within_numbers limits.now)
+        plan-shape.default bytes.now }
+    ensures place { result ≢ 0 → IsRefusedAt plan-shape (within_numbers limits.now)
+        bytes.now place.new }
+{
+    let mut context = context_within(limits);
+    plan_fault(bytes, &mut context, place)
+}
+
+/// Gives the next of the records of the walk that no field of the message owns, as it came, its tag
+/// and a group whole: 0, and the walk begins behind it; 1 where none is left; else the number of
+/// the error, where the bytes are no records up to the next such, or nest more than 100 groups.
+/// Without 0 the walk stays, and the element is of no bytes.
+#[unsafe(no_mangle)]
+pub extern "C" fn readings_plan_unknown_record<'a>(
+    walk: &mut SliceInC<'a>,
+    element: &mut SliceInC<'a>,
+) -> u32
+    ensures given { result ≡ 0 → GivesUnknown plan-known.owns walk.old.bytes.now
+        element.new.bytes.now walk.new.bytes.now }
+    ensures ended { result ≡ 1 → HasNoUnknown plan-known.owns walk.old.bytes.now }
+    ensures other { result ≢ 0 → result ≢ 1 → HasStatus walk.old.bytes.now result }
+    ensures stays { result ≢ 0 → walk.new ≡ walk.old }
+    ensures empty { result ≢ 0 → element.new.bytes.now ≡ [] }
+{
+    plan_unknown_record(walk, element)
 }
 
 /// How many bytes the encoding of what the struct shows takes, each record in its shortest form, or

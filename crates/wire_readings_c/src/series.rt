@@ -19,13 +19,16 @@ ghost use Rattle.wire_readings.specs.SeriesInC.{Series-IsZero, series-encoding, 
 ghost use Rattle.wire_readings.specs.SeriesInC.{series-shown};
 ghost use Rattle.wire_readings.specs.State.{state-number, state-of};
 ghost use Rattle.wire_structs.specs.NumberWalks.{EndsNumbers, GivesNumber, LeadsNowhere};
+ghost use Rattle.wire_structs.specs.Refused.{IsDecoded, IsRefusedAt};
 ghost use Rattle.wire_structs.specs.Unknown.{HasStatus, OfUnknown};
+ghost use Rattle.wire_structs.specs.UnknownWalks.{GivesUnknown, HasNoUnknown};
 ghost use Rattle.wire_structs.specs.Walks.{EndsList, GivesNext, IsElement, MakesNothing};
 ghost use Rattle.wire_structs.specs.Within.{DecodesSeen, within_numbers};
 
 use wire_read::numbers::LimitNumbers;
 use wire_readings::series_in_c::{
-    SeriesInC, read_series, series_size, series_size_keeping, write_series, write_series_keeping,
+    SeriesInC, read_series, series_fault, series_size, series_size_keeping, series_unknown_record,
+    write_series, write_series_keeping,
 };
 use wire_readings::series_in_c_lists::{
     SeriesInCLists, next_series_addresses, next_series_factors, next_series_marks,
@@ -62,6 +65,57 @@ pub extern "C" fn readings_series_read_within<'a>(
 {
     let mut context = context_within(limits);
     read_series(bytes, &mut context, message)
+}
+
+/// Looks whether all of the bytes are such a message, within the limits of `Message::decode`: 0,
+/// exactly where they are, and the place is behind the last byte. Else the number of the error, and
+/// the place is the byte at which the first record begins that is not taken.
+#[unsafe(no_mangle)]
+pub extern "C" fn readings_series_fault(bytes: &[u8], place: &mut usize) -> u32
+    ensures ok { result ≡ 0 → IsDecoded series-shape default_limits bytes.now }
+    ensures behind { result ≡ 0 → place.new ≡ length bytes.now }
+    ensures err { result ≢ 0 → NotDecodedAs series-shape bytes.now }
+    ensures place { result ≢ 0 → IsRefusedAt series-shape default_limits bytes.now place.new }
+{
+    let mut context = default_context();
+    series_fault(bytes, &mut context, place)
+}
+
+/// The same within limits that the caller names, of whose levels no more than 100 are given.
+#[unsafe(no_mangle)]
+pub extern "C" fn readings_series_fault_within(
+    bytes: &[u8],
+    limits: &LimitNumbers,
+    place: &mut usize,
+) -> u32
+    ensures ok { result ≡ 0 → IsDecoded series-shape (within_numbers limits.now) bytes.now }
+    ensures behind { result ≡ 0 → place.new ≡ length bytes.now }
+    ensures err { result ≢ 0 → NotDecoded series-shape.takes (within_numbers limits.now)
+        series-shape.default bytes.now }
+    ensures place { result ≢ 0 → IsRefusedAt series-shape (within_numbers limits.now)
+        bytes.now place.new }
+{
+    let mut context = context_within(limits);
+    series_fault(bytes, &mut context, place)
+}
+
+/// Gives the next of the records of the walk that no field of the message owns, as it came, its tag
+/// and a group whole: 0, and the walk begins behind it; 1 where none is left; else the number of
+/// the error, where the bytes are no records up to the next such, or nest more than 100 groups.
+/// Without 0 the walk stays, and the element is of no bytes.
+#[unsafe(no_mangle)]
+pub extern "C" fn readings_series_unknown_record<'a>(
+    walk: &mut SliceInC<'a>,
+    element: &mut SliceInC<'a>,
+) -> u32
+    ensures given { result ≡ 0 → GivesUnknown series-known.owns walk.old.bytes.now
+        element.new.bytes.now walk.new.bytes.now }
+    ensures ended { result ≡ 1 → HasNoUnknown series-known.owns walk.old.bytes.now }
+    ensures other { result ≢ 0 → result ≢ 1 → HasStatus walk.old.bytes.now result }
+    ensures stays { result ≢ 0 → walk.new ≡ walk.old }
+    ensures empty { result ≢ 0 → element.new.bytes.now ≡ [] }
+{
+    series_unknown_record(walk, element)
 }
 
 /// How many bytes the encoding of what the struct shows takes, each record in its shortest form, or

@@ -42,7 +42,7 @@ use Rattle.wire_report.specs.declared.report.Report.{Report}
 use Rattle.wire_report.specs.declared.report_level.ReportLevel.{ReportLevel}
 use Rattle.wire_report.specs.declared.report_view.ReportView.{ReportView}
 use Rattle.wire_views.specs.Entries.{map_with}
-use Rattle.wire_views.specs.Spans.{fields_of}
+use Rattle.wire_views.specs.Spans.{span_fields}
 
 abbrev pub report-host-kind : Lawful (List ℕ)
 report-host-kind = implicit string
@@ -256,7 +256,7 @@ report-view_value m = (
       m.type_,
     ),
   ),
-  fields_of m.unknown.items,
+  span_fields m.unknown.items,
 )
 
 abbrev pub host-of-report : Report-Value → List ℕ

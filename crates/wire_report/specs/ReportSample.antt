@@ -20,7 +20,7 @@ use Rattle.wire_fields.specs.declared.form.Form.TheVariants.{Fixed64, Varint}
 use Rattle.wire_report.specs.declared.report_sample.ReportSample.{ReportSample}
 use Rattle.wire_report.specs.declared.report_sample_view.ReportSampleView.{ReportSampleView}
 use Rattle.wire_views.specs.Rows.{all_grouped, in_rows, paired, single}
-use Rattle.wire_views.specs.Spans.{fields_of}
+use Rattle.wire_views.specs.Spans.{span_fields}
 
 abbrev pub report_sample-name-kind : Lawful (List ℕ)
 report_sample-name-kind = implicit string
@@ -71,7 +71,7 @@ report_sample-view_value m = (
     ),
     option_map (λ v. v) m.count,
   ),
-  fields_of m.unknown.items,
+  span_fields m.unknown.items,
 )
 
 abbrev pub name-of-report_sample : ReportSample-Value → List ℕ

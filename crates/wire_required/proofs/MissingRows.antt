@@ -5,7 +5,7 @@ use Rattle.std.specs.Prelude.{Some, None}
 use Rattle.wire_fields.specs.Nest.{Nest, nest, Rows, done, row, Row, end, ahead, listed}
 use Rattle.wire_fields.specs.Nest.{leaf_of, rows_of, rows_row, row_at, count_rows, row_count}
 use Rattle.wire_fields.specs.NestTable.{Table, Family, message_at, empty_of}
-use Rattle.wire_required.specs.Missing.{Missing, at, each_from}
+use Rattle.wire_required.specs.Missing.{Missing, under, each_from}
 use Rattle.wire_required.specs.Nested.{Asked, AskedRow, family_missing, rows_missing, each_missing}
 use Rattle.wire_required.specs.Nested.{row_missing}
 use Rattle.wire_required.specs.Path.{PathPart, index}
@@ -66,7 +66,7 @@ module _ {S L : Type 0} (family : Family S L) (asked : Asked S L) (s : S) where
 -- the messages from the one at i on, of which the first has the index k
 next_from : {L : Type 0} (lacks : Nest L → Missing) (ms : List (Nest L)) (i k : ℕ) (d : Nest L)
     → i < length ms → each_from (λ m. m) k (drop i (map lacks ms))
-    ≡ option_or (at (index k) (lacks (get_or ms i d)))
+    ≡ option_or (under (index k) (lacks (get_or ms i d)))
     (each_from (λ m. m) (suc k) (drop (suc i) (map lacks ms)))
 next_from lacks [] i k d h = absurd (omega (arith, h))
 next_from lacks (m ∷ ms) zero k d h = refl
@@ -74,7 +74,7 @@ next_from lacks (m ∷ ms) (suc i) k d h = next_from lacks ms i k d (omega (arit
 
 pub next_message : {L : Type 0} (t : Table L) (lacks : Nest L → Missing) (ms : List (Nest L))
     (i : ℕ) → i < length ms → each_from (λ m. m) i (drop i (map lacks ms))
-    ≡ option_or (at (index i) (lacks (message_at t ms i)))
+    ≡ option_or (under (index i) (lacks (message_at t ms i)))
     (each_from (λ m. m) (i + 1) (drop (i + 1) (map lacks ms)))
 next_message t lacks ms i h = rw add-one (next_from lacks ms i i (empty_of t) h)
 

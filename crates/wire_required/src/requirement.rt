@@ -2,7 +2,7 @@
 ghost use Rattle.std.specs.Option.{option_or};
 ghost use Rattle.std.specs.Prelude.{◌≡◌, ℕ, List, IfOk, map};
 ghost use Rattle.wire_fields.specs.Maps.{viewed};
-ghost use Rattle.wire_required.specs.Missing.{Missing, at, each_from, entries_from, in_message};
+ghost use Rattle.wire_required.specs.Missing.{Missing, under, each_from, entries_from, in_message};
 ghost use Rattle.wire_required.specs.Path.{field};
 
 use crate::key::PathKey;
@@ -228,7 +228,7 @@ pub(crate) fn behind_field(
     path: Option<FieldPath>,
     name: &'static str,
 ) -> Result<Option<FieldPath>, AllocError>
-    ensures { IfOk result (λ longer. longer ≡ at (field name.now) path) }
+    ensures { IfOk result (λ longer. longer ≡ under (field name.now) path) }
 {
     match path {
         Some(path) => Ok(Some(path.behind(PathStep::Field(name))?)),

@@ -6,13 +6,13 @@ use Rattle.std.specs.Int.{w64}
 use Rattle.wire_codec.specs.Charge.{payload_charge, charge}
 use Rattle.wire_codec.specs.Field as grammar
 use Rattle.wire_codec.specs.InRange.{AreFitting, AreNumbered}
-use Rattle.wire_codec.specs.Laws.{JoinedAddsUp, FieldsArePlain}
+use Rattle.wire_codec.specs.Laws.{JoinedTextsAndSizes, FieldsArePlain}
 use Rattle.wire_codec.specs.Limits.{Charge, no_charge, both, nested, element_of}
 use Rattle.wire_codec.specs.LimitsLaws.{ChargesAddUp}
 use Rattle.wire_codec.specs.Records.{Records, plain, text, text_size, joined_records, of_fields}
 use Rattle.wire_codec.specs.Records as records
 use Rattle.wire_codec.specs.RecordLaws.{ShortestTextSpells}
-use Rattle.wire_codec.specs.ScalarLaws.{ReadsBack}
+use Rattle.wire_codec.specs.ScalarLaws.{DecodesBack}
 use Rattle.wire_codec.specs.Tag.{tag_text}
 use Rattle.wire_codec.specs.ValueMap.{sint64}
 use Rattle.wire_codec.specs.Varint.{shortest_varint}
@@ -71,7 +71,7 @@ step_in_front charges m mid z n p fs c step h =
     steps.one_more n p fs mid no_charge c refl step h (sym (charges.nothing_first c))
 
 -- a node with default parts up to the one that is folded
-value_folds : ChargesAddUp → ReadsBack sint64 (FitsSigned w64) → (v : ℤ) (z : NodeValue)
+value_folds : ChargesAddUp → DecodesBack sint64 (FitsSigned w64) → (v : ℤ) (z : NodeValue)
     (rest : Records) (c : Charge) → FitsSigned w64 v
     → NodeFolds (node v absent empty absent grammar.none) (plain rest) c z
     → NodeFolds default_node (plain (joined_records (sint64_field 1 v) rest)) c z
@@ -221,7 +221,7 @@ abbrev ListSmall : NodeList → Type 0
 ListSmall empty = Unit {0}
 ListSmall (ahead m ms) = (text_size (node_records m) ≤ 2147483647) × ListSmall ms
 
-size-joined : JoinedAddsUp → (rs qs : Records)
+size-joined : JoinedTextsAndSizes → (rs qs : Records)
     → text_size (joined_records rs qs) ≡ text_size rs + text_size qs
 size-joined joins rs qs = ap length (joins.text rs qs) ∙ length-append (text rs) (text qs)
 
@@ -269,7 +269,7 @@ group_small absent small = tt
 group_small (present m) small =
     omega (arith, small, group_within 4 (node_records m) records.none)
 
-parts_small : JoinedAddsUp → (v : ℤ) (child : MaybeNode) (children : NodeList)
+parts_small : JoinedTextsAndSizes → (v : ℤ) (child : MaybeNode) (children : NodeList)
     (group : MaybeNode) (kept : grammar.Fields)
     → text_size (node_records (node v child children group kept)) ≤ 2147483647
     → HeldSmall child × ListSmall children × HeldSmall group
@@ -287,8 +287,8 @@ parts_small joins v child children group kept small =
 
 -- ---- all of it
 
-module _ (charges : ChargesAddUp) (spells : ShortestTextSpells) (joins : JoinedAddsUp)
-    (back : ReadsBack sint64 (FitsSigned w64)) (same : FieldsArePlain) where
+module _ (charges : ChargesAddUp) (spells : ShortestTextSpells) (joins : JoinedTextsAndSizes)
+    (back : DecodesBack sint64 (FitsSigned w64)) (same : FieldsArePlain) where
   -- a node whose parts fold back
   level_back : (v : ℤ) (child : MaybeNode) (children : NodeList) (group : MaybeNode)
       (kept : grammar.Fields) → FitsSigned w64 v → AreUnknown IsNodeOther kept

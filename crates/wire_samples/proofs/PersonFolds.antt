@@ -8,12 +8,12 @@ use Rattle.wire_codec.specs.Charge.{payload_charge, charge}
 use Rattle.wire_codec.specs.Field as grammar
 use Rattle.wire_codec.specs.Folds.{Folds}
 use Rattle.wire_codec.specs.InRange.{AreFitting, AreNumbered}
-use Rattle.wire_codec.specs.Laws.{JoinedAddsUp, FieldsArePlain}
+use Rattle.wire_codec.specs.Laws.{JoinedTextsAndSizes, FieldsArePlain}
 use Rattle.wire_codec.specs.Limits.{Charge, no_charge}
 use Rattle.wire_codec.specs.LimitsLaws.{ChargesAddUp}
 use Rattle.wire_codec.specs.Packed.{SpellsEach}
 use Rattle.wire_codec.specs.Records.{Records, plain, text_size, joined_records, of_fields}
-use Rattle.wire_codec.specs.ScalarLaws.{ReadsBack}
+use Rattle.wire_codec.specs.ScalarLaws.{DecodesBack}
 use Rattle.wire_codec.specs.ValueMap.{int32}
 use Rattle.wire_codec.specs.Varint.{IsSpelling, shortest_varint}
 use Rattle.wire_codec.specs.VarintLaws.{ShortestReadsBack}
@@ -54,7 +54,7 @@ module _ (charges : ChargesAddUp) where
   step_in_front m mid z n p fs c step h =
       (mid, no_charge, c, step, h, sym (charges.nothing_first c))
 
-  id_folds : ReadsBack int32 (FitsSigned w32) → (m z : PersonValue) (v : ℤ) (rest : Records)
+  id_folds : DecodesBack int32 (FitsSigned w32) → (m z : PersonValue) (v : ℤ) (rest : Records)
       (c : Charge) → m.id ≡ pos 0 → FitsSigned w32 v
       → Folds PersonTakes (with_id m v) (plain rest) c z
       → Folds PersonTakes m (plain (joined_records (int32_field 1 v) rest)) c z
@@ -90,7 +90,7 @@ module _ (charges : ChargesAddUp) where
     spelled_each shortest vs (All-tail (FitsSigned w32) v vs h),
   )
 
-  read_each : ReadsBack int32 (FitsSigned w32) → (vs : List ℤ) → All (FitsSigned w32) vs
+  read_each : DecodesBack int32 (FitsSigned w32) → (vs : List ℤ) → All (FitsSigned w32) vs
       → vs ≡ map int32.dec (map int32.enc vs)
   read_each back [] h = refl
   read_each back (v ∷ vs) h =
@@ -98,7 +98,7 @@ module _ (charges : ChargesAddUp) where
       ∙ ap (λ (us : List ℤ). int32.dec (int32.enc v) ∷ us)
       (read_each back vs (All-tail (FitsSigned w32) v vs h))
 
-  scores_fold : ShortestReadsBack → ReadsBack int32 (FitsSigned w32) → (m z : PersonValue)
+  scores_fold : ShortestReadsBack → DecodesBack int32 (FitsSigned w32) → (m z : PersonValue)
       (vs : List ℤ) (rest : Records) (c : Charge) → m.scores ≡ [] → All (FitsSigned w32) vs
       → Folds PersonTakes (with_scores m vs) (plain rest) c z
       → Folds PersonTakes m (plain (joined_records (packed_int32_field 3 vs) rest)) c z
@@ -173,7 +173,7 @@ scores_numbered : (vs : List ℤ) (rest : Records) → AreNumbered (plain rest)
 scores_numbered [] rest h = h
 scores_numbered (v ∷ vs) rest h = ((omega arith, omega arith), tt, h)
 
-pub person_fitting : JoinedAddsUp → FieldsArePlain → (m : PersonValue) → IsPerson m
+pub person_fitting : JoinedTextsAndSizes → FieldsArePlain → (m : PersonValue) → IsPerson m
     → text_size (person_records m) ≤ 2147483647 → AreFitting (plain (person_records m))
 person_fitting joins same m h small =
     id_fitting m.id
@@ -196,7 +196,7 @@ person_numbered same m h =
 -- ---- all of it
 
 module _ (charges : ChargesAddUp) (shortest : ShortestReadsBack)
-    (back : ReadsBack int32 (FitsSigned w32)) (same : FieldsArePlain) where
+    (back : DecodesBack int32 (FitsSigned w32)) (same : FieldsArePlain) where
   pub person_folds : (m : PersonValue) → IsPerson m
       → Folds PersonTakes default_person (plain (person_records m)) (charge m.unknown) m
   person_folds m h =

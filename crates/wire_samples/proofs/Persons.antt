@@ -3,7 +3,7 @@ use Rattle.std.proofs.Common.{◌≡◌, ℕ, ◌+◌, ◌^◌, ◌<◌, ◌≤�
 use Rattle.std.proofs.Common.{length-append}
 use Rattle.std.specs.Prelude.{ℤ}
 use Rattle.wire_codec.specs.Field.{Fields}
-use Rattle.wire_codec.specs.Laws.{JoinedAddsUp, FieldsArePlain}
+use Rattle.wire_codec.specs.Laws.{JoinedTextsAndSizes, FieldsArePlain}
 use Rattle.wire_codec.specs.Records as records
 use Rattle.wire_codec.specs.Records.{Records, text, text_size, joined_records, of_fields}
 use Rattle.wire_codec.specs.Tag.{tag_text}
@@ -37,7 +37,7 @@ bytes_within n [] = omega arith
 bytes_within n (b ∷ more) = within n (b ∷ more)
 
 -- four lists of records, the last of the grammar
-four_texts : JoinedAddsUp → FieldsArePlain → (a b c : Records) (fs : Fields)
+four_texts : JoinedTextsAndSizes → FieldsArePlain → (a b c : Records) (fs : Fields)
     → text (joined_records a (joined_records b (joined_records c (of_fields fs))))
     ≡ text a ++ (text b ++ (text c ++ text_of fs))
 four_texts joins same a b c fs =
@@ -47,7 +47,7 @@ four_texts joins same a b c fs =
     ∙ ap (λ (gs : Fields). text a ++ (text b ++ (text c ++ text_of gs))) (same.plain fs)
 
 -- the packed scores and the name are no longer than the whole
-pub parts_fit : JoinedAddsUp → FieldsArePlain → (p : PersonValue)
+pub parts_fit : JoinedTextsAndSizes → FieldsArePlain → (p : PersonValue)
     → length (text (bytes_field 2 p.name)) + length (text (packed_int32_field 3 p.scores))
     ≤ text_size (person_records p)
 parts_fit joins same p =
@@ -64,12 +64,12 @@ parts_fit joins same p =
       length-append scores unknown,
     )
 
-pub scores_fit : JoinedAddsUp → FieldsArePlain → (p : PersonValue)
+pub scores_fit : JoinedTextsAndSizes → FieldsArePlain → (p : PersonValue)
     → text_size (person_records p) ≤ 2147483647 → length (packed_int32 p.scores) < 2 ^ 64
 scores_fit joins same p small =
     omega (arith, scores_within 3 p.scores, parts_fit joins same p)
 
-pub name_fits : JoinedAddsUp → FieldsArePlain → (p : PersonValue)
+pub name_fits : JoinedTextsAndSizes → FieldsArePlain → (p : PersonValue)
     → text_size (person_records p) ≤ 2147483647 → length p.name < 2 ^ 64
 name_fits joins same p small =
     omega (arith, bytes_within 2 p.name, parts_fit joins same p)

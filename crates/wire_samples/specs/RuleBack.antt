@@ -13,7 +13,7 @@ use Rattle.wire_fields.specs.Grounds.{Grounds, string_back, numeric_back, uint64
 use Rattle.wire_fields.specs.Nest.{nest, Rows, done, row, end, ahead, rows_row, set_rows}
 use Rattle.wire_fields.specs.NestBack.{beside_returned}
 use Rattle.wire_fields.specs.NestRange.{Beside, IsWithin, LeafBeside, GoesToLeaf, IsPlaceOf}
-use Rattle.wire_fields.specs.NestRange.{leaf_range, beside_range, known_back, all_runs}
+use Rattle.wire_fields.specs.NestRange.{leaf_range, beside_range, known_leaf_back, all_runs}
 use Rattle.wire_fields.specs.NestRange.{piece, followed, same_order}
 use Rattle.wire_fields.specs.NestTable.{alone}
 use Rattle.wire_fields.specs.Numbers.{numeric}
@@ -225,7 +225,7 @@ rule_back g = record {
   back = λ l holds. subst (λ rs. FoldsBack rule.takes rule.default (plain rs)
       (rule_leaf_range.charge_of l) l × AllAre (GoesToLeaf rule) (plain rs))
       (sym (rule_runs_in_order l))
-      (known_back g rule rule_known known_range (rule_known_returned g)
+      (known_leaf_back g rule rule_known known_range (rule_known_returned g)
       (λ n h. elim h [
         | inl h ↦ rw h refl
         | inr h ↦ elim h [ inl h ↦ rw h refl | inr h ↦ rw h refl ]

@@ -10,8 +10,8 @@ use Rattle.wire_scalar.specs.Reading.{ReadsValue}
 use Rattle.wire_scalar.specs.ValueMap.{ValueMap}
 
 -- what is read from the number that is written for a value is that value
-abbrev pub ReadsBack : {T : Type 0} → ValueMap T → (T → Type 0) → Type 0
-ReadsBack map InRange = (value : _) → InRange value → map.dec (map.enc value) ≡ value
+abbrev pub DecodesBack : {T : Type 0} → ValueMap T → (T → Type 0) → Type 0
+DecodesBack map InRange = (value : _) → InRange value → map.dec (map.enc value) ≡ value
 
 -- a value stands at the front of the text that is written for it, whatever follows
 abbrev pub TextReadsBack : {T : Type 0} → (ℕ → List ℕ → Type 0) → (ℕ → List ℕ) → ValueMap T

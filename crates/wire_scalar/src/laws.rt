@@ -2,24 +2,24 @@
 ghost use Rattle.std.specs.Prelude.{◌<◌, ◌^◌, FitsSigned};
 ghost use Rattle.std.specs.Int.{w32, w64, to_le_bytes};
 ghost use Rattle.wire_base.specs.Varint.{IsSpelling, shortest_varint};
-ghost use Rattle.wire_scalar.specs.Laws.{ReadsBack, TextReadsBack, VarintsAreCounted, FixedAreMultiples, OnePackedList, NoPackedListBesideFault, OnePackedFault, PackedListOrFaultStands};
+ghost use Rattle.wire_scalar.specs.Laws.{DecodesBack, TextReadsBack, VarintsAreCounted, FixedAreMultiples, OnePackedList, NoPackedListBesideFault, OnePackedFault, PackedListOrFaultStands};
 ghost use Rattle.wire_base.specs.Fixed.{IsFixed};
 ghost use Rattle.wire_scalar.specs.ValueMap.{int32, int64, uint32, uint64, sint32, sint64, bool, fixed32, fixed64, sfixed32, sfixed64};
 
 /// What is read from the number that is written for a value is that value, for every value of each
 /// type.
 pub fn values_read_back()
-    ensures int32 { ReadsBack int32 (FitsSigned w32) }
-    ensures int64 { ReadsBack int64 (FitsSigned w64) }
-    ensures uint32 { ReadsBack uint32 (λ value. value < 2 ^ 32) }
-    ensures uint64 { ReadsBack uint64 (λ value. value < 2 ^ 64) }
-    ensures sint32 { ReadsBack sint32 (FitsSigned w32) }
-    ensures sint64 { ReadsBack sint64 (FitsSigned w64) }
-    ensures bool { ReadsBack bool (λ _. Unit {0}) }
-    ensures fixed32 { ReadsBack fixed32 (λ value. value < 2 ^ 32) }
-    ensures fixed64 { ReadsBack fixed64 (λ value. value < 2 ^ 64) }
-    ensures sfixed32 { ReadsBack sfixed32 (FitsSigned w32) }
-    ensures sfixed64 { ReadsBack sfixed64 (FitsSigned w64) }
+    ensures int32 { DecodesBack int32 (FitsSigned w32) }
+    ensures int64 { DecodesBack int64 (FitsSigned w64) }
+    ensures uint32 { DecodesBack uint32 (λ value. value < 2 ^ 32) }
+    ensures uint64 { DecodesBack uint64 (λ value. value < 2 ^ 64) }
+    ensures sint32 { DecodesBack sint32 (FitsSigned w32) }
+    ensures sint64 { DecodesBack sint64 (FitsSigned w64) }
+    ensures bool { DecodesBack bool (λ _. Unit {0}) }
+    ensures fixed32 { DecodesBack fixed32 (λ value. value < 2 ^ 32) }
+    ensures fixed64 { DecodesBack fixed64 (λ value. value < 2 ^ 64) }
+    ensures sfixed32 { DecodesBack sfixed32 (FitsSigned w32) }
+    ensures sfixed64 { DecodesBack sfixed64 (FitsSigned w64) }
 {}
 
 /// A value stands at the front of the text that is written for it, whatever follows, for every

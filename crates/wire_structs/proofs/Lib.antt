@@ -2,6 +2,7 @@ pub mod Arms
 pub mod CountedLists
 pub mod CountedNumbers
 pub mod FirstRecords
+pub mod FirstRefused
 pub mod KeptTexts
 pub mod KeptUnknown
 pub mod NumberWalkLemmas
@@ -14,5 +15,6 @@ pub mod Shown
 pub mod UnknownKept
 pub mod UnknownReads
 pub mod UnknownSizes
+pub mod UnknownWalkLemmas
 pub mod WalkLemmas
 pub mod Writing

@@ -10,13 +10,13 @@ use Rattle.wire_codec.specs.WireType.{WireType}
 use Rattle.wire_fields.proofs.Reading.{back_to_bytes}
 use Rattle.wire_fields.specs.Numbers.{numeric, NoNumber}
 use Rattle.wire_fields.specs.Scalar.{NoScalar}
-use Rattle.wire_fields.specs.Texts.{delimited, string}
+use Rattle.wire_fields.specs.Texts.{length_delimited, string}
 use Rattle.wire_fields.specs.declared.form.Form.{Form}
 
 module _ (one : OneDelimited) (beside : NoDelimitedBesideFault) (n : ℕ) (w : WireType)
     (old : List ℕ) where
   pub no_delimited_value : (IsText : List ℕ → Type 0) (e : DecodeError)
-      → DelimitedFault None old e → NoScalar (delimited IsText) n w old
+      → DelimitedFault None old e → NoScalar (length_delimited IsText) n w old
   no_delimited_value IsText e fault v new h =
       beside None v old new e (back_to_bytes n w h.payload v old new h.sets.has h.read) tt fault
 

@@ -5,7 +5,7 @@ use Rattle.std.proofs.lemmas.List.{drop_all}
 use Rattle.wire_codec.specs.EncodeError.{EncodeError}
 use Rattle.wire_codec.specs.Enumeration.{number_of, known_or}
 use Rattle.wire_codec.specs.Field.{Payload}
-use Rattle.wire_codec.specs.Laws.{JoinedAddsUp}
+use Rattle.wire_codec.specs.Laws.{JoinedTextsAndSizes}
 use Rattle.wire_codec.specs.Records.{Records, none, field, embedded, joined_records, of_payload}
 use Rattle.wire_codec.specs.Records.{text, text_size}
 use Rattle.wire_codec.specs.Tag.{tag_text}
@@ -20,7 +20,7 @@ use Rattle.wire_fields.proofs.Messages.{next_message}
 
 -- ---- records one behind another
 
-module _ (joins : JoinedAddsUp) (a b : Records) where
+module _ (joins : JoinedTextsAndSizes) (a b : Records) where
   pub joined_len : (m n sum : ℕ) → m ≡ in_64_bits (text_size a) → n ≡ in_64_bits (text_size b)
       → sum ≡ min (m + n) (2 ^ 64 - 1) → sum ≡ in_64_bits (text_size (joined_records a b))
   joined_len m n sum one other is = omega (arith, one, other, is, size_joined joins a b)
@@ -98,7 +98,7 @@ whole_len n len rs is small = omega (arith, is, embedded_small n rs small)
 
 -- ---- messages one behind another
 
-module _ {T V : Type 0} (records : V → Records) (view : T → V) (n : ℕ) (joins : JoinedAddsUp)
+module _ {T V : Type 0} (records : V → Records) (view : T → V) (n : ℕ) (joins : JoinedTextsAndSizes)
     (ms : List T) where
   -- the records of messages
   abbrev each : List T → Records

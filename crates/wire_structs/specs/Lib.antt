@@ -6,7 +6,9 @@ pub mod NumberCounts
 pub mod NumberWalks
 pub mod Passed
 pub mod Payloads
+pub mod Refused
 pub mod Showing
 pub mod Unknown
+pub mod UnknownWalks
 pub mod Walks
 pub mod Within

@@ -18,7 +18,7 @@ use Rattle.wire_fields.specs.Packed.{adds_numbers}
 use Rattle.wire_fields.specs.Presence.{adds, sets, sets_some}
 use Rattle.wire_fields.specs.Scalar.{ScalarType}
 use Rattle.wire_fields.specs.Shape.{Lawful, Shape, keeps, known, on, two, unknown}
-use Rattle.wire_fields.specs.Texts.{any_bytes, delimited}
+use Rattle.wire_fields.specs.Texts.{any_bytes, length_delimited}
 use Rattle.wire_fields.specs.declared.form.Form.{Form}
 use Rattle.wire_fields.specs.declared.form.Form.TheVariants.{Varint, Fixed64, Fixed32}
 use Rattle.wire_structs.specs.Walks.{Makes}
@@ -43,7 +43,7 @@ pub flat_numeric : {T : Type 0} (form : Form) (map : ValueMap T) → IsFlat (num
 flat_numeric form map p v h =
     ap (λ x. (payload_charge x).depth) h.has ∙ flat_number form h.number
 
-pub flat_delimited : (IsText : List ℕ → Type 0) → IsFlat (delimited IsText)
+pub flat_delimited : (IsText : List ℕ → Type 0) → IsFlat (length_delimited IsText)
 flat_delimited IsText p v h = ap (λ x. (payload_charge x).depth) h.has
 
 module _ {V : Type 0} (t : ScalarType V) (flat : IsFlat t) where

@@ -12,7 +12,7 @@ use Rattle.wire_fields.specs.Grounds.{Grounds, numeric_back, sint64_back, string
 use Rattle.wire_fields.specs.Nest.{boxed_row, done, nest, row, row_count, row_of}
 use Rattle.wire_fields.specs.NestBack.{family_returned}
 use Rattle.wire_fields.specs.NestRange.{GoesToLeaf, IsPlaceOf, IsReadBack, LeafBack, all_runs}
-use Rattle.wire_fields.specs.NestRange.{family_range, followed, known_back, leaf_range, piece}
+use Rattle.wire_fields.specs.NestRange.{family_range, followed, known_leaf_back, leaf_range, piece}
 use Rattle.wire_fields.specs.NestRange.{same_order, table_back}
 use Rattle.wire_fields.specs.NestTable.{all_counted, as_it_was, as_they_were, empty_of}
 use Rattle.wire_fields.specs.NestTable.{family_records, family_single, family_takes, if_number}
@@ -275,7 +275,7 @@ pub call-known-back : (g : Grounds)
     → IsReadBack call-leaf.takes call-leaf.default call-leaf.records
     (GoesToLeaf call-table) call-range-of-leaf
 call-known-back g =
-    known_back g call-table call-known call-range-of-known
+    known_leaf_back g call-table call-known call-range-of-known
     (call-returned-of-known g) (λ n h. rw h refl)
 
 pub call-back : Grounds → LeafBack call-table (first_range call-range-of-leaf)
@@ -324,7 +324,7 @@ pub expression-known-back : (g : Grounds)
     → IsReadBack expression-leaf.takes expression-leaf.default expression-leaf.records
     (GoesToLeaf expression-table) expression-range-of-leaf
 expression-known-back g =
-    known_back g expression-table expression-known expression-range-of-known
+    known_leaf_back g expression-table expression-known expression-range-of-known
     (expression-returned-of-known g) (λ n h. rw h refl)
 
 pub expression-back : Grounds → LeafBack expression-table (second_range expression-range-of-leaf)

@@ -11,9 +11,9 @@ number_of number (Known e) = number e
 number_of number (Unknown n) = n
 
 -- the known value
-abbrev pub known : {E : Type 0} → EnumValue E → Option E
-known (Known e) = Some e
-known (Unknown n) = None
+abbrev pub known_value : {E : Type 0} → EnumValue E → Option E
+known_value (Known e) = Some e
+known_value (Unknown n) = None
 
 -- the known value of a number, if it has one, and else the number
 abbrev pub known_or : {E : Type 0} → Option E → ℤ → EnumValue E

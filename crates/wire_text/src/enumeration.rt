@@ -1,6 +1,6 @@
 //! Open enums: a field keeps the number of a value that its enum does not know.
 ghost use Rattle.std.specs.Prelude.{◌≡◌, ℕ, ℤ, pos, List, Option, Some, IfSome, is_some, is_none, ⊤};
-ghost use Rattle.wire_text.specs.Enumeration.{number_of, known, known_or, is_known_as, value_text, value_debug};
+ghost use Rattle.wire_text.specs.Enumeration.{number_of, known_value, known_or, is_known_as, value_text, value_debug};
 ghost use Rattle.wire_text.specs.declared.enumeration.EnumValue.TheVariants.{Known};
 
 pub(crate) mod laws;
@@ -81,21 +81,21 @@ impl<E: Enumeration> EnumValue<E> {
 
     /// Whether the enum has the value.
     pub fn is_known(&self) -> bool
-        ensures { result ≡ is_some (known self.now) }
+        ensures { result ≡ is_some (known_value self.now) }
     {
         matches!(self, EnumValue::Known(_))
     }
 
     /// Whether there is a number alone.
     pub fn is_unknown(&self) -> bool
-        ensures { result ≡ is_none (known self.now) }
+        ensures { result ≡ is_none (known_value self.now) }
     {
         matches!(self, EnumValue::Unknown(_))
     }
 
     /// The value, where the enum has it.
     pub fn as_known(&self) -> Option<E>
-        ensures { result ≡ known self.now }
+        ensures { result ≡ known_value self.now }
     {
         match self {
             EnumValue::Known(value) => Some(*value),

@@ -19,11 +19,11 @@ use Rattle.wire_base.specs.declared.error.DecodeError.{DecodeError}
 use Rattle.wire_base.specs.declared.error.DecodeError.TheVariants.{OutOfMemory}
 use Rattle.wire_base.specs.declared.tag.WireType.{WireType}
 use Rattle.wire_views.specs.SpelledOnce.{SpelledOnce, IsCountable, payload_code}
-use Rattle.wire_views.specs.Spans.{fields_of}
+use Rattle.wire_views.specs.Spans.{span_fields}
 use Rattle.wire_views.specs.declared.span.UnknownSpan.{UnknownSpan}
 
 fields_push : (spans : List UnknownSpan) (s : UnknownSpan)
-    → fields_of (spans ++ s ∷ []) ≡ push (fields_of spans) (tag_number s.tag) s.spelled.0
+    → span_fields (spans ++ s ∷ []) ≡ push (span_fields spans) (tag_number s.tag) s.spelled.0
 fields_push [] s = refl
 fields_push (x ∷ spans) s = ap (field (tag_number x.tag) x.spelled.0) (fields_push spans s)
 
@@ -72,10 +72,10 @@ spelled_once one n w p payload whole within = (
 
 pub span_kept : (spans next : List UnknownSpan) (s : UnknownSpan) (p : Payload)
     → IsPayload (tag_number s.tag) (tag_type s.tag) p s.payload.now → next ≡ spans ++ s ∷ []
-    → fields_of next ≡ push (fields_of spans) (tag_number s.tag) p
+    → span_fields next ≡ push (span_fields spans) (tag_number s.tag) p
 span_kept spans next s p whole is =
-    ap fields_of is ∙ fields_push spans s
-    ∙ ap (push (fields_of spans) (tag_number s.tag)) (sym (s.spelled.1.1 p whole))
+    ap span_fields is ∙ fields_push spans s
+    ∙ ap (push (span_fields spans) (tag_number s.tag)) (sym (s.spelled.1.1 p whole))
 
 -- ---- a span that is read again
 
@@ -90,15 +90,15 @@ span_owned one s p rest read =
 
 pub owned_span_more : OnePayload → (spans : List UnknownSpan) (i : ℕ) (s : UnknownSpan)
     → s ≡ get_or spans i s → (old new : Fields) (n : ℕ) (p : Payload) (rest : List ℕ)
-    → old ≡ fields_of (take i spans) → i < length spans → n ≡ tag_number s.tag
+    → old ≡ span_fields (take i spans) → i < length spans → n ≡ tag_number s.tag
     → Reads s.payload.now (IsPayload (tag_number s.tag) (tag_type s.tag) p) rest
-    → new ≡ push old n p → new ≡ fields_of (take (i + 1) spans)
+    → new ≡ push old n p → new ≡ span_fields (take (i + 1) spans)
 owned_span_more one spans i s at old new n p rest so within number read is =
     is ∙ ap (λ (fs : Fields). push fs n p) so
-    ∙ ap (λ k. push (fields_of (take i spans)) k p) number
-    ∙ ap (push (fields_of (take i spans)) (tag_number s.tag)) (span_owned one s p rest read)
+    ∙ ap (λ k. push (span_fields (take i spans)) k p) number
+    ∙ ap (push (span_fields (take i spans)) (tag_number s.tag)) (span_owned one s p rest read)
     ∙ sym (fields_push (take i spans) s)
-    ∙ ap fields_of (sym (take_more spans i s within
+    ∙ ap span_fields (sym (take_more spans i s within
     ∙ ap (λ (x : UnknownSpan). take i spans ++ x ∷ []) (sym at)))
 
 fits_widest : (p : Payload) → IsCountable p → Fits (payload_charge p) (counted 4294967295

@@ -11,7 +11,7 @@ use Rattle.wire_base.specs.Items.{Item, SpellsItems}
 use Rattle.wire_base.specs.TagView.{tag_number, tag_type}
 use Rattle.wire_base.specs.Text.{record_text, text_of}
 use Rattle.wire_fields.specs.Numbers.{in_64_bits}
-use Rattle.wire_views.specs.Spans.{fields_of}
+use Rattle.wire_views.specs.Spans.{span_fields}
 use Rattle.wire_views.specs.Tokens.{IsLeftOf, shortest_items}
 use Rattle.wire_views.specs.declared.span.UnknownSpan.{UnknownSpan}
 use Rattle.wire_views.proofs.ItemTexts.{left_items}
@@ -41,19 +41,19 @@ counted_span s r len counts is =
 
 -- ---- one behind another
 
-text_split : (s : UnknownSpan) (spans : List UnknownSpan) → text_of (fields_of (s ∷ spans))
-    ≡ record_text (tag_number s.tag) s.spelled.0 ++ text_of (fields_of spans)
-text_split s spans = sym (append_assoc _ _ (text_of (fields_of spans)))
+text_split : (s : UnknownSpan) (spans : List UnknownSpan) → text_of (span_fields (s ∷ spans))
+    ≡ record_text (tag_number s.tag) s.spelled.0 ++ text_of (span_fields spans)
+text_split s spans = sym (append_assoc _ _ (text_of (span_fields spans)))
 
 -- the next record, and those behind it
 pub next_span : (spans : List UnknownSpan) (i : ℕ) (s : UnknownSpan) → i < length spans
-    → s ≡ get_or spans i s → text_of (fields_of (drop i spans))
-    ≡ record_text (tag_number s.tag) s.spelled.0 ++ text_of (fields_of (drop (i + 1) spans))
+    → s ≡ get_or spans i s → text_of (span_fields (drop i spans))
+    ≡ record_text (tag_number s.tag) s.spelled.0 ++ text_of (span_fields (drop (i + 1) spans))
 next_span spans i s within is =
     let front : drop i spans ≡ s ∷ drop (i + 1) spans = rw (add-one, drop-cons spans i s)
     (ap (λ (x : UnknownSpan). x ∷ drop (suc i) spans) (sym is)) in
-    ap (λ xs. text_of (fields_of xs)) front ∙ text_split s (drop (i + 1) spans)
+    ap (λ xs. text_of (span_fields xs)) front ∙ text_split s (drop (i + 1) spans)
 
 pub no_span : (spans : List UnknownSpan) (i : ℕ) → length spans ≤ i
-    → text_of (fields_of (drop i spans)) ≡ []
-no_span spans i past = ap (λ xs. text_of (fields_of xs)) (drop_all i spans past)
+    → text_of (span_fields (drop i spans)) ≡ []
+no_span spans i past = ap (λ xs. text_of (span_fields xs)) (drop_all i spans past)

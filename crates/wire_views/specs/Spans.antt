@@ -6,9 +6,9 @@ use Rattle.wire_codec.specs.ValueMap.{int32}
 use Rattle.wire_views.specs.declared.span.UnknownSpan.{UnknownSpan}
 
 -- the records that the spans are
-abbrev pub fields_of : List UnknownSpan → Fields
-fields_of [] = none
-fields_of (s ∷ spans) = field (tag_number s.tag) s.spelled.0 (fields_of spans)
+abbrev pub span_fields : List UnknownSpan → Fields
+span_fields [] = none
+span_fields (s ∷ spans) = field (tag_number s.tag) s.spelled.0 (span_fields spans)
 
 -- the records and the one of a number, a varint, where a closed enum lacks it
 abbrev pub with_number : {E : Type 0} → ℕ → ℕ → Fields → Option E → Fields

@@ -5,7 +5,7 @@ ghost use Rattle.wire_codec.specs.Limits.{NoCountGrew};
 ghost use Rattle.wire_codec.specs.TagView.{tag_number, tag_type};
 ghost use Rattle.wire_codec.specs.Taking.{TakesRecord, IsCharged, NotTaken};
 ghost use Rattle.wire_fields.specs.Closed.{closes};
-ghost use Rattle.wire_views.specs.Spans.{fields_of};
+ghost use Rattle.wire_views.specs.Spans.{span_fields};
 
 use crate::span::UnknownSpan;
 use crate::unknown::front_of;
@@ -25,11 +25,11 @@ pub fn merge_closed<'a, E: Enumeration>(
 ) -> Result<(), DecodeError>
     ensures ok { OnOk result (IsCharged context.old context.new (λ c.
         TakesRecord (closes E.of_number) context.old (tag_number tag) (tag_type tag)
-        (held.old, fields_of spans.old.items) buf.old.now c
-        (held.new, fields_of spans.new.items) buf.new.now)) }
+        (held.old, span_fields spans.old.items) buf.old.now c
+        (held.new, span_fields spans.new.items) buf.new.now)) }
     ensures err { IfErr result (λ e. e ≢ OutOfMemory → NotTaken
         (TakesRecord (closes E.of_number) context.old (tag_number tag) (tag_type tag)
-        (held.old, fields_of spans.old.items) buf.old.now)) }
+        (held.old, span_fields spans.old.items) buf.old.now)) }
     ensures counts { OnErr result (NoCountGrew context.old context.new) }
 {
     laws::grammar::one_payload();

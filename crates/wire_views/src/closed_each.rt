@@ -12,7 +12,7 @@ ghost use Rattle.wire_codec.specs.ValueMap.{int32};
 ghost use Rattle.wire_codec.specs.Varint.{IsSpelling};
 ghost use Rattle.wire_codec.specs.WireType.TheVariants.{Varint};
 ghost use Rattle.wire_fields.specs.Closed.{HasNumbers, closes_each};
-ghost use Rattle.wire_views.specs.Spans.{fields_of, with_number, with_numbers};
+ghost use Rattle.wire_views.specs.Spans.{span_fields, with_number, with_numbers};
 
 use crate::span::UnknownSpan;
 use crate::unknown::front_of;
@@ -37,11 +37,11 @@ pub fn merge_closed_each<'a, E: Enumeration>(
 ) -> Result<(), DecodeError>
     ensures ok { OnOk result (IsCharged context.old context.new (λ c.
         TakesRecord (closes_each E.of_number) context.old (tag_number tag) (tag_type tag)
-        (held.old.items, fields_of spans.old.items) buf.old.now c
-        (held.new.items, fields_of spans.new.items) buf.new.now)) }
+        (held.old.items, span_fields spans.old.items) buf.old.now c
+        (held.new.items, span_fields spans.new.items) buf.new.now)) }
     ensures err { IfErr result (λ e. e ≢ OutOfMemory → NotTaken
         (TakesRecord (closes_each E.of_number) context.old (tag_number tag) (tag_type tag)
-        (held.old.items, fields_of spans.old.items) buf.old.now)) }
+        (held.old.items, span_fields spans.old.items) buf.old.now)) }
     ensures counts { OnErr result (NoCountGrew context.old context.new) }
 {
     let start = *buf;
@@ -80,8 +80,8 @@ fn keep_numbers<'a, E: Enumeration>(
 ) -> Result<(), DecodeError>
     requires { IsFieldNumber number }
     ensures ok { (xs : List ℕ) → SpellsEach IsSpelling xs numbers.now
-        → OnOk result (fields_of spans.new.items
-        ≡ with_numbers E.of_number number (fields_of spans.old.items) xs) }
+        → OnOk result (span_fields spans.new.items
+        ≡ with_numbers E.of_number number (span_fields spans.old.items) xs) }
     ensures err { (xs : List ℕ) → SpellsEach IsSpelling xs numbers.now
         → IfErr result (λ e. e ≡ OutOfMemory) }
 {
@@ -106,8 +106,8 @@ fn keep_number<'a, E: Enumeration>(
 ) -> Result<(), DecodeError>
     requires varint { tag_type tag ≡ Varint }
     requires spelled { IsSpelling x payload.now }
-    ensures ok { OnOk result (fields_of spans.new.items
-        ≡ with_number (tag_number tag) x (fields_of spans.old.items)
+    ensures ok { OnOk result (span_fields spans.new.items
+        ≡ with_number (tag_number tag) x (span_fields spans.old.items)
         (E.of_number (int32.dec x))) }
     ensures err { IfErr result (λ e. e ≡ OutOfMemory) }
 {

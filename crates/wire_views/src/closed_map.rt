@@ -11,7 +11,7 @@ ghost use Rattle.wire_fields.specs.ClosedMaps.{closed_value, IsEntryOf};
 ghost use Rattle.wire_fields.specs.Maps.{viewed};
 ghost use Rattle.wire_fields.specs.Numbers.{numeric};
 ghost use Rattle.wire_views.specs.Entries.{map_with, AddsKnown};
-ghost use Rattle.wire_views.specs.Spans.{fields_of};
+ghost use Rattle.wire_views.specs.Spans.{span_fields};
 
 use crate::copied::CopiedIn;
 use crate::map::{MapIn, push_entry};
@@ -110,11 +110,11 @@ pub trait ViewClosedMap<'a> {
     ) -> Result<(), DecodeError>
         ensures ok { OnOk result (IsCharged context.old context.new (λ c.
             TakesRecord closes context.old (tag_number tag) (tag_type tag)
-            (view held.old, fields_of spans.old.items) buf.old.now c
-            (view held.new, fields_of spans.new.items) buf.new.now)) }
+            (view held.old, span_fields spans.old.items) buf.old.now c
+            (view held.new, span_fields spans.new.items) buf.new.now)) }
         ensures err { IfErr result (λ e. e ≢ OutOfMemory → NotTaken
             (TakesRecord closes context.old (tag_number tag) (tag_type tag)
-            (view held.old, fields_of spans.old.items) buf.old.now)) }
+            (view held.old, span_fields spans.old.items) buf.old.now)) }
         ensures counts { OnErr result (NoCountGrew context.old context.new) };
 }
 

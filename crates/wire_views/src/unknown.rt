@@ -7,7 +7,7 @@ ghost use Rattle.wire_codec.specs.Limits.{NoCountGrew};
 ghost use Rattle.wire_codec.specs.TagView.{tag_number, tag_type};
 ghost use Rattle.wire_codec.specs.Taking.{TakesRecord, IsCharged, NotTaken};
 ghost use Rattle.wire_fields.specs.Shape.{keeps};
-ghost use Rattle.wire_views.specs.Spans.{fields_of};
+ghost use Rattle.wire_views.specs.Spans.{span_fields};
 
 use crate::passing::pass_unknown_field;
 use crate::span::UnknownSpan;
@@ -27,10 +27,10 @@ pub fn keep_span<'a>(
 ) -> Result<(), DecodeError>
     ensures ok { OnOk result (IsCharged context.old context.new (λ c.
         TakesRecord keeps context.old (tag_number tag) (tag_type tag)
-        (fields_of spans.old.items) buf.old.now c (fields_of spans.new.items) buf.new.now)) }
+        (span_fields spans.old.items) buf.old.now c (span_fields spans.new.items) buf.new.now)) }
     ensures err { IfErr result (λ e. e ≢ OutOfMemory → NotTaken
         (TakesRecord keeps context.old (tag_number tag) (tag_type tag)
-        (fields_of spans.old.items) buf.old.now)) }
+        (span_fields spans.old.items) buf.old.now)) }
     ensures counts { OnErr result (NoCountGrew context.old context.new) }
 {
     laws::grammar::no_payload_beside_fault();
@@ -56,7 +56,7 @@ pub(crate) fn front_of<'a>(start: &'a [u8], rest: &[u8]) -> &'a [u8]
 /// The same records with memory of their own. Refused where memory runs out. It recurses as deep as
 /// the groups of a span nest, which is within the levels of the context that kept it.
 pub fn own_spans(alloc: Global, spans: &[UnknownSpan<'_>]) -> Result<UnknownFields, DecodeError>
-    ensures ok { IfOk result (λ fields. fields ≡ fields_of spans.now) }
+    ensures ok { IfOk result (λ fields. fields ≡ span_fields spans.now) }
     ensures err { IfErr result (λ e. e ≡ OutOfMemory) }
 {
     laws::grammar::one_payload();

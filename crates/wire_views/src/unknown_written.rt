@@ -11,7 +11,7 @@ ghost use Rattle.wire_codec.specs.Tape.{advanced};
 ghost use Rattle.wire_codec.specs.Writes.{Writes};
 ghost use Rattle.wire_fields.specs.Measuring.{Measures};
 ghost use Rattle.wire_fields.specs.Numbers.{in_64_bits};
-ghost use Rattle.wire_views.specs.Spans.{fields_of};
+ghost use Rattle.wire_views.specs.Spans.{span_fields};
 ghost use Rattle.wire_views.specs.Tokens.{IsLeftOf, shortest_items};
 
 use crate::span::UnknownSpan;
@@ -21,7 +21,7 @@ use wire_codec::{EncodeError, EncodeSink, SizeCache, Tag, laws};
 
 /// How many bytes the records take, as the last row of a view: see `WrittenView::row_len`.
 pub fn spans_len(spans: &[UnknownSpan<'_>], cache: &mut SizeCache) -> Result<u64, EncodeError>
-    ensures ok { IfOk result (λ len. Measures (of_fields (fields_of spans.now))
+    ensures ok { IfOk result (λ len. Measures (of_fields (span_fields spans.now))
         cache.old cache.new len) }
     ensures err { IfErr result (λ e. e ≡ OutOfMemory) }
 {
@@ -36,10 +36,10 @@ pub fn put_spans<S: EncodeSink>(
     cache: &mut SizeCache,
     sink: &mut S,
 ) -> Result<(), EncodeError>
-    ensures written { Writes (text (of_fields (fields_of spans.now)))
+    ensures written { Writes (text (of_fields (span_fields spans.now)))
         (S.held sink.old) (S.held sink.new) result }
     ensures read { OnOk result (cache.new
-        ≡ advanced cache.old (length (sizes (of_fields (fields_of spans.now))))) }
+        ≡ advanced cache.old (length (sizes (of_fields (span_fields spans.now))))) }
 {
     laws::fields_are_plain();
     laws::flat_messages_have_no_sizes();
@@ -49,7 +49,7 @@ pub fn put_spans<S: EncodeSink>(
 
 // How many bytes the records take, or `u64::MAX` where it is more.
 fn total_len(spans: &[UnknownSpan<'_>]) -> u64
-    ensures { result ≡ in_64_bits (length (text_of (fields_of spans.now))) }
+    ensures { result ≡ in_64_bits (length (text_of (span_fields spans.now))) }
 {
     let mut size = 0u64;
     for span in spans {
@@ -60,7 +60,7 @@ fn total_len(spans: &[UnknownSpan<'_>]) -> u64
 
 // Writes the records.
 fn put_each<S: EncodeSink>(spans: &[UnknownSpan<'_>], sink: &mut S) -> Result<(), EncodeError>
-    ensures { Writes (text_of (fields_of spans.now)) (S.held sink.old) (S.held sink.new) result }
+    ensures { Writes (text_of (span_fields spans.now)) (S.held sink.old) (S.held sink.new) result }
 {
     laws::piece_by_piece();
     for span in spans {

@@ -12,7 +12,7 @@ use Rattle.wire_fields.specs.Returned.{whole_returned}
 use Rattle.wire_fields.specs.Shape.{Lawful, Shape, known, two, unknown}
 use Rattle.wire_fields.specs.Texts.{any_bytes, string}
 use Rattle.wire_views.specs.Rows.{all_grouped, in_rows, paired, single}
-use Rattle.wire_views.specs.Spans.{fields_of}
+use Rattle.wire_views.specs.Spans.{span_fields}
 use Rattle.wire_well_known.specs.declared.any.Any.{Any}
 use Rattle.wire_well_known.specs.declared.any_view.AnyView.{AnyView}
 
@@ -52,7 +52,7 @@ any-view_value m = (
     m.type_url.now,
     m.value.now,
   ),
-  fields_of m.unknown.items,
+  span_fields m.unknown.items,
 )
 
 abbrev pub type_url-of-any : Any-Value → List ℕ

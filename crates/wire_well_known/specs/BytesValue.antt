@@ -11,7 +11,7 @@ use Rattle.wire_fields.specs.Returned.{Returned, implicit_returned, known_return
 use Rattle.wire_fields.specs.Shape.{Lawful, Shape, known, two, unknown}
 use Rattle.wire_fields.specs.Texts.{any_bytes}
 use Rattle.wire_views.specs.Rows.{all_grouped, in_rows, paired, single}
-use Rattle.wire_views.specs.Spans.{fields_of}
+use Rattle.wire_views.specs.Spans.{span_fields}
 use Rattle.wire_well_known.specs.declared.bytes_value.BytesValue.{BytesValue}
 use Rattle.wire_well_known.specs.declared.bytes_value_view.BytesValueView.{BytesValueView}
 
@@ -38,7 +38,7 @@ bytes_value-value m = (
 abbrev pub bytes_value-view_value : BytesValueView → BytesValue-Value
 bytes_value-view_value m = (
   m.value.now,
-  fields_of m.unknown.items,
+  span_fields m.unknown.items,
 )
 
 abbrev pub value-of-bytes_value : BytesValue-Value → List ℕ

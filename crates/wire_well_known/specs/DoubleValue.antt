@@ -14,7 +14,7 @@ use Rattle.wire_fields.specs.Shape.{Lawful, Shape, known, two, unknown}
 use Rattle.wire_fields.specs.declared.floats.DoubleBits.{DoubleBits}
 use Rattle.wire_fields.specs.declared.form.Form.TheVariants.{Fixed64}
 use Rattle.wire_views.specs.Rows.{all_grouped, in_rows, paired, single}
-use Rattle.wire_views.specs.Spans.{fields_of}
+use Rattle.wire_views.specs.Spans.{span_fields}
 use Rattle.wire_well_known.specs.declared.double_value.DoubleValue.{DoubleValue}
 use Rattle.wire_well_known.specs.declared.double_value_view.DoubleValueView.{DoubleValueView}
 
@@ -41,7 +41,7 @@ double_value-value m = (
 abbrev pub double_value-view_value : DoubleValueView → DoubleValue-Value
 double_value-view_value m = (
   m.value,
-  fields_of m.unknown.items,
+  span_fields m.unknown.items,
 )
 
 abbrev pub value-of-double_value : DoubleValue-Value → DoubleBits

@@ -14,7 +14,7 @@ use Rattle.wire_fields.specs.Returned.{whole_returned}
 use Rattle.wire_fields.specs.Shape.{Lawful, Shape, known, two, unknown}
 use Rattle.wire_fields.specs.declared.form.Form.TheVariants.{Varint}
 use Rattle.wire_views.specs.Rows.{all_grouped, in_rows, paired, single}
-use Rattle.wire_views.specs.Spans.{fields_of}
+use Rattle.wire_views.specs.Spans.{span_fields}
 use Rattle.wire_well_known.specs.declared.duration.Duration.{Duration}
 use Rattle.wire_well_known.specs.declared.duration_view.DurationView.{DurationView}
 
@@ -54,7 +54,7 @@ duration-view_value m = (
     m.seconds,
     m.nanos,
   ),
-  fields_of m.unknown.items,
+  span_fields m.unknown.items,
 )
 
 abbrev pub seconds-of-duration : Duration-Value → ℤ

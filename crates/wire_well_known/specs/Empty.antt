@@ -9,7 +9,7 @@ use Rattle.wire_fields.specs.Ranges.{Range, unknown_range}
 use Rattle.wire_fields.specs.Returned.{Returned, unknown_returned}
 use Rattle.wire_fields.specs.Shape.{Shape, unknown}
 use Rattle.wire_views.specs.Rows.{all_grouped, in_rows, single}
-use Rattle.wire_views.specs.Spans.{fields_of}
+use Rattle.wire_views.specs.Spans.{span_fields}
 use Rattle.wire_well_known.specs.declared.empty.Empty.{Empty}
 use Rattle.wire_well_known.specs.declared.empty_view.EmptyView.{EmptyView}
 
@@ -21,7 +21,7 @@ empty-value m = m.unknown
 
 -- the same of its view
 abbrev pub empty-view_value : EmptyView → Empty-Value
-empty-view_value m = fields_of m.unknown.items
+empty-view_value m = span_fields m.unknown.items
 
 abbrev pub empty-shape : Shape Empty-Value
 empty-shape = unknown

@@ -11,7 +11,7 @@ use Rattle.wire_fields.specs.Returned.{Returned, known_returned, repeated_return
 use Rattle.wire_fields.specs.Shape.{Lawful, Shape, known, two, unknown}
 use Rattle.wire_fields.specs.Texts.{string}
 use Rattle.wire_views.specs.Rows.{all_grouped, in_rows, paired, single}
-use Rattle.wire_views.specs.Spans.{fields_of}
+use Rattle.wire_views.specs.Spans.{span_fields}
 use Rattle.wire_well_known.specs.declared.field_mask.FieldMask.{FieldMask}
 use Rattle.wire_well_known.specs.declared.field_mask_view.FieldMaskView.{FieldMaskView}
 
@@ -38,7 +38,7 @@ field_mask-value m = (
 abbrev pub field_mask-view_value : FieldMaskView → FieldMask-Value
 field_mask-view_value m = (
   map (λ s. s.now) m.paths.items,
-  fields_of m.unknown.items,
+  span_fields m.unknown.items,
 )
 
 abbrev pub paths-of-field_mask : FieldMask-Value → List (List ℕ)

@@ -14,7 +14,7 @@ use Rattle.wire_fields.specs.Shape.{Lawful, Shape, known, two, unknown}
 use Rattle.wire_fields.specs.declared.floats.FloatBits.{FloatBits}
 use Rattle.wire_fields.specs.declared.form.Form.TheVariants.{Fixed32}
 use Rattle.wire_views.specs.Rows.{all_grouped, in_rows, paired, single}
-use Rattle.wire_views.specs.Spans.{fields_of}
+use Rattle.wire_views.specs.Spans.{span_fields}
 use Rattle.wire_well_known.specs.declared.float_value.FloatValue.{FloatValue}
 use Rattle.wire_well_known.specs.declared.float_value_view.FloatValueView.{FloatValueView}
 
@@ -41,7 +41,7 @@ float_value-value m = (
 abbrev pub float_value-view_value : FloatValueView → FloatValue-Value
 float_value-view_value m = (
   m.value,
-  fields_of m.unknown.items,
+  span_fields m.unknown.items,
 )
 
 abbrev pub value-of-float_value : FloatValue-Value → FloatBits

@@ -21,7 +21,7 @@ use Rattle.wire_fields.specs.NestChoice.{beside_row, in_first, no_variant, rows_
 use Rattle.wire_fields.specs.NestChoice.{second_choice}
 use Rattle.wire_fields.specs.NestRange.{Beside, GoesToLeaf, IsPlaceOf, IsReadBack, LeafBack}
 use Rattle.wire_fields.specs.NestRange.{LeafBeside, all_runs, any_beside, beside_range, followed}
-use Rattle.wire_fields.specs.NestRange.{known_back, leaf_range, piece, same_order, table_back}
+use Rattle.wire_fields.specs.NestRange.{known_leaf_back, leaf_range, piece, same_order, table_back}
 use Rattle.wire_fields.specs.NestTable.{all_counted, as_it_was, as_they_were, empty_of}
 use Rattle.wire_fields.specs.NestTable.{family_records, family_single, family_takes, if_number}
 use Rattle.wire_fields.specs.NestTable.{message_at}
@@ -34,7 +34,7 @@ use Rattle.wire_fields.specs.Sums.{first_back, first_range, first_single, first_
 use Rattle.wire_fields.specs.Sums.{of_second, second_back, second_range, second_single}
 use Rattle.wire_fields.specs.Sums.{second_takes}
 use Rattle.wire_fields.specs.Texts.{string}
-use Rattle.wire_views.specs.Spans.{fields_of}
+use Rattle.wire_views.specs.Spans.{span_fields}
 use Rattle.wire_well_known.specs.ValueKind.{ValueKind-Value, value_kind-is_plain, value_kind-range}
 use Rattle.wire_well_known.specs.ValueKind.{value_kind-returned, value_kind-shape, value_kind-spot}
 use Rattle.wire_well_known.specs.declared.list_value.ListValue.{ListValue, ListValue-F}
@@ -199,7 +199,7 @@ abbrev pub list_value-view_one : ListValueView-F ValueKind-Held Family-Tree Fami
 list_value-view_one m =
     nest (inl (
       tt,
-      fields_of m.unknown.items,
+      span_fields m.unknown.items,
     ))
     (row (row_of m.values.items) done)
 
@@ -208,7 +208,7 @@ abbrev pub struct_-view_one : StructView-F ValueKind-Held Family-Tree Family-Tre
 struct_-view_one m =
     nest (inr (inl (
       tt,
-      fields_of m.unknown.items,
+      span_fields m.unknown.items,
     )))
     (row (row_of m.fields.items) done)
 
@@ -217,7 +217,7 @@ abbrev pub struct_fields_entry-view_one : StructFieldsEntryView-F ValueKind-Held
 struct_fields_entry-view_one m =
     nest (inr (inr (inl (
       m.key.now,
-      fields_of m.unknown.items,
+      span_fields m.unknown.items,
     ))))
     (row (row_of (boxed_row m.value)) done)
 
@@ -237,7 +237,7 @@ abbrev pub value-view_one : ValueView-F ValueKind-Held Family-Tree Family-Tree F
 value-view_one m =
     nest (inr (inr (inr (
       (or_else value_kind-none m.kind).0,
-      fields_of m.unknown.items,
+      span_fields m.unknown.items,
     ))))
     (row (row_of (or_else value_kind-none m.kind).1.0) (row (row_of (or_else value_kind-none m.kind).1.1) done))
 
@@ -588,7 +588,7 @@ pub list_value-known-back : (g : Grounds)
     → IsReadBack list_value-leaf.takes list_value-leaf.default list_value-leaf.records
     (GoesToLeaf list_value-table) list_value-range-of-leaf
 list_value-known-back g =
-    known_back g list_value-table list_value-known list_value-range-of-known
+    known_leaf_back g list_value-table list_value-known list_value-range-of-known
     (list_value-returned-of-known g) (λ n h. absurd h)
 
 pub list_value-back : Grounds → LeafBack list_value-table (first_range list_value-range-of-leaf)
@@ -637,7 +637,7 @@ pub struct_-known-back : (g : Grounds)
     → IsReadBack struct_-leaf.takes struct_-leaf.default struct_-leaf.records
     (GoesToLeaf struct_-table) struct_-range-of-leaf
 struct_-known-back g =
-    known_back g struct_-table struct_-known struct_-range-of-known
+    known_leaf_back g struct_-table struct_-known struct_-range-of-known
     (struct_-returned-of-known g) (λ n h. absurd h)
 
 pub struct_-back : Grounds → LeafBack struct_-table (second_range (first_range struct_-range-of-leaf))
@@ -689,7 +689,7 @@ pub struct_fields_entry-known-back : (g : Grounds)
     → IsReadBack struct_fields_entry-leaf.takes struct_fields_entry-leaf.default struct_fields_entry-leaf.records
     (GoesToLeaf struct_fields_entry-table) struct_fields_entry-range-of-leaf
 struct_fields_entry-known-back g =
-    known_back g struct_fields_entry-table struct_fields_entry-known struct_fields_entry-range-of-known
+    known_leaf_back g struct_fields_entry-table struct_fields_entry-known struct_fields_entry-range-of-known
     (struct_fields_entry-returned-of-known g) (λ n h. rw h refl)
 
 pub struct_fields_entry-back : Grounds → LeafBack struct_fields_entry-table (second_range (second_range (first_range struct_fields_entry-range-of-leaf)))
@@ -743,7 +743,7 @@ pub value-known-back : (g : Grounds)
     → IsReadBack value-leaf.takes value-leaf.default value-leaf.records
     (GoesToLeaf value-table) value-range-of-leaf
 value-known-back g =
-    known_back g value-table value-known value-range-of-known
+    known_leaf_back g value-table value-known value-range-of-known
     (value-returned-of-known g) (λ n h. elim h [
       | inl h ↦ elim h [
         | inl h ↦ elim h [

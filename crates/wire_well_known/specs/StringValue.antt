@@ -11,7 +11,7 @@ use Rattle.wire_fields.specs.Returned.{Returned, implicit_returned, known_return
 use Rattle.wire_fields.specs.Shape.{Lawful, Shape, known, two, unknown}
 use Rattle.wire_fields.specs.Texts.{string}
 use Rattle.wire_views.specs.Rows.{all_grouped, in_rows, paired, single}
-use Rattle.wire_views.specs.Spans.{fields_of}
+use Rattle.wire_views.specs.Spans.{span_fields}
 use Rattle.wire_well_known.specs.declared.string_value.StringValue.{StringValue}
 use Rattle.wire_well_known.specs.declared.string_value_view.StringValueView.{StringValueView}
 
@@ -38,7 +38,7 @@ string_value-value m = (
 abbrev pub string_value-view_value : StringValueView → StringValue-Value
 string_value-view_value m = (
   m.value.now,
-  fields_of m.unknown.items,
+  span_fields m.unknown.items,
 )
 
 abbrev pub value-of-string_value : StringValue-Value → List ℕ

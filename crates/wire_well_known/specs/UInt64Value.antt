@@ -13,7 +13,7 @@ use Rattle.wire_fields.specs.Returned.{Returned, implicit_returned, known_return
 use Rattle.wire_fields.specs.Shape.{Lawful, Shape, known, two, unknown}
 use Rattle.wire_fields.specs.declared.form.Form.TheVariants.{Varint}
 use Rattle.wire_views.specs.Rows.{all_grouped, in_rows, paired, single}
-use Rattle.wire_views.specs.Spans.{fields_of}
+use Rattle.wire_views.specs.Spans.{span_fields}
 use Rattle.wire_well_known.specs.declared.uint64_value.UInt64Value.{UInt64Value}
 use Rattle.wire_well_known.specs.declared.uint64_value_view.UInt64ValueView.{UInt64ValueView}
 
@@ -40,7 +40,7 @@ uint64_value-value m = (
 abbrev pub uint64_value-view_value : UInt64ValueView → UInt64Value-Value
 uint64_value-view_value m = (
   m.value,
-  fields_of m.unknown.items,
+  span_fields m.unknown.items,
 )
 
 abbrev pub value-of-uint64_value : UInt64Value-Value → ℕ

@@ -25,6 +25,9 @@ use std::mem::MaybeUninit;
 pub(crate) type ReadCall<T> = unsafe extern "C" fn(*const u8, usize, *mut T) -> u32;
 pub(crate) type ReadWithinCall<T> =
     unsafe extern "C" fn(*const u8, usize, *const Limits, *mut T) -> u32;
+pub(crate) type FaultCall = unsafe extern "C" fn(*const u8, usize, *mut usize) -> u32;
+pub(crate) type FaultWithinCall =
+    unsafe extern "C" fn(*const u8, usize, *const Limits, *mut usize) -> u32;
 pub(crate) type NextCall = for<'a> unsafe extern "C" fn(*mut Bytes<'a>, *mut Bytes<'a>) -> u32;
 pub(crate) type NextNumberCall<T> =
     for<'a> unsafe extern "C" fn(*mut NumbersWalk<'a>, *mut T) -> u32;
@@ -51,6 +54,8 @@ pub(crate) type WriteKeepingWithCall<T, L> =
 pub(crate) unsafe trait Struct<'a>: Copy {
     const READ: ReadCall<Self>;
     const READ_WITHIN: ReadWithinCall<Self>;
+    const FAULT: FaultCall;
+    const FAULT_WITHIN: FaultWithinCall;
 }
 
 /// One that is written alone.
@@ -86,7 +91,12 @@ pub(crate) fn read<'a, T: Struct<'a>>(bytes: &'a [u8]) -> Result<T, Refusal> {
     let mut it = MaybeUninit::zeroed();
     // SAFETY: the library reads these bytes and sets the struct, of which all zero is one.
     let status = unsafe { T::READ(bytes.as_ptr(), bytes.len(), it.as_mut_ptr()) };
-    told(status, it)
+    told(status, it).map_err(|refusal| {
+        let mut place = 0;
+        // SAFETY: the library reads these bytes and sets the place.
+        unsafe { T::FAULT(bytes.as_ptr(), bytes.len(), &mut place) };
+        refusal.at(place)
+    })
 }
 
 pub(crate) fn read_within<'a, T: Struct<'a>>(
@@ -96,7 +106,12 @@ pub(crate) fn read_within<'a, T: Struct<'a>>(
     let mut it = MaybeUninit::zeroed();
     // SAFETY: as of `read`, and it reads the limits.
     let status = unsafe { T::READ_WITHIN(bytes.as_ptr(), bytes.len(), limits, it.as_mut_ptr()) };
-    told(status, it)
+    told(status, it).map_err(|refusal| {
+        let mut place = 0;
+        // SAFETY: as of `read`, and it reads the limits.
+        unsafe { T::FAULT_WITHIN(bytes.as_ptr(), bytes.len(), limits, &mut place) };
+        refusal.at(place)
+    })
 }
 
 pub(crate) fn size<T: Written>(it: &T) -> usize {
@@ -234,10 +249,16 @@ impl<T: Copy + Default> Iterator for Numbers<'_, T> {
     }
 }
 
+pub(crate) fn unknown_of_marks(bytes: &[u8]) -> Walk<'_> {
+    Walk::new(bytes, readings_marks_unknown_record)
+}
+
 // SAFETY: the struct is that of the header, and the calls are its own.
 unsafe impl<'a> Struct<'a> for Marks<'a> {
     const READ: ReadCall<Self> = readings_marks_read;
     const READ_WITHIN: ReadWithinCall<Self> = readings_marks_read_within;
+    const FAULT: FaultCall = readings_marks_fault;
+    const FAULT_WITHIN: FaultWithinCall = readings_marks_fault_within;
 }
 
 // SAFETY: as above, and the lists are those of the header.
@@ -257,6 +278,14 @@ extern "C" {
         len: usize,
         limits: *const Limits,
         it: *mut Marks<'a>,
+    ) -> u32;
+    fn readings_marks_unknown_record<'a>(walk: *mut Bytes<'a>, element: *mut Bytes<'a>) -> u32;
+    fn readings_marks_fault(bytes: *const u8, len: usize, place: *mut usize) -> u32;
+    fn readings_marks_fault_within(
+        bytes: *const u8,
+        len: usize,
+        limits: *const Limits,
+        place: *mut usize,
     ) -> u32;
     fn readings_marks_size<'a, 'h>(it: *const Marks<'a>, lists: *const MarksLists<'h>) -> usize;
     fn readings_marks_write<'a, 'h>(
@@ -292,10 +321,16 @@ extern "C" {
     fn readings_marks_next_marks<'a>(walk: *mut NumbersWalk<'a>, number: *mut i64) -> u32;
 }
 
+pub(crate) fn unknown_of_series(bytes: &[u8]) -> Walk<'_> {
+    Walk::new(bytes, readings_series_unknown_record)
+}
+
 // SAFETY: the struct is that of the header, and the calls are its own.
 unsafe impl<'a> Struct<'a> for Series<'a> {
     const READ: ReadCall<Self> = readings_series_read;
     const READ_WITHIN: ReadWithinCall<Self> = readings_series_read_within;
+    const FAULT: FaultCall = readings_series_fault;
+    const FAULT_WITHIN: FaultWithinCall = readings_series_fault_within;
 }
 
 // SAFETY: as above, and the lists are those of the header.
@@ -315,6 +350,14 @@ extern "C" {
         len: usize,
         limits: *const Limits,
         it: *mut Series<'a>,
+    ) -> u32;
+    fn readings_series_unknown_record<'a>(walk: *mut Bytes<'a>, element: *mut Bytes<'a>) -> u32;
+    fn readings_series_fault(bytes: *const u8, len: usize, place: *mut usize) -> u32;
+    fn readings_series_fault_within(
+        bytes: *const u8,
+        len: usize,
+        limits: *const Limits,
+        place: *mut usize,
     ) -> u32;
     fn readings_series_size<'a, 'h>(it: *const Series<'a>, lists: *const SeriesLists<'h>) -> usize;
     fn readings_series_write<'a, 'h>(
@@ -414,10 +457,16 @@ extern "C" {
     fn readings_series_next_worst<'a>(walk: *mut NumbersWalk<'a>, number: *mut i32) -> u32;
 }
 
+pub(crate) fn unknown_of_point(bytes: &[u8]) -> Walk<'_> {
+    Walk::new(bytes, readings_point_unknown_record)
+}
+
 // SAFETY: the struct is that of the header, and the calls are its own.
 unsafe impl<'a> Struct<'a> for Point<'a> {
     const READ: ReadCall<Self> = readings_point_read;
     const READ_WITHIN: ReadWithinCall<Self> = readings_point_read_within;
+    const FAULT: FaultCall = readings_point_fault;
+    const FAULT_WITHIN: FaultWithinCall = readings_point_fault_within;
 }
 
 // SAFETY: as above.
@@ -437,6 +486,14 @@ extern "C" {
         len: usize,
         limits: *const Limits,
         it: *mut Point<'a>,
+    ) -> u32;
+    fn readings_point_unknown_record<'a>(walk: *mut Bytes<'a>, element: *mut Bytes<'a>) -> u32;
+    fn readings_point_fault(bytes: *const u8, len: usize, place: *mut usize) -> u32;
+    fn readings_point_fault_within(
+        bytes: *const u8,
+        len: usize,
+        limits: *const Limits,
+        place: *mut usize,
     ) -> u32;
     fn readings_point_size<'a>(it: *const Point<'a>) -> usize;
     fn readings_point_write<'a>(
@@ -461,10 +518,16 @@ extern "C" {
     ) -> u32;
 }
 
+pub(crate) fn unknown_of_settings(bytes: &[u8]) -> Walk<'_> {
+    Walk::new(bytes, readings_settings_unknown_record)
+}
+
 // SAFETY: the struct is that of the header, and the calls are its own.
 unsafe impl<'a> Struct<'a> for Settings<'a> {
     const READ: ReadCall<Self> = readings_settings_read;
     const READ_WITHIN: ReadWithinCall<Self> = readings_settings_read_within;
+    const FAULT: FaultCall = readings_settings_fault;
+    const FAULT_WITHIN: FaultWithinCall = readings_settings_fault_within;
 }
 
 // SAFETY: as above.
@@ -484,6 +547,14 @@ extern "C" {
         len: usize,
         limits: *const Limits,
         it: *mut Settings<'a>,
+    ) -> u32;
+    fn readings_settings_unknown_record<'a>(walk: *mut Bytes<'a>, element: *mut Bytes<'a>) -> u32;
+    fn readings_settings_fault(bytes: *const u8, len: usize, place: *mut usize) -> u32;
+    fn readings_settings_fault_within(
+        bytes: *const u8,
+        len: usize,
+        limits: *const Limits,
+        place: *mut usize,
     ) -> u32;
     fn readings_settings_size<'a>(it: *const Settings<'a>) -> usize;
     fn readings_settings_write<'a>(
@@ -508,10 +579,16 @@ extern "C" {
     ) -> u32;
 }
 
+pub(crate) fn unknown_of_reading(bytes: &[u8]) -> Walk<'_> {
+    Walk::new(bytes, readings_reading_unknown_record)
+}
+
 // SAFETY: the struct is that of the header, and the calls are its own.
 unsafe impl<'a> Struct<'a> for Reading<'a> {
     const READ: ReadCall<Self> = readings_reading_read;
     const READ_WITHIN: ReadWithinCall<Self> = readings_reading_read_within;
+    const FAULT: FaultCall = readings_reading_fault;
+    const FAULT_WITHIN: FaultWithinCall = readings_reading_fault_within;
 }
 
 // SAFETY: as above.
@@ -531,6 +608,14 @@ extern "C" {
         len: usize,
         limits: *const Limits,
         it: *mut Reading<'a>,
+    ) -> u32;
+    fn readings_reading_unknown_record<'a>(walk: *mut Bytes<'a>, element: *mut Bytes<'a>) -> u32;
+    fn readings_reading_fault(bytes: *const u8, len: usize, place: *mut usize) -> u32;
+    fn readings_reading_fault_within(
+        bytes: *const u8,
+        len: usize,
+        limits: *const Limits,
+        place: *mut usize,
     ) -> u32;
     fn readings_reading_size<'a>(it: *const Reading<'a>) -> usize;
     fn readings_reading_write<'a>(
@@ -555,10 +640,16 @@ extern "C" {
     ) -> u32;
 }
 
+pub(crate) fn unknown_of_totals_states_entry(bytes: &[u8]) -> Walk<'_> {
+    Walk::new(bytes, readings_totals_states_entry_unknown_record)
+}
+
 // SAFETY: the struct is that of the header, and the calls are its own.
 unsafe impl<'a> Struct<'a> for TotalsStatesEntry<'a> {
     const READ: ReadCall<Self> = readings_totals_states_entry_read;
     const READ_WITHIN: ReadWithinCall<Self> = readings_totals_states_entry_read_within;
+    const FAULT: FaultCall = readings_totals_states_entry_fault;
+    const FAULT_WITHIN: FaultWithinCall = readings_totals_states_entry_fault_within;
 }
 
 // SAFETY: as above.
@@ -578,6 +669,14 @@ extern "C" {
         len: usize,
         limits: *const Limits,
         it: *mut TotalsStatesEntry<'a>,
+    ) -> u32;
+    fn readings_totals_states_entry_unknown_record<'a>(walk: *mut Bytes<'a>, element: *mut Bytes<'a>) -> u32;
+    fn readings_totals_states_entry_fault(bytes: *const u8, len: usize, place: *mut usize) -> u32;
+    fn readings_totals_states_entry_fault_within(
+        bytes: *const u8,
+        len: usize,
+        limits: *const Limits,
+        place: *mut usize,
     ) -> u32;
     fn readings_totals_states_entry_size<'a>(it: *const TotalsStatesEntry<'a>) -> usize;
     fn readings_totals_states_entry_write<'a>(
@@ -602,10 +701,16 @@ extern "C" {
     ) -> u32;
 }
 
+pub(crate) fn unknown_of_totals_last_entry(bytes: &[u8]) -> Walk<'_> {
+    Walk::new(bytes, readings_totals_last_entry_unknown_record)
+}
+
 // SAFETY: the struct is that of the header, and the calls are its own.
 unsafe impl<'a> Struct<'a> for TotalsLastEntry<'a> {
     const READ: ReadCall<Self> = readings_totals_last_entry_read;
     const READ_WITHIN: ReadWithinCall<Self> = readings_totals_last_entry_read_within;
+    const FAULT: FaultCall = readings_totals_last_entry_fault;
+    const FAULT_WITHIN: FaultWithinCall = readings_totals_last_entry_fault_within;
 }
 
 // SAFETY: as above.
@@ -625,6 +730,14 @@ extern "C" {
         len: usize,
         limits: *const Limits,
         it: *mut TotalsLastEntry<'a>,
+    ) -> u32;
+    fn readings_totals_last_entry_unknown_record<'a>(walk: *mut Bytes<'a>, element: *mut Bytes<'a>) -> u32;
+    fn readings_totals_last_entry_fault(bytes: *const u8, len: usize, place: *mut usize) -> u32;
+    fn readings_totals_last_entry_fault_within(
+        bytes: *const u8,
+        len: usize,
+        limits: *const Limits,
+        place: *mut usize,
     ) -> u32;
     fn readings_totals_last_entry_size<'a>(it: *const TotalsLastEntry<'a>) -> usize;
     fn readings_totals_last_entry_write<'a>(
@@ -649,10 +762,16 @@ extern "C" {
     ) -> u32;
 }
 
+pub(crate) fn unknown_of_totals_sums_entry(bytes: &[u8]) -> Walk<'_> {
+    Walk::new(bytes, readings_totals_sums_entry_unknown_record)
+}
+
 // SAFETY: the struct is that of the header, and the calls are its own.
 unsafe impl<'a> Struct<'a> for TotalsSumsEntry<'a> {
     const READ: ReadCall<Self> = readings_totals_sums_entry_read;
     const READ_WITHIN: ReadWithinCall<Self> = readings_totals_sums_entry_read_within;
+    const FAULT: FaultCall = readings_totals_sums_entry_fault;
+    const FAULT_WITHIN: FaultWithinCall = readings_totals_sums_entry_fault_within;
 }
 
 // SAFETY: as above.
@@ -672,6 +791,14 @@ extern "C" {
         len: usize,
         limits: *const Limits,
         it: *mut TotalsSumsEntry<'a>,
+    ) -> u32;
+    fn readings_totals_sums_entry_unknown_record<'a>(walk: *mut Bytes<'a>, element: *mut Bytes<'a>) -> u32;
+    fn readings_totals_sums_entry_fault(bytes: *const u8, len: usize, place: *mut usize) -> u32;
+    fn readings_totals_sums_entry_fault_within(
+        bytes: *const u8,
+        len: usize,
+        limits: *const Limits,
+        place: *mut usize,
     ) -> u32;
     fn readings_totals_sums_entry_size<'a>(it: *const TotalsSumsEntry<'a>) -> usize;
     fn readings_totals_sums_entry_write<'a>(
@@ -696,10 +823,16 @@ extern "C" {
     ) -> u32;
 }
 
+pub(crate) fn unknown_of_totals(bytes: &[u8]) -> Walk<'_> {
+    Walk::new(bytes, readings_totals_unknown_record)
+}
+
 // SAFETY: the struct is that of the header, and the calls are its own.
 unsafe impl<'a> Struct<'a> for Totals<'a> {
     const READ: ReadCall<Self> = readings_totals_read;
     const READ_WITHIN: ReadWithinCall<Self> = readings_totals_read_within;
+    const FAULT: FaultCall = readings_totals_fault;
+    const FAULT_WITHIN: FaultWithinCall = readings_totals_fault_within;
 }
 
 // SAFETY: as above, and the lists are those of the header.
@@ -719,6 +852,14 @@ extern "C" {
         len: usize,
         limits: *const Limits,
         it: *mut Totals<'a>,
+    ) -> u32;
+    fn readings_totals_unknown_record<'a>(walk: *mut Bytes<'a>, element: *mut Bytes<'a>) -> u32;
+    fn readings_totals_fault(bytes: *const u8, len: usize, place: *mut usize) -> u32;
+    fn readings_totals_fault_within(
+        bytes: *const u8,
+        len: usize,
+        limits: *const Limits,
+        place: *mut usize,
     ) -> u32;
     fn readings_totals_size<'a, 'h>(it: *const Totals<'a>, lists: *const TotalsLists<'h>) -> usize;
     fn readings_totals_write<'a, 'h>(
@@ -770,10 +911,16 @@ extern "C" {
     fn readings_totals_next_states<'a>(walk: *mut Bytes<'a>, element: *mut Bytes<'a>) -> u32;
 }
 
+pub(crate) fn unknown_of_visit(bytes: &[u8]) -> Walk<'_> {
+    Walk::new(bytes, readings_visit_unknown_record)
+}
+
 // SAFETY: the struct is that of the header, and the calls are its own.
 unsafe impl<'a> Struct<'a> for Visit<'a> {
     const READ: ReadCall<Self> = readings_visit_read;
     const READ_WITHIN: ReadWithinCall<Self> = readings_visit_read_within;
+    const FAULT: FaultCall = readings_visit_fault;
+    const FAULT_WITHIN: FaultWithinCall = readings_visit_fault_within;
 }
 
 // SAFETY: as above.
@@ -793,6 +940,14 @@ extern "C" {
         len: usize,
         limits: *const Limits,
         it: *mut Visit<'a>,
+    ) -> u32;
+    fn readings_visit_unknown_record<'a>(walk: *mut Bytes<'a>, element: *mut Bytes<'a>) -> u32;
+    fn readings_visit_fault(bytes: *const u8, len: usize, place: *mut usize) -> u32;
+    fn readings_visit_fault_within(
+        bytes: *const u8,
+        len: usize,
+        limits: *const Limits,
+        place: *mut usize,
     ) -> u32;
     fn readings_visit_size<'a>(it: *const Visit<'a>) -> usize;
     fn readings_visit_write<'a>(
@@ -817,10 +972,16 @@ extern "C" {
     ) -> u32;
 }
 
+pub(crate) fn unknown_of_log(bytes: &[u8]) -> Walk<'_> {
+    Walk::new(bytes, readings_log_unknown_record)
+}
+
 // SAFETY: the struct is that of the header, and the calls are its own.
 unsafe impl<'a> Struct<'a> for Log<'a> {
     const READ: ReadCall<Self> = readings_log_read;
     const READ_WITHIN: ReadWithinCall<Self> = readings_log_read_within;
+    const FAULT: FaultCall = readings_log_fault;
+    const FAULT_WITHIN: FaultWithinCall = readings_log_fault_within;
 }
 
 // SAFETY: as above, and the lists are those of the header.
@@ -840,6 +1001,14 @@ extern "C" {
         len: usize,
         limits: *const Limits,
         it: *mut Log<'a>,
+    ) -> u32;
+    fn readings_log_unknown_record<'a>(walk: *mut Bytes<'a>, element: *mut Bytes<'a>) -> u32;
+    fn readings_log_fault(bytes: *const u8, len: usize, place: *mut usize) -> u32;
+    fn readings_log_fault_within(
+        bytes: *const u8,
+        len: usize,
+        limits: *const Limits,
+        place: *mut usize,
     ) -> u32;
     fn readings_log_size<'a, 'h>(it: *const Log<'a>, lists: *const LogLists<'h>) -> usize;
     fn readings_log_write<'a, 'h>(
@@ -907,10 +1076,16 @@ extern "C" {
     fn readings_log_next_more<'a>(walk: *mut Bytes<'a>, element: *mut Bytes<'a>) -> u32;
 }
 
+pub(crate) fn unknown_of_sensor(bytes: &[u8]) -> Walk<'_> {
+    Walk::new(bytes, readings_sensor_unknown_record)
+}
+
 // SAFETY: the struct is that of the header, and the calls are its own.
 unsafe impl<'a> Struct<'a> for Sensor<'a> {
     const READ: ReadCall<Self> = readings_sensor_read;
     const READ_WITHIN: ReadWithinCall<Self> = readings_sensor_read_within;
+    const FAULT: FaultCall = readings_sensor_fault;
+    const FAULT_WITHIN: FaultWithinCall = readings_sensor_fault_within;
 }
 
 // SAFETY: as above.
@@ -930,6 +1105,14 @@ extern "C" {
         len: usize,
         limits: *const Limits,
         it: *mut Sensor<'a>,
+    ) -> u32;
+    fn readings_sensor_unknown_record<'a>(walk: *mut Bytes<'a>, element: *mut Bytes<'a>) -> u32;
+    fn readings_sensor_fault(bytes: *const u8, len: usize, place: *mut usize) -> u32;
+    fn readings_sensor_fault_within(
+        bytes: *const u8,
+        len: usize,
+        limits: *const Limits,
+        place: *mut usize,
     ) -> u32;
     fn readings_sensor_size<'a>(it: *const Sensor<'a>) -> usize;
     fn readings_sensor_write<'a>(
@@ -954,10 +1137,16 @@ extern "C" {
     ) -> u32;
 }
 
+pub(crate) fn unknown_of_plan(bytes: &[u8]) -> Walk<'_> {
+    Walk::new(bytes, readings_plan_unknown_record)
+}
+
 // SAFETY: the struct is that of the header, and the calls are its own.
 unsafe impl<'a> Struct<'a> for Plan<'a> {
     const READ: ReadCall<Self> = readings_plan_read;
     const READ_WITHIN: ReadWithinCall<Self> = readings_plan_read_within;
+    const FAULT: FaultCall = readings_plan_fault;
+    const FAULT_WITHIN: FaultWithinCall = readings_plan_fault_within;
 }
 
 // SAFETY: as above, and the lists are those of the header.
@@ -977,6 +1166,14 @@ extern "C" {
         len: usize,
         limits: *const Limits,
         it: *mut Plan<'a>,
+    ) -> u32;
+    fn readings_plan_unknown_record<'a>(walk: *mut Bytes<'a>, element: *mut Bytes<'a>) -> u32;
+    fn readings_plan_fault(bytes: *const u8, len: usize, place: *mut usize) -> u32;
+    fn readings_plan_fault_within(
+        bytes: *const u8,
+        len: usize,
+        limits: *const Limits,
+        place: *mut usize,
     ) -> u32;
     fn readings_plan_size<'a, 'h>(it: *const Plan<'a>, lists: *const PlanLists<'h>) -> usize;
     fn readings_plan_write<'a, 'h>(

@@ -2,7 +2,7 @@ use Rattle.std.proofs.Common.{◌≡◌, ◌<◌, ◌∙◌, length, ap, sym, ru
 use Rattle.std.specs.Prelude.{None}
 use Rattle.wire_fields.specs.Nest.{nodes, all_nodes, row_count, row_less, message_less}
 use Rattle.wire_fields.specs.NestTable.{empty_of, message_at}
-use Rattle.wire_required.specs.Missing.{at}
+use Rattle.wire_required.specs.Missing.{under}
 use Rattle.wire_required.specs.Nested.{family_missing}
 use Rattle.wire_required.specs.Path.{index}
 use Rattle.wire_required.proofs.MissingRows.{found_here, not_here, next_message, next_row, no_rows}
@@ -27,7 +27,7 @@ missing_in_list-returns-in-Some g t c =
     rw c.in_ok-behind.ensures (found_here _ _ _ _ (c.loop-index.invariant
     ∙ next_message (g.T.RequiredSlice.family.table s)
     (family_missing g.T.RequiredSlice.family g.T.RequiredSlice.asked s) ms i there)
-    (ap (at (index i)) (sym c.in_ok-path.ensures ∙ c.in-Some.is)))
+    (ap (under (index i)) (sym c.in_ok-path.ensures ∙ c.in-Some.is)))
 
 pub missing_in_list-loop-index-preserved : goal.missing_in_list-loop-index-preserved
 missing_in_list-loop-index-preserved g t c =
@@ -40,7 +40,7 @@ missing_in_list-loop-index-preserved g t c =
     not_here _ _ _ (c.loop-index.invariant
     ∙ next_message (g.T.RequiredSlice.family.table s)
     (family_missing g.T.RequiredSlice.family g.T.RequiredSlice.asked s) ms i there)
-    (ap (at (index i)) (sym c.in_ok-path.ensures ∙ none))
+    (ap (under (index i)) (sym c.in_ok-path.ensures ∙ none))
 
 pub slice_missing-missing_in_row-requires : goal.slice_missing-missing_in_row-requires
 slice_missing-missing_in_row-requires g t c κs within =

@@ -3,7 +3,7 @@ use Rattle.std.specs.Prelude.{None}
 use Rattle.wire_codec.specs.Field.{varint}
 use Rattle.wire_codec.specs.TagView.{tag_number}
 use Rattle.wire_codec.specs.ValueMap.{int32}
-use Rattle.wire_views.specs.Spans.{fields_of, with_number}
+use Rattle.wire_views.specs.Spans.{span_fields, with_number}
 use Rattle.wire_views.proofs.ClosedSpans.{varint_countable}
 use Rattle.wire_views.proofs.SpanLaws.{spelled_once, span_kept}
 use Rattle.wire_views.proofs.closed_each.keep_number.Goals as goal
@@ -21,4 +21,4 @@ returns-in_ok-push-in-None-clause-ok g c =
     span_kept _ _ _ (varint c.args.x)
     (record { kind = sym c.requires.varint; spelled = c.requires.spelled })
     (c.in_ok-push-in-None).ensures.items
-    ∙ sym (ap (with_number (tag_number c.args.tag) c.args.x (fields_of c.args.spans.now.items)) is)
+    ∙ sym (ap (with_number (tag_number c.args.tag) c.args.x (span_fields c.args.spans.now.items)) is)

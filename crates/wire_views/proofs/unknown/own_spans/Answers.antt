@@ -1,7 +1,7 @@
 use Rattle.std.proofs.Common.{ap, ◌∙◌}
 use Rattle.std.proofs.lemmas.List.{take_all}
 use Rattle.std.proofs.lemmas.Result.{err_from_is_err_and}
-use Rattle.wire_views.specs.Spans.{fields_of}
+use Rattle.wire_views.specs.Spans.{span_fields}
 use Rattle.wire_views.proofs.SpanLaws.{owned_span_more, span_refused}
 use Rattle.wire_views.proofs.unknown.own_spans.Goals as goal
 
@@ -20,4 +20,4 @@ returns-in_err-field-clause-err c =
 
 pub returns-clause-ok : goal.returns-clause-ok
 returns-clause-ok c =
-    c.loop-span.invariant ∙ ap fields_of (take_all c.loop-span.span-index _ c.loop-span-test.false)
+    c.loop-span.invariant ∙ ap span_fields (take_all c.loop-span.span-index _ c.loop-span-test.false)

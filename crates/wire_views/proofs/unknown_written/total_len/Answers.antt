@@ -1,7 +1,7 @@
 use Rattle.std.proofs.Common.{◌+◌, ap, ◌∙◌, sym, length, drop, rules}
 use Rattle.wire_base.specs.Text.{text_of}
 use Rattle.wire_fields.specs.Numbers.{in_64_bits}
-use Rattle.wire_views.specs.Spans.{fields_of}
+use Rattle.wire_views.specs.Spans.{span_fields}
 use Rattle.wire_views.proofs.TokenLaws.{counted_more, counted_all}
 use Rattle.wire_views.proofs.WrittenSpans.{next_span, no_span}
 use Rattle.wire_views.proofs.unknown_written.total_len.Goals as goal
@@ -13,7 +13,7 @@ loop-span-preserved c =
     record {
       fits = search rules;
       counted = counted_more c.loop-span.size _ _ _
-          (text_of (fields_of (drop (i + 1) spans))) c.span_len.ensures c.saturating_add-size.ensures
+          (text_of (span_fields (drop (i + 1) spans))) c.span_len.ensures c.saturating_add-size.ensures
           ∙ ap (λ t. in_64_bits (c.loop-span.size + length t))
           (sym (next_span spans i _ c.loop-span-test.true c.span-item.is))
           ∙ c.loop-span.invariant.counted;

@@ -1,0 +1,4 @@
+use Rattle.wire_readings_c.proofs.plan.readings_plan_fault_within.Goals as goal
+
+pub returns-clause-err : goal.returns-clause-err
+returns-clause-err c = rw c.context_within-context.ensures at c.plan_fault.ensures.err
