@@ -14,8 +14,6 @@
 #![tactic(auto)]
 
 mod bytes;
-#[cfg(test)]
-mod caller;
 mod compaction;
 mod container;
 mod escape;
@@ -25,8 +23,6 @@ pub mod laws;
 mod name;
 mod number;
 mod part;
-#[cfg(test)]
-mod tests;
 mod text;
 mod transcribe;
 mod value;

@@ -7,29 +7,17 @@
 //! them (`laws`), and so of the messages by hand (`sample`, `batch`).
 #![tactic(auto)]
 
-#[cfg(test)]
-mod answers;
 pub mod batch;
-#[cfg(test)]
-mod batch_tests;
-#[cfg(test)]
-mod caller;
 mod enum_field;
 mod find;
 mod held;
-#[cfg(test)]
-mod held_tests;
 mod key;
 mod kind;
-#[cfg(test)]
-mod kind_tests;
 mod known;
 pub mod laws;
 mod list;
 mod map;
 mod message;
-#[cfg(test)]
-mod message_tests;
 mod object;
 mod oneof;
 pub mod sample;

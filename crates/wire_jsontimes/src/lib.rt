@@ -2,14 +2,10 @@
 //! the calls.
 #![tactic(auto)]
 
-#[cfg(test)]
-mod caller;
 mod digits;
 mod duration;
 pub mod laws;
 mod stamp;
-#[cfg(test)]
-mod tests;
 mod timestamp;
 mod write;
 

@@ -6,16 +6,12 @@
 //! byte. What is written of a value is read as that value (`laws`).
 #![tactic(auto)]
 
-#[cfg(test)]
-mod caller;
 mod enums;
 mod float;
 pub mod laws;
 mod number;
 mod refusal;
 mod scalar;
-#[cfg(test)]
-mod tests;
 mod text;
 mod token;
 mod write;

@@ -1,4 +1,4 @@
-//! The caller of `CALLING.md`.
+//! An integer that is read and written again: the caller of the page of `wire_protojson`.
 ghost use Rattle.std.specs.Prelude.{◌≡◌, ◌++◌, ℤ, drop, IfOk};
 ghost use Rattle.std.specs.Int.{w64};
 ghost use Rattle.wire_json.specs.Written.{written};
@@ -6,8 +6,8 @@ ghost use Rattle.wire_protojson.specs.Numbers.{MeansSigned};
 ghost use Rattle.wire_protojson.specs.Reads.{ReadsMeaning};
 ghost use Rattle.wire_protojson.specs.Trees.{long_signed_tree};
 
-use crate::{ReadError, read_int64, write_int64};
 use std::alloc::Global;
+use wire_protojson::{ReadError, read_int64, write_int64};
 
 /// Reads an `int64` at the front of a text, and writes it: `1.5e3`, `"1500"` and `1500` all as
 /// `"1500"`.

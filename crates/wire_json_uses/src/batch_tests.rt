@@ -1,10 +1,10 @@
 //! What is read of texts as a `Batch`, and written again. A test that is refused a request for
 //! memory fails with `OutOfMemory` as what was found, or not at all.
-use crate::AlwaysMessage;
 use crate::answers::Answer::{Bad, Deep, Is, Lone, Second, Twice, Unfit, Unknown};
 use crate::answers::{Found, Row, found_in, found_whole};
-use crate::batch::Batch;
 use std::alloc::Global;
+use wire_jsonfields::AlwaysMessage;
+use wire_jsonfields::batch::Batch;
 
 const ROWS: [Row; 33] = [
     (b"{}", Is(b"{}")),

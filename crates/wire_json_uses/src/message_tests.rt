@@ -1,9 +1,9 @@
 //! What is read of texts as a message, and what is written of one. A test that is refused a request
 //! for memory fails with `OutOfMemory` as what was found, or not at all.
-use crate::sample::Sample;
-use crate::{from_json, to_json};
 use std::alloc::{AllocError, Global};
 use wire_json::FaultKind;
+use wire_jsonfields::sample::Sample;
+use wire_jsonfields::{from_json, to_json};
 use wire_protojson::{ReadError, Reason, Refusal};
 
 // What a row finds: its own answer, want of memory, or anything else.

@@ -1,12 +1,12 @@
-//! The caller of `CALLING.md`.
+//! A duration that is read and written again: the caller of the page of `wire_jsontimes`.
 ghost use Rattle.std.specs.Prelude.{◌≡◌, ◌++◌, ℤ, drop, IfOk};
 ghost use Rattle.wire_json.specs.Json.{Json};
 ghost use Rattle.wire_json.specs.Written.{written};
 ghost use Rattle.wire_protojson.specs.Reads.{ReadsMeaning};
 ghost use Rattle.wire_jsontimes.specs.Durations.{IsDurationTree, MeansDuration};
 
-use crate::{read_duration, write_duration};
 use std::alloc::Global;
+use wire_jsontimes::{read_duration, write_duration};
 use wire_protojson::ReadError;
 
 /// Reads a duration at the front of a text, and writes it: `"1.5s"` and `"1.50s"` both as

@@ -1,10 +1,10 @@
 //! What tests find of texts: written again, or refused.
-use crate::{
+use std::alloc::Global;
+use wire_json::{FaultKind, Mark, write_mark};
+use wire_jsonfields::{
     FieldName, JsonKind, JsonMessage, JsonValue, from_json, read_field, read_object, to_json,
     write_field,
 };
-use std::alloc::Global;
-use wire_json::{FaultKind, Mark, write_mark};
 use wire_protojson::{ReadError, Reason, Refusal};
 
 /// What a row finds: its own answer, want of memory, or anything else.

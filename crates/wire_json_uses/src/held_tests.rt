@@ -3,8 +3,8 @@
 //! was found, or not at all.
 use crate::answers::Answer::{Is, Unfit};
 use crate::answers::{Found, Row, found_held};
-use crate::{Implicit, JsonScalar, Optional};
 use std::alloc::Global;
+use wire_jsonfields::{Implicit, JsonScalar, Optional};
 
 const HELD_BOOL: [Row; 6] = [
     (b"{}", Is(b"{}")),

@@ -1,11 +1,11 @@
 //! What is read of texts as a duration or a timestamp, and what is written. A test that is refused a
 //! request for memory fails with `OutOfMemory` as what was found, or not at all.
-use crate::{
+use std::alloc::Global;
+use wire_json::FaultKind;
+use wire_jsontimes::{
     JsonDuration, JsonTimestamp, WriteError, read_duration, read_timestamp, write_duration,
     write_timestamp,
 };
-use std::alloc::Global;
-use wire_json::FaultKind;
 use wire_protojson::{ReadError, Reason};
 
 // What a row finds: its own answer, want of memory, or anything else.

@@ -1,4 +1,4 @@
-//! The caller of `CALLING.md`.
+//! A message that is read and written again: the caller of the page of `wire_jsonfields`.
 ghost use Rattle.std.specs.Prelude.{◌≡◌, IfOk};
 ghost use Rattle.wire_json.specs.Json.{Json};
 ghost use Rattle.wire_json.specs.Written.{written};
@@ -6,9 +6,9 @@ ghost use Rattle.wire_jsonfields.specs.Batch.{Batch-Value, batch-says, batch-tre
 ghost use Rattle.wire_jsonfields.specs.Levels.{SpellsWithin};
 ghost use Rattle.wire_jsonfields.specs.Messages.{IsObjectTree, ObjectMeans};
 
-use crate::batch::Batch;
-use crate::{from_json, to_json};
 use std::alloc::Global;
+use wire_jsonfields::batch::Batch;
+use wire_jsonfields::{from_json, to_json};
 use wire_protojson::ReadError;
 
 /// Reads a batch from a text, in which at most 100 arrays and objects stand in one another, and

@@ -1,11 +1,11 @@
 //! What is answered of texts, and what is written. A test that is refused a request for memory
 //! fails with `OutOfMemory` as what was found, or not at all.
-use crate::{
+use std::alloc::{AllocError, Global};
+use wire_json::{
     Fault, FaultKind, JsonError, Mark, check, compact, push_string, read_name, read_number,
     read_string, skip_bool, skip_null, write_bool, write_mark, write_name, write_null,
     write_number, write_string,
 };
-use std::alloc::{AllocError, Global};
 
 // What a row finds: its own answer, want of memory, or anything else.
 #[derive(Clone, Copy, Debug, PartialEq)]

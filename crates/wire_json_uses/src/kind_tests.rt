@@ -3,10 +3,12 @@
 //! all.
 use crate::answers::Answer::{Bad, Deep, Is, NoKey, Twice, Unfit, Unknown};
 use crate::answers::{Found, Row, found_in};
-use crate::batch::Grade;
-use crate::sample::Sample;
-use crate::{AlwaysMessage, Embedded, EnumOf, Implicit, JsonValue, Map, Optional, Repeated};
 use std::alloc::Global;
+use wire_jsonfields::batch::Grade;
+use wire_jsonfields::sample::Sample;
+use wire_jsonfields::{
+    AlwaysMessage, Embedded, EnumOf, Implicit, JsonValue, Map, Optional, Repeated,
+};
 
 const LISTS: [Row; 12] = [
     (b"[]", Is(b"[]")),

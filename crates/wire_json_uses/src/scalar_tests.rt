@@ -1,13 +1,13 @@
 //! What is read of texts and written again. A test that is refused a request for memory fails with
 //! `OutOfMemory` as what was found, or not at all.
-use crate::{
+use std::alloc::Global;
+use wire_json::FaultKind;
+use wire_protojson::{
     EnumName, ReadError, Reason, Refusal, read_bool, read_bytes, read_double, read_enum,
     read_float, read_int32, read_int64, read_string, read_uint32, read_uint64, write_bool,
     write_bytes, write_double, write_enum, write_float, write_int32, write_int64, write_string,
     write_uint32, write_uint64,
 };
-use std::alloc::Global;
-use wire_json::FaultKind;
 
 // What a row finds: its own answer, want of memory, or anything else.
 #[derive(Clone, Copy, Debug, PartialEq)]

@@ -1,11 +1,11 @@
-//! The caller of `CALLING.md`.
+//! A text that is compacted: the caller of the page of `wire_json`.
 ghost use Rattle.std.specs.Prelude.{◌≡◌, ◌≤◌, IfOk};
 ghost use Rattle.wire_json.specs.Json.{Json, depth};
 ghost use Rattle.wire_json.specs.Reading.{Spells};
 ghost use Rattle.wire_json.specs.Written.{written};
 
-use crate::{JsonError, compact};
 use std::alloc::Global;
+use wire_json::{JsonError, compact};
 
 /// The compact text of a text in which at most 100 arrays and objects stand in one another.
 pub fn compact_text(alloc: Global, text: &[u8]) -> Result<Vec<u8>, JsonError>

@@ -1,0 +1,24 @@
+//! Callers of the crates of JSON: a text that is compacted, and an integer, a duration and a message
+//! that are read and written again; and rows of texts with what is answered of them.
+#![tactic(auto)]
+
+#[cfg(test)]
+mod answers;
+#[cfg(test)]
+mod batch_tests;
+pub mod batches;
+pub mod durations;
+#[cfg(test)]
+mod held_tests;
+pub mod integers;
+#[cfg(test)]
+mod kind_tests;
+#[cfg(test)]
+mod message_tests;
+#[cfg(test)]
+mod scalar_tests;
+#[cfg(test)]
+mod text_tests;
+pub mod texts;
+#[cfg(test)]
+mod time_tests;
