@@ -1,5 +1,5 @@
 //! Comments of a schema as documentation, and what stands at the head of each file.
-use wire_schema::Words;
+use wire_schema::{Schema, Words};
 
 // The widest line.
 const WIDTH: usize = 100;
@@ -44,4 +44,11 @@ pub fn put_comment(page: &mut Words, name: &'static str, margin: &str, comment: 
             },
         );
     }
+}
+
+/// Puts the comment of the field at this place before what is declared next.
+pub fn put_field_comment(page: &mut Words, schema: &Schema) {
+    page.fill("at", "$place$.2.$at$");
+    let comment = schema.comment(page.get("at"));
+    put_comment(page, "declared", "    ", comment);
 }

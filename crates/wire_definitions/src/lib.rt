@@ -41,7 +41,7 @@ mod view_folds;
 
 pub use choice_names::{put_all_variants, put_others, set_names};
 pub use closing::{OF_CLOSED_VARIANT, closed_answers, closed_choice_answers, closed_view_answers};
-pub use comments::{put_comment, set_heading};
+pub use comments::{put_comment, put_field_comment, set_heading};
 pub use copied_parts::copied_part;
 pub use definitions::definitions_of;
 pub use families::family_definitions;

@@ -1,7 +1,7 @@
 //! The folder of the static library of a schema's structs: the crate's root, the header, the Rust
 //! crate, and what builds all of it.
-use crate::c_header::CHeader;
 use crate::package::Package;
+use wire_bindings::c_header::CHeader;
 use wire_definitions::set_heading;
 use wire_schema::{GenerateError, Words};
 

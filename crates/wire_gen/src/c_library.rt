@@ -1,8 +1,8 @@
 //! The calls of the static library of a schema's structs.
 use crate::package::Package;
-use crate::struct_heads::{Head, put_heads};
-use crate::struct_lists::{NEXT, NEXT_GHOSTS, NEXT_HEAD, set_list_words};
-use crate::struct_numbers::{NEXT_NUMBER, NEXT_NUMBER_GHOSTS, set_number_export};
+use wire_bindings::struct_heads::{Head, put_heads};
+use wire_bindings::struct_lists::{NEXT, NEXT_GHOSTS, NEXT_HEAD, set_list_words};
+use wire_bindings::struct_numbers::{NEXT_NUMBER, NEXT_NUMBER_GHOSTS, set_number_export};
 use wire_definitions::{code_imports, ghost_imports, set_heading};
 use wire_schema::{Field, GenerateError, Template, Words};
 

@@ -1,18 +1,18 @@
 //! The files of message types that hold themselves or one another.
-use crate::answers::answers_of;
-use crate::choice_code::choice_code;
-use crate::family::{set_alone, set_family};
-use crate::family_code::family_code;
 use crate::package::Package;
-use crate::recursive::recursive_code;
-use crate::row_answers::{held_answers, row_answers};
-use crate::view_choice::choice_view_code;
 use wire_definitions::{
     MEMBER_MERGE, Tree, closed_choice_answers, family_definitions, family_stays, has_laws,
     has_view, is_row, leaf_tree, member_definitions, member_stays, nest_stays, oneof_definitions,
     oneof_stays, put_all_variants, put_leaf_stays, recursive_definitions, set_leaf, table_page,
 };
 use wire_schema::{Field, GenerateError, MessageType, Oneof, Schema, Template, Words, fields_of};
+use wire_types::answers::answers_of;
+use wire_types::choice_code::{CHOICE, choice_code};
+use wire_types::family::{set_alone, set_family};
+use wire_types::family_code::family_code;
+use wire_types::recursive::recursive_code;
+use wire_types::row_answers::{held_answers, row_answers};
+use wire_types::view_choice::choice_view_code;
 
 // Where the proofs of a message type that holds itself are, and of one of a family.
 const FOLDERS: [Template; 2] = [
@@ -23,15 +23,6 @@ const FOLDERS: [Template; 2] = [
 const MEMBER_FOLDERS: [Template; 2] = [
     ("folder", "proofs/$module$/$name$RecursiveMemberFamilyHeld"),
     ("row_folder", "proofs/$module$/$name$"),
-];
-
-/// The words of a oneof of which some variants are rows.
-pub(crate) const CHOICE: [&str; 5] = [
-    "choice",
-    "choice_module",
-    "choices",
-    "choice_view",
-    "choice_view_module",
 ];
 
 impl Package {

@@ -1,15 +1,6 @@
 //! The files of a crate.
-use crate::answers::answers_of;
-use crate::code::code_of;
-use crate::enums::enum_files;
-use crate::extensions::extensions_of;
-use crate::layout::laid_out;
-use crate::oneof::oneof_code;
-use crate::oneof_proofs::merge_answers;
-use crate::services::services_of;
-use crate::struct_inside::{encode_inside, takes_inside};
-use crate::written::{FieldAnswers, written_answers};
 use std::alloc::Global;
+use wire_bindings::struct_inside::{encode_inside, takes_inside};
 use wire_codec::{DecodeOptions, Message};
 use wire_definitions::{
     Tree, closed_answers, definitions_of, has_groups, has_laws, has_view, oneof_definitions,
@@ -20,6 +11,15 @@ use wire_schema::{
     EnumType, FIRST_EDITION, Field, GenerateError, LAST_EDITION, MessageType, Oneof, Schema, Words,
     fields_of, order_key, set_crate,
 };
+use wire_types::answers::answers_of;
+use wire_types::code::code_of;
+use wire_types::enums::enum_files;
+use wire_types::extensions::extensions_of;
+use wire_types::layout::laid_out;
+use wire_types::oneof::oneof_code;
+use wire_types::oneof_proofs::merge_answers;
+use wire_types::services::services_of;
+use wire_types::written::{FieldAnswers, written_answers};
 
 // The most fields of a message, of which it was seen that they are proved.
 const MOST_FIELDS: usize = 128;

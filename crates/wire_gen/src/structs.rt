@@ -1,24 +1,24 @@
 //! Structs for C: those of the messages that can have one, and the static library of their calls.
-use crate::c_header::CHeader;
 use crate::package::Package;
-use crate::struct_answers::struct_answers_of;
-use crate::struct_calls::{
+use wire_bindings::c_header::CHeader;
+use wire_bindings::struct_answers::struct_answers_of;
+use wire_bindings::struct_calls::{
     AS_SHOWN, AS_SHOWN_USES, FAULT_ANSWERS, MIXED, MIXED_SAME, MIXED_USES, READ_ANSWERS, SAME,
     SAME_USES, SHOWS, SHOWS_USES, WITH_LISTS,
 };
-use crate::struct_code::struct_code_of;
-use crate::struct_definitions::{
+use wire_bindings::struct_code::struct_code_of;
+use wire_bindings::struct_definitions::{
     LEVEL_USES, READS_BACK_ANSWERS, READS_BACK_OF_LISTS, STRUCT_LAW_USES, STRUCT_LAWS,
     keeps_answers_of, struct_definitions_of,
 };
-use crate::struct_fields::{is_c_word, set_in_struct};
-use crate::struct_left_out::{TYPES, is_called_as_a_call, is_struct_there, reason};
-use crate::struct_lists::{lists_code_of, lists_definitions_of};
-use crate::struct_oneof_answers::{oneof_in_c_answers_of, oneof_shows_of};
-use crate::struct_oneof_code::oneof_in_c_code_of;
-use crate::struct_oneof_definitions::oneof_in_c_definitions_of;
-use crate::struct_ranges::has_answers_of;
-use crate::struct_trees::{StructTrees, trees_of};
+use wire_bindings::struct_fields::{is_c_word, set_in_struct};
+use wire_bindings::struct_left_out::{TYPES, is_called_as_a_call, is_struct_there, reason};
+use wire_bindings::struct_lists::{lists_code_of, lists_definitions_of};
+use wire_bindings::struct_oneof_answers::{oneof_in_c_answers_of, oneof_shows_of};
+use wire_bindings::struct_oneof_code::oneof_in_c_code_of;
+use wire_bindings::struct_oneof_definitions::oneof_in_c_definitions_of;
+use wire_bindings::struct_ranges::has_answers_of;
+use wire_bindings::struct_trees::{StructTrees, trees_of};
 use wire_definitions::{definition_imports, set_heading};
 use wire_schema::{Field, GenerateError, MessageType, Schema, Template, Words, fields_of};
 

@@ -1,11 +1,11 @@
 //! The files of the view of a message type, and of those of its oneofs.
-use crate::oneof_proofs::view_merge_answers;
 use crate::package::Package;
-use crate::view_answers::view_answers_of;
-use crate::view_code::view_code_of;
-use crate::view_oneof::oneof_view_code;
 use wire_definitions::{Tree, closed_view_answers, has_view};
 use wire_schema::{Field, GenerateError, Oneof, Schema, Words};
+use wire_types::oneof_proofs::view_merge_answers;
+use wire_types::view_answers::view_answers_of;
+use wire_types::view_code::view_code_of;
+use wire_types::view_oneof::oneof_view_code;
 
 // What the README says of views.
 const VIEWED: &str =

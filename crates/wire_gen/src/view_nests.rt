@@ -1,14 +1,16 @@
 //! The files of the views of message types that hold themselves or one another.
-use crate::family::set_family;
-use crate::nests::CHOICE;
 use crate::package::Package;
-use crate::view_answers::view_leaf_answers_of;
-use crate::view_family::{MEMBER_MERGE, family_view_code, view_leaf_answers};
-use crate::view_owned::{put_owned, tell_held};
-use crate::view_recursive::recursive_view_of;
-use crate::view_row_answers::{begin_owned, owned_answers, put_owned_answers, view_push_answers};
 use wire_definitions::{Tree, has_view, leaf_tree, set_leaf};
 use wire_schema::{Field, GenerateError, Schema, Template, Words, fields_of};
+use wire_types::choice_code::CHOICE;
+use wire_types::family::set_family;
+use wire_types::view_answers::view_leaf_answers_of;
+use wire_types::view_family::{MEMBER_MERGE, family_view_code, view_leaf_answers};
+use wire_types::view_owned::{put_owned, tell_held};
+use wire_types::view_recursive::recursive_view_of;
+use wire_types::view_row_answers::{
+    begin_owned, owned_answers, put_owned_answers, view_push_answers,
+};
 
 // Where the proofs of the view of a type that holds itself alone are, and of one of a family.
 const FOLDER: Template = (

@@ -1,0 +1,196 @@
+//! The proofs of a oneof: that a variant refuses what its kind refuses, of the value that stands,
+//! or of a value of no records where this variant does not stand.
+use wire_definitions::definition_imports;
+use wire_schema::{GenerateError, Oneof, Template, Words};
+
+const USES: &str = "\
+Rattle.std.proofs.Common refl
+Rattle.std.proofs.Common rules
+Rattle.std.proofs.lemmas.Result err_from_is_err_and
+Rattle.wire_codec.specs.TagView tag_number
+Rattle.wire_fields.specs.Arms anew_untaken
+Rattle.wire_fields.specs.Arms arm_err
+Rattle.$crate$.specs.$name$ $module$-$seen_by$
+Rattle.$crate$.specs.$name$ $module$-kind
+";
+
+const USES_OF_MANY: &str = "\
+Rattle.std.proofs.Common sym
+Rattle.std.proofs.Common ◌∙◌
+Rattle.wire_fields.specs.Arms from_last
+Rattle.wire_fields.specs.Arms last_err
+Rattle.wire_fields.specs.Arms unlike
+Rattle.$crate$.specs.$name$ $module$-front
+Rattle.$crate$.specs.$name$ $word$-of-$module$
+";
+
+const USES_OF_VARIANT: &str = "\
+Rattle.$crate$.specs.$name$ $word$-of-$module$-as
+Rattle.$crate$.specs.$name$ $word$-of-$module$-kind
+";
+
+const HEAD: &str = "\
+$imports$use Rattle.$crate$.proofs.$of_goals$.merge.Goals as goal
+";
+
+const ANSWERS: &str = "
+pub returns-in-Some-$variant$-$rows$-clause-err :
+    goal.returns-in-Some-$variant$-$rows$-clause-err
+returns-in-Some-$variant$-$rows$-clause-err $given$ =
+    let n = tag_number c.args.tag in
+    let one = c.in-Some-$variant$-$rows$ in
+    rw $stands$ ($refused$ _ _
+    (λ charge z p h. (h.0, h.1)) _ _ _
+    $merge$.result $merge$.ensures.err)
+
+pub returns$arm$-clause-err : goal.returns$arm$-clause-err
+returns$arm$-clause-err $given$ =
+    let n = tag_number c.args.tag in
+    let m = $module$-$seen_by$ c.args.held.now in
+    let r = $residual$ in
+    let p = err_from_is_err_and r.result r.ensures.1 in
+    rw (p.1, p.2) (λ other. anew_untaken $module$-kind.takes
+    $word$-of-$module$-kind $word$-of-$module$-as _ $at$ n
+    $is$ m (search rules)
+    (λ charge z p h. $own$) _ _ _ ($anew$$broken$.ensures.err other))
+";
+
+// A variant whose number is not the last.
+const OF_ARM: [Template; 7] = [
+    ("stands", "(one.is, one.field-0-is)"),
+    ("at", "$digits$"),
+    (
+        "is",
+        "(sym c.$rows$-field_number.ensures.number ∙ c.in-$digits$.is)",
+    ),
+    ("arm", "-in-$digits$"),
+    ("own", "h"),
+    ("refused", REFUSED),
+    ("broken", "(c.in_Break-$rows$-$rows$-in-$digits$)"),
+];
+
+const REFUSED: &str = "arm_err $module$-kind.takes
+    $word$-of-$module$-kind.takes $at$ n
+    $is$";
+
+const OF_LAST: [Template; 4] = [
+    ("at", "n"),
+    ("is", "refl"),
+    ("arm", ""),
+    ("broken", "c.in_Break-$rows$-$rows$"),
+];
+
+const OF_ONLY: [Template; 6] = [
+    ("empty", "c.$rows$-empty"),
+    ("stands", "one.is"),
+    ("own", "h"),
+    ("refused", REFUSED),
+    ("merge", "c.$rows$-merge"),
+    ("residual", "c.$rows$-from_residual"),
+];
+
+// The last of many, which has all numbers that the others lack.
+const OF_LAST_OF_MANY: [Template; 6] = [
+    ("empty", "c.$rows$-empty-2"),
+    ("stands", "(one.is, one.field-0-is)"),
+    (
+        "own",
+        "from_last $module$-front.owns $module$-front.takes
+    $word$-of-$module$.takes n
+    (λ p. $unlike$)
+    m z charge p h",
+    ),
+    (
+        "refused",
+        "last_err $module$-front.owns $module$-front.takes
+    $word$-of-$module$.takes n
+    (λ p. $unlike$)
+    $word$-of-$module$-kind.takes",
+    ),
+    ("merge", "c.$rows$-merge-2"),
+    ("residual", "c.$rows$-from_residual-2"),
+];
+
+const OF_FIRST: [Template; 3] = [
+    ("empty", "c.$rows$-empty"),
+    ("merge", "c.$rows$-merge"),
+    ("residual", "c.$rows$-from_residual"),
+];
+
+const OF_NEXT: [Template; 3] = [
+    ("empty", "(c.$rows$-empty-in-$digits$)"),
+    ("merge", "(c.$rows$-merge-in-$digits$)"),
+    ("residual", "c.$rows$-from_residual-in-$digits$"),
+];
+
+// The rows that the calls are read from, what the function is given, how what is held is seen, and
+// the function.
+const OF_KIND: [Template; 4] = [
+    ("rows", "variants"),
+    ("given", "g c"),
+    ("seen_by", "of"),
+    ("of_goals", "$module$.$kind_name$Kind"),
+];
+
+// The same of a view.
+const OF_VIEW: [Template; 4] = [
+    ("rows", "view_variants"),
+    ("given", "c"),
+    ("seen_by", "view_of"),
+    ("of_goals", "$view_module$.$view_kind_name$ViewKind"),
+];
+
+/// The proofs of the kind's `merge`.
+pub fn merge_answers(base: &Words, oneof: &Oneof) -> Result<String, GenerateError> {
+    let mut page = Words::like(base);
+    page.fill_all(&OF_KIND);
+    answers_of(page, oneof, "")
+}
+
+/// The proofs of that of its view.
+pub fn view_merge_answers(base: &Words, oneof: &Oneof) -> Result<String, GenerateError> {
+    let mut page = Words::like(base);
+    page.fill_all(&OF_VIEW);
+    answers_of(page, oneof, "rw $empty$.ensures at ")
+}
+
+// The same, with what is said of a new value before what is said of its record.
+fn answers_of(mut page: Words, oneof: &Oneof, anew: &str) -> Result<String, GenerateError> {
+    page.fill("uses", USES);
+    let last = oneof.variants.len().saturating_sub(1);
+    for (place, variant) in oneof.variants.iter().enumerate() {
+        page.copy(variant, &["variant", "word", "digits"]);
+        page.append("uses", USES_OF_VARIANT);
+        if place < last {
+            page.fill_all(&OF_ARM);
+            page.fill_all(if place == 0 { &OF_FIRST } else { &OF_NEXT });
+        } else {
+            page.fill_all(&OF_LAST);
+            page.fill_all(if last == 0 {
+                &OF_ONLY
+            } else {
+                &OF_LAST_OF_MANY
+            });
+        }
+        page.fill("anew", anew);
+        page.append("answers", ANSWERS);
+        page.fill(
+            "unlike",
+            if place == 0 {
+                "unlike n $digits$ (search rules)"
+            } else {
+                "neither _ _ ($unlike$) (unlike n $digits$ (search rules))"
+            },
+        );
+    }
+    if last > 0 {
+        page.append("uses", USES_OF_MANY);
+    }
+    if last > 1 {
+        page.append("uses", "Rattle.wire_fields.specs.Arms neither\n");
+    }
+    definition_imports(&mut page);
+    page.fill("text", HEAD);
+    page.append("text", "$answers$");
+    page.finish("text")
+}
