@@ -6,19 +6,13 @@ ghost use Rattle.wire_codec.specs.Limits.{Charge};
 ghost use Rattle.wire_fields.specs.Returned.{ReadsBack};
 ghost use Rattle.wire_fields.specs.Stays.{DecodesInRange};
 ghost use Rattle.wire_albums.specs.Album.{album-range, album-shape};
-ghost use Rattle.wire_albums.specs.Band.{band-range, band-shape};
 ghost use Rattle.wire_albums.specs.Bill.{bill-range, bill-shape};
-ghost use Rattle.wire_albums.specs.Cue.{cue-range, cue-shape};
 ghost use Rattle.wire_albums.specs.Genre.{genre-range, genre-shape};
 ghost use Rattle.wire_albums.specs.Parcel.{parcel-range, parcel-shape};
 ghost use Rattle.wire_albums.specs.ParcelBooklet.{parcel_booklet-range, parcel_booklet-shape};
 ghost use Rattle.wire_albums.specs.ParcelRibbon.{parcel_ribbon-range, parcel_ribbon-shape};
 ghost use Rattle.wire_albums.specs.ParcelShelf.{parcel_shelf-range, parcel_shelf-shape};
-ghost use Rattle.wire_albums.specs.Player.{player-range, player-shape};
-ghost use Rattle.wire_albums.specs.Programme.{programme-range, programme-shape};
-ghost use Rattle.wire_albums.specs.Queue.{queue-range, queue-shape};
 ghost use Rattle.wire_albums.specs.Rack.{rack-range, rack-shape};
-ghost use Rattle.wire_albums.specs.Release.{release-range, release-shape};
 ghost use Rattle.wire_albums.specs.Silence.{silence-range, silence-shape};
 ghost use Rattle.wire_albums.specs.Stock.{stock-range, stock-shape};
 ghost use Rattle.wire_albums.specs.Track.{track-range, track-shape};
@@ -75,86 +69,6 @@ pub fn album_decodes_in_range()
     grounds();
 }
 
-/// What is written of each `Release` in range decodes to it, where the limits suffice.
-pub fn release_reads_back()
-    ensures { ReadsBack release-shape release-range }
-{
-    grounds();
-    text_decodes::<crate::Release>();
-}
-
-/// What bytes decode to as `Release` is in range, where each message and group
-/// within it takes at most 2,147,483,647 bytes and any other payload less than 2^64.
-pub fn release_decodes_in_range()
-    ensures { DecodesInRange release-shape release-range }
-{
-    grounds();
-}
-
-/// What is written of each `Cue` in range decodes to it, where the limits suffice.
-pub fn cue_reads_back()
-    ensures { ReadsBack cue-shape cue-range }
-{
-    grounds();
-    text_decodes::<crate::Cue>();
-}
-
-/// What bytes decode to as `Cue` is in range, where each message and group
-/// within it takes at most 2,147,483,647 bytes and any other payload less than 2^64.
-pub fn cue_decodes_in_range()
-    ensures { DecodesInRange cue-shape cue-range }
-{
-    grounds();
-}
-
-/// What is written of each `Programme` in range decodes to it, where the limits suffice.
-pub fn programme_reads_back()
-    ensures { ReadsBack programme-shape programme-range }
-{
-    grounds();
-    text_decodes::<crate::Programme>();
-}
-
-/// What bytes decode to as `Programme` is in range, where each message and group
-/// within it takes at most 2,147,483,647 bytes and any other payload less than 2^64.
-pub fn programme_decodes_in_range()
-    ensures { DecodesInRange programme-shape programme-range }
-{
-    grounds();
-}
-
-/// What is written of each `Player` in range decodes to it, where the limits suffice.
-pub fn player_reads_back()
-    ensures { ReadsBack player-shape player-range }
-{
-    grounds();
-    text_decodes::<crate::Player>();
-}
-
-/// What bytes decode to as `Player` is in range, where each message and group
-/// within it takes at most 2,147,483,647 bytes and any other payload less than 2^64.
-pub fn player_decodes_in_range()
-    ensures { DecodesInRange player-shape player-range }
-{
-    grounds();
-}
-
-/// What is written of each `Band` in range decodes to it, where the limits suffice.
-pub fn band_reads_back()
-    ensures { ReadsBack band-shape band-range }
-{
-    grounds();
-    text_decodes::<crate::Band>();
-}
-
-/// What bytes decode to as `Band` is in range, where each message and group
-/// within it takes at most 2,147,483,647 bytes and any other payload less than 2^64.
-pub fn band_decodes_in_range()
-    ensures { DecodesInRange band-shape band-range }
-{
-    grounds();
-}
-
 /// What is written of each `Stock` in range decodes to it, where the limits suffice.
 pub fn stock_reads_back()
     ensures { ReadsBack stock-shape stock-range }
@@ -167,22 +81,6 @@ pub fn stock_reads_back()
 /// within it takes at most 2,147,483,647 bytes and any other payload less than 2^64.
 pub fn stock_decodes_in_range()
     ensures { DecodesInRange stock-shape stock-range }
-{
-    grounds();
-}
-
-/// What is written of each `Queue` in range decodes to it, where the limits suffice.
-pub fn queue_reads_back()
-    ensures { ReadsBack queue-shape queue-range }
-{
-    grounds();
-    text_decodes::<crate::Queue>();
-}
-
-/// What bytes decode to as `Queue` is in range, where each message and group
-/// within it takes at most 2,147,483,647 bytes and any other payload less than 2^64.
-pub fn queue_decodes_in_range()
-    ensures { DecodesInRange queue-shape queue-range }
 {
     grounds();
 }

@@ -92,24 +92,30 @@ pub fn set_groups(page: &mut Words, fields: &[Field], tree: &Tree) {
         ("ghosts_of_others", ""),
         ("merged_apart", ""),
     ]);
-    let mut is_first = true;
-    for group in &tree.parts {
-        if !tree.is_group(group) {
-            continue;
-        }
+    let mut next = group_at(tree, 0);
+    for _ in &tree.parts {
+        let Some(group) = next.take() else {
+            break;
+        };
         put_arms(page, fields, group);
         set_match(page, tree, group);
         page.copy(&group.words, &["low", "high", "part_words"]);
-        if is_first {
+        if group.first == 0 {
             page.fill("merged", "$matched$");
         } else {
             page.fill("ghosts", GHOSTS);
             ghost_imports(page, "    ");
             page.append("merged_apart", FUNCTION);
         }
-        is_first = false;
         page.append_all(&OTHERS);
+        next = tree.next_group(group);
     }
+}
+
+// The group that begins with the field at this place.
+fn group_at(tree: &Tree, place: usize) -> Option<&Node> {
+    let mut beginning = tree.parts.iter().filter(|it| it.first == place);
+    beginning.find(|it| tree.is_group(it))
 }
 
 fn put_arms(page: &mut Words, fields: &[Field], group: &Node) {

@@ -1,7 +1,7 @@
 //! What is answered of types that hold themselves by a oneof, and of types of another crate, as
 //! views and as messages.
 use crate::tests::{Found, Row, found_by};
-use wire_albums::{Cue, CueView, Programme, ProgrammeView, Release, ReleaseView};
+use wire_bands::{Cue, CueView, Programme, ProgrammeView, Release, ReleaseView};
 
 // Bytes, the limits, and whether they are a programme within these.
 const PROGRAMMES: [Row<'static>; 29] = [

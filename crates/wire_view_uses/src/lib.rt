@@ -1,5 +1,5 @@
-//! What callers do with the views of [wire_albums](../../wire_albums/README.md), and what a message
-//! and its view make of the same bytes.
+//! What callers do with the views of [wire_albums](../../wire_albums/README.md) and of
+//! [wire_bands](../../wire_bands/README.md), and what a message and its view make of the same bytes.
 #![tactic(auto)]
 
 pub mod both;

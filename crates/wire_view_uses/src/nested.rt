@@ -1,6 +1,7 @@
 //! What is answered of types that hold themselves, as views and as messages.
 use crate::tests::{Found, Row, found_by};
-use wire_albums::{Band, BandView, Genre, GenreView, Queue, QueueView, Stock, StockView};
+use wire_albums::{Genre, GenreView, Stock, StockView};
+use wire_bands::{Band, BandView, Queue, QueueView};
 
 // Bytes, the limits, and whether they are a genre within these.
 const GENRES: [Row<'static>; 29] = [

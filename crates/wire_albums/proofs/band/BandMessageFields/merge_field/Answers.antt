@@ -1,6 +1,0 @@
-use Rattle.std.proofs.Common.{sym}
-use Rattle.wire_albums.proofs.band.BandMessageFields.merge_field.Goals as goal
-
-pub returns-in-Band-clause-err : goal.returns-in-Band-clause-err
-returns-in-Band-clause-err g c =
-    rw (sym c.replace.ensures.value) c.merge_held-merged.ensures.err

@@ -1,6 +1,0 @@
-use Rattle.wire_albums.specs.PlayerStays.{player-stays}
-use Rattle.wire_fields.specs.Stays.{decodes_in_range}
-use Rattle.wire_albums.proofs.laws.player_decodes_in_range.Goals as goal
-
-pub returns : goal.returns
-returns c = decodes_in_range c.grounds.ensures (player-stays c.grounds.ensures)

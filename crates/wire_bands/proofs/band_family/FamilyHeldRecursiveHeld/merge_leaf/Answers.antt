@@ -1,0 +1,7 @@
+use Rattle.wire_bands.proofs.band_family.FamilyHeldRecursiveHeld.merge_leaf.Goals as goal
+
+pub returns-in-Band-clause-err : goal.returns-in-Band-clause-err
+returns-in-Band-clause-err g c = rw c.in-Band.is c.merge_leaf.ensures.err
+
+pub returns-in-Player-clause-err : goal.returns-in-Player-clause-err
+returns-in-Player-clause-err g c = rw c.in-Player.is (c.merge_leaf-in-Player).ensures.err

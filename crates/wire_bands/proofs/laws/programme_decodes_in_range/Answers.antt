@@ -1,0 +1,6 @@
+use Rattle.wire_bands.specs.ProgrammeStays.{programme-stays}
+use Rattle.wire_fields.specs.Stays.{decodes_in_range}
+use Rattle.wire_bands.proofs.laws.programme_decodes_in_range.Goals as goal
+
+pub returns : goal.returns
+returns c = decodes_in_range c.grounds.ensures (programme-stays c.grounds.ensures)
