@@ -177,12 +177,23 @@ pub fn is_called_as_a_call(message: &MessageType, schema: &Schema) -> bool {
 /// Whether another type has the name of the struct of a message, or of what there is of it.
 pub fn is_struct_there(message: &MessageType, schema: &Schema) -> bool {
     let name = message.words.get("name");
-    let is_its = |it: &Words| {
-        let rest = it.get("name").strip_prefix(name).unwrap_or("");
-        rest.starts_with("InC")
-    };
-    schema.messages.iter().any(|it| is_its(&it.words))
-        || schema.enums.iter().any(|it| is_its(&it.words))
+    schema
+        .enums
+        .iter()
+        .any(|it| is_struct_of(name, it.words.get("name")))
+        || schema.messages.iter().any(|it| has_struct_of(name, it))
+}
+
+// The same of a message and of the oneofs in it.
+fn has_struct_of(name: &str, other: &MessageType) -> bool {
+    let mut oneofs = other.oneof_types().iter();
+    is_struct_of(name, other.words.get("name")) || oneofs.any(|(_, it)| is_struct_of(name, it))
+}
+
+// Whether a type is called as the struct of a message of this name, or as what there is of it.
+fn is_struct_of(name: &str, other: &str) -> bool {
+    let rest = other.strip_prefix(name).unwrap_or("");
+    rest.starts_with("InC")
 }
 
 /// Types of the Rust crate, and what it brings in.
