@@ -36,14 +36,14 @@ enum {
     GTV_VARINT_TOO_LONG = 3,          /* a varint goes on past ten bytes or 64 bits */
     GTV_INVALID_WIRE_TYPE = 4,        /* 6 or 7, or an end tag (4) outside of a group */
     GTV_INVALID_FIELD_NUMBER = 5,     /* 0, or above 536,870,911 */
-    GTV_MESSAGE_TOO_LARGE = 6,        /* not answered by these calls, as 7, 8, 11, 13 to 15 */
-    GTV_WIRE_TYPE_MISMATCH = 7,
-    GTV_INVALID_UTF8 = 8,
+    GTV_MESSAGE_TOO_LARGE = 6,        /* not answered by these calls, as 11, 14 and 15 */
+    GTV_WIRE_TYPE_MISMATCH = 7,       /* of messages alone: a field in another wire type */
+    GTV_INVALID_UTF8 = 8,             /* of messages alone: a string that is no UTF-8 */
     GTV_RECURSION_LIMIT_EXCEEDED = 9, /* more groups are open at once than the limit */
     GTV_INVALID_END_GROUP = 10,       /* an end tag of another number than its group's */
     GTV_INVALID_MESSAGE_SET = 11,
     GTV_UNKNOWN_FIELD_LIMIT_EXCEEDED = 12, /* more records or bytes of payloads than the limit */
-    GTV_ELEMENT_MEMORY_LIMIT_EXCEEDED = 13,
+    GTV_ELEMENT_MEMORY_LIMIT_EXCEEDED = 13, /* of messages alone: more in lists than the limit */
     GTV_CUSTOM = 14,
     GTV_OUT_OF_MEMORY = 15,
     GTV_NO_ROOM = 32,                 /* the room is too small; nothing is written */
@@ -233,9 +233,12 @@ static inline const char *gtv_status_text(uint32_t status) {
     case GTV_VARINT_TOO_LONG: return "varint exceeded maximum length of 10 bytes";
     case GTV_INVALID_WIRE_TYPE: return "invalid wire type";
     case GTV_INVALID_FIELD_NUMBER: return "invalid field number";
+    case GTV_WIRE_TYPE_MISMATCH: return "a field in another wire type";
+    case GTV_INVALID_UTF8: return "invalid UTF-8 in string field";
     case GTV_RECURSION_LIMIT_EXCEEDED: return "recursion limit exceeded";
     case GTV_INVALID_END_GROUP: return "invalid end-group tag";
     case GTV_UNKNOWN_FIELD_LIMIT_EXCEEDED: return "unknown field limit exceeded";
+    case GTV_ELEMENT_MEMORY_LIMIT_EXCEEDED: return "element memory limit exceeded";
     case GTV_NO_ROOM: return "the room is too small";
     case GTV_DEPTH_TOO_LARGE: return "a depth above 100";
     case GTV_NOT_FOUND: return "no record has the number";
