@@ -1,0 +1,6 @@
+use Rattle.wire_machines.specs.AxisStays.{axis-stays}
+use Rattle.wire_fields.specs.Stays.{decodes_in_range}
+use Rattle.wire_machines.proofs.laws.axis_decodes_in_range.Goals as goal
+
+pub returns : goal.returns
+returns c = decodes_in_range c.grounds.ensures (axis-stays c.grounds.ensures)

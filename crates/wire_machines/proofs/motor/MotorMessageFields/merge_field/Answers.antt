@@ -1,0 +1,212 @@
+use Rattle.std.proofs.Common.{refl, rules, sym, ◌∙◌}
+use Rattle.wire_codec.specs.TagView.{tag_number}
+use Rattle.wire_fields.specs.Arms.{arm_err, arm_ok, neither, rest_err, unlike}
+use Rattle.wire_fields.specs.Shape.{keeps}
+use Rattle.wire_machines.specs.Motor.{motor-axis-kind, motor-drift-kind, motor-heat-kind}
+use Rattle.wire_machines.specs.Motor.{motor-is_on-kind, motor-key-kind, motor-known}
+use Rattle.wire_machines.specs.Motor.{motor-least-kind, motor-load-kind, motor-maker-kind}
+use Rattle.wire_machines.specs.Motor.{motor-mode-kind, motor-name-kind, motor-offset-kind}
+use Rattle.wire_machines.specs.Motor.{motor-seal-kind, motor-shape, motor-spare-kind}
+use Rattle.wire_machines.proofs.motor.MotorMessageFields.merge_field.Goals as goal
+
+pub returns-in-1-clause-err : goal.returns-in-1-clause-err
+returns-in-1-clause-err g c =
+    arm_err motor-shape.takes motor-name-kind.kind.takes 1 _
+    (sym c.fields-field_number.ensures.number ∙ c.in-1.is) _ _
+    (λ charge z p h. (z.0.0.0.0.0.0.0, h.0.0.0.0.0.0.0)) _ _ _
+    c.fields-merge.result c.fields-merge.ensures.err
+
+pub returns-in-1-clause-ok : goal.returns-in-1-clause-ok
+returns-in-1-clause-ok g c =
+    arm_ok motor-shape.takes motor-name-kind.kind.takes 1 _
+    (sym c.fields-field_number.ensures.number ∙ c.in-1.is) _ _ _ _
+    (λ charge p h. (((((((h, refl), refl), refl), refl), refl), refl), refl)) _ _ _ _ _
+    c.fields-merge.result c.fields-merge.ensures.ok
+
+pub returns-in-2-clause-err : goal.returns-in-2-clause-err
+returns-in-2-clause-err g c =
+    arm_err motor-shape.takes motor-maker-kind.kind.takes 2 _
+    (sym c.fields-field_number.ensures.number ∙ c.in-2.is) _ _
+    (λ charge z p h. (z.0.0.0.0.0.0.1, h.0.0.0.0.0.0.0)) _ _ _
+    (c.fields-merge-in-2).result (c.fields-merge-in-2).ensures.err
+
+pub returns-in-2-clause-ok : goal.returns-in-2-clause-ok
+returns-in-2-clause-ok g c =
+    arm_ok motor-shape.takes motor-maker-kind.kind.takes 2 _
+    (sym c.fields-field_number.ensures.number ∙ c.in-2.is) _ _ _ _
+    (λ charge p h. (((((((h, refl), refl), refl), refl), refl), refl), refl)) _ _ _ _ _
+    (c.fields-merge-in-2).result (c.fields-merge-in-2).ensures.ok
+
+pub returns-in-3-clause-err : goal.returns-in-3-clause-err
+returns-in-3-clause-err g c =
+    arm_err motor-shape.takes motor-key-kind.kind.takes 3 _
+    (sym c.fields-field_number.ensures.number ∙ c.in-3.is) _ _
+    (λ charge z p h. (z.0.0.0.0.0.1.0, h.0.0.0.0.0.0.0)) _ _ _
+    (c.fields-merge-in-3).result (c.fields-merge-in-3).ensures.err
+
+pub returns-in-3-clause-ok : goal.returns-in-3-clause-ok
+returns-in-3-clause-ok g c =
+    arm_ok motor-shape.takes motor-key-kind.kind.takes 3 _
+    (sym c.fields-field_number.ensures.number ∙ c.in-3.is) _ _ _ _
+    (λ charge p h. (((((((h, refl), refl), refl), refl), refl), refl), refl)) _ _ _ _ _
+    (c.fields-merge-in-3).result (c.fields-merge-in-3).ensures.ok
+
+pub returns-in-4-clause-err : goal.returns-in-4-clause-err
+returns-in-4-clause-err g c =
+    arm_err motor-shape.takes motor-seal-kind.kind.takes 4 _
+    (sym c.fields-field_number.ensures.number ∙ c.in-4.is) _ _
+    (λ charge z p h. (z.0.0.0.0.0.1.1, h.0.0.0.0.0.0.0)) _ _ _
+    (c.fields-merge-in-4).result (c.fields-merge-in-4).ensures.err
+
+pub returns-in-4-clause-ok : goal.returns-in-4-clause-ok
+returns-in-4-clause-ok g c =
+    arm_ok motor-shape.takes motor-seal-kind.kind.takes 4 _
+    (sym c.fields-field_number.ensures.number ∙ c.in-4.is) _ _ _ _
+    (λ charge p h. (((((((h, refl), refl), refl), refl), refl), refl), refl)) _ _ _ _ _
+    (c.fields-merge-in-4).result (c.fields-merge-in-4).ensures.ok
+
+pub returns-in-5-clause-err : goal.returns-in-5-clause-err
+returns-in-5-clause-err g c =
+    arm_err motor-shape.takes motor-mode-kind.kind.takes 5 _
+    (sym c.fields-field_number.ensures.number ∙ c.in-5.is) _ _
+    (λ charge z p h. (z.0.0.0.0.1.0.0, h.0.0.0.0.0.0.0)) _ _ _
+    (c.fields-merge-in-5).result (c.fields-merge-in-5).ensures.err
+
+pub returns-in-5-clause-ok : goal.returns-in-5-clause-ok
+returns-in-5-clause-ok g c =
+    arm_ok motor-shape.takes motor-mode-kind.kind.takes 5 _
+    (sym c.fields-field_number.ensures.number ∙ c.in-5.is) _ _ _ _
+    (λ charge p h. (((((((h, refl), refl), refl), refl), refl), refl), refl)) _ _ _ _ _
+    (c.fields-merge-in-5).result (c.fields-merge-in-5).ensures.ok
+
+pub returns-in-6-clause-err : goal.returns-in-6-clause-err
+returns-in-6-clause-err g c =
+    arm_err motor-shape.takes motor-least-kind.kind.takes 6 _
+    (sym c.fields-field_number.ensures.number ∙ c.in-6.is) _ _
+    (λ charge z p h. (z.0.0.0.0.1.0.1, h.0.0.0.0.0.0.0)) _ _ _
+    (c.fields-merge-in-6).result (c.fields-merge-in-6).ensures.err
+
+pub returns-in-6-clause-ok : goal.returns-in-6-clause-ok
+returns-in-6-clause-ok g c =
+    arm_ok motor-shape.takes motor-least-kind.kind.takes 6 _
+    (sym c.fields-field_number.ensures.number ∙ c.in-6.is) _ _ _ _
+    (λ charge p h. (((((((h, refl), refl), refl), refl), refl), refl), refl)) _ _ _ _ _
+    (c.fields-merge-in-6).result (c.fields-merge-in-6).ensures.ok
+
+pub returns-in-7-clause-err : goal.returns-in-7-clause-err
+returns-in-7-clause-err g c =
+    arm_err motor-shape.takes motor-axis-kind.kind.takes 7 _
+    (sym c.fields-field_number.ensures.number ∙ c.in-7.is) _ _
+    (λ charge z p h. (z.0.0.0.0.1.1.0, h.0.0.0.0.0.0.0)) _ _ _
+    (c.fields-merge-in-7).result (c.fields-merge-in-7).ensures.err
+
+pub returns-in-7-clause-ok : goal.returns-in-7-clause-ok
+returns-in-7-clause-ok g c =
+    arm_ok motor-shape.takes motor-axis-kind.kind.takes 7 _
+    (sym c.fields-field_number.ensures.number ∙ c.in-7.is) _ _ _ _
+    (λ charge p h. (((((((h, refl), refl), refl), refl), refl), refl), refl)) _ _ _ _ _
+    (c.fields-merge-in-7).result (c.fields-merge-in-7).ensures.ok
+
+pub returns-in-8-clause-err : goal.returns-in-8-clause-err
+returns-in-8-clause-err g c =
+    arm_err motor-shape.takes motor-spare-kind.kind.takes 8 _
+    (sym c.fields-field_number.ensures.number ∙ c.in-8.is) _ _
+    (λ charge z p h. (z.0.0.0.0.1.1.1, h.0.0.0.0.0.0.0)) _ _ _
+    (c.fields-merge-in-8).result (c.fields-merge-in-8).ensures.err
+
+pub returns-in-8-clause-ok : goal.returns-in-8-clause-ok
+returns-in-8-clause-ok g c =
+    arm_ok motor-shape.takes motor-spare-kind.kind.takes 8 _
+    (sym c.fields-field_number.ensures.number ∙ c.in-8.is) _ _ _ _
+    (λ charge p h. (((((((h, refl), refl), refl), refl), refl), refl), refl)) _ _ _ _ _
+    (c.fields-merge-in-8).result (c.fields-merge-in-8).ensures.ok
+
+pub returns-in-9-clause-err : goal.returns-in-9-clause-err
+returns-in-9-clause-err g c =
+    arm_err motor-shape.takes motor-is_on-kind.kind.takes 9 _
+    (sym c.fields-field_number.ensures.number ∙ c.in-9.is) _ _
+    (λ charge z p h. (z.0.0.0.1, h.0.0.0.0)) _ _ _
+    (c.fields-merge-in-9).result (c.fields-merge-in-9).ensures.err
+
+pub returns-in-9-clause-ok : goal.returns-in-9-clause-ok
+returns-in-9-clause-ok g c =
+    arm_ok motor-shape.takes motor-is_on-kind.kind.takes 9 _
+    (sym c.fields-field_number.ensures.number ∙ c.in-9.is) _ _ _ _
+    (λ charge p h. ((((h, refl), refl), refl), refl)) _ _ _ _ _
+    (c.fields-merge-in-9).result (c.fields-merge-in-9).ensures.ok
+
+pub returns-in-10-clause-err : goal.returns-in-10-clause-err
+returns-in-10-clause-err g c =
+    arm_err motor-shape.takes motor-load-kind.kind.takes 10 _
+    (sym c.fields-field_number.ensures.number ∙ c.in-10.is) _ _
+    (λ charge z p h. (z.0.0.1.0, h.0.0.0.0)) _ _ _
+    (c.fields-merge-in-10).result (c.fields-merge-in-10).ensures.err
+
+pub returns-in-10-clause-ok : goal.returns-in-10-clause-ok
+returns-in-10-clause-ok g c =
+    arm_ok motor-shape.takes motor-load-kind.kind.takes 10 _
+    (sym c.fields-field_number.ensures.number ∙ c.in-10.is) _ _ _ _
+    (λ charge p h. ((((h, refl), refl), refl), refl)) _ _ _ _ _
+    (c.fields-merge-in-10).result (c.fields-merge-in-10).ensures.ok
+
+pub returns-in-11-clause-err : goal.returns-in-11-clause-err
+returns-in-11-clause-err g c =
+    arm_err motor-shape.takes motor-heat-kind.kind.takes 11 _
+    (sym c.fields-field_number.ensures.number ∙ c.in-11.is) _ _
+    (λ charge z p h. (z.0.0.1.1, h.0.0.0.0)) _ _ _
+    (c.fields-merge-in-11).result (c.fields-merge-in-11).ensures.err
+
+pub returns-in-11-clause-ok : goal.returns-in-11-clause-ok
+returns-in-11-clause-ok g c =
+    arm_ok motor-shape.takes motor-heat-kind.kind.takes 11 _
+    (sym c.fields-field_number.ensures.number ∙ c.in-11.is) _ _ _ _
+    (λ charge p h. ((((h, refl), refl), refl), refl)) _ _ _ _ _
+    (c.fields-merge-in-11).result (c.fields-merge-in-11).ensures.ok
+
+pub returns-in-12-clause-err : goal.returns-in-12-clause-err
+returns-in-12-clause-err g c =
+    arm_err motor-shape.takes motor-drift-kind.kind.takes 12 _
+    (sym c.fields-field_number.ensures.number ∙ c.in-12.is) _ _
+    (λ charge z p h. (z.0.1.0, h.0.0.0)) _ _ _
+    (c.fields-merge-in-12).result (c.fields-merge-in-12).ensures.err
+
+pub returns-in-12-clause-ok : goal.returns-in-12-clause-ok
+returns-in-12-clause-ok g c =
+    arm_ok motor-shape.takes motor-drift-kind.kind.takes 12 _
+    (sym c.fields-field_number.ensures.number ∙ c.in-12.is) _ _ _ _
+    (λ charge p h. (((h, refl), refl), refl)) _ _ _ _ _
+    (c.fields-merge-in-12).result (c.fields-merge-in-12).ensures.ok
+
+pub returns-in-536870911-clause-err : goal.returns-in-536870911-clause-err
+returns-in-536870911-clause-err g c =
+    arm_err motor-shape.takes motor-offset-kind.kind.takes 536870911 _
+    (sym c.fields-field_number.ensures.number ∙ c.in-536870911.is) _ _
+    (λ charge z p h. (z.0.1.1, h.0.0.0)) _ _ _
+    (c.fields-merge-in-536870911).result (c.fields-merge-in-536870911).ensures.err
+
+pub returns-in-536870911-clause-ok : goal.returns-in-536870911-clause-ok
+returns-in-536870911-clause-ok g c =
+    arm_ok motor-shape.takes motor-offset-kind.kind.takes 536870911 _
+    (sym c.fields-field_number.ensures.number ∙ c.in-536870911.is) _ _ _ _
+    (λ charge p h. (((h, refl), refl), refl)) _ _ _ _ _
+    (c.fields-merge-in-536870911).result (c.fields-merge-in-536870911).ensures.ok
+
+pub returns-in_default-clause-err : goal.returns-in_default-clause-err
+returns-in_default-clause-err g c =
+    let n = tag_number c.args.tag in
+    rest_err motor-known.owns motor-known.takes keeps _
+    (λ p. neither _ _ (neither _ _
+    (neither _ _ (neither _ _ (neither _ _ (neither _ _ (unlike n 1 (search rules))
+    (unlike n 2 (search rules)))
+    (neither _ _ (unlike n 3 (search rules))
+    (unlike n 4 (search rules))))
+    (neither _ _ (neither _ _ (unlike n 5 (search rules))
+    (unlike n 6 (search rules)))
+    (neither _ _ (unlike n 7 (search rules))
+    (unlike n 8 (search rules)))))
+    (unlike n 9 (search rules)))
+    (neither _ _ (unlike n 10 (search rules))
+    (unlike n 11 (search rules))))
+    (neither _ _ (unlike n 12 (search rules))
+    (unlike n 536870911 (search rules))))
+    _ _ _ _ c.fields-keep.result c.fields-keep.ensures.err

@@ -1,0 +1,73 @@
+use Rattle.std.proofs.Common.{refl, rules, sym, ◌∙◌}
+use Rattle.wire_codec.specs.TagView.{tag_number}
+use Rattle.wire_fields.specs.Arms.{arm_err, arm_ok, neither, rest_err, unlike}
+use Rattle.wire_fields.specs.Shape.{keeps}
+use Rattle.wire_machines.specs.Part.{part-count-kind, part-inside-kind, part-known, part-name-kind}
+use Rattle.wire_machines.specs.Part.{part-parts-kind, part-shape}
+use Rattle.wire_machines.proofs.part.PartMessageFields.merge_field.Goals as goal
+
+pub returns-in-1-clause-err : goal.returns-in-1-clause-err
+returns-in-1-clause-err g c =
+    arm_err part-shape.takes part-name-kind.kind.takes 1 _
+    (sym c.fields-field_number.ensures.number ∙ c.in-1.is) _ _
+    (λ charge z p h. (z.0.0.0, h.0.0.0)) _ _ _
+    c.fields-merge.result c.fields-merge.ensures.err
+
+pub returns-in-1-clause-ok : goal.returns-in-1-clause-ok
+returns-in-1-clause-ok g c =
+    arm_ok part-shape.takes part-name-kind.kind.takes 1 _
+    (sym c.fields-field_number.ensures.number ∙ c.in-1.is) _ _ _ _
+    (λ charge p h. (((h, refl), refl), refl)) _ _ _ _ _
+    c.fields-merge.result c.fields-merge.ensures.ok
+
+pub returns-in-2-clause-err : goal.returns-in-2-clause-err
+returns-in-2-clause-err g c =
+    arm_err part-shape.takes part-inside-kind.kind.takes 2 _
+    (sym c.fields-field_number.ensures.number ∙ c.in-2.is) _ _
+    (λ charge z p h. (z.0.0.1, h.0.0.0)) _ _ _
+    (c.fields-merge-in-2).result (c.fields-merge-in-2).ensures.err
+
+pub returns-in-2-clause-ok : goal.returns-in-2-clause-ok
+returns-in-2-clause-ok g c =
+    arm_ok part-shape.takes part-inside-kind.kind.takes 2 _
+    (sym c.fields-field_number.ensures.number ∙ c.in-2.is) _ _ _ _
+    (λ charge p h. (((h, refl), refl), refl)) _ _ _ _ _
+    (c.fields-merge-in-2).result (c.fields-merge-in-2).ensures.ok
+
+pub returns-in-3-clause-err : goal.returns-in-3-clause-err
+returns-in-3-clause-err g c =
+    arm_err part-shape.takes part-parts-kind.kind.takes 3 _
+    (sym c.fields-field_number.ensures.number ∙ c.in-3.is) _ _
+    (λ charge z p h. (z.0.1.0, h.0.0.0)) _ _ _
+    (c.fields-merge-in-3).result (c.fields-merge-in-3).ensures.err
+
+pub returns-in-3-clause-ok : goal.returns-in-3-clause-ok
+returns-in-3-clause-ok g c =
+    arm_ok part-shape.takes part-parts-kind.kind.takes 3 _
+    (sym c.fields-field_number.ensures.number ∙ c.in-3.is) _ _ _ _
+    (λ charge p h. (((h, refl), refl), refl)) _ _ _ _ _
+    (c.fields-merge-in-3).result (c.fields-merge-in-3).ensures.ok
+
+pub returns-in-4-clause-err : goal.returns-in-4-clause-err
+returns-in-4-clause-err g c =
+    arm_err part-shape.takes part-count-kind.kind.takes 4 _
+    (sym c.fields-field_number.ensures.number ∙ c.in-4.is) _ _
+    (λ charge z p h. (z.0.1.1, h.0.0.0)) _ _ _
+    (c.fields-merge-in-4).result (c.fields-merge-in-4).ensures.err
+
+pub returns-in-4-clause-ok : goal.returns-in-4-clause-ok
+returns-in-4-clause-ok g c =
+    arm_ok part-shape.takes part-count-kind.kind.takes 4 _
+    (sym c.fields-field_number.ensures.number ∙ c.in-4.is) _ _ _ _
+    (λ charge p h. (((h, refl), refl), refl)) _ _ _ _ _
+    (c.fields-merge-in-4).result (c.fields-merge-in-4).ensures.ok
+
+pub returns-in_default-clause-err : goal.returns-in_default-clause-err
+returns-in_default-clause-err g c =
+    let n = tag_number c.args.tag in
+    rest_err part-known.owns part-known.takes keeps _
+    (λ p. neither _ _ (neither _ _ (unlike n 1 (search rules))
+    (unlike n 2 (search rules)))
+    (neither _ _ (unlike n 3 (search rules))
+    (unlike n 4 (search rules))))
+    _ _ _ _ c.fields-keep.result c.fields-keep.ensures.err

@@ -1,0 +1,15 @@
+use Rattle.wire_structs.proofs.Shown.{decodes_back, not_decoded_back}
+use Rattle.wire_machines.proofs.TaskCountsEntryInCShows.{task_counts_entry-shows}
+use Rattle.wire_machines.specs.TaskCountsEntry.{task_counts_entry-shape}
+use Rattle.wire_machines.specs.TaskCountsEntryInC.{task_counts_entry-seen, task_counts_entry-struct}
+use Rattle.wire_machines.proofs.task_counts_entry_in_c.read_task_counts_entry.Goals as goal
+
+pub returns-clause-ok : goal.returns-clause-ok
+returns-clause-ok c = λ is.
+    decodes_back task_counts_entry-seen task_counts_entry-shape.takes task_counts_entry-struct.takes
+    task_counts_entry-shows.steps _ task_counts_entry-shape.default _ _ (c.read_status.ensures.ok is)
+
+pub returns-clause-err : goal.returns-clause-err
+returns-clause-err c = λ is.
+    not_decoded_back task_counts_entry-seen task_counts_entry-shape.takes task_counts_entry-struct.takes
+    task_counts_entry-shows.steps _ task_counts_entry-shape.default _ (c.read_status.ensures.err is)

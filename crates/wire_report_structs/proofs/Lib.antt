@@ -1,0 +1,5 @@
+pub mod ReportInCShows
+pub mod ReportLabelsEntryInCShows
+pub mod ReportLastEntryInCShows
+pub mod ReportOriginInCShows
+pub mod ReportSampleInCShows

@@ -1,0 +1,6 @@
+use Rattle.wire_report_structs.specs.ReportSampleStays.{report_sample-stays}
+use Rattle.wire_fields.specs.Stays.{decodes_in_range}
+use Rattle.wire_report_structs.proofs.laws.report_sample_decodes_in_range.Goals as goal
+
+pub returns : goal.returns
+returns c = decodes_in_range c.grounds.ensures (report_sample-stays c.grounds.ensures)

@@ -1,0 +1,17 @@
+pub mod Report
+pub mod ReportInC
+pub mod ReportInCLists
+pub mod ReportLabelsEntry
+pub mod ReportLabelsEntryInC
+pub mod ReportLabelsEntryStays
+pub mod ReportLastEntry
+pub mod ReportLastEntryInC
+pub mod ReportLastEntryStays
+pub mod ReportLevel
+pub mod ReportOrigin
+pub mod ReportOriginInC
+pub mod ReportOriginStays
+pub mod ReportSample
+pub mod ReportSampleInC
+pub mod ReportSampleStays
+pub mod ReportStays

@@ -1,0 +1,4 @@
+use Rattle.wire_report_structs_c.proofs.report.report_report_fault_within.Goals as goal
+
+pub returns-clause-err : goal.returns-clause-err
+returns-clause-err c = rw c.context_within-context.ensures at c.report_fault.ensures.err
