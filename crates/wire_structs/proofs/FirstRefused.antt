@@ -3,17 +3,13 @@ use Rattle.std.proofs.Common.{◌≡◌, ◌-◌, ◌<◌, ◌≤◌, ℕ, List,
 use Rattle.wire_base.proofs.FieldLaws.{rest_below}
 use Rattle.wire_base.proofs.ReadLaws.{Reads-shorter}
 use Rattle.wire_codec.proofs.Lists.{Follows, at_start, at_end, head, one_more}
-use Rattle.wire_base.specs.declared.error.DecodeError.{DecodeError}
-use Rattle.wire_base.specs.declared.tag.WireType.{WireType}
 use Rattle.wire_codec.specs.Ending.{by_limit}
 use Rattle.wire_codec.specs.Field.{type_of}
 use Rattle.wire_codec.specs.Folds.{Step, IsSingle}
 use Rattle.wire_codec.specs.Limits.{Limits, Charge, left_after}
-use Rattle.wire_codec.specs.Read.{Reads}
 use Rattle.wire_codec.specs.Spells.{IsPayload}
-use Rattle.wire_codec.specs.Tag.{IsTagSpelling, TagFault}
 use Rattle.wire_codec.specs.Taken.{TakesFields}
-use Rattle.wire_codec.specs.Taking.{TakesRecord, NotTaken, Decodes, NotDecoded}
+use Rattle.wire_codec.specs.Taking.{NotTaken, Decodes, NotDecoded}
 use Rattle.wire_codec.specs.TakingLaws.{RecordsInOrder}
 use Rattle.wire_structs.proofs.Shown.{folds_back}
 use Rattle.wire_structs.specs.Refused.{TakesNext, IsFirstRefused}
@@ -57,19 +53,6 @@ module _ (order : RecordsInOrder) {V : Type 0} (takes : Step V) where
       one_more order takes single (by_limit most) l k left taken.number taken.wire_type m v u
       old now taken.behind next d (h most (omega (arith, within, shorter)))
       (omega (arith, within, shorter)) taken.tag tt taken.taken is
-
-  -- no record where no tag stands, or where one stands behind which nothing is taken
-  pub no_tag_next : (l : Limits) (m : V) (old : List ℕ) (e : DecodeError) → TagFault old e
-      → NotTaken (TakesNext takes l m old)
-  no_tag_next l m old e fault = λ c z new h.
-      order.tag_fault old h.behind h.number h.wire_type e h.tag fault
-
-  pub no_record_next : (l : Limits) (m : V) (n : ℕ) (w : WireType) (old behind : List ℕ)
-      → Reads old (IsTagSpelling n w) behind → NotTaken (TakesRecord takes l n w m behind)
-      → NotTaken (TakesNext takes l m old)
-  no_record_next l m n w old behind tag untaken = λ c z new h.
-      let same = order.reading.tag old behind h.behind n h.number w h.wire_type tag h.tag in
-      untaken c z new (rw (same.0, same.1, same.2) h.taken)
 
   -- the records up to here are the front, where the next is refused
   pub first_refused : (l k : Limits) (m v : V) (old now : List ℕ) (place : ℕ)

@@ -5,6 +5,7 @@ pub mod FirstRecords
 pub mod FirstRefused
 pub mod KeptTexts
 pub mod KeptUnknown
+pub mod NextRecord
 pub mod NumberWalkLemmas
 pub mod PackedFronts
 pub mod PackedWriting

@@ -1,11 +1,11 @@
 //! Where bytes are no message.
-ghost use Rattle.std.specs.Prelude.{◌≡◌, ◌≢◌, length, OnOk, OnErr};
+ghost use Rattle.std.specs.Prelude.{◌≡◌, ◌≢◌, ◌<◌, length, OnOk, OnErr};
 ghost use Rattle.wire_codec.specs.Taking.{Decodes, IsCharged, NotDecoded, NotTaken};
 ghost use Rattle.wire_structs.specs.Refused.{IsFirstRefused, TakesNext};
 
 use crate::message::MessageStruct;
 use bytes::Buf;
-use wire_codec::{DecodeContext, DecodeError, Tag, laws};
+use wire_codec::{DecodeContext, DecodeError, laws};
 use wire_read::numbers::status_of;
 
 /// Looks whether all of the bytes are a message, within the limits of the context, and where not, at
@@ -37,12 +37,14 @@ pub fn refused_status<M: MessageStruct>(
     0
 }
 
-// Takes the record at the front into the struct.
+// Takes the record at the front into the struct, as a list of all bytes but the last: so one loop
+// alone takes records, and the compiler puts `merge_field` into it.
 fn take_next<M: MessageStruct>(
     message: &mut M,
     buf: &mut M::Source,
     context: &mut DecodeContext,
 ) -> Result<(), DecodeError>
+    requires { 0 < length (M.Source.unread buf.old) }
     ensures ok { OnOk result (IsCharged context.old context.new (λ c.
         TakesNext M.takes context.old (M.view message.old) (M.Source.unread buf.old) c
         (M.view message.new) (M.Source.unread buf.new))) }
@@ -50,7 +52,7 @@ fn take_next<M: MessageStruct>(
         (TakesNext M.takes context.old (M.view message.old) (M.Source.unread buf.old))) }
 {
     laws::records_in_order();
-    let tag = Tag::decode(buf)?;
-    message.merge_field(tag, buf, context)?;
+    let limit = buf.remaining() - 1;
+    message.merge_to_limit(buf, context, limit)?;
     Ok(())
 }
