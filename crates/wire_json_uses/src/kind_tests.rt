@@ -4,7 +4,7 @@
 use crate::answers::Answer::{Bad, Deep, Is, NoKey, Twice, Unfit, Unknown};
 use crate::answers::{Found, Row, found_in};
 use std::alloc::Global;
-use wire_jsonfields::batch::Grade;
+use wire_jsonfields::grade::Grade;
 use wire_jsonfields::sample::Sample;
 use wire_jsonfields::{
     AlwaysMessage, Embedded, EnumOf, Implicit, JsonValue, Map, Optional, Repeated,

@@ -9,6 +9,7 @@ use Rattle.wire_json.proofs.OneReading.{one_value_lemma}
 use Rattle.wire_json.proofs.Scalars.{word_parts}
 use Rattle.wire_protojson.specs.declared.refusal.ReadError.{ReadError}
 use Rattle.wire_protojson.specs.declared.refusal.ReadError.TheVariants.{Refused, OutOfMemory}
+use Rattle.wire_jsonfields.specs.MembersBack.{unless_null}
 use Rattle.wire_jsonfields.specs.Fields.{FieldMeans, MeansSome, MeansUnlessNull, ValuesMean}
 use Rattle.wire_jsonfields.specs.Levels.{NothingMeant, ReadsWithin}
 use Rattle.wire_protojson.specs.Laws.{IsDecided}
@@ -96,14 +97,6 @@ null_begun e old new reads is =
     ap kind_begun (word_parts (codes "null") old new (subst P is reads))
 
 module _ {V : Type 0} (default : V) (Means : Json → V → Type 0) where
-  pub unless_null : (e : Json) (v : V) → (e ≡ null → ⊥) → Means e v → MeansUnlessNull default Means e v
-  unless_null null v other m = absurd (other refl)
-  unless_null (boolean b) v other m = m
-  unless_null (number text) v other m = m
-  unless_null (string bytes) v other m = m
-  unless_null (array es) v other m = m
-  unless_null (object ms) v other m = m
-
   no_null : (e : Json) (v : V) → (e ≡ null → ⊥) → MeansUnlessNull default Means e v → Means e v
   no_null null v other m = absurd (other refl)
   no_null (boolean b) v other m = m
@@ -131,7 +124,7 @@ module _ {V : Type 0} (default : V) (Means : Json → V → Type 0) where
       found_means levels v new (json, reads, fits, m) =
           let same = one_value_lemma json only.0 (drop place text) new only.2.0 reads only.2.1 in
           let P : Json → Type 0 = λ j. Means j v in
-          (only.0 ∷ [], only.1, unless_null only.0 v is_not_null (subst P same.0 m))
+          (only.0 ∷ [], only.1, unless_null default Means only.0 v is_not_null (subst P same.0 m))
 
       pub found_nothing : (levels : ℕ) → NothingMeant levels Means (drop place text)
           → members_depth ms ≤ levels → (v : V) → FieldMeans default Means Named ms v → ⊥

@@ -1,8 +1,10 @@
 -- The text of members, field by field.
-use Rattle.std.proofs.Common.{◌≡◌, ◌≢◌, ℕ, Bool, true, false, ◌&&◌, List, [], ◌∷◌, ◌++◌, Result, Ok, Err, inl, inr, refl, sym, ap, ◌∙◌, append_assoc, append-nil}
-use Rattle.std.specs.Prelude.{OnOk}
+use Rattle.std.proofs.Common.{◌≡◌, ◌≢◌, ℕ, Bool, true, false, ◌&&◌, List, [], ◌∷◌, ◌++◌, Result, Ok, Err, inl, inr, Option, None, refl, sym, ap, ◌∙◌, subst, append_assoc, append-nil}
+use Rattle.std.specs.Prelude.{IfOk, OnOk}
 use Rattle.wire_json.specs.Json.{Json, object, Members, no_member, member}
 use Rattle.wire_json.specs.Written.{written, written_name, written_members, written_more_members}
+use Rattle.wire_jsonfields.specs.Oneofs.{OneofTrees}
+use Rattle.wire_jsonfields.specs.Parts.{BothTrees}
 use Rattle.wire_jsonfields.specs.Messages.{IsFieldTree, IsObjectTree, comma_unless, is_no_member, members_joined, text_behind, text_of_members}
 
 behind_joined : (ms others : Members)
@@ -45,6 +47,46 @@ closed (member n e ms) =
     ∙ ap (λ (l : List ℕ). written_name n ++ l)
     (sym (append_assoc (written e) (text_behind ms) (125 ∷ [])))
     ∙ sym (append_assoc (written_name n) (written e ++ text_behind ms) (125 ∷ []))
+
+-- the text of members from wherever they begin
+text_behind_joined : (first : Bool) (ms others : Members)
+    → text_of_members first (members_joined ms others)
+    ≡ text_of_members first ms ++ text_of_members (first && is_no_member ms) others
+text_behind_joined true ms others = text_joined ms others
+text_behind_joined false ms others = behind_joined ms others
+
+and_assoc : (a b c : Bool) → ((a && b) && c) ≡ (a && (b && c))
+and_assoc true b c = refl
+and_assoc false b c = refl
+
+-- members, and others behind them
+pub both_put : (first next last : Bool) (ms others : Members) (old mid new : List ℕ)
+    → mid ≡ old ++ text_of_members first ms → next ≡ (first && is_no_member ms)
+    → new ≡ mid ++ text_of_members next others → last ≡ (next && is_no_member others)
+    → (new ≡ old ++ text_of_members first (members_joined ms others))
+    × (last ≡ (first && is_no_member (members_joined ms others)))
+both_put first next last ms others old mid new one is other then_is = (
+  other ∙ ap (λ (l : List ℕ). l ++ text_of_members next others) one
+      ∙ append_assoc old (text_of_members first ms) (text_of_members next others)
+      ∙ ap (λ (b : Bool). old ++ (text_of_members first ms ++ text_of_members b others)) is
+      ∙ ap (λ (l : List ℕ). old ++ l) (sym (text_behind_joined first ms others)),
+  then_is ∙ ap (λ (b : Bool). b && is_no_member others) is
+      ∙ and_assoc first (is_no_member ms) (is_no_member others)
+      ∙ ap (λ (b : Bool). first && b) (sym (empty_joined ms others)),
+)
+
+module _ {V W : Type 0} (P : V → Members → Type 0) (Q : W → Members → Type 0) (v : V) (w : W)
+    (first next : Bool) (xs : Members) (old mid new : List ℕ) where
+  pub put_both : P v xs → mid ≡ old ++ text_of_members first xs
+      → next ≡ (first && is_no_member xs) → {E : Type 0} (r : Result Bool E)
+      → IfOk r (λ last. (ys : Members) × Q w ys × (new ≡ mid ++ text_of_members next ys)
+      × (last ≡ (next && is_no_member ys)))
+      → IfOk r (λ last. (ms : Members) × BothTrees P Q (v, w) ms
+      × (new ≡ old ++ text_of_members first ms) × (last ≡ (first && is_no_member ms)))
+  put_both one put is (Ok last) (ys, other, behind, then_is) =
+      let both = both_put first next last xs ys old mid new put is behind then_is in
+      (members_joined xs ys, (xs, ys, one, other, refl), both.0, both.1)
+  put_both one put is (Err e) h = tt
 
 -- ---- a message
 
@@ -102,6 +144,14 @@ pub none_put : (first : Bool) (items : List ℕ)
     × (first ≡ (first && is_no_member no_member))
 none_put first items =
     (sym (append-nil items) ∙ ap (λ (l : List ℕ). items ++ l) (sym (none_text first)), still first)
+
+-- nothing is written of a oneof that has no value
+pub none_chosen : {V : Type 0} (Trees : V → Members → Type 0) (o : Option V) → o ≡ None
+    → (first : Bool) (items : List ℕ) → (ms : Members) × OneofTrees Trees o ms
+    × (items ≡ items ++ text_of_members first ms) × (first ≡ (first && is_no_member ms))
+none_chosen Trees o none first items =
+    let (put, next) = none_put first items in
+    (no_member, subst (λ x. OneofTrees Trees x no_member) (sym none) refl, put, next)
 
 module _ {V : Type 0} (absent : V) (Tree : V → Json → Type 0) (name : List ℕ) (v : V) where
   pub field_absent : (first : Bool) (items : List ℕ) → v ≡ absent

@@ -1,9 +1,8 @@
 -- What an object says of a field.
 use Rattle.std.proofs.Common.{refl}
-use Rattle.std.specs.Prelude.{◌≡◌, ◌⊎◌, ℕ, List, [], ◌∷◌, Option, Some, None}
+use Rattle.std.specs.Prelude.{◌≡◌, ℕ, List, [], ◌∷◌, Option, Some, None}
 use Rattle.wire_json.specs.Json.{Json, null, boolean, number, string, array, object, Members, no_member, member}
-use Rattle.wire_jsonfields.specs.declared.known.FieldName.{FieldName}
-use Rattle.wire_jsonfields.specs.Objects.{AreValuesOf, IsNameOf}
+use Rattle.wire_jsonfields.specs.Objects.{AreValuesOf}
 
 -- `null` leaves the field as it is without a member
 abbrev pub MeansUnlessNull : {V : Type 0} → V → (Json → V → Type 0) → Json → V → Type 0
@@ -40,12 +39,6 @@ FieldMeans default Means Named ms value =
 pub unsaid : {V : Type 0} (default : V) (Means : Json → V → Type 0) (Named : List ℕ → Type 0)
     → FieldMeans default Means Named no_member default
 unsaid default Means Named = ([], refl, refl)
-
--- a name of one of the fields
-abbrev pub IsKnown : List FieldName → List ℕ → Type 0
-IsKnown [] text = ⊥
-IsKnown (field ∷ fields) text =
-    IsNameOf field.name.now field.json_name.now text ⊎ IsKnown fields text
 
 -- each member has such a name
 abbrev pub EachKnown : (List ℕ → Type 0) → Members → Type 0

@@ -3,9 +3,7 @@ use Rattle.std.specs.Prelude.{◌≡◌, ◌⊎◌, ℕ, List, [], ◌∷◌, dr
 use Rattle.std.specs.Cow.{cow_str_bytes}
 use Rattle.wire_json.specs.declared.kind.Kind.TheVariants as kinds
 use Rattle.wire_json.specs.Kind.{kind_begun}
-use Rattle.wire_jsonfields.specs.declared.known.FieldName.{FieldName}
 use Rattle.wire_jsonfields.specs.declared.object.PlacedMember.{PlacedMember}
-use Rattle.wire_jsonfields.specs.Fields.{IsKnown}
 
 -- this is the first entry of which it holds, and these stand behind it
 abbrev pub StandsFirst : (PlacedMember → Type 0) → List PlacedMember → PlacedMember → List PlacedMember → Type 0
@@ -18,14 +16,14 @@ abbrev pub HoldsOfNone : (PlacedMember → Type 0) → List PlacedMember → Typ
 HoldsOfNone Holds [] = Unit {0}
 HoldsOfNone Holds (entry ∷ entries) = (Holds entry → ⊥) × HoldsOfNone Holds entries
 
--- the name of the entry is of none of the fields
-abbrev pub IsUnknown : List FieldName → PlacedMember → Type 0
-IsUnknown fields entry = IsKnown fields (cow_str_bytes entry.name) → ⊥
+-- the entry has no such name
+abbrev pub IsUnknown : (List ℕ → Type 0) → PlacedMember → Type 0
+IsUnknown Named entry = Named (cow_str_bytes entry.name) → ⊥
 
--- the name of the entry is of one of the fields, and its value is not `null`
-abbrev pub HasValue : List FieldName → List ℕ → PlacedMember → Type 0
-HasValue fields text entry =
-    IsKnown fields (cow_str_bytes entry.name)
+-- the entry has such a name, and its value is not `null`
+abbrev pub HasValue : (List ℕ → Type 0) → List ℕ → PlacedMember → Type 0
+HasValue Named text entry =
+    Named (cow_str_bytes entry.name)
     × (kind_begun (drop entry.place text) ≡ Some kinds.Null → ⊥)
 
 -- the place of the second value; of the first one where it is alone, and 0 where there is none

@@ -1,79 +1,24 @@
 //! A message type by hand, with an enum, a list of messages, a map and a oneof, of `message Batch {
 //! Grade grade = 1; repeated Sample samples = 2; map<string, int64> totals = 3; oneof origin {
 //! string file = 4; Sample template_sample = 5; } }`.
-ghost use Rattle.std.specs.Prelude.{◌≡◌, ◌≢◌, ◌≤◌, ◌++◌, ◌&&◌, Option, false, option_map, IfOk, IfErr, OnOk, OnErr};
-ghost use Rattle.wire_json.specs.Compact.{Extends};
-ghost use Rattle.wire_json.specs.Json.{Members, members_depth};
-ghost use Rattle.wire_protojson.specs.declared.refusal.ReadError.TheVariants.{OutOfMemory};
-ghost use Rattle.wire_jsonfields.specs.Batch.{Batch-Value, BatchIsRead, BatchReadsBack, Origin-Value, batch-default, batch-says, batch-trees, batch-unsaid, batch-value, grade-names, grade-number, one-origin-trees, one_batch, origin-says, origin-trees, origin-value};
-ghost use Rattle.wire_jsonfields.specs.Messages.{is_no_member, text_of_members};
-ghost use Rattle.wire_jsonfields.specs.Objects.{ArePlaced};
+ghost use Rattle.wire_jsonfields.specs.Batch.{BatchIsRead, BatchReadsBack};
 
-use crate::enum_field::{EnumOf, JsonEnum};
-use crate::kind::{Implicit, Optional, read_field, write_field, write_member};
-use crate::known::{FieldName, check_names};
+use crate::by_parts::{read_parts, write_parts};
+use crate::choice::{Chosen, Either, JsonChoice, write_oneof};
+use crate::enum_field::EnumOf;
+use crate::grade::Grade;
+use crate::kind::{Implicit, read_field, write_field};
+use crate::known::FieldName;
 use crate::list::Repeated;
 use crate::map::Map;
-use crate::message::{AlwaysMessage, Embedded, JsonMessage};
-use crate::object::{PlacedMember, read_object};
-use crate::oneof::second_of_oneof;
+use crate::message::{AlwaysMessage, JsonMessage};
+use crate::object::PlacedMember;
+use crate::origin::{Origin, OriginFile, OriginTemplate};
+use crate::part::{Both, JsonPart};
 use crate::sample::Sample;
 use std::alloc::{AllocError, Global};
 use std::collections::BTreeMap;
-use wire_json::Mark;
-use wire_protojson::{EnumName, ReadError};
-
-/// How much a batch weighs.
-#[derive(Clone, Copy, Debug, PartialEq, Eq)]
-pub enum Grade {
-    Low,
-    High,
-    Unknown(i32),
-}
-
-const GRADE_NAMES: [EnumName<'static>; 2] = [
-    EnumName {
-        name: "LOW",
-        number: 0,
-    },
-    EnumName {
-        name: "HIGH",
-        number: 1,
-    },
-];
-
-impl JsonEnum for Grade {
-    ghost table = { grade-names };
-
-    ghost number = { grade-number };
-
-    fn names() -> &'static [EnumName<'static>] {
-        &GRADE_NAMES
-    }
-
-    fn from_i32(value: i32) -> Grade {
-        match value {
-            0 => Grade::Low,
-            1 => Grade::High,
-            other => Grade::Unknown(other),
-        }
-    }
-
-    fn to_i32(&self) -> i32 {
-        match self {
-            Grade::Low => 0,
-            Grade::High => 1,
-            Grade::Unknown(number) => *number,
-        }
-    }
-}
-
-/// Where a batch is from.
-#[derive(Drop)]
-pub enum Origin {
-    File(String),
-    Template(Box<Sample>),
-}
+use wire_protojson::ReadError;
 
 /// What was measured together.
 #[derive(Drop)]
@@ -83,6 +28,9 @@ pub struct Batch {
     pub totals: BTreeMap<String, i64>,
     pub origin: Option<Origin>,
 }
+
+/// The fields of `Batch`, and its oneof.
+pub type BatchParts = Both<BatchGrade, Both<BatchSamples, Both<BatchTotals, BatchOrigin>>>;
 
 const GRADE: FieldName = FieldName {
     name: "grade",
@@ -99,17 +47,237 @@ const TOTALS: FieldName = FieldName {
     json_name: "totals",
 };
 
-const FILE: FieldName = FieldName {
-    name: "file",
-    json_name: "file",
-};
+pub struct BatchGrade;
 
-const TEMPLATE: FieldName = FieldName {
-    name: "template_sample",
-    json_name: "templateSample",
-};
+impl JsonPart for BatchGrade {
+    ghost use Rattle.std.specs.Prelude.{ℕ, ℤ, pos, List, [], map, option_map, string_bytes, None, Option};
+    ghost use Rattle.wire_jsonfields.specs.Batch.{grade-number, GradeSays, GradeTrees, grade-unsaid, one_grade, grade-field-names, IsGradeInRange, grade-back};
+
+    type Message = Batch;
+
+    type Held = Grade;
+
+    ghost Value = { ℤ };
+
+    ghost view = { grade-number };
+
+    ghost seen = { λ m. grade-number m.grade };
+
+    ghost names = { grade-field-names };
+
+    ghost says = { GradeSays };
+
+    ghost trees = { GradeTrees };
+
+    ghost default = { pos 0 };
+
+    ghost unsaid = { grade-unsaid };
+
+    ghost one_value = { one_grade };
+
+    ghost in_range = { IsGradeInRange };
+
+    ghost back = { grade-back };
+
+    fn is_named(name: &str) -> bool {
+        name == GRADE.name || name == GRADE.json_name
+    }
+
+    fn read(
+        alloc: Global,
+        text: &[u8],
+        members: &[PlacedMember<'_>],
+        levels: u32,
+    ) -> Result<Grade, ReadError> {
+        read_field::<Implicit<EnumOf<Grade>>>(alloc, text, members, levels, &GRADE)
+    }
+
+    fn write(
+        alloc: Global,
+        out: &mut Vec<u8>,
+        first: bool,
+        message: &Batch,
+    ) -> Result<bool, AllocError> {
+        write_field::<Implicit<EnumOf<Grade>>>(alloc, out, first, &GRADE, &message.grade)
+    }
+}
+
+pub struct BatchSamples;
+
+impl JsonPart for BatchSamples {
+    ghost use Rattle.std.specs.Prelude.{ℕ, ℤ, pos, List, [], map, option_map, string_bytes, None, Option};
+    ghost use Rattle.wire_jsonfields.specs.Sample.{Sample-Value};
+    ghost use Rattle.wire_jsonfields.specs.Batch.{samples-value, SamplesSay, SamplesTrees, samples-unsaid, one_samples, samples-names, AreSamplesInRange, samples-back};
+
+    type Message = Batch;
+
+    type Held = Vec<Sample>;
+
+    ghost Value = { List Sample-Value };
+
+    ghost view = { samples-value };
+
+    ghost seen = { λ m. samples-value m.samples };
+
+    ghost names = { samples-names };
+
+    ghost says = { SamplesSay };
+
+    ghost trees = { SamplesTrees };
+
+    ghost default = { [] };
+
+    ghost unsaid = { samples-unsaid };
+
+    ghost one_value = { one_samples };
+
+    ghost in_range = { AreSamplesInRange };
+
+    ghost back = { samples-back };
+
+    fn is_named(name: &str) -> bool {
+        name == SAMPLES.name || name == SAMPLES.json_name
+    }
+
+    fn read(
+        alloc: Global,
+        text: &[u8],
+        members: &[PlacedMember<'_>],
+        levels: u32,
+    ) -> Result<Vec<Sample>, ReadError> {
+        read_field::<Repeated<AlwaysMessage<Sample>>>(alloc, text, members, levels, &SAMPLES)
+    }
+
+    fn write(
+        alloc: Global,
+        out: &mut Vec<u8>,
+        first: bool,
+        message: &Batch,
+    ) -> Result<bool, AllocError> {
+        write_field::<Repeated<AlwaysMessage<Sample>>>(
+            alloc,
+            out,
+            first,
+            &SAMPLES,
+            &message.samples,
+        )
+    }
+}
+
+pub struct BatchTotals;
+
+impl JsonPart for BatchTotals {
+    ghost use Rattle.std.specs.Prelude.{ℕ, ℤ, pos, List, [], map, option_map, string_bytes, None, Option};
+    ghost use Rattle.wire_jsonfields.specs.Maps.{entries_seen};
+    ghost use Rattle.wire_jsonfields.specs.Batch.{TotalsSay, TotalsTrees, totals-unsaid, one_totals, totals-names, AreTotalsInRange, totals-back};
+
+    type Message = Batch;
+
+    type Held = BTreeMap<String, i64>;
+
+    ghost Value = { List ((List ℕ) × ℤ) };
+
+    ghost view = { λ m. entries_seen (λ k. string_bytes k) (λ v. v) m.entries };
+
+    ghost seen = { λ m. entries_seen (λ k. string_bytes k) (λ v. v) m.totals.entries };
+
+    ghost names = { totals-names };
+
+    ghost says = { TotalsSay };
+
+    ghost trees = { TotalsTrees };
+
+    ghost default = { [] };
+
+    ghost unsaid = { totals-unsaid };
+
+    ghost one_value = { one_totals };
+
+    ghost in_range = { AreTotalsInRange };
+
+    ghost back = { totals-back };
+
+    fn is_named(name: &str) -> bool {
+        name == TOTALS.name || name == TOTALS.json_name
+    }
+
+    fn read(
+        alloc: Global,
+        text: &[u8],
+        members: &[PlacedMember<'_>],
+        levels: u32,
+    ) -> Result<BTreeMap<String, i64>, ReadError> {
+        read_field::<Map<String, Implicit<i64>>>(alloc, text, members, levels, &TOTALS)
+    }
+
+    fn write(
+        alloc: Global,
+        out: &mut Vec<u8>,
+        first: bool,
+        message: &Batch,
+    ) -> Result<bool, AllocError> {
+        write_field::<Map<String, Implicit<i64>>>(alloc, out, first, &TOTALS, &message.totals)
+    }
+}
+
+pub struct BatchOrigin;
+
+impl JsonPart for BatchOrigin {
+    ghost use Rattle.std.specs.Prelude.{None, Option, option_map};
+    ghost use Rattle.wire_jsonfields.specs.Choices.{oneof_seen};
+    ghost use Rattle.wire_jsonfields.specs.Batch.{Origin-Value, origin-chosen, origin-value, OriginSays, OriginTrees, origin-unsaid, one_origin, origin-names, IsOriginInRange, origin-back};
+
+    type Message = Batch;
+
+    type Held = Option<Chosen<String, Box<Sample>>>;
+
+    ghost Value = { Option Origin-Value };
+
+    ghost view = { option_map origin-chosen };
+
+    ghost seen = { λ m. oneof_seen origin-value m.origin };
+
+    ghost names = { origin-names };
+
+    ghost says = { OriginSays };
+
+    ghost trees = { OriginTrees };
+
+    ghost default = { None };
+
+    ghost unsaid = { origin-unsaid };
+
+    ghost one_value = { one_origin };
+
+    ghost in_range = { IsOriginInRange };
+
+    ghost back = { origin-back };
+
+    fn is_named(name: &str) -> bool {
+        Either::<OriginFile, OriginTemplate>::is_named(name)
+    }
+
+    fn read(
+        alloc: Global,
+        text: &[u8],
+        members: &[PlacedMember<'_>],
+        levels: u32,
+    ) -> Result<Option<Chosen<String, Box<Sample>>>, ReadError> {
+        Either::<OriginFile, OriginTemplate>::read(alloc, text, members, levels)
+    }
+
+    fn write(
+        alloc: Global,
+        out: &mut Vec<u8>,
+        first: bool,
+        message: &Batch,
+    ) -> Result<bool, AllocError> {
+        write_oneof::<Either<OriginFile, OriginTemplate>>(alloc, out, first, &message.origin)
+    }
+}
 
 impl JsonMessage for Batch {
+    ghost use Rattle.wire_jsonfields.specs.Batch.{Batch-Value, batch-default, batch-says, batch-trees, batch-unsaid, batch-value, one_batch, IsBatchInRange, batch-back};
     ghost use Rattle.wire_jsonfields.specs.Messages.{IsObjectTree, ObjectMeans};
     ghost use Rattle.wire_jsonfields.specs.OneValues.{one_object};
 
@@ -127,23 +295,24 @@ impl JsonMessage for Batch {
 
     ghost one_value = { one_object batch-says one_batch };
 
+    ghost in_range = { IsBatchInRange };
+
+    ghost back = { batch-back };
+
     fn read_json(
         alloc: Global,
         text: &[u8],
         at: usize,
         levels: u32,
     ) -> Result<(Batch, usize), ReadError> {
-        let object = read_object(alloc, text, at, levels)?;
-        let members = object.members.as_slice();
-        check_names(members, &[GRADE, SAMPLES, TOTALS, FILE, TEMPLATE])?;
-        let grade = read_field::<Implicit<EnumOf<Grade>>>(alloc, text, members, levels, &GRADE)?;
-        let samples = read_field::<Repeated<AlwaysMessage<Sample>>>(
-            alloc, text, members, levels, &SAMPLES,
+        let ((grade, (samples, (totals, chosen))), after) = read_parts::<BatchParts>(
+            alloc, text, at, levels,
         )?;
-        let totals = read_field::<Map<String, Implicit<i64>>>(
-            alloc, text, members, levels, &TOTALS,
-        )?;
-        let origin = read_origin(alloc, text, members, levels)?;
+        let origin = match chosen {
+            None => None,
+            Some(Chosen::This(file)) => Some(Origin::File(file)),
+            Some(Chosen::That(template)) => Some(Origin::Template(template)),
+        };
         Ok((
             Batch {
                 grade,
@@ -151,98 +320,12 @@ impl JsonMessage for Batch {
                 totals,
                 origin,
             },
-            object.after,
+            after,
         ))
     }
 
     fn write_json(&self, alloc: Global, out: &mut Vec<u8>) -> Result<(), AllocError> {
-        wire_json::write_mark(out, Mark::BeginObject)?;
-        let mut first = true;
-        first = write_field::<Implicit<EnumOf<Grade>>>(alloc, out, first, &GRADE, &self.grade)?;
-        first = write_field::<Repeated<AlwaysMessage<Sample>>>(
-            alloc,
-            out,
-            first,
-            &SAMPLES,
-            &self.samples,
-        )?;
-        first = write_field::<Map<String, Implicit<i64>>>(
-            alloc,
-            out,
-            first,
-            &TOTALS,
-            &self.totals,
-        )?;
-        write_origin(alloc, out, first, &self.origin)?;
-        wire_json::write_mark(out, Mark::EndObject)
-    }
-}
-
-// The member of the oneof that has a value.
-fn read_origin(
-    alloc: Global,
-    text: &[u8],
-    members: &[PlacedMember<'_>],
-    levels: u32,
-) -> Result<Option<Origin>, ReadError>
-    ensures ok { IfOk result (λ origin. (ms : Members) → ArePlaced text.now members.now ms
-        → origin-says ms (option_map origin-value origin)) }
-    ensures err { IfErr result (λ e. e ≢ OutOfMemory → (ms : Members)
-        → ArePlaced text.now members.now ms → members_depth ms ≤ levels
-        → (value : Option Origin-Value) → origin-says ms value → ⊥) }
-{
-    let file = read_field::<Optional<String>>(alloc, text, members, levels, &FILE)?;
-    let sample = read_field::<Embedded<Sample>>(alloc, text, members, levels, &TEMPLATE)?;
-    match file {
-        None => match sample {
-            None => Ok(None),
-            Some(sample) => Ok(Some(Origin::Template(sample))),
-        },
-        Some(file) => match sample {
-            None => Ok(Some(Origin::File(file))),
-            Some(_second) => Err(second_of_oneof(text, members, &[FILE, TEMPLATE])),
-        },
-    }
-}
-
-fn write_origin(
-    alloc: Global,
-    out: &mut Vec<u8>,
-    first: bool,
-    origin: &Option<Origin>,
-) -> Result<bool, AllocError>
-    ensures ok { IfOk result (λ next. (ms : Members)
-        × origin-trees (option_map origin-value origin.now) ms
-        × (out.new.items ≡ out.old.items ++ text_of_members first ms)
-        × (next ≡ (first && is_no_member ms))) }
-    ensures err { OnErr result (Extends out.old.items out.new.items) }
-{
-    match origin {
-        None => Ok(first),
-        Some(origin) => {
-            write_present_origin(alloc, out, first, origin)?;
-            Ok(false)
-        }
-    }
-}
-
-// The member of the oneof that there is.
-fn write_present_origin(
-    alloc: Global,
-    out: &mut Vec<u8>,
-    first: bool,
-    origin: &Origin,
-) -> Result<(), AllocError>
-    ensures ok { OnOk result ((ms : Members) × one-origin-trees (origin-value origin.now) ms
-        × (out.new.items ≡ out.old.items ++ text_of_members first ms)
-        × (is_no_member ms ≡ false)) }
-    ensures err { OnErr result (Extends out.old.items out.new.items) }
-{
-    match origin {
-        Origin::File(file) => { write_member::<Implicit<String>>(alloc, out, first, &FILE, file) }
-        Origin::Template(sample) => {
-            write_member::<AlwaysMessage<Sample>>(alloc, out, first, &TEMPLATE, sample)
-        }
+        write_parts::<BatchParts>(alloc, out, self)
     }
 }
 

@@ -1,6 +1,6 @@
 //! Enums as scalars, by the table of their names.
 ghost use Rattle.std.specs.Prelude.{◌≡◌, ℤ};
-ghost use Rattle.wire_protojson.specs.Enums.{EnumTable, enum_table};
+ghost use Rattle.wire_protojson.specs.Enums.{AreTexts, EnumTable, NamesAgree, enum_table};
 
 use crate::kind::JsonScalar;
 use std::alloc::{AllocError, Global};
@@ -15,6 +15,12 @@ pub trait JsonEnum: Drop + Sized {
 
     /// The number of a value.
     ghost number: { Self → ℤ };
+
+    /// No name stands for two numbers.
+    ghost agree: { NamesAgree table };
+
+    /// The names are UTF-8.
+    ghost texts: { AreTexts table };
 
     fn names() -> &'static [EnumName<'static>]
         ensures { enum_table result.now ≡ table };
@@ -33,7 +39,9 @@ pub struct EnumOf<E: JsonEnum> {
 }
 
 impl<E: JsonEnum> JsonScalar for EnumOf<E> {
-    ghost use Rattle.std.specs.Prelude.{pos};
+    ghost use Rattle.std.specs.Int.{w32};
+    ghost use Rattle.std.specs.Prelude.{FitsSigned, pos};
+    ghost use Rattle.wire_jsonfields.specs.KindsBack.{enum_comes_back};
     ghost use Rattle.wire_protojson.specs.Enums.{IsEnumTree, MeansEnum};
     ghost use Rattle.wire_jsonfields.specs.Flat.{flat_enum};
     ghost use Rattle.wire_jsonfields.specs.EnumFields.{enum_decided};
@@ -53,6 +61,10 @@ impl<E: JsonEnum> JsonScalar for EnumOf<E> {
     ghost decided = { enum_decided E.table };
 
     ghost flat = { flat_enum E.table };
+
+    ghost in_range = { FitsSigned w32 };
+
+    ghost back = { enum_comes_back E.table E.agree E.texts };
 
     fn default_value(_alloc: Global) -> E {
         E::from_i32(0)

@@ -1,5 +1,5 @@
 //! Keys of maps, as names of members.
-ghost use Rattle.std.specs.Prelude.{◌≡◌, ◌++◌, ℕ, List, IfOk, MatchOption, OnOk, OnErr};
+ghost use Rattle.std.specs.Prelude.{◌≡◌, ◌++◌, ℕ, List, IsUtf8, IfOk, MatchOption, OnOk, OnErr};
 ghost use Rattle.std.specs.Cmp.{IsTotalOrder};
 ghost use Rattle.std.specs.declared.cmp.Ordering.{Ordering};
 ghost use Rattle.wire_json.specs.Compact.{Extends};
@@ -27,6 +27,17 @@ pub trait JsonKey {
     /// The order of the entries of a map.
     ghost order: { Value → Value → Ordering };
 
+    /// A name means one key at most.
+    ghost one_key: { (text : List ℕ) (j k : Value) → means text j → means text k → j ≡ k };
+
+    ghost total: { IsTotalOrder order };
+
+    /// The keys of the type.
+    ghost in_range: { Value → Type 0 };
+
+    /// The name that is written of a key is text, and means it.
+    ghost back: { (key : Value) → in_range key → IsUtf8 (name key) × means (name key) key };
+
     /// The key that a name means.
     fn read_key(alloc: Global, text: &str) -> Result<Option<Self::Held>, AllocError>
         ensures { IfOk result (λ read. MatchOption read ((key : Value) → means text.now key → ⊥)
@@ -39,16 +50,13 @@ pub trait JsonKey {
             (out.new.items ≡ out.old.items ++ written_name (name (view key.now))) }
         ensures err { OnErr result (Extends out.old.items out.new.items) };
 
-    /// A name means one key at most.
-    ghost one_key: { (text : List ℕ) (j k : Value) → means text j → means text k → j ≡ k };
-
     /// A map has its entries in this order.
     ghost ordered: { (x y : Self.Held) → Self.Held.cmp x y ≡ order (view x) (view y) };
-
-    ghost total: { IsTotalOrder order };
 }
 
 impl JsonKey for i32 {
+    ghost use Rattle.std.specs.Prelude.{FitsSigned};
+    ghost use Rattle.wire_jsonfields.specs.KindsBack.{short_signed_key};
     ghost use Rattle.std.proofs.lemmas.Cmp.{int_cmp_total};
     ghost use Rattle.std.specs.Prelude.{ℤ};
     ghost use Rattle.std.proofs.Common.{refl};
@@ -75,6 +83,10 @@ impl JsonKey for i32 {
 
     ghost total = { int_cmp_total };
 
+    ghost in_range = { FitsSigned w32 };
+
+    ghost back = { short_signed_key };
+
     fn read_key(_alloc: Global, text: &str) -> Result<Option<i32>, AllocError> {
         match text.parse::<i32>() {
             Ok(key) => Ok(Some(key)),
@@ -88,6 +100,8 @@ impl JsonKey for i32 {
 }
 
 impl JsonKey for i64 {
+    ghost use Rattle.std.specs.Prelude.{FitsSigned};
+    ghost use Rattle.wire_jsonfields.specs.KindsBack.{long_signed_key};
     ghost use Rattle.std.proofs.lemmas.Cmp.{int_cmp_total};
     ghost use Rattle.std.specs.Prelude.{ℤ};
     ghost use Rattle.std.proofs.Common.{refl};
@@ -114,6 +128,10 @@ impl JsonKey for i64 {
 
     ghost total = { int_cmp_total };
 
+    ghost in_range = { FitsSigned w64 };
+
+    ghost back = { long_signed_key };
+
     fn read_key(_alloc: Global, text: &str) -> Result<Option<i64>, AllocError> {
         match text.parse::<i64>() {
             Ok(key) => Ok(Some(key)),
@@ -127,6 +145,8 @@ impl JsonKey for i64 {
 }
 
 impl JsonKey for String {
+    ghost use Rattle.std.specs.Prelude.{IsUtf8};
+    ghost use Rattle.wire_jsonfields.specs.KindsBack.{text_key};
     ghost use Rattle.std.proofs.lemmas.Cmp.{nat_list_cmp_total};
     ghost use Rattle.std.specs.Prelude.{string_bytes};
     ghost use Rattle.std.proofs.Common.{refl};
@@ -152,6 +172,10 @@ impl JsonKey for String {
 
     ghost total = { nat_list_cmp_total };
 
+    ghost in_range = { IsUtf8 };
+
+    ghost back = { text_key };
+
     fn read_key(alloc: Global, text: &str) -> Result<Option<String>, AllocError> {
         match String::from_str(alloc, text) {
             Ok(key) => Ok(Some(key)),
@@ -165,6 +189,7 @@ impl JsonKey for String {
 }
 
 impl JsonKey for bool {
+    ghost use Rattle.wire_jsonfields.specs.KindsBack.{bool_key};
     ghost use Rattle.std.specs.Cmp.{bool_cmp_total};
     ghost use Rattle.std.specs.Prelude.{Bool};
     ghost use Rattle.std.proofs.Common.{refl};
@@ -190,6 +215,10 @@ impl JsonKey for bool {
 
     ghost total = { bool_cmp_total };
 
+    ghost in_range = { λ b. Unit {0} };
+
+    ghost back = { λ b h. bool_key b };
+
     fn read_key(_alloc: Global, text: &str) -> Result<Option<bool>, AllocError> {
         match text {
             "true" => Ok(Some(true)),
@@ -208,6 +237,8 @@ impl JsonKey for bool {
 }
 
 impl JsonKey for u32 {
+    ghost use Rattle.std.specs.Prelude.{◌<◌, ◌^◌};
+    ghost use Rattle.wire_jsonfields.specs.KindsBack.{short_unsigned_key};
     ghost use Rattle.std.proofs.lemmas.Cmp.{nat_cmp_total};
     ghost use Rattle.std.proofs.Common.{refl};
     ghost use Rattle.std.specs.Prelude.{decimal};
@@ -232,6 +263,10 @@ impl JsonKey for u32 {
 
     ghost total = { nat_cmp_total };
 
+    ghost in_range = { λ n. n < 2 ^ 32 };
+
+    ghost back = { short_unsigned_key };
+
     fn read_key(_alloc: Global, text: &str) -> Result<Option<u32>, AllocError> {
         match text.parse::<u32>() {
             Ok(key) => Ok(Some(key)),
@@ -245,6 +280,8 @@ impl JsonKey for u32 {
 }
 
 impl JsonKey for u64 {
+    ghost use Rattle.std.specs.Prelude.{◌<◌, ◌^◌};
+    ghost use Rattle.wire_jsonfields.specs.KindsBack.{long_unsigned_key};
     ghost use Rattle.std.proofs.lemmas.Cmp.{nat_cmp_total};
     ghost use Rattle.std.proofs.Common.{refl};
     ghost use Rattle.std.specs.Prelude.{decimal};
@@ -268,6 +305,10 @@ impl JsonKey for u64 {
     ghost ordered = { λ x y. refl };
 
     ghost total = { nat_cmp_total };
+
+    ghost in_range = { λ n. n < 2 ^ 64 };
+
+    ghost back = { long_unsigned_key };
 
     fn read_key(_alloc: Global, text: &str) -> Result<Option<u64>, AllocError> {
         match text.parse::<u64>() {

@@ -7,6 +7,7 @@ ghost use Rattle.wire_json.specs.Json.{Json, Members, members_depth};
 ghost use Rattle.wire_json.specs.Kind.{kind_begun};
 ghost use Rattle.wire_json.specs.Written.{written};
 ghost use Rattle.wire_protojson.specs.declared.refusal.ReadError.TheVariants.{OutOfMemory};
+ghost use Rattle.wire_jsonfields.specs.Back.{ComesBack};
 ghost use Rattle.wire_jsonfields.specs.Fields.{FieldMeans};
 ghost use Rattle.wire_jsonfields.specs.Flat.{AreFlat};
 ghost use Rattle.wire_jsonfields.specs.Levels.{NothingMeant, ReadsWithin};
@@ -43,6 +44,17 @@ pub trait JsonScalar {
 
     ghost default: { Value };
 
+    ghost decided: { IsDecided means };
+
+    /// What is written of a scalar is no array and no object.
+    ghost flat: { AreFlat tree };
+
+    /// The values of the type.
+    ghost in_range: { Value → Type 0 };
+
+    /// What is written of a value is read as it.
+    ghost back: { (value : Value) → in_range value → ComesBack means tree value };
+
     fn default_value(alloc: Global) -> Self::Held
         ensures { view result ≡ default };
 
@@ -62,11 +74,6 @@ pub trait JsonScalar {
         ensures ok { OnOk result ((json : Json) × tree (view held.now) json
             × (out.new.items ≡ out.old.items ++ written json)) }
         ensures err { OnErr result (Extends out.old.items out.new.items) };
-
-    ghost decided: { IsDecided means };
-
-    /// What is written of a scalar is no array and no object.
-    ghost flat: { AreFlat tree };
 }
 
 /// A kind of value: of an element of a list, of a value of a map, or of a field.
@@ -88,6 +95,15 @@ pub trait JsonValue {
     /// The value of a field that an object does not have.
     ghost absent: { Value };
 
+    /// A tree means one value at most.
+    ghost one_value: { IsOneValued means };
+
+    /// The values of the kind that are there.
+    ghost in_range: { Value → Type 0 };
+
+    /// What is written of a value is read as it.
+    ghost back: { (value : Value) → in_range value → ComesBack means tree value };
+
     /// Reads a value, in which at most `levels` arrays and objects may stand in one another.
     fn read_json(
         alloc: Global,
@@ -106,9 +122,6 @@ pub trait JsonValue {
         ensures ok { OnOk result ((json : Json) × tree (view held.now) json
             × (out.new.items ≡ out.old.items ++ written json)) }
         ensures err { OnErr result (Extends out.old.items out.new.items) };
-
-    /// A tree means one value at most.
-    ghost one_value: { IsOneValued means };
 }
 
 /// A kind of field, which may be left out.
@@ -143,6 +156,10 @@ impl<S: JsonScalar> JsonValue for Implicit<S> {
 
     ghost one_value = { S.decided.one_meaning };
 
+    ghost in_range = { S.in_range };
+
+    ghost back = { S.back };
+
     fn read_json(
         alloc: Global,
         text: &[u8],
@@ -167,37 +184,45 @@ impl<S: JsonScalar> JsonKind for Implicit<S> {
     }
 }
 
-/// A field that may be absent.
-pub struct Optional<S: JsonScalar> {
-    scalar: PhantomData<S>,
+/// A scalar that may be absent.
+pub type Optional<S> = Maybe<Implicit<S>>;
+
+/// A value that may be absent.
+pub struct Maybe<V: JsonValue> {
+    value: PhantomData<V>,
 }
 
-impl<S: JsonScalar> JsonValue for Optional<S> {
+impl<V: JsonValue> JsonValue for Maybe<V> {
     ghost use Rattle.std.specs.Prelude.{Option, None, option_map};
     ghost use Rattle.wire_jsonfields.specs.Fields.{IsSomeTree, MeansSome};
+    ghost use Rattle.wire_jsonfields.specs.KindsBack.{IsSomeInRange, some_back};
     ghost use Rattle.wire_jsonfields.specs.OneValues.{one_some};
 
-    type Held = Option<S::Held>;
+    type Held = Option<V::Held>;
 
-    ghost Value = { Option S.Value };
+    ghost Value = { Option V.Value };
 
-    ghost view = { option_map S.view };
+    ghost view = { option_map V.view };
 
-    ghost means = { MeansSome S.means };
+    ghost means = { MeansSome V.means };
 
-    ghost tree = { IsSomeTree S.tree };
+    ghost tree = { IsSomeTree V.tree };
 
     ghost absent = { None };
 
-    ghost one_value = { one_some S.means S.decided.one_meaning };
+    ghost one_value = { one_some V.means V.one_value };
+
+    ghost in_range = { IsSomeInRange V.in_range };
+
+    ghost back = { some_back V.means V.tree V.in_range V.back };
 
     fn read_json(
         alloc: Global,
         text: &[u8],
         at: usize,
-        _levels: u32,
-    ) -> Result<(Option<S::Held>, usize), ReadError> {
-        match S::read_json(alloc, text, at) {
+        levels: u32,
+    ) -> Result<(Option<V::Held>, usize), ReadError> {
+        match V::read_json(alloc, text, at, levels) {
             Ok((value, after)) => Ok((Some(value), after)),
             Err(error) => Err(error),
         }
@@ -206,25 +231,71 @@ impl<S: JsonScalar> JsonValue for Optional<S> {
     fn write_json(
         alloc: Global,
         out: &mut Vec<u8>,
-        held: &Option<S::Held>,
+        held: &Option<V::Held>,
     ) -> Result<(), AllocError> {
         match held {
-            Some(value) => S::write_json(alloc, out, value),
+            Some(value) => V::write_json(alloc, out, value),
             None => wire_json::write_null(out),
         }
     }
 }
 
-impl<S: JsonScalar> JsonKind for Optional<S> {
-    fn absent_value(_alloc: Global) -> Option<S::Held> {
+impl<V: JsonValue> JsonKind for Maybe<V> {
+    fn absent_value(_alloc: Global) -> Option<V::Held> {
         None
     }
 
-    fn is_absent(held: &Option<S::Held>) -> bool {
+    fn is_absent(held: &Option<V::Held>) -> bool {
         match held {
             Some(_) => false,
             None => true,
         }
+    }
+}
+
+/// A value in a box.
+pub struct Boxed<V: JsonValue> {
+    value: PhantomData<V>,
+}
+
+impl<V: JsonValue> JsonValue for Boxed<V> {
+    ghost use Rattle.std.specs.Prelude.{box_value};
+
+    type Held = Box<V::Held>;
+
+    ghost Value = { V.Value };
+
+    ghost view = { λ held. V.view (box_value held) };
+
+    ghost means = { V.means };
+
+    ghost tree = { V.tree };
+
+    ghost absent = { V.absent };
+
+    ghost one_value = { V.one_value };
+
+    ghost in_range = { V.in_range };
+
+    ghost back = { V.back };
+
+    fn read_json(
+        alloc: Global,
+        text: &[u8],
+        at: usize,
+        levels: u32,
+    ) -> Result<(Box<V::Held>, usize), ReadError> {
+        match V::read_json(alloc, text, at, levels) {
+            Ok((value, after)) => match Box::new(alloc, value) {
+                Ok(boxed) => Ok((boxed, after)),
+                Err(_full) => Err(ReadError::OutOfMemory),
+            },
+            Err(error) => Err(error),
+        }
+    }
+
+    fn write_json(alloc: Global, out: &mut Vec<u8>, held: &Box<V::Held>) -> Result<(), AllocError> {
+        V::write_json(alloc, out, held)
     }
 }
 

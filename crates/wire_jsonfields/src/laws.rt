@@ -7,6 +7,7 @@ ghost use Rattle.std.specs.List.Sorted.{IsStrictlySortedBy};
 ghost use Rattle.std.specs.Map.{keys_of};
 ghost use Rattle.wire_json.specs.Json.{Json};
 ghost use Rattle.wire_protojson.specs.Enums.{AreTexts, IsEnumTree, MeansEnum, NamesAgree};
+ghost use Rattle.wire_protojson.specs.Laws.{IsReadAs};
 ghost use Rattle.wire_jsonfields.specs.Back.{ComesBack, EachComesBack, EntriesComeBack, IsBack, SpellsOneValue};
 ghost use Rattle.wire_jsonfields.specs.Keys.{IsSignedKey, IsUnsignedKey};
 ghost use Rattle.wire_jsonfields.specs.Levels.{IsReadFrom, NestsWithin};
@@ -21,6 +22,15 @@ use crate::message::JsonMessage;
 /// A text is read as one message of a type at most.
 pub fn a_text_has_one_reading<M: JsonMessage>()
     ensures { SpellsOneValue M.means }
+{}
+
+/// What is written of a message is read as it: its text at just the levels that it has, or more.
+pub fn messages_come_back<M: JsonMessage>()
+    ensures means { (v : M.Value) → M.in_range v → ComesBack M.means M.tree v }
+    ensures text { (v : M.Value) (json : Json) → M.in_range v → M.tree v json
+        → IsReadFrom M.means json v }
+    ensures front { (v : M.Value) (json : Json) → M.in_range v → M.tree v json
+        → IsReadAs M.means v json }
 {}
 
 /// What is written of a list is read as it, where that holds of each element.

@@ -8,9 +8,13 @@
 #![tactic(auto)]
 
 pub mod batch;
+mod by_parts;
+mod choice;
 mod enum_field;
 mod find;
+pub mod grade;
 mod held;
+mod held_texts;
 mod key;
 mod kind;
 mod known;
@@ -20,12 +24,17 @@ mod map;
 mod message;
 mod object;
 mod oneof;
+pub mod origin;
+mod part;
 pub mod sample;
 
+pub use by_parts::{read_parts, write_parts};
+pub use choice::{Chosen, Either, JsonChoice, write_chosen, write_oneof};
 pub use enum_field::{EnumOf, JsonEnum};
 pub use key::JsonKey;
 pub use kind::{
-    Implicit, JsonKind, JsonScalar, JsonValue, Optional, read_field, write_field, write_member,
+    Boxed, Implicit, JsonKind, JsonScalar, JsonValue, Maybe, Optional, read_field, write_field,
+    write_member,
 };
 pub use known::{FieldName, check_names};
 pub use list::Repeated;
@@ -33,3 +42,4 @@ pub use map::Map;
 pub use message::{AlwaysMessage, Embedded, JsonMessage, from_json, to_json};
 pub use object::{Object, PlacedMember, read_object};
 pub use oneof::second_of_oneof;
+pub use part::{Both, JsonPart};

@@ -21,6 +21,8 @@ pub struct Repeated<V: JsonValue> {
 
 impl<V: JsonValue> JsonValue for Repeated<V> {
     ghost use Rattle.std.specs.Prelude.{List};
+    ghost use Rattle.std.specs.List.{AllByRecursion};
+    ghost use Rattle.wire_jsonfields.specs.KindsBack.{all_back};
     ghost use Rattle.wire_jsonfields.specs.OneValues.{one_list};
 
     type Held = Vec<V::Held>;
@@ -36,6 +38,10 @@ impl<V: JsonValue> JsonValue for Repeated<V> {
     ghost absent = { [] };
 
     ghost one_value = { one_list V.means V.one_value };
+
+    ghost in_range = { AllByRecursion V.in_range };
+
+    ghost back = { all_back V.means V.tree V.in_range V.back };
 
     fn read_json(
         alloc: Global,

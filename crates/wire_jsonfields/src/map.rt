@@ -29,6 +29,7 @@ pub struct Map<K: JsonKey, V: JsonValue> {
 }
 
 impl<K: JsonKey, V: JsonValue> JsonValue for Map<K, V> {
+    ghost use Rattle.wire_jsonfields.specs.KindsBack.{IsMapInRange, entries_back};
     ghost use Rattle.wire_jsonfields.specs.OneValues.{one_map};
 
     type Held = BTreeMap<K::Held, V::Held>;
@@ -44,6 +45,11 @@ impl<K: JsonKey, V: JsonValue> JsonValue for Map<K, V> {
     ghost absent = { [] };
 
     ghost one_value = { one_map K.order K.means V.means K.one_key V.one_value };
+
+    ghost in_range = { IsMapInRange K.order K.in_range V.in_range };
+
+    ghost back = { entries_back K.order K.total K.means K.name V.means V.tree K.in_range
+        V.in_range K.back V.back };
 
     fn read_json(
         alloc: Global,

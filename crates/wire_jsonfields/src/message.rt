@@ -5,10 +5,11 @@ ghost use Rattle.wire_json.specs.Compact.{Extends};
 ghost use Rattle.wire_json.specs.Json.{Json, no_member, object};
 ghost use Rattle.wire_json.specs.Written.{written};
 ghost use Rattle.wire_protojson.specs.declared.refusal.ReadError.TheVariants.{OutOfMemory};
+ghost use Rattle.wire_jsonfields.specs.Back.{ComesBack};
 ghost use Rattle.wire_jsonfields.specs.Levels.{NothingMeant, ReadsWithin, SpellsWithin};
 ghost use Rattle.wire_jsonfields.specs.OneValues.{IsOneValued};
 
-use crate::kind::{JsonKind, JsonValue};
+use crate::kind::{Boxed, JsonValue, Maybe};
 use std::alloc::{AllocError, Global};
 use std::marker::PhantomData;
 use wire_json::{Fault, FaultKind};
@@ -33,6 +34,15 @@ pub trait JsonMessage: Drop + Sized {
     /// An object without members means it.
     ghost default_meant: { means (object no_member) default };
 
+    /// A tree means one value at most.
+    ghost one_value: { IsOneValued means };
+
+    /// The values of the type.
+    ghost in_range: { Value → Type 0 };
+
+    /// What is written of a value is read as it.
+    ghost back: { (value : Value) → in_range value → ComesBack means tree value };
+
     /// Reads a value, in which at most `levels` arrays and objects may stand in one another.
     fn read_json(
         alloc: Global,
@@ -51,9 +61,6 @@ pub trait JsonMessage: Drop + Sized {
         ensures ok { OnOk result ((json : Json) × tree (view self.now) json
             × (out.new.items ≡ out.old.items ++ written json)) }
         ensures err { OnErr result (Extends out.old.items out.new.items) };
-
-    /// A tree means one value at most.
-    ghost one_value: { IsOneValued means };
 }
 
 /// The compact text of a message.
@@ -91,69 +98,7 @@ pub fn from_json<M: JsonMessage>(alloc: Global, text: &[u8], levels: u32) -> Res
 }
 
 /// A field of a message type, in a box where it is present.
-pub struct Embedded<M: JsonMessage> {
-    message: PhantomData<M>,
-}
-
-impl<M: JsonMessage> JsonValue for Embedded<M> {
-    ghost use Rattle.std.specs.Prelude.{Option, None};
-    ghost use Rattle.wire_jsonfields.specs.Fields.{IsSomeTree, MeansSome};
-    ghost use Rattle.wire_jsonfields.specs.Boxes.{boxed_message};
-    ghost use Rattle.wire_jsonfields.specs.OneValues.{one_some};
-
-    type Held = Option<Box<M>>;
-
-    ghost Value = { Option M.Value };
-
-    ghost view = { boxed_message M.view };
-
-    ghost means = { MeansSome M.means };
-
-    ghost tree = { IsSomeTree M.tree };
-
-    ghost absent = { None };
-
-    ghost one_value = { one_some M.means M.one_value };
-
-    fn read_json(
-        alloc: Global,
-        text: &[u8],
-        at: usize,
-        levels: u32,
-    ) -> Result<(Option<Box<M>>, usize), ReadError> {
-        match M::read_json(alloc, text, at, levels) {
-            Ok((message, after)) => match Box::new(alloc, message) {
-                Ok(boxed) => Ok((Some(boxed), after)),
-                Err(_full) => Err(ReadError::OutOfMemory),
-            },
-            Err(error) => Err(error),
-        }
-    }
-
-    fn write_json(
-        alloc: Global,
-        out: &mut Vec<u8>,
-        held: &Option<Box<M>>,
-    ) -> Result<(), AllocError> {
-        match held {
-            Some(message) => message.write_json(alloc, out),
-            None => wire_json::write_null(out),
-        }
-    }
-}
-
-impl<M: JsonMessage> JsonKind for Embedded<M> {
-    fn absent_value(_alloc: Global) -> Option<Box<M>> {
-        None
-    }
-
-    fn is_absent(held: &Option<Box<M>>) -> bool {
-        match held {
-            Some(_) => false,
-            None => true,
-        }
-    }
-}
+pub type Embedded<M> = Maybe<Boxed<AlwaysMessage<M>>>;
 
 /// A message as an element of a list, as a value of a map or as a member of a oneof: it is always
 /// there.
@@ -175,6 +120,10 @@ impl<M: JsonMessage> JsonValue for AlwaysMessage<M> {
     ghost absent = { M.default };
 
     ghost one_value = { M.one_value };
+
+    ghost in_range = { M.in_range };
+
+    ghost back = { M.back };
 
     fn read_json(
         alloc: Global,

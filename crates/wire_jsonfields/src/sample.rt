@@ -1,13 +1,14 @@
 //! A message type by hand, of `message Sample { string name = 1; double value = 2; optional int64
 //! sample_count = 3; }`.
-ghost use Rattle.wire_jsonfields.specs.Sample.{Sample-Value, sample-value, sample-says, sample-trees, SampleIsRead, SampleReadsBack};
+ghost use Rattle.wire_jsonfields.specs.Sample.{SampleIsRead, SampleReadsBack};
 
+use crate::by_parts::{read_parts, write_parts};
 use crate::kind::{Implicit, Optional, read_field, write_field};
-use crate::known::{FieldName, check_names};
+use crate::known::FieldName;
 use crate::message::JsonMessage;
-use crate::object::read_object;
+use crate::object::PlacedMember;
+use crate::part::{Both, JsonPart};
 use std::alloc::{AllocError, Global};
-use wire_json::Mark;
 use wire_protojson::ReadError;
 
 /// What was measured once.
@@ -17,6 +18,9 @@ pub struct Sample {
     pub value: f64,
     pub sample_count: Option<i64>,
 }
+
+/// The fields of `Sample`.
+pub type SampleParts = Both<SampleName, Both<SampleValue, SampleCount>>;
 
 const NAME: FieldName = FieldName {
     name: "name",
@@ -28,15 +32,180 @@ const VALUE: FieldName = FieldName {
     json_name: "value",
 };
 
-const SAMPLE_COUNT: FieldName = FieldName {
+const COUNT: FieldName = FieldName {
     name: "sample_count",
     json_name: "sampleCount",
 };
 
+pub struct SampleName;
+
+impl JsonPart for SampleName {
+    ghost use Rattle.std.specs.Prelude.{ℕ, List, [], string_bytes};
+    ghost use Rattle.wire_jsonfields.specs.Sample.{NameSays, NameTrees, name-unsaid, one_name, name-names, IsNameInRange, name-back};
+
+    type Message = Sample;
+
+    type Held = String;
+
+    ghost Value = { List ℕ };
+
+    ghost view = { λ s. string_bytes s };
+
+    ghost seen = { λ m. string_bytes m.name };
+
+    ghost names = { name-names };
+
+    ghost says = { NameSays };
+
+    ghost trees = { NameTrees };
+
+    ghost default = { [] };
+
+    ghost unsaid = { name-unsaid };
+
+    ghost one_value = { one_name };
+
+    ghost in_range = { IsNameInRange };
+
+    ghost back = { name-back };
+
+    fn is_named(name: &str) -> bool {
+        name == NAME.name || name == NAME.json_name
+    }
+
+    fn read(
+        alloc: Global,
+        text: &[u8],
+        members: &[PlacedMember<'_>],
+        levels: u32,
+    ) -> Result<String, ReadError> {
+        read_field::<Implicit<String>>(alloc, text, members, levels, &NAME)
+    }
+
+    fn write(
+        alloc: Global,
+        out: &mut Vec<u8>,
+        first: bool,
+        message: &Sample,
+    ) -> Result<bool, AllocError> {
+        write_field::<Implicit<String>>(alloc, out, first, &NAME, &message.name)
+    }
+}
+
+pub struct SampleValue;
+
+impl JsonPart for SampleValue {
+    ghost use Rattle.std.specs.Float.{Float, float_zero};
+    ghost use Rattle.wire_jsonfields.specs.Sample.{ValueSays, ValueTrees, value-unsaid, one_value_field, value-names, IsValueInRange, value-back};
+
+    type Message = Sample;
+
+    type Held = f64;
+
+    ghost Value = { Float };
+
+    ghost view = { λ v. v };
+
+    ghost seen = { λ m. m.value };
+
+    ghost names = { value-names };
+
+    ghost says = { ValueSays };
+
+    ghost trees = { ValueTrees };
+
+    ghost default = { float_zero };
+
+    ghost unsaid = { value-unsaid };
+
+    ghost one_value = { one_value_field };
+
+    ghost in_range = { IsValueInRange };
+
+    ghost back = { value-back };
+
+    fn is_named(name: &str) -> bool {
+        name == VALUE.name || name == VALUE.json_name
+    }
+
+    fn read(
+        alloc: Global,
+        text: &[u8],
+        members: &[PlacedMember<'_>],
+        levels: u32,
+    ) -> Result<f64, ReadError> {
+        read_field::<Implicit<f64>>(alloc, text, members, levels, &VALUE)
+    }
+
+    fn write(
+        alloc: Global,
+        out: &mut Vec<u8>,
+        first: bool,
+        message: &Sample,
+    ) -> Result<bool, AllocError> {
+        write_field::<Implicit<f64>>(alloc, out, first, &VALUE, &message.value)
+    }
+}
+
+pub struct SampleCount;
+
+impl JsonPart for SampleCount {
+    ghost use Rattle.std.specs.Prelude.{ℤ, Option, None, option_map};
+    ghost use Rattle.wire_jsonfields.specs.Sample.{CountSays, CountTrees, count-unsaid, one_count, count-names, IsCountInRange, count-back};
+
+    type Message = Sample;
+
+    type Held = Option<i64>;
+
+    ghost Value = { Option ℤ };
+
+    ghost view = { option_map (λ v. v) };
+
+    ghost seen = { λ m. option_map (λ v. v) m.sample_count };
+
+    ghost names = { count-names };
+
+    ghost says = { CountSays };
+
+    ghost trees = { CountTrees };
+
+    ghost default = { None };
+
+    ghost unsaid = { count-unsaid };
+
+    ghost one_value = { one_count };
+
+    ghost in_range = { IsCountInRange };
+
+    ghost back = { count-back };
+
+    fn is_named(name: &str) -> bool {
+        name == COUNT.name || name == COUNT.json_name
+    }
+
+    fn read(
+        alloc: Global,
+        text: &[u8],
+        members: &[PlacedMember<'_>],
+        levels: u32,
+    ) -> Result<Option<i64>, ReadError> {
+        read_field::<Optional<i64>>(alloc, text, members, levels, &COUNT)
+    }
+
+    fn write(
+        alloc: Global,
+        out: &mut Vec<u8>,
+        first: bool,
+        message: &Sample,
+    ) -> Result<bool, AllocError> {
+        write_field::<Optional<i64>>(alloc, out, first, &COUNT, &message.sample_count)
+    }
+}
+
 impl JsonMessage for Sample {
+    ghost use Rattle.wire_jsonfields.specs.Sample.{Sample-Value, sample-default, sample-says, sample-trees, sample-unsaid, sample-value, one_sample, IsSampleInRange, sample-back};
     ghost use Rattle.wire_jsonfields.specs.Messages.{IsObjectTree, ObjectMeans};
     ghost use Rattle.wire_jsonfields.specs.OneValues.{one_object};
-    ghost use Rattle.wire_jsonfields.specs.Sample.{one_sample, sample-default, sample-unsaid};
 
     ghost Value = { Sample-Value };
 
@@ -52,23 +221,18 @@ impl JsonMessage for Sample {
 
     ghost one_value = { one_object sample-says one_sample };
 
+    ghost in_range = { IsSampleInRange };
+
+    ghost back = { sample-back };
+
     fn read_json(
         alloc: Global,
         text: &[u8],
         at: usize,
         levels: u32,
     ) -> Result<(Sample, usize), ReadError> {
-        let object = read_object(alloc, text, at, levels)?;
-        let members = object.members.as_slice();
-        check_names(members, &[NAME, VALUE, SAMPLE_COUNT])?;
-        let name = read_field::<Implicit<String>>(alloc, text, members, levels, &NAME)?;
-        let value = read_field::<Implicit<f64>>(alloc, text, members, levels, &VALUE)?;
-        let sample_count = read_field::<Optional<i64>>(
-            alloc,
-            text,
-            members,
-            levels,
-            &SAMPLE_COUNT,
+        let ((name, (value, sample_count)), after) = read_parts::<SampleParts>(
+            alloc, text, at, levels,
         )?;
         Ok((
             Sample {
@@ -76,17 +240,12 @@ impl JsonMessage for Sample {
                 value,
                 sample_count,
             },
-            object.after,
+            after,
         ))
     }
 
     fn write_json(&self, alloc: Global, out: &mut Vec<u8>) -> Result<(), AllocError> {
-        wire_json::write_mark(out, Mark::BeginObject)?;
-        let mut first = true;
-        first = write_field::<Implicit<String>>(alloc, out, first, &NAME, &self.name)?;
-        first = write_field::<Implicit<f64>>(alloc, out, first, &VALUE, &self.value)?;
-        write_field::<Optional<i64>>(alloc, out, first, &SAMPLE_COUNT, &self.sample_count)?;
-        wire_json::write_mark(out, Mark::EndObject)
+        write_parts::<SampleParts>(alloc, out, self)
     }
 }
 

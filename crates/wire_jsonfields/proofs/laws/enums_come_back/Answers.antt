@@ -1,4 +1,4 @@
-use Rattle.wire_jsonfields.proofs.EnumBack.{enum_back}
+use Rattle.wire_jsonfields.specs.EnumsBack.{enum_back}
 use Rattle.wire_jsonfields.proofs.laws.enums_come_back.Goals as goal
 
 pub returns : goal.returns

@@ -1,4 +1,4 @@
-use Rattle.wire_jsonfields.proofs.Back.{list_back}
+use Rattle.wire_jsonfields.specs.ListsBack.{list_back}
 use Rattle.wire_jsonfields.proofs.laws.lists_come_back.Goals as goal
 
 pub returns : goal.returns

@@ -18,7 +18,7 @@ returns-then-has_key-clause-err g c = λ other ms are fits.
     (c.loop-member.invariant ms are) in
     let named = rw c.as_str.ensures.value at (rw c.in-Ok-Some.field-0-is at c.in-Ok-Some.ensures) in
     old_key key.order key.means value.means text item (drop (i + 1) entries) map ms sofar
-    g.met.K.JsonKey.one_key (key.view c.in-Ok-Some.key) named
+    g.K.JsonKey.one_key (key.view c.in-Ok-Some.key) named
     (sym (seen_found key.view value.view _ key.order g.met.K.JsonKey.ordered c.loop-member.map.entries
     c.in-Ok-Some.key) ∙ sym c.has_key.ensures ∙ c.if-has_key.true)
 
@@ -54,7 +54,7 @@ loop-member-preserved g c = λ ms are.
     (sym (seen_found key.view value.view _ key.order g.met.K.JsonKey.ordered held c.in-Ok-Some.key)
     ∙ sym c.has_key.ensures ∙ c.if-has_key.false) in
     let next = map_goes_on key.order key.means value.means text item (drop (i + 1) entries) map ms
-    sofar g.met.K.JsonKey.one_key (key.view c.in-Ok-Some.key) named g.met.V.JsonValue.one_value
+    sofar g.K.JsonKey.one_key (key.view c.in-Ok-Some.key) named g.V.JsonValue.one_value
     c.args.levels (value.view c.in-Ok.value) _ c.in-Ok.ensures.ok new in
     let put = seen_insert key.view value.view _ key.order g.met.K.JsonKey.ordered held
     c.in-Ok-Some.key c.in-Ok.value in
