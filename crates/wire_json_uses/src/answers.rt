@@ -2,7 +2,7 @@
 use std::alloc::Global;
 use wire_json::{FaultKind, Mark, write_mark};
 use wire_jsonfields::{
-    FieldName, JsonKind, JsonMessage, JsonValue, from_json, read_field, read_object, to_json,
+    FieldName, JsonKind, JsonValue, from_json, read_field, read_object, to_json,
     write_field,
 };
 use wire_protojson::{ReadError, Reason, Refusal};
@@ -79,20 +79,20 @@ fn found_of(answered: Result<Vec<u8>, ReadError>, answer: Answer) -> Found {
     if own { Found::Own } else { Found::Other }
 }
 
-fn rewrite_message<M: JsonMessage>(
+fn rewrite_message<V: JsonValue>(
     alloc: Global,
     text: &[u8],
     levels: u32,
 ) -> Result<Vec<u8>, ReadError> {
-    let message = from_json::<M>(alloc, text, levels)?;
-    let out = to_json(alloc, &message)?;
+    let message = from_json::<V>(alloc, text, levels)?;
+    let out = to_json::<V>(alloc, &message)?;
     Ok(out)
 }
 
 /// Reads a message from a whole text, in which so many arrays and objects may stand in one another,
 /// and writes it.
-pub(crate) fn found_whole<M: JsonMessage>(alloc: Global, row: &Row, levels: u32) -> Found {
-    found_of(rewrite_message::<M>(alloc, row.0, levels), row.1)
+pub(crate) fn found_whole<V: JsonValue>(alloc: Global, row: &Row, levels: u32) -> Found {
+    found_of(rewrite_message::<V>(alloc, row.0, levels), row.1)
 }
 
 const HELD: FieldName = FieldName {

@@ -3,7 +3,6 @@
 use crate::answers::Answer::{Bad, Deep, Is, Lone, Second, Twice, Unfit, Unknown};
 use crate::answers::{Found, Row, found_in, found_whole};
 use std::alloc::Global;
-use wire_jsonfields::AlwaysMessage;
 use wire_jsonfields::batch::Batch;
 
 const ROWS: [Row; 33] = [
@@ -91,7 +90,7 @@ const TWO_LEVELS: [Row; 3] = [
 #[test]
 fn batches_are_read_and_written(rt: HostRuntime) {
     for (place, row) in ROWS.iter().enumerate() {
-        let found = found_in::<AlwaysMessage<Batch>>(rt.alloc(), row, 3);
+        let found = found_in::<Batch>(rt.alloc(), row, 3);
         assert_eq!(rt; found, Found::Own, "{place}");
     }
 }

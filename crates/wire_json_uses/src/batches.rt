@@ -19,7 +19,7 @@ pub fn rewrite_batch(alloc: Global, text: &[u8]) -> Result<Vec<u8>, ReadError>
         × IsObjectTree batch-trees value json × (out.items ≡ written json)) }
 {
     let batch = from_json::<Batch>(alloc, text, 100)?;
-    let out = to_json(alloc, &batch)?;
+    let out = to_json::<Batch>(alloc, &batch)?;
     Ok(out)
 }
 

@@ -7,7 +7,7 @@ use std::alloc::Global;
 use wire_jsonfields::grade::Grade;
 use wire_jsonfields::sample::Sample;
 use wire_jsonfields::{
-    AlwaysMessage, Embedded, EnumOf, Implicit, JsonValue, Map, Optional, Repeated,
+    Embedded, EnumOf, Implicit, JsonValue, Map, Optional, Repeated,
 };
 
 const LISTS: [Row; 12] = [
@@ -148,7 +148,7 @@ fn lists_are_read_and_written(rt: HostRuntime) {
     let alloc = rt.alloc();
     assert_eq!(rt; astray::<Repeated<Implicit<i64>>>(alloc, &LISTS, 2), None);
     assert_eq!(rt;
-        astray::<Repeated<AlwaysMessage<Sample>>>(alloc, &MESSAGE_LISTS, 2),
+        astray::<Repeated<Sample>>(alloc, &MESSAGE_LISTS, 2),
         None
     );
 }
@@ -171,19 +171,19 @@ fn arrays_and_objects_are_levels(rt: HostRuntime) {
     );
     assert_eq!(rt; astray::<Embedded<Sample>>(alloc, &NO_OBJECT, 0), None);
     assert_eq!(rt;
-        astray::<Map<u32, AlwaysMessage<Sample>>>(alloc, &NO_OBJECT, 0),
+        astray::<Map<u32, Sample>>(alloc, &NO_OBJECT, 0),
         None
     );
     assert_eq!(rt;
-        astray::<Map<u32, AlwaysMessage<Sample>>>(alloc, &ONE_OBJECT, 1),
+        astray::<Map<u32, Sample>>(alloc, &ONE_OBJECT, 1),
         None
     );
     assert_eq!(rt;
-        astray::<Repeated<AlwaysMessage<Sample>>>(alloc, &ONE_LEVEL, 1),
+        astray::<Repeated<Sample>>(alloc, &ONE_LEVEL, 1),
         None
     );
     assert_eq!(rt;
-        astray::<Repeated<AlwaysMessage<Sample>>>(alloc, &TWO_LEVELS, 2),
+        astray::<Repeated<Sample>>(alloc, &TWO_LEVELS, 2),
         None
     );
 }
@@ -208,7 +208,7 @@ fn maps_are_read_and_written(rt: HostRuntime) {
         None
     );
     assert_eq!(rt;
-        astray::<Map<i64, AlwaysMessage<Sample>>>(alloc, &MESSAGE_VALUES, 2),
+        astray::<Map<i64, Sample>>(alloc, &MESSAGE_VALUES, 2),
         None
     );
     assert_eq!(rt;

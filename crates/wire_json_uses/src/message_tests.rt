@@ -140,7 +140,7 @@ fn written_of(alloc: Global, row: &Written) -> Result<bool, AllocError> {
         value: row.1,
         sample_count: row.2,
     };
-    let out = to_json(alloc, &sample)?;
+    let out = to_json::<Sample>(alloc, &sample)?;
     Ok(out.as_slice() == row.3)
 }
 

@@ -7,11 +7,11 @@ use crate::by_parts::{read_parts, write_parts};
 use crate::choice::{Chosen, Either, JsonChoice, write_oneof};
 use crate::enum_field::EnumOf;
 use crate::grade::Grade;
-use crate::kind::{Implicit, read_field, write_field};
+use crate::kind::{Implicit, JsonValue, read_field, write_field};
 use crate::known::FieldName;
 use crate::list::Repeated;
 use crate::map::Map;
-use crate::message::{AlwaysMessage, JsonMessage};
+use crate::message::JsonMessage;
 use crate::object::PlacedMember;
 use crate::origin::{Origin, OriginFile, OriginTemplate};
 use crate::part::{Both, JsonPart};
@@ -145,7 +145,7 @@ impl JsonPart for BatchSamples {
         members: &[PlacedMember<'_>],
         levels: u32,
     ) -> Result<Vec<Sample>, ReadError> {
-        read_field::<Repeated<AlwaysMessage<Sample>>>(alloc, text, members, levels, &SAMPLES)
+        read_field::<Repeated<Sample>>(alloc, text, members, levels, &SAMPLES)
     }
 
     fn write(
@@ -154,13 +154,7 @@ impl JsonPart for BatchSamples {
         first: bool,
         message: &Batch,
     ) -> Result<bool, AllocError> {
-        write_field::<Repeated<AlwaysMessage<Sample>>>(
-            alloc,
-            out,
-            first,
-            &SAMPLES,
-            &message.samples,
-        )
+        write_field::<Repeated<Sample>>(alloc, out, first, &SAMPLES, &message.samples)
     }
 }
 
@@ -276,10 +270,12 @@ impl JsonPart for BatchOrigin {
     }
 }
 
-impl JsonMessage for Batch {
-    ghost use Rattle.wire_jsonfields.specs.Batch.{Batch-Value, batch-default, batch-says, batch-trees, batch-unsaid, batch-value, one_batch, IsBatchInRange, batch-back};
+impl JsonValue for Batch {
+    ghost use Rattle.wire_jsonfields.specs.Batch.{Batch-Value, batch-default, batch-says, batch-trees, batch-value, one_batch, IsBatchInRange, batch-back};
     ghost use Rattle.wire_jsonfields.specs.Messages.{IsObjectTree, ObjectMeans};
     ghost use Rattle.wire_jsonfields.specs.OneValues.{one_object};
+
+    type Held = Batch;
 
     ghost Value = { Batch-Value };
 
@@ -289,9 +285,7 @@ impl JsonMessage for Batch {
 
     ghost tree = { IsObjectTree batch-trees };
 
-    ghost default = { batch-default };
-
-    ghost default_meant = { batch-unsaid };
+    ghost absent = { batch-default };
 
     ghost one_value = { one_object batch-says one_batch };
 
@@ -324,9 +318,15 @@ impl JsonMessage for Batch {
         ))
     }
 
-    fn write_json(&self, alloc: Global, out: &mut Vec<u8>) -> Result<(), AllocError> {
-        write_parts::<BatchParts>(alloc, out, self)
+    fn write_json(alloc: Global, out: &mut Vec<u8>, held: &Batch) -> Result<(), AllocError> {
+        write_parts::<BatchParts>(alloc, out, held)
     }
+}
+
+impl JsonMessage for Batch {
+    ghost use Rattle.wire_jsonfields.specs.Batch.{batch-unsaid};
+
+    ghost default_meant = { batch-unsaid };
 }
 
 /// What is written of a value is read as that value, whatever follows, and as a text at three

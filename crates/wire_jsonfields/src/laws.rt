@@ -17,20 +17,19 @@ ghost use Rattle.wire_jsonfields.specs.Maps.{IsMapTree, MapMeans};
 use crate::enum_field::JsonEnum;
 use crate::key::JsonKey;
 use crate::kind::JsonValue;
-use crate::message::JsonMessage;
 
-/// A text is read as one message of a type at most.
-pub fn a_text_has_one_reading<M: JsonMessage>()
-    ensures { SpellsOneValue M.means }
+/// A text is read as one value of a kind at most.
+pub fn a_text_has_one_reading<V: JsonValue>()
+    ensures { SpellsOneValue V.means }
 {}
 
-/// What is written of a message is read as it: its text at just the levels that it has, or more.
-pub fn messages_come_back<M: JsonMessage>()
-    ensures means { (v : M.Value) → M.in_range v → ComesBack M.means M.tree v }
-    ensures text { (v : M.Value) (json : Json) → M.in_range v → M.tree v json
-        → IsReadFrom M.means json v }
-    ensures front { (v : M.Value) (json : Json) → M.in_range v → M.tree v json
-        → IsReadAs M.means v json }
+/// What is written of a value is read as it: its text at just the levels that it has, or more.
+pub fn values_come_back<V: JsonValue>()
+    ensures means { (v : V.Value) → V.in_range v → ComesBack V.means V.tree v }
+    ensures text { (v : V.Value) (json : Json) → V.in_range v → V.tree v json
+        → IsReadFrom V.means json v }
+    ensures front { (v : V.Value) (json : Json) → V.in_range v → V.tree v json
+        → IsReadAs V.means v json }
 {}
 
 /// What is written of a list is read as it, where that holds of each element.
@@ -52,9 +51,9 @@ pub fn maps_ascend<K: JsonKey, V: JsonValue>()
         → MapMeans K.order K.means V.means json m → IsStrictlySortedBy K.order (keys_of m) }
 {}
 
-/// What is written of a message is read as it at just the levels that it has, or more.
-pub fn written_is_read<M: JsonMessage>()
-    ensures { (json : Json) (v : M.Value) → IsBack M.means json v → IsReadFrom M.means json v }
+/// What is written of a value is read as it at just the levels that it has, or more.
+pub fn written_is_read<V: JsonValue>()
+    ensures { (json : Json) (v : V.Value) → IsBack V.means json v → IsReadFrom V.means json v }
 {}
 
 /// What is written of a list has at most one level more than its elements.

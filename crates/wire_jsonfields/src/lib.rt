@@ -39,7 +39,7 @@ pub use kind::{
 pub use known::{FieldName, check_names};
 pub use list::Repeated;
 pub use map::Map;
-pub use message::{AlwaysMessage, Embedded, JsonMessage, from_json, to_json};
+pub use message::{Embedded, JsonMessage, from_json, to_json};
 pub use object::{Object, PlacedMember, read_object};
 pub use oneof::second_of_oneof;
 pub use part::{Both, JsonPart};

@@ -5,7 +5,6 @@ ghost use Rattle.wire_jsonfields.specs.Batch.{origin-file, origin-template};
 use crate::choice::{JsonChoice, write_chosen};
 use crate::kind::{Boxed, Implicit, Maybe, read_field};
 use crate::known::FieldName;
-use crate::message::AlwaysMessage;
 use crate::object::PlacedMember;
 use crate::sample::Sample;
 use std::alloc::{AllocError, Global};
@@ -135,7 +134,7 @@ impl JsonChoice for OriginTemplate {
         members: &[PlacedMember<'_>],
         levels: u32,
     ) -> Result<Option<Box<Sample>>, ReadError> {
-        read_field::<Maybe<Boxed<AlwaysMessage<Sample>>>>(alloc, text, members, levels, &TEMPLATE)
+        read_field::<Maybe<Boxed<Sample>>>(alloc, text, members, levels, &TEMPLATE)
     }
 
     fn is_chosen(oneof: &Origin) -> bool {
@@ -148,13 +147,7 @@ impl JsonChoice for OriginTemplate {
         first: bool,
         oneof: &Origin,
     ) -> Result<bool, AllocError> {
-        write_chosen::<Boxed<AlwaysMessage<Sample>>>(
-            alloc,
-            out,
-            first,
-            &TEMPLATE,
-            template_of(oneof),
-        )
+        write_chosen::<Boxed<Sample>>(alloc, out, first, &TEMPLATE, template_of(oneof))
     }
 }
 

@@ -3,7 +3,7 @@
 ghost use Rattle.wire_jsonfields.specs.Sample.{SampleIsRead, SampleReadsBack};
 
 use crate::by_parts::{read_parts, write_parts};
-use crate::kind::{Implicit, Optional, read_field, write_field};
+use crate::kind::{Implicit, JsonValue, Optional, read_field, write_field};
 use crate::known::FieldName;
 use crate::message::JsonMessage;
 use crate::object::PlacedMember;
@@ -202,10 +202,12 @@ impl JsonPart for SampleCount {
     }
 }
 
-impl JsonMessage for Sample {
-    ghost use Rattle.wire_jsonfields.specs.Sample.{Sample-Value, sample-default, sample-says, sample-trees, sample-unsaid, sample-value, one_sample, IsSampleInRange, sample-back};
+impl JsonValue for Sample {
+    ghost use Rattle.wire_jsonfields.specs.Sample.{Sample-Value, sample-default, sample-says, sample-trees, sample-value, one_sample, IsSampleInRange, sample-back};
     ghost use Rattle.wire_jsonfields.specs.Messages.{IsObjectTree, ObjectMeans};
     ghost use Rattle.wire_jsonfields.specs.OneValues.{one_object};
+
+    type Held = Sample;
 
     ghost Value = { Sample-Value };
 
@@ -215,9 +217,7 @@ impl JsonMessage for Sample {
 
     ghost tree = { IsObjectTree sample-trees };
 
-    ghost default = { sample-default };
-
-    ghost default_meant = { sample-unsaid };
+    ghost absent = { sample-default };
 
     ghost one_value = { one_object sample-says one_sample };
 
@@ -244,9 +244,15 @@ impl JsonMessage for Sample {
         ))
     }
 
-    fn write_json(&self, alloc: Global, out: &mut Vec<u8>) -> Result<(), AllocError> {
-        write_parts::<SampleParts>(alloc, out, self)
+    fn write_json(alloc: Global, out: &mut Vec<u8>, held: &Sample) -> Result<(), AllocError> {
+        write_parts::<SampleParts>(alloc, out, held)
     }
+}
+
+impl JsonMessage for Sample {
+    ghost use Rattle.wire_jsonfields.specs.Sample.{sample-unsaid};
+
+    ghost default_meant = { sample-unsaid };
 }
 
 /// What is written of a value is read as that value, whatever follows, and as a text at one level.
