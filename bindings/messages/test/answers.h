@@ -1,8 +1,9 @@
 /* What programs have in common that tell what the structs of a schema show: for each line
  * `MESSAGE HEX` a line with the status, and where that is GTV_OK each field, the shortest encoding,
- * that with the unknown fields, and these as they came; else the byte at which the first record begins that is not
- * taken. What is of the schema is written by program_of: a function `show_..` for each struct, and
- * the table `answers`. */
+ * that with the unknown fields, and these as they came; else the byte at which the first record
+ * begins that is not taken. `astray` stands in it where the library breaks what the header says.
+ * What is of the schema is written by program_of: functions `show_..` and `is_no_..` for each
+ * struct, of which the second tells whether it is zero, and the table `answers`. */
 #include <inttypes.h>
 #include <stdio.h>
 #include <stdlib.h>
@@ -53,22 +54,24 @@ static inline void put_unsigned(const char *name, uint64_t value) {
 #define PUT_BYTES(name) put_hex(#name, it->name.data, it->name.len)
 #define PUT_DOUBLE(name) put_double(#name, it->name)
 #define PUT_FLOAT(name) put_float(#name, it->name)
-#define PUT_OPTIONAL(put, name)                                                                    \
+/* A field that may lack, which is zero then. */
+#define PUT_OPTIONAL(put, is_zero, name)                                                           \
     do {                                                                                           \
         if (it->has_##name) {                                                                      \
             put(name);                                                                             \
         } else {                                                                                   \
-            printf(" %s=-", #name);                                                                \
+            printf((is_zero) ? " %s=-" : " %s=astray", #name);                                     \
         }                                                                                          \
     } while (0)
-#define PUT_INSIDE(put, name)                                                                      \
+/* The same of a message. */
+#define PUT_INSIDE(put, is_zero, name)                                                             \
     do {                                                                                           \
         if (it->has_##name) {                                                                      \
             printf(" %s={", #name);                                                                \
             put(&it->name);                                                                        \
             printf(" }");                                                                          \
         } else {                                                                                   \
-            printf(" %s=-", #name);                                                                \
+            printf((is_zero) ? " %s=-" : " %s=astray", #name);                                     \
         }                                                                                          \
     } while (0)
 
@@ -147,13 +150,13 @@ static inline void put_unsigned(const char *name, uint64_t value) {
     do {                                                                                           \
         size_t wanted = message##_size(__VA_ARGS__);                                               \
         size_t len = 0;                                                                            \
-        memset(room, 0xAA, sizeof room);                                                           \
+        memset(room, 0xAA, wanted + 1);                                                            \
         if (message##_write(__VA_ARGS__, room, wanted, &len) != GTV_OK || len != wanted ||         \
             room[wanted] != 0xAA) {                                                                \
             printf(" astray");                                                                     \
         }                                                                                          \
         put_hex("written", room, wanted);                                                          \
-        memset(room, 0xAA, sizeof room);                                                           \
+        memset(room, 0xAA, wanted + count + 1);                                                    \
         if (wanted > 0 &&                                                                          \
             (message##_write(__VA_ARGS__, room, wanted - 1, &len) != GTV_NO_ROOM ||                \
              len != wanted || room[0] != 0xAA)) {                                                  \
@@ -224,6 +227,8 @@ static const gtv_limits wide = {SIZE_MAX, SIZE_MAX, 100};
             show_##name(&it);                                                                      \
             PUT_WRITTEN(prefix##_##name, &it);                                                     \
             PUT_UNKNOWN(prefix##_##name);                                                          \
+        } else if (!is_no_##name(&it)) {                                                           \
+            printf(" astray");                                                                     \
         }                                                                                          \
         putchar('\n');                                                                             \
     }
@@ -240,6 +245,8 @@ static const gtv_limits wide = {SIZE_MAX, SIZE_MAX, 100};
             show_##name(&it, count);                                                               \
             PUT_WRITTEN(prefix##_##name, &it, &name##_lists);                                      \
             PUT_UNKNOWN(prefix##_##name);                                                          \
+        } else if (!is_no_##name(&it)) {                                                           \
+            printf(" astray");                                                                     \
         }                                                                                          \
         putchar('\n');                                                                             \
     }
