@@ -1,9 +1,10 @@
 /* What programs have in common that tell what the structs of a schema show: for each line
  * `MESSAGE HEX` a line with the status, and where that is GTV_OK each field, the shortest encoding,
- * that with the unknown fields, and these as they came; else the byte at which the first record
- * begins that is not taken. `astray` stands in it where the library breaks what the header says.
- * What is of the schema is written by program_of: functions `show_..` and `is_no_..` for each
- * struct, of which the second tells whether it is zero, and the table `answers`. */
+ * that with the unknown fields, these as they came, and the least limits; else the byte at which
+ * the first record begins that is not taken. `astray` stands in it where the library breaks what
+ * the header says. What is of the schema is written by program_of: functions `show_..` and
+ * `is_no_..` for each struct, of which the second tells whether it is zero, and the table
+ * `answers`. */
 #include <inttypes.h>
 #include <stdio.h>
 #include <stdlib.h>
@@ -193,6 +194,35 @@ static const gtv_limits wide = {SIZE_MAX, SIZE_MAX, 100};
         printf(record.len == 0 ? " ]" : " ] astray");                                              \
     } while (0)
 
+/* The least of a limit within which the message is read, which it is with `most` of it. */
+#define LEAST(message, limit, most)                                                                \
+    do {                                                                                           \
+        size_t low = 0, high = (most);                                                             \
+        while (low < high) {                                                                       \
+            message within;                                                                        \
+            limit = (low + high) / 2;                                                              \
+            if (message##_read_within(bytes, count, &least, &within) == GTV_OK) {                  \
+                high = limit;                                                                      \
+            } else {                                                                               \
+                low = limit + 1;                                                                   \
+            }                                                                                      \
+        }                                                                                          \
+        limit = low;                                                                               \
+    } while (0)
+
+/* The least limits: unknown fields, bytes of their payloads, and levels. As they take many reads,
+ * they are told of messages of every eighth length. */
+#define PUT_LIMITS(message)                                                                        \
+    do {                                                                                           \
+        if (count % 8 == 0) {                                                                      \
+            gtv_limits least = {SIZE_MAX, SIZE_MAX, 100};                                          \
+            LEAST(message, least.records, count);                                                  \
+            LEAST(message, least.payload_bytes, count);                                            \
+            LEAST(message, least.depth, 100);                                                      \
+            printf(" limits=%zu,%zu,%" PRIu32, least.records, least.payload_bytes, least.depth);   \
+        }                                                                                          \
+    } while (0)
+
 /* Where the bytes are refused, or their length, by both calls that tell it. */
 #define PUT_PLACE(message)                                                                         \
     do {                                                                                           \
@@ -227,6 +257,7 @@ static const gtv_limits wide = {SIZE_MAX, SIZE_MAX, 100};
             show_##name(&it);                                                                      \
             PUT_WRITTEN(prefix##_##name, &it);                                                     \
             PUT_UNKNOWN(prefix##_##name);                                                          \
+            PUT_LIMITS(prefix##_##name);                                                           \
         } else if (!is_no_##name(&it)) {                                                           \
             printf(" astray");                                                                     \
         }                                                                                          \
@@ -245,6 +276,7 @@ static const gtv_limits wide = {SIZE_MAX, SIZE_MAX, 100};
             show_##name(&it, count);                                                               \
             PUT_WRITTEN(prefix##_##name, &it, &name##_lists);                                      \
             PUT_UNKNOWN(prefix##_##name);                                                          \
+            PUT_LIMITS(prefix##_##name);                                                           \
         } else if (!is_no_##name(&it)) {                                                           \
             printf(" astray");                                                                     \
         }                                                                                          \

@@ -128,8 +128,41 @@ macro_rules! written {
         is_astray |= $message::read_within($bytes, &WIDE).is_err();
         let astray = if is_astray { " astray" } else { "" };
         let unknown = list($message::unknown_records($bytes).map(|it| format!("={}", hex(it))));
-        format!("{astray} written={} kept={} unknown={unknown}", hex(&written), hex(&kept))
+        let limits = limits!($message, $bytes);
+        format!("{astray} written={} kept={} unknown={unknown}{limits}", hex(&written), hex(&kept))
     }};
+}
+
+// The least limits within which a message is read, of every eighth length.
+macro_rules! limits {
+    ($message:ident, $bytes:expr) => {{
+        let is_within = |records, payload_bytes, depth| {
+            $message::read_within($bytes, &Limits { records, payload_bytes, depth }).is_ok()
+        };
+        let len = $bytes.len();
+        if len % 8 == 0 {
+            let records = least(len, |it| is_within(it, len, 100));
+            let payload_bytes = least(len, |it| is_within(records, it, 100));
+            let depth = least(100, |it| is_within(records, payload_bytes, it as u32));
+            format!(" limits={records},{payload_bytes},{depth}")
+        } else {
+            String::new()
+        }
+    }};
+}
+
+// The least number that suffices, as the greatest does.
+fn least(most: usize, suffices: impl Fn(usize) -> bool) -> usize {
+    let (mut low, mut high) = (0, most);
+    while low < high {
+        let middle = (low + high) / 2;
+        if suffices(middle) {
+            high = middle;
+        } else {
+            low = middle + 1;
+        }
+    }
+    low
 }
 
 fn main() -> io::Result<()> {

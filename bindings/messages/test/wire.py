@@ -64,6 +64,37 @@ def unknown_records(of, data):
     return found
 
 
+def least_limits(of, data):
+    """The least limits within which a message is read, as text: unknown fields, those in groups
+    counted; bytes of their payloads; and levels of messages and groups."""
+    return ",".join(str(it) for it in limits_of(of, data, 0)[:3])
+
+
+def limits_of(of, data, at):
+    """The same of the records from a place on, up to the end or an end tag, and the place behind;
+    without a type those of a group, whose fields are all unknown."""
+    count = size = levels = 0
+    while at < len(data):
+        tag, begun = number_at(data, at)
+        field = of.fields_by_number.get(tag >> 3) if of else None
+        inner = None
+        if tag & 7 == 4:
+            return count, size, levels, begun
+        if tag & 7 == 3:
+            *inner, at = limits_of(None, data, begun)
+        else:
+            at = behind_record(data, at)
+        if tag & 7 == 2:
+            length, begun = number_at(data, begun)
+            size += 0 if field else length
+            if field and field.type == 11:
+                inner = limits_of(field.message_type, data[begun:at], 0)
+        count += 0 if field else 1
+        if inner:
+            count, size, levels = count + inner[0], size + inner[1], max(levels, inner[2] + 1)
+    return count, size, levels, at
+
+
 def in_order(of, data):
     """A shortest encoding with the field of a oneof that stands at the place of its lowest number,
     where the library writes it; Python writes it at that of its own."""
