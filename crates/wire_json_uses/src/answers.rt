@@ -2,8 +2,7 @@
 use std::alloc::Global;
 use wire_json::{FaultKind, Mark, write_mark};
 use wire_jsonfields::{
-    FieldName, JsonKind, JsonValue, from_json, read_field, read_object, to_json,
-    write_field,
+    FieldName, JsonKind, JsonValue, from_json, read_field, read_object, to_json, write_field,
 };
 use wire_protojson::{ReadError, Reason, Refusal};
 

@@ -6,9 +6,7 @@ use crate::answers::{Found, Row, found_in};
 use std::alloc::Global;
 use wire_jsonfields::grade::Grade;
 use wire_jsonfields::sample::Sample;
-use wire_jsonfields::{
-    Embedded, EnumOf, Implicit, JsonValue, Map, Optional, Repeated,
-};
+use wire_jsonfields::{Embedded, EnumOf, Implicit, JsonValue, Map, Optional, Repeated};
 
 const LISTS: [Row; 12] = [
     (b"[]", Is(b"[]")),
@@ -147,10 +145,7 @@ fn astray<V: JsonValue>(alloc: Global, rows: &[Row], levels: u32) -> Option<(usi
 fn lists_are_read_and_written(rt: HostRuntime) {
     let alloc = rt.alloc();
     assert_eq!(rt; astray::<Repeated<Implicit<i64>>>(alloc, &LISTS, 2), None);
-    assert_eq!(rt;
-        astray::<Repeated<Sample>>(alloc, &MESSAGE_LISTS, 2),
-        None
-    );
+    assert_eq!(rt; astray::<Repeated<Sample>>(alloc, &MESSAGE_LISTS, 2), None);
 }
 
 #[test]
@@ -170,22 +165,10 @@ fn arrays_and_objects_are_levels(rt: HostRuntime) {
         None
     );
     assert_eq!(rt; astray::<Embedded<Sample>>(alloc, &NO_OBJECT, 0), None);
-    assert_eq!(rt;
-        astray::<Map<u32, Sample>>(alloc, &NO_OBJECT, 0),
-        None
-    );
-    assert_eq!(rt;
-        astray::<Map<u32, Sample>>(alloc, &ONE_OBJECT, 1),
-        None
-    );
-    assert_eq!(rt;
-        astray::<Repeated<Sample>>(alloc, &ONE_LEVEL, 1),
-        None
-    );
-    assert_eq!(rt;
-        astray::<Repeated<Sample>>(alloc, &TWO_LEVELS, 2),
-        None
-    );
+    assert_eq!(rt; astray::<Map<u32, Sample>>(alloc, &NO_OBJECT, 0), None);
+    assert_eq!(rt; astray::<Map<u32, Sample>>(alloc, &ONE_OBJECT, 1), None);
+    assert_eq!(rt; astray::<Repeated<Sample>>(alloc, &ONE_LEVEL, 1), None);
+    assert_eq!(rt; astray::<Repeated<Sample>>(alloc, &TWO_LEVELS, 2), None);
 }
 
 #[test]
@@ -207,10 +190,7 @@ fn maps_are_read_and_written(rt: HostRuntime) {
         astray::<Map<bool, Implicit<EnumOf<Grade>>>>(alloc, &BOOL_KEYS, 2),
         None
     );
-    assert_eq!(rt;
-        astray::<Map<i64, Sample>>(alloc, &MESSAGE_VALUES, 2),
-        None
-    );
+    assert_eq!(rt; astray::<Map<i64, Sample>>(alloc, &MESSAGE_VALUES, 2), None);
     assert_eq!(rt;
         astray::<Map<u32, Implicit<Vec<u8>>>>(alloc, &BYTES_BY_WORD, 2),
         None

@@ -1,5 +1,5 @@
-//! Callers of the crates of JSON: a text that is compacted, and an integer, a duration and a message
-//! that are read and written again; and rows of texts with what is answered of them.
+//! Callers of the crates of JSON: a text that is compacted, and an integer, a duration, a message and
+//! a generated one that are read and written again; and rows of texts with what is answered of them.
 #![tactic(auto)]
 
 #[cfg(test)]
@@ -15,6 +15,9 @@ pub mod integers;
 mod kind_tests;
 #[cfg(test)]
 mod message_tests;
+pub mod report_sample;
+#[cfg(test)]
+mod report_sample_tests;
 #[cfg(test)]
 mod scalar_tests;
 #[cfg(test)]
