@@ -1,7 +1,6 @@
 pub mod AxisInCShows
 pub mod MachineInCShows
 pub mod MotorInCShows
-pub mod PanelInCShows
 pub mod PartInCShows
 pub mod TaskAxesEntryInCShows
 pub mod TaskCountsEntryInCShows

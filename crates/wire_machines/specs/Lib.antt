@@ -9,9 +9,6 @@ pub mod Mode
 pub mod Motor
 pub mod MotorInC
 pub mod MotorStays
-pub mod Panel
-pub mod PanelInC
-pub mod PanelStays
 pub mod Part
 pub mod PartInC
 pub mod PartInCLists

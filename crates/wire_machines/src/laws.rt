@@ -8,8 +8,6 @@ ghost use Rattle.wire_machines.specs.Machine.{machine-known, machine-range, mach
 ghost use Rattle.wire_machines.specs.MachineInC.{MachineInC-ReadsBack};
 ghost use Rattle.wire_machines.specs.Motor.{motor-known, motor-range, motor-shape};
 ghost use Rattle.wire_machines.specs.MotorInC.{MotorInC-ReadsBack};
-ghost use Rattle.wire_machines.specs.Panel.{panel-known, panel-range, panel-shape};
-ghost use Rattle.wire_machines.specs.PanelInC.{PanelInC-ReadsBack};
 ghost use Rattle.wire_machines.specs.Part.{part-known, part-range, part-shape};
 ghost use Rattle.wire_machines.specs.PartInC.{PartInC-ReadsBack};
 ghost use Rattle.wire_machines.specs.Task.{task-known, task-range, task-shape};
@@ -33,22 +31,6 @@ ghost use Rattle.wire_structs.specs.KeptFields.{KeepsUnknown};
 
 use wire_codec::laws::text_decodes;
 use wire_fields::laws::grounds;
-
-/// What is written of each `Panel` in range decodes to it, where the limits suffice.
-pub fn panel_reads_back()
-    ensures { ReadsBack panel-shape panel-range }
-{
-    grounds();
-    text_decodes::<crate::Panel>();
-}
-
-/// What bytes decode to as `Panel` is in range, where each message and group
-/// within it takes at most 2,147,483,647 bytes and any other payload less than 2^64.
-pub fn panel_decodes_in_range()
-    ensures { DecodesInRange panel-shape panel-range }
-{
-    grounds();
-}
 
 /// What is written of each `Part` in range decodes to it, where the limits suffice.
 pub fn part_reads_back()
@@ -193,20 +175,6 @@ pub fn task_counts_entry_decodes_in_range()
 {
     grounds();
 }
-
-/// What is written of a `PanelInC` is read as it is written, with the unknown fields
-/// behind it.
-pub fn panel_in_c_reads_back()
-    ensures { PanelInC-ReadsBack }
-{
-    panel_reads_back();
-}
-
-/// The unknown fields of bytes, which are written behind a `PanelInC`, are those that the message
-/// keeps which the bytes are.
-pub fn panel_in_c_keeps_unknown()
-    ensures { KeepsUnknown panel-known }
-{}
 
 /// What is written of a `PartInC` and of its lists is read as it is written, with the unknown fields
 /// behind it.

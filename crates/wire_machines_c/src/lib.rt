@@ -8,7 +8,6 @@
 mod axis;
 mod machine;
 mod motor;
-mod panel;
 mod part;
 mod task;
 mod task_axes_entry;

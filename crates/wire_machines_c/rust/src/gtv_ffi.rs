@@ -2,7 +2,6 @@
 #![allow(dead_code)]
 use crate::gtv_structs::{kept, measured, told, wrote};
 use crate::gtv_structs::{Bytes, Limits, NoRoom, NotWritten, Refusal};
-use crate::panel::Panel;
 use crate::part::Part;
 use crate::part::PartLists;
 use crate::axis::Axis;
@@ -242,67 +241,6 @@ impl<T: Copy + Default> Iterator for Numbers<'_, T> {
             None
         }
     }
-}
-
-pub(crate) fn unknown_of_panel(bytes: &[u8]) -> Walk<'_> {
-    Walk::new(bytes, machines_panel_unknown_record)
-}
-
-// SAFETY: the struct is that of the header, and the calls are its own.
-unsafe impl<'a> Struct<'a> for Panel<'a> {
-    const READ: ReadCall<Self> = machines_panel_read;
-    const READ_WITHIN: ReadWithinCall<Self> = machines_panel_read_within;
-    const FAULT: FaultCall = machines_panel_fault;
-    const FAULT_WITHIN: FaultWithinCall = machines_panel_fault_within;
-}
-
-// SAFETY: as above.
-unsafe impl<'a> Written for Panel<'a> {
-    const SIZE: SizeCall<Self> = machines_panel_size;
-    const WRITE: WriteCall<Self> = machines_panel_write;
-    const SIZE_KEEPING: SizeKeepingCall<Self> = machines_panel_size_keeping;
-    const WRITE_KEEPING: WriteKeepingCall<Self> = machines_panel_write_keeping;
-}
-
-const _: () = assert!(std::mem::size_of::<Panel<'static>>() == 1000);
-
-extern "C" {
-    fn machines_panel_read<'a>(bytes: *const u8, len: usize, it: *mut Panel<'a>) -> u32;
-    fn machines_panel_read_within<'a>(
-        bytes: *const u8,
-        len: usize,
-        limits: *const Limits,
-        it: *mut Panel<'a>,
-    ) -> u32;
-    fn machines_panel_unknown_record<'a>(walk: *mut Bytes<'a>, element: *mut Bytes<'a>) -> u32;
-    fn machines_panel_fault(bytes: *const u8, len: usize, place: *mut usize) -> u32;
-    fn machines_panel_fault_within(
-        bytes: *const u8,
-        len: usize,
-        limits: *const Limits,
-        place: *mut usize,
-    ) -> u32;
-    fn machines_panel_size<'a>(it: *const Panel<'a>) -> usize;
-    fn machines_panel_write<'a>(
-        it: *const Panel<'a>,
-        room: *mut u8,
-        room_len: usize,
-        len: *mut usize,
-    ) -> u32;
-    fn machines_panel_size_keeping<'a>(
-        it: *const Panel<'a>,
-        bytes: *const u8,
-        bytes_len: usize,
-        len: *mut usize,
-    ) -> u32;
-    fn machines_panel_write_keeping<'a>(
-        it: *const Panel<'a>,
-        bytes: *const u8,
-        bytes_len: usize,
-        room: *mut u8,
-        room_len: usize,
-        len: *mut usize,
-    ) -> u32;
 }
 
 pub(crate) fn unknown_of_part(bytes: &[u8]) -> Walk<'_> {

@@ -4,7 +4,6 @@ mod gtv_ffi;
 // (the same for each schema, whatever it has)
 #[allow(dead_code)]
 mod gtv_structs;
-mod panel;
 mod part;
 mod axis;
 mod task_parts_entry;
@@ -16,7 +15,6 @@ mod task;
 mod machine;
 
 pub use gtv_structs::{Bytes, Limits, NoRoom, NotWritten, Refusal, Text};
-pub use panel::Panel;
 pub use part::Part;
 pub use part::PartLists;
 pub use axis::Axis;

@@ -1,0 +1,4 @@
+pub mod Light
+pub mod Panel
+pub mod PanelInC
+pub mod PanelStays
