@@ -56,41 +56,6 @@ typedef struct machines_axis {
     gtv_bytes no_bytes;
 } machines_axis;
 
-/* The message `machines.Task.PartsEntry`. */
-/* An entry of a map, as it came: of several of one key the last stands for all. A key or a value
- * that is not there is zero, of no bytes, or the message of no records; such are not written. */
-typedef struct machines_task_parts_entry {
-    gtv_bytes key;
-    bool has_value;
-    gtv_bytes value;
-} machines_task_parts_entry;
-
-/* The message `machines.Task.ModesEntry`. */
-/* An entry of a map, as it came: of several of one key the last stands for all. A key or a value
- * that is not there is zero, of no bytes, or the message of no records; such are not written. */
-typedef struct machines_task_modes_entry {
-    uint32_t key;
-    int32_t value;
-    gtv_bytes no_bytes;
-} machines_task_modes_entry;
-
-/* The message `machines.Task.AxesEntry`. */
-/* An entry of a map, as it came: of several of one key the last stands for all. A key or a value
- * that is not there is zero, of no bytes, or the message of no records; such are not written. */
-typedef struct machines_task_axes_entry {
-    int64_t key;
-    bool has_value;
-    machines_axis value;
-} machines_task_axes_entry;
-
-/* The message `machines.Task.CountsEntry`. */
-/* An entry of a map, as it came: of several of one key the last stands for all. A key or a value
- * that is not there is zero, of no bytes, or the message of no records; such are not written. */
-typedef struct machines_task_counts_entry {
-    gtv_bytes key;
-    int32_t value;
-} machines_task_counts_entry;
-
 /* The message `machines.Motor`. */
 /* What turns an axis: fields of each kind that have to be there, may be there, or have a default. */
 typedef struct machines_motor {
@@ -122,100 +87,6 @@ typedef struct machines_motor {
     /* The last number that a field can have. */
     int32_t offset;
 } machines_motor;
-
-/* The oneof `machines.Task.what`: `which` is the number of the field that stands, or 0. */
-enum {
-    MACHINES_TASK_WHAT_MODE = 2,
-    MACHINES_TASK_WHAT_NOTE = 3,
-    MACHINES_TASK_WHAT_MOTOR = 4,
-    MACHINES_TASK_WHAT_TURNS = 5,
-    MACHINES_TASK_WHAT_PART = 9
-};
-
-typedef struct machines_task_what {
-    uint32_t which;
-    int32_t mode;
-    gtv_bytes note;
-    machines_motor motor;
-    int32_t turns;
-    /* Encodings of messages, not looked at: the calls of their type read and write them. */
-    gtv_bytes part;
-} machines_task_what;
-
-/* The message `machines.Task`. */
-/* A task: a oneof, fields of which have defaults, and maps; parts are there as their encodings. */
-typedef struct machines_task {
-    bool has_id;
-    uint32_t id;
-    machines_task_what what;
-    uint64_t counts_count;
-    uint64_t axes_count;
-    uint64_t modes_count;
-    /* Encodings of messages, not looked at: the calls of their type read and write them. */
-    uint64_t parts_count;
-} machines_task;
-
-/* The lists of a `machines.Task` that is written: pointers to the first element, and how many there
- * are. All is zero where there are none. */
-typedef struct machines_task_lists {
-    const machines_task_counts_entry *counts;
-    size_t counts_len;
-    const machines_task_axes_entry *axes;
-    size_t axes_len;
-    const machines_task_modes_entry *modes;
-    size_t modes_len;
-    const machines_task_parts_entry *parts;
-    size_t parts_len;
-} machines_task_lists;
-
-/* The message `machines.Machine`. */
-/* A machine, with a list of each kind: numbers are packed only where that is said. */
-typedef struct machines_machine {
-    bool has_name;
-    gtv_bytes name;
-    uint64_t axes_count;
-    bool has_motor;
-    machines_motor motor;
-    uint64_t motors_count;
-    uint64_t notes_count;
-    uint64_t frames_count;
-    uint64_t steps_count;
-    uint64_t drifts_count;
-    uint64_t modes_count;
-    uint64_t past_count;
-    uint64_t serials_count;
-    uint64_t loads_count;
-    uint64_t marks_count;
-    bool has_mode;
-    int32_t mode;
-} machines_machine;
-
-/* The lists of a `machines.Machine` that is written: pointers to the first element, and how many there
- * are. All is zero where there are none. */
-typedef struct machines_machine_lists {
-    const machines_axis *axes;
-    size_t axes_len;
-    const machines_motor *motors;
-    size_t motors_len;
-    const gtv_bytes *notes;
-    size_t notes_len;
-    const gtv_bytes *frames;
-    size_t frames_len;
-    const int32_t *steps;
-    size_t steps_len;
-    const int64_t *drifts;
-    size_t drifts_len;
-    const int32_t *modes;
-    size_t modes_len;
-    const int32_t *past;
-    size_t past_len;
-    const uint64_t *serials;
-    size_t serials_len;
-    const float *loads;
-    size_t loads_len;
-    const bool *marks;
-    size_t marks_len;
-} machines_machine_lists;
 
 /* Each `_read` sets the struct to what all of the bytes are: GTV_OK, exactly where they are such a
  * message within the limits. Any other status says that they are not, and then the struct is zero;
@@ -308,70 +179,6 @@ uint32_t machines_axis_write_keeping(const machines_axis *it,
                                 const uint8_t *bytes, size_t bytes_len,
                                 uint8_t *room, size_t room_len, size_t *len);
 
-uint32_t machines_task_parts_entry_read(const uint8_t *bytes, size_t len, machines_task_parts_entry *it);
-uint32_t machines_task_parts_entry_read_within(const uint8_t *bytes, size_t len,
-                              const gtv_limits *limits, machines_task_parts_entry *it);
-uint32_t machines_task_parts_entry_fault(const uint8_t *bytes, size_t len, size_t *place);
-uint32_t machines_task_parts_entry_fault_within(const uint8_t *bytes, size_t len,
-                               const gtv_limits *limits, size_t *place);
-uint32_t machines_task_parts_entry_unknown_record(gtv_bytes *walk, gtv_bytes *element);
-size_t machines_task_parts_entry_size(const machines_task_parts_entry *it);
-uint32_t machines_task_parts_entry_write(const machines_task_parts_entry *it,
-                        uint8_t *room, size_t room_len, size_t *len);
-uint32_t machines_task_parts_entry_size_keeping(const machines_task_parts_entry *it,
-                               const uint8_t *bytes, size_t bytes_len, size_t *len);
-uint32_t machines_task_parts_entry_write_keeping(const machines_task_parts_entry *it,
-                                const uint8_t *bytes, size_t bytes_len,
-                                uint8_t *room, size_t room_len, size_t *len);
-
-uint32_t machines_task_modes_entry_read(const uint8_t *bytes, size_t len, machines_task_modes_entry *it);
-uint32_t machines_task_modes_entry_read_within(const uint8_t *bytes, size_t len,
-                              const gtv_limits *limits, machines_task_modes_entry *it);
-uint32_t machines_task_modes_entry_fault(const uint8_t *bytes, size_t len, size_t *place);
-uint32_t machines_task_modes_entry_fault_within(const uint8_t *bytes, size_t len,
-                               const gtv_limits *limits, size_t *place);
-uint32_t machines_task_modes_entry_unknown_record(gtv_bytes *walk, gtv_bytes *element);
-size_t machines_task_modes_entry_size(const machines_task_modes_entry *it);
-uint32_t machines_task_modes_entry_write(const machines_task_modes_entry *it,
-                        uint8_t *room, size_t room_len, size_t *len);
-uint32_t machines_task_modes_entry_size_keeping(const machines_task_modes_entry *it,
-                               const uint8_t *bytes, size_t bytes_len, size_t *len);
-uint32_t machines_task_modes_entry_write_keeping(const machines_task_modes_entry *it,
-                                const uint8_t *bytes, size_t bytes_len,
-                                uint8_t *room, size_t room_len, size_t *len);
-
-uint32_t machines_task_axes_entry_read(const uint8_t *bytes, size_t len, machines_task_axes_entry *it);
-uint32_t machines_task_axes_entry_read_within(const uint8_t *bytes, size_t len,
-                              const gtv_limits *limits, machines_task_axes_entry *it);
-uint32_t machines_task_axes_entry_fault(const uint8_t *bytes, size_t len, size_t *place);
-uint32_t machines_task_axes_entry_fault_within(const uint8_t *bytes, size_t len,
-                               const gtv_limits *limits, size_t *place);
-uint32_t machines_task_axes_entry_unknown_record(gtv_bytes *walk, gtv_bytes *element);
-size_t machines_task_axes_entry_size(const machines_task_axes_entry *it);
-uint32_t machines_task_axes_entry_write(const machines_task_axes_entry *it,
-                        uint8_t *room, size_t room_len, size_t *len);
-uint32_t machines_task_axes_entry_size_keeping(const machines_task_axes_entry *it,
-                               const uint8_t *bytes, size_t bytes_len, size_t *len);
-uint32_t machines_task_axes_entry_write_keeping(const machines_task_axes_entry *it,
-                                const uint8_t *bytes, size_t bytes_len,
-                                uint8_t *room, size_t room_len, size_t *len);
-
-uint32_t machines_task_counts_entry_read(const uint8_t *bytes, size_t len, machines_task_counts_entry *it);
-uint32_t machines_task_counts_entry_read_within(const uint8_t *bytes, size_t len,
-                              const gtv_limits *limits, machines_task_counts_entry *it);
-uint32_t machines_task_counts_entry_fault(const uint8_t *bytes, size_t len, size_t *place);
-uint32_t machines_task_counts_entry_fault_within(const uint8_t *bytes, size_t len,
-                               const gtv_limits *limits, size_t *place);
-uint32_t machines_task_counts_entry_unknown_record(gtv_bytes *walk, gtv_bytes *element);
-size_t machines_task_counts_entry_size(const machines_task_counts_entry *it);
-uint32_t machines_task_counts_entry_write(const machines_task_counts_entry *it,
-                        uint8_t *room, size_t room_len, size_t *len);
-uint32_t machines_task_counts_entry_size_keeping(const machines_task_counts_entry *it,
-                               const uint8_t *bytes, size_t bytes_len, size_t *len);
-uint32_t machines_task_counts_entry_write_keeping(const machines_task_counts_entry *it,
-                                const uint8_t *bytes, size_t bytes_len,
-                                uint8_t *room, size_t room_len, size_t *len);
-
 uint32_t machines_motor_read(const uint8_t *bytes, size_t len, machines_motor *it);
 uint32_t machines_motor_read_within(const uint8_t *bytes, size_t len,
                               const gtv_limits *limits, machines_motor *it);
@@ -385,53 +192,6 @@ uint32_t machines_motor_write(const machines_motor *it,
 uint32_t machines_motor_size_keeping(const machines_motor *it,
                                const uint8_t *bytes, size_t bytes_len, size_t *len);
 uint32_t machines_motor_write_keeping(const machines_motor *it,
-                                const uint8_t *bytes, size_t bytes_len,
-                                uint8_t *room, size_t room_len, size_t *len);
-
-uint32_t machines_task_read(const uint8_t *bytes, size_t len, machines_task *it);
-uint32_t machines_task_read_within(const uint8_t *bytes, size_t len,
-                              const gtv_limits *limits, machines_task *it);
-uint32_t machines_task_fault(const uint8_t *bytes, size_t len, size_t *place);
-uint32_t machines_task_fault_within(const uint8_t *bytes, size_t len,
-                               const gtv_limits *limits, size_t *place);
-uint32_t machines_task_unknown_record(gtv_bytes *walk, gtv_bytes *element);
-uint32_t machines_task_next_counts(gtv_bytes *walk, gtv_bytes *element);
-uint32_t machines_task_next_axes(gtv_bytes *walk, gtv_bytes *element);
-uint32_t machines_task_next_modes(gtv_bytes *walk, gtv_bytes *element);
-uint32_t machines_task_next_parts(gtv_bytes *walk, gtv_bytes *element);
-size_t machines_task_size(const machines_task *it, const machines_task_lists *lists);
-uint32_t machines_task_write(const machines_task *it, const machines_task_lists *lists,
-                        uint8_t *room, size_t room_len, size_t *len);
-uint32_t machines_task_size_keeping(const machines_task *it, const machines_task_lists *lists,
-                               const uint8_t *bytes, size_t bytes_len, size_t *len);
-uint32_t machines_task_write_keeping(const machines_task *it, const machines_task_lists *lists,
-                                const uint8_t *bytes, size_t bytes_len,
-                                uint8_t *room, size_t room_len, size_t *len);
-
-uint32_t machines_machine_read(const uint8_t *bytes, size_t len, machines_machine *it);
-uint32_t machines_machine_read_within(const uint8_t *bytes, size_t len,
-                              const gtv_limits *limits, machines_machine *it);
-uint32_t machines_machine_fault(const uint8_t *bytes, size_t len, size_t *place);
-uint32_t machines_machine_fault_within(const uint8_t *bytes, size_t len,
-                               const gtv_limits *limits, size_t *place);
-uint32_t machines_machine_unknown_record(gtv_bytes *walk, gtv_bytes *element);
-uint32_t machines_machine_next_axes(gtv_bytes *walk, gtv_bytes *element);
-uint32_t machines_machine_next_motors(gtv_bytes *walk, gtv_bytes *element);
-uint32_t machines_machine_next_notes(gtv_bytes *walk, gtv_bytes *element);
-uint32_t machines_machine_next_frames(gtv_bytes *walk, gtv_bytes *element);
-uint32_t machines_machine_next_steps(gtv_numbers *walk, int32_t *number);
-uint32_t machines_machine_next_drifts(gtv_numbers *walk, int64_t *number);
-uint32_t machines_machine_next_modes(gtv_numbers *walk, int32_t *number);
-uint32_t machines_machine_next_past(gtv_numbers *walk, int32_t *number);
-uint32_t machines_machine_next_serials(gtv_numbers *walk, uint64_t *number);
-uint32_t machines_machine_next_loads(gtv_numbers *walk, float *number);
-uint32_t machines_machine_next_marks(gtv_numbers *walk, bool *number);
-size_t machines_machine_size(const machines_machine *it, const machines_machine_lists *lists);
-uint32_t machines_machine_write(const machines_machine *it, const machines_machine_lists *lists,
-                        uint8_t *room, size_t room_len, size_t *len);
-uint32_t machines_machine_size_keeping(const machines_machine *it, const machines_machine_lists *lists,
-                               const uint8_t *bytes, size_t bytes_len, size_t *len);
-uint32_t machines_machine_write_keeping(const machines_machine *it, const machines_machine_lists *lists,
                                 const uint8_t *bytes, size_t bytes_len,
                                 uint8_t *room, size_t room_len, size_t *len);
 
@@ -456,21 +216,6 @@ GTV_LAYOUT(machines_axis__teeth, offsetof(machines_axis, teeth) == 12);
 GTV_LAYOUT(machines_axis__has_serial, offsetof(machines_axis, has_serial) == 16);
 GTV_LAYOUT(machines_axis__serial, offsetof(machines_axis, serial) == 24);
 GTV_LAYOUT(machines_axis__no_bytes, offsetof(machines_axis, no_bytes) == 32);
-GTV_LAYOUT(size_of_machines_task_parts_entry, sizeof(machines_task_parts_entry) == 40);
-GTV_LAYOUT(machines_task_parts_entry__key, offsetof(machines_task_parts_entry, key) == 0);
-GTV_LAYOUT(machines_task_parts_entry__has_value, offsetof(machines_task_parts_entry, has_value) == 16);
-GTV_LAYOUT(machines_task_parts_entry__value, offsetof(machines_task_parts_entry, value) == 24);
-GTV_LAYOUT(size_of_machines_task_modes_entry, sizeof(machines_task_modes_entry) == 24);
-GTV_LAYOUT(machines_task_modes_entry__key, offsetof(machines_task_modes_entry, key) == 0);
-GTV_LAYOUT(machines_task_modes_entry__value, offsetof(machines_task_modes_entry, value) == 4);
-GTV_LAYOUT(machines_task_modes_entry__no_bytes, offsetof(machines_task_modes_entry, no_bytes) == 8);
-GTV_LAYOUT(size_of_machines_task_axes_entry, sizeof(machines_task_axes_entry) == 64);
-GTV_LAYOUT(machines_task_axes_entry__key, offsetof(machines_task_axes_entry, key) == 0);
-GTV_LAYOUT(machines_task_axes_entry__has_value, offsetof(machines_task_axes_entry, has_value) == 8);
-GTV_LAYOUT(machines_task_axes_entry__value, offsetof(machines_task_axes_entry, value) == 16);
-GTV_LAYOUT(size_of_machines_task_counts_entry, sizeof(machines_task_counts_entry) == 24);
-GTV_LAYOUT(machines_task_counts_entry__key, offsetof(machines_task_counts_entry, key) == 0);
-GTV_LAYOUT(machines_task_counts_entry__value, offsetof(machines_task_counts_entry, value) == 16);
 GTV_LAYOUT(size_of_machines_motor, sizeof(machines_motor) == 272);
 GTV_LAYOUT(machines_motor__has_name, offsetof(machines_motor, has_name) == 0);
 GTV_LAYOUT(machines_motor__name, offsetof(machines_motor, name) == 8);
@@ -498,41 +243,6 @@ GTV_LAYOUT(machines_motor__has_drift, offsetof(machines_motor, has_drift) == 248
 GTV_LAYOUT(machines_motor__drift, offsetof(machines_motor, drift) == 256);
 GTV_LAYOUT(machines_motor__has_offset, offsetof(machines_motor, has_offset) == 264);
 GTV_LAYOUT(machines_motor__offset, offsetof(machines_motor, offset) == 268);
-GTV_LAYOUT(size_of_machines_task_what, sizeof(machines_task_what) == 320);
-GTV_LAYOUT(machines_task_what__which, offsetof(machines_task_what, which) == 0);
-GTV_LAYOUT(machines_task_what__mode, offsetof(machines_task_what, mode) == 4);
-GTV_LAYOUT(machines_task_what__note, offsetof(machines_task_what, note) == 8);
-GTV_LAYOUT(machines_task_what__motor, offsetof(machines_task_what, motor) == 24);
-GTV_LAYOUT(machines_task_what__turns, offsetof(machines_task_what, turns) == 296);
-GTV_LAYOUT(machines_task_what__part, offsetof(machines_task_what, part) == 304);
-GTV_LAYOUT(size_of_machines_task, sizeof(machines_task) == 360);
-GTV_LAYOUT(machines_task__has_id, offsetof(machines_task, has_id) == 0);
-GTV_LAYOUT(machines_task__id, offsetof(machines_task, id) == 4);
-GTV_LAYOUT(machines_task__what, offsetof(machines_task, what) == 8);
-GTV_LAYOUT(machines_task__counts_count, offsetof(machines_task, counts_count) == 328);
-GTV_LAYOUT(machines_task__axes_count, offsetof(machines_task, axes_count) == 336);
-GTV_LAYOUT(machines_task__modes_count, offsetof(machines_task, modes_count) == 344);
-GTV_LAYOUT(machines_task__parts_count, offsetof(machines_task, parts_count) == 352);
-GTV_LAYOUT(size_of_machines_task_lists, sizeof(machines_task_lists) == 64);
-GTV_LAYOUT(size_of_machines_machine, sizeof(machines_machine) == 400);
-GTV_LAYOUT(machines_machine__has_name, offsetof(machines_machine, has_name) == 0);
-GTV_LAYOUT(machines_machine__name, offsetof(machines_machine, name) == 8);
-GTV_LAYOUT(machines_machine__axes_count, offsetof(machines_machine, axes_count) == 24);
-GTV_LAYOUT(machines_machine__has_motor, offsetof(machines_machine, has_motor) == 32);
-GTV_LAYOUT(machines_machine__motor, offsetof(machines_machine, motor) == 40);
-GTV_LAYOUT(machines_machine__motors_count, offsetof(machines_machine, motors_count) == 312);
-GTV_LAYOUT(machines_machine__notes_count, offsetof(machines_machine, notes_count) == 320);
-GTV_LAYOUT(machines_machine__frames_count, offsetof(machines_machine, frames_count) == 328);
-GTV_LAYOUT(machines_machine__steps_count, offsetof(machines_machine, steps_count) == 336);
-GTV_LAYOUT(machines_machine__drifts_count, offsetof(machines_machine, drifts_count) == 344);
-GTV_LAYOUT(machines_machine__modes_count, offsetof(machines_machine, modes_count) == 352);
-GTV_LAYOUT(machines_machine__past_count, offsetof(machines_machine, past_count) == 360);
-GTV_LAYOUT(machines_machine__serials_count, offsetof(machines_machine, serials_count) == 368);
-GTV_LAYOUT(machines_machine__loads_count, offsetof(machines_machine, loads_count) == 376);
-GTV_LAYOUT(machines_machine__marks_count, offsetof(machines_machine, marks_count) == 384);
-GTV_LAYOUT(machines_machine__has_mode, offsetof(machines_machine, has_mode) == 392);
-GTV_LAYOUT(machines_machine__mode, offsetof(machines_machine, mode) == 396);
-GTV_LAYOUT(size_of_machines_machine_lists, sizeof(machines_machine_lists) == 176);
 
 #if defined(__cplusplus) && __cplusplus >= 201703L
 #include <optional>
@@ -566,38 +276,6 @@ inline std::optional<uint32_t> teeth(const machines_axis &it) {
 
 inline std::optional<uint64_t> serial(const machines_axis &it) {
     return it.has_serial ? std::optional<uint64_t>(it.serial) : std::nullopt;
-}
-
-inline std::string_view key(const machines_task_parts_entry &it) {
-    return gtv_view(it.key);
-}
-
-inline std::optional<std::string_view> value(const machines_task_parts_entry &it) {
-    return it.has_value ? std::optional<std::string_view>(gtv_view(it.value)) : std::nullopt;
-}
-
-inline uint32_t key(const machines_task_modes_entry &it) {
-    return it.key;
-}
-
-inline int32_t value(const machines_task_modes_entry &it) {
-    return it.value;
-}
-
-inline int64_t key(const machines_task_axes_entry &it) {
-    return it.key;
-}
-
-inline std::optional<machines_axis> value(const machines_task_axes_entry &it) {
-    return it.has_value ? std::optional<machines_axis>(it.value) : std::nullopt;
-}
-
-inline std::string_view key(const machines_task_counts_entry &it) {
-    return gtv_view(it.key);
-}
-
-inline int32_t value(const machines_task_counts_entry &it) {
-    return it.value;
 }
 
 inline std::optional<std::string_view> name(const machines_motor &it) {
@@ -650,112 +328,6 @@ inline std::optional<int64_t> drift(const machines_motor &it) {
 
 inline std::optional<int32_t> offset(const machines_motor &it) {
     return it.has_offset ? std::optional<int32_t>(it.offset) : std::nullopt;
-}
-
-inline std::optional<uint32_t> id(const machines_task &it) {
-    return it.has_id ? std::optional<uint32_t>(it.id) : std::nullopt;
-}
-
-inline std::optional<int32_t> mode(const machines_task &it) {
-    return it.what.which == 2
-        ? std::optional<int32_t>(it.what.mode)
-        : std::nullopt;
-}
-
-inline std::optional<std::string_view> note(const machines_task &it) {
-    return it.what.which == 3
-        ? std::optional<std::string_view>(gtv_view(it.what.note))
-        : std::nullopt;
-}
-
-inline std::optional<machines_motor> motor(const machines_task &it) {
-    return it.what.which == 4
-        ? std::optional<machines_motor>(it.what.motor)
-        : std::nullopt;
-}
-
-inline std::optional<int32_t> turns(const machines_task &it) {
-    return it.what.which == 5
-        ? std::optional<int32_t>(it.what.turns)
-        : std::nullopt;
-}
-
-inline std::optional<std::string_view> part(const machines_task &it) {
-    return it.what.which == 9
-        ? std::optional<std::string_view>(gtv_view(it.what.part))
-        : std::nullopt;
-}
-
-inline uint64_t counts_count(const machines_task &it) {
-    return it.counts_count;
-}
-
-inline uint64_t axes_count(const machines_task &it) {
-    return it.axes_count;
-}
-
-inline uint64_t modes_count(const machines_task &it) {
-    return it.modes_count;
-}
-
-inline uint64_t parts_count(const machines_task &it) {
-    return it.parts_count;
-}
-
-inline std::optional<std::string_view> name(const machines_machine &it) {
-    return it.has_name ? std::optional<std::string_view>(gtv_view(it.name)) : std::nullopt;
-}
-
-inline uint64_t axes_count(const machines_machine &it) {
-    return it.axes_count;
-}
-
-inline std::optional<machines_motor> motor(const machines_machine &it) {
-    return it.has_motor ? std::optional<machines_motor>(it.motor) : std::nullopt;
-}
-
-inline uint64_t motors_count(const machines_machine &it) {
-    return it.motors_count;
-}
-
-inline uint64_t notes_count(const machines_machine &it) {
-    return it.notes_count;
-}
-
-inline uint64_t frames_count(const machines_machine &it) {
-    return it.frames_count;
-}
-
-inline uint64_t steps_count(const machines_machine &it) {
-    return it.steps_count;
-}
-
-inline uint64_t drifts_count(const machines_machine &it) {
-    return it.drifts_count;
-}
-
-inline uint64_t modes_count(const machines_machine &it) {
-    return it.modes_count;
-}
-
-inline uint64_t past_count(const machines_machine &it) {
-    return it.past_count;
-}
-
-inline uint64_t serials_count(const machines_machine &it) {
-    return it.serials_count;
-}
-
-inline uint64_t loads_count(const machines_machine &it) {
-    return it.loads_count;
-}
-
-inline uint64_t marks_count(const machines_machine &it) {
-    return it.marks_count;
-}
-
-inline std::optional<int32_t> mode(const machines_machine &it) {
-    return it.has_mode ? std::optional<int32_t>(it.mode) : std::nullopt;
 }
 
 }

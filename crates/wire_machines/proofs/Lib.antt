@@ -1,10 +1,3 @@
 pub mod AxisInCShows
-pub mod MachineInCShows
 pub mod MotorInCShows
 pub mod PartInCShows
-pub mod TaskAxesEntryInCShows
-pub mod TaskCountsEntryInCShows
-pub mod TaskInCShows
-pub mod TaskModesEntryInCShows
-pub mod TaskPartsEntryInCShows
-pub mod TaskWhatInCShows

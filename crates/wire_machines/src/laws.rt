@@ -4,29 +4,10 @@ ghost use Rattle.wire_fields.specs.Returned.{ReadsBack};
 ghost use Rattle.wire_fields.specs.Stays.{DecodesInRange};
 ghost use Rattle.wire_machines.specs.Axis.{axis-known, axis-range, axis-shape};
 ghost use Rattle.wire_machines.specs.AxisInC.{AxisInC-ReadsBack};
-ghost use Rattle.wire_machines.specs.Machine.{machine-known, machine-range, machine-shape};
-ghost use Rattle.wire_machines.specs.MachineInC.{MachineInC-ReadsBack};
 ghost use Rattle.wire_machines.specs.Motor.{motor-known, motor-range, motor-shape};
 ghost use Rattle.wire_machines.specs.MotorInC.{MotorInC-ReadsBack};
 ghost use Rattle.wire_machines.specs.Part.{part-known, part-range, part-shape};
 ghost use Rattle.wire_machines.specs.PartInC.{PartInC-ReadsBack};
-ghost use Rattle.wire_machines.specs.Task.{task-known, task-range, task-shape};
-ghost use Rattle.wire_machines.specs.TaskAxesEntry.{task_axes_entry-known, task_axes_entry-range};
-ghost use Rattle.wire_machines.specs.TaskAxesEntry.{task_axes_entry-shape};
-ghost use Rattle.wire_machines.specs.TaskAxesEntryInC.{TaskAxesEntryInC-ReadsBack};
-ghost use Rattle.wire_machines.specs.TaskCountsEntry.{task_counts_entry-known};
-ghost use Rattle.wire_machines.specs.TaskCountsEntry.{task_counts_entry-range};
-ghost use Rattle.wire_machines.specs.TaskCountsEntry.{task_counts_entry-shape};
-ghost use Rattle.wire_machines.specs.TaskCountsEntryInC.{TaskCountsEntryInC-ReadsBack};
-ghost use Rattle.wire_machines.specs.TaskInC.{TaskInC-ReadsBack};
-ghost use Rattle.wire_machines.specs.TaskModesEntry.{task_modes_entry-known};
-ghost use Rattle.wire_machines.specs.TaskModesEntry.{task_modes_entry-range};
-ghost use Rattle.wire_machines.specs.TaskModesEntry.{task_modes_entry-shape};
-ghost use Rattle.wire_machines.specs.TaskModesEntryInC.{TaskModesEntryInC-ReadsBack};
-ghost use Rattle.wire_machines.specs.TaskPartsEntry.{task_parts_entry-known};
-ghost use Rattle.wire_machines.specs.TaskPartsEntry.{task_parts_entry-range};
-ghost use Rattle.wire_machines.specs.TaskPartsEntry.{task_parts_entry-shape};
-ghost use Rattle.wire_machines.specs.TaskPartsEntryInC.{TaskPartsEntryInC-ReadsBack};
 ghost use Rattle.wire_structs.specs.KeptFields.{KeepsUnknown};
 
 use wire_codec::laws::text_decodes;
@@ -44,38 +25,6 @@ pub fn part_reads_back()
 /// within it takes at most 2,147,483,647 bytes and any other payload less than 2^64.
 pub fn part_decodes_in_range()
     ensures { DecodesInRange part-shape part-range }
-{
-    grounds();
-}
-
-/// What is written of each `Task` in range decodes to it, where the limits suffice.
-pub fn task_reads_back()
-    ensures { ReadsBack task-shape task-range }
-{
-    grounds();
-    text_decodes::<crate::Task>();
-}
-
-/// What bytes decode to as `Task` is in range, where each message and group
-/// within it takes at most 2,147,483,647 bytes and any other payload less than 2^64.
-pub fn task_decodes_in_range()
-    ensures { DecodesInRange task-shape task-range }
-{
-    grounds();
-}
-
-/// What is written of each `Machine` in range decodes to it, where the limits suffice.
-pub fn machine_reads_back()
-    ensures { ReadsBack machine-shape machine-range }
-{
-    grounds();
-    text_decodes::<crate::Machine>();
-}
-
-/// What bytes decode to as `Machine` is in range, where each message and group
-/// within it takes at most 2,147,483,647 bytes and any other payload less than 2^64.
-pub fn machine_decodes_in_range()
-    ensures { DecodesInRange machine-shape machine-range }
 {
     grounds();
 }
@@ -112,70 +61,6 @@ pub fn axis_decodes_in_range()
     grounds();
 }
 
-/// What is written of each `TaskPartsEntry` in range decodes to it, where the limits suffice.
-pub fn task_parts_entry_reads_back()
-    ensures { ReadsBack task_parts_entry-shape task_parts_entry-range }
-{
-    grounds();
-    text_decodes::<crate::TaskPartsEntry>();
-}
-
-/// What bytes decode to as `TaskPartsEntry` is in range, where each message and group
-/// within it takes at most 2,147,483,647 bytes and any other payload less than 2^64.
-pub fn task_parts_entry_decodes_in_range()
-    ensures { DecodesInRange task_parts_entry-shape task_parts_entry-range }
-{
-    grounds();
-}
-
-/// What is written of each `TaskModesEntry` in range decodes to it, where the limits suffice.
-pub fn task_modes_entry_reads_back()
-    ensures { ReadsBack task_modes_entry-shape task_modes_entry-range }
-{
-    grounds();
-    text_decodes::<crate::TaskModesEntry>();
-}
-
-/// What bytes decode to as `TaskModesEntry` is in range, where each message and group
-/// within it takes at most 2,147,483,647 bytes and any other payload less than 2^64.
-pub fn task_modes_entry_decodes_in_range()
-    ensures { DecodesInRange task_modes_entry-shape task_modes_entry-range }
-{
-    grounds();
-}
-
-/// What is written of each `TaskAxesEntry` in range decodes to it, where the limits suffice.
-pub fn task_axes_entry_reads_back()
-    ensures { ReadsBack task_axes_entry-shape task_axes_entry-range }
-{
-    grounds();
-    text_decodes::<crate::TaskAxesEntry>();
-}
-
-/// What bytes decode to as `TaskAxesEntry` is in range, where each message and group
-/// within it takes at most 2,147,483,647 bytes and any other payload less than 2^64.
-pub fn task_axes_entry_decodes_in_range()
-    ensures { DecodesInRange task_axes_entry-shape task_axes_entry-range }
-{
-    grounds();
-}
-
-/// What is written of each `TaskCountsEntry` in range decodes to it, where the limits suffice.
-pub fn task_counts_entry_reads_back()
-    ensures { ReadsBack task_counts_entry-shape task_counts_entry-range }
-{
-    grounds();
-    text_decodes::<crate::TaskCountsEntry>();
-}
-
-/// What bytes decode to as `TaskCountsEntry` is in range, where each message and group
-/// within it takes at most 2,147,483,647 bytes and any other payload less than 2^64.
-pub fn task_counts_entry_decodes_in_range()
-    ensures { DecodesInRange task_counts_entry-shape task_counts_entry-range }
-{
-    grounds();
-}
-
 /// What is written of a `PartInC` and of its lists is read as it is written, with the unknown fields
 /// behind it.
 pub fn part_in_c_reads_back()
@@ -204,62 +89,6 @@ pub fn axis_in_c_keeps_unknown()
     ensures { KeepsUnknown axis-known }
 {}
 
-/// What is written of a `TaskPartsEntryInC` is read as it is written, with the unknown fields
-/// behind it.
-pub fn task_parts_entry_in_c_reads_back()
-    ensures { TaskPartsEntryInC-ReadsBack }
-{
-    task_parts_entry_reads_back();
-}
-
-/// The unknown fields of bytes, which are written behind a `TaskPartsEntryInC`, are those that the message
-/// keeps which the bytes are.
-pub fn task_parts_entry_in_c_keeps_unknown()
-    ensures { KeepsUnknown task_parts_entry-known }
-{}
-
-/// What is written of a `TaskModesEntryInC` is read as it is written, with the unknown fields
-/// behind it.
-pub fn task_modes_entry_in_c_reads_back()
-    ensures { TaskModesEntryInC-ReadsBack }
-{
-    task_modes_entry_reads_back();
-}
-
-/// The unknown fields of bytes, which are written behind a `TaskModesEntryInC`, are those that the message
-/// keeps which the bytes are.
-pub fn task_modes_entry_in_c_keeps_unknown()
-    ensures { KeepsUnknown task_modes_entry-known }
-{}
-
-/// What is written of a `TaskAxesEntryInC` is read as it is written, with the unknown fields
-/// behind it.
-pub fn task_axes_entry_in_c_reads_back()
-    ensures { TaskAxesEntryInC-ReadsBack }
-{
-    task_axes_entry_reads_back();
-}
-
-/// The unknown fields of bytes, which are written behind a `TaskAxesEntryInC`, are those that the message
-/// keeps which the bytes are.
-pub fn task_axes_entry_in_c_keeps_unknown()
-    ensures { KeepsUnknown task_axes_entry-known }
-{}
-
-/// What is written of a `TaskCountsEntryInC` is read as it is written, with the unknown fields
-/// behind it.
-pub fn task_counts_entry_in_c_reads_back()
-    ensures { TaskCountsEntryInC-ReadsBack }
-{
-    task_counts_entry_reads_back();
-}
-
-/// The unknown fields of bytes, which are written behind a `TaskCountsEntryInC`, are those that the message
-/// keeps which the bytes are.
-pub fn task_counts_entry_in_c_keeps_unknown()
-    ensures { KeepsUnknown task_counts_entry-known }
-{}
-
 /// What is written of a `MotorInC` is read as it is written, with the unknown fields
 /// behind it.
 pub fn motor_in_c_reads_back()
@@ -272,32 +101,4 @@ pub fn motor_in_c_reads_back()
 /// keeps which the bytes are.
 pub fn motor_in_c_keeps_unknown()
     ensures { KeepsUnknown motor-known }
-{}
-
-/// What is written of a `TaskInC` and of its lists is read as it is written, with the unknown fields
-/// behind it.
-pub fn task_in_c_reads_back()
-    ensures { TaskInC-ReadsBack }
-{
-    task_reads_back();
-}
-
-/// The unknown fields of bytes, which are written behind a `TaskInC`, are those that the message
-/// keeps which the bytes are.
-pub fn task_in_c_keeps_unknown()
-    ensures { KeepsUnknown task-known }
-{}
-
-/// What is written of a `MachineInC` and of its lists is read as it is written, with the unknown fields
-/// behind it.
-pub fn machine_in_c_reads_back()
-    ensures { MachineInC-ReadsBack }
-{
-    machine_reads_back();
-}
-
-/// The unknown fields of bytes, which are written behind a `MachineInC`, are those that the message
-/// keeps which the bytes are.
-pub fn machine_in_c_keeps_unknown()
-    ensures { KeepsUnknown machine-known }
 {}

@@ -6,11 +6,5 @@
 #![tactic(auto)]
 
 mod axis;
-mod machine;
 mod motor;
 mod part;
-mod task;
-mod task_axes_entry;
-mod task_counts_entry;
-mod task_modes_entry;
-mod task_parts_entry;

@@ -6,28 +6,13 @@ mod gtv_ffi;
 mod gtv_structs;
 mod part;
 mod axis;
-mod task_parts_entry;
-mod task_modes_entry;
-mod task_axes_entry;
-mod task_counts_entry;
 mod motor;
-mod task;
-mod machine;
 
 pub use gtv_structs::{Bytes, Limits, NoRoom, NotWritten, Refusal, Text};
 pub use part::Part;
 pub use part::PartLists;
 pub use axis::Axis;
-pub use task_parts_entry::TaskPartsEntry;
-pub use task_modes_entry::TaskModesEntry;
-pub use task_axes_entry::TaskAxesEntry;
-pub use task_counts_entry::TaskCountsEntry;
 pub use motor::Motor;
-pub use task::TaskWhat;
-pub use task::Task;
-pub use task::TaskLists;
-pub use machine::Machine;
-pub use machine::MachineLists;
 
 /// The numbers of the enum `machines.Mode`.
 ///

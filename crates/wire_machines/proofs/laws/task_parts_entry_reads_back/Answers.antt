@@ -1,6 +1,0 @@
-use Rattle.wire_machines.specs.TaskPartsEntry.{task_parts_entry-returned}
-use Rattle.wire_fields.specs.Returned.{reads_back}
-use Rattle.wire_machines.proofs.laws.task_parts_entry_reads_back.Goals as goal
-
-pub returns : goal.returns
-returns c = reads_back (task_parts_entry-returned c.grounds.ensures) c.text_decodes.ensures

@@ -1,4 +1,0 @@
-use Rattle.wire_machines_c.proofs.task_modes_entry.machines_task_modes_entry_fault_within.Goals as goal
-
-pub returns-clause-err : goal.returns-clause-err
-returns-clause-err c = rw c.context_within-context.ensures at c.task_modes_entry_fault.ensures.err

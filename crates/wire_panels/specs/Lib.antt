@@ -1,4 +1,0 @@
-pub mod Light
-pub mod Panel
-pub mod PanelInC
-pub mod PanelStays
