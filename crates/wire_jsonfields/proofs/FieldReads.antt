@@ -42,11 +42,6 @@ module _ {V : Type 0} (Means : Json → V → Type 0) (text old : List ℕ) (lev
       by_value None new read = read.3
       by_value (Some v) new read = none v new read
 
-  pub no_some : IsDecided Means → (e : ReadError)
-      → UnlessNoMemory e (λ refusal. RefusedAt text refusal (Refuses Means old))
-      → e ≢ OutOfMemory → NothingMeant levels (MeansSome Means) old
-  no_some d e h other = none_some (refused_nothing d e h other)
-
   -- what means a scalar has no levels
   flat : IsDecided Means → (json : Json) (v : V) (new : List ℕ) → ReadsValue json old new
       → Means json v → depth json ≤ levels

@@ -1,4 +1,3 @@
-pub mod Choosing
 pub mod Depths
 pub mod FieldReads
 pub mod Finding

@@ -1,5 +1,5 @@
 -- What is written of lists and maps is read as them.
-use Rattle.std.proofs.Common.{◌≡◌, ◌≢◌, ℕ, List, [], ◌∷◌, ◌++◌, Option, Some, None, refl, sym, ap, subst, arith, ◌≤◌, append_assoc, append-nil}
+use Rattle.std.proofs.Common.{◌≡◌, ℕ, List, [], ◌∷◌, ◌++◌, refl, sym, ap, subst, arith, ◌≤◌, append_assoc, append-nil}
 use Rattle.std.specs.BTreeMap.{insert_entry}
 use Rattle.std.specs.Cmp.{IsTotalOrder}
 use Rattle.std.specs.List.Sorted.{IsStrictlySortedBy}
@@ -10,7 +10,6 @@ use Rattle.wire_json.specs.Written.{written}
 use Rattle.wire_json.proofs.OneReading.{one_reading_lemma}
 use Rattle.wire_json.proofs.WrittenLaws.{written_spells_lemma}
 use Rattle.wire_jsonfields.specs.Back.{ComesBack, EachComesBack, EntriesComeBack, IsBack, SpellsOneValue}
-use Rattle.wire_jsonfields.specs.Fields.{IsSomeTree, MeansSome}
 use Rattle.wire_jsonfields.specs.Levels.{IsReadFrom, SpellsWithin}
 use Rattle.wire_jsonfields.specs.Lists.{AreTrees, EachMeans, IsListTree, ListMeans}
 use Rattle.wire_jsonfields.specs.Maps.{AreEntryTrees, IsMapTree, IsNewKey, MapMeans, MembersPut}
@@ -45,13 +44,6 @@ module _ {V : Type 0} (Means : Json → V → Type 0) (Tree : V → Json → Typ
         means = subst (λ (j : Json). ListMeans Means j vs) (sym is) means;
         present = no_array_null es json is;
       }
-
-  pub option_back : ((v : V) → ComesBack Means Tree v) → (o : Option V) → o ≢ None
-      → ComesBack (MeansSome Means) (IsSomeTree Tree) o
-  option_back back None other e is = absurd (other refl)
-  option_back back (Some v) other e is =
-      let b = back v e is in
-      record { lawful = b.lawful; means = b.means; present = b.present }
 
 -- ---- maps
 

@@ -71,16 +71,6 @@ names_apart a b c d h n p q =
     by_names ac ad bc bd (inr x) (inl y) = texts_differ b c bc (sym x ∙ y)
     by_names ac ad bc bd (inr x) (inr y) = texts_differ b d bd (sym x ∙ y)
 
-pub apart_of_either : {P Q R : List ℕ → Type 0} → AreApart P R → AreApart Q R
-    → AreApart (λ n. P n ⊎ Q n) R
-apart_of_either f g n (inl p) r = f n p r
-apart_of_either f g n (inr q) r = g n q r
-
-pub apart_from_either : {P Q R : List ℕ → Type 0} → AreApart P Q → AreApart P R
-    → AreApart P (λ n. Q n ⊎ R n)
-apart_from_either f g n p (inl q) = f n p q
-apart_from_either f g n p (inr r) = g n p r
-
 -- ---- members beside others
 
 joined_once : (a b c : Members)
@@ -167,25 +157,6 @@ module _ {V W : Type 0} (OwnP OwnQ : List ℕ → Type 0) (P : Members → Optio
     (Q : Members → Option W → Type 0)
     (none_p : (ms : Members) → NoneNamed OwnP ms → P ms None)
     (none_q : (ms : Members) → NoneNamed OwnQ ms → Q ms None) where
-  pub no_part : (ms : Members) → ms ≡ no_member
-      → PartBack (λ n. OwnP n ⊎ OwnQ n) (EitherSays P Q) None ms
-  no_part ms is = subst (λ (l : Members). PartBack (λ n. OwnP n ⊎ OwnQ n) (EitherSays P Q) None l)
-      (sym is) (record {
-        lawful = tt;
-        own = tt;
-        says = λ before behind none_before none_behind.
-            let all = known_joined (λ n. (OwnP n ⊎ OwnQ n) → ⊥) (members_joined before no_member)
-            behind (known_joined (λ n. (OwnP n ⊎ OwnQ n) → ⊥) before no_member none_before tt)
-            none_behind in
-            let ms = members_joined (members_joined before no_member) behind in (
-              None,
-              None,
-              none_p ms (known_weaker (λ n h p. h (inl p)) ms all),
-              none_q ms (known_weaker (λ n h p. h (inr p)) ms all),
-              refl,
-            );
-      })
-
   module _ (apart : AreApart OwnP OwnQ) (ms : Members) where
     pub left_part : (v : V) → PartBack OwnP P (Some v) ms
         → PartBack (λ n. OwnP n ⊎ OwnQ n) (EitherSays P Q) (Some (inl v)) ms
