@@ -60,16 +60,14 @@ $charges$ * Those of the caller, `_read_within`, are `depth`, of which no more t
 ";
 
 /// What elements are charged by the default limits.
-pub const CHARGES: &str = "\
- * Of these a string or `bytes` counts 24, a number in a list nothing, and a message or an entry 24
- * and for each of its fields 24 where it is a string, `bytes` or a list, 8 where it is a message,
- * and 16 else.
-";
+pub const CHARGES: &str =
+    " * Of these a string or `bytes` counts 24, a number in a list nothing, and a message or an\n \
+    * entry 24 and for each of its fields 24 where it is a string, `bytes` or a list, 8 where it\n \
+    * is a message, and 16 else.\n";
 
 /// The same where the schema's parameter says it.
-pub const CHARGES_GIVEN: &str = "\
- * Of these each counts $element$, but a number in a list nothing.
-";
+pub const CHARGES_GIVEN: &str =
+    " * Of these each counts $element$, but a number in a list nothing.\n";
 
 /// What is told of the entries of a map, in lines.
 pub const ENTRY: &str =

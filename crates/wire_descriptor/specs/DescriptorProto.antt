@@ -23,7 +23,7 @@ abbrev pub descriptor_proto-name-kind : Lawful (List ℕ)
 descriptor_proto-name-kind = implicit string
 
 abbrev pub descriptor_proto-field-kind : Lawful (List FieldDescriptorProto-Value)
-descriptor_proto-field-kind = embedded_each 208 field_descriptor_proto-shape
+descriptor_proto-field-kind = embedded_each 232 field_descriptor_proto-shape
 
 abbrev pub descriptor_proto-nested_type-kind : Lawful (List (List ℕ))
 descriptor_proto-nested_type-kind = repeated 24 any_bytes
@@ -35,7 +35,7 @@ abbrev pub descriptor_proto-extension_range-kind : Lawful (List (List ℕ))
 descriptor_proto-extension_range-kind = repeated 24 any_bytes
 
 abbrev pub descriptor_proto-extension-kind : Lawful (List FieldDescriptorProto-Value)
-descriptor_proto-extension-kind = embedded_each 208 field_descriptor_proto-shape
+descriptor_proto-extension-kind = embedded_each 232 field_descriptor_proto-shape
 
 abbrev pub descriptor_proto-options-kind : Lawful (Option MessageOptions-Value)
 descriptor_proto-options-kind = embedded_once message_options-shape

@@ -40,6 +40,9 @@ field_descriptor_proto-options-kind = embedded_once field_options-shape
 abbrev pub field_descriptor_proto-oneof_index-kind : Lawful (Option ℤ)
 field_descriptor_proto-oneof_index-kind = optional (numeric Varint int32)
 
+abbrev pub field_descriptor_proto-json_name-kind : Lawful (List ℕ)
+field_descriptor_proto-json_name-kind = implicit string
+
 abbrev pub field_descriptor_proto-proto3_optional-kind : Lawful Bool
 field_descriptor_proto-proto3_optional-kind = implicit (numeric Varint bool)
 
@@ -82,7 +85,8 @@ abbrev pub FieldDescriptorProto-Known : Type 0
 FieldDescriptorProto-Known =
     ((FieldDescriptorProto-Fields-1-To-8
     × (Option ℤ))
-    × Bool)
+    × ((List ℕ)
+    × Bool))
 
 abbrev pub FieldDescriptorProto-Value : Type 0
 FieldDescriptorProto-Value = FieldDescriptorProto-Known × Fields
@@ -94,7 +98,10 @@ field_descriptor_proto-value m = (
       field_descriptor_proto-fields-1-to-8-value m,
       option_map (λ v. v) m.oneof_index,
     ),
-    m.proto3_optional,
+    (
+      string_bytes m.json_name,
+      m.proto3_optional,
+    ),
   ),
   m.unknown,
 )
@@ -126,8 +133,11 @@ options-of-field_descriptor_proto m = m.0.0.0.1.1.1
 abbrev pub oneof_index-of-field_descriptor_proto : FieldDescriptorProto-Value → Option ℤ
 oneof_index-of-field_descriptor_proto m = m.0.0.1
 
+abbrev pub json_name-of-field_descriptor_proto : FieldDescriptorProto-Value → List ℕ
+json_name-of-field_descriptor_proto m = m.0.1.0
+
 abbrev pub proto3_optional-of-field_descriptor_proto : FieldDescriptorProto-Value → Bool
-proto3_optional-of-field_descriptor_proto m = m.0.1
+proto3_optional-of-field_descriptor_proto m = m.0.1.1
 
 abbrev pub field_descriptor_proto-fields-1-to-8 : Shape FieldDescriptorProto-Fields-1-To-8
 field_descriptor_proto-fields-1-to-8 =
@@ -144,7 +154,8 @@ abbrev pub field_descriptor_proto-known : Shape FieldDescriptorProto-Known
 field_descriptor_proto-known =
     two (two (field_descriptor_proto-fields-1-to-8)
     (known 9 field_descriptor_proto-oneof_index-kind))
-    (known 17 field_descriptor_proto-proto3_optional-kind)
+    (two (known 10 field_descriptor_proto-json_name-kind)
+    (known 17 field_descriptor_proto-proto3_optional-kind))
 
 abbrev pub field_descriptor_proto-shape : Shape FieldDescriptorProto-Value
 field_descriptor_proto-shape = two field_descriptor_proto-known unknown

@@ -45,7 +45,7 @@ abbrev pub file_descriptor_proto-service-kind : Lawful (List ServiceDescriptorPr
 file_descriptor_proto-service-kind = embedded_each 72 service_descriptor_proto-shape
 
 abbrev pub file_descriptor_proto-extension-kind : Lawful (List FieldDescriptorProto-Value)
-file_descriptor_proto-extension-kind = embedded_each 208 field_descriptor_proto-shape
+file_descriptor_proto-extension-kind = embedded_each 232 field_descriptor_proto-shape
 
 abbrev pub file_descriptor_proto-options-kind : Lawful (Option FileOptions-Value)
 file_descriptor_proto-options-kind = embedded_once file_options-shape

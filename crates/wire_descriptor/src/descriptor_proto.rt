@@ -37,11 +37,11 @@ macro_rules! rows {
         fields!(
             $($call)*
             1 => name: Implicit<Text>,
-            2 => field: EachEmbedded<FieldDescriptorProto, 208>,
+            2 => field: EachEmbedded<FieldDescriptorProto, 232>,
             3 => nested_type: Repeated<Blob, 24>,
             4 => enum_type: EachEmbedded<EnumDescriptorProto, 80>,
             5 => extension_range: Repeated<Blob, 24>,
-            6 => extension: EachEmbedded<FieldDescriptorProto, 208>,
+            6 => extension: EachEmbedded<FieldDescriptorProto, 232>,
             7 => options: Embedded<MessageOptions>,
             8 => oneof_decl: EachEmbedded<OneofDescriptorProto, 48>,
             _ => unknown

@@ -26,6 +26,7 @@ pub struct FieldDescriptorProto {
     pub default_value: Vec<u8>,
     pub options: Option<Box<FieldOptions>>,
     pub oneof_index: Option<i32>,
+    pub json_name: String,
     pub proto3_optional: bool,
     /// The fields that the schema lacks, as they came.
     pub unknown: UnknownFields,
@@ -38,6 +39,7 @@ macro_rules! rows {
             $($call)*
             ..FieldDescriptorProtoFields1To8(rows_1_to_8),
             9 => oneof_index: Optional<Int32>,
+            10 => json_name: Implicit<Text>,
             17 => proto3_optional: Implicit<Bool>,
             _ => unknown
         )
@@ -88,6 +90,7 @@ impl Clone for FieldDescriptorProto {
             default_value: copied_numbers(&self.default_value)?,
             options: copied_box(&self.options)?,
             oneof_index: self.oneof_index,
+            json_name: self.json_name.clone()?,
             proto3_optional: self.proto3_optional,
             unknown: self.unknown.clone()?,
         })

@@ -60,7 +60,7 @@ macro_rules! rows_1_to_8 {
             4 => message_type: EachEmbedded<DescriptorProto, 200>,
             5 => enum_type: EachEmbedded<EnumDescriptorProto, 80>,
             6 => service: EachEmbedded<ServiceDescriptorProto, 72>,
-            7 => extension: EachEmbedded<FieldDescriptorProto, 208>,
+            7 => extension: EachEmbedded<FieldDescriptorProto, 232>,
             8 => options: Embedded<FileOptions>,
         )
     };

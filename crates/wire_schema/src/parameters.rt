@@ -17,8 +17,8 @@ use wire_descriptor::CodeGeneratorRequest;
 /// `services=skip` passes over services, `defaults=skip` over default values, and `laws=skip`
 /// writes no laws; `split=COUNT` writes crates of about so many message types; `c=NAME`
 /// writes structs for C, whose names begin so, and the crate of their library, and makes maps lists
-/// of their entries; and each `encoded=FIELD` names a field of messages that is held as the bytes
-/// of their encodings.
+/// of their entries; `json=true` writes the crate of their JSON; and each `encoded=FIELD` names a
+/// field of messages that is held as the bytes of their encodings.
 pub fn set_crate(base: &mut Words, request: &CodeGeneratorRequest) -> Result<(), GenerateError> {
     base.set("crate", first_name(request));
     base.fill_all(&DEFAULTS);
@@ -53,20 +53,26 @@ pub fn set_crate(base: &mut Words, request: &CodeGeneratorRequest) -> Result<(),
     if !is_plain && !base.get("views").is_empty() {
         return Err(base.refused("views=true wants unknown=keep and mismatch=refuse"));
     }
-    set_structs(base)
+    set_beside(base)
 }
 
-// Makes the words of a crate those of one beside which a library of structs stands, if it does.
-fn set_structs(base: &mut Words) -> Result<(), GenerateError> {
-    if base.get("c").is_empty() {
-        return Ok(());
-    }
+// Makes the words of a crate those of one beside which another stands, if one does: a library of
+// structs, or the crate of its JSON.
+fn set_beside(base: &mut Words) -> Result<(), GenerateError> {
+    let has_structs = !base.get("c").is_empty();
+    let has_json = !base.get("json").is_empty();
     let is_plain = base.get("unknown") == "keep" && base.get("mismatch") == "refuse";
+    let is_one = base.get("split").is_empty();
     let has_laws = base.get("without_laws").is_empty();
-    if !is_plain || !has_laws || !base.get("split").is_empty() {
+    if has_structs && !(is_plain && is_one && has_laws) {
         return Err(base.refused(PLAIN_IN_C));
     }
-    base.fill_all(&[("target", "crates"), ("crate_folder", "$crate$/")]);
+    if has_json && (has_structs || !is_plain || !is_one) {
+        return Err(base.refused(PLAIN_IN_JSON));
+    }
+    if has_structs || has_json {
+        base.fill_all(&[("target", "crates"), ("crate_folder", "$crate$/")]);
+    }
     Ok(())
 }
 
@@ -83,10 +89,14 @@ const NO_NAME: &str = "\
 const PARAMETERS: &str = "\
     parameters are crate=NAME, import=PACKAGE=CRATE, element=BYTES, unknown=keep or drop, \
     mismatch=refuse or keep, enums=open, strings=bytes, required=optional, views=true, \
-    services=skip, defaults=skip, laws=skip, split=COUNT, c=NAME, and encoded=FIELD: $option$";
+    services=skip, defaults=skip, laws=skip, split=COUNT, c=NAME, json=true, and encoded=FIELD: \
+    $option$";
 
 const PLAIN_IN_C: &str =
     "c=NAME wants unknown=keep and mismatch=refuse, and neither laws=skip nor split=";
+
+const PLAIN_IN_JSON: &str =
+    "json=true wants unknown=keep and mismatch=refuse, and neither c=NAME nor split=";
 
 fn set_parameter(base: &mut Words, name: &str, choice: &str) -> Result<(), GenerateError> {
     match (name, choice) {
@@ -107,6 +117,7 @@ fn set_parameter(base: &mut Words, name: &str, choice: &str) -> Result<(), Gener
         }
         ("split", _) if is_size(choice) => base.set("split", choice),
         ("c", _) if is_crate_name(choice) => base.set("c", choice),
+        ("json", "true") => base.set("json", choice),
         ("encoded", _) => {
             base.set("name", choice);
             base.append("encoded", ".$name$\n");

@@ -2,6 +2,7 @@ use Rattle.std.proofs.Common.{refl, rules, sym, ◌∙◌}
 use Rattle.wire_codec.specs.TagView.{tag_number}
 use Rattle.wire_descriptor.specs.FieldDescriptorProto.{field_descriptor_proto-default_value-kind}
 use Rattle.wire_descriptor.specs.FieldDescriptorProto.{field_descriptor_proto-extendee-kind}
+use Rattle.wire_descriptor.specs.FieldDescriptorProto.{field_descriptor_proto-json_name-kind}
 use Rattle.wire_descriptor.specs.FieldDescriptorProto.{field_descriptor_proto-known}
 use Rattle.wire_descriptor.specs.FieldDescriptorProto.{field_descriptor_proto-label-kind}
 use Rattle.wire_descriptor.specs.FieldDescriptorProto.{field_descriptor_proto-name-kind}
@@ -142,18 +143,32 @@ returns-in-9-clause-ok g c =
     (λ charge p h. (((h, refl), refl), refl)) _ _ _ _ _
     (c.fields-merge-in-9).result (c.fields-merge-in-9).ensures.ok
 
+pub returns-in-10-clause-err : goal.returns-in-10-clause-err
+returns-in-10-clause-err g c =
+    arm_err field_descriptor_proto-shape.takes field_descriptor_proto-json_name-kind.kind.takes 10 _
+    (sym c.fields-field_number.ensures.number ∙ c.in-10.is) _ _
+    (λ charge z p h. (z.0.1.0, h.0.0.0)) _ _ _
+    (c.fields-merge-in-10).result (c.fields-merge-in-10).ensures.err
+
+pub returns-in-10-clause-ok : goal.returns-in-10-clause-ok
+returns-in-10-clause-ok g c =
+    arm_ok field_descriptor_proto-shape.takes field_descriptor_proto-json_name-kind.kind.takes 10 _
+    (sym c.fields-field_number.ensures.number ∙ c.in-10.is) _ _ _ _
+    (λ charge p h. (((h, refl), refl), refl)) _ _ _ _ _
+    (c.fields-merge-in-10).result (c.fields-merge-in-10).ensures.ok
+
 pub returns-in-17-clause-err : goal.returns-in-17-clause-err
 returns-in-17-clause-err g c =
     arm_err field_descriptor_proto-shape.takes field_descriptor_proto-proto3_optional-kind.kind.takes 17 _
     (sym c.fields-field_number.ensures.number ∙ c.in-17.is) _ _
-    (λ charge z p h. (z.0.1, h.0.0)) _ _ _
+    (λ charge z p h. (z.0.1.1, h.0.0.0)) _ _ _
     (c.fields-merge-in-17).result (c.fields-merge-in-17).ensures.err
 
 pub returns-in-17-clause-ok : goal.returns-in-17-clause-ok
 returns-in-17-clause-ok g c =
     arm_ok field_descriptor_proto-shape.takes field_descriptor_proto-proto3_optional-kind.kind.takes 17 _
     (sym c.fields-field_number.ensures.number ∙ c.in-17.is) _ _ _ _
-    (λ charge p h. ((h, refl), refl)) _ _ _ _ _
+    (λ charge p h. (((h, refl), refl), refl)) _ _ _ _ _
     (c.fields-merge-in-17).result (c.fields-merge-in-17).ensures.ok
 
 pub returns-in_default-clause-err : goal.returns-in_default-clause-err
@@ -170,5 +185,6 @@ returns-in_default-clause-err g c =
     (neither _ _ (unlike n 7 (search rules))
     (unlike n 8 (search rules)))))
     (unlike n 9 (search rules)))
-    (unlike n 17 (search rules)))
+    (neither _ _ (unlike n 10 (search rules))
+    (unlike n 17 (search rules))))
     _ _ _ _ c.fields-keep.result c.fields-keep.ensures.err
