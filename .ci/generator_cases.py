@@ -30,6 +30,9 @@ REFUSED = [
     *(("proto3", TYPE, f",c=a,{option}", "c=NAME wants unknown=keep and mismatch=refuse, and neither "
        "laws=skip nor split=")
       for option in ("unknown=drop", "mismatch=keep", "laws=skip", "split=2")),
+    *(("proto3", TYPE, f",json=true,{option}", "json=true wants unknown=keep and mismatch=refuse, "
+       "and neither c=NAME nor split=")
+      for option in ("unknown=drop", "mismatch=keep", "split=2", "c=a")),
     ("proto3", TYPE, ",c=new", "c=new: a word of C, or a name of the headers"),
     ("proto3", TYPE, ",c=gtv_shop", "c=gtv_shop: a word of C, or a name of the headers"),
     *(("proto3", "message A {" + "".join(f"int32 x{it} = {it};" for it in range(1, 82)) + "}",
@@ -51,12 +54,12 @@ REFUSED = [
     ("proto3", TYPE, ",element=many", "parameters are crate=NAME, import=PACKAGE=CRATE, "
      "element=BYTES, unknown=keep or drop, mismatch=refuse or keep, enums=open, strings=bytes, "
      "required=optional, views=true, services=skip, defaults=skip, laws=skip, split=COUNT, c=NAME, "
-     "and encoded=FIELD: element=many"),
+     "json=true, and encoded=FIELD: element=many"),
     ("proto2", TYPE.replace("int32", "optional string"), ",strings=texts",
      "parameters are crate=NAME, import=PACKAGE=CRATE, "
      "element=BYTES, unknown=keep or drop, mismatch=refuse or keep, enums=open, strings=bytes, "
      "required=optional, views=true, services=skip, defaults=skip, laws=skip, split=COUNT, c=NAME, "
-     "and encoded=FIELD: strings=texts"),
+     "json=true, and encoded=FIELD: strings=texts"),
     ("proto3", TYPE, ",unknown=drop,mismatch=keep", "mismatch=keep wants unknown=keep"),
     ("proto3", TYPE, ",views=true,unknown=drop",
      "views=true wants unknown=keep and mismatch=refuse"),
@@ -96,6 +99,17 @@ DEEP = [
 ]
 # A schema, further parameters, and parts of the code that is written.
 CHOICES = [
+    ("proto2", "enum E { Z = 0; } message A { optional A x = 1; } message B { optional E x = 1; } "
+     "message C {} message D { optional C x = 1; } "
+     'message F { optional int32 x = 1 [json_name = "\\""]; } message G { oneof y { '
+     + " ".join(f"int32 x{it} = {it};" for it in range(1, 12)) + " } } "
+     'message H { optional int32 a_b = 1 [json_name = "c"]; }', ",json=true",
+     ["- `A`: it holds itself, or others that hold it\n",
+      "- `B`: `x` is of a closed enum; enums=open takes its numbers as they are\n",
+      "- `C`: it has no fields\n", "- `D`: `x` is a message that has no JSON\n",
+      "- `F`: `x` is of a name in JSON that is empty, or has other signs than those of ASCII\n",
+      "- `G`: `y` is a oneof of more than 10 fields\n",
+      '    name: "a_b",\n    json_name: "c",\n', "pub use h_json::HJson;\n"]),
     ("proto2", "enum E { Z = 0; } message A { optional int32 x = 1; optional int32 has_x = 2; } "
      "message B { optional E x = 1; } message C { oneof y { E z = 1; } } message D {} "
      "message F { map<int32, int32> x = 1; } message G { repeated int32 x = 1; } "

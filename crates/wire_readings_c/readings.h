@@ -324,9 +324,9 @@ typedef struct readings_plan_lists {
  *
  * With no limits named these are 100 levels of messages and groups, 1,000,000 unknown fields, and
  * 33,554,432 bytes for the elements of lists and maps.
-* Of these a string or `bytes` counts 24, a number in a list nothing, and a message or an entry 24
- * and for each of its fields 24 where it is a string, `bytes` or a list, 8 where it is a message,
- * and 16 else.
+ * Of these a string or `bytes` counts 24, a number in a list nothing, and a message or an
+ * entry 24 and for each of its fields 24 where it is a string, `bytes` or a list, 8 where it
+ * is a message, and 16 else.
  * Those of the caller, `_read_within`, are `depth`, of which no more than 100 are given;
  * `records`, unknown fields, those in groups counted; and `payload_bytes`, bytes of their
  * length-delimited payloads; lists and maps have no limit of their own there.

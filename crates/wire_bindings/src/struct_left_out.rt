@@ -111,7 +111,10 @@ fn why_not_oneof<'a>(
 ) -> Option<(&'a str, &'static str)> {
     let name = words.get("proto");
     if !oneof.rows.is_empty() {
-        return Some((name, "a oneof by which messages hold themselves (encoded=inside)"));
+        return Some((
+            name,
+            "a oneof by which messages hold themselves (encoded=inside)",
+        ));
     }
     if ENDS.split(' ').any(|it| words.get("module").ends_with(it)) {
         return Some((name, "a oneof called as a call"));

@@ -94,14 +94,15 @@ fn put_module(page: &mut Words, module: &str, lines: &[&str]) {
 fn put_filled(page: &mut Words) {
     let names = page.take("names");
     page.append("imports", "use $of$::{\n");
-    page.fill_all(&[("line", "   "), ("import", "")]);
+    page.fill_all(&[("line", "   "), ("import", ""), ("filled", "")]);
     for name in names.split(", ") {
         if !page.get("import").is_empty() {
             put_name(page, 99);
         }
         page.set("import", name);
     }
-    put_name(page, 100);
+    let is_one = page.get("filled").is_empty();
+    put_name(page, if is_one { 100 } else { 99 });
     page.append("imports", "$line$\n};\n");
 }
 
@@ -113,7 +114,7 @@ fn put_name(page: &mut Words, width: usize) {
         .saturating_add(page.get("import").len());
     if room.saturating_add(2) > width && page.get("line") != "   " {
         page.append("imports", "$line$\n");
-        page.fill("line", "   ");
+        page.fill_all(&[("line", "   "), ("filled", "filled")]);
     }
     page.append("line", " $import$,");
 }

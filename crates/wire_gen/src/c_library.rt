@@ -320,7 +320,7 @@ impl Package {
         path: &str,
         content: String,
     ) -> Result<(), GenerateError> {
-        self.base.fill("crate_folder", "$crate$_c/");
+        self.base.fill("crate_folder", "$crate$_$beside$/");
         let added = self.add(page, path, content);
         self.base.fill("crate_folder", "$crate$/");
         added

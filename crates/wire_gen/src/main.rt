@@ -5,6 +5,7 @@
 mod c_folder;
 mod c_library;
 mod groups;
+mod json;
 mod nests;
 mod package;
 mod roots;

@@ -121,6 +121,7 @@ impl Package {
         self.add_extensions(schema)?;
         self.add_services(schema)?;
         self.add_structs(schema)?;
+        self.add_json(schema)?;
         self.add_roots()
     }
 

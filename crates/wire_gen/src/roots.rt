@@ -116,8 +116,8 @@ impl Package {
     }
 }
 
-// Puts the lines of a word in order: the modules by their names, and what they pass on by its key.
-fn sort_lines(roots: &mut Words, name: &'static str) {
+/// Puts the lines of a word in order: the modules by their names, and what they pass on by its key.
+pub(crate) fn sort_lines(roots: &mut Words, name: &'static str) {
     let has_structs = !roots.get("c").is_empty();
     let lines = roots.take(name);
     for line in roots.sorted(&lines) {

@@ -49,6 +49,7 @@ impl Package {
         if self.base.get("c").is_empty() {
             return Ok(());
         }
+        self.base.set("beside", "c");
         let c = self.base.get("c");
         if is_c_word(c) || c.starts_with("gtv") || c.starts_with("gettavil") {
             let why = "c=$c$: a word of C, or a name of the headers";

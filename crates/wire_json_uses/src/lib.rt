@@ -15,9 +15,9 @@ pub mod integers;
 mod kind_tests;
 #[cfg(test)]
 mod message_tests;
-pub mod report_sample;
 #[cfg(test)]
-mod report_sample_tests;
+mod report_tests;
+pub mod reports;
 #[cfg(test)]
 mod scalar_tests;
 #[cfg(test)]

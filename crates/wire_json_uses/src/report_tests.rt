@@ -2,8 +2,8 @@
 //! request for memory fails with `OutOfMemory` as what was found, or not at all.
 use crate::answers::Answer::{Bad, Deep, Is, Twice, Unfit, Unknown};
 use crate::answers::{Found, Row, found_whole};
-use crate::report_sample::SampleJson;
 use std::alloc::Global;
+use wire_report_json::ReportSampleJson;
 
 const ROWS: [Row; 16] = [
     (b"{}", Is(b"{}")),
@@ -33,7 +33,7 @@ const ROWS: [Row; 16] = [
 // The row that does not find its own answer, and what it finds.
 fn astray(alloc: Global) -> Option<(usize, Found)> {
     for (place, row) in ROWS.iter().enumerate() {
-        let found = found_whole::<SampleJson>(alloc, row, 1);
+        let found = found_whole::<ReportSampleJson>(alloc, row, 1);
         if found != Found::Own {
             return Some((place, found));
         }

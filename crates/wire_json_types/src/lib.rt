@@ -1,0 +1,14 @@
+//! What is written of the JSON of messages: the code and the definitions of a crate beside that of
+//! the messages. Every function ends and is safe, for all descriptors; none has a contract, since
+//! what is written is proved by itself.
+#![tactic(auto)]
+
+pub mod enums;
+mod items;
+mod keys;
+mod kinds;
+pub mod left_out;
+pub mod messages;
+pub mod oneofs;
+mod parts;
+mod tables;

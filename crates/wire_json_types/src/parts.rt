@@ -1,0 +1,300 @@
+//! The parts of a message: its fields, each with its names.
+use crate::kinds::set_part;
+use crate::tables::PART;
+use wire_definitions::ghost_imports;
+use wire_descriptor::FieldDescriptorProto;
+use wire_schema::{Field, GenerateError, Schema, Template, Words, constant_name, variant_name};
+
+const DEFINITIONS: &str = "\n\
+abbrev pub $part$-Value : Type 0
+$part$-Value = $part_value$
+
+abbrev pub $part$-names : List Names
+$part$-names = $names$ ∷ []
+
+abbrev pub $part$-says : Members → $part$-Value → Type 0
+$part$-says =
+    FieldMeans $part_absent$ $part_means$
+    $named$
+
+abbrev pub $part$-trees : $part$-Value → Members → Type 0
+$part$-trees =
+    IsFieldTree $part_absent$ $part_tree$
+    $json_name$
+
+abbrev pub $part$-range : $part$-Value → Type 0
+$part$-range = IsInRangeUnless $part_absent$ $part_range$
+
+abbrev pub $part$-absent : $part$-Value
+$part$-absent = $part_absent$
+
+abbrev pub $part$-seen : $name$ → $part$-Value
+$part$-seen m = $part_before$m.$field$$part_behind$
+
+pub $part$-unsaid : $part$-says no_member $part$-absent
+$part$-unsaid =
+    unsaid $part_absent$ $part_means$
+    $named$
+
+pub $part$-one : SayOne $part$-says
+$part$-one =
+    one_field $part_absent$ $part_means$
+    $part_one$
+    $named$
+
+pub $part$-back
+    : PartComesBack $part$-names $part$-says $part$-trees $part$-range
+$part$-back =
+    field_back $part_means$
+    $part_tree$
+    $two_names$
+    $part_range$
+    $part_back$
+    $part_absent$
+";
+
+const USES: &str = "\
+Rattle.wire_jsonfields.specs.Fields FieldMeans
+Rattle.wire_jsonfields.specs.Fields unsaid
+Rattle.wire_jsonfields.specs.Messages IsFieldTree
+Rattle.wire_jsonfields.specs.Objects IsNameOf
+Rattle.wire_jsonfields.specs.OneValues one_field
+Rattle.wire_jsonfields.specs.Parts IsInRangeUnless
+Rattle.wire_jsonfields.specs.Parts field_back
+$part_uses$$part_seen_uses$";
+
+/// The names of a field, as definitions have them: `names` is both, in a pair, `two_names` the same
+/// as arguments, and `named` the rule that a member has one of them.
+pub(crate) const NAMES: [Template; 4] = [
+    ("json_name", "(codes \"$in_json$\")"),
+    ("names", "(codes \"$proto$\", codes \"$in_json$\")"),
+    ("two_names", "(codes \"$proto$\") $json_name$"),
+    ("named", "(IsNameOf $two_names$)"),
+];
+
+/// The constant of the names of a field.
+pub(crate) const FIELD_NAME: &str = "\
+const $constant$: FieldName = FieldName {
+    name: \"$proto$\",
+    json_name: \"$in_json$\",
+};
+
+";
+
+/// What the code of a part brings in of its definitions.
+pub(crate) const PART_GHOSTS: &str = "\
+$json_page$ $part$-Value
+$json_page$ $part$-absent
+$json_page$ $part$-back
+$json_page$ $part$-names
+$json_page$ $part$-one
+$json_page$ $part$-range
+$json_page$ $part$-says
+$json_page$ $part$-seen
+$json_page$ $part$-trees
+$json_page$ $part$-unsaid
+";
+
+/// The code of a part of a message.
+pub(crate) const PART_CODE: &str = "\
+pub struct $part_type$;
+
+impl JsonPart for $part_type$ {
+$ghost_imports$
+    type Message = $name$;
+
+    type Held = $part_held$;
+
+    ghost Value = { $part$-Value };
+
+    ghost view = { λ h. $part_view$ };
+
+    ghost seen = { $part$-seen };
+
+    ghost names = { $part$-names };
+
+    ghost says = { $part$-says };
+
+    ghost trees = { $part$-trees };
+
+    ghost default = { $part$-absent };
+
+    ghost unsaid = { $part$-unsaid };
+
+    ghost one_value = { $part$-one };
+
+    ghost in_range = { $part$-range };
+
+    ghost back = { $part$-back };
+
+    fn is_named(name: &str) -> bool {
+        $is_named$
+    }
+
+    fn read(
+        alloc: Global,
+        text: &[u8],
+        members: &[PlacedMember<'_>],
+        levels: u32,
+    ) -> Result<$part_held$, ReadError> {
+        $read$
+    }
+
+    fn write(
+        alloc: Global,
+        out: &mut Vec<u8>,
+        first: bool,
+        message: &$name$,
+    ) -> Result<bool, AllocError> {
+        $write$
+    }
+}
+
+";
+
+const CODE_USES: &str = "\
+wire_jsonfields FieldName
+wire_jsonfields read_field
+wire_jsonfields write_field
+$json_code$$json_held_code$";
+
+/// The templates of a part: the names before its code, the code, and its definitions, with what
+/// each brings in.
+pub(crate) struct PartTexts {
+    pub names: &'static str,
+    pub code: &'static str,
+    pub code_uses: &'static str,
+    pub ghosts: &'static str,
+    pub definitions: &'static str,
+    pub uses: &'static str,
+}
+
+const FIELD: PartTexts = PartTexts {
+    names: FIELD_NAME,
+    code: PART_CODE,
+    code_uses: CODE_USES,
+    ghosts: PART_GHOSTS,
+    definitions: DEFINITIONS,
+    uses: USES,
+};
+
+const CALLS: [Template; 3] = [
+    ("part_held", "$held$"),
+    ("part_view", "$part_before$h$part_behind$"),
+    (
+        "is_named",
+        "name == $constant$.name || name == $constant$.json_name",
+    ),
+];
+
+/// Sets how a field is called in JSON, in code and in definitions.
+pub(crate) fn set_names(
+    descriptor: &FieldDescriptorProto,
+    words: &mut Words,
+) -> Result<(), GenerateError> {
+    let alloc = words.alloc();
+    words.set("in_json", &descriptor.json_name);
+    words.fill_all(&NAMES);
+    words.fill("part", "$field$");
+    let constant = constant_name(alloc, words.get("field"))?;
+    words.set("constant", &constant);
+    let variant = variant_name(alloc, words.get("field"))?;
+    words.set("part_variant", &variant);
+    words.fill("part_type", "Of$part_variant$");
+    Ok(())
+}
+
+/// Puts a field of a message to the page.
+pub(crate) fn put_field(
+    page: &mut Words,
+    schema: &Schema,
+    descriptor: &FieldDescriptorProto,
+    field: &Field,
+) -> Result<(), GenerateError> {
+    let mut words = Words::like(&field.words);
+    words.copy(page, &["json_page", "crate", "name"]);
+    set_names(descriptor, &mut words)?;
+    set_part(schema, descriptor, &mut words);
+    words.fill_all(&CALLS);
+    words.fill("call", "read_field::<$part_kind$>");
+    set_call("read", READ_ARGUMENTS, &mut words);
+    words.fill("call", "write_field::<$part_kind$>");
+    set_call("write", WRITE_ARGUMENTS, &mut words);
+    put_part(page, &mut words, &FIELD);
+    page.ended()
+}
+
+/// Puts the code and the definitions of a part to those of the page, and the part to its table.
+pub(crate) fn put_part(page: &mut Words, words: &mut Words, texts: &PartTexts) {
+    words.fill("ghosts", texts.ghosts);
+    words.append("ghosts", "$part_seen_uses$");
+    ghost_imports(words, "    ");
+    words.fill("of_names", texts.names);
+    words.fill("of_code", texts.code);
+    words.fill("of_code_uses", texts.code_uses);
+    words.fill("of_definitions", texts.definitions);
+    words.fill("of_uses", texts.uses);
+    page.copy(words, &OF_PART);
+    page.append_all(&PUT);
+}
+
+const OF_PART: [&str; 11] = [
+    "of_names",
+    "of_code",
+    "of_code_uses",
+    "of_definitions",
+    "of_uses",
+    "part",
+    "part_type",
+    "part_held",
+    "part_before",
+    "part_behind",
+    "part_seen_uses",
+];
+
+const PUT: [Template; 6] = [
+    ("field_names", "$of_names$"),
+    ("code", "$of_code$"),
+    ("code_uses", "$of_code_uses$"),
+    ("definitions", "$of_definitions$"),
+    ("uses", "$of_uses$"),
+    PART,
+];
+
+/// What a field is read of.
+pub(crate) const READ_ARGUMENTS: &str = "alloc, text, members, levels, &$constant$";
+
+const WRITE_ARGUMENTS: &str = "alloc, out, first, &$constant$, &message.$field$";
+
+// The widest line, the widest arguments of a call that stand in it, and the longest of those that
+// stand in a line by themselves.
+const WIDTH: usize = 100;
+
+const CALL_WIDTH: usize = 60;
+
+const SHORT: usize = 10;
+
+/// Makes a call of the word `call` with these arguments the word of this name, as the formatter
+/// lays it out.
+pub(crate) fn set_call(name: &'static str, arguments: &str, words: &mut Words) {
+    words.fill("arguments", arguments);
+    words.fill(name, "        $call$($arguments$)");
+    let has_room = words.get(name).chars().count() <= WIDTH;
+    let arguments = words.take("arguments");
+    let are_short = arguments
+        .split(", ")
+        .all(|it| it.len() <= SHORT && !it.ends_with(')'));
+    words.set("arguments", &arguments);
+    if has_room && arguments.chars().count() <= CALL_WIDTH {
+        words.fill(name, "$call$($arguments$)");
+    } else if are_short {
+        words.fill(name, "$call$(\n            $arguments$,\n        )");
+    } else {
+        words.fill(name, "$call$(\n");
+        for argument in arguments.split(", ") {
+            words.set("argument", argument);
+            words.append(name, "            $argument$,\n");
+        }
+        words.append(name, "        )");
+    }
+}

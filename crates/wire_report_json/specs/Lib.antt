@@ -1,0 +1,4 @@
+pub mod ReportJson
+pub mod ReportLevelJson
+pub mod ReportOriginJson
+pub mod ReportSampleJson
