@@ -233,7 +233,9 @@ const MESSAGE: [Template; 15] = [
     ("json_back", "$of_module$-json-back"),
     (
         "json_uses",
-        "Rattle.wire_jsonfields.specs.OneValues one_object\n\
+        "Rattle.wire_jsonfields.specs.Messages IsObjectTree\n\
+        Rattle.wire_jsonfields.specs.Messages ObjectMeans\n\
+        Rattle.wire_jsonfields.specs.OneValues one_object\n\
         $json_specs$ $of_name$-Json\n$json_specs$ $of_module$-json-says\n\
         $json_specs$ $of_module$-json-trees\n$json_specs$ $of_module$-json-one\n\
         $json_specs$ $of_module$-json-range\n$json_specs$ $of_module$-json-back\n",

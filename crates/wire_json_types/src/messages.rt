@@ -1,15 +1,15 @@
 //! The code and the definitions of a message type in JSON.
 use crate::oneofs::{described, put_oneof};
 use crate::parts::{PART_CODE, PART_GHOSTS, PartTexts, put_field, put_part};
-use crate::tables::{BOTH, GROUPED, put_table, set_view};
+use crate::tables::{BOTH, GROUPED, Part, put_at, put_table, set_taken, set_view};
 use wire_definitions::{code_imports, definition_imports, ghost_imports, set_heading};
 use wire_schema::{Field, GenerateError, MessageType, Schema, Template, Words};
 
-// The most parts of a table, and how many stand in each of several; the kit's borrow checker takes
-// no table of sixteen.
-const MOST_PARTS: usize = 10;
+// The most parts of a table, and the greatest weight of several that are one: the kit's borrow
+// checker follows a generic type through so many types and no more.
+const MOST_PARTS: usize = 4;
 
-const GROUP: usize = 8;
+const MOST_WEIGHT: usize = 8;
 
 const CODE_PAGE: &str = "\
 $heading$$imports$
@@ -158,7 +158,9 @@ const OF_GROUP: PartTexts = PartTexts {
     uses: "",
 };
 
-const GROUP_CALLS: [Template; 6] = [
+const GROUP_CALLS: [Template; 8] = [
+    ("part_seen_uses", "$group_uses$"),
+    ("part_view", "$view$"),
     ("part", "$joined$"),
     ("part_type", "Of$whole_type$"),
     ("part_held", "$joined_held$"),
@@ -176,85 +178,86 @@ pub fn message_files(
     fields: &[Field],
 ) -> Result<(String, String), GenerateError> {
     page.fill("json_page", "Rattle.$crate$_json.specs.$name$Json");
-    let has_groups = fields.len() > MOST_PARTS;
-    page.set("source", if has_groups { "group" } else { "parts" });
-    let mut groups = Words::like(page);
-    for (place, field) in fields.iter().enumerate() {
-        let is_first = place.checked_rem(GROUP) == Some(0);
-        if has_groups && is_first && place > 0 {
-            end_group(page, &mut groups, "(group, parts)");
-        }
-        match described(&message.descriptor, &field.words) {
-            Some(it) if field.oneof.is_none() => put_field(page, schema, it, field)?,
+    let mut parts: Vec<Part> = Vec::new(page.alloc());
+    for field in fields {
+        let mut part = match (&field.oneof, described(&message.descriptor, &field.words)) {
+            (None, Some(descriptor)) => put_field(page, schema, descriptor, field)?,
             _ => put_oneof(page, &field.words)?,
+        };
+        if let Some(oneof) = &field.oneof {
+            part.weight = oneof.variants.len();
         }
-        take_part(page, &field.words, field.oneof.is_some());
+        page.set("in_message", field.words.get("field"));
+        page.append("set", "                $in_message$: read_$in_message$,\n");
+        parts.push(part)?;
     }
-    if has_groups {
-        end_group(page, &mut groups, "group");
-        page.copy(&groups, &["parts", "taken"]);
-    } else {
-        page.append("taken", TAKEN_LAST);
+    for _ in 0..fields.len() {
+        if parts.len() > MOST_PARTS {
+            parts = grouped(page, parts)?;
+        }
     }
+    page.fill_all(&[("source", "parts"), ("taken", "")]);
+    set_taken(&parts, page);
     page.fill_all(&[("whole", "all-fields"), ("whole_type", "Parts")]);
-    put_table(BOTH, page);
+    put_table(BOTH, &parts, page);
     Ok((code_of(page)?, definitions_of(page)?))
 }
 
-// Makes the parts since the last one a part of those of the message.
-fn end_group(page: &mut Words, groups: &mut Words, taken: &str) {
-    groups.append("number_of_group", "+");
-    let number = groups.get("number_of_group").len();
-    groups.index("group", number);
-    page.append("taken", TAKEN_LAST);
-    page.fill("pending", "");
-    groups.set("taken_as", taken);
-    groups.fill("group_taken", "        let $taken_as$ = parts;\n");
-    let lines = page.take("taken");
-    groups.append("taken", "$group_taken$");
-    groups.set("group_taken", &lines);
-    groups.append("taken", "$group_taken$");
-    let mut words = Words::like(page);
-    set_view(page.get("parts"), &mut words);
-    groups.fill_all(&[("whole", "group-$group$"), ("whole_type", "Group$group$")]);
-    page.copy(groups, &["whole", "whole_type"]);
-    put_table(GROUPED, page);
+// The parts, of which several that stand together and are not too much are one.
+fn grouped(page: &mut Words, parts: Vec<Part>) -> Result<Vec<Part>, GenerateError> {
+    let mut groups = Vec::new(page.alloc());
+    let mut group: Vec<Part> = Vec::new(page.alloc());
+    let mut weight: usize = 0;
+    for part in parts {
+        let more = weight.saturating_add(part.weight);
+        if !group.is_empty() && (group.len() == MOST_PARTS || more > MOST_WEIGHT) {
+            groups.push(one_part(page, group)?)?;
+            group = Vec::new(page.alloc());
+            weight = 0;
+        }
+        weight = weight.saturating_add(part.weight);
+        group.push(part)?;
+    }
+    groups.push(one_part(page, group)?)?;
+    Ok(groups)
+}
+
+// Several parts as one.
+fn one_part(page: &mut Words, mut parts: Vec<Part>) -> Result<Part, GenerateError> {
+    if parts.len() == 1 {
+        if let Some(mut part) = parts.pop() {
+            part.weight = 1;
+            return Ok(part);
+        }
+    }
+    page.append("groups_so_far", "+");
+    let number = page.get("groups_so_far").len();
+    page.index("group", number);
+    page.fill_all(&[
+        ("source", "group_$group$"),
+        ("taken", ""),
+        ("group_uses", ""),
+    ]);
+    page.fill_all(&[("whole", "group-$group$"), ("whole_type", "Group$group$")]);
+    set_view(&parts, page);
+    let view = page.take("view");
+    page.fill_all(&[("path_of_part", "h"), ("view", "")]);
+    put_at(&view, page);
+    set_taken(&parts, page);
+    put_table(GROUPED, &parts, page);
     page.append("group_aliases", "$aliases$");
-    words.copy(page, &["joined", "joined_type", "joined_held", "tables"]);
-    words.copy(groups, &["whole_type"]);
-    words.fill("part_seen_uses", "$group_seen_uses$");
-    page.fill("group_seen_uses", "");
+    for part in &parts {
+        page.set("uses_of_part", &part.uses);
+        page.append("group_uses", "$uses_of_part$");
+    }
+    let mut words = Words::like(page);
     words.fill_all(&GROUP_CALLS);
-    put_part(page, &mut words, &OF_GROUP);
-    let part = page.take("parts");
-    groups.set("next_part", &part);
-    groups.append("parts", "$next_part$");
+    let mut part = put_part(page, &mut words, &OF_GROUP)?;
+    part.view = view;
+    part.local = words.take("source");
+    part.taken = words.take("taken");
+    Ok(part)
 }
-
-// How a part is taken out of what was read.
-fn take_part(page: &mut Words, words: &Words, is_oneof: bool) {
-    if !page.get("pending").is_empty() {
-        page.append(
-            "taken",
-            "        let (read_$pending$, $source$) = $source$;\n",
-        );
-    }
-    page.set("pending", words.get("field"));
-    page.append("set", "                $pending$: read_$pending$,\n");
-    page.append("group_seen_uses", "$part_seen_uses$");
-    if is_oneof {
-        page.set("oneof_module", words.get("module"));
-        page.append("made", MADE);
-    }
-}
-
-const TAKEN_LAST: &str = "        let read_$pending$ = $source$;\n";
-
-const MADE: &str = "        let read_$pending$ = match read_$pending$ {
-            None => None,
-            Some(chosen) => Some($oneof_module$_of(chosen)),
-        };
-";
 
 fn code_of(page: &mut Words) -> Result<String, GenerateError> {
     set_heading(page, "//!", "The message `$full$` in JSON.");
@@ -267,7 +270,6 @@ fn code_of(page: &mut Words) -> Result<String, GenerateError> {
     code_imports(page);
     page.fill("uses", "$kept_uses$");
     page.append("aliases", "$group_aliases$");
-    page.append("taken", "$made$");
     page.fill("text", CODE_PAGE);
     page.finish("text")
 }

@@ -4,7 +4,7 @@ use crate::kinds::set_element;
 use crate::parts::{
     FIELD_NAME, PART_CODE, PART_GHOSTS, PartTexts, READ_ARGUMENTS, put_part, set_call, set_names,
 };
-use crate::tables::{EITHER, put_table};
+use crate::tables::{EITHER, Part, put_table};
 use wire_definitions::{code_imports, definition_imports, ghost_imports, set_heading};
 use wire_descriptor::{DescriptorProto, FieldDescriptorProto};
 use wire_schema::{GenerateError, Oneof, Template, Words, variant_name};
@@ -262,7 +262,8 @@ wire_jsonfields JsonChoice
 wire_jsonfields write_oneof
 $held_use$";
 
-const PART_CALLS: [Template; 8] = [
+const PART_CALLS: [Template; 9] = [
+    ("part_taken", TAKEN),
     ("part_held", "Option<$joined_held$>"),
     ("part_before", "option_map $joined$-view "),
     ("part_behind", ""),
@@ -278,6 +279,13 @@ const PART_CALLS: [Template; 8] = [
         "write_oneof::<$joined_type$>(alloc, out, first, &message.$field$)",
     ),
 ];
+
+// Of what is read of it the oneof is made.
+const TAKEN: &str = "        let read_$field$ = match read_$field$ {
+            None => None,
+            Some(chosen) => Some($module$_of(chosen)),
+        };
+";
 
 const MEMBER: PartTexts = PartTexts {
     names: FIELD_NAME,
@@ -305,6 +313,7 @@ pub fn oneof_files(
     oneof: &Oneof,
 ) -> Result<(String, String), GenerateError> {
     page.fill("json_page", "Rattle.$crate$_json.specs.$name$Json");
+    let mut members = Vec::new(page.alloc());
     for variant in &oneof.variants {
         if let Some(field) = described(descriptor, variant) {
             let mut words = Words::like(variant);
@@ -312,11 +321,11 @@ pub fn oneof_files(
             set_names(field, &mut words)?;
             set_item(field, &mut words);
             set_element(field, &mut words);
-            put_member(page, &mut words, oneof);
+            members.push(put_member(page, &mut words, oneof)?)?;
         }
     }
     page.fill_all(&[("whole", "$field$-chosen"), ("whole_type", "$name$Json")]);
-    put_table(EITHER, page);
+    put_table(EITHER, &members, page);
     let is_one = oneof.variants.len() == 1;
     page.fill(
         "held_use",
@@ -335,7 +344,7 @@ pub(crate) fn described<'a>(
     descriptor.field.iter().find(|it| it.name.as_str() == name)
 }
 
-fn put_member(page: &mut Words, words: &mut Words, oneof: &Oneof) {
+fn put_member(page: &mut Words, words: &mut Words, oneof: &Oneof) -> Result<Part, GenerateError> {
     words.fill_all(&[("other", ""), ("of_variants", ""), ("part_held", "$held$")]);
     for other in &oneof.variants {
         let is_this = other.get("variant") == words.get("variant");
@@ -350,9 +359,10 @@ fn put_member(page: &mut Words, words: &mut Words, oneof: &Oneof) {
     set_call("read", READ_ARGUMENTS, words);
     words.fill("call", "write_chosen::<$element$>");
     set_call("write", WRITE_ARGUMENTS, words);
-    put_part(page, words, &MEMBER);
-    page.copy(words, &["json_held_code"]);
-    page.append("of_ghosts", "$json_page$ $part$-of\n");
+    words.fill("of_ghost", "$json_page$ $part$-of\n");
+    page.copy(words, &["json_held_code", "of_ghost"]);
+    page.append("of_ghosts", "$of_ghost$");
+    put_part(page, words, &MEMBER)
 }
 
 const WRITE_ARGUMENTS: &str = "alloc, out, first, &$constant$, $field$_of(oneof)";
@@ -423,8 +433,8 @@ fn definitions_of(page: &mut Words) -> Result<String, GenerateError> {
 
 const DECLARED: &str = "Rattle.$crate$.specs.declared.$module$.$name$ $name$\n";
 
-/// Puts a oneof that is joined so, as the words of its page say, to the page of its message.
-pub(crate) fn put_oneof(page: &mut Words, oneof: &Words) -> Result<(), GenerateError> {
+/// Puts a oneof that is joined so, as its words say, to the page of its message.
+pub(crate) fn put_oneof(page: &mut Words, oneof: &Words) -> Result<Part, GenerateError> {
     let mut words = Words::like(oneof);
     words.copy(page, &["json_page", "crate"]);
     words.fill("oneof_page", "Rattle.$crate$_json.specs.$name$Json");
@@ -434,6 +444,5 @@ pub(crate) fn put_oneof(page: &mut Words, oneof: &Words) -> Result<(), GenerateE
     words.fill("part_type", "Of$part_variant$");
     words.fill_all(&PART_CALLS);
     words.copy(page, &["name"]);
-    put_part(page, &mut words, &ONEOF);
-    page.ended()
+    put_part(page, &mut words, &ONEOF)
 }

@@ -1,6 +1,6 @@
 //! The parts of a message: its fields, each with its names.
 use crate::kinds::set_part;
-use crate::tables::PART;
+use crate::tables::Part;
 use wire_definitions::ghost_imports;
 use wire_descriptor::FieldDescriptorProto;
 use wire_schema::{Field, GenerateError, Schema, Template, Words, constant_name, variant_name};
@@ -210,7 +210,7 @@ pub(crate) fn put_field(
     schema: &Schema,
     descriptor: &FieldDescriptorProto,
     field: &Field,
-) -> Result<(), GenerateError> {
+) -> Result<Part, GenerateError> {
     let mut words = Words::like(&field.words);
     words.copy(page, &["json_page", "crate", "name"]);
     set_names(descriptor, &mut words)?;
@@ -220,12 +220,15 @@ pub(crate) fn put_field(
     set_call("read", READ_ARGUMENTS, &mut words);
     words.fill("call", "write_field::<$part_kind$>");
     set_call("write", WRITE_ARGUMENTS, &mut words);
-    put_part(page, &mut words, &FIELD);
-    page.ended()
+    put_part(page, &mut words, &FIELD)
 }
 
-/// Puts the code and the definitions of a part to those of the page, and the part to its table.
-pub(crate) fn put_part(page: &mut Words, words: &mut Words, texts: &PartTexts) {
+/// Puts the code and the definitions of a part to those of the page.
+pub(crate) fn put_part(
+    page: &mut Words,
+    words: &mut Words,
+    texts: &PartTexts,
+) -> Result<Part, GenerateError> {
     words.fill("ghosts", texts.ghosts);
     words.append("ghosts", "$part_seen_uses$");
     ghost_imports(words, "    ");
@@ -234,31 +237,37 @@ pub(crate) fn put_part(page: &mut Words, words: &mut Words, texts: &PartTexts) {
     words.fill("of_code_uses", texts.code_uses);
     words.fill("of_definitions", texts.definitions);
     words.fill("of_uses", texts.uses);
+    words.fill("local", "read_$field$");
+    words.fill("view_at", "$part_before$@$part_behind$");
     page.copy(words, &OF_PART);
     page.append_all(&PUT);
+    page.ended()?;
+    Ok(Part {
+        name: words.take("part"),
+        type_name: words.take("part_type"),
+        held: words.take("part_held"),
+        view: words.take("view_at"),
+        uses: words.take("part_seen_uses"),
+        local: words.take("local"),
+        taken: words.take("part_taken"),
+        weight: 1,
+    })
 }
 
-const OF_PART: [&str; 11] = [
+const OF_PART: [&str; 5] = [
     "of_names",
     "of_code",
     "of_code_uses",
     "of_definitions",
     "of_uses",
-    "part",
-    "part_type",
-    "part_held",
-    "part_before",
-    "part_behind",
-    "part_seen_uses",
 ];
 
-const PUT: [Template; 6] = [
+const PUT: [Template; 5] = [
     ("field_names", "$of_names$"),
     ("code", "$of_code$"),
     ("code_uses", "$of_code_uses$"),
     ("definitions", "$of_definitions$"),
     ("uses", "$of_uses$"),
-    PART,
 ];
 
 /// What a field is read of.

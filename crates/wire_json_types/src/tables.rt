@@ -134,29 +134,34 @@ $all$-back =
         Rattle.wire_jsonfields.specs.declared.choice.Chosen Chosen\n",
 };
 
-/// A part, by its name in definitions, its type in code, and what that reads, with what stands
-/// before and behind that where it is seen, in lines.
-pub(crate) const PART: Template = (
-    "parts",
-    "$part$\t$part_type$\t$part_held$\t$part_before$\t$part_behind$\n",
-);
+/// A part of a table.
+#[derive(Drop)]
+pub(crate) struct Part {
+    /// Its name in definitions, its type in code, and what that reads.
+    pub name: String,
+    pub type_name: String,
+    pub held: String,
+    /// How contracts see that, in the place of each `@`, and what is brought in for it.
+    pub view: String,
+    pub uses: String,
+    /// What it reads is called so, and how that is taken apart.
+    pub local: String,
+    pub taken: String,
+    /// How much of a table it is.
+    pub weight: usize,
+}
 
-/// Joins the parts that the word `parts` has, the last two first, as `whole` in definitions and
-/// `whole_type` in code: `tables` has its definitions and `aliases` its types, and `joined`,
-/// `joined_type` and `joined_held` what it is called, which of one part alone is as that is. What
-/// each but the first is joined with is called by its place.
-pub(crate) fn put_table(join: Join, words: &mut Words) {
-    let parts = words.take("parts");
-    let lines = parts.trim_end_matches('\n');
-    let mut place = lines.split('\n').count();
+/// Joins the parts, the last two first, as `whole` in definitions and `whole_type` in code:
+/// `tables` has its definitions and `aliases` its types, and `joined`, `joined_type` and
+/// `joined_held` what it is called, which of one part alone is as that is. What each but the first
+/// is joined with is called by its place.
+pub(crate) fn put_table(join: Join, parts: &[Part], words: &mut Words) {
     words.fill_all(&NOTHING);
-    for line in lines.rsplit('\n') {
-        let (part, rest) = cut(line);
-        let (part_type, rest) = cut(rest);
-        let (held, _) = cut(rest);
-        words.set("one", part);
-        words.set("one_type", part_type);
-        words.set("one_held", held);
+    let mut place = parts.len();
+    for part in parts.iter().rev() {
+        words.set("one", &part.name);
+        words.set("one_type", &part.type_name);
+        words.set("one_held", &part.held);
         words.index("place_in_table", place);
         if words.get("joined").is_empty() {
             words.fill_all(&LAST);
@@ -202,31 +207,48 @@ const JOINED: [Template; 4] = [
     ("joined_held", "Held$all_type$"),
 ];
 
-// What stands before the first tab, and behind it.
-fn cut(line: &str) -> (&str, &str) {
-    line.split_once('\t').unwrap_or((line, ""))
-}
-
-/// How what these parts read together is seen, as the word `part_view`.
-pub(crate) fn set_view(parts: &str, words: &mut Words) {
-    words.fill_all(&[("part_view", ""), ("place_in_pairs", "h"), ("shut", "")]);
-    let lines = parts.trim_end_matches('\n');
-    let count = lines.split('\n').count();
-    for (place, line) in lines.split('\n').enumerate() {
-        let (_, rest) = cut(line);
-        let (_, rest) = cut(rest);
-        let (_, rest) = cut(rest);
-        let (before, behind) = cut(rest);
-        words.set("view_before", before);
-        words.set("view_behind", behind);
-        let is_last = place.saturating_add(1) == count;
-        words.append("part_view", if is_last { LAST_SEEN } else { SEEN });
-        words.append("place_in_pairs", ".1");
-        words.append("shut", if is_last { "" } else { ")" });
+/// How what these parts read together is seen, as the word `view`, with an `@` for it.
+pub(crate) fn set_view(parts: &[Part], words: &mut Words) {
+    words.fill_all(&[("view", ""), ("path", "@"), ("shut", "")]);
+    for (place, part) in parts.iter().enumerate() {
+        let is_last = place.saturating_add(1) == parts.len();
+        words.append("view", if is_last { "" } else { "(" });
+        words.fill("path_of_part", if is_last { "$path$" } else { "$path$.0" });
+        put_at(&part.view, words);
+        words.append("view", if is_last { "$shut$" } else { ", " });
+        words.append_all(&[("path", ".1"), ("shut", ")")]);
     }
-    words.append("part_view", "$shut$");
 }
 
-const SEEN: &str = "($view_before$$place_in_pairs$.0$view_behind$, ";
+/// Puts a view behind the word `view`, with the word `path_of_part` in the place of each
+/// `@`.
+pub(crate) fn put_at(view: &str, words: &mut Words) {
+    let mut is_first = true;
+    for text in view.split('@') {
+        words.set("view_text", text);
+        words.append(
+            "view",
+            if is_first {
+                "$view_text$"
+            } else {
+                "$path_of_part$$view_text$"
+            },
+        );
+        is_first = false;
+    }
+}
 
-const LAST_SEEN: &str = "$view_before$$place_in_pairs$$view_behind$";
+/// How what these parts read together, of the word `source`, is taken apart, behind the word
+/// `taken`.
+pub(crate) fn set_taken(parts: &[Part], words: &mut Words) {
+    for (place, part) in parts.iter().enumerate() {
+        words.set("local", &part.local);
+        words.set("apart", &part.taken);
+        let is_last = place.saturating_add(1) == parts.len();
+        words.append("taken", if is_last { TAKEN_LAST } else { TAKEN });
+    }
+}
+
+const TAKEN: &str = "        let ($local$, $source$) = $source$;\n$apart$";
+
+const TAKEN_LAST: &str = "        let $local$ = $source$;\n$apart$";

@@ -435,244 +435,6 @@ offsets-back =
     (FitsSigned w32) short_signed_back)
     []
 
-abbrev pub group-1-from-7-Value : Type 0
-group-1-from-7-Value = load-Value × offsets-Value
-
-abbrev pub group-1-from-7-names : List Names
-group-1-from-7-names = load-names ++ offsets-names
-
-abbrev pub group-1-from-7-says : Members → group-1-from-7-Value → Type 0
-group-1-from-7-says = BothSay load-says offsets-says
-
-abbrev pub group-1-from-7-trees : group-1-from-7-Value → Members → Type 0
-group-1-from-7-trees = BothTrees load-trees offsets-trees
-
-abbrev pub group-1-from-7-range : group-1-from-7-Value → Type 0
-group-1-from-7-range = AreBoth load-range offsets-range
-
-abbrev pub group-1-from-7-absent : group-1-from-7-Value
-group-1-from-7-absent = (load-absent, offsets-absent)
-
-abbrev pub group-1-from-7-seen : Report → group-1-from-7-Value
-group-1-from-7-seen m = (load-seen m, offsets-seen m)
-
-pub group-1-from-7-unsaid : group-1-from-7-says no_member group-1-from-7-absent
-group-1-from-7-unsaid = (load-unsaid, offsets-unsaid)
-
-pub group-1-from-7-one : SayOne group-1-from-7-says
-group-1-from-7-one = one_both load-says offsets-says load-one offsets-one
-
-pub group-1-from-7-back
-    : PartComesBack group-1-from-7-names group-1-from-7-says group-1-from-7-trees group-1-from-7-range
-group-1-from-7-back =
-    both_back load-names offsets-names load-says offsets-says
-    load-trees offsets-trees load-range offsets-range
-    load-back offsets-back
-
-abbrev pub group-1-from-6-Value : Type 0
-group-1-from-6-Value = last-Value × group-1-from-7-Value
-
-abbrev pub group-1-from-6-names : List Names
-group-1-from-6-names = last-names ++ group-1-from-7-names
-
-abbrev pub group-1-from-6-says : Members → group-1-from-6-Value → Type 0
-group-1-from-6-says = BothSay last-says group-1-from-7-says
-
-abbrev pub group-1-from-6-trees : group-1-from-6-Value → Members → Type 0
-group-1-from-6-trees = BothTrees last-trees group-1-from-7-trees
-
-abbrev pub group-1-from-6-range : group-1-from-6-Value → Type 0
-group-1-from-6-range = AreBoth last-range group-1-from-7-range
-
-abbrev pub group-1-from-6-absent : group-1-from-6-Value
-group-1-from-6-absent = (last-absent, group-1-from-7-absent)
-
-abbrev pub group-1-from-6-seen : Report → group-1-from-6-Value
-group-1-from-6-seen m = (last-seen m, group-1-from-7-seen m)
-
-pub group-1-from-6-unsaid : group-1-from-6-says no_member group-1-from-6-absent
-group-1-from-6-unsaid = (last-unsaid, group-1-from-7-unsaid)
-
-pub group-1-from-6-one : SayOne group-1-from-6-says
-group-1-from-6-one = one_both last-says group-1-from-7-says last-one group-1-from-7-one
-
-pub group-1-from-6-back
-    : PartComesBack group-1-from-6-names group-1-from-6-says group-1-from-6-trees group-1-from-6-range
-group-1-from-6-back =
-    both_back last-names group-1-from-7-names last-says group-1-from-7-says
-    last-trees group-1-from-7-trees last-range group-1-from-7-range
-    last-back group-1-from-7-back
-
-abbrev pub group-1-from-5-Value : Type 0
-group-1-from-5-Value = labels-Value × group-1-from-6-Value
-
-abbrev pub group-1-from-5-names : List Names
-group-1-from-5-names = labels-names ++ group-1-from-6-names
-
-abbrev pub group-1-from-5-says : Members → group-1-from-5-Value → Type 0
-group-1-from-5-says = BothSay labels-says group-1-from-6-says
-
-abbrev pub group-1-from-5-trees : group-1-from-5-Value → Members → Type 0
-group-1-from-5-trees = BothTrees labels-trees group-1-from-6-trees
-
-abbrev pub group-1-from-5-range : group-1-from-5-Value → Type 0
-group-1-from-5-range = AreBoth labels-range group-1-from-6-range
-
-abbrev pub group-1-from-5-absent : group-1-from-5-Value
-group-1-from-5-absent = (labels-absent, group-1-from-6-absent)
-
-abbrev pub group-1-from-5-seen : Report → group-1-from-5-Value
-group-1-from-5-seen m = (labels-seen m, group-1-from-6-seen m)
-
-pub group-1-from-5-unsaid : group-1-from-5-says no_member group-1-from-5-absent
-group-1-from-5-unsaid = (labels-unsaid, group-1-from-6-unsaid)
-
-pub group-1-from-5-one : SayOne group-1-from-5-says
-group-1-from-5-one = one_both labels-says group-1-from-6-says labels-one group-1-from-6-one
-
-pub group-1-from-5-back
-    : PartComesBack group-1-from-5-names group-1-from-5-says group-1-from-5-trees group-1-from-5-range
-group-1-from-5-back =
-    both_back labels-names group-1-from-6-names labels-says group-1-from-6-says
-    labels-trees group-1-from-6-trees labels-range group-1-from-6-range
-    labels-back group-1-from-6-back
-
-abbrev pub group-1-from-4-Value : Type 0
-group-1-from-4-Value = samples-Value × group-1-from-5-Value
-
-abbrev pub group-1-from-4-names : List Names
-group-1-from-4-names = samples-names ++ group-1-from-5-names
-
-abbrev pub group-1-from-4-says : Members → group-1-from-4-Value → Type 0
-group-1-from-4-says = BothSay samples-says group-1-from-5-says
-
-abbrev pub group-1-from-4-trees : group-1-from-4-Value → Members → Type 0
-group-1-from-4-trees = BothTrees samples-trees group-1-from-5-trees
-
-abbrev pub group-1-from-4-range : group-1-from-4-Value → Type 0
-group-1-from-4-range = AreBoth samples-range group-1-from-5-range
-
-abbrev pub group-1-from-4-absent : group-1-from-4-Value
-group-1-from-4-absent = (samples-absent, group-1-from-5-absent)
-
-abbrev pub group-1-from-4-seen : Report → group-1-from-4-Value
-group-1-from-4-seen m = (samples-seen m, group-1-from-5-seen m)
-
-pub group-1-from-4-unsaid : group-1-from-4-says no_member group-1-from-4-absent
-group-1-from-4-unsaid = (samples-unsaid, group-1-from-5-unsaid)
-
-pub group-1-from-4-one : SayOne group-1-from-4-says
-group-1-from-4-one = one_both samples-says group-1-from-5-says samples-one group-1-from-5-one
-
-pub group-1-from-4-back
-    : PartComesBack group-1-from-4-names group-1-from-4-says group-1-from-4-trees group-1-from-4-range
-group-1-from-4-back =
-    both_back samples-names group-1-from-5-names samples-says group-1-from-5-says
-    samples-trees group-1-from-5-trees samples-range group-1-from-5-range
-    samples-back group-1-from-5-back
-
-abbrev pub group-1-from-3-Value : Type 0
-group-1-from-3-Value = level-Value × group-1-from-4-Value
-
-abbrev pub group-1-from-3-names : List Names
-group-1-from-3-names = level-names ++ group-1-from-4-names
-
-abbrev pub group-1-from-3-says : Members → group-1-from-3-Value → Type 0
-group-1-from-3-says = BothSay level-says group-1-from-4-says
-
-abbrev pub group-1-from-3-trees : group-1-from-3-Value → Members → Type 0
-group-1-from-3-trees = BothTrees level-trees group-1-from-4-trees
-
-abbrev pub group-1-from-3-range : group-1-from-3-Value → Type 0
-group-1-from-3-range = AreBoth level-range group-1-from-4-range
-
-abbrev pub group-1-from-3-absent : group-1-from-3-Value
-group-1-from-3-absent = (level-absent, group-1-from-4-absent)
-
-abbrev pub group-1-from-3-seen : Report → group-1-from-3-Value
-group-1-from-3-seen m = (level-seen m, group-1-from-4-seen m)
-
-pub group-1-from-3-unsaid : group-1-from-3-says no_member group-1-from-3-absent
-group-1-from-3-unsaid = (level-unsaid, group-1-from-4-unsaid)
-
-pub group-1-from-3-one : SayOne group-1-from-3-says
-group-1-from-3-one = one_both level-says group-1-from-4-says level-one group-1-from-4-one
-
-pub group-1-from-3-back
-    : PartComesBack group-1-from-3-names group-1-from-3-says group-1-from-3-trees group-1-from-3-range
-group-1-from-3-back =
-    both_back level-names group-1-from-4-names level-says group-1-from-4-says
-    level-trees group-1-from-4-trees level-range group-1-from-4-range
-    level-back group-1-from-4-back
-
-abbrev pub group-1-from-2-Value : Type 0
-group-1-from-2-Value = sent_at-Value × group-1-from-3-Value
-
-abbrev pub group-1-from-2-names : List Names
-group-1-from-2-names = sent_at-names ++ group-1-from-3-names
-
-abbrev pub group-1-from-2-says : Members → group-1-from-2-Value → Type 0
-group-1-from-2-says = BothSay sent_at-says group-1-from-3-says
-
-abbrev pub group-1-from-2-trees : group-1-from-2-Value → Members → Type 0
-group-1-from-2-trees = BothTrees sent_at-trees group-1-from-3-trees
-
-abbrev pub group-1-from-2-range : group-1-from-2-Value → Type 0
-group-1-from-2-range = AreBoth sent_at-range group-1-from-3-range
-
-abbrev pub group-1-from-2-absent : group-1-from-2-Value
-group-1-from-2-absent = (sent_at-absent, group-1-from-3-absent)
-
-abbrev pub group-1-from-2-seen : Report → group-1-from-2-Value
-group-1-from-2-seen m = (sent_at-seen m, group-1-from-3-seen m)
-
-pub group-1-from-2-unsaid : group-1-from-2-says no_member group-1-from-2-absent
-group-1-from-2-unsaid = (sent_at-unsaid, group-1-from-3-unsaid)
-
-pub group-1-from-2-one : SayOne group-1-from-2-says
-group-1-from-2-one = one_both sent_at-says group-1-from-3-says sent_at-one group-1-from-3-one
-
-pub group-1-from-2-back
-    : PartComesBack group-1-from-2-names group-1-from-2-says group-1-from-2-trees group-1-from-2-range
-group-1-from-2-back =
-    both_back sent_at-names group-1-from-3-names sent_at-says group-1-from-3-says
-    sent_at-trees group-1-from-3-trees sent_at-range group-1-from-3-range
-    sent_at-back group-1-from-3-back
-
-abbrev pub group-1-Value : Type 0
-group-1-Value = host-Value × group-1-from-2-Value
-
-abbrev pub group-1-names : List Names
-group-1-names = host-names ++ group-1-from-2-names
-
-abbrev pub group-1-says : Members → group-1-Value → Type 0
-group-1-says = BothSay host-says group-1-from-2-says
-
-abbrev pub group-1-trees : group-1-Value → Members → Type 0
-group-1-trees = BothTrees host-trees group-1-from-2-trees
-
-abbrev pub group-1-range : group-1-Value → Type 0
-group-1-range = AreBoth host-range group-1-from-2-range
-
-abbrev pub group-1-absent : group-1-Value
-group-1-absent = (host-absent, group-1-from-2-absent)
-
-abbrev pub group-1-seen : Report → group-1-Value
-group-1-seen m = (host-seen m, group-1-from-2-seen m)
-
-pub group-1-unsaid : group-1-says no_member group-1-absent
-group-1-unsaid = (host-unsaid, group-1-from-2-unsaid)
-
-pub group-1-one : SayOne group-1-says
-group-1-one = one_both host-says group-1-from-2-says host-one group-1-from-2-one
-
-pub group-1-back
-    : PartComesBack group-1-names group-1-says group-1-trees group-1-range
-group-1-back =
-    both_back host-names group-1-from-2-names host-says group-1-from-2-says
-    host-trees group-1-from-2-trees host-range group-1-from-2-range
-    host-back group-1-from-2-back
-
 abbrev pub ports-Value : Type 0
 ports-Value = List ℕ
 
@@ -942,209 +704,447 @@ type_-back =
     (λ b h. bool_back b)
     false
 
-abbrev pub group-2-from-5-Value : Type 0
-group-2-from-5-Value = origin-Value × type_-Value
+abbrev pub group-1-from-3-Value : Type 0
+group-1-from-3-Value = level-Value × samples-Value
 
-abbrev pub group-2-from-5-names : List Names
-group-2-from-5-names = origin-names ++ type_-names
+abbrev pub group-1-from-3-names : List Names
+group-1-from-3-names = level-names ++ samples-names
 
-abbrev pub group-2-from-5-says : Members → group-2-from-5-Value → Type 0
-group-2-from-5-says = BothSay origin-says type_-says
+abbrev pub group-1-from-3-says : Members → group-1-from-3-Value → Type 0
+group-1-from-3-says = BothSay level-says samples-says
 
-abbrev pub group-2-from-5-trees : group-2-from-5-Value → Members → Type 0
-group-2-from-5-trees = BothTrees origin-trees type_-trees
+abbrev pub group-1-from-3-trees : group-1-from-3-Value → Members → Type 0
+group-1-from-3-trees = BothTrees level-trees samples-trees
 
-abbrev pub group-2-from-5-range : group-2-from-5-Value → Type 0
-group-2-from-5-range = AreBoth origin-range type_-range
+abbrev pub group-1-from-3-range : group-1-from-3-Value → Type 0
+group-1-from-3-range = AreBoth level-range samples-range
 
-abbrev pub group-2-from-5-absent : group-2-from-5-Value
-group-2-from-5-absent = (origin-absent, type_-absent)
+abbrev pub group-1-from-3-absent : group-1-from-3-Value
+group-1-from-3-absent = (level-absent, samples-absent)
 
-abbrev pub group-2-from-5-seen : Report → group-2-from-5-Value
-group-2-from-5-seen m = (origin-seen m, type_-seen m)
+abbrev pub group-1-from-3-seen : Report → group-1-from-3-Value
+group-1-from-3-seen m = (level-seen m, samples-seen m)
 
-pub group-2-from-5-unsaid : group-2-from-5-says no_member group-2-from-5-absent
-group-2-from-5-unsaid = (origin-unsaid, type_-unsaid)
+pub group-1-from-3-unsaid : group-1-from-3-says no_member group-1-from-3-absent
+group-1-from-3-unsaid = (level-unsaid, samples-unsaid)
 
-pub group-2-from-5-one : SayOne group-2-from-5-says
-group-2-from-5-one = one_both origin-says type_-says origin-one type_-one
+pub group-1-from-3-one : SayOne group-1-from-3-says
+group-1-from-3-one = one_both level-says samples-says level-one samples-one
 
-pub group-2-from-5-back
-    : PartComesBack group-2-from-5-names group-2-from-5-says group-2-from-5-trees group-2-from-5-range
-group-2-from-5-back =
-    both_back origin-names type_-names origin-says type_-says
-    origin-trees type_-trees origin-range type_-range
-    origin-back type_-back
+pub group-1-from-3-back
+    : PartComesBack group-1-from-3-names group-1-from-3-says group-1-from-3-trees group-1-from-3-range
+group-1-from-3-back =
+    both_back level-names samples-names level-says samples-says
+    level-trees samples-trees level-range samples-range
+    level-back samples-back
 
-abbrev pub group-2-from-4-Value : Type 0
-group-2-from-4-Value = worst-Value × group-2-from-5-Value
+abbrev pub group-1-from-2-Value : Type 0
+group-1-from-2-Value = sent_at-Value × group-1-from-3-Value
 
-abbrev pub group-2-from-4-names : List Names
-group-2-from-4-names = worst-names ++ group-2-from-5-names
+abbrev pub group-1-from-2-names : List Names
+group-1-from-2-names = sent_at-names ++ group-1-from-3-names
 
-abbrev pub group-2-from-4-says : Members → group-2-from-4-Value → Type 0
-group-2-from-4-says = BothSay worst-says group-2-from-5-says
+abbrev pub group-1-from-2-says : Members → group-1-from-2-Value → Type 0
+group-1-from-2-says = BothSay sent_at-says group-1-from-3-says
 
-abbrev pub group-2-from-4-trees : group-2-from-4-Value → Members → Type 0
-group-2-from-4-trees = BothTrees worst-trees group-2-from-5-trees
+abbrev pub group-1-from-2-trees : group-1-from-2-Value → Members → Type 0
+group-1-from-2-trees = BothTrees sent_at-trees group-1-from-3-trees
 
-abbrev pub group-2-from-4-range : group-2-from-4-Value → Type 0
-group-2-from-4-range = AreBoth worst-range group-2-from-5-range
+abbrev pub group-1-from-2-range : group-1-from-2-Value → Type 0
+group-1-from-2-range = AreBoth sent_at-range group-1-from-3-range
 
-abbrev pub group-2-from-4-absent : group-2-from-4-Value
-group-2-from-4-absent = (worst-absent, group-2-from-5-absent)
+abbrev pub group-1-from-2-absent : group-1-from-2-Value
+group-1-from-2-absent = (sent_at-absent, group-1-from-3-absent)
 
-abbrev pub group-2-from-4-seen : Report → group-2-from-4-Value
-group-2-from-4-seen m = (worst-seen m, group-2-from-5-seen m)
+abbrev pub group-1-from-2-seen : Report → group-1-from-2-Value
+group-1-from-2-seen m = (sent_at-seen m, group-1-from-3-seen m)
 
-pub group-2-from-4-unsaid : group-2-from-4-says no_member group-2-from-4-absent
-group-2-from-4-unsaid = (worst-unsaid, group-2-from-5-unsaid)
+pub group-1-from-2-unsaid : group-1-from-2-says no_member group-1-from-2-absent
+group-1-from-2-unsaid = (sent_at-unsaid, group-1-from-3-unsaid)
 
-pub group-2-from-4-one : SayOne group-2-from-4-says
-group-2-from-4-one = one_both worst-says group-2-from-5-says worst-one group-2-from-5-one
+pub group-1-from-2-one : SayOne group-1-from-2-says
+group-1-from-2-one = one_both sent_at-says group-1-from-3-says sent_at-one group-1-from-3-one
 
-pub group-2-from-4-back
-    : PartComesBack group-2-from-4-names group-2-from-4-says group-2-from-4-trees group-2-from-4-range
-group-2-from-4-back =
-    both_back worst-names group-2-from-5-names worst-says group-2-from-5-says
-    worst-trees group-2-from-5-trees worst-range group-2-from-5-range
-    worst-back group-2-from-5-back
+pub group-1-from-2-back
+    : PartComesBack group-1-from-2-names group-1-from-2-says group-1-from-2-trees group-1-from-2-range
+group-1-from-2-back =
+    both_back sent_at-names group-1-from-3-names sent_at-says group-1-from-3-says
+    sent_at-trees group-1-from-3-trees sent_at-range group-1-from-3-range
+    sent_at-back group-1-from-3-back
+
+abbrev pub group-1-Value : Type 0
+group-1-Value = host-Value × group-1-from-2-Value
+
+abbrev pub group-1-names : List Names
+group-1-names = host-names ++ group-1-from-2-names
+
+abbrev pub group-1-says : Members → group-1-Value → Type 0
+group-1-says = BothSay host-says group-1-from-2-says
+
+abbrev pub group-1-trees : group-1-Value → Members → Type 0
+group-1-trees = BothTrees host-trees group-1-from-2-trees
+
+abbrev pub group-1-range : group-1-Value → Type 0
+group-1-range = AreBoth host-range group-1-from-2-range
+
+abbrev pub group-1-absent : group-1-Value
+group-1-absent = (host-absent, group-1-from-2-absent)
+
+abbrev pub group-1-seen : Report → group-1-Value
+group-1-seen m = (host-seen m, group-1-from-2-seen m)
+
+pub group-1-unsaid : group-1-says no_member group-1-absent
+group-1-unsaid = (host-unsaid, group-1-from-2-unsaid)
+
+pub group-1-one : SayOne group-1-says
+group-1-one = one_both host-says group-1-from-2-says host-one group-1-from-2-one
+
+pub group-1-back
+    : PartComesBack group-1-names group-1-says group-1-trees group-1-range
+group-1-back =
+    both_back host-names group-1-from-2-names host-says group-1-from-2-says
+    host-trees group-1-from-2-trees host-range group-1-from-2-range
+    host-back group-1-from-2-back
 
 abbrev pub group-2-from-3-Value : Type 0
-group-2-from-3-Value = signature-Value × group-2-from-4-Value
+group-2-from-3-Value = load-Value × offsets-Value
 
 abbrev pub group-2-from-3-names : List Names
-group-2-from-3-names = signature-names ++ group-2-from-4-names
+group-2-from-3-names = load-names ++ offsets-names
 
 abbrev pub group-2-from-3-says : Members → group-2-from-3-Value → Type 0
-group-2-from-3-says = BothSay signature-says group-2-from-4-says
+group-2-from-3-says = BothSay load-says offsets-says
 
 abbrev pub group-2-from-3-trees : group-2-from-3-Value → Members → Type 0
-group-2-from-3-trees = BothTrees signature-trees group-2-from-4-trees
+group-2-from-3-trees = BothTrees load-trees offsets-trees
 
 abbrev pub group-2-from-3-range : group-2-from-3-Value → Type 0
-group-2-from-3-range = AreBoth signature-range group-2-from-4-range
+group-2-from-3-range = AreBoth load-range offsets-range
 
 abbrev pub group-2-from-3-absent : group-2-from-3-Value
-group-2-from-3-absent = (signature-absent, group-2-from-4-absent)
+group-2-from-3-absent = (load-absent, offsets-absent)
 
 abbrev pub group-2-from-3-seen : Report → group-2-from-3-Value
-group-2-from-3-seen m = (signature-seen m, group-2-from-4-seen m)
+group-2-from-3-seen m = (load-seen m, offsets-seen m)
 
 pub group-2-from-3-unsaid : group-2-from-3-says no_member group-2-from-3-absent
-group-2-from-3-unsaid = (signature-unsaid, group-2-from-4-unsaid)
+group-2-from-3-unsaid = (load-unsaid, offsets-unsaid)
 
 pub group-2-from-3-one : SayOne group-2-from-3-says
-group-2-from-3-one = one_both signature-says group-2-from-4-says signature-one group-2-from-4-one
+group-2-from-3-one = one_both load-says offsets-says load-one offsets-one
 
 pub group-2-from-3-back
     : PartComesBack group-2-from-3-names group-2-from-3-says group-2-from-3-trees group-2-from-3-range
 group-2-from-3-back =
-    both_back signature-names group-2-from-4-names signature-says group-2-from-4-says
-    signature-trees group-2-from-4-trees signature-range group-2-from-4-range
-    signature-back group-2-from-4-back
+    both_back load-names offsets-names load-says offsets-says
+    load-trees offsets-trees load-range offsets-range
+    load-back offsets-back
 
 abbrev pub group-2-from-2-Value : Type 0
-group-2-from-2-Value = notes-Value × group-2-from-3-Value
+group-2-from-2-Value = last-Value × group-2-from-3-Value
 
 abbrev pub group-2-from-2-names : List Names
-group-2-from-2-names = notes-names ++ group-2-from-3-names
+group-2-from-2-names = last-names ++ group-2-from-3-names
 
 abbrev pub group-2-from-2-says : Members → group-2-from-2-Value → Type 0
-group-2-from-2-says = BothSay notes-says group-2-from-3-says
+group-2-from-2-says = BothSay last-says group-2-from-3-says
 
 abbrev pub group-2-from-2-trees : group-2-from-2-Value → Members → Type 0
-group-2-from-2-trees = BothTrees notes-trees group-2-from-3-trees
+group-2-from-2-trees = BothTrees last-trees group-2-from-3-trees
 
 abbrev pub group-2-from-2-range : group-2-from-2-Value → Type 0
-group-2-from-2-range = AreBoth notes-range group-2-from-3-range
+group-2-from-2-range = AreBoth last-range group-2-from-3-range
 
 abbrev pub group-2-from-2-absent : group-2-from-2-Value
-group-2-from-2-absent = (notes-absent, group-2-from-3-absent)
+group-2-from-2-absent = (last-absent, group-2-from-3-absent)
 
 abbrev pub group-2-from-2-seen : Report → group-2-from-2-Value
-group-2-from-2-seen m = (notes-seen m, group-2-from-3-seen m)
+group-2-from-2-seen m = (last-seen m, group-2-from-3-seen m)
 
 pub group-2-from-2-unsaid : group-2-from-2-says no_member group-2-from-2-absent
-group-2-from-2-unsaid = (notes-unsaid, group-2-from-3-unsaid)
+group-2-from-2-unsaid = (last-unsaid, group-2-from-3-unsaid)
 
 pub group-2-from-2-one : SayOne group-2-from-2-says
-group-2-from-2-one = one_both notes-says group-2-from-3-says notes-one group-2-from-3-one
+group-2-from-2-one = one_both last-says group-2-from-3-says last-one group-2-from-3-one
 
 pub group-2-from-2-back
     : PartComesBack group-2-from-2-names group-2-from-2-says group-2-from-2-trees group-2-from-2-range
 group-2-from-2-back =
-    both_back notes-names group-2-from-3-names notes-says group-2-from-3-says
-    notes-trees group-2-from-3-trees notes-range group-2-from-3-range
-    notes-back group-2-from-3-back
+    both_back last-names group-2-from-3-names last-says group-2-from-3-says
+    last-trees group-2-from-3-trees last-range group-2-from-3-range
+    last-back group-2-from-3-back
 
 abbrev pub group-2-Value : Type 0
-group-2-Value = ports-Value × group-2-from-2-Value
+group-2-Value = labels-Value × group-2-from-2-Value
 
 abbrev pub group-2-names : List Names
-group-2-names = ports-names ++ group-2-from-2-names
+group-2-names = labels-names ++ group-2-from-2-names
 
 abbrev pub group-2-says : Members → group-2-Value → Type 0
-group-2-says = BothSay ports-says group-2-from-2-says
+group-2-says = BothSay labels-says group-2-from-2-says
 
 abbrev pub group-2-trees : group-2-Value → Members → Type 0
-group-2-trees = BothTrees ports-trees group-2-from-2-trees
+group-2-trees = BothTrees labels-trees group-2-from-2-trees
 
 abbrev pub group-2-range : group-2-Value → Type 0
-group-2-range = AreBoth ports-range group-2-from-2-range
+group-2-range = AreBoth labels-range group-2-from-2-range
 
 abbrev pub group-2-absent : group-2-Value
-group-2-absent = (ports-absent, group-2-from-2-absent)
+group-2-absent = (labels-absent, group-2-from-2-absent)
 
 abbrev pub group-2-seen : Report → group-2-Value
-group-2-seen m = (ports-seen m, group-2-from-2-seen m)
+group-2-seen m = (labels-seen m, group-2-from-2-seen m)
 
 pub group-2-unsaid : group-2-says no_member group-2-absent
-group-2-unsaid = (ports-unsaid, group-2-from-2-unsaid)
+group-2-unsaid = (labels-unsaid, group-2-from-2-unsaid)
 
 pub group-2-one : SayOne group-2-says
-group-2-one = one_both ports-says group-2-from-2-says ports-one group-2-from-2-one
+group-2-one = one_both labels-says group-2-from-2-says labels-one group-2-from-2-one
 
 pub group-2-back
     : PartComesBack group-2-names group-2-says group-2-trees group-2-range
 group-2-back =
-    both_back ports-names group-2-from-2-names ports-says group-2-from-2-says
-    ports-trees group-2-from-2-trees ports-range group-2-from-2-range
-    ports-back group-2-from-2-back
+    both_back labels-names group-2-from-2-names labels-says group-2-from-2-says
+    labels-trees group-2-from-2-trees labels-range group-2-from-2-range
+    labels-back group-2-from-2-back
+
+abbrev pub group-3-from-3-Value : Type 0
+group-3-from-3-Value = signature-Value × worst-Value
+
+abbrev pub group-3-from-3-names : List Names
+group-3-from-3-names = signature-names ++ worst-names
+
+abbrev pub group-3-from-3-says : Members → group-3-from-3-Value → Type 0
+group-3-from-3-says = BothSay signature-says worst-says
+
+abbrev pub group-3-from-3-trees : group-3-from-3-Value → Members → Type 0
+group-3-from-3-trees = BothTrees signature-trees worst-trees
+
+abbrev pub group-3-from-3-range : group-3-from-3-Value → Type 0
+group-3-from-3-range = AreBoth signature-range worst-range
+
+abbrev pub group-3-from-3-absent : group-3-from-3-Value
+group-3-from-3-absent = (signature-absent, worst-absent)
+
+abbrev pub group-3-from-3-seen : Report → group-3-from-3-Value
+group-3-from-3-seen m = (signature-seen m, worst-seen m)
+
+pub group-3-from-3-unsaid : group-3-from-3-says no_member group-3-from-3-absent
+group-3-from-3-unsaid = (signature-unsaid, worst-unsaid)
+
+pub group-3-from-3-one : SayOne group-3-from-3-says
+group-3-from-3-one = one_both signature-says worst-says signature-one worst-one
+
+pub group-3-from-3-back
+    : PartComesBack group-3-from-3-names group-3-from-3-says group-3-from-3-trees group-3-from-3-range
+group-3-from-3-back =
+    both_back signature-names worst-names signature-says worst-says
+    signature-trees worst-trees signature-range worst-range
+    signature-back worst-back
+
+abbrev pub group-3-from-2-Value : Type 0
+group-3-from-2-Value = notes-Value × group-3-from-3-Value
+
+abbrev pub group-3-from-2-names : List Names
+group-3-from-2-names = notes-names ++ group-3-from-3-names
+
+abbrev pub group-3-from-2-says : Members → group-3-from-2-Value → Type 0
+group-3-from-2-says = BothSay notes-says group-3-from-3-says
+
+abbrev pub group-3-from-2-trees : group-3-from-2-Value → Members → Type 0
+group-3-from-2-trees = BothTrees notes-trees group-3-from-3-trees
+
+abbrev pub group-3-from-2-range : group-3-from-2-Value → Type 0
+group-3-from-2-range = AreBoth notes-range group-3-from-3-range
+
+abbrev pub group-3-from-2-absent : group-3-from-2-Value
+group-3-from-2-absent = (notes-absent, group-3-from-3-absent)
+
+abbrev pub group-3-from-2-seen : Report → group-3-from-2-Value
+group-3-from-2-seen m = (notes-seen m, group-3-from-3-seen m)
+
+pub group-3-from-2-unsaid : group-3-from-2-says no_member group-3-from-2-absent
+group-3-from-2-unsaid = (notes-unsaid, group-3-from-3-unsaid)
+
+pub group-3-from-2-one : SayOne group-3-from-2-says
+group-3-from-2-one = one_both notes-says group-3-from-3-says notes-one group-3-from-3-one
+
+pub group-3-from-2-back
+    : PartComesBack group-3-from-2-names group-3-from-2-says group-3-from-2-trees group-3-from-2-range
+group-3-from-2-back =
+    both_back notes-names group-3-from-3-names notes-says group-3-from-3-says
+    notes-trees group-3-from-3-trees notes-range group-3-from-3-range
+    notes-back group-3-from-3-back
+
+abbrev pub group-3-Value : Type 0
+group-3-Value = ports-Value × group-3-from-2-Value
+
+abbrev pub group-3-names : List Names
+group-3-names = ports-names ++ group-3-from-2-names
+
+abbrev pub group-3-says : Members → group-3-Value → Type 0
+group-3-says = BothSay ports-says group-3-from-2-says
+
+abbrev pub group-3-trees : group-3-Value → Members → Type 0
+group-3-trees = BothTrees ports-trees group-3-from-2-trees
+
+abbrev pub group-3-range : group-3-Value → Type 0
+group-3-range = AreBoth ports-range group-3-from-2-range
+
+abbrev pub group-3-absent : group-3-Value
+group-3-absent = (ports-absent, group-3-from-2-absent)
+
+abbrev pub group-3-seen : Report → group-3-Value
+group-3-seen m = (ports-seen m, group-3-from-2-seen m)
+
+pub group-3-unsaid : group-3-says no_member group-3-absent
+group-3-unsaid = (ports-unsaid, group-3-from-2-unsaid)
+
+pub group-3-one : SayOne group-3-says
+group-3-one = one_both ports-says group-3-from-2-says ports-one group-3-from-2-one
+
+pub group-3-back
+    : PartComesBack group-3-names group-3-says group-3-trees group-3-range
+group-3-back =
+    both_back ports-names group-3-from-2-names ports-says group-3-from-2-says
+    ports-trees group-3-from-2-trees ports-range group-3-from-2-range
+    ports-back group-3-from-2-back
+
+abbrev pub group-4-Value : Type 0
+group-4-Value = origin-Value × type_-Value
+
+abbrev pub group-4-names : List Names
+group-4-names = origin-names ++ type_-names
+
+abbrev pub group-4-says : Members → group-4-Value → Type 0
+group-4-says = BothSay origin-says type_-says
+
+abbrev pub group-4-trees : group-4-Value → Members → Type 0
+group-4-trees = BothTrees origin-trees type_-trees
+
+abbrev pub group-4-range : group-4-Value → Type 0
+group-4-range = AreBoth origin-range type_-range
+
+abbrev pub group-4-absent : group-4-Value
+group-4-absent = (origin-absent, type_-absent)
+
+abbrev pub group-4-seen : Report → group-4-Value
+group-4-seen m = (origin-seen m, type_-seen m)
+
+pub group-4-unsaid : group-4-says no_member group-4-absent
+group-4-unsaid = (origin-unsaid, type_-unsaid)
+
+pub group-4-one : SayOne group-4-says
+group-4-one = one_both origin-says type_-says origin-one type_-one
+
+pub group-4-back
+    : PartComesBack group-4-names group-4-says group-4-trees group-4-range
+group-4-back =
+    both_back origin-names type_-names origin-says type_-says
+    origin-trees type_-trees origin-range type_-range
+    origin-back type_-back
+
+abbrev pub all-fields-from-3-Value : Type 0
+all-fields-from-3-Value = group-3-Value × group-4-Value
+
+abbrev pub all-fields-from-3-names : List Names
+all-fields-from-3-names = group-3-names ++ group-4-names
+
+abbrev pub all-fields-from-3-says : Members → all-fields-from-3-Value → Type 0
+all-fields-from-3-says = BothSay group-3-says group-4-says
+
+abbrev pub all-fields-from-3-trees : all-fields-from-3-Value → Members → Type 0
+all-fields-from-3-trees = BothTrees group-3-trees group-4-trees
+
+abbrev pub all-fields-from-3-range : all-fields-from-3-Value → Type 0
+all-fields-from-3-range = AreBoth group-3-range group-4-range
+
+abbrev pub all-fields-from-3-absent : all-fields-from-3-Value
+all-fields-from-3-absent = (group-3-absent, group-4-absent)
+
+abbrev pub all-fields-from-3-seen : Report → all-fields-from-3-Value
+all-fields-from-3-seen m = (group-3-seen m, group-4-seen m)
+
+pub all-fields-from-3-unsaid : all-fields-from-3-says no_member all-fields-from-3-absent
+all-fields-from-3-unsaid = (group-3-unsaid, group-4-unsaid)
+
+pub all-fields-from-3-one : SayOne all-fields-from-3-says
+all-fields-from-3-one = one_both group-3-says group-4-says group-3-one group-4-one
+
+pub all-fields-from-3-back
+    : PartComesBack all-fields-from-3-names all-fields-from-3-says all-fields-from-3-trees all-fields-from-3-range
+all-fields-from-3-back =
+    both_back group-3-names group-4-names group-3-says group-4-says
+    group-3-trees group-4-trees group-3-range group-4-range
+    group-3-back group-4-back
+
+abbrev pub all-fields-from-2-Value : Type 0
+all-fields-from-2-Value = group-2-Value × all-fields-from-3-Value
+
+abbrev pub all-fields-from-2-names : List Names
+all-fields-from-2-names = group-2-names ++ all-fields-from-3-names
+
+abbrev pub all-fields-from-2-says : Members → all-fields-from-2-Value → Type 0
+all-fields-from-2-says = BothSay group-2-says all-fields-from-3-says
+
+abbrev pub all-fields-from-2-trees : all-fields-from-2-Value → Members → Type 0
+all-fields-from-2-trees = BothTrees group-2-trees all-fields-from-3-trees
+
+abbrev pub all-fields-from-2-range : all-fields-from-2-Value → Type 0
+all-fields-from-2-range = AreBoth group-2-range all-fields-from-3-range
+
+abbrev pub all-fields-from-2-absent : all-fields-from-2-Value
+all-fields-from-2-absent = (group-2-absent, all-fields-from-3-absent)
+
+abbrev pub all-fields-from-2-seen : Report → all-fields-from-2-Value
+all-fields-from-2-seen m = (group-2-seen m, all-fields-from-3-seen m)
+
+pub all-fields-from-2-unsaid : all-fields-from-2-says no_member all-fields-from-2-absent
+all-fields-from-2-unsaid = (group-2-unsaid, all-fields-from-3-unsaid)
+
+pub all-fields-from-2-one : SayOne all-fields-from-2-says
+all-fields-from-2-one = one_both group-2-says all-fields-from-3-says group-2-one all-fields-from-3-one
+
+pub all-fields-from-2-back
+    : PartComesBack all-fields-from-2-names all-fields-from-2-says all-fields-from-2-trees all-fields-from-2-range
+all-fields-from-2-back =
+    both_back group-2-names all-fields-from-3-names group-2-says all-fields-from-3-says
+    group-2-trees all-fields-from-3-trees group-2-range all-fields-from-3-range
+    group-2-back all-fields-from-3-back
 
 abbrev pub all-fields-Value : Type 0
-all-fields-Value = group-1-Value × group-2-Value
+all-fields-Value = group-1-Value × all-fields-from-2-Value
 
 abbrev pub all-fields-names : List Names
-all-fields-names = group-1-names ++ group-2-names
+all-fields-names = group-1-names ++ all-fields-from-2-names
 
 abbrev pub all-fields-says : Members → all-fields-Value → Type 0
-all-fields-says = BothSay group-1-says group-2-says
+all-fields-says = BothSay group-1-says all-fields-from-2-says
 
 abbrev pub all-fields-trees : all-fields-Value → Members → Type 0
-all-fields-trees = BothTrees group-1-trees group-2-trees
+all-fields-trees = BothTrees group-1-trees all-fields-from-2-trees
 
 abbrev pub all-fields-range : all-fields-Value → Type 0
-all-fields-range = AreBoth group-1-range group-2-range
+all-fields-range = AreBoth group-1-range all-fields-from-2-range
 
 abbrev pub all-fields-absent : all-fields-Value
-all-fields-absent = (group-1-absent, group-2-absent)
+all-fields-absent = (group-1-absent, all-fields-from-2-absent)
 
 abbrev pub all-fields-seen : Report → all-fields-Value
-all-fields-seen m = (group-1-seen m, group-2-seen m)
+all-fields-seen m = (group-1-seen m, all-fields-from-2-seen m)
 
 pub all-fields-unsaid : all-fields-says no_member all-fields-absent
-all-fields-unsaid = (group-1-unsaid, group-2-unsaid)
+all-fields-unsaid = (group-1-unsaid, all-fields-from-2-unsaid)
 
 pub all-fields-one : SayOne all-fields-says
-all-fields-one = one_both group-1-says group-2-says group-1-one group-2-one
+all-fields-one = one_both group-1-says all-fields-from-2-says group-1-one all-fields-from-2-one
 
 pub all-fields-back
     : PartComesBack all-fields-names all-fields-says all-fields-trees all-fields-range
 all-fields-back =
-    both_back group-1-names group-2-names group-1-says group-2-says
-    group-1-trees group-2-trees group-1-range group-2-range
-    group-1-back group-2-back
+    both_back group-1-names all-fields-from-2-names group-1-says all-fields-from-2-says
+    group-1-trees all-fields-from-2-trees group-1-range all-fields-from-2-range
+    group-1-back all-fields-from-2-back
 
 abbrev pub Report-Json : Type 0
 Report-Json = all-fields-Value

@@ -7,6 +7,7 @@ use Rattle.std.specs.declared.alloc.Global.{Global}
 use Rattle.wire_json.specs.Json.{Members, no_member, string}
 use Rattle.wire_jsonfields.specs.Choices.{either_seen, either_unsaid, either_value}
 use Rattle.wire_jsonfields.specs.Fields.{FieldMeans, MeansSome, unsaid}
+use Rattle.wire_jsonfields.specs.Messages.{IsObjectTree, ObjectMeans}
 use Rattle.wire_jsonfields.specs.Names.{Names}
 use Rattle.wire_jsonfields.specs.Objects.{IsNameOf}
 use Rattle.wire_jsonfields.specs.OneValues.{SayOne, one_field, one_object, one_some}

@@ -18,7 +18,11 @@ use wire_report::{Report, ReportLevel, ReportSample};
 /// `report.Report` by the JSON mapping.
 pub struct ReportJson;
 
-pub type Parts = Both<OfGroup1, OfGroup2>;
+pub type Parts = Both<OfGroup1, PartsFrom2>;
+
+pub type PartsFrom2 = Both<OfGroup2, PartsFrom3>;
+
+pub type PartsFrom3 = Both<OfGroup3, OfGroup4>;
 
 pub type Group1 = Both<OfHost, Group1From2>;
 
@@ -28,45 +32,37 @@ pub type Group1From2 = Both<OfSentAt, Group1From3>;
 
 pub type HeldGroup1From2 = (u64, HeldGroup1From3);
 
-pub type Group1From3 = Both<OfLevel, Group1From4>;
+pub type Group1From3 = Both<OfLevel, OfSamples>;
 
-pub type HeldGroup1From3 = (EnumValue<ReportLevel>, HeldGroup1From4);
+pub type HeldGroup1From3 = (EnumValue<ReportLevel>, Vec<ReportSample>);
 
-pub type Group1From4 = Both<OfSamples, Group1From5>;
+pub type Group2 = Both<OfLabels, Group2From2>;
 
-pub type HeldGroup1From4 = (Vec<ReportSample>, HeldGroup1From5);
+pub type HeldGroup2 = (BTreeMap<String, String>, HeldGroup2From2);
 
-pub type Group1From5 = Both<OfLabels, Group1From6>;
+pub type Group2From2 = Both<OfLast, Group2From3>;
 
-pub type HeldGroup1From5 = (BTreeMap<String, String>, HeldGroup1From6);
+pub type HeldGroup2From2 = (BTreeMap<i32, ReportSample>, HeldGroup2From3);
 
-pub type Group1From6 = Both<OfLast, Group1From7>;
+pub type Group2From3 = Both<OfLoad, OfOffsets>;
 
-pub type HeldGroup1From6 = (BTreeMap<i32, ReportSample>, HeldGroup1From7);
+pub type HeldGroup2From3 = (Option<DoubleBits>, Vec<i32>);
 
-pub type Group1From7 = Both<OfLoad, OfOffsets>;
+pub type Group3 = Both<OfPorts, Group3From2>;
 
-pub type HeldGroup1From7 = (Option<DoubleBits>, Vec<i32>);
+pub type HeldGroup3 = (Vec<u32>, HeldGroup3From2);
 
-pub type Group2 = Both<OfPorts, Group2From2>;
+pub type Group3From2 = Both<OfNotes, Group3From3>;
 
-pub type HeldGroup2 = (Vec<u32>, HeldGroup2From2);
+pub type HeldGroup3From2 = (Vec<String>, HeldGroup3From3);
 
-pub type Group2From2 = Both<OfNotes, Group2From3>;
+pub type Group3From3 = Both<OfSignature, OfWorst>;
 
-pub type HeldGroup2From2 = (Vec<String>, HeldGroup2From3);
+pub type HeldGroup3From3 = (Vec<u8>, Option<Box<ReportSample>>);
 
-pub type Group2From3 = Both<OfSignature, Group2From4>;
+pub type Group4 = Both<OfOrigin, OfType_>;
 
-pub type HeldGroup2From3 = (Vec<u8>, HeldGroup2From4);
-
-pub type Group2From4 = Both<OfWorst, Group2From5>;
-
-pub type HeldGroup2From4 = (Option<Box<ReportSample>>, HeldGroup2From5);
-
-pub type Group2From5 = Both<OfOrigin, OfType_>;
-
-pub type HeldGroup2From5 = (Option<HeldReportOriginJson>, bool);
+pub type HeldGroup4 = (Option<HeldReportOriginJson>, bool);
 
 const HOST: FieldName = FieldName {
     name: "host",
@@ -607,69 +603,6 @@ impl JsonPart for OfOffsets {
     }
 }
 
-pub struct OfGroup1;
-
-impl JsonPart for OfGroup1 {
-    ghost use Rattle.std.specs.Float.{binary64};
-    ghost use Rattle.std.specs.Prelude.{from_bits, map, option_map, string_bytes};
-    ghost use Rattle.wire_codec.specs.Enumeration.{number_of};
-    ghost use Rattle.wire_jsonfields.specs.Maps.{entries_seen};
-    ghost use Rattle.wire_report.specs.ReportLevel.{report_level-number};
-    ghost use Rattle.wire_report_json.specs.ReportJson.{group-1-Value, group-1-absent};
-    ghost use Rattle.wire_report_json.specs.ReportJson.{group-1-back, group-1-names, group-1-one};
-    ghost use Rattle.wire_report_json.specs.ReportJson.{group-1-range, group-1-says, group-1-seen};
-    ghost use Rattle.wire_report_json.specs.ReportJson.{group-1-trees, group-1-unsaid};
-    ghost use Rattle.wire_report_json.specs.ReportSampleJson.{report_sample-json};
-
-    type Message = Report;
-
-    type Held = HeldGroup1;
-
-    ghost Value = { group-1-Value };
-
-    ghost view = { λ h. (string_bytes h.0, (h.1.0, (number_of report_level-number h.1.1.0, (map report_sample-json h.1.1.1.0.items, (entries_seen (λ k. string_bytes k) (λ s. string_bytes s) h.1.1.1.1.0.entries, (entries_seen (λ k. k) report_sample-json h.1.1.1.1.1.0.entries, (option_map (λ v. from_bits binary64 v.bits) h.1.1.1.1.1.1.0, map (λ v. v) h.1.1.1.1.1.1.1.items))))))) };
-
-    ghost seen = { group-1-seen };
-
-    ghost names = { group-1-names };
-
-    ghost says = { group-1-says };
-
-    ghost trees = { group-1-trees };
-
-    ghost default = { group-1-absent };
-
-    ghost unsaid = { group-1-unsaid };
-
-    ghost one_value = { group-1-one };
-
-    ghost in_range = { group-1-range };
-
-    ghost back = { group-1-back };
-
-    fn is_named(name: &str) -> bool {
-        Group1::is_named(name)
-    }
-
-    fn read(
-        alloc: Global,
-        text: &[u8],
-        members: &[PlacedMember<'_>],
-        levels: u32,
-    ) -> Result<HeldGroup1, ReadError> {
-        Group1::read(alloc, text, members, levels)
-    }
-
-    fn write(
-        alloc: Global,
-        out: &mut Vec<u8>,
-        first: bool,
-        message: &Report,
-    ) -> Result<bool, AllocError> {
-        Group1::write(alloc, out, first, message)
-    }
-}
-
 pub struct OfPorts;
 
 impl JsonPart for OfPorts {
@@ -1019,15 +952,77 @@ impl JsonPart for OfType_ {
     }
 }
 
+pub struct OfGroup1;
+
+impl JsonPart for OfGroup1 {
+    ghost use Rattle.std.specs.Prelude.{map, string_bytes};
+    ghost use Rattle.wire_codec.specs.Enumeration.{number_of};
+    ghost use Rattle.wire_report.specs.ReportLevel.{report_level-number};
+    ghost use Rattle.wire_report_json.specs.ReportJson.{group-1-Value, group-1-absent};
+    ghost use Rattle.wire_report_json.specs.ReportJson.{group-1-back, group-1-names, group-1-one};
+    ghost use Rattle.wire_report_json.specs.ReportJson.{group-1-range, group-1-says, group-1-seen};
+    ghost use Rattle.wire_report_json.specs.ReportJson.{group-1-trees, group-1-unsaid};
+    ghost use Rattle.wire_report_json.specs.ReportSampleJson.{report_sample-json};
+
+    type Message = Report;
+
+    type Held = HeldGroup1;
+
+    ghost Value = { group-1-Value };
+
+    ghost view = { λ h. (string_bytes h.0, (h.1.0, (number_of report_level-number h.1.1.0, map report_sample-json h.1.1.1.items))) };
+
+    ghost seen = { group-1-seen };
+
+    ghost names = { group-1-names };
+
+    ghost says = { group-1-says };
+
+    ghost trees = { group-1-trees };
+
+    ghost default = { group-1-absent };
+
+    ghost unsaid = { group-1-unsaid };
+
+    ghost one_value = { group-1-one };
+
+    ghost in_range = { group-1-range };
+
+    ghost back = { group-1-back };
+
+    fn is_named(name: &str) -> bool {
+        Group1::is_named(name)
+    }
+
+    fn read(
+        alloc: Global,
+        text: &[u8],
+        members: &[PlacedMember<'_>],
+        levels: u32,
+    ) -> Result<HeldGroup1, ReadError> {
+        Group1::read(alloc, text, members, levels)
+    }
+
+    fn write(
+        alloc: Global,
+        out: &mut Vec<u8>,
+        first: bool,
+        message: &Report,
+    ) -> Result<bool, AllocError> {
+        Group1::write(alloc, out, first, message)
+    }
+}
+
 pub struct OfGroup2;
 
 impl JsonPart for OfGroup2 {
-    ghost use Rattle.std.specs.Prelude.{box_value, map, option_map, string_bytes};
+    ghost use Rattle.std.specs.Float.{binary64};
+    ghost use Rattle.std.specs.Prelude.{from_bits, map, option_map, string_bytes};
+    ghost use Rattle.wire_jsonfields.specs.Maps.{entries_seen};
     ghost use Rattle.wire_report_json.specs.ReportJson.{group-2-Value, group-2-absent};
     ghost use Rattle.wire_report_json.specs.ReportJson.{group-2-back, group-2-names, group-2-one};
     ghost use Rattle.wire_report_json.specs.ReportJson.{group-2-range, group-2-says, group-2-seen};
     ghost use Rattle.wire_report_json.specs.ReportJson.{group-2-trees, group-2-unsaid};
-    ghost use Rattle.wire_report_json.specs.ReportOriginJson.{origin-chosen-view};
     ghost use Rattle.wire_report_json.specs.ReportSampleJson.{report_sample-json};
 
     type Message = Report;
@@ -1036,7 +1031,7 @@ impl JsonPart for OfGroup2 {
 
     ghost Value = { group-2-Value };
 
-    ghost view = { λ h. (map (λ v. v) h.0.items, (map (λ s. string_bytes s) h.1.0.items, (h.1.1.0.items, (option_map (λ v. report_sample-json (box_value v)) h.1.1.1.0, (option_map origin-chosen-view h.1.1.1.1.0, h.1.1.1.1.1))))) };
+    ghost view = { λ h. (entries_seen (λ k. string_bytes k) (λ s. string_bytes s) h.0.entries, (entries_seen (λ k. k) report_sample-json h.1.0.entries, (option_map (λ v. from_bits binary64 v.bits) h.1.1.0, map (λ v. v) h.1.1.1.items))) };
 
     ghost seen = { group-2-seen };
 
@@ -1079,6 +1074,124 @@ impl JsonPart for OfGroup2 {
     }
 }
 
+pub struct OfGroup3;
+
+impl JsonPart for OfGroup3 {
+    ghost use Rattle.std.specs.Prelude.{box_value, map, option_map, string_bytes};
+    ghost use Rattle.wire_report_json.specs.ReportJson.{group-3-Value, group-3-absent};
+    ghost use Rattle.wire_report_json.specs.ReportJson.{group-3-back, group-3-names, group-3-one};
+    ghost use Rattle.wire_report_json.specs.ReportJson.{group-3-range, group-3-says, group-3-seen};
+    ghost use Rattle.wire_report_json.specs.ReportJson.{group-3-trees, group-3-unsaid};
+    ghost use Rattle.wire_report_json.specs.ReportSampleJson.{report_sample-json};
+
+    type Message = Report;
+
+    type Held = HeldGroup3;
+
+    ghost Value = { group-3-Value };
+
+    ghost view = { λ h. (map (λ v. v) h.0.items, (map (λ s. string_bytes s) h.1.0.items, (h.1.1.0.items, option_map (λ v. report_sample-json (box_value v)) h.1.1.1))) };
+
+    ghost seen = { group-3-seen };
+
+    ghost names = { group-3-names };
+
+    ghost says = { group-3-says };
+
+    ghost trees = { group-3-trees };
+
+    ghost default = { group-3-absent };
+
+    ghost unsaid = { group-3-unsaid };
+
+    ghost one_value = { group-3-one };
+
+    ghost in_range = { group-3-range };
+
+    ghost back = { group-3-back };
+
+    fn is_named(name: &str) -> bool {
+        Group3::is_named(name)
+    }
+
+    fn read(
+        alloc: Global,
+        text: &[u8],
+        members: &[PlacedMember<'_>],
+        levels: u32,
+    ) -> Result<HeldGroup3, ReadError> {
+        Group3::read(alloc, text, members, levels)
+    }
+
+    fn write(
+        alloc: Global,
+        out: &mut Vec<u8>,
+        first: bool,
+        message: &Report,
+    ) -> Result<bool, AllocError> {
+        Group3::write(alloc, out, first, message)
+    }
+}
+
+pub struct OfGroup4;
+
+impl JsonPart for OfGroup4 {
+    ghost use Rattle.std.specs.Prelude.{option_map};
+    ghost use Rattle.wire_report_json.specs.ReportJson.{group-4-Value, group-4-absent};
+    ghost use Rattle.wire_report_json.specs.ReportJson.{group-4-back, group-4-names, group-4-one};
+    ghost use Rattle.wire_report_json.specs.ReportJson.{group-4-range, group-4-says, group-4-seen};
+    ghost use Rattle.wire_report_json.specs.ReportJson.{group-4-trees, group-4-unsaid};
+    ghost use Rattle.wire_report_json.specs.ReportOriginJson.{origin-chosen-view};
+
+    type Message = Report;
+
+    type Held = HeldGroup4;
+
+    ghost Value = { group-4-Value };
+
+    ghost view = { λ h. (option_map origin-chosen-view h.0, h.1) };
+
+    ghost seen = { group-4-seen };
+
+    ghost names = { group-4-names };
+
+    ghost says = { group-4-says };
+
+    ghost trees = { group-4-trees };
+
+    ghost default = { group-4-absent };
+
+    ghost unsaid = { group-4-unsaid };
+
+    ghost one_value = { group-4-one };
+
+    ghost in_range = { group-4-range };
+
+    ghost back = { group-4-back };
+
+    fn is_named(name: &str) -> bool {
+        Group4::is_named(name)
+    }
+
+    fn read(
+        alloc: Global,
+        text: &[u8],
+        members: &[PlacedMember<'_>],
+        levels: u32,
+    ) -> Result<HeldGroup4, ReadError> {
+        Group4::read(alloc, text, members, levels)
+    }
+
+    fn write(
+        alloc: Global,
+        out: &mut Vec<u8>,
+        first: bool,
+        message: &Report,
+    ) -> Result<bool, AllocError> {
+        Group4::write(alloc, out, first, message)
+    }
+}
+
 impl JsonValue for ReportJson {
     ghost use Rattle.wire_jsonfields.specs.Messages.{IsObjectTree, ObjectMeans};
     ghost use Rattle.wire_jsonfields.specs.OneValues.{one_object};
@@ -1112,26 +1225,28 @@ impl JsonValue for ReportJson {
         levels: u32,
     ) -> Result<(Report, usize), ReadError> {
         let (parts, after) = read_parts::<Parts>(alloc, text, at, levels)?;
-        let (group, parts) = parts;
-        let (read_host, group) = group;
-        let (read_sent_at, group) = group;
-        let (read_level, group) = group;
-        let (read_samples, group) = group;
-        let (read_labels, group) = group;
-        let (read_last, group) = group;
-        let (read_load, group) = group;
-        let read_offsets = group;
-        let group = parts;
-        let (read_ports, group) = group;
-        let (read_notes, group) = group;
-        let (read_signature, group) = group;
-        let (read_worst, group) = group;
-        let (read_origin, group) = group;
-        let read_type_ = group;
+        let (group_1, parts) = parts;
+        let (read_host, group_1) = group_1;
+        let (read_sent_at, group_1) = group_1;
+        let (read_level, group_1) = group_1;
+        let read_samples = group_1;
+        let (group_2, parts) = parts;
+        let (read_labels, group_2) = group_2;
+        let (read_last, group_2) = group_2;
+        let (read_load, group_2) = group_2;
+        let read_offsets = group_2;
+        let (group_3, parts) = parts;
+        let (read_ports, group_3) = group_3;
+        let (read_notes, group_3) = group_3;
+        let (read_signature, group_3) = group_3;
+        let read_worst = group_3;
+        let group_4 = parts;
+        let (read_origin, group_4) = group_4;
         let read_origin = match read_origin {
             None => None,
             Some(chosen) => Some(report_origin_of(chosen)),
         };
+        let read_type_ = group_4;
         Ok((
             Report {
                 host: read_host,
