@@ -207,7 +207,8 @@ fn put_root(
     lines: &'static [Template],
 ) -> Result<(), GenerateError> {
     json.copy(page, &["name", "module"]);
-    let key = order_key(page.alloc(), page.get("module"))?;
+    json.fill("key", "$module$_json");
+    let key = order_key(page.alloc(), json.get("key"))?;
     json.set("key", &key);
     json.append_all(lines);
     Ok(())
