@@ -108,7 +108,7 @@ CHOICES = [
       "- `B`: `x` is of a closed enum; enums=open takes its numbers as they are\n",
       "- `C`: it has no fields\n", "- `D`: `x` is a message that has no JSON\n",
       "- `F`: `x` is of a name in JSON that is empty, or has other signs than those of ASCII\n",
-      "- `G`: `y` is a oneof of more than 10 fields\n",
+      "- `G`: `y` is a oneof of more than 6 fields\n",
       '    name: "a_b",\n    json_name: "c",\n', "pub use h_json::HJson;\n"]),
     ("proto2", "enum E { Z = 0; } message A { optional int32 x = 1; optional int32 has_x = 2; } "
      "message B { optional E x = 1; } message C { oneof y { E z = 1; } } message D {} "
