@@ -2,7 +2,8 @@
 use crate::oneofs::described;
 use wire_schema::{Field, MessageType, Schema, Words};
 
-// The most fields of a message, and of a oneof, of which it was seen that they are proved.
+// The most fields of a message, as of one whose fields stand in no groups; and those of a oneof, of
+// which it was seen that they are proved.
 const MOST_FIELDS: usize = 80;
 
 const MOST_MEMBERS: usize = 6;
