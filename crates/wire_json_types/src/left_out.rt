@@ -1,5 +1,5 @@
 //! Which messages have no JSON, and why.
-use crate::oneofs::described;
+use crate::members::described;
 use wire_schema::{Field, MessageType, Schema, Words};
 
 // The most fields of a message, as of one whose fields stand in no groups; and those of a oneof, of

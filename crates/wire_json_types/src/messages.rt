@@ -1,5 +1,6 @@
 //! The code and the definitions of a message type in JSON.
-use crate::oneofs::{described, put_oneof};
+use crate::members::described;
+use crate::oneof_part::put_oneof;
 use crate::parts::{PART_CODE, PART_GHOSTS, PartTexts, put_field, put_part};
 use crate::tables::{BOTH, GROUPED, Part, put_at, put_table, set_taken, set_view};
 use wire_definitions::{code_imports, definition_imports, ghost_imports, set_heading};

@@ -1,0 +1,229 @@
+//! The members of oneofs, as choices of these.
+use crate::items::set_item;
+use crate::kinds::set_element;
+use crate::parts::{FIELD_NAME, PartTexts, READ_ARGUMENTS, put_part, set_call, set_names};
+use crate::tables::Part;
+use wire_descriptor::{DescriptorProto, FieldDescriptorProto};
+use wire_schema::{GenerateError, Oneof, Words};
+
+// A member of a oneof.
+const DEFINITIONS: &str = "\n\
+abbrev pub $part$-Value : Type 0
+$part$-Value = $json_value$
+
+abbrev pub $part$-Held : Type 0
+$part$-Held = $json_held$
+
+abbrev pub $part$-view : $part$-Held → $part$-Value
+$part$-view h = $json_before$h$json_behind$
+
+abbrev pub $part$-names : List Names
+$part$-names = $names$ ∷ []
+
+abbrev pub $part$-says : Members → Option $part$-Value → Type 0
+$part$-says =
+    FieldMeans None (MeansSome $json_means$)
+    $named$
+
+abbrev pub $part$-trees : $part$-Value → Members → Type 0
+$part$-trees = IsMemberTree $json_tree$ $json_name$
+
+abbrev pub $part$-range : $part$-Value → Type 0
+$part$-range = $json_range$
+
+abbrev pub $part$-of : $name$ → Option $part$-Held
+$of_variants$
+abbrev pub $part$-seen : $name$ → Option $part$-Value
+$part$-seen o = option_map $part$-view ($part$-of o)
+
+pub $part$-unsaid : $part$-says no_member None
+$part$-unsaid =
+    unsaid None (MeansSome $json_means$)
+    $named$
+
+pub $part$-one : SayOne $part$-says
+$part$-one =
+    one_field None (MeansSome $json_means$)
+    (one_some $json_means$ $json_one$)
+    $named$
+
+pub $part$-back
+    : ChoiceComesBack $part$-names $part$-says $part$-trees $part$-range
+$part$-back =
+    variant_back $json_means$
+    $json_tree$
+    $two_names$
+    $json_range$ $json_back$
+";
+
+const USES: &str = "\
+Rattle.std.specs.Prelude []
+Rattle.std.specs.Prelude codes
+Rattle.std.specs.Prelude List
+Rattle.std.specs.Prelude None
+Rattle.std.specs.Prelude Option
+Rattle.std.specs.Prelude Some
+Rattle.std.specs.Prelude option_map
+Rattle.std.specs.Prelude ◌∷◌
+Rattle.wire_json.specs.Json Members
+Rattle.wire_json.specs.Json no_member
+Rattle.wire_jsonfields.specs.Fields FieldMeans
+Rattle.wire_jsonfields.specs.Fields MeansSome
+Rattle.wire_jsonfields.specs.Fields unsaid
+Rattle.wire_jsonfields.specs.Names Names
+Rattle.wire_jsonfields.specs.Objects IsNameOf
+Rattle.wire_jsonfields.specs.Oneofs IsMemberTree
+Rattle.wire_jsonfields.specs.OneValues SayOne
+Rattle.wire_jsonfields.specs.OneValues one_field
+Rattle.wire_jsonfields.specs.OneValues one_some
+Rattle.wire_jsonfields.specs.Parts ChoiceComesBack
+Rattle.wire_jsonfields.specs.Parts variant_back
+$json_uses$$json_seen_uses$$json_held_uses$";
+
+const GHOSTS: &str = "\
+$json_page$ $part$-Value
+$json_page$ $part$-back
+$json_page$ $part$-names
+$json_page$ $part$-one
+$json_page$ $part$-range
+$json_page$ $part$-says
+$json_page$ $part$-seen
+$json_page$ $part$-trees
+$json_page$ $part$-unsaid
+$json_page$ $part$-view
+";
+
+const CHOICE: &str = "\
+pub struct $part_type$;
+
+impl JsonChoice for $part_type$ {
+$ghost_imports$
+    type Oneof = $name$;
+
+    type Held = $held$;
+
+    ghost Value = { $part$-Value };
+
+    ghost view = { $part$-view };
+
+    ghost seen = { $part$-seen };
+
+    ghost names = { $part$-names };
+
+    ghost says = { $part$-says };
+
+    ghost trees = { $part$-trees };
+
+    ghost unsaid = { $part$-unsaid };
+
+    ghost one_value = { $part$-one };
+
+    ghost in_range = { $part$-range };
+
+    ghost back = { $part$-back };
+
+    fn is_named(name: &str) -> bool {
+        name == $constant$.name || name == $constant$.json_name
+    }
+
+    fn read(
+        alloc: Global,
+        text: &[u8],
+        members: &[PlacedMember<'_>],
+        levels: u32,
+    ) -> Result<Option<$held$>, ReadError> {
+        $read$
+    }
+
+    fn is_chosen(oneof: &$name$) -> bool {
+        $field$_of(oneof).is_some()
+    }
+
+    fn write(
+        alloc: Global,
+        out: &mut Vec<u8>,
+        first: bool,
+        oneof: &$name$,
+    ) -> Result<bool, AllocError> {
+        $write$
+    }
+}
+
+fn $field$_of(oneof: &$name$) -> Option<&$held$>
+    ensures { option_map (λ h. h.now) result ≡ $part$-of oneof.now }
+{
+    match oneof {
+        $name$::$variant$(value) => Some(value),
+$other$    }
+}
+
+";
+
+const CHOICE_USES: &str = "\
+std::alloc AllocError
+std::alloc Global
+wire_jsonfields FieldName
+wire_jsonfields JsonChoice
+wire_jsonfields Maybe
+wire_jsonfields PlacedMember
+wire_jsonfields read_field
+wire_jsonfields write_chosen
+wire_protojson ReadError
+$crate$ $name$
+$json_code$$json_held_code$";
+
+const MEMBER: PartTexts = PartTexts {
+    names: FIELD_NAME,
+    code: CHOICE,
+    code_uses: CHOICE_USES,
+    ghosts: GHOSTS,
+    definitions: DEFINITIONS,
+    uses: USES,
+};
+
+/// What the descriptor says of a field of these words.
+pub(crate) fn described<'a>(
+    descriptor: &'a DescriptorProto,
+    words: &Words,
+) -> Option<&'a FieldDescriptorProto> {
+    let name = words.get("proto");
+    descriptor.field.iter().find(|it| it.name.as_str() == name)
+}
+
+/// Puts a member of a oneof, of this descriptor, to the page of the oneof.
+pub(crate) fn put_member(
+    page: &mut Words,
+    descriptor: &FieldDescriptorProto,
+    variant: &Words,
+    oneof: &Oneof,
+) -> Result<Part, GenerateError> {
+    let mut words = Words::like(variant);
+    words.copy(page, &["json_page", "crate", "name"]);
+    set_names(descriptor, &mut words)?;
+    set_item(descriptor, &mut words);
+    set_element(descriptor, &mut words);
+    words.fill_all(&[("other", ""), ("of_variants", ""), ("part_held", "$held$")]);
+    for other in &oneof.variants {
+        let is_this = other.get("variant") == words.get("variant");
+        words.set("of_variant", other.get("variant"));
+        words.append("of_variants", if is_this { OF_THIS } else { OF_OTHER });
+        if !is_this {
+            words.fill("other", "        _ => None,\n");
+        }
+    }
+    words.fill("part_seen_uses", "");
+    words.fill("call", "read_field::<Maybe<$element$>>");
+    set_call("read", READ_ARGUMENTS, &mut words);
+    words.fill("call", "write_chosen::<$element$>");
+    set_call("write", WRITE_ARGUMENTS, &mut words);
+    words.fill("of_ghost", "$json_page$ $part$-of\n");
+    page.copy(&words, &["json_held_code", "of_ghost"]);
+    page.append("of_ghosts", "$of_ghost$");
+    put_part(page, &mut words, &MEMBER)
+}
+
+const WRITE_ARGUMENTS: &str = "alloc, out, first, &$constant$, $field$_of(oneof)";
+
+const OF_THIS: &str = "$part$-of (variants.$of_variant$ held) = Some held\n";
+
+const OF_OTHER: &str = "$part$-of (variants.$of_variant$ held) = None\n";
