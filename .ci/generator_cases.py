@@ -101,14 +101,12 @@ DEEP = [
 CHOICES = [
     ("proto2", "enum E { Z = 0; } message A { optional A x = 1; } message B { optional E x = 1; } "
      "message C {} message D { optional C x = 1; } "
-     'message F { optional int32 x = 1 [json_name = "\\""]; } message G { oneof y { '
-     + " ".join(f"int32 x{it} = {it};" for it in range(1, 12)) + " } } "
+     'message F { optional int32 x = 1 [json_name = "\\""]; }'
      'message H { optional int32 a_b = 1 [json_name = "c"]; }', ",json=true",
      ["- `A`: it holds itself, or others that hold it\n",
       "- `B`: `x` is of a closed enum; enums=open takes its numbers as they are\n",
       "- `C`: it has no fields\n", "- `D`: `x` is a message that has no JSON\n",
       "- `F`: `x` is of a name in JSON that is empty, or has other signs than those of ASCII\n",
-      "- `G`: `y` is a oneof of more than 6 fields\n",
       '    name: "a_b",\n    json_name: "c",\n', "pub use h_json::HJson;\n"]),
     ("proto2", "enum E { Z = 0; } message A { optional int32 x = 1; optional int32 has_x = 2; } "
      "message B { optional E x = 1; } message C { oneof y { E z = 1; } } message D {} "

@@ -2,11 +2,8 @@
 use crate::members::described;
 use wire_schema::{Field, MessageType, Schema, Words};
 
-// The most fields of a message, as of one whose fields stand in no groups; and those of a oneof, of
-// which it was seen that they are proved.
+// The most fields of a message.
 const MOST_FIELDS: usize = 80;
-
-const MOST_MEMBERS: usize = 6;
 
 /// Why a message of these fields has no JSON: the field that it can't have, as the schema calls it,
 /// or nothing where it is the message, and what that is. The modules of the messages that have JSON
@@ -35,7 +32,6 @@ pub fn reason<'a>(
     for field in fields {
         let why = match &field.oneof {
             None => why_not(message, &field.words, there),
-            Some(oneof) if oneof.variants.len() > MOST_MEMBERS => "a oneof of more than 6 fields",
             Some(oneof) if is_called_as_library(oneof.words.get("name")) => OF_LIBRARY,
             Some(oneof) => match why_no_member(message, &oneof.variants, there) {
                 None => "",

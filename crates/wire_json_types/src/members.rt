@@ -2,9 +2,9 @@
 use crate::items::set_item;
 use crate::kinds::set_element;
 use crate::parts::{FIELD_NAME, PartTexts, READ_ARGUMENTS, put_part, set_call, set_names};
-use crate::tables::Part;
+use crate::tables::{EITHER, Part, put_table};
 use wire_descriptor::{DescriptorProto, FieldDescriptorProto};
-use wire_schema::{GenerateError, Oneof, Words};
+use wire_schema::{GenerateError, Oneof, Template, Words};
 
 // A member of a oneof.
 const DEFINITIONS: &str = "\n\
@@ -100,7 +100,7 @@ impl JsonChoice for $part_type$ {
 $ghost_imports$
     type Oneof = $name$;
 
-    type Held = $held$;
+    type Held = $part_held$;
 
     ghost Value = { $part$-Value };
 
@@ -123,7 +123,7 @@ $ghost_imports$
     ghost back = { $part$-back };
 
     fn is_named(name: &str) -> bool {
-        name == $constant$.name || name == $constant$.json_name
+        $is_named$
     }
 
     fn read(
@@ -131,12 +131,12 @@ $ghost_imports$
         text: &[u8],
         members: &[PlacedMember<'_>],
         levels: u32,
-    ) -> Result<Option<$held$>, ReadError> {
+    ) -> Result<Option<$part_held$>, ReadError> {
         $read$
     }
 
     fn is_chosen(oneof: &$name$) -> bool {
-        $field$_of(oneof).is_some()
+        $is_chosen$
     }
 
     fn write(
@@ -149,6 +149,10 @@ $ghost_imports$
     }
 }
 
+$found$";
+
+// A member, where a oneof is that.
+const FOUND: &str = "\
 fn $field$_of(oneof: &$name$) -> Option<&$held$>
     ensures { option_map (λ h. h.now) result ≡ $part$-of oneof.now }
 {
@@ -171,6 +175,39 @@ wire_jsonfields write_chosen
 wire_protojson ReadError
 $crate$ $name$
 $json_code$$json_held_code$";
+
+const MEMBER_CALLS: [Template; 5] = [
+    (
+        "is_named",
+        "name == $constant$.name || name == $constant$.json_name",
+    ),
+    ("is_chosen", "$field$_of(oneof).is_some()"),
+    ("part_taken", "$name$::$variant$(value)"),
+    ("part_seen_uses", ""),
+    ("found", FOUND),
+];
+
+// Several members as one choice.
+const GROUP_CALLS: [Template; 9] = [
+    ("part", "$joined$"),
+    ("part_type", "Of$joined_type$"),
+    ("part_held", "$joined_held$"),
+    ("is_named", "$joined_type$::is_named(name)"),
+    ("read", "$joined_type$::read(alloc, text, members, levels)"),
+    ("is_chosen", "$joined_type$::is_chosen(oneof)"),
+    ("write", "$joined_type$::write(alloc, out, first, oneof)"),
+    ("part_taken", "$made_of$"),
+    ("found", ""),
+];
+
+const GROUP: PartTexts = PartTexts {
+    names: "",
+    code: CHOICE,
+    code_uses: "",
+    ghosts: GHOSTS,
+    definitions: "$tables$",
+    uses: "",
+};
 
 const MEMBER: PartTexts = PartTexts {
     names: FIELD_NAME,
@@ -211,7 +248,7 @@ pub(crate) fn put_member(
             words.fill("other", "        _ => None,\n");
         }
     }
-    words.fill("part_seen_uses", "");
+    words.fill_all(&MEMBER_CALLS);
     words.fill("call", "read_field::<Maybe<$element$>>");
     set_call("read", READ_ARGUMENTS, &mut words);
     words.fill("call", "write_chosen::<$element$>");
@@ -227,3 +264,85 @@ const WRITE_ARGUMENTS: &str = "alloc, out, first, &$constant$, $field$_of(oneof)
 const OF_THIS: &str = "$part$-of (variants.$of_variant$ held) = Some held\n";
 
 const OF_OTHER: &str = "$part$-of (variants.$of_variant$ held) = None\n";
+
+// The most members that stand together, as of the parts of a message.
+const MOST_MEMBERS: usize = 4;
+
+/// No more members than stand together, of which several are one choice each.
+pub(crate) fn joined_members(
+    page: &mut Words,
+    members: Vec<Part>,
+) -> Result<Vec<Part>, GenerateError> {
+    let mut choices = members;
+    for _ in 0..choices.len() {
+        if choices.len() > MOST_MEMBERS {
+            let mut groups = Vec::new(page.alloc());
+            let mut group: Vec<Part> = Vec::new(page.alloc());
+            for choice in choices {
+                if group.len() == MOST_MEMBERS {
+                    groups.push(one_choice(page, group)?)?;
+                    group = Vec::new(page.alloc());
+                }
+                group.push(choice)?;
+            }
+            groups.push(one_choice(page, group)?)?;
+            choices = groups;
+        }
+    }
+    Ok(choices)
+}
+
+fn one_choice(page: &mut Words, mut members: Vec<Part>) -> Result<Part, GenerateError> {
+    if members.len() == 1 {
+        if let Some(member) = members.pop() {
+            return Ok(member);
+        }
+    }
+    page.append("groups_so_far", "+");
+    let number = page.get("groups_so_far").len();
+    page.index("group", number);
+    page.fill("whole", "$field$-chosen-$group$");
+    page.fill("whole_type", "$name$Json$group$");
+    put_table(EITHER, &members, page);
+    page.append("group_aliases", "$aliases$");
+    set_made(&members, page);
+    let mut words = Words::like(page);
+    words.fill_all(&GROUP_CALLS);
+    put_part(page, &mut words, &GROUP)
+}
+
+/// How the oneof is made of what was read of these members, `made_as` in code, as the word `made_of`.
+pub(crate) fn set_made(members: &[Part], words: &mut Words) {
+    words.fill("made_of", "");
+    for member in members.iter().rev() {
+        words.set("this", &member.taken);
+        words.fill("this_as", called(&member.taken));
+        if words.get("made_of").is_empty() {
+            words.fill_all(&[("made_of", "$this$"), ("made_as", "$this_as$")]);
+        } else {
+            for name in ["this", "made_of"] {
+                words.indent_rest(name);
+                words.indent_rest(name);
+            }
+            words.fill_all(&MADE_OF);
+        }
+    }
+}
+
+// What is read is called so where the oneof is made of it by this expression.
+fn called(expression: &str) -> &'static str {
+    if expression.starts_with("match ") {
+        "chosen"
+    } else {
+        "value"
+    }
+}
+
+const MADE_OF: [Template; 2] = [
+    (
+        "made_of",
+        "match chosen {\n    Chosen::This($this_as$) => $this$,\n    \
+        Chosen::That($made_as$) => $made_of$,\n}",
+    ),
+    ("made_as", "chosen"),
+];

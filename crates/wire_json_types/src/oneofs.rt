@@ -1,5 +1,5 @@
 //! The code and the definitions of oneofs.
-use crate::members::{described, put_member};
+use crate::members::{described, joined_members, put_member, set_made};
 use crate::tables::{EITHER, put_table};
 use wire_definitions::{code_imports, definition_imports, ghost_imports, set_heading};
 use wire_descriptor::DescriptorProto;
@@ -7,10 +7,11 @@ use wire_schema::{GenerateError, Oneof, Template, Words};
 
 const MADE: &str = "\
 /// The oneof of which a member was read.
-pub(crate) fn $module$_of(chosen: $joined_held$) -> $name$
-    ensures { $joined$-seen result ≡ Some ($joined$-view chosen) }
+pub(crate) fn $module$_of($made_as$: $joined_held$) -> $name$
+    ensures { $joined$-seen result ≡ Some ($joined$-view $made_as$) }
 {
-$chosen$}
+    $made_of$
+}
 ";
 
 const MADE_GHOSTS: &str = "\
@@ -19,7 +20,7 @@ Rattle.std.specs.Prelude Some
 Rattle.std.specs.Prelude option_map
 $json_page$ $joined$-seen
 $json_page$ $joined$-view
-$of_ghosts$";
+";
 
 const CODE_PAGE: &str = "\
 $heading$$ghost_imports$
@@ -45,57 +46,25 @@ pub fn oneof_files(
             members.push(put_member(page, field, variant, oneof)?)?;
         }
     }
+    let members = joined_members(page, members)?;
     page.fill_all(&[("whole", "$field$-chosen"), ("whole_type", "$name$Json")]);
     put_table(EITHER, &members, page);
+    page.append("aliases", "$group_aliases$");
     let is_one = oneof.variants.len() == 1;
     page.fill(
         "held_use",
         if is_one { "$json_held_code$" } else { HELD_USE },
     );
-    put_made(page, oneof);
+    set_made(&members, page);
+    page.indent_rest("made_of");
+    page.indent_rest("made_of");
+    page.fill("made", MADE);
+    page.fill("ghosts", MADE_GHOSTS);
+    page.append("ghosts", "$of_ghosts$");
     Ok((code_of(page)?, definitions_of(page)?))
 }
 
 const HELD_USE: &str = "crate::$module$_json $joined_held$\n";
-
-// The function that makes the oneof of what was read.
-fn put_made(page: &mut Words, oneof: &Oneof) {
-    page.fill_all(&[("margin", "    "), ("ends", "    }\n")]);
-    page.fill("chosen", "    match chosen {\n");
-    let count = oneof.variants.len();
-    for (place, variant) in oneof.variants.iter().enumerate() {
-        page.copy(variant, &["variant"]);
-        if count == 1 {
-            page.fill_all(&ALONE);
-        } else if place.saturating_add(1) == count {
-            page.append("chosen", LAST);
-        } else {
-            if place > 0 {
-                page.append_all(&INNER);
-                page.fill("ends", "$margin$},\n$ends$");
-            }
-            page.append("chosen", NEXT);
-        }
-    }
-    page.append("chosen", "$ends$");
-    page.fill("made", MADE);
-    page.fill("ghosts", MADE_GHOSTS);
-    page.append("ghosts", "$of_ghosts$");
-}
-
-const ALONE: [Template; 2] = [("chosen", "    $name$::$variant$(chosen)\n"), ("ends", "")];
-
-const NEXT: &str = "$margin$    Chosen::This(value) => $name$::$variant$(value),\n";
-
-const LAST: &str = "$margin$    Chosen::That(value) => $name$::$variant$(value),\n";
-
-const INNER: [Template; 2] = [
-    (
-        "chosen",
-        "$margin$    Chosen::That(chosen) => match chosen {\n",
-    ),
-    ("margin", "    "),
-];
 
 fn code_of(page: &mut Words) -> Result<String, GenerateError> {
     set_heading(page, "//!", "The oneof `$full$` in JSON.");
