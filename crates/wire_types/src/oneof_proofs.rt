@@ -31,6 +31,33 @@ Rattle.$crate$.specs.$name$ $word$-of-$module$-kind
 
 const HEAD: &str = "\
 $imports$use Rattle.$crate$.proofs.$of_goals$.merge.Goals as goal
+$held_use$";
+
+// From so many variants on a search does not find that the last takes what its kind takes.
+const MANY: usize = 10;
+
+const USES_OF_LAST_OK: &str = "\
+Rattle.std.proofs.Common Some
+Rattle.wire_fields.specs.Arms arm_ok
+Rattle.wire_fields.specs.Arms to_last
+Rattle.$crate$.specs.$name$ $module$-one
+";
+
+const HELD_USE: &str = "use Rattle.$crate$.specs.declared.$module$.$name$.TheVariants as held\n";
+
+const LAST_OK: &str = "
+pub returns-in-Some-$variant$-$rows$-clause-ok :
+    goal.returns-in-Some-$variant$-$rows$-clause-ok
+returns-in-Some-$variant$-$rows$-clause-ok $given$ =
+    let n = tag_number c.args.tag in
+    let one = c.in-Some-$variant$-$rows$ in
+    rw $stands$ (arm_ok $module$-kind.takes
+    $word$-of-$module$-kind.takes n n refl _ _ _ _
+    (λ charge p h. to_last $module$-front.owns $module$-front.takes
+    $word$-of-$module$.takes n
+    (λ p. $unlike$)
+    (Some ($module$-one (held.$variant$ one.field-0-0))) _ charge p (_, h, refl)) _ _ _ _ _
+    $merge$.result $merge$.ensures.ok)
 ";
 
 const ANSWERS: &str = "
@@ -174,6 +201,12 @@ fn answers_of(mut page: Words, oneof: &Oneof, anew: &str) -> Result<String, Gene
         }
         page.fill("anew", anew);
         page.append("answers", ANSWERS);
+        let is_found = place < last || oneof.variants.len() < MANY;
+        if !is_found && page.get("rows") == "variants" {
+            page.append("uses", USES_OF_LAST_OK);
+            page.append("held_use", HELD_USE);
+            page.append("answers", LAST_OK);
+        }
         page.fill(
             "unlike",
             if place == 0 {
