@@ -127,7 +127,7 @@ impl Package {
     ) -> Result<bool, GenerateError> {
         let mut page = self.json_page(&message.words);
         let mut fields = fields_of(&self.base, schema, message)?;
-        if reason(message, schema, &fields, json.get("there")).is_some() {
+        if !has_json(&*message, schema, &fields, json.get("there")) {
             return Ok(false);
         }
         for field in &mut fields {
@@ -198,6 +198,16 @@ impl Package {
         self.add_beside(&mut json, "specs/Lib.antt", definitions)?;
         self.add_beside(&mut json, "README.md", readme)
     }
+}
+
+// Whether a message of these fields has JSON, where those of these modules have.
+fn has_json<'a>(
+    message: &'a MessageType,
+    schema: &Schema,
+    fields: &'a [Field],
+    there: &str,
+) -> bool {
+    reason(message, schema, fields, there).is_none()
 }
 
 // Puts the lines of a module to those of the roots.
