@@ -311,7 +311,7 @@ fn one_choice(page: &mut Words, mut members: Vec<Part>) -> Result<Part, Generate
     put_part(page, &mut words, &GROUP)
 }
 
-/// How the oneof is made of what was read of these members, `made_as` in code, as the word `made_of`.
+/// How the oneof is made of what was read of these members, `made_as`, as the word `made_of`.
 pub(crate) fn set_made(members: &[Part], words: &mut Words) {
     words.fill("made_of", "");
     for member in members.iter().rev() {
