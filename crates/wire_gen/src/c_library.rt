@@ -321,8 +321,10 @@ impl Package {
         content: String,
     ) -> Result<(), GenerateError> {
         self.base.fill("crate_folder", "$crate$_$beside$/");
+        self.base.ended()?;
         let added = self.add(page, path, content);
         self.base.fill("crate_folder", "$crate$/");
+        self.base.ended()?;
         added
     }
 

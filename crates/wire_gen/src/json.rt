@@ -99,6 +99,7 @@ impl Package {
         }
         for message in left {
             let fields = fields_of(&self.base, schema, message)?;
+            all_ended(&fields)?;
             if let Some((field, what)) = reason(message, schema, &fields, json.get("there")) {
                 json.set("full", message.words.get("full").trim_start_matches('.'));
                 json.set("field", field);
@@ -127,6 +128,7 @@ impl Package {
     ) -> Result<bool, GenerateError> {
         let mut page = self.json_page(&message.words);
         let mut fields = fields_of(&self.base, schema, message)?;
+        all_ended(&fields)?;
         if !has_json(&*message, schema, &fields, json.get("there")) {
             return Ok(false);
         }
@@ -198,6 +200,19 @@ impl Package {
         self.add_beside(&mut json, "specs/Lib.antt", definitions)?;
         self.add_beside(&mut json, "README.md", readme)
     }
+}
+
+// Whether memory sufficed for the words of these fields, which say whether there is JSON.
+fn all_ended(fields: &[Field]) -> Result<(), GenerateError> {
+    for field in fields {
+        field.words.ended()?;
+        if let Some(oneof) = &field.oneof {
+            for variant in &oneof.variants {
+                variant.ended()?;
+            }
+        }
+    }
+    Ok(())
 }
 
 // Whether a message of these fields has JSON, where those of these modules have.
