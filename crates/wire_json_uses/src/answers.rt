@@ -1,10 +1,11 @@
 //! What tests find of texts: written again, or refused.
+use crate::rewrite::RewriteError;
 use std::alloc::Global;
 use wire_json::{FaultKind, Mark, write_mark};
 use wire_jsonfields::{
     FieldName, JsonKind, JsonValue, from_json, read_field, read_object, to_json, write_field,
 };
-use wire_protojson::{ReadError, Reason, Refusal};
+use wire_protojson::{ReadError, Reason, Refusal, WriteError};
 
 /// What a row finds: its own answer, want of memory, or anything else.
 #[derive(Clone, Copy, Debug, PartialEq)]
@@ -60,16 +61,19 @@ pub(crate) fn found_in<V: JsonValue>(alloc: Global, row: &Row, levels: u32) -> F
                 Answer::Is(text) => out.as_slice() == text && after == row.0.len(),
                 _ => false,
             },
-            Err(_) => return Found::OutOfMemory,
+            Err(WriteError::OutOfMemory) => return Found::OutOfMemory,
+            Err(_) => false,
         },
     };
     if own { Found::Own } else { Found::Other }
 }
 
-fn found_of(answered: Result<Vec<u8>, ReadError>, answer: Answer) -> Found {
+fn found_of(answered: Result<Vec<u8>, RewriteError>, answer: Answer) -> Found {
     let own = match answered {
-        Err(ReadError::OutOfMemory) => return Found::OutOfMemory,
-        Err(ReadError::Refused(refusal)) => is_refused(refusal, answer),
+        Err(RewriteError::Read(ReadError::OutOfMemory)) => return Found::OutOfMemory,
+        Err(RewriteError::Read(ReadError::Refused(refusal))) => is_refused(refusal, answer),
+        Err(RewriteError::Write(WriteError::OutOfMemory)) => return Found::OutOfMemory,
+        Err(RewriteError::Write(_)) => false,
         Ok(out) => match answer {
             Answer::Is(text) => out.as_slice() == text,
             _ => false,
@@ -82,7 +86,7 @@ fn rewrite_message<V: JsonValue>(
     alloc: Global,
     text: &[u8],
     levels: u32,
-) -> Result<Vec<u8>, ReadError> {
+) -> Result<Vec<u8>, RewriteError> {
     let message = from_json::<V>(alloc, text, levels)?;
     let out = to_json::<V>(alloc, &message)?;
     Ok(out)
@@ -99,14 +103,19 @@ const HELD: FieldName = FieldName {
     json_name: "held",
 };
 
-fn rewrite_field<K: JsonKind>(alloc: Global, text: &[u8]) -> Result<Vec<u8>, ReadError> {
+fn rewrite_field<K: JsonKind>(alloc: Global, text: &[u8]) -> Result<Vec<u8>, RewriteError> {
     let object = read_object(alloc, text, 0, 2)?;
     let held = read_field::<K>(alloc, text, object.members.as_slice(), 2, &HELD)?;
     let mut out = Vec::new(alloc);
-    write_mark(&mut out, Mark::BeginObject)?;
+    put_mark(&mut out, Mark::BeginObject)?;
     write_field::<K>(alloc, &mut out, true, &HELD, &held)?;
-    write_mark(&mut out, Mark::EndObject)?;
+    put_mark(&mut out, Mark::EndObject)?;
     Ok(out)
+}
+
+fn put_mark(out: &mut Vec<u8>, mark: Mark) -> Result<(), WriteError> {
+    write_mark(out, mark)?;
+    Ok(())
 }
 
 /// Reads an object with one field `held` of this kind, at two levels, and writes it.

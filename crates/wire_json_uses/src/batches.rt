@@ -6,14 +6,14 @@ ghost use Rattle.wire_jsonfields.specs.Batch.{Batch-Value, batch-says, batch-tre
 ghost use Rattle.wire_jsonfields.specs.Levels.{SpellsWithin};
 ghost use Rattle.wire_jsonfields.specs.Messages.{IsObjectTree, ObjectMeans};
 
+use crate::rewrite::RewriteError;
 use std::alloc::Global;
 use wire_jsonfields::batch::Batch;
 use wire_jsonfields::{from_json, to_json};
-use wire_protojson::ReadError;
 
 /// Reads a batch from a text, in which at most 100 arrays and objects stand in one another, and
 /// writes it.
-pub fn rewrite_batch(alloc: Global, text: &[u8]) -> Result<Vec<u8>, ReadError>
+pub fn rewrite_batch(alloc: Global, text: &[u8]) -> Result<Vec<u8>, RewriteError>
     ensures { IfOk result (λ out. (value : Batch-Value)
         × SpellsWithin 100 (ObjectMeans batch-says) text.now value × (json : Json)
         × IsObjectTree batch-trees value json × (out.items ≡ written json)) }

@@ -18,6 +18,7 @@ mod message_tests;
 #[cfg(test)]
 mod report_tests;
 pub mod reports;
+pub mod rewrite;
 #[cfg(test)]
 mod scalar_tests;
 #[cfg(test)]

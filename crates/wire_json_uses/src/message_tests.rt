@@ -1,10 +1,10 @@
 //! What is read of texts as a message, and what is written of one. A test that is refused a request
 //! for memory fails with `OutOfMemory` as what was found, or not at all.
-use std::alloc::{AllocError, Global};
+use std::alloc::Global;
 use wire_json::FaultKind;
 use wire_jsonfields::sample::Sample;
 use wire_jsonfields::{from_json, to_json};
-use wire_protojson::{ReadError, Reason, Refusal};
+use wire_protojson::{ReadError, Reason, Refusal, WriteError};
 
 // What a row finds: its own answer, want of memory, or anything else.
 #[derive(Clone, Copy, Debug, PartialEq)]
@@ -134,7 +134,7 @@ fn messages_are_read(rt: HostRuntime) {
     }
 }
 
-fn written_of(alloc: Global, row: &Written) -> Result<bool, AllocError> {
+fn written_of(alloc: Global, row: &Written) -> Result<bool, WriteError> {
     let sample = Sample {
         name: String::from_str(alloc, row.0)?,
         value: row.1,
@@ -149,8 +149,8 @@ fn messages_are_written(rt: HostRuntime) {
     for (place, row) in WRITTEN.iter().enumerate() {
         let found = match written_of(rt.alloc(), row) {
             Ok(true) => Found::Own,
-            Ok(false) => Found::Other,
-            Err(_) => Found::OutOfMemory,
+            Err(WriteError::OutOfMemory) => Found::OutOfMemory,
+            _ => Found::Other,
         };
         assert_eq!(rt; found, Found::Own, "{place}");
     }

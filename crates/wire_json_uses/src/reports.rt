@@ -6,14 +6,14 @@ ghost use Rattle.wire_jsonfields.specs.Levels.{SpellsWithin};
 ghost use Rattle.wire_jsonfields.specs.Messages.{IsObjectTree, ObjectMeans};
 ghost use Rattle.wire_report_json.specs.ReportJson.{Report-Json, report-json-says, report-json-trees};
 
+use crate::rewrite::RewriteError;
 use std::alloc::Global;
 use wire_jsonfields::{from_json, to_json};
-use wire_protojson::ReadError;
 use wire_report_json::ReportJson;
 
 /// Reads a report from a text, in which at most 100 arrays and objects stand in one another, and
 /// writes it.
-pub fn rewrite_report(alloc: Global, text: &[u8]) -> Result<Vec<u8>, ReadError>
+pub fn rewrite_report(alloc: Global, text: &[u8]) -> Result<Vec<u8>, RewriteError>
     ensures { IfOk result (λ out. (value : Report-Json)
         × SpellsWithin 100 (ObjectMeans report-json-says) text.now value × (json : Json)
         × IsObjectTree report-json-trees value json × (out.items ≡ written json)) }

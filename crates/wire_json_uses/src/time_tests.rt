@@ -1,12 +1,12 @@
 //! What is read of texts as a duration or a timestamp, and what is written. A test that is refused a
 //! request for memory fails with `OutOfMemory` as what was found, or not at all.
+use crate::rewrite::RewriteError;
 use std::alloc::Global;
 use wire_json::FaultKind;
 use wire_jsontimes::{
-    JsonDuration, JsonTimestamp, WriteError, read_duration, read_timestamp, write_duration,
-    write_timestamp,
+    JsonDuration, JsonTimestamp, read_duration, read_timestamp, write_duration, write_timestamp,
 };
-use wire_protojson::{ReadError, Reason};
+use wire_protojson::{ReadError, Reason, WriteError};
 
 // What a row finds: its own answer, want of memory, or anything else.
 #[derive(Clone, Copy, Debug, PartialEq)]
@@ -132,30 +132,29 @@ const TIMESTAMPS: [(&'static [u8], Answer); 36] = [
     (b"1", Unfit),
 ];
 
-// Why nothing is written again.
-enum Error {
-    Read(ReadError),
-    Write(WriteError),
-}
-
-fn rewrite_duration(alloc: Global, text: &[u8], out: &mut Vec<u8>) -> Result<usize, Error> {
-    let (duration, after) = read_duration(alloc, text, 0).map_err(Error::Read)?;
-    write_duration(alloc, out, duration).map_err(Error::Write)?;
+fn rewrite_duration(alloc: Global, text: &[u8], out: &mut Vec<u8>) -> Result<usize, RewriteError> {
+    let (duration, after) = read_duration(alloc, text, 0)?;
+    write_duration(alloc, out, duration)?;
     Ok(after)
 }
 
-fn rewrite_timestamp(alloc: Global, text: &[u8], out: &mut Vec<u8>) -> Result<usize, Error> {
-    let (timestamp, after) = read_timestamp(alloc, text, 0).map_err(Error::Read)?;
-    write_timestamp(alloc, out, timestamp).map_err(Error::Write)?;
+fn rewrite_timestamp(alloc: Global, text: &[u8], out: &mut Vec<u8>) -> Result<usize, RewriteError> {
+    let (timestamp, after) = read_timestamp(alloc, text, 0)?;
+    write_timestamp(alloc, out, timestamp)?;
     Ok(after)
 }
 
-fn found_of(out: &[u8], end: usize, answered: Result<usize, Error>, answer: Answer) -> Found {
+fn found_of(
+    out: &[u8],
+    end: usize,
+    answered: Result<usize, RewriteError>,
+    answer: Answer,
+) -> Found {
     let own = match answered {
-        Err(Error::Read(ReadError::OutOfMemory)) => return Found::OutOfMemory,
-        Err(Error::Write(WriteError::OutOfMemory)) => return Found::OutOfMemory,
-        Err(Error::Write(WriteError::OutOfRange)) => false,
-        Err(Error::Read(ReadError::Refused(refusal))) => match answer {
+        Err(RewriteError::Read(ReadError::OutOfMemory)) => return Found::OutOfMemory,
+        Err(RewriteError::Write(WriteError::OutOfMemory)) => return Found::OutOfMemory,
+        Err(RewriteError::Write(WriteError::OutOfRange)) => false,
+        Err(RewriteError::Read(ReadError::Refused(refusal))) => match answer {
             Is(_) => false,
             Unfit => refusal.reason == Reason::NoValue && refusal.at == 0,
             Bad(at) => refusal.reason == Reason::NoJson(FaultKind::Syntax) && refusal.at == at,

@@ -20,7 +20,7 @@ use Rattle.wire_protojson.specs.Reads.{ReadsMeaning, Refuses, RefusedAt, UnlessN
 
 module _ {V : Type 0} (Means : Json → V → Type 0) (text old : List ℕ) (levels : ℕ) where
   -- what is refused means nothing
-  refused_nothing : IsDecided Means → (e : ReadError)
+  pub refused_nothing : IsDecided Means → (e : ReadError)
       → UnlessNoMemory e (λ refusal. RefusedAt text refusal (Refuses Means old))
       → e ≢ OutOfMemory → NothingMeant levels Means old
   refused_nothing d (Refused refusal) h other = λ v new read.

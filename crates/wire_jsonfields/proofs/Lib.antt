@@ -12,3 +12,4 @@ pub mod MapReads
 pub mod Membering
 pub mod MessageReads
 pub mod ObjectReads
+pub mod Untold

@@ -1,7 +1,6 @@
 -- The text of a list, element by element.
-use Rattle.std.proofs.Common.{◌≡◌, ℕ, zero, suc, ◌+◌, ◌<◌, ◌≤◌, Bool, true, false, List, [], ◌∷◌, ◌++◌, length, map, drop, slice_index_or, Result, Ok, Err, refl, sym, ap, ◌∙◌, subst, arith, append_assoc, append-nil}
+use Rattle.std.proofs.Common.{◌≡◌, ℕ, zero, suc, ◌+◌, ◌<◌, ◌≤◌, Bool, true, false, List, [], ◌∷◌, ◌++◌, length, map, drop, slice_index_or, refl, sym, ap, ◌∙◌, subst, arith, append_assoc, append-nil}
 use Rattle.std.proofs.Math.Seq.{drop-cons}
-use Rattle.std.specs.Prelude.{OnOk}
 use Rattle.wire_json.specs.Compact.{Extends}
 use Rattle.wire_json.specs.Json.{Json, array, Elements, no_element, element}
 use Rattle.wire_json.specs.Written.{written, written_elements, written_more}
@@ -129,10 +128,10 @@ module _ {V : Type 0} (Tree : V → Json → Type 0) (all : List V) (old : List 
     put_one true is comma = put_first is (comma ∙ append-nil out)
     put_one false is comma = put_next is comma
 
-  list_ended : (out : List ℕ) (first : Bool) (new : List ℕ) → ListPut Tree all [] old out first
+  pub list_whole : (out : List ℕ) (first : Bool) (new : List ℕ) → ListPut Tree all [] old out first
       → new ≡ out ++ 93 ∷ []
       → (json : Json) × IsListTree Tree all json × (new ≡ old ++ written json)
-  list_ended out first new s put = (
+  list_whole out first new s put = (
     array s.es,
     (
       s.es,
@@ -143,12 +142,6 @@ module _ {V : Type 0} (Tree : V → Json → Type 0) (all : List V) (old : List 
         ∙ append_assoc old (91 ∷ elements_text s.es) (93 ∷ [])
         ∙ ap (λ (l : List ℕ). old ++ (91 ∷ l)) (sym (all_closed s.es)),
   )
-
-  pub list_whole : (out : List ℕ) (first : Bool) → ListPut Tree all [] old out first
-      → {T E : Type 0} (r : Result T E) (new : List ℕ) → OnOk r (new ≡ out ++ 93 ∷ [])
-      → OnOk r ((json : Json) × IsListTree Tree all json × (new ≡ old ++ written json))
-  list_whole out first s (Ok x) new put = list_ended out first new s put
-  list_whole out first s (Err e) new put = tt
 
 -- ---- at an index
 

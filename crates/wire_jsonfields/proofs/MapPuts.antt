@@ -1,6 +1,5 @@
 -- The text of a map, entry by entry.
-use Rattle.std.proofs.Common.{◌≡◌, ℕ, Bool, true, false, List, [], ◌∷◌, ◌++◌, Result, refl, sym, ap, ◌∙◌, subst, append_assoc, append-nil}
-use Rattle.std.specs.Prelude.{OnOk}
+use Rattle.std.proofs.Common.{◌≡◌, ℕ, Bool, true, false, List, [], ◌∷◌, ◌++◌, refl, sym, ap, ◌∙◌, subst, append_assoc, append-nil}
 use Rattle.wire_json.specs.Json.{Json, Members, no_member, member}
 use Rattle.wire_json.specs.Written.{written}
 use Rattle.wire_jsonfields.specs.Maps.{AreEntryTrees, IsMapTree}
@@ -51,12 +50,12 @@ module _ {K V : Type 0} (name : K → List ℕ) (Tree : V → Json → Type 0) w
     }
 
     pub map_whole : (left : List (K × V)) (out : List ℕ) (first : Bool)
-        → MapPut name Tree all left old out first → left ≡ [] → {T E : Type 0} (r : Result T E)
-        (new : List ℕ) → OnOk r (new ≡ out ++ 125 ∷ [])
-        → OnOk r ((json : Json) × IsMapTree name Tree all json × (new ≡ old ++ written json))
-    map_whole left out first s none r new put =
+        → MapPut name Tree all left old out first → left ≡ [] → (new : List ℕ)
+        → new ≡ out ++ 125 ∷ []
+        → (json : Json) × IsMapTree name Tree all json × (new ≡ old ++ written json)
+    map_whole left out first s none new put =
         let is : all ≡ s.done =
         s.parts ∙ ap (λ (l : List (K × V)). s.done ++ l) none ∙ append-nil s.done in
         let P : List (K × V) → Type 0 = λ l. AreEntryTrees name Tree l s.ms in
         written_whole (AreEntryTrees name Tree) all old out first s.ms s.text
-        (subst P (sym is) s.trees) r new put
+        (subst P (sym is) s.trees) new put

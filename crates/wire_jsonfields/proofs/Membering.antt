@@ -117,12 +117,11 @@ ended old out first ms new s put =
     ∙ ap (λ (l : List ℕ). old ++ (123 ∷ l)) (sym (closed ms))
 
 pub written_whole : {V : Type 0} (Trees : V → Members → Type 0) (v : V) (old out : List ℕ)
-    (first : Bool) (ms : Members) → Begun old out first ms → Trees v ms → {T E : Type 0}
-    (r : Result T E) (new : List ℕ) → OnOk r (new ≡ out ++ 125 ∷ [])
-    → OnOk r ((json : Json) × IsObjectTree Trees v json × (new ≡ old ++ written json))
-written_whole Trees v old out first ms s trees (Ok x) new put =
+    (first : Bool) (ms : Members) → Begun old out first ms → Trees v ms → (new : List ℕ)
+    → new ≡ out ++ 125 ∷ []
+    → (json : Json) × IsObjectTree Trees v json × (new ≡ old ++ written json)
+written_whole Trees v old out first ms s trees new put =
     (object ms, (ms, trees, refl), ended old out first ms new s put)
-written_whole Trees v old out first ms s trees (Err e) new put = tt
 
 -- ---- a field
 

@@ -17,6 +17,7 @@ pub mod Maps
 pub mod MembersBack
 pub mod Messages
 pub mod Names
+pub mod NoFields
 pub mod Objects
 pub mod OneValues
 pub mod Oneofs
@@ -24,3 +25,4 @@ pub mod Parts
 pub mod PartsBack
 pub mod Sample
 pub mod ScalarsBack
+pub mod Told

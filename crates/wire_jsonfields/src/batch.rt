@@ -16,9 +16,9 @@ use crate::object::PlacedMember;
 use crate::origin::{Origin, OriginFile, OriginTemplate};
 use crate::part::{Both, JsonPart};
 use crate::sample::Sample;
-use std::alloc::{AllocError, Global};
+use std::alloc::Global;
 use std::collections::BTreeMap;
-use wire_protojson::ReadError;
+use wire_protojson::{ReadError, WriteError};
 
 /// What was measured together.
 #[derive(Drop)]
@@ -97,7 +97,7 @@ impl JsonPart for BatchGrade {
         out: &mut Vec<u8>,
         first: bool,
         message: &Batch,
-    ) -> Result<bool, AllocError> {
+    ) -> Result<bool, WriteError> {
         write_field::<Implicit<EnumOf<Grade>>>(alloc, out, first, &GRADE, &message.grade)
     }
 }
@@ -153,7 +153,7 @@ impl JsonPart for BatchSamples {
         out: &mut Vec<u8>,
         first: bool,
         message: &Batch,
-    ) -> Result<bool, AllocError> {
+    ) -> Result<bool, WriteError> {
         write_field::<Repeated<Sample>>(alloc, out, first, &SAMPLES, &message.samples)
     }
 }
@@ -209,7 +209,7 @@ impl JsonPart for BatchTotals {
         out: &mut Vec<u8>,
         first: bool,
         message: &Batch,
-    ) -> Result<bool, AllocError> {
+    ) -> Result<bool, WriteError> {
         write_field::<Map<String, Implicit<i64>>>(alloc, out, first, &TOTALS, &message.totals)
     }
 }
@@ -265,7 +265,7 @@ impl JsonPart for BatchOrigin {
         out: &mut Vec<u8>,
         first: bool,
         message: &Batch,
-    ) -> Result<bool, AllocError> {
+    ) -> Result<bool, WriteError> {
         write_oneof::<Either<OriginFile, OriginTemplate>>(alloc, out, first, &message.origin)
     }
 }
@@ -318,7 +318,7 @@ impl JsonValue for Batch {
         ))
     }
 
-    fn write_json(alloc: Global, out: &mut Vec<u8>, held: &Batch) -> Result<(), AllocError> {
+    fn write_json(alloc: Global, out: &mut Vec<u8>, held: &Batch) -> Result<(), WriteError> {
         write_parts::<BatchParts>(alloc, out, held)
     }
 }

@@ -5,16 +5,18 @@ ghost use Rattle.wire_json.specs.Compact.{Extends};
 ghost use Rattle.wire_json.specs.Json.{Json};
 ghost use Rattle.wire_json.specs.Written.{written};
 ghost use Rattle.wire_protojson.specs.declared.refusal.ReadError.TheVariants.{OutOfMemory};
+ghost use Rattle.wire_protojson.specs.declared.refusal.WriteError.TheVariants as untold;
 ghost use Rattle.wire_jsonfields.specs.Levels.{NothingMeant, ReadsWithin};
 ghost use Rattle.wire_jsonfields.specs.Messages.{IsObjectTree, ObjectMeans};
 ghost use Rattle.wire_jsonfields.specs.Parts.{MembersSay};
+ghost use Rattle.wire_jsonfields.specs.Told.{HasNoTree};
 
 use crate::known::check_names;
 use crate::object::read_object;
 use crate::part::JsonPart;
-use std::alloc::{AllocError, Global};
+use std::alloc::Global;
 use wire_json::Mark;
-use wire_protojson::ReadError;
+use wire_protojson::{ReadError, WriteError};
 
 /// Reads the parts of a message from an object, and the place behind it. A member that is of no
 /// part is refused.
@@ -42,12 +44,15 @@ pub fn write_parts<P: JsonPart>(
     alloc: Global,
     out: &mut Vec<u8>,
     message: &P::Message,
-) -> Result<(), AllocError>
+) -> Result<(), WriteError>
     ensures ok { OnOk result ((json : Json) × IsObjectTree P.trees (P.seen message.now) json
         × (out.new.items ≡ out.old.items ++ written json)) }
     ensures err { OnErr result (Extends out.old.items out.new.items) }
+    ensures no_text { IfErr result (λ e. e ≢ untold.OutOfMemory
+        → HasNoTree (IsObjectTree P.trees) (P.seen message.now)) }
 {
     wire_json::write_mark(out, Mark::BeginObject)?;
     P::write(alloc, out, true, message)?;
-    wire_json::write_mark(out, Mark::EndObject)
+    wire_json::write_mark(out, Mark::EndObject)?;
+    Ok(())
 }

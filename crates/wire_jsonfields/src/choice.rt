@@ -1,8 +1,9 @@
 //! Oneofs as parts of messages: at most one of their members has a value.
-ghost use Rattle.std.specs.Prelude.{◌≡◌, ◌≢◌, ◌≤◌, ◌++◌, ◌&&◌, ◌⊎◌, ℕ, List, Option, None, option_map, IfOk, IfErr, OnErr, MatchBool};
+ghost use Rattle.std.specs.Prelude.{◌≡◌, ◌≢◌, ◌≤◌, ◌++◌, ◌&&◌, ◌⊎◌, List, Option, None, option_map, IfOk, IfErr, OnErr, MatchBool};
 ghost use Rattle.wire_json.specs.Compact.{Extends};
 ghost use Rattle.wire_json.specs.Json.{Members, members_depth, no_member};
 ghost use Rattle.wire_protojson.specs.declared.refusal.ReadError.TheVariants.{OutOfMemory};
+ghost use Rattle.wire_protojson.specs.declared.refusal.WriteError.TheVariants as untold;
 ghost use Rattle.wire_jsonfields.specs.Choices.{oneof_seen};
 ghost use Rattle.wire_jsonfields.specs.Messages.{is_no_member, text_of_members};
 ghost use Rattle.wire_jsonfields.specs.Names.{IsOneOf, Names};
@@ -10,14 +11,15 @@ ghost use Rattle.wire_jsonfields.specs.Parts.{ChoiceComesBack};
 ghost use Rattle.wire_jsonfields.specs.Objects.{ArePlaced};
 ghost use Rattle.wire_jsonfields.specs.Oneofs.{IsMemberTree, OneofTrees};
 ghost use Rattle.wire_jsonfields.specs.OneValues.{SayOne};
+ghost use Rattle.wire_jsonfields.specs.Told.{HasNoTree};
 
 use crate::kind::{JsonValue, write_member};
 use crate::known::FieldName;
 use crate::object::PlacedMember;
 use crate::oneof::second_of_oneof;
-use std::alloc::{AllocError, Global};
+use std::alloc::Global;
 use std::marker::PhantomData;
-use wire_protojson::ReadError;
+use wire_protojson::{ReadError, WriteError};
 
 /// Some of the members of a oneof.
 pub trait JsonChoice {
@@ -81,11 +83,13 @@ pub trait JsonChoice {
         out: &mut Vec<u8>,
         first: bool,
         oneof: &Self::Oneof,
-    ) -> Result<bool, AllocError>
+    ) -> Result<bool, WriteError>
         ensures ok { IfOk result (λ next. (ms : Members) × OneofTrees trees (seen oneof.now) ms
             × (out.new.items ≡ out.old.items ++ text_of_members first ms)
             × (next ≡ (first && is_no_member ms))) }
-        ensures err { OnErr result (Extends out.old.items out.new.items) };
+        ensures err { OnErr result (Extends out.old.items out.new.items) }
+        ensures no_text { IfErr result (λ e. e ≢ untold.OutOfMemory
+            → HasNoTree (OneofTrees trees) (seen oneof.now)) };
 }
 
 pub(crate) fn is_of_either<A: JsonChoice, B: JsonChoice>(name: &str) -> bool
@@ -102,13 +106,16 @@ pub fn write_chosen<V: JsonValue>(
     first: bool,
     field: &FieldName,
     held: Option<&V::Held>,
-) -> Result<bool, AllocError>
+) -> Result<bool, WriteError>
     ensures ok { IfOk result (λ next. (ms : Members)
         × OneofTrees (IsMemberTree V.tree field.now.json_name.now)
         (option_map (λ h. V.view h.now) held.entry) ms
         × (out.new.items ≡ out.old.items ++ text_of_members first ms)
         × (next ≡ (first && is_no_member ms))) }
     ensures err { OnErr result (Extends out.old.items out.new.items) }
+    ensures no_text { IfErr result (λ e. e ≢ untold.OutOfMemory
+        → HasNoTree (OneofTrees (IsMemberTree V.tree field.now.json_name.now))
+        (option_map (λ h. V.view h.now) held.entry)) }
 {
     match held {
         None => Ok(first),
@@ -195,7 +202,7 @@ impl<A: JsonChoice, B: JsonChoice<Oneof = A::Oneof>> JsonChoice for Either<A, B>
         out: &mut Vec<u8>,
         first: bool,
         oneof: &A::Oneof,
-    ) -> Result<bool, AllocError> {
+    ) -> Result<bool, WriteError> {
         if A::is_chosen(oneof) {
             A::write(alloc, out, first, oneof)
         } else {
@@ -210,12 +217,14 @@ pub fn write_oneof<C: JsonChoice>(
     out: &mut Vec<u8>,
     first: bool,
     oneof: &Option<C::Oneof>,
-) -> Result<bool, AllocError>
+) -> Result<bool, WriteError>
     ensures ok { IfOk result (λ next. (ms : Members)
         × OneofTrees C.trees (oneof_seen C.seen oneof.now) ms
         × (out.new.items ≡ out.old.items ++ text_of_members first ms)
         × (next ≡ (first && is_no_member ms))) }
     ensures err { OnErr result (Extends out.old.items out.new.items) }
+    ensures no_text { IfErr result (λ e. e ≢ untold.OutOfMemory
+        → HasNoTree (OneofTrees C.trees) (oneof_seen C.seen oneof.now)) }
 {
     match oneof {
         None => Ok(first),

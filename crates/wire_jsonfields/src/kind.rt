@@ -1,5 +1,5 @@
 //! Kinds of fields, by what stands for them in JSON.
-ghost use Rattle.std.specs.Prelude.{◌≡◌, ◌≢◌, ◌≤◌, ◌++◌, ◌&&◌, ℕ, List, Some, drop, IfOk, IfErr, OnOk, OnErr, MatchBool};
+ghost use Rattle.std.specs.Prelude.{◌≡◌, ◌≢◌, ◌≤◌, ◌++◌, ◌&&◌, Some, drop, IfOk, IfErr, OnOk, OnErr, MatchBool};
 ghost use Rattle.wire_json.specs.declared.kind.Kind.TheVariants as kinds;
 ghost use Rattle.wire_json.specs.Answer.{IsBehind};
 ghost use Rattle.wire_json.specs.Compact.{Extends};
@@ -11,11 +11,13 @@ ghost use Rattle.wire_jsonfields.specs.Back.{ComesBack};
 ghost use Rattle.wire_jsonfields.specs.Fields.{FieldMeans};
 ghost use Rattle.wire_jsonfields.specs.Flat.{AreFlat};
 ghost use Rattle.wire_jsonfields.specs.Levels.{NothingMeant, ReadsWithin};
+ghost use Rattle.wire_protojson.specs.declared.refusal.WriteError.TheVariants as untold;
 ghost use Rattle.wire_protojson.specs.Laws.{IsDecided};
 ghost use Rattle.wire_json.specs.Json.{member, no_member};
 ghost use Rattle.wire_jsonfields.specs.Messages.{IsFieldTree, comma_unless, is_no_member, text_of_members};
 ghost use Rattle.wire_jsonfields.specs.Objects.{ArePlaced, IsNameOf};
 ghost use Rattle.wire_jsonfields.specs.OneValues.{IsOneValued};
+ghost use Rattle.wire_jsonfields.specs.Told.{HasNoTree};
 ghost use Rattle.wire_protojson.specs.Reads.{ReadsMeaning, Refuses, RefusedAt, UnlessNoMemory};
 
 use crate::find::find;
@@ -24,7 +26,7 @@ use crate::object::PlacedMember;
 use std::alloc::{AllocError, Global};
 use std::marker::PhantomData;
 use wire_json::Mark;
-use wire_protojson::ReadError;
+use wire_protojson::{ReadError, WriteError};
 
 /// A scalar type of which JSON has values.
 pub trait JsonScalar {
@@ -117,11 +119,13 @@ pub trait JsonValue {
         ensures err { IfErr result (λ e. e ≢ OutOfMemory
             → NothingMeant levels means (drop at text.now)) };
 
-    /// Writes a value. A front of it may stand in the vector where memory is refused.
-    fn write_json(alloc: Global, out: &mut Vec<u8>, held: &Self::Held) -> Result<(), AllocError>
+    /// Writes a value. What the vector held stays in front.
+    fn write_json(alloc: Global, out: &mut Vec<u8>, held: &Self::Held) -> Result<(), WriteError>
         ensures ok { OnOk result ((json : Json) × tree (view held.now) json
             × (out.new.items ≡ out.old.items ++ written json)) }
-        ensures err { OnErr result (Extends out.old.items out.new.items) };
+        ensures err { OnErr result (Extends out.old.items out.new.items) }
+        ensures no_text { IfErr result (λ e. e ≢ untold.OutOfMemory
+            → HasNoTree tree (view held.now)) };
 }
 
 /// A kind of field, which may be left out.
@@ -169,8 +173,9 @@ impl<S: JsonScalar> JsonValue for Implicit<S> {
         S::read_json(alloc, text, at)
     }
 
-    fn write_json(alloc: Global, out: &mut Vec<u8>, held: &S::Held) -> Result<(), AllocError> {
-        S::write_json(alloc, out, held)
+    fn write_json(alloc: Global, out: &mut Vec<u8>, held: &S::Held) -> Result<(), WriteError> {
+        S::write_json(alloc, out, held)?;
+        Ok(())
     }
 }
 
@@ -232,10 +237,13 @@ impl<V: JsonValue> JsonValue for Maybe<V> {
         alloc: Global,
         out: &mut Vec<u8>,
         held: &Option<V::Held>,
-    ) -> Result<(), AllocError> {
+    ) -> Result<(), WriteError> {
         match held {
             Some(value) => V::write_json(alloc, out, value),
-            None => wire_json::write_null(out),
+            None => {
+                wire_json::write_null(out)?;
+                Ok(())
+            }
         }
     }
 }
@@ -250,52 +258,6 @@ impl<V: JsonValue> JsonKind for Maybe<V> {
             Some(_) => false,
             None => true,
         }
-    }
-}
-
-/// A value in a box.
-pub struct Boxed<V: JsonValue> {
-    value: PhantomData<V>,
-}
-
-impl<V: JsonValue> JsonValue for Boxed<V> {
-    ghost use Rattle.std.specs.Prelude.{box_value};
-
-    type Held = Box<V::Held>;
-
-    ghost Value = { V.Value };
-
-    ghost view = { λ held. V.view (box_value held) };
-
-    ghost means = { V.means };
-
-    ghost tree = { V.tree };
-
-    ghost absent = { V.absent };
-
-    ghost one_value = { V.one_value };
-
-    ghost in_range = { V.in_range };
-
-    ghost back = { V.back };
-
-    fn read_json(
-        alloc: Global,
-        text: &[u8],
-        at: usize,
-        levels: u32,
-    ) -> Result<(Box<V::Held>, usize), ReadError> {
-        match V::read_json(alloc, text, at, levels) {
-            Ok((value, after)) => match Box::new(alloc, value) {
-                Ok(boxed) => Ok((boxed, after)),
-                Err(_full) => Err(ReadError::OutOfMemory),
-            },
-            Err(error) => Err(error),
-        }
-    }
-
-    fn write_json(alloc: Global, out: &mut Vec<u8>, held: &Box<V::Held>) -> Result<(), AllocError> {
-        V::write_json(alloc, out, held)
     }
 }
 
@@ -331,19 +293,21 @@ pub fn read_field<K: JsonKind>(
 }
 
 /// Writes a field of an object, of which it may be the first; whether what follows is the first is
-/// answered. A front of the member may stand in the vector where memory is refused.
+/// answered. What the vector held stays in front.
 pub fn write_field<K: JsonKind>(
     alloc: Global,
     out: &mut Vec<u8>,
     first: bool,
     field: &FieldName,
     held: &K::Held,
-) -> Result<bool, AllocError>
+) -> Result<bool, WriteError>
     ensures ok { IfOk result (λ next. (ms : Members)
         × IsFieldTree K.absent K.tree field.now.json_name.now (K.view held.now) ms
         × (out.new.items ≡ out.old.items ++ text_of_members first ms)
         × (next ≡ (first && is_no_member ms))) }
     ensures err { OnErr result (Extends out.old.items out.new.items) }
+    ensures no_text { IfErr result (λ e. e ≢ untold.OutOfMemory
+        → HasNoTree (IsFieldTree K.absent K.tree field.now.json_name.now) (K.view held.now)) }
 {
     if K::is_absent(held) {
         return Ok(first);
@@ -352,19 +316,20 @@ pub fn write_field<K: JsonKind>(
     Ok(false)
 }
 
-/// Writes a member, of which the object may have none before. A front of it may stand in the vector
-/// where memory is refused.
+/// Writes a member, of which the object may have none before. What the vector held stays in front.
 pub fn write_member<V: JsonValue>(
     alloc: Global,
     out: &mut Vec<u8>,
     first: bool,
     field: &FieldName,
     held: &V::Held,
-) -> Result<(), AllocError>
+) -> Result<(), WriteError>
     ensures ok { OnOk result ((e : Json) × V.tree (V.view held.now) e
         × (out.new.items ≡ out.old.items
         ++ text_of_members first (member field.now.json_name.now e no_member))) }
     ensures err { OnErr result (Extends out.old.items out.new.items) }
+    ensures no_text { IfErr result (λ e. e ≢ untold.OutOfMemory
+        → HasNoTree V.tree (V.view held.now)) }
 {
     write_comma(out, first)?;
     wire_json::write_name(out, field.json_name)?;

@@ -8,6 +8,7 @@
 #![tactic(auto)]
 
 pub mod batch;
+mod boxed;
 mod by_parts;
 mod choice;
 mod enum_field;
@@ -22,24 +23,27 @@ pub mod laws;
 mod list;
 mod map;
 mod message;
+mod no_field;
 mod object;
 mod oneof;
 pub mod origin;
 mod part;
 pub mod sample;
 
+pub use boxed::Boxed;
 pub use by_parts::{read_parts, write_parts};
 pub use choice::{Chosen, Either, JsonChoice, write_chosen, write_oneof};
 pub use enum_field::{EnumOf, JsonEnum};
 pub use key::JsonKey;
 pub use kind::{
-    Boxed, Implicit, JsonKind, JsonScalar, JsonValue, Maybe, Optional, read_field, write_field,
+    Implicit, JsonKind, JsonScalar, JsonValue, Maybe, Optional, read_field, write_field,
     write_member,
 };
 pub use known::{FieldName, check_names};
 pub use list::Repeated;
 pub use map::Map;
 pub use message::{Embedded, JsonMessage, from_json, to_json};
+pub use no_field::{NoField, Nothing};
 pub use object::{Object, PlacedMember, read_object};
 pub use oneof::second_of_oneof;
 pub use part::{Both, JsonPart};

@@ -5,14 +5,16 @@ ghost use Rattle.wire_json.specs.Compact.{Extends};
 ghost use Rattle.wire_json.specs.Json.{Json};
 ghost use Rattle.wire_json.specs.Written.{written};
 ghost use Rattle.wire_protojson.specs.declared.refusal.ReadError.TheVariants.{OutOfMemory};
+ghost use Rattle.wire_protojson.specs.declared.refusal.WriteError.TheVariants as untold;
 ghost use Rattle.wire_jsonfields.specs.Levels.{NothingMeant, ReadsWithin};
 ghost use Rattle.wire_jsonfields.specs.Lists.{IsListTree, ListMeans};
+ghost use Rattle.wire_jsonfields.specs.Told.{HasNoTree};
 
 use crate::kind::{JsonKind, JsonValue, write_comma};
 use std::alloc::{AllocError, Global};
 use std::marker::PhantomData;
 use wire_json::{Fault, FaultKind, Mark, Next};
-use wire_protojson::{ReadError, no_json, no_value};
+use wire_protojson::{ReadError, WriteError, no_json, no_value};
 
 /// A list, of which each element is a value of this kind; `null` is none.
 pub struct Repeated<V: JsonValue> {
@@ -52,7 +54,7 @@ impl<V: JsonValue> JsonValue for Repeated<V> {
         read_elements::<V>(alloc, text, at, levels)
     }
 
-    fn write_json(alloc: Global, out: &mut Vec<u8>, held: &Vec<V::Held>) -> Result<(), AllocError> {
+    fn write_json(alloc: Global, out: &mut Vec<u8>, held: &Vec<V::Held>) -> Result<(), WriteError> {
         write_elements::<V>(alloc, out, held.as_slice())
     }
 }
@@ -121,10 +123,12 @@ fn write_elements<V: JsonValue>(
     alloc: Global,
     out: &mut Vec<u8>,
     list: &[V::Held],
-) -> Result<(), AllocError>
+) -> Result<(), WriteError>
     ensures ok { OnOk result ((json : Json) × IsListTree V.tree (map V.view list.now) json
         × (out.new.items ≡ out.old.items ++ written json)) }
     ensures err { OnErr result (Extends out.old.items out.new.items) }
+    ensures no_text { IfErr result (λ e. e ≢ untold.OutOfMemory
+        → HasNoTree (IsListTree V.tree) (map V.view list.now)) }
 {
     wire_json::write_mark(out, Mark::BeginArray)?;
     let mut first = true;
@@ -133,5 +137,6 @@ fn write_elements<V: JsonValue>(
         first = false;
         V::write_json(alloc, out, held)?;
     }
-    wire_json::write_mark(out, Mark::EndArray)
+    wire_json::write_mark(out, Mark::EndArray)?;
+    Ok(())
 }

@@ -1,16 +1,16 @@
 //! Maps.
-ghost use Rattle.std.specs.Prelude.{◌≡◌, ◌≢◌, ◌≤◌, ◌++◌, List, [], drop, IfOk, IfErr, OnOk, OnErr, is_some};
+ghost use Rattle.std.specs.Prelude.{◌≡◌, ◌≢◌, ◌≤◌, ◌++◌, List, [], IfOk, IfErr, OnOk, OnErr, is_some};
 ghost use Rattle.std.specs.BTreeMap.{insert_entry, is_at};
 ghost use Rattle.std.specs.Map.{lookup};
-ghost use Rattle.wire_json.specs.Answer.{IsBehind};
 ghost use Rattle.wire_json.specs.Compact.{Extends};
 ghost use Rattle.wire_json.specs.Json.{Json, Members, member, members_depth, no_member};
 ghost use Rattle.wire_json.specs.Written.{written};
 ghost use Rattle.wire_protojson.specs.declared.refusal.ReadError.TheVariants.{OutOfMemory};
-ghost use Rattle.wire_jsonfields.specs.Levels.{NothingMeant, ReadsWithin};
+ghost use Rattle.wire_protojson.specs.declared.refusal.WriteError.TheVariants as untold;
 ghost use Rattle.wire_jsonfields.specs.Maps.{IsMapTree, MapMeans, MembersPut, entries_seen};
 ghost use Rattle.wire_jsonfields.specs.Messages.{text_of_members};
 ghost use Rattle.wire_jsonfields.specs.Objects.{ArePlaced};
+ghost use Rattle.wire_jsonfields.specs.Told.{HasNoTree};
 
 use crate::key::JsonKey;
 use crate::kind::{JsonKind, JsonValue, write_comma};
@@ -19,7 +19,7 @@ use std::alloc::{AllocError, Global};
 use std::collections::BTreeMap;
 use std::marker::PhantomData;
 use wire_json::Mark;
-use wire_protojson::{ReadError, Reason, Refusal};
+use wire_protojson::{ReadError, Reason, Refusal, WriteError};
 
 /// A map, of which each member of an object is an entry. Two members of one key are refused, also
 /// where their names differ, as `1` and `01`; `null` is no value.
@@ -72,7 +72,7 @@ impl<K: JsonKey, V: JsonValue> JsonValue for Map<K, V> {
         alloc: Global,
         out: &mut Vec<u8>,
         held: &BTreeMap<K::Held, V::Held>,
-    ) -> Result<(), AllocError> {
+    ) -> Result<(), WriteError> {
         write_map::<K, V>(alloc, out, held)
     }
 }
@@ -147,11 +147,13 @@ fn write_map<K: JsonKey, V: JsonValue>(
     alloc: Global,
     out: &mut Vec<u8>,
     map: &BTreeMap<K::Held, V::Held>,
-) -> Result<(), AllocError>
+) -> Result<(), WriteError>
     ensures ok { OnOk result ((json : Json)
         × IsMapTree K.name V.tree (entries_seen K.view V.view map.now.entries) json
         × (out.new.items ≡ out.old.items ++ written json)) }
     ensures err { OnErr result (Extends out.old.items out.new.items) }
+    ensures no_text { IfErr result (λ e. e ≢ untold.OutOfMemory
+        → HasNoTree (IsMapTree K.name V.tree) (entries_seen K.view V.view map.now.entries)) }
 {
     wire_json::write_mark(out, Mark::BeginObject)?;
     let mut first = true;
@@ -159,7 +161,8 @@ fn write_map<K: JsonKey, V: JsonValue>(
         write_entry::<K, V>(alloc, out, first, key, value)?;
         first = false;
     }
-    wire_json::write_mark(out, Mark::EndObject)
+    wire_json::write_mark(out, Mark::EndObject)?;
+    Ok(())
 }
 
 // Writes the member of an entry.
@@ -169,11 +172,13 @@ fn write_entry<K: JsonKey, V: JsonValue>(
     first: bool,
     key: &K::Held,
     value: &V::Held,
-) -> Result<(), AllocError>
+) -> Result<(), WriteError>
     ensures ok { OnOk result ((e : Json) × V.tree (V.view value.now) e
         × (out.new.items ≡ out.old.items
         ++ text_of_members first (member (K.name (K.view key.now)) e no_member))) }
     ensures err { OnErr result (Extends out.old.items out.new.items) }
+    ensures no_text { IfErr result (λ e. e ≢ untold.OutOfMemory
+        → HasNoTree V.tree (V.view value.now)) }
 {
     write_comma(out, first)?;
     K::write_key(out, key)?;

@@ -1,19 +1,18 @@
 //! Messages, read from objects and from whole texts.
-ghost use Rattle.std.specs.Prelude.{◌≡◌, ◌≢◌, ◌++◌, drop, IfOk, IfErr, OnOk, OnErr};
-ghost use Rattle.wire_json.specs.Answer.{IsBehind};
-ghost use Rattle.wire_json.specs.Compact.{Extends};
+ghost use Rattle.std.specs.Prelude.{◌≡◌, ◌≢◌, IfOk, IfErr};
 ghost use Rattle.wire_json.specs.Json.{Json, no_member, object};
 ghost use Rattle.wire_json.specs.Written.{written};
 ghost use Rattle.wire_protojson.specs.declared.refusal.ReadError.TheVariants.{OutOfMemory};
-ghost use Rattle.wire_jsonfields.specs.Back.{ComesBack};
-ghost use Rattle.wire_jsonfields.specs.Levels.{NothingMeant, ReadsWithin, SpellsWithin};
-ghost use Rattle.wire_jsonfields.specs.OneValues.{IsOneValued};
+ghost use Rattle.wire_protojson.specs.declared.refusal.WriteError.TheVariants as untold;
+ghost use Rattle.wire_jsonfields.specs.Levels.{SpellsWithin};
+ghost use Rattle.wire_jsonfields.specs.Told.{HasNoTree};
 
-use crate::kind::{Boxed, JsonValue, Maybe};
-use std::alloc::{AllocError, Global};
+use crate::boxed::Boxed;
+use crate::kind::{JsonValue, Maybe};
+use std::alloc::Global;
 use std::marker::PhantomData;
 use wire_json::{Fault, FaultKind};
-use wire_protojson::{ReadError, no_json};
+use wire_protojson::{ReadError, WriteError, no_json};
 
 /// A message type, as a kind of value: an element of a list, a value of a map or a member of a
 /// oneof, which is always there.
@@ -22,10 +21,12 @@ pub trait JsonMessage: JsonValue {
     ghost default_meant: { Self.means (object no_member) Self.absent };
 }
 
-/// The compact text of a value.
-pub fn to_json<V: JsonValue>(alloc: Global, held: &V::Held) -> Result<Vec<u8>, AllocError>
-    ensures { IfOk result (λ out. (json : Json) × V.tree (V.view held.now) json
+/// The compact text of a value. One that the mapping has no text for is refused.
+pub fn to_json<V: JsonValue>(alloc: Global, held: &V::Held) -> Result<Vec<u8>, WriteError>
+    ensures ok { IfOk result (λ out. (json : Json) × V.tree (V.view held.now) json
         × (out.items ≡ written json)) }
+    ensures no_text { IfErr result (λ e. e ≢ untold.OutOfMemory
+        → HasNoTree V.tree (V.view held.now)) }
 {
     let mut out = Vec::new(alloc);
     V::write_json(alloc, &mut out, held)?;

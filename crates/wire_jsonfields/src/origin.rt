@@ -2,13 +2,14 @@
 ghost use Rattle.std.specs.Prelude.{◌≡◌, option_map};
 ghost use Rattle.wire_jsonfields.specs.Batch.{origin-file, origin-template};
 
+use crate::boxed::Boxed;
 use crate::choice::{JsonChoice, write_chosen};
-use crate::kind::{Boxed, Implicit, Maybe, read_field};
+use crate::kind::{Implicit, Maybe, read_field};
 use crate::known::FieldName;
 use crate::object::PlacedMember;
 use crate::sample::Sample;
-use std::alloc::{AllocError, Global};
-use wire_protojson::ReadError;
+use std::alloc::Global;
+use wire_protojson::{ReadError, WriteError};
 
 /// Where a batch is from.
 #[derive(Drop)]
@@ -79,7 +80,7 @@ impl JsonChoice for OriginFile {
         out: &mut Vec<u8>,
         first: bool,
         oneof: &Origin,
-    ) -> Result<bool, AllocError> {
+    ) -> Result<bool, WriteError> {
         write_chosen::<Implicit<String>>(alloc, out, first, &FILE, file_of(oneof))
     }
 }
@@ -146,7 +147,7 @@ impl JsonChoice for OriginTemplate {
         out: &mut Vec<u8>,
         first: bool,
         oneof: &Origin,
-    ) -> Result<bool, AllocError> {
+    ) -> Result<bool, WriteError> {
         write_chosen::<Boxed<Sample>>(alloc, out, first, &TEMPLATE, template_of(oneof))
     }
 }

@@ -3,16 +3,18 @@ ghost use Rattle.std.specs.Prelude.{◌≡◌, ◌≢◌, ◌≤◌, ◌++◌, �
 ghost use Rattle.wire_json.specs.Compact.{Extends};
 ghost use Rattle.wire_json.specs.Json.{Members, members_depth, no_member};
 ghost use Rattle.wire_protojson.specs.declared.refusal.ReadError.TheVariants.{OutOfMemory};
+ghost use Rattle.wire_protojson.specs.declared.refusal.WriteError.TheVariants as untold;
 ghost use Rattle.wire_jsonfields.specs.Messages.{is_no_member, text_of_members};
 ghost use Rattle.wire_jsonfields.specs.Names.{IsOneOf, Names};
 ghost use Rattle.wire_jsonfields.specs.Parts.{PartComesBack};
 ghost use Rattle.wire_jsonfields.specs.Objects.{ArePlaced};
 ghost use Rattle.wire_jsonfields.specs.OneValues.{SayOne};
+ghost use Rattle.wire_jsonfields.specs.Told.{HasNoTree};
 
 use crate::object::PlacedMember;
-use std::alloc::{AllocError, Global};
+use std::alloc::Global;
 use std::marker::PhantomData;
-use wire_protojson::ReadError;
+use wire_protojson::{ReadError, WriteError};
 
 /// Some of what a message type has, which is read of the members of one object.
 pub trait JsonPart {
@@ -74,11 +76,13 @@ pub trait JsonPart {
         out: &mut Vec<u8>,
         first: bool,
         message: &Self::Message,
-    ) -> Result<bool, AllocError>
+    ) -> Result<bool, WriteError>
         ensures ok { IfOk result (λ next. (ms : Members) × trees (seen message.now) ms
             × (out.new.items ≡ out.old.items ++ text_of_members first ms)
             × (next ≡ (first && is_no_member ms))) }
-        ensures err { OnErr result (Extends out.old.items out.new.items) };
+        ensures err { OnErr result (Extends out.old.items out.new.items) }
+        ensures no_text { IfErr result (λ e. e ≢ untold.OutOfMemory
+            → HasNoTree trees (seen message.now)) };
 }
 
 /// A part, and another behind it.
@@ -137,7 +141,7 @@ impl<A: JsonPart, B: JsonPart<Message = A::Message>> JsonPart for Both<A, B> {
         out: &mut Vec<u8>,
         first: bool,
         message: &A::Message,
-    ) -> Result<bool, AllocError> {
+    ) -> Result<bool, WriteError> {
         let next = A::write(alloc, out, first, message)?;
         B::write(alloc, out, next, message)
     }

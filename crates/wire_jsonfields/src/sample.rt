@@ -8,8 +8,8 @@ use crate::known::FieldName;
 use crate::message::JsonMessage;
 use crate::object::PlacedMember;
 use crate::part::{Both, JsonPart};
-use std::alloc::{AllocError, Global};
-use wire_protojson::ReadError;
+use std::alloc::Global;
+use wire_protojson::{ReadError, WriteError};
 
 /// What was measured once.
 #[derive(Drop)]
@@ -87,7 +87,7 @@ impl JsonPart for SampleName {
         out: &mut Vec<u8>,
         first: bool,
         message: &Sample,
-    ) -> Result<bool, AllocError> {
+    ) -> Result<bool, WriteError> {
         write_field::<Implicit<String>>(alloc, out, first, &NAME, &message.name)
     }
 }
@@ -142,7 +142,7 @@ impl JsonPart for SampleValue {
         out: &mut Vec<u8>,
         first: bool,
         message: &Sample,
-    ) -> Result<bool, AllocError> {
+    ) -> Result<bool, WriteError> {
         write_field::<Implicit<f64>>(alloc, out, first, &VALUE, &message.value)
     }
 }
@@ -197,7 +197,7 @@ impl JsonPart for SampleCount {
         out: &mut Vec<u8>,
         first: bool,
         message: &Sample,
-    ) -> Result<bool, AllocError> {
+    ) -> Result<bool, WriteError> {
         write_field::<Optional<i64>>(alloc, out, first, &COUNT, &message.sample_count)
     }
 }
@@ -244,7 +244,7 @@ impl JsonValue for Sample {
         ))
     }
 
-    fn write_json(alloc: Global, out: &mut Vec<u8>, held: &Sample) -> Result<(), AllocError> {
+    fn write_json(alloc: Global, out: &mut Vec<u8>, held: &Sample) -> Result<(), WriteError> {
         write_parts::<SampleParts>(alloc, out, held)
     }
 }

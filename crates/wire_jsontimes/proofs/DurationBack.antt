@@ -14,7 +14,7 @@ use Rattle.wire_json.specs.Json.{Json, null, boolean, number, string, array, obj
 use Rattle.wire_protojson.specs.Decided.{decided}
 use Rattle.wire_protojson.proofs.ReadBack.{by_meaning}
 use Rattle.wire_jsontimes.specs.Laws.{DurationIsDecided, DurationReadsBack}
-use Rattle.wire_jsontimes.specs.Durations.{IsDuration, MeansDuration, duration_behind, duration_if, duration_of, duration_text, minus_text, signed}
+use Rattle.wire_jsontimes.specs.Durations.{IsDuration, IsDurationTree, MeansDuration, duration_behind, duration_if, duration_of, duration_text, minus_text, signed}
 use Rattle.wire_jsontimes.proofs.Taken.{digits_taken, first_is_digit, six_zeros, taken_if, three_taken, three_zeros, whole_begun}
 
 -- ---- seconds
@@ -243,14 +243,20 @@ duration_is_text negative whole nanos small =
     (IsUtf8-append (fraction_text nanos) (115 ∷ []) (fraction_is_text nanos)
     (one_text 115 (omega arith))))
 
-pub duration_read_back : DurationReadsBack
-duration_read_back value json (negative, whole, nanos, h, is) =
-    let text = duration_text negative whole nanos in
+pub duration_lawful : (value : ℤ × ℤ) (json : Json) → IsDurationTree value json → IsLawful json
+duration_lawful value json (negative, whole, nanos, h, is) =
+    subst IsLawful (sym is) (duration_is_text negative whole nanos (omega (arith, h.few_seconds)))
+
+pub duration_means : (value : ℤ × ℤ) (json : Json) → IsDurationTree value json
+    → MeansDuration json value
+duration_means value json (negative, whole, nanos, h, is) =
     let P : Json → Type 0 = λ j. MeansDuration j value in
-    by_meaning MeansDuration value json
-    (subst IsLawful (sym is)
-    (duration_is_text negative whole nanos (omega (arith, h.few_seconds))))
-    (subst P (sym is) (duration_back negative whole nanos value h))
+    subst P (sym is) (duration_back negative whole nanos value h)
+
+pub duration_read_back : DurationReadsBack
+duration_read_back value json tree =
+    by_meaning MeansDuration value json (duration_lawful value json tree)
+    (duration_means value json tree)
 
 one_meaning : (json : Json) (v w : ℤ × ℤ) → MeansDuration json v → MeansDuration json w → v ≡ w
 one_meaning (string bytes) v w p q = same (sym p ∙ q)

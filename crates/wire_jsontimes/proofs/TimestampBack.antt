@@ -1,5 +1,5 @@
 -- What is written of a timestamp is read as it.
-use Rattle.std.proofs.Common.{◌≡◌, ℕ, zero, suc, ◌+◌, ◌-◌, ◌*◌, ◌/◌, ◌%◌, ◌<◌, ◌≤◌, Bool, true, false, cond, nat_lt, ◌&&◌, ◌==◌, List, [], ◌∷◌, ◌++◌, Option, Some, None, refl, sym, ap, ◌∙◌, subst, arith, ℤ, pos, neg_ℤ, ◌+ℤ◌, ◌-ℤ◌, ◌≤ℤ◌}
+use Rattle.std.proofs.Common.{◌≡◌, ℕ, suc, ◌+◌, ◌-◌, ◌*◌, ◌/◌, ◌%◌, ◌<◌, Bool, true, false, cond, nat_lt, ◌&&◌, ◌==◌, List, [], ◌∷◌, ◌++◌, Option, Some, None, refl, sym, ap, ◌∙◌, subst, arith, ℤ, pos, ◌+ℤ◌, ◌-ℤ◌}
 use Rattle.std.proofs.lemmas.Bool.Decides.{nat_tests}
 use Rattle.std.proofs.lemmas.Str.{IsUtf8-append, digit_value-digit_char}
 use Rattle.std.specs.Char.{digit_char, digit_value}
@@ -12,7 +12,7 @@ use Rattle.wire_protojson.specs.Decided.{decided}
 use Rattle.wire_protojson.proofs.ReadBack.{by_meaning}
 use Rattle.wire_jsontimes.specs.Digits.{Front, fraction_at, fraction_text, is_digit}
 use Rattle.wire_jsontimes.specs.Laws.{TimestampIsDecided, TimestampReadsBack}
-use Rattle.wire_jsontimes.specs.Timestamps.{IsTimestamp, MeansTimestamp, clock_at, clock_of, clock_text, date_at, date_of, digit_at, in_four, four_then, is_date, is_second, offset_at, seconds_of, then_byte, timestamp_if, timestamp_of, timestamp_text, in_two, two_more, two_then}
+use Rattle.wire_jsontimes.specs.Timestamps.{IsTimestamp, IsTimestampTree, MeansTimestamp, clock_at, clock_of, clock_text, date_at, date_of, digit_at, in_four, four_then, is_date, is_second, offset_at, seconds_of, then_byte, timestamp_if, timestamp_of, timestamp_text, in_two, two_more, two_then}
 use Rattle.wire_jsontimes.proofs.DurationBack.{ascii_text, fraction_back, fraction_is_text, one_text, small_digit}
 use Rattle.wire_jsontimes.proofs.Taken.{digit_test}
 
@@ -197,12 +197,21 @@ timestamp_is_text y m d clock nanos =
     (clock_is_text clock _ (IsUtf8-append (fraction_text nanos) (90 ∷ []) (fraction_is_text nanos)
     (one_text 90 (omega arith)))))))))
 
-pub timestamp_read_back : TimestampReadsBack
-timestamp_read_back value json (y, m, d, clock, nanos, h, is) =
+pub timestamp_lawful : (value : ℤ × ℤ) (json : Json) → IsTimestampTree value json
+    → IsLawful json
+timestamp_lawful value json (y, m, d, clock, nanos, h, is) =
+    subst IsLawful (sym is) (timestamp_is_text y m d clock nanos)
+
+pub timestamp_means : (value : ℤ × ℤ) (json : Json) → IsTimestampTree value json
+    → MeansTimestamp json value
+timestamp_means value json (y, m, d, clock, nanos, h, is) =
     let P : Json → Type 0 = λ j. MeansTimestamp j value in
-    by_meaning MeansTimestamp value json
-    (subst IsLawful (sym is) (timestamp_is_text y m d clock nanos))
-    (subst P (sym is) (timestamp_back y m d clock nanos value h))
+    subst P (sym is) (timestamp_back y m d clock nanos value h)
+
+pub timestamp_read_back : TimestampReadsBack
+timestamp_read_back value json tree =
+    by_meaning MeansTimestamp value json (timestamp_lawful value json tree)
+    (timestamp_means value json tree)
 
 one_meaning : (json : Json) (v w : ℤ × ℤ) → MeansTimestamp json v → MeansTimestamp json w → v ≡ w
 one_meaning (string bytes) v w p q = same (sym p ∙ q)

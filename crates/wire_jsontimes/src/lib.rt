@@ -12,4 +12,4 @@ mod write;
 pub use duration::{JsonDuration, read_duration};
 pub use stamp::write_timestamp;
 pub use timestamp::{JsonTimestamp, read_timestamp};
-pub use write::{WriteError, write_duration};
+pub use write::write_duration;

@@ -1,5 +1,5 @@
 //! Timestamps, put as compact JSON behind what a vector holds.
-ghost use Rattle.std.specs.Prelude.{◌≡◌, ◌<◌, ◌≤ℤ◌, ◌+ℤ◌, ◌++◌, ◌∷◌, [], true, pos, unsigned_abs, IfOk, IfErr, OnOk, OnErr, string_bytes};
+ghost use Rattle.std.specs.Prelude.{◌≡◌, ◌≢◌, ◌<◌, ◌≤ℤ◌, ◌+ℤ◌, ◌++◌, ◌∷◌, [], true, pos, unsigned_abs, IfOk, IfErr, OnOk, OnErr, string_bytes};
 ghost use Rattle.jiff_core.specs.Calendar.{days_from_civil};
 ghost use Rattle.wire_json.specs.Compact.{Extends};
 ghost use Rattle.wire_json.specs.Json.{Json};
@@ -8,9 +8,10 @@ ghost use Rattle.wire_jsontimes.specs.Timestamps.{IsTimestamp, IsTimestampTree, 
 ghost use Rattle.wire_jsontimes.specs.Digits.{fraction_text};
 
 use crate::timestamp::{JsonTimestamp, is_second as is_in_range};
-use crate::write::{WriteError, push_digit, push_fraction};
+use crate::write::{push_digit, push_fraction};
 use jiff_core::civil::Date;
 use std::alloc::{AllocError, Global};
+use wire_protojson::WriteError;
 
 fn push_two(out: &mut String, value: u32) -> Result<(), AllocError>
     ensures { OnOk result (string_bytes out.new ≡ string_bytes out.old ++ in_two value) }
@@ -121,7 +122,7 @@ pub fn write_timestamp(
     ensures ok { OnOk result ((json : Json)
         × IsTimestampTree (timestamp.seconds, timestamp.nanos) json
         × (out.new.items ≡ out.old.items ++ written json)) }
-    ensures out_of_range { IfErr result (λ e. e ≡ WriteError.OutOfRange → (json : Json)
+    ensures no_text { IfErr result (λ e. e ≢ WriteError.OutOfMemory → (json : Json)
         → IsTimestampTree (timestamp.seconds, timestamp.nanos) json → ⊥) }
     ensures stays { IfErr result (λ e. e ≡ WriteError.OutOfRange
         → out.new.items ≡ out.old.items) }

@@ -1,5 +1,5 @@
 //! Durations, put as compact JSON behind what a vector holds.
-ghost use Rattle.std.specs.Prelude.{◌≡◌, ◌<◌, ◌++◌, [], ◌∷◌, IfOk, IfErr, MatchOption, OnOk, OnErr, Bool, ℕ, string_bytes};
+ghost use Rattle.std.specs.Prelude.{◌≡◌, ◌≢◌, ◌<◌, ◌++◌, [], ◌∷◌, IfOk, IfErr, MatchOption, OnOk, OnErr, Bool, ℕ, string_bytes};
 ghost use Rattle.std.specs.Char.{digit_char};
 ghost use Rattle.wire_json.specs.Compact.{Extends};
 ghost use Rattle.wire_json.specs.Json.{Json};
@@ -10,29 +10,7 @@ ghost use Rattle.wire_jsontimes.specs.Durations.{IsDuration, IsDurationTree, dur
 use crate::duration::JsonDuration;
 use itoa::Buffer;
 use std::alloc::{AllocError, Global};
-use thiserror::Error;
-
-/// Why nothing is written.
-#[derive(Clone, Copy, Debug, PartialEq, Eq, Drop, Error)]
-pub enum WriteError {
-    /// The value is out of range, or its parts have two signs.
-    #[error("out of range")]
-    OutOfRange,
-
-    /// Memory ran out.
-    #[error("out of memory")]
-    OutOfMemory,
-}
-
-impl From<AllocError> for WriteError {
-    ghost use Rattle.wire_jsontimes.specs.declared.write.WriteError.TheVariants.{OutOfMemory};
-
-    ghost from_gives = { λ _ e. e ≡ OutOfMemory };
-
-    fn from(_error: AllocError) -> WriteError {
-        WriteError::OutOfMemory
-    }
-}
+use wire_protojson::WriteError;
 
 pub(crate) fn push_digit(out: &mut String, digit: u32) -> Result<(), AllocError>
     requires { digit < 10 }
@@ -141,7 +119,7 @@ pub fn write_duration(
     ensures ok { OnOk result ((json : Json)
         × IsDurationTree (duration.seconds, duration.nanos) json
         × (out.new.items ≡ out.old.items ++ written json)) }
-    ensures out_of_range { IfErr result (λ e. e ≡ WriteError.OutOfRange → (json : Json)
+    ensures no_text { IfErr result (λ e. e ≢ WriteError.OutOfMemory → (json : Json)
         → IsDurationTree (duration.seconds, duration.nanos) json → ⊥) }
     ensures stays { IfErr result (λ e. e ≡ WriteError.OutOfRange
         → out.new.items ≡ out.old.items) }

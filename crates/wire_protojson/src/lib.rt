@@ -17,7 +17,7 @@ mod token;
 mod write;
 
 pub use enums::{EnumName, read_enum, write_enum};
-pub use refusal::{ReadError, Reason, Refusal, no_json, no_value};
+pub use refusal::{ReadError, Reason, Refusal, WriteError, no_json, no_value};
 pub use scalar::{
     read_bool, read_bytes, read_double, read_float, read_int32, read_int64, read_string,
     read_uint32, read_uint64,

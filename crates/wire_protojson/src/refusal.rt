@@ -1,4 +1,4 @@
-//! Why a text is refused.
+//! Why a text is refused, and why nothing is written.
 ghost use Rattle.std.specs.Prelude.{◌≡◌};
 ghost use Rattle.wire_protojson.specs.declared.refusal.Reason.TheVariants.{NoJson, NoValue};
 
@@ -55,6 +55,29 @@ impl From<AllocError> for ReadError {
 
     fn from(_error: AllocError) -> ReadError {
         ReadError::OutOfMemory
+    }
+}
+
+/// Why a value is not written.
+#[derive(Clone, Copy, Debug, PartialEq, Eq, Drop, Error)]
+pub enum WriteError {
+    /// A timestamp or a duration is out of range, or the parts of a duration have two signs: the
+    /// mapping has no text for it.
+    #[error("out of range")]
+    OutOfRange,
+
+    /// Memory ran out.
+    #[error("out of memory")]
+    OutOfMemory,
+}
+
+impl From<AllocError> for WriteError {
+    ghost use Rattle.wire_protojson.specs.declared.refusal.WriteError.TheVariants.{OutOfMemory};
+
+    ghost from_gives = { λ _ e. e ≡ OutOfMemory };
+
+    fn from(_error: AllocError) -> WriteError {
+        WriteError::OutOfMemory
     }
 }
 

@@ -2,7 +2,7 @@
 use crate::report_level_json::ReportLevelJson;
 use crate::report_origin_json::{HeldReportOriginJson, ReportOriginJson, report_origin_of};
 use crate::report_sample_json::ReportSampleJson;
-use std::alloc::{AllocError, Global};
+use std::alloc::Global;
 use std::collections::BTreeMap;
 use wire_codec::{EnumValue, UnknownFields};
 use wire_fields::DoubleBits;
@@ -12,7 +12,7 @@ use wire_jsonfields::{
     write_parts,
 };
 use wire_jsonkinds::{Double, EnumNamed};
-use wire_protojson::ReadError;
+use wire_protojson::{ReadError, WriteError};
 use wire_report::{Report, ReportLevel, ReportSample};
 
 /// `report.Report` by the JSON mapping.
@@ -182,7 +182,7 @@ impl JsonPart for OfHost {
         out: &mut Vec<u8>,
         first: bool,
         message: &Report,
-    ) -> Result<bool, AllocError> {
+    ) -> Result<bool, WriteError> {
         write_field::<Implicit<String>>(alloc, out, first, &HOST, &message.host)
     }
 }
@@ -239,7 +239,7 @@ impl JsonPart for OfSentAt {
         out: &mut Vec<u8>,
         first: bool,
         message: &Report,
-    ) -> Result<bool, AllocError> {
+    ) -> Result<bool, WriteError> {
         write_field::<Implicit<u64>>(alloc, out, first, &SENT_AT, &message.sent_at)
     }
 }
@@ -298,7 +298,7 @@ impl JsonPart for OfLevel {
         out: &mut Vec<u8>,
         first: bool,
         message: &Report,
-    ) -> Result<bool, AllocError> {
+    ) -> Result<bool, WriteError> {
         write_field::<Implicit<EnumNamed<ReportLevelJson>>>(
             alloc,
             out,
@@ -363,7 +363,7 @@ impl JsonPart for OfSamples {
         out: &mut Vec<u8>,
         first: bool,
         message: &Report,
-    ) -> Result<bool, AllocError> {
+    ) -> Result<bool, WriteError> {
         write_field::<Repeated<ReportSampleJson>>(alloc, out, first, &SAMPLES, &message.samples)
     }
 }
@@ -422,7 +422,7 @@ impl JsonPart for OfLabels {
         out: &mut Vec<u8>,
         first: bool,
         message: &Report,
-    ) -> Result<bool, AllocError> {
+    ) -> Result<bool, WriteError> {
         write_field::<Map<String, Implicit<String>>>(alloc, out, first, &LABELS, &message.labels)
     }
 }
@@ -481,7 +481,7 @@ impl JsonPart for OfLast {
         out: &mut Vec<u8>,
         first: bool,
         message: &Report,
-    ) -> Result<bool, AllocError> {
+    ) -> Result<bool, WriteError> {
         write_field::<Map<i32, ReportSampleJson>>(alloc, out, first, &LAST, &message.last)
     }
 }
@@ -540,7 +540,7 @@ impl JsonPart for OfLoad {
         out: &mut Vec<u8>,
         first: bool,
         message: &Report,
-    ) -> Result<bool, AllocError> {
+    ) -> Result<bool, WriteError> {
         write_field::<Optional<Double>>(alloc, out, first, &LOAD, &message.load)
     }
 }
@@ -598,7 +598,7 @@ impl JsonPart for OfOffsets {
         out: &mut Vec<u8>,
         first: bool,
         message: &Report,
-    ) -> Result<bool, AllocError> {
+    ) -> Result<bool, WriteError> {
         write_field::<Repeated<Implicit<i32>>>(alloc, out, first, &OFFSETS, &message.offsets)
     }
 }
@@ -656,7 +656,7 @@ impl JsonPart for OfPorts {
         out: &mut Vec<u8>,
         first: bool,
         message: &Report,
-    ) -> Result<bool, AllocError> {
+    ) -> Result<bool, WriteError> {
         write_field::<Repeated<Implicit<u32>>>(alloc, out, first, &PORTS, &message.ports)
     }
 }
@@ -714,7 +714,7 @@ impl JsonPart for OfNotes {
         out: &mut Vec<u8>,
         first: bool,
         message: &Report,
-    ) -> Result<bool, AllocError> {
+    ) -> Result<bool, WriteError> {
         write_field::<Repeated<Implicit<String>>>(alloc, out, first, &NOTES, &message.notes)
     }
 }
@@ -772,7 +772,7 @@ impl JsonPart for OfSignature {
         out: &mut Vec<u8>,
         first: bool,
         message: &Report,
-    ) -> Result<bool, AllocError> {
+    ) -> Result<bool, WriteError> {
         write_field::<Implicit<Vec<u8>>>(alloc, out, first, &SIGNATURE, &message.signature)
     }
 }
@@ -831,7 +831,7 @@ impl JsonPart for OfWorst {
         out: &mut Vec<u8>,
         first: bool,
         message: &Report,
-    ) -> Result<bool, AllocError> {
+    ) -> Result<bool, WriteError> {
         write_field::<Embedded<ReportSampleJson>>(alloc, out, first, &WORST, &message.worst)
     }
 }
@@ -890,7 +890,7 @@ impl JsonPart for OfOrigin {
         out: &mut Vec<u8>,
         first: bool,
         message: &Report,
-    ) -> Result<bool, AllocError> {
+    ) -> Result<bool, WriteError> {
         write_oneof::<ReportOriginJson>(alloc, out, first, &message.origin)
     }
 }
@@ -947,7 +947,7 @@ impl JsonPart for OfType_ {
         out: &mut Vec<u8>,
         first: bool,
         message: &Report,
-    ) -> Result<bool, AllocError> {
+    ) -> Result<bool, WriteError> {
         write_field::<Implicit<bool>>(alloc, out, first, &TYPE_, &message.type_)
     }
 }
@@ -1008,7 +1008,7 @@ impl JsonPart for OfGroup1 {
         out: &mut Vec<u8>,
         first: bool,
         message: &Report,
-    ) -> Result<bool, AllocError> {
+    ) -> Result<bool, WriteError> {
         Group1::write(alloc, out, first, message)
     }
 }
@@ -1069,7 +1069,7 @@ impl JsonPart for OfGroup2 {
         out: &mut Vec<u8>,
         first: bool,
         message: &Report,
-    ) -> Result<bool, AllocError> {
+    ) -> Result<bool, WriteError> {
         Group2::write(alloc, out, first, message)
     }
 }
@@ -1128,7 +1128,7 @@ impl JsonPart for OfGroup3 {
         out: &mut Vec<u8>,
         first: bool,
         message: &Report,
-    ) -> Result<bool, AllocError> {
+    ) -> Result<bool, WriteError> {
         Group3::write(alloc, out, first, message)
     }
 }
@@ -1187,7 +1187,7 @@ impl JsonPart for OfGroup4 {
         out: &mut Vec<u8>,
         first: bool,
         message: &Report,
-    ) -> Result<bool, AllocError> {
+    ) -> Result<bool, WriteError> {
         Group4::write(alloc, out, first, message)
     }
 }
@@ -1269,7 +1269,7 @@ impl JsonValue for ReportJson {
         ))
     }
 
-    fn write_json(alloc: Global, out: &mut Vec<u8>, held: &Report) -> Result<(), AllocError> {
+    fn write_json(alloc: Global, out: &mut Vec<u8>, held: &Report) -> Result<(), WriteError> {
         write_parts::<Parts>(alloc, out, held)
     }
 }

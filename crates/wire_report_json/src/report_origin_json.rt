@@ -5,11 +5,11 @@ ghost use Rattle.wire_report_json.specs.ReportOriginJson.{device-of, file-of, or
 ghost use Rattle.wire_report_json.specs.ReportOriginJson.{origin-chosen-view, sample-of};
 
 use crate::report_sample_json::ReportSampleJson;
-use std::alloc::{AllocError, Global};
+use std::alloc::Global;
 use wire_jsonfields::{
     Chosen, Either, FieldName, Implicit, JsonChoice, Maybe, PlacedMember, read_field, write_chosen,
 };
-use wire_protojson::ReadError;
+use wire_protojson::{ReadError, WriteError};
 use wire_report::{ReportOrigin, ReportSample};
 
 pub type ReportOriginJson = Either<OfFile, ReportOriginJsonFrom2>;
@@ -89,7 +89,7 @@ impl JsonChoice for OfFile {
         out: &mut Vec<u8>,
         first: bool,
         oneof: &ReportOrigin,
-    ) -> Result<bool, AllocError> {
+    ) -> Result<bool, WriteError> {
         write_chosen::<Implicit<String>>(alloc, out, first, &FILE, file_of(oneof))
     }
 }
@@ -158,7 +158,7 @@ impl JsonChoice for OfDevice {
         out: &mut Vec<u8>,
         first: bool,
         oneof: &ReportOrigin,
-    ) -> Result<bool, AllocError> {
+    ) -> Result<bool, WriteError> {
         write_chosen::<Implicit<u64>>(alloc, out, first, &DEVICE, device_of(oneof))
     }
 }
@@ -227,7 +227,7 @@ impl JsonChoice for OfSample {
         out: &mut Vec<u8>,
         first: bool,
         oneof: &ReportOrigin,
-    ) -> Result<bool, AllocError> {
+    ) -> Result<bool, WriteError> {
         write_chosen::<ReportSampleJson>(alloc, out, first, &SAMPLE, sample_of(oneof))
     }
 }

@@ -12,4 +12,4 @@ returns-clause-ok g c =
     let start = begun old open_ c.in_ok-write_mark.ensures.ok in
     let all = with_field old open_ true no_member body _ ms start put next in
     written_whole g.P.JsonPart.trees (g.P.JsonPart.seen c.args.message.now) old body _ ms all trees
-    c.write_mark-2.result c.write_mark-2.new.out.items c.write_mark-2.ensures.ok
+    c.write_mark-2.new.out.items c.in_ok-write_mark-2.ensures.ok

@@ -6,6 +6,7 @@ use Rattle.wire_json.specs.Compact.{Extends}
 use Rattle.wire_jsonfields.specs.Maps.{entries_seen}
 use Rattle.wire_jsonfields.proofs.ListPuts.{extends_more}
 use Rattle.wire_jsonfields.proofs.MapPuts.{map_begun, map_more, map_whole}
+use Rattle.wire_jsonfields.proofs.Untold.{map_untold}
 use Rattle.wire_jsonfields.proofs.map.write_map.Goals as goal
 
 pub loop-key-init : goal.loop-key-init
@@ -24,6 +25,17 @@ returns-in_err-write_entry-clause-err g c =
     rw p.1 (extends_more c.args.out.now.items c.loop-key.out.items c.write_entry.new.out.items begun
     c.in_err-write_entry.ensures.err)
 
+pub returns-in_err-write_entry-clause-no_text : goal.returns-in_err-write_entry-clause-no_text
+returns-in_err-write_entry-clause-no_text g c =
+    let r = c.from_residual-in_err-write_entry in
+    let p = err_from_is_err_and r.result r.ensures.1 in
+    let seen = entries_seen g.K.JsonKey.view g.V.JsonValue.view in
+    rw (p.1, p.2) (λ other. map_untold g.K.JsonKey.name g.V.JsonValue.tree
+    (seen c.args.map.now.entries) _ _ _ c.args.out.now.items c.loop-key.out.items c.loop-key.first
+    c.loop-key.invariant
+    (ap seen (rest_more deref_pair _ _ _ _ c.in-Some.is c.next.ensures.steps))
+    (c.in_err-write_entry.ensures.no_text other))
+
 pub loop-key-preserved : goal.loop-key-preserved
 loop-key-preserved g c =
     let seen = entries_seen g.K.JsonKey.view g.V.JsonValue.view in
@@ -40,4 +52,4 @@ returns-clause-ok g c =
     c.args.out.now.items (seen c.loop-key.key-iterator) c.loop-key.out.items c.loop-key.first
     c.loop-key.invariant
     (ap seen (rest_all deref_pair c.loop-key.key-iterator _ _ c.in-None.is c.next.ensures.steps))
-    c.write_mark-2.result c.write_mark-2.new.out.items c.write_mark-2.ensures.ok
+    c.write_mark-2.new.out.items c.in_ok-write_mark-2.ensures.ok
