@@ -6,9 +6,9 @@ MANY_OF_FLAT = (".A: more than 80 fields of a message that has a view, or that h
                 "another that holds it, or with unknown=drop or mismatch=keep")
 # A schema, further parameters, and what is said of it on protoc's channel for errors.
 REFUSED = [
-    ("proto3", 'import "google/protobuf/empty.proto";' + TYPE
-     + "service S { rpc Get(A) returns (google.protobuf.Empty); }", "",
-     "S.Get: .google.protobuf.Empty is of a file of no crate that is named, as "
+    ("proto3", 'import "report.proto";' + TYPE
+     + "service S { rpc Get(A) returns (report.Report); }", "",
+     "S.Get: .report.Report is of a file of no crate that is named, as "
      "import=PACKAGE=CRATE does"),
     ("proto2", "enum E { B = 0; } message A { map<int32, E> x = 1; }", ",unknown=drop",
      ".A.x: closed enums are not generated with unknown=drop or mismatch=keep"),
@@ -39,9 +39,8 @@ REFUSED = [
        options, MANY_OF_FLAT) for options in (",views=true", ",unknown=drop", ",mismatch=keep")),
     ("proto3", "message A { A a = 100; "
      + "".join(f"int32 x{it} = {it};" for it in range(1, 81)) + "}", "", MANY_OF_FLAT),
-    ("proto3", 'import "google/protobuf/timestamp.proto";'
-     "message A { google.protobuf.Timestamp x = 1; }", "",
-     ".A.x: .google.protobuf.Timestamp is of a file of no crate that is named, as "
+    ("proto3", 'import "report.proto"; message A { report.Report x = 1; }', "",
+     ".A.x: .report.Report is of a file of no crate that is named, as "
      "import=PACKAGE=CRATE does"),
     ("proto3", TYPE, ",crate=shop-messages", "a crate is called by letters, digits and "
      "underscores, no digit first, and by no word of the language: crate=shop-messages"),
@@ -100,14 +99,33 @@ DEEP = [
 # A schema, further parameters, and parts of the code that is written.
 CHOICES = [
     ("proto2", "enum E { Z = 0; } message A { optional A x = 1; } message B { optional E x = 1; } "
-     "message C {} message D { optional C x = 1; } "
+     "message C {} message D { optional C x = 1; } message NoField {} "
+     "message I { oneof x { A y = 1; } } "
      'message F { optional int32 x = 1 [json_name = "\\""]; }'
      'message H { optional int32 a_b = 1 [json_name = "c"]; }', ",json=true",
      ["- `A`: it holds itself, or others that hold it\n",
       "- `B`: `x` is of a closed enum; enums=open takes its numbers as they are\n",
-      "- `C`: it has no fields\n", "- `D`: `x` is a message that has no JSON\n",
+      "read_parts::<NoField<C>>(", "read_field::<Embedded<CJson>>(",
+      "- `NoField`: it is called as a type of the library, or as the JSON of another\n",
+      "- `I`: `y` is a message that has no JSON\n",
       "- `F`: `x` is of a name in JSON that is empty, or has other signs than those of ASCII\n",
       '    name: "a_b",\n    json_name: "c",\n', "pub use h_json::HJson;\n"]),
+    ("proto3", 'import "report.proto"; import "google/protobuf/struct.proto"; '
+     'import "google/protobuf/wrappers.proto"; enum WriteError { U = 0; } '
+     "message M { WriteError x = 1; } "
+     "message N { google.protobuf.NullValue x = 1; } message V { google.protobuf.Value x = 1; } "
+     "message BoolValueJson { google.protobuf.BoolValue x = 1; } "
+     "message R { repeated report.Report.Sample x = 1; report.Report.Level y = 2; "
+     "google.protobuf.Int32Value z = 3; }",
+     ",import=report=wire_report,json=true",
+     ["- `M`: `x` is of a type that is called as one of the library, or its JSON as another type\n",
+      "- `N`: `x` is of a well-known type that has no JSON\n",
+      "- `V`: `x` is of a well-known type that has no JSON\n",
+      "- `BoolValueJson`: `x` is of a type that is called as one of the library, or its JSON as "
+      "another type\n",
+      "use wire_report_json::{ReportLevelJson, ReportSampleJson};\n",
+      "        base64 chosen wire_report wire_report_json wire_jsontimes wire_well_known "
+      "wire_well_known_json\n"]),
     ("proto2", "enum E { Z = 0; } message A { optional int32 x = 1; optional int32 has_x = 2; } "
      "message B { optional E x = 1; } message C { oneof y { E z = 1; } } message D {} "
      "message F { map<int32, int32> x = 1; } message G { repeated int32 x = 1; } "
@@ -258,9 +276,12 @@ CHOICES = [
     ("proto3", "enum E { option allow_alias = true; LOW = 0; Least = 0; HIGH = 1; }" + TYPE, "",
      ["pub enum E {\n    Low = 0,\n    High = 1,\n}", "pub const LEAST: E = E::Low;"]),
     ("proto3", 'import "google/protobuf/duration.proto";'
-     "message A { google.protobuf.Duration x = 1; }",
-     ",import=google/protobuf/duration.proto=wire_well_known",
+     "message A { google.protobuf.Duration x = 1; }", "",
      ["use wire_well_known::Duration;", "chosen: wire_codec wire_fields wire_well_known bytes"]),
+    ("proto3", 'import "google/protobuf/duration.proto"; import "google/protobuf/empty.proto";'
+     "message A { google.protobuf.Duration x = 1; google.protobuf.Empty y = 2; }",
+     ",import=google/protobuf/duration.proto=other_times",
+     ["chosen: wire_codec wire_fields other_times wire_well_known bytes"]),
     ("proto3", 'import "google/protobuf/duration.proto"; import "google/protobuf/empty.proto";'
      "message A { google.protobuf.Duration x = 1; google.protobuf.Empty y = 2; }",
      ",import=google/protobuf/duration.proto=wire_well_known"

@@ -4,8 +4,10 @@ use crate::roots::sort_lines;
 use wire_definitions::set_heading;
 use wire_json_types::enums::enum_files;
 use wire_json_types::left_out::reason;
+use wire_json_types::member_proofs::{MEMBER_PROOF, member_proof};
 use wire_json_types::messages::message_files;
 use wire_json_types::oneofs::oneof_files;
+use wire_json_types::well_known;
 use wire_schema::{
     Field, GenerateError, MessageType, Schema, Template, Words, fields_of, order_key,
 };
@@ -25,7 +27,7 @@ crates.txt are
 
     $crate$: wire_codec wire_fields$needs$ bytes
     $crate$_json: wire_json wire_protojson wire_jsonfields wire_jsonkinds wire_codec wire_fields \\
-        base64 $crate$
+        base64 $crate$$needed$
 
 (the second in one line). A message `Order` is read by `from_json::<OrderJson>` and written by
 `to_json::<OrderJson>`, both of `wire_jsonfields`. `rt check` proves of each that it is read exactly
@@ -63,7 +65,8 @@ impl Package {
         let mut json = Words::like(&self.base);
         json.copy(&self.roots, &["needs"]);
         for of_enum in &schema.enums {
-            if of_enum.origin.is_own && !of_enum.origin.features.is_closed() {
+            let is_null = well_known::is_null_value(of_enum.words.get("full"));
+            if of_enum.origin.is_own && !of_enum.origin.features.is_closed() && !is_null {
                 let mut page = self.json_page(&of_enum.words);
                 let files = enum_files(&mut page, of_enum)?;
                 self.add_json_files(&mut json, &mut page, files)?;
@@ -79,7 +82,7 @@ impl Package {
     fn add_all_json(&mut self, schema: &Schema, json: &mut Words) -> Result<(), GenerateError> {
         let mut left = Vec::new(self.base.alloc());
         for message in &schema.messages {
-            if message.origin.is_own && !message.is_entry() {
+            if !message.words.get("home").is_empty() && !message.is_entry() {
                 left.push(message)?;
             }
         }
@@ -98,28 +101,41 @@ impl Package {
             }
         }
         for message in left {
-            let fields = fields_of(&self.base, schema, message)?;
-            all_ended(&fields)?;
-            if let Some((field, what)) = reason(message, schema, &fields, json.get("there")) {
-                json.set("full", message.words.get("full").trim_start_matches('.'));
-                json.set("field", field);
-                json.set("what", what);
-                let is_whole = field.is_empty();
-                json.fill(
-                    "why",
-                    if is_whole {
-                        "$what$"
-                    } else {
-                        "`$field$` is $what$"
-                    },
-                );
-                json.append_all(&LEFT);
+            if message.origin.is_own {
+                self.tell_left(schema, message, json)?;
             }
         }
         Ok(())
     }
 
-    // Whether a message can have JSON, which is added.
+    // Why a message has no JSON.
+    fn tell_left(
+        &self,
+        schema: &Schema,
+        message: &MessageType,
+        json: &mut Words,
+    ) -> Result<(), GenerateError> {
+        let fields = fields_of(&self.base, schema, message)?;
+        all_ended(&fields)?;
+        if let Some((field, what)) = reason(message, schema, &fields, json.get("there")) {
+            json.set("full", message.words.get("full").trim_start_matches('.'));
+            json.set("field", field);
+            json.set("what", what);
+            let is_whole = field.is_empty();
+            json.fill(
+                "why",
+                if is_whole {
+                    "$what$"
+                } else {
+                    "`$field$` is $what$"
+                },
+            );
+            json.append_all(&LEFT);
+        }
+        Ok(())
+    }
+
+    // Whether a message can have JSON, which is added where it is of no other crate.
     fn add_message_json(
         &mut self,
         schema: &Schema,
@@ -127,18 +143,27 @@ impl Package {
         json: &mut Words,
     ) -> Result<bool, GenerateError> {
         let mut page = self.json_page(&message.words);
-        let mut fields = fields_of(&self.base, schema, message)?;
+        let mut fields = match fields_of(&self.base, schema, message) {
+            Err(GenerateError::Refused(_)) if !message.origin.is_own => return Ok(false),
+            fields => fields?,
+        };
         all_ended(&fields)?;
         if !has_json(&*message, schema, &fields, json.get("there")) {
             return Ok(false);
         }
+        json.set("home", message.words.get("home"));
+        json.set("module", message.words.get("module"));
+        json.append("there", " $home$/$module$");
+        if !message.origin.is_own {
+            return Ok(true);
+        }
+        need_crates(json, &fields);
         for field in &mut fields {
             self.add_oneof_json(message, field, json)?;
         }
         let files = message_files(&mut page, schema, message, &fields)?;
         self.add_json_files(json, &mut page, files)?;
         put_root(json, &page, &OF_ROOTS)?;
-        json.append("there", " $module$");
         Ok(true)
     }
 
@@ -156,6 +181,10 @@ impl Package {
         page.copy(&field.words, &["field"]);
         let files = oneof_files(&mut page, &message.descriptor, oneof)?;
         self.add_json_files(json, &mut page, files)?;
+        for variant in &oneof.variants {
+            let (mut words, proof) = member_proof(&page, &message.descriptor, variant)?;
+            self.add_beside(&mut words, MEMBER_PROOF, proof)?;
+        }
         put_root(json, &page, &OF_ONEOF)?;
         let joined = &["joined", "joined_type", "joined_held", "held_use"];
         field.words.copy(&page, joined);
@@ -223,6 +252,33 @@ fn has_json<'a>(
     there: &str,
 ) -> bool {
     reason(message, schema, fields, there).is_none()
+}
+
+// The crates whose types these fields have, with those of their JSON.
+fn need_crates(json: &mut Words, fields: &[Field]) {
+    for field in fields {
+        match &field.oneof {
+            None => need_crate(json, &field.words),
+            Some(oneof) => {
+                for variant in &oneof.variants {
+                    need_crate(json, variant);
+                }
+            }
+        }
+    }
+}
+
+fn need_crate(json: &mut Words, words: &Words) {
+    let home = words.get("of_crate");
+    let is_own = home.is_empty() || home == words.get("crate");
+    if is_own || json.get("needed").split(' ').any(|it| it == home) {
+        return;
+    }
+    json.set("home", home);
+    if home == well_known::CRATE {
+        json.append("needed", " wire_jsontimes");
+    }
+    json.append("needed", " $home$ $home$_json");
 }
 
 // Puts the lines of a module to those of the roots.

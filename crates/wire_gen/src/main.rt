@@ -13,6 +13,7 @@ mod split;
 mod structs;
 mod view;
 mod view_nests;
+mod well_known;
 
 use std::io::{Read, Write};
 use std::process::ExitCode;

@@ -1,4 +1,5 @@
 //! The files of a crate.
+use crate::well_known::import_well_known;
 use std::alloc::Global;
 use wire_bindings::struct_inside::{encode_inside, takes_inside};
 use wire_codec::{DecodeOptions, Message};
@@ -72,6 +73,7 @@ pub(crate) fn answer(alloc: Global, request: &[u8]) -> Result<PluginAnswer, Gene
 fn package_of(alloc: Global, request: &CodeGeneratorRequest) -> Result<Package, GenerateError> {
     let mut base = Words::new(alloc);
     set_crate(&mut base, request)?;
+    import_well_known(&mut base, request);
     let is_asked = takes_inside(&mut base)?;
     let mut schema = Schema::of(&base, request)?;
     if is_asked {

@@ -1,4 +1,5 @@
 //! What one value of a field is in JSON.
+use crate::well_known::{is_well_known, set_well_known};
 use wire_descriptor::FieldDescriptorProto;
 use wire_schema::{Template, Words};
 
@@ -93,7 +94,7 @@ const FLOAT: [Template; 17] = [
     ("json_back", "(λ x h. float_back $json_format$ x)"),
     (
         "json_uses",
-        "Rattle.std.specs.Float Float\n\
+        "Rattle.std.specs.Float Float\nRattle.std.specs.Float $json_format$\n\
         Rattle.wire_protojson.specs.DecidedScalars floats_decided\n\
         Rattle.wire_protojson.specs.Numbers MeansFloat\n\
         Rattle.wire_protojson.specs.Trees IsFloatTree\n\
@@ -209,15 +210,16 @@ const ENUM: [Template; 15] = [
 const OF_ENUM: [Template; 2] = [
     (
         "json_code",
-        "wire_jsonkinds EnumNamed\ncrate::$of_module$_json $of_name$Json\n",
+        "wire_jsonkinds EnumNamed\n$json_home$ $of_name$Json\n",
     ),
     (
         "json_held_code",
-        "wire_codec EnumValue\n$crate$ $of_name$\n",
+        "wire_codec EnumValue\n$of_crate$ $of_name$\n",
     ),
 ];
 
-const MESSAGE: [Template; 15] = [
+/// Those of a message that is an object of its fields.
+pub(crate) const MESSAGE: [Template; 15] = [
     ("json_value", "$of_name$-Json"),
     ("json_held", "$of_name$"),
     ("json_kind", "$of_name$Json"),
@@ -245,8 +247,8 @@ const MESSAGE: [Template; 15] = [
         "json_held_uses",
         "$of_specs$.declared.$of_module$.$of_name$ $of_name$\n",
     ),
-    ("json_code", "crate::$of_module$_json $of_name$Json\n"),
-    ("json_held_code", "$crate$ $of_name$\n"),
+    ("json_code", "$json_home$ $of_name$Json\n"),
+    ("json_held_code", "$of_crate$ $of_name$\n"),
 ];
 
 const NOTHING: [Template; 7] = [
@@ -261,9 +263,37 @@ const NOTHING: [Template; 7] = [
 
 /// Sets the words of a value of a field of this descriptor; those of the field are set.
 pub(crate) fn set_item(descriptor: &FieldDescriptorProto, words: &mut Words) {
-    words.fill("json_specs", "Rattle.$crate$_json.specs.$of_name$Json");
+    words.fill("json_specs", "Rattle.$of_crate$_json.specs.$of_name$Json");
     words.fill_all(&NOTHING);
-    match descriptor.type_ {
+    let is_own = words.get("of_crate") == words.get("crate");
+    words.fill(
+        "json_home",
+        if is_own {
+            "crate::$of_module$_json"
+        } else {
+            "$of_crate$_json"
+        },
+    );
+    if is_well_known(words) {
+        set_well_known(words);
+    } else {
+        set_own(descriptor.type_, words);
+    }
+    let is_one = !words.get("json_value").contains(' ');
+    words.fill(
+        "json_bracketed",
+        if is_one {
+            "$json_value$"
+        } else {
+            "($json_value$)"
+        },
+    );
+}
+
+/// Sets the words of a value of this type, as descriptors number them, which is no type of another
+/// crate.
+pub(crate) fn set_own(type_: i32, words: &mut Words) {
+    match type_ {
         1 => set_float("Double", "binary64", words),
         2 => set_float("Float", "binary32", words),
         3 | 16 | 18 => set_signed("i64", "long", "w64", words),
@@ -280,15 +310,6 @@ pub(crate) fn set_item(descriptor: &FieldDescriptorProto, words: &mut Words) {
         }
         _ => words.fill_all(&MESSAGE),
     }
-    let is_one = !words.get("json_value").contains(' ');
-    words.fill(
-        "json_bracketed",
-        if is_one {
-            "$json_value$"
-        } else {
-            "($json_value$)"
-        },
-    );
 }
 
 fn set_float(kind: &str, format: &str, words: &mut Words) {

@@ -54,7 +54,7 @@ const OPTIONAL: [Template; 12] = [
 const BOXED: [Template; 3] = [
     (
         "part_before",
-        "option_map (λ v. $json_before$(box_value v)) ",
+        "option_map (λ v. $json_before$(box_value v)$json_behind$) ",
     ),
     ("part_kind", "Embedded<$json_kind$>"),
     (

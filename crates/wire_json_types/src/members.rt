@@ -144,7 +144,7 @@ $ghost_imports$
         out: &mut Vec<u8>,
         first: bool,
         oneof: &$name$,
-    ) -> Result<bool, AllocError> {
+    ) -> Result<bool, WriteError> {
         $write$
     }
 }
@@ -164,7 +164,6 @@ $other$    }
 ";
 
 const CHOICE_USES: &str = "\
-std::alloc AllocError
 std::alloc Global
 wire_jsonfields FieldName
 wire_jsonfields JsonChoice
@@ -173,6 +172,7 @@ wire_jsonfields PlacedMember
 wire_jsonfields read_field
 wire_jsonfields write_chosen
 wire_protojson ReadError
+wire_protojson WriteError
 $crate$ $name$
 $json_code$$json_held_code$";
 

@@ -52,7 +52,7 @@ $set$                unknown: UnknownFields::new(alloc),
         ))
     }
 
-    fn write_json(alloc: Global, out: &mut Vec<u8>, held: &$name$) -> Result<(), AllocError> {
+    fn write_json(alloc: Global, out: &mut Vec<u8>, held: &$name$) -> Result<(), WriteError> {
         write_parts::<$joined_type$>(alloc, out, held)
     }
 }
@@ -65,16 +65,14 @@ impl JsonMessage for $name$Json {
 ";
 
 const CODE_USES: &str = "\
-std::alloc AllocError
 std::alloc Global
 wire_codec UnknownFields
 wire_jsonfields JsonMessage
-wire_jsonfields JsonPart
 wire_jsonfields JsonValue
-wire_jsonfields PlacedMember
 wire_jsonfields read_parts
 wire_jsonfields write_parts
 wire_protojson ReadError
+wire_protojson WriteError
 $crate$ $name$
 ";
 
@@ -131,10 +129,7 @@ $module$-json-back =
 
 const USES: &str = "\
 Rattle.std.proofs.Common refl
-Rattle.std.specs.Prelude []
 Rattle.std.specs.Prelude List
-Rattle.std.specs.Prelude codes
-Rattle.std.specs.Prelude ◌∷◌
 Rattle.wire_json.specs.Json Members
 Rattle.wire_json.specs.Json no_member
 Rattle.wire_jsonfields.specs.Back ComesBack
@@ -192,6 +187,9 @@ pub fn message_files(
         page.append("set", "                $in_message$: read_$in_message$,\n");
         parts.push(part)?;
     }
+    if parts.is_empty() {
+        parts.push(nothing(page)?)?;
+    }
     for _ in 0..fields.len() {
         if parts.len() > MOST_PARTS {
             parts = grouped(page, parts)?;
@@ -202,6 +200,75 @@ pub fn message_files(
     page.fill_all(&[("whole", "all-fields"), ("whole_type", "Parts")]);
     put_table(BOTH, &parts, page);
     Ok((code_of(page)?, definitions_of(page)?))
+}
+
+const NOTHING: &str = "\n\
+abbrev pub nothing-Value : Type 0
+nothing-Value = Unit {0}
+
+abbrev pub nothing-names : List Names
+nothing-names = no-names
+
+abbrev pub nothing-says : Members → nothing-Value → Type 0
+nothing-says = SayNothing
+
+abbrev pub nothing-trees : nothing-Value → Members → Type 0
+nothing-trees = AreNoMembers
+
+abbrev pub nothing-range : nothing-Value → Type 0
+nothing-range = IsAnyNothing
+
+abbrev pub nothing-absent : nothing-Value
+nothing-absent = tt
+
+abbrev pub nothing-seen : $name$ → nothing-Value
+nothing-seen m = tt
+
+pub nothing-unsaid : nothing-says no_member nothing-absent
+nothing-unsaid = tt
+
+pub nothing-one : SayOne nothing-says
+nothing-one = one_nothing
+
+pub nothing-back : PartComesBack nothing-names nothing-says nothing-trees nothing-range
+nothing-back = nothing_back
+";
+
+const NOTHING_USES: &str = "\
+Rattle.wire_jsonfields.specs.NoFields AreNoMembers
+Rattle.wire_jsonfields.specs.NoFields IsAnyNothing
+Rattle.wire_jsonfields.specs.NoFields SayNothing
+Rattle.wire_jsonfields.specs.NoFields no-names
+Rattle.wire_jsonfields.specs.NoFields nothing_back
+Rattle.wire_jsonfields.specs.NoFields one_nothing
+";
+
+// The part of a message without fields.
+fn nothing(page: &mut Words) -> Result<Part, GenerateError> {
+    page.append_all(&[
+        ("definitions", NOTHING),
+        ("uses", NOTHING_USES),
+        ("code_uses", "wire_jsonfields NoField\n"),
+    ]);
+    let mut words = Words::like(page);
+    words.fill_all(&[
+        ("nothing", "nothing"),
+        ("type", "NoField<$name$>"),
+        ("held", "Nothing"),
+        ("local", "_nothing"),
+        ("none", ""),
+    ]);
+    words.ended()?;
+    Ok(Part {
+        name: words.take("nothing"),
+        type_name: words.take("type"),
+        held: words.take("held"),
+        view: words.take("none"),
+        uses: words.take("none"),
+        local: words.take("local"),
+        taken: words.take("none"),
+        weight: 1,
+    })
 }
 
 // The parts, of which several that stand together and are not too much are one.

@@ -60,6 +60,8 @@ const PART_CODE_USES: &str = "\
 crate::$module$_json $joined_type$
 crate::$module$_json $module$_of
 wire_jsonfields JsonChoice
+wire_jsonfields JsonPart
+wire_jsonfields PlacedMember
 wire_jsonfields write_oneof
 $held_use$";
 

@@ -54,6 +54,9 @@ $part$-back =
 ";
 
 const USES: &str = "\
+Rattle.std.specs.Prelude []
+Rattle.std.specs.Prelude codes
+Rattle.std.specs.Prelude ◌∷◌
 Rattle.wire_jsonfields.specs.Fields FieldMeans
 Rattle.wire_jsonfields.specs.Fields unsaid
 Rattle.wire_jsonfields.specs.Messages IsFieldTree
@@ -145,7 +148,7 @@ $ghost_imports$
         out: &mut Vec<u8>,
         first: bool,
         message: &$name$,
-    ) -> Result<bool, AllocError> {
+    ) -> Result<bool, WriteError> {
         $write$
     }
 }
@@ -154,6 +157,8 @@ $ghost_imports$
 
 const CODE_USES: &str = "\
 wire_jsonfields FieldName
+wire_jsonfields JsonPart
+wire_jsonfields PlacedMember
 wire_jsonfields read_field
 wire_jsonfields write_field
 $json_code$$json_held_code$";

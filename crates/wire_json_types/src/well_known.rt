@@ -1,0 +1,107 @@
+//! Values of the well-known types, which JSON has by rules of their own.
+use crate::items::{MESSAGE, set_own};
+use wire_schema::{Template, Words};
+
+/// The crate of the well-known types.
+pub const CRATE: &str = "wire_well_known";
+
+// The wrappers, and the types of what they hold as descriptors number them.
+const WRAPPERS: [(&'static str, i32); 9] = [
+    ("BoolValue", 8),
+    ("BytesValue", 12),
+    ("DoubleValue", 1),
+    ("FloatValue", 2),
+    ("Int32Value", 5),
+    ("Int64Value", 3),
+    ("StringValue", 9),
+    ("UInt32Value", 13),
+    ("UInt64Value", 4),
+];
+
+// The others of which JSON has no object of their fields.
+const OTHERS: &str = "Any Duration FieldMask ListValue Struct Timestamp Value";
+
+// A wrapper is as what it holds.
+const WRAPPER: [Template; 5] = [
+    ("json_kind", "$of_name$Json"),
+    ("json_before", "$of_module$-json "),
+    ("json_behind", ""),
+    ("json_view", "$of_module$-json"),
+    (
+        "json_seen_uses",
+        "Rattle.wire_well_known_json.specs.Wrappers $of_module$-json\n",
+    ),
+];
+
+const TIME: [Template; 10] = [
+    ("json_value", "ℤ × ℤ"),
+    ("json_kind", "$of_name$Json"),
+    ("json_before", "$of_module$-json "),
+    ("json_view", "$of_module$-json"),
+    ("json_means", "Means$of_name$"),
+    ("json_tree", "Is$of_name$Tree"),
+    ("json_one", "one_$of_module$"),
+    ("json_range", "IsAnyTime"),
+    ("json_back", "$of_module$_back"),
+    (
+        "json_uses",
+        "Rattle.std.specs.Prelude ℤ\nRattle.wire_jsontimes.specs.$of_name$s Is$of_name$Tree\n\
+        Rattle.wire_jsontimes.specs.$of_name$s Means$of_name$\n\
+        Rattle.wire_well_known_json.specs.Times IsAnyTime\n\
+        Rattle.wire_well_known_json.specs.Times one_$of_module$\n\
+        Rattle.wire_well_known_json.specs.Times $of_module$_back\n",
+    ),
+];
+
+const TIME_SEEN: Template = (
+    "json_seen_uses",
+    "Rattle.wire_well_known_json.specs.Times $of_module$-json\n",
+);
+
+const HELD: [Template; 4] = [
+    ("json_held", "$of_name$"),
+    (
+        "json_held_uses",
+        "$of_specs$.declared.$of_module$.$of_name$ $of_name$\n",
+    ),
+    ("json_code", "$json_home$ $of_name$Json\n"),
+    ("json_held_code", "$of_crate$ $of_name$\n"),
+];
+
+/// Whether a message of this name, as the schema calls it, has a rule of its own in JSON.
+pub(crate) fn has_rule(full: &str) -> bool {
+    match full.strip_prefix(".google.protobuf.") {
+        Some(name) => held_by(name).is_some() || OTHERS.split(' ').any(|it| it == name),
+        None => false,
+    }
+}
+
+/// Whether a field of these words is of a well-known type of which there is JSON.
+pub(crate) fn is_well_known(words: &Words) -> bool {
+    let name = words.get("of_name");
+    let is_there = matches!(name, "Duration" | "Empty" | "Timestamp") || held_by(name).is_some();
+    is_there && words.get("of_crate") == CRATE && words.get("crate") != CRATE
+}
+
+/// Whether an enum of this name, as the schema calls it, is `null` in JSON.
+pub fn is_null_value(full: &str) -> bool {
+    full == ".google.protobuf.NullValue"
+}
+
+fn held_by(name: &str) -> Option<i32> {
+    WRAPPERS.iter().find(|it| it.0 == name).map(|it| it.1)
+}
+
+/// Sets the words of a value of such a type.
+pub(crate) fn set_well_known(words: &mut Words) {
+    if let Some(held) = held_by(words.get("of_name")) {
+        set_own(held, words);
+        words.fill_all(&WRAPPER);
+    } else if words.get("of_name") == "Empty" {
+        words.fill_all(&MESSAGE);
+    } else {
+        words.fill_all(&TIME);
+        words.fill(TIME_SEEN.0, TIME_SEEN.1);
+    }
+    words.fill_all(&HELD);
+}
