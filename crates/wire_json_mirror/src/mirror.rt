@@ -3,9 +3,20 @@ use std::alloc::Global;
 use std::io;
 use wire_codec::{DecodeError, EncodeError, Message};
 use wire_jsonfields::{JsonValue, from_json, to_json};
-use wire_protojson::ReadError;
+use wire_protojson::{ReadError, WriteError};
 use wire_report::{Report, ReportSample};
 use wire_report_json::{ReportJson, ReportSampleJson};
+use wire_visits::Visit;
+use wire_visits_json::VisitJson;
+use wire_well_known::{
+    BoolValue, BytesValue, DoubleValue, Duration, Empty, FloatValue, Int32Value, Int64Value,
+    StringValue, Timestamp, UInt32Value, UInt64Value,
+};
+use wire_well_known_json::{
+    BoolValueJson, BytesValueJson, DoubleValueJson, DurationJson, EmptyJson, FloatValueJson,
+    Int32ValueJson, Int64ValueJson, StringValueJson, TimestampJson, UInt32ValueJson,
+    UInt64ValueJson,
+};
 
 // The most arrays and objects that stand in one another.
 const LEVELS: u32 = 100;
@@ -14,10 +25,11 @@ const LEVELS: u32 = 100;
 enum MirrorError {
     NoQuestion,
     NoDigits,
-    NoText,
+    NoUtf8,
     NoMessage(DecodeError),
     TooLarge(EncodeError),
-    NoJson(ReadError),
+    NoJson(WriteError),
+    NoValue(ReadError),
     OutOfMemory,
 }
 
@@ -25,12 +37,13 @@ enum MirrorError {
 pub fn run<R: Print + AllocGlobal>(rt: &R, line: &str) -> io::Result<()> {
     match answer(rt.alloc(), line) {
         Ok(text) => println!(rt; "{text}"),
-        Err(MirrorError::NoJson(error)) => println!(rt; "{error}"),
+        Err(MirrorError::NoValue(error)) => println!(rt; "{error}"),
+        Err(MirrorError::NoJson(error)) => println!(rt; "no text: {error}"),
         Err(MirrorError::NoMessage(error)) => println!(rt; "refused: {error}"),
         Err(MirrorError::TooLarge(error)) => println!(rt; "too large: {error}"),
         Err(MirrorError::NoQuestion) => println!(rt; "no question: {line}"),
         Err(MirrorError::NoDigits) => println!(rt; "no digits: {line}"),
-        Err(MirrorError::NoText) => println!(rt; "no text: {line}"),
+        Err(MirrorError::NoUtf8) => println!(rt; "no UTF-8: {line}"),
         Err(MirrorError::OutOfMemory) => println!(rt; "out of memory"),
     }
 }
@@ -38,11 +51,51 @@ pub fn run<R: Print + AllocGlobal>(rt: &R, line: &str) -> io::Result<()> {
 fn answer(alloc: Global, line: &str) -> Result<String, MirrorError> {
     let (asked, rest) = line.split_once(' ').unwrap_or((line, ""));
     let (name, of) = rest.split_once(' ').unwrap_or((rest, ""));
-    match (asked, name) {
-        ("write", "Report") => written::<ReportJson, Report>(alloc, of),
-        ("write", "ReportSample") => written::<ReportSampleJson, ReportSample>(alloc, of),
-        ("read", "Report") => read::<ReportJson, Report>(alloc, of),
-        ("read", "ReportSample") => read::<ReportSampleJson, ReportSample>(alloc, of),
+    match asked {
+        "write" => write_one(alloc, name, of),
+        "read" => read_one(alloc, name, of),
+        _ => Err(MirrorError::NoQuestion),
+    }
+}
+
+fn write_one(alloc: Global, name: &str, of: &str) -> Result<String, MirrorError> {
+    match name {
+        "BoolValue" => written::<BoolValueJson, BoolValue>(alloc, of),
+        "BytesValue" => written::<BytesValueJson, BytesValue>(alloc, of),
+        "DoubleValue" => written::<DoubleValueJson, DoubleValue>(alloc, of),
+        "Duration" => written::<DurationJson, Duration>(alloc, of),
+        "Empty" => written::<EmptyJson, Empty>(alloc, of),
+        "FloatValue" => written::<FloatValueJson, FloatValue>(alloc, of),
+        "Int32Value" => written::<Int32ValueJson, Int32Value>(alloc, of),
+        "Int64Value" => written::<Int64ValueJson, Int64Value>(alloc, of),
+        "Report" => written::<ReportJson, Report>(alloc, of),
+        "ReportSample" => written::<ReportSampleJson, ReportSample>(alloc, of),
+        "StringValue" => written::<StringValueJson, StringValue>(alloc, of),
+        "Timestamp" => written::<TimestampJson, Timestamp>(alloc, of),
+        "UInt32Value" => written::<UInt32ValueJson, UInt32Value>(alloc, of),
+        "UInt64Value" => written::<UInt64ValueJson, UInt64Value>(alloc, of),
+        "Visit" => written::<VisitJson, Visit>(alloc, of),
+        _ => Err(MirrorError::NoQuestion),
+    }
+}
+
+fn read_one(alloc: Global, name: &str, of: &str) -> Result<String, MirrorError> {
+    match name {
+        "BoolValue" => read::<BoolValueJson, BoolValue>(alloc, of),
+        "BytesValue" => read::<BytesValueJson, BytesValue>(alloc, of),
+        "DoubleValue" => read::<DoubleValueJson, DoubleValue>(alloc, of),
+        "Duration" => read::<DurationJson, Duration>(alloc, of),
+        "Empty" => read::<EmptyJson, Empty>(alloc, of),
+        "FloatValue" => read::<FloatValueJson, FloatValue>(alloc, of),
+        "Int32Value" => read::<Int32ValueJson, Int32Value>(alloc, of),
+        "Int64Value" => read::<Int64ValueJson, Int64Value>(alloc, of),
+        "Report" => read::<ReportJson, Report>(alloc, of),
+        "ReportSample" => read::<ReportSampleJson, ReportSample>(alloc, of),
+        "StringValue" => read::<StringValueJson, StringValue>(alloc, of),
+        "Timestamp" => read::<TimestampJson, Timestamp>(alloc, of),
+        "UInt32Value" => read::<UInt32ValueJson, UInt32Value>(alloc, of),
+        "UInt64Value" => read::<UInt64ValueJson, UInt64Value>(alloc, of),
+        "Visit" => read::<VisitJson, Visit>(alloc, of),
         _ => Err(MirrorError::NoQuestion),
     }
 }
@@ -58,10 +111,8 @@ where
         Err(_) => return Err(MirrorError::NoDigits),
     };
     let message = M::decode_from_slice(alloc, &bytes).map_err(MirrorError::NoMessage)?;
-    let Ok(json) = to_json::<V>(alloc, &message) else {
-        return Err(MirrorError::OutOfMemory);
-    };
-    String::from_utf8(json).map_err(|_| MirrorError::NoText)
+    let json = to_json::<V>(alloc, &message).map_err(MirrorError::NoJson)?;
+    String::from_utf8(json).map_err(|_| MirrorError::NoUtf8)
 }
 
 fn read<V, M>(alloc: Global, text: &str) -> Result<String, MirrorError>
@@ -69,7 +120,7 @@ where
     V: JsonValue<Held = M>,
     M: Message,
 {
-    let message = from_json::<V>(alloc, text.as_bytes(), LEVELS).map_err(MirrorError::NoJson)?;
+    let message = from_json::<V>(alloc, text.as_bytes(), LEVELS).map_err(MirrorError::NoValue)?;
     let bytes = message
         .try_encode_to_vec(alloc)
         .map_err(MirrorError::TooLarge)?;

@@ -1,0 +1,4 @@
+pub mod Visit
+pub mod VisitEnded
+pub mod VisitEndedStays
+pub mod VisitStays

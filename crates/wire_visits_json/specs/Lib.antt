@@ -1,0 +1,2 @@
+pub mod VisitEndedJson
+pub mod VisitJson

@@ -1,0 +1,3 @@
+pub mod EmptyJson
+pub mod Times
+pub mod Wrappers
