@@ -1,3 +1,5 @@
+pub mod Bounce
+pub mod BounceStays
 pub mod Visit
 pub mod VisitEnded
 pub mod VisitEndedStays

@@ -167,7 +167,10 @@ visit-returned g =
     (visit_ended-returned g)
     (λ n p h. elim h [
       | inl h ↦ elim h [
-        | inl h ↦ rw h refl
+        | inl h ↦ elim h [
+          | inl h ↦ rw h refl
+          | inr h ↦ rw h refl
+        ]
         | inr h ↦ rw h refl
       ]
       | inr h ↦ rw h refl
@@ -176,7 +179,10 @@ visit-returned g =
       | inl h ↦ rw h refl
       | inr h ↦ elim h [
         | inl h ↦ elim h [
-          | inl h ↦ rw h refl
+          | inl h ↦ elim h [
+            | inl h ↦ rw h refl
+            | inr h ↦ rw h refl
+          ]
           | inr h ↦ rw h refl
         ]
         | inr h ↦ rw h refl

@@ -12,8 +12,11 @@ use Rattle.wire_fields.specs.OneofBack.{variant_back, variant_has}
 use Rattle.wire_fields.specs.Ranges.{Range, always_range}
 use Rattle.wire_fields.specs.Returned.{Returned, embedded_always_returned}
 use Rattle.wire_fields.specs.Shape.{FieldKind, Shape}
+use Rattle.wire_visits.specs.Bounce.{Bounce-Value, bounce-range, bounce-returned, bounce-shape}
+use Rattle.wire_visits.specs.Bounce.{bounce-value}
 use Rattle.wire_visits.specs.declared.visit_ended.VisitEnded.{VisitEnded}
-use Rattle.wire_visits.specs.declared.visit_ended.VisitEnded.TheVariants.{Bought, Idle, Left}
+use Rattle.wire_visits.specs.declared.visit_ended.VisitEnded.TheVariants.{Bought, Bounced, Idle}
+use Rattle.wire_visits.specs.declared.visit_ended.VisitEnded.TheVariants.{Left}
 use Rattle.wire_well_known.specs.DoubleValue.{DoubleValue-Value, double_value-range}
 use Rattle.wire_well_known.specs.DoubleValue.{double_value-returned, double_value-shape}
 use Rattle.wire_well_known.specs.DoubleValue.{double_value-value}
@@ -24,12 +27,13 @@ use Rattle.wire_well_known.specs.Empty.{empty-value}
 
 -- the one that stands
 abbrev pub VisitEnded-One : Type 0
-VisitEnded-One = (Empty-Value ⊎ (DoubleValue-Value ⊎ Duration-Value))
+VisitEnded-One = (Empty-Value ⊎ (DoubleValue-Value ⊎ (Duration-Value ⊎ Bounce-Value)))
 
 abbrev pub visit_ended-one : VisitEnded → VisitEnded-One
 visit_ended-one (Left x) = (inl (empty-value x))
 visit_ended-one (Bought x) = (inr (inl (double_value-value x)))
-visit_ended-one (Idle x) = (inr (inr (duration-value x)))
+visit_ended-one (Idle x) = (inr (inr (inl (duration-value x))))
+visit_ended-one (Bounced x) = (inr (inr (inr (bounce-value x))))
 
 abbrev pub VisitEnded-Value : Type 0
 VisitEnded-Value = Option VisitEnded-One
@@ -68,7 +72,8 @@ abbrev pub idle-of-visit_ended-as : VisitEnded-Value → Option Duration-Value
 idle-of-visit_ended-as None = None
 idle-of-visit_ended-as (Some (inl other)) = None
 idle-of-visit_ended-as (Some (inr (inl other))) = None
-idle-of-visit_ended-as (Some (inr (inr x))) = Some x
+idle-of-visit_ended-as (Some (inr (inr (inl x)))) = Some x
+idle-of-visit_ended-as (Some (inr (inr (inr other)))) = None
 
 abbrev pub idle-of-visit_ended-kind : FieldKind Duration-Value
 idle-of-visit_ended-kind = (embedded_always duration-shape).kind
@@ -76,21 +81,37 @@ idle-of-visit_ended-kind = (embedded_always duration-shape).kind
 abbrev pub idle-of-visit_ended : Variants VisitEnded-Value
 idle-of-visit_ended =
     variant 8 (embedded_always duration-shape) idle-of-visit_ended-as
-    (λ x. Some (inr (inr x)))
+    (λ x. Some (inr (inr (inl x))))
+
+abbrev pub bounced-of-visit_ended-as : VisitEnded-Value → Option Bounce-Value
+bounced-of-visit_ended-as None = None
+bounced-of-visit_ended-as (Some (inl other)) = None
+bounced-of-visit_ended-as (Some (inr (inl other))) = None
+bounced-of-visit_ended-as (Some (inr (inr (inl other)))) = None
+bounced-of-visit_ended-as (Some (inr (inr (inr x)))) = Some x
+
+abbrev pub bounced-of-visit_ended-kind : FieldKind Bounce-Value
+bounced-of-visit_ended-kind = (embedded_always bounce-shape).kind
+
+abbrev pub bounced-of-visit_ended : Variants VisitEnded-Value
+bounced-of-visit_ended =
+    variant 9 (embedded_always bounce-shape) bounced-of-visit_ended-as
+    (λ x. Some (inr (inr (inr x))))
 
 abbrev pub visit_ended-records : VisitEnded-Value → Records
 visit_ended-records None = none
 visit_ended-records (Some (inl x)) = (embedded_always empty-shape).kind.records 6 x
 visit_ended-records (Some (inr (inl x))) = (embedded_always double_value-shape).kind.records 7 x
-visit_ended-records (Some (inr (inr x))) = (embedded_always duration-shape).kind.records 8 x
+visit_ended-records (Some (inr (inr (inl x)))) = (embedded_always duration-shape).kind.records 8 x
+visit_ended-records (Some (inr (inr (inr x)))) = (embedded_always bounce-shape).kind.records 9 x
 
 -- all but the last
 abbrev pub visit_ended-front : Variants VisitEnded-Value
-visit_ended-front = (either_of left-of-visit_ended bought-of-visit_ended)
+visit_ended-front = (either_of (either_of left-of-visit_ended bought-of-visit_ended) idle-of-visit_ended)
 
 abbrev pub visit_ended-shape : Shape VisitEnded-Value
 visit_ended-shape =
-    oneof None visit_ended-records (either_of visit_ended-front idle-of-visit_ended)
+    oneof None visit_ended-records (either_of visit_ended-front bounced-of-visit_ended)
 
 -- under whatever number, since the variants have their own
 abbrev pub visit_ended-kind : FieldKind VisitEnded-Value
@@ -107,8 +128,10 @@ visit_ended-holds (Some (inl x)) =
     (always_range empty-shape empty-range).Holds x
 visit_ended-holds (Some (inr (inl x))) =
     (always_range double_value-shape double_value-range).Holds x
-visit_ended-holds (Some (inr (inr x))) =
+visit_ended-holds (Some (inr (inr (inl x)))) =
     (always_range duration-shape duration-range).Holds x
+visit_ended-holds (Some (inr (inr (inr x)))) =
+    (always_range bounce-shape bounce-range).Holds x
 
 abbrev pub visit_ended-charge : VisitEnded-Value → Charge
 visit_ended-charge None = no_charge
@@ -116,8 +139,10 @@ visit_ended-charge (Some (inl x)) =
     (always_range empty-shape empty-range).charge_of x
 visit_ended-charge (Some (inr (inl x))) =
     (always_range double_value-shape double_value-range).charge_of x
-visit_ended-charge (Some (inr (inr x))) =
+visit_ended-charge (Some (inr (inr (inl x)))) =
     (always_range duration-shape duration-range).charge_of x
+visit_ended-charge (Some (inr (inr (inr x)))) =
+    (always_range bounce-shape bounce-range).charge_of x
 
 abbrev pub visit_ended-range : Range VisitEnded-Value
 visit_ended-range = record { Holds = visit_ended-holds; charge_of = visit_ended-charge }
@@ -138,15 +163,21 @@ visit_ended-folds g (Some (inr (inl x))) h =
     (always_range double_value-shape double_value-range).charge_of
     (embedded_always_returned g _ _ (double_value-returned g)) (λ x. Some (inr (inl x))) 7 x refl
     (g.number 7 (omega arith) (omega arith)) h (λ c p k. (x, k, refl))
-visit_ended-folds g (Some (inr (inr x))) h =
+visit_ended-folds g (Some (inr (inr (inl x)))) h =
     variant_back g.charges visit_ended-shape (embedded_always duration-shape).kind
     (always_range duration-shape duration-range).Holds
     (always_range duration-shape duration-range).charge_of
-    (embedded_always_returned g _ _ (duration-returned g)) (λ x. Some (inr (inr x))) 8 x refl
+    (embedded_always_returned g _ _ (duration-returned g)) (λ x. Some (inr (inr (inl x)))) 8 x refl
     (g.number 8 (omega arith) (omega arith)) h (λ c p k. (x, k, refl))
+visit_ended-folds g (Some (inr (inr (inr x)))) h =
+    variant_back g.charges visit_ended-shape (embedded_always bounce-shape).kind
+    (always_range bounce-shape bounce-range).Holds
+    (always_range bounce-shape bounce-range).charge_of
+    (embedded_always_returned g _ _ (bounce-returned g)) (λ x. Some (inr (inr (inr x)))) 9 x refl
+    (g.number 9 (omega arith) (omega arith)) h (λ c p k. (x, k, refl))
 
 abbrev pub visit_ended-numbers : ℕ → Type 0
-visit_ended-numbers n = (((n ≡ 6) ⊎ (n ≡ 7)) ⊎ (n ≡ 8))
+visit_ended-numbers n = ((((n ≡ 6) ⊎ (n ≡ 7)) ⊎ (n ≡ 8)) ⊎ (n ≡ 9))
 
 pub visit_ended-have : Grounds → (m : VisitEnded-Value)
     → AllAre visit_ended-numbers (plain (visit_ended-shape.records m))
@@ -156,18 +187,24 @@ visit_ended-have g (Some (inl x)) =
     (always_range empty-shape empty-range).Holds
     (always_range empty-shape empty-range).charge_of
     (embedded_always_returned g _ _ (empty-returned g)) (λ x. Some (inl x)) 6 x refl
-    visit_ended-numbers (inl (inl refl))
+    visit_ended-numbers (inl (inl (inl refl)))
 visit_ended-have g (Some (inr (inl x))) =
     variant_has g.charges visit_ended-shape (embedded_always double_value-shape).kind
     (always_range double_value-shape double_value-range).Holds
     (always_range double_value-shape double_value-range).charge_of
     (embedded_always_returned g _ _ (double_value-returned g)) (λ x. Some (inr (inl x))) 7 x refl
-    visit_ended-numbers (inl (inr refl))
-visit_ended-have g (Some (inr (inr x))) =
+    visit_ended-numbers (inl (inl (inr refl)))
+visit_ended-have g (Some (inr (inr (inl x)))) =
     variant_has g.charges visit_ended-shape (embedded_always duration-shape).kind
     (always_range duration-shape duration-range).Holds
     (always_range duration-shape duration-range).charge_of
-    (embedded_always_returned g _ _ (duration-returned g)) (λ x. Some (inr (inr x))) 8 x refl
+    (embedded_always_returned g _ _ (duration-returned g)) (λ x. Some (inr (inr (inl x)))) 8 x refl
+    visit_ended-numbers (inl (inr refl))
+visit_ended-have g (Some (inr (inr (inr x)))) =
+    variant_has g.charges visit_ended-shape (embedded_always bounce-shape).kind
+    (always_range bounce-shape bounce-range).Holds
+    (always_range bounce-shape bounce-range).charge_of
+    (embedded_always_returned g _ _ (bounce-returned g)) (λ x. Some (inr (inr (inr x)))) 9 x refl
     visit_ended-numbers (inr refl)
 
 abbrev pub visit_ended-returned : Grounds → Returned visit_ended-shape visit_ended-range
@@ -178,7 +215,10 @@ visit_ended-returned g = record {
     has = λ m h. visit_ended-have g m;
     own = λ n p h. elim h [
       | inl h ↦ elim h [
-        | inl h ↦ rw h refl
+        | inl h ↦ elim h [
+          | inl h ↦ rw h refl
+          | inr h ↦ rw h refl
+        ]
         | inr h ↦ rw h refl
       ]
       | inr h ↦ rw h refl

@@ -9,8 +9,11 @@ use Rattle.wire_fields.specs.Short.{AreShort}
 use Rattle.wire_fields.specs.Stays.{FieldsStay, KindStays}
 use Rattle.wire_fields.specs.StaysMessages.{either_stays, embedded_always_stays, oneof_stays}
 use Rattle.wire_fields.specs.StaysMessages.{variant_stays}
+use Rattle.wire_visits.specs.Bounce.{bounce-range, bounce-shape}
+use Rattle.wire_visits.specs.BounceStays.{bounce-stays}
 use Rattle.wire_visits.specs.VisitEnded.{VisitEnded-Value, bought-of-visit_ended-as}
-use Rattle.wire_visits.specs.VisitEnded.{bought-of-visit_ended-kind, idle-of-visit_ended-as}
+use Rattle.wire_visits.specs.VisitEnded.{bought-of-visit_ended-kind, bounced-of-visit_ended-as}
+use Rattle.wire_visits.specs.VisitEnded.{bounced-of-visit_ended-kind, idle-of-visit_ended-as}
 use Rattle.wire_visits.specs.VisitEnded.{idle-of-visit_ended-kind, left-of-visit_ended-as}
 use Rattle.wire_visits.specs.VisitEnded.{left-of-visit_ended-kind, visit_ended-holds}
 use Rattle.wire_visits.specs.VisitEnded.{visit_ended-range, visit_ended-records, visit_ended-shape}
@@ -39,11 +42,18 @@ abbrev pub idle-of-visit_ended-stays : Grounds
 idle-of-visit_ended-stays g =
     embedded_always_stays g (duration-stays g)
 
+abbrev pub bounced-of-visit_ended-stays : Grounds
+    → KindStays (embedded_always bounce-shape).kind
+    (always_range bounce-shape bounce-range)
+bounced-of-visit_ended-stays g =
+    embedded_always_stays g (bounce-stays g)
+
 abbrev pub visit_ended-is : Grounds → VisitEnded-Value → Type 0
 visit_ended-is g None = Unit {0}
 visit_ended-is g (Some (inl x)) = (left-of-visit_ended-stays g).Is x
 visit_ended-is g (Some (inr (inl x))) = (bought-of-visit_ended-stays g).Is x
-visit_ended-is g (Some (inr (inr x))) = (idle-of-visit_ended-stays g).Is x
+visit_ended-is g (Some (inr (inr (inl x)))) = (idle-of-visit_ended-stays g).Is x
+visit_ended-is g (Some (inr (inr (inr x)))) = (bounced-of-visit_ended-stays g).Is x
 
 pub left-of-visit_ended-there : (g : Grounds) (m : VisitEnded-Value) → visit_ended-is g m
     → (left-of-visit_ended-stays g).Is
@@ -71,7 +81,21 @@ idle-of-visit_ended-there g (Some (inl other)) h =
     (idle-of-visit_ended-stays g).start
 idle-of-visit_ended-there g (Some (inr (inl other))) h =
     (idle-of-visit_ended-stays g).start
-idle-of-visit_ended-there g (Some (inr (inr x))) h = h
+idle-of-visit_ended-there g (Some (inr (inr (inl x)))) h = h
+idle-of-visit_ended-there g (Some (inr (inr (inr other)))) h =
+    (idle-of-visit_ended-stays g).start
+
+pub bounced-of-visit_ended-there : (g : Grounds) (m : VisitEnded-Value) → visit_ended-is g m
+    → (bounced-of-visit_ended-stays g).Is
+    (or_else bounced-of-visit_ended-kind.default (bounced-of-visit_ended-as m))
+bounced-of-visit_ended-there g None h = (bounced-of-visit_ended-stays g).start
+bounced-of-visit_ended-there g (Some (inl other)) h =
+    (bounced-of-visit_ended-stays g).start
+bounced-of-visit_ended-there g (Some (inr (inl other))) h =
+    (bounced-of-visit_ended-stays g).start
+bounced-of-visit_ended-there g (Some (inr (inr (inl other)))) h =
+    (bounced-of-visit_ended-stays g).start
+bounced-of-visit_ended-there g (Some (inr (inr (inr x)))) h = h
 
 pub visit_ended-in-range : (g : Grounds) (m : VisitEnded-Value) → visit_ended-is g m
     → AreShort (visit_ended-records m) → visit_ended-holds m
@@ -80,19 +104,24 @@ visit_ended-in-range g (Some (inl x)) h short =
     (left-of-visit_ended-stays g).holds 6 x h short
 visit_ended-in-range g (Some (inr (inl x))) h short =
     (bought-of-visit_ended-stays g).holds 7 x h short
-visit_ended-in-range g (Some (inr (inr x))) h short =
+visit_ended-in-range g (Some (inr (inr (inl x)))) h short =
     (idle-of-visit_ended-stays g).holds 8 x h short
+visit_ended-in-range g (Some (inr (inr (inr x)))) h short =
+    (bounced-of-visit_ended-stays g).holds 9 x h short
 
 pub visit_ended-stays : Grounds → FieldsStay visit_ended-shape visit_ended-range
 visit_ended-stays g =
     oneof_stays None visit_ended-records _ (visit_ended-is g) tt
-    (either_stays (either_stays (variant_stays 6 (embedded_always empty-shape) left-of-visit_ended-as
+    (either_stays (either_stays (either_stays (variant_stays 6 (embedded_always empty-shape) left-of-visit_ended-as
     (λ x. Some (inl x)) (visit_ended-is g) (left-of-visit_ended-stays g)
     (left-of-visit_ended-there g) (λ t h. h))
     (variant_stays 7 (embedded_always double_value-shape) bought-of-visit_ended-as
     (λ x. Some (inr (inl x))) (visit_ended-is g) (bought-of-visit_ended-stays g)
     (bought-of-visit_ended-there g) (λ t h. h)))
     (variant_stays 8 (embedded_always duration-shape) idle-of-visit_ended-as
-    (λ x. Some (inr (inr x))) (visit_ended-is g) (idle-of-visit_ended-stays g)
+    (λ x. Some (inr (inr (inl x)))) (visit_ended-is g) (idle-of-visit_ended-stays g)
     (idle-of-visit_ended-there g) (λ t h. h)))
+    (variant_stays 9 (embedded_always bounce-shape) bounced-of-visit_ended-as
+    (λ x. Some (inr (inr (inr x)))) (visit_ended-is g) (bounced-of-visit_ended-stays g)
+    (bounced-of-visit_ended-there g) (λ t h. h)))
     (visit_ended-in-range g)

@@ -36,7 +36,7 @@ macro_rules! rows {
             3 => clicks: EachEmbedded<Timestamp, 56>,
             4 => counts: Map<Text, AlwaysEmbedded<Int64Value>, 88>,
             5 => note: Embedded<StringValue>,
-            6 | 7 | 8 => ended: VisitEndedKind,
+            6 | 7 | 8 | 9 => ended: VisitEndedKind,
             _ => unknown
         )
     };

@@ -1,2 +1,3 @@
+pub mod BounceJson
 pub mod VisitEndedJson
 pub mod VisitJson

@@ -18,7 +18,11 @@ use Rattle.wire_jsontimes.specs.Durations.{IsDurationTree, MeansDuration}
 use Rattle.wire_protojson.specs.DecidedScalars.{floats_decided}
 use Rattle.wire_protojson.specs.Numbers.{MeansFloat}
 use Rattle.wire_protojson.specs.Trees.{IsFloatTree}
+use Rattle.wire_visits.specs.declared.bounce.Bounce.{Bounce}
 use Rattle.wire_visits.specs.declared.visit_ended.VisitEnded.{VisitEnded}
+use Rattle.wire_visits_json.specs.BounceJson.{Bounce-Json, bounce-json, bounce-json-back}
+use Rattle.wire_visits_json.specs.BounceJson.{bounce-json-one, bounce-json-range, bounce-json-says}
+use Rattle.wire_visits_json.specs.BounceJson.{bounce-json-trees}
 use Rattle.wire_well_known.specs.declared.double_value.DoubleValue.{DoubleValue}
 use Rattle.wire_well_known.specs.declared.duration.Duration.{Duration}
 use Rattle.wire_well_known.specs.declared.empty.Empty.{Empty}
@@ -56,6 +60,7 @@ abbrev pub left-of : VisitEnded → Option left-Held
 left-of (variants.Left held) = Some held
 left-of (variants.Bought held) = None
 left-of (variants.Idle held) = None
+left-of (variants.Bounced held) = None
 
 abbrev pub left-seen : VisitEnded → Option left-Value
 left-seen o = option_map left-view (left-of o)
@@ -106,6 +111,7 @@ abbrev pub bought-of : VisitEnded → Option bought-Held
 bought-of (variants.Left held) = None
 bought-of (variants.Bought held) = Some held
 bought-of (variants.Idle held) = None
+bought-of (variants.Bounced held) = None
 
 abbrev pub bought-seen : VisitEnded → Option bought-Value
 bought-seen o = option_map bought-view (bought-of o)
@@ -156,6 +162,7 @@ abbrev pub idle-of : VisitEnded → Option idle-Held
 idle-of (variants.Left held) = None
 idle-of (variants.Bought held) = None
 idle-of (variants.Idle held) = Some held
+idle-of (variants.Bounced held) = None
 
 abbrev pub idle-seen : VisitEnded → Option idle-Value
 idle-seen o = option_map idle-view (idle-of o)
@@ -179,43 +186,132 @@ idle-back =
     (codes "idle") (codes "idle")
     IsAnyTime duration_back
 
+abbrev pub bounced-Value : Type 0
+bounced-Value = Bounce-Json
+
+abbrev pub bounced-Held : Type 0
+bounced-Held = Bounce
+
+abbrev pub bounced-view : bounced-Held → bounced-Value
+bounced-view h = bounce-json h
+
+abbrev pub bounced-names : List Names
+bounced-names = (codes "bounced", codes "bounced") ∷ []
+
+abbrev pub bounced-says : Members → Option bounced-Value → Type 0
+bounced-says =
+    FieldMeans None (MeansSome (ObjectMeans bounce-json-says))
+    (IsNameOf (codes "bounced") (codes "bounced"))
+
+abbrev pub bounced-trees : bounced-Value → Members → Type 0
+bounced-trees = IsMemberTree (IsObjectTree bounce-json-trees) (codes "bounced")
+
+abbrev pub bounced-range : bounced-Value → Type 0
+bounced-range = bounce-json-range
+
+abbrev pub bounced-of : VisitEnded → Option bounced-Held
+bounced-of (variants.Left held) = None
+bounced-of (variants.Bought held) = None
+bounced-of (variants.Idle held) = None
+bounced-of (variants.Bounced held) = Some held
+
+abbrev pub bounced-seen : VisitEnded → Option bounced-Value
+bounced-seen o = option_map bounced-view (bounced-of o)
+
+pub bounced-unsaid : bounced-says no_member None
+bounced-unsaid =
+    unsaid None (MeansSome (ObjectMeans bounce-json-says))
+    (IsNameOf (codes "bounced") (codes "bounced"))
+
+pub bounced-one : SayOne bounced-says
+bounced-one =
+    one_field None (MeansSome (ObjectMeans bounce-json-says))
+    (one_some (ObjectMeans bounce-json-says) (one_object bounce-json-says bounce-json-one))
+    (IsNameOf (codes "bounced") (codes "bounced"))
+
+pub bounced-back
+    : ChoiceComesBack bounced-names bounced-says bounced-trees bounced-range
+bounced-back =
+    variant_back (ObjectMeans bounce-json-says)
+    (IsObjectTree bounce-json-trees)
+    (codes "bounced") (codes "bounced")
+    bounce-json-range bounce-json-back
+
+abbrev pub ended-chosen-from-3-Value : Type 0
+ended-chosen-from-3-Value = idle-Value ⊎ bounced-Value
+
+abbrev pub ended-chosen-from-3-Held : Type 0
+ended-chosen-from-3-Held = Chosen idle-Held bounced-Held
+
+abbrev pub ended-chosen-from-3-view : ended-chosen-from-3-Held → ended-chosen-from-3-Value
+ended-chosen-from-3-view = either_value idle-view bounced-view
+
+abbrev pub ended-chosen-from-3-names : List Names
+ended-chosen-from-3-names = idle-names ++ bounced-names
+
+abbrev pub ended-chosen-from-3-says : Members → Option ended-chosen-from-3-Value → Type 0
+ended-chosen-from-3-says = EitherSays idle-says bounced-says
+
+abbrev pub ended-chosen-from-3-trees : ended-chosen-from-3-Value → Members → Type 0
+ended-chosen-from-3-trees = EitherTrees idle-trees bounced-trees
+
+abbrev pub ended-chosen-from-3-range : ended-chosen-from-3-Value → Type 0
+ended-chosen-from-3-range = IsEitherInRange idle-range bounced-range
+
+abbrev pub ended-chosen-from-3-seen : VisitEnded → Option ended-chosen-from-3-Value
+ended-chosen-from-3-seen o = either_seen (idle-seen o) (bounced-seen o)
+
+pub ended-chosen-from-3-unsaid : ended-chosen-from-3-says no_member None
+ended-chosen-from-3-unsaid =
+    either_unsaid idle-says bounced-says idle-unsaid bounced-unsaid
+
+pub ended-chosen-from-3-one : SayOne ended-chosen-from-3-says
+ended-chosen-from-3-one = one_either idle-says bounced-says idle-one bounced-one
+
+pub ended-chosen-from-3-back
+    : ChoiceComesBack ended-chosen-from-3-names ended-chosen-from-3-says ended-chosen-from-3-trees ended-chosen-from-3-range
+ended-chosen-from-3-back =
+    either_back idle-names bounced-names idle-says bounced-says
+    idle-trees bounced-trees idle-range bounced-range
+    idle-back bounced-back
+
 abbrev pub ended-chosen-from-2-Value : Type 0
-ended-chosen-from-2-Value = bought-Value ⊎ idle-Value
+ended-chosen-from-2-Value = bought-Value ⊎ ended-chosen-from-3-Value
 
 abbrev pub ended-chosen-from-2-Held : Type 0
-ended-chosen-from-2-Held = Chosen bought-Held idle-Held
+ended-chosen-from-2-Held = Chosen bought-Held ended-chosen-from-3-Held
 
 abbrev pub ended-chosen-from-2-view : ended-chosen-from-2-Held → ended-chosen-from-2-Value
-ended-chosen-from-2-view = either_value bought-view idle-view
+ended-chosen-from-2-view = either_value bought-view ended-chosen-from-3-view
 
 abbrev pub ended-chosen-from-2-names : List Names
-ended-chosen-from-2-names = bought-names ++ idle-names
+ended-chosen-from-2-names = bought-names ++ ended-chosen-from-3-names
 
 abbrev pub ended-chosen-from-2-says : Members → Option ended-chosen-from-2-Value → Type 0
-ended-chosen-from-2-says = EitherSays bought-says idle-says
+ended-chosen-from-2-says = EitherSays bought-says ended-chosen-from-3-says
 
 abbrev pub ended-chosen-from-2-trees : ended-chosen-from-2-Value → Members → Type 0
-ended-chosen-from-2-trees = EitherTrees bought-trees idle-trees
+ended-chosen-from-2-trees = EitherTrees bought-trees ended-chosen-from-3-trees
 
 abbrev pub ended-chosen-from-2-range : ended-chosen-from-2-Value → Type 0
-ended-chosen-from-2-range = IsEitherInRange bought-range idle-range
+ended-chosen-from-2-range = IsEitherInRange bought-range ended-chosen-from-3-range
 
 abbrev pub ended-chosen-from-2-seen : VisitEnded → Option ended-chosen-from-2-Value
-ended-chosen-from-2-seen o = either_seen (bought-seen o) (idle-seen o)
+ended-chosen-from-2-seen o = either_seen (bought-seen o) (ended-chosen-from-3-seen o)
 
 pub ended-chosen-from-2-unsaid : ended-chosen-from-2-says no_member None
 ended-chosen-from-2-unsaid =
-    either_unsaid bought-says idle-says bought-unsaid idle-unsaid
+    either_unsaid bought-says ended-chosen-from-3-says bought-unsaid ended-chosen-from-3-unsaid
 
 pub ended-chosen-from-2-one : SayOne ended-chosen-from-2-says
-ended-chosen-from-2-one = one_either bought-says idle-says bought-one idle-one
+ended-chosen-from-2-one = one_either bought-says ended-chosen-from-3-says bought-one ended-chosen-from-3-one
 
 pub ended-chosen-from-2-back
     : ChoiceComesBack ended-chosen-from-2-names ended-chosen-from-2-says ended-chosen-from-2-trees ended-chosen-from-2-range
 ended-chosen-from-2-back =
-    either_back bought-names idle-names bought-says idle-says
-    bought-trees idle-trees bought-range idle-range
-    bought-back idle-back
+    either_back bought-names ended-chosen-from-3-names bought-says ended-chosen-from-3-says
+    bought-trees ended-chosen-from-3-trees bought-range ended-chosen-from-3-range
+    bought-back ended-chosen-from-3-back
 
 abbrev pub ended-chosen-Value : Type 0
 ended-chosen-Value = left-Value ⊎ ended-chosen-from-2-Value

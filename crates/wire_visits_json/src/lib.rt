@@ -2,7 +2,9 @@
 //! from visits.proto; not to be edited.
 #![tactic(auto)]
 
+mod bounce_json;
 mod visit_ended_json;
 mod visit_json;
 
+pub use bounce_json::BounceJson;
 pub use visit_json::VisitJson;

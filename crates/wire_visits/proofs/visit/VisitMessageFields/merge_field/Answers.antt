@@ -119,6 +119,20 @@ returns-in-8-clause-ok g c =
     (λ charge p h. (((h, refl), refl), refl)) _ _ _ _ _
     (c.fields-merge-in-8).result (c.fields-merge-in-8).ensures.ok
 
+pub returns-in-9-clause-err : goal.returns-in-9-clause-err
+returns-in-9-clause-err g c =
+    arm_err visit-shape.takes visit_ended-shape.takes 9 _
+    (sym c.fields-field_number.ensures.number ∙ c.in-9.is) _ _
+    (λ charge z p h. (z.0.1.1, h.0.0.0)) _ _ _
+    (c.fields-merge-in-9).result (c.fields-merge-in-9).ensures.err
+
+pub returns-in-9-clause-ok : goal.returns-in-9-clause-ok
+returns-in-9-clause-ok g c =
+    arm_ok visit-shape.takes visit_ended-shape.takes 9 _
+    (sym c.fields-field_number.ensures.number ∙ c.in-9.is) _ _ _ _
+    (λ charge p h. (((h, refl), refl), refl)) _ _ _ _ _
+    (c.fields-merge-in-9).result (c.fields-merge-in-9).ensures.ok
+
 pub returns-in_default-clause-err : goal.returns-in_default-clause-err
 returns-in_default-clause-err g c =
     let n = tag_number c.args.tag in
@@ -128,7 +142,8 @@ returns-in_default-clause-err g c =
     (neither _ _ (unlike n 3 (search rules))
     (unlike n 4 (search rules))))
     (neither _ _ (unlike n 5 (search rules))
-    (neither _ _ (neither _ _ (unlike n 6 (search rules))
+    (neither _ _ (neither _ _ (neither _ _ (unlike n 6 (search rules))
     (unlike n 7 (search rules)))
-    (unlike n 8 (search rules)))))
+    (unlike n 8 (search rules)))
+    (unlike n 9 (search rules)))))
     _ _ _ _ c.fields-keep.result c.fields-keep.ensures.err
