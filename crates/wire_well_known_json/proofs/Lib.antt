@@ -1,0 +1,5 @@
+pub mod MaskBack
+pub mod MaskLaws
+pub mod MaskReading
+pub mod MaskTexts
+pub mod SamePaths
