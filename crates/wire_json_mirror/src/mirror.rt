@@ -9,13 +9,13 @@ use wire_report_json::{ReportJson, ReportSampleJson};
 use wire_visits::Visit;
 use wire_visits_json::VisitJson;
 use wire_well_known::{
-    BoolValue, BytesValue, DoubleValue, Duration, Empty, FloatValue, Int32Value, Int64Value,
-    StringValue, Timestamp, UInt32Value, UInt64Value,
+    BoolValue, BytesValue, DoubleValue, Duration, Empty, FieldMask, FloatValue, Int32Value,
+    Int64Value, StringValue, Timestamp, UInt32Value, UInt64Value,
 };
 use wire_well_known_json::{
-    BoolValueJson, BytesValueJson, DoubleValueJson, DurationJson, EmptyJson, FloatValueJson,
-    Int32ValueJson, Int64ValueJson, StringValueJson, TimestampJson, UInt32ValueJson,
-    UInt64ValueJson,
+    BoolValueJson, BytesValueJson, DoubleValueJson, DurationJson, EmptyJson, FieldMaskJson,
+    FloatValueJson, Int32ValueJson, Int64ValueJson, StringValueJson, TimestampJson,
+    UInt32ValueJson, UInt64ValueJson,
 };
 
 // The most arrays and objects that stand in one another.
@@ -65,6 +65,7 @@ fn write_one(alloc: Global, name: &str, of: &str) -> Result<String, MirrorError>
         "DoubleValue" => written::<DoubleValueJson, DoubleValue>(alloc, of),
         "Duration" => written::<DurationJson, Duration>(alloc, of),
         "Empty" => written::<EmptyJson, Empty>(alloc, of),
+        "FieldMask" => written::<FieldMaskJson, FieldMask>(alloc, of),
         "FloatValue" => written::<FloatValueJson, FloatValue>(alloc, of),
         "Int32Value" => written::<Int32ValueJson, Int32Value>(alloc, of),
         "Int64Value" => written::<Int64ValueJson, Int64Value>(alloc, of),
@@ -86,6 +87,7 @@ fn read_one(alloc: Global, name: &str, of: &str) -> Result<String, MirrorError> 
         "DoubleValue" => read::<DoubleValueJson, DoubleValue>(alloc, of),
         "Duration" => read::<DurationJson, Duration>(alloc, of),
         "Empty" => read::<EmptyJson, Empty>(alloc, of),
+        "FieldMask" => read::<FieldMaskJson, FieldMask>(alloc, of),
         "FloatValue" => read::<FloatValueJson, FloatValue>(alloc, of),
         "Int32Value" => read::<Int32ValueJson, Int32Value>(alloc, of),
         "Int64Value" => read::<Int64ValueJson, Int64Value>(alloc, of),

@@ -33,7 +33,7 @@ const WRAPPER: [Template; 5] = [
     ),
 ];
 
-const TIME: [Template; 10] = [
+const TIME: [Template; 11] = [
     ("json_value", "ℤ × ℤ"),
     ("json_kind", "$of_name$Json"),
     ("json_before", "$of_module$-json "),
@@ -51,12 +51,36 @@ const TIME: [Template; 10] = [
         Rattle.wire_well_known_json.specs.Times one_$of_module$\n\
         Rattle.wire_well_known_json.specs.Times $of_module$_back\n",
     ),
+    (
+        "json_seen_uses",
+        "Rattle.wire_well_known_json.specs.Times $of_module$-json\n",
+    ),
 ];
 
-const TIME_SEEN: Template = (
-    "json_seen_uses",
-    "Rattle.wire_well_known_json.specs.Times $of_module$-json\n",
-);
+const MASK: [Template; 11] = [
+    ("json_value", "List (List ℕ)"),
+    ("json_kind", "$of_name$Json"),
+    ("json_before", "$of_module$-json "),
+    ("json_view", "$of_module$-json"),
+    ("json_means", "MeansMask"),
+    ("json_tree", "IsMaskTree"),
+    ("json_one", "one_mask"),
+    ("json_range", "IsAnyMask"),
+    ("json_back", "mask_back"),
+    (
+        "json_uses",
+        "Rattle.std.specs.Prelude List\nRattle.std.specs.Prelude ℕ\n\
+        Rattle.wire_well_known_json.specs.FieldMasks IsAnyMask\n\
+        Rattle.wire_well_known_json.specs.FieldMasks mask_back\n\
+        Rattle.wire_well_known_json.specs.FieldMasks one_mask\n\
+        Rattle.wire_well_known_json.specs.Masks IsMaskTree\n\
+        Rattle.wire_well_known_json.specs.Masks MeansMask\n",
+    ),
+    (
+        "json_seen_uses",
+        "Rattle.wire_well_known_json.specs.FieldMasks $of_module$-json\n",
+    ),
+];
 
 const HELD: [Template; 4] = [
     ("json_held", "$of_name$"),
@@ -79,7 +103,8 @@ pub(crate) fn has_rule(full: &str) -> bool {
 /// Whether a field of these words is of a well-known type of which there is JSON.
 pub(crate) fn is_well_known(words: &Words) -> bool {
     let name = words.get("of_name");
-    let is_there = matches!(name, "Duration" | "Empty" | "Timestamp") || held_by(name).is_some();
+    let is_other = matches!(name, "Duration" | "Empty" | "FieldMask" | "Timestamp");
+    let is_there = is_other || held_by(name).is_some();
     is_there && words.get("of_crate") == CRATE && words.get("crate") != CRATE
 }
 
@@ -97,11 +122,12 @@ pub(crate) fn set_well_known(words: &mut Words) {
     if let Some(held) = held_by(words.get("of_name")) {
         set_own(held, words);
         words.fill_all(&WRAPPER);
-    } else if words.get("of_name") == "Empty" {
-        words.fill_all(&MESSAGE);
     } else {
-        words.fill_all(&TIME);
-        words.fill(TIME_SEEN.0, TIME_SEEN.1);
+        match words.get("of_name") {
+            "Empty" => words.fill_all(&MESSAGE),
+            "FieldMask" => words.fill_all(&MASK),
+            _ => words.fill_all(&TIME),
+        }
     }
     words.fill_all(&HELD);
 }

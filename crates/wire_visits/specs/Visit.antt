@@ -18,6 +18,8 @@ use Rattle.wire_visits.specs.VisitEnded.{visit_ended-returned, visit_ended-shape
 use Rattle.wire_visits.specs.declared.visit.Visit.{Visit}
 use Rattle.wire_well_known.specs.Duration.{Duration-Value, duration-range, duration-returned}
 use Rattle.wire_well_known.specs.Duration.{duration-shape, duration-value}
+use Rattle.wire_well_known.specs.FieldMask.{FieldMask-Value, field_mask-range, field_mask-returned}
+use Rattle.wire_well_known.specs.FieldMask.{field_mask-shape, field_mask-value}
 use Rattle.wire_well_known.specs.Int64Value.{Int64Value-Value, int64_value-range}
 use Rattle.wire_well_known.specs.Int64Value.{int64_value-returned, int64_value-shape}
 use Rattle.wire_well_known.specs.Int64Value.{int64_value-value}
@@ -59,14 +61,21 @@ visit-note-kind = embedded_once string_value-shape
 abbrev pub visit-note-range : Range (Option StringValue-Value)
 visit-note-range = once_range string_value-shape string_value-range
 
+abbrev pub visit-seen-kind : Lawful (Option FieldMask-Value)
+visit-seen-kind = embedded_once field_mask-shape
+
+abbrev pub visit-seen-range : Range (Option FieldMask-Value)
+visit-seen-range = once_range field_mask-shape field_mask-range
+
 abbrev pub Visit-Known : Type 0
 Visit-Known =
     ((((Option Timestamp-Value)
     × (Option Duration-Value))
     × ((List Timestamp-Value)
     × (List ((List ℕ) × Int64Value-Value))))
-    × ((Option StringValue-Value)
-    × VisitEnded-Value))
+    × (((Option StringValue-Value)
+    × VisitEnded-Value)
+    × (Option FieldMask-Value)))
 
 abbrev pub Visit-Value : Type 0
 Visit-Value = Visit-Known × Fields
@@ -85,8 +94,11 @@ visit-value m = (
       ),
     ),
     (
-      boxed_value string_value-value m.note,
-      visit_ended-of m.ended,
+      (
+        boxed_value string_value-value m.note,
+        visit_ended-of m.ended,
+      ),
+      boxed_value field_mask-value m.seen,
     ),
   ),
   m.unknown,
@@ -105,10 +117,13 @@ abbrev pub counts-of-visit : Visit-Value → List ((List ℕ) × Int64Value-Valu
 counts-of-visit m = m.0.0.1.1
 
 abbrev pub note-of-visit : Visit-Value → Option StringValue-Value
-note-of-visit m = m.0.1.0
+note-of-visit m = m.0.1.0.0
 
 abbrev pub ended-of-visit : Visit-Value → VisitEnded-Value
-ended-of-visit m = m.0.1.1
+ended-of-visit m = m.0.1.0.1
+
+abbrev pub seen-of-visit : Visit-Value → Option FieldMask-Value
+seen-of-visit m = m.0.1.1
 
 abbrev pub visit-known : Shape Visit-Known
 visit-known =
@@ -116,8 +131,9 @@ visit-known =
     (known 2 visit-lasted-kind))
     (two (known 3 visit-clicks-kind)
     (known 4 visit-counts-kind)))
-    (two (known 5 visit-note-kind)
+    (two (two (known 5 visit-note-kind)
     (visit_ended-shape))
+    (known 10 visit-seen-kind))
 
 abbrev pub visit-shape : Shape Visit-Value
 visit-shape = two visit-known unknown
@@ -129,8 +145,9 @@ visit-range =
     (visit-lasted-range))
     (pair_range (visit-clicks-range)
     (visit-counts-range)))
-    (pair_range (visit-note-range)
-    (visit_ended-range)))
+    (pair_range (pair_range (visit-note-range)
+    (visit_ended-range))
+    (visit-seen-range)))
     (others_range visit-known.owns)
 
 pub visit-returned : Grounds → Returned visit-shape visit-range
@@ -161,6 +178,7 @@ visit-returned g =
       | inr h ↦ rw h refl
     ]))
     (two_returned g
+    (two_returned g
     (known_returned g 5 visit-note-kind visit-note-range
     (omega arith) (omega arith)
     (embedded_once_returned g _ _ (string_value-returned g)))
@@ -175,16 +193,23 @@ visit-returned g =
       ]
       | inr h ↦ rw h refl
     ]))
+    (known_returned g 10 visit-seen-kind visit-seen-range
+    (omega arith) (omega arith)
+    (embedded_once_returned g _ _ (field_mask-returned g)))
+    (λ n p h. rw h refl))
     (λ n p h. elim h [
-      | inl h ↦ rw h refl
-      | inr h ↦ elim h [
-        | inl h ↦ elim h [
+      | inl h ↦ elim h [
+        | inl h ↦ rw h refl
+        | inr h ↦ elim h [
           | inl h ↦ elim h [
-            | inl h ↦ rw h refl
+            | inl h ↦ elim h [
+              | inl h ↦ rw h refl
+              | inr h ↦ rw h refl
+            ]
             | inr h ↦ rw h refl
           ]
           | inr h ↦ rw h refl
         ]
-        | inr h ↦ rw h refl
       ]
+      | inr h ↦ rw h refl
     ]))

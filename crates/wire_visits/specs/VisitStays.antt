@@ -8,9 +8,11 @@ use Rattle.wire_fields.specs.StaysMaps.{text_map_stays}
 use Rattle.wire_fields.specs.StaysMessages.{embedded_always_stays, embedded_each_stays}
 use Rattle.wire_fields.specs.StaysMessages.{embedded_once_stays}
 use Rattle.wire_visits.specs.Visit.{visit-begun_at-kind, visit-clicks-kind, visit-counts-kind}
-use Rattle.wire_visits.specs.Visit.{visit-lasted-kind, visit-note-kind, visit-range, visit-shape}
+use Rattle.wire_visits.specs.Visit.{visit-lasted-kind, visit-note-kind, visit-range}
+use Rattle.wire_visits.specs.Visit.{visit-seen-kind, visit-shape}
 use Rattle.wire_visits.specs.VisitEndedStays.{visit_ended-stays}
 use Rattle.wire_well_known.specs.DurationStays.{duration-stays}
+use Rattle.wire_well_known.specs.FieldMaskStays.{field_mask-stays}
 use Rattle.wire_well_known.specs.Int64Value.{int64_value-shape}
 use Rattle.wire_well_known.specs.Int64ValueStays.{int64_value-stays}
 use Rattle.wire_well_known.specs.StringValueStays.{string_value-stays}
@@ -33,6 +35,9 @@ visit-stays g =
     (text_map_stays g 88 (embedded_always int64_value-shape) string_stays
     (embedded_always_stays g (int64_value-stays g))))))
     (two_stays
+    (two_stays
     (known_stays 5 visit-note-kind
     (embedded_once_stays g (string_value-stays g)))
-    (visit_ended-stays g)))
+    (visit_ended-stays g))
+    (known_stays 10 visit-seen-kind
+    (embedded_once_stays g (field_mask-stays g)))))

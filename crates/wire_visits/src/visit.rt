@@ -11,7 +11,7 @@ use wire_fields::{
     AlwaysEmbedded, EachEmbedded, Embedded, Map, Text, Twin, copied_box, copied_list, copied_map,
     copied_option, fields, measure, write,
 };
-use wire_well_known::{Duration, Int64Value, StringValue, Timestamp};
+use wire_well_known::{Duration, FieldMask, Int64Value, StringValue, Timestamp};
 
 /// A visit to a page, of types that everybody knows.
 #[derive(Debug, Drop, PartialEq)]
@@ -22,6 +22,8 @@ pub struct Visit {
     pub counts: BTreeMap<String, Int64Value>,
     pub note: Option<Box<StringValue>>,
     pub ended: Option<VisitEnded>,
+    /// Which parts were seen.
+    pub seen: Option<Box<FieldMask>>,
     /// The fields that the schema lacks, as they came.
     pub unknown: UnknownFields,
 }
@@ -37,6 +39,7 @@ macro_rules! rows {
             4 => counts: Map<Text, AlwaysEmbedded<Int64Value>, 88>,
             5 => note: Embedded<StringValue>,
             6 | 7 | 8 | 9 => ended: VisitEndedKind,
+            10 => seen: Embedded<FieldMask>,
             _ => unknown
         )
     };
@@ -66,6 +69,7 @@ impl Clone for Visit {
             counts: copied_map(&self.counts)?,
             note: copied_box(&self.note)?,
             ended: copied_option(&self.ended)?,
+            seen: copied_box(&self.seen)?,
             unknown: self.unknown.clone()?,
         })
     }

@@ -38,6 +38,8 @@ use Rattle.wire_visits_json.specs.VisitEndedJson.{ended-chosen-names, ended-chos
 use Rattle.wire_visits_json.specs.VisitEndedJson.{ended-chosen-range, ended-chosen-says}
 use Rattle.wire_visits_json.specs.VisitEndedJson.{ended-chosen-seen, ended-chosen-trees}
 use Rattle.wire_visits_json.specs.VisitEndedJson.{ended-chosen-unsaid}
+use Rattle.wire_well_known_json.specs.FieldMasks.{IsAnyMask, field_mask-json, mask_back, one_mask}
+use Rattle.wire_well_known_json.specs.Masks.{IsMaskTree, MeansMask}
 use Rattle.wire_well_known_json.specs.Times.{IsAnyTime, duration-json, duration_back, one_duration}
 use Rattle.wire_well_known_json.specs.Times.{one_timestamp, timestamp-json, timestamp_back}
 use Rattle.wire_well_known_json.specs.Wrappers.{int64_value-json, string_value-json}
@@ -315,6 +317,54 @@ ended-back =
     oneof_back ended-chosen-names ended-chosen-says ended-chosen-trees
     ended-chosen-range ended-chosen-back
 
+abbrev pub seen-Value : Type 0
+seen-Value = Option (List (List ℕ))
+
+abbrev pub seen-names : List Names
+seen-names = (codes "seen", codes "seen") ∷ []
+
+abbrev pub seen-says : Members → seen-Value → Type 0
+seen-says =
+    FieldMeans None (MeansSome MeansMask)
+    (IsNameOf (codes "seen") (codes "seen"))
+
+abbrev pub seen-trees : seen-Value → Members → Type 0
+seen-trees =
+    IsFieldTree None (IsSomeTree IsMaskTree)
+    (codes "seen")
+
+abbrev pub seen-range : seen-Value → Type 0
+seen-range = IsInRangeUnless None (IsSomeInRange IsAnyMask)
+
+abbrev pub seen-absent : seen-Value
+seen-absent = None
+
+abbrev pub seen-seen : Visit → seen-Value
+seen-seen m = option_map (λ v. field_mask-json (box_value v)) m.seen
+
+pub seen-unsaid : seen-says no_member seen-absent
+seen-unsaid =
+    unsaid None (MeansSome MeansMask)
+    (IsNameOf (codes "seen") (codes "seen"))
+
+pub seen-one : SayOne seen-says
+seen-one =
+    one_field None (MeansSome MeansMask)
+    (one_some MeansMask one_mask)
+    (IsNameOf (codes "seen") (codes "seen"))
+
+pub seen-back
+    : PartComesBack seen-names seen-says seen-trees seen-range
+seen-back =
+    field_back (MeansSome MeansMask)
+    (IsSomeTree IsMaskTree)
+    (codes "seen") (codes "seen")
+    (IsSomeInRange IsAnyMask)
+    (some_back MeansMask
+    IsMaskTree
+    IsAnyMask mask_back)
+    None
+
 abbrev pub group-1-from-3-Value : Type 0
 group-1-from-3-Value = clicks-Value × counts-Value
 
@@ -417,39 +467,73 @@ group-1-back =
     begun_at-trees group-1-from-2-trees begun_at-range group-1-from-2-range
     begun_at-back group-1-from-2-back
 
+abbrev pub group-2-from-2-Value : Type 0
+group-2-from-2-Value = ended-Value × seen-Value
+
+abbrev pub group-2-from-2-names : List Names
+group-2-from-2-names = ended-names ++ seen-names
+
+abbrev pub group-2-from-2-says : Members → group-2-from-2-Value → Type 0
+group-2-from-2-says = BothSay ended-says seen-says
+
+abbrev pub group-2-from-2-trees : group-2-from-2-Value → Members → Type 0
+group-2-from-2-trees = BothTrees ended-trees seen-trees
+
+abbrev pub group-2-from-2-range : group-2-from-2-Value → Type 0
+group-2-from-2-range = AreBoth ended-range seen-range
+
+abbrev pub group-2-from-2-absent : group-2-from-2-Value
+group-2-from-2-absent = (ended-absent, seen-absent)
+
+abbrev pub group-2-from-2-seen : Visit → group-2-from-2-Value
+group-2-from-2-seen m = (ended-seen m, seen-seen m)
+
+pub group-2-from-2-unsaid : group-2-from-2-says no_member group-2-from-2-absent
+group-2-from-2-unsaid = (ended-unsaid, seen-unsaid)
+
+pub group-2-from-2-one : SayOne group-2-from-2-says
+group-2-from-2-one = one_both ended-says seen-says ended-one seen-one
+
+pub group-2-from-2-back
+    : PartComesBack group-2-from-2-names group-2-from-2-says group-2-from-2-trees group-2-from-2-range
+group-2-from-2-back =
+    both_back ended-names seen-names ended-says seen-says
+    ended-trees seen-trees ended-range seen-range
+    ended-back seen-back
+
 abbrev pub group-2-Value : Type 0
-group-2-Value = note-Value × ended-Value
+group-2-Value = note-Value × group-2-from-2-Value
 
 abbrev pub group-2-names : List Names
-group-2-names = note-names ++ ended-names
+group-2-names = note-names ++ group-2-from-2-names
 
 abbrev pub group-2-says : Members → group-2-Value → Type 0
-group-2-says = BothSay note-says ended-says
+group-2-says = BothSay note-says group-2-from-2-says
 
 abbrev pub group-2-trees : group-2-Value → Members → Type 0
-group-2-trees = BothTrees note-trees ended-trees
+group-2-trees = BothTrees note-trees group-2-from-2-trees
 
 abbrev pub group-2-range : group-2-Value → Type 0
-group-2-range = AreBoth note-range ended-range
+group-2-range = AreBoth note-range group-2-from-2-range
 
 abbrev pub group-2-absent : group-2-Value
-group-2-absent = (note-absent, ended-absent)
+group-2-absent = (note-absent, group-2-from-2-absent)
 
 abbrev pub group-2-seen : Visit → group-2-Value
-group-2-seen m = (note-seen m, ended-seen m)
+group-2-seen m = (note-seen m, group-2-from-2-seen m)
 
 pub group-2-unsaid : group-2-says no_member group-2-absent
-group-2-unsaid = (note-unsaid, ended-unsaid)
+group-2-unsaid = (note-unsaid, group-2-from-2-unsaid)
 
 pub group-2-one : SayOne group-2-says
-group-2-one = one_both note-says ended-says note-one ended-one
+group-2-one = one_both note-says group-2-from-2-says note-one group-2-from-2-one
 
 pub group-2-back
     : PartComesBack group-2-names group-2-says group-2-trees group-2-range
 group-2-back =
-    both_back note-names ended-names note-says ended-says
-    note-trees ended-trees note-range ended-range
-    note-back ended-back
+    both_back note-names group-2-from-2-names note-says group-2-from-2-says
+    note-trees group-2-from-2-trees note-range group-2-from-2-range
+    note-back group-2-from-2-back
 
 abbrev pub all-fields-Value : Type 0
 all-fields-Value = group-1-Value × group-2-Value

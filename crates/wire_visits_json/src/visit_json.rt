@@ -9,8 +9,10 @@ use wire_jsonfields::{
 };
 use wire_protojson::{ReadError, WriteError};
 use wire_visits::Visit;
-use wire_well_known::{Duration, Int64Value, StringValue, Timestamp};
-use wire_well_known_json::{DurationJson, Int64ValueJson, StringValueJson, TimestampJson};
+use wire_well_known::{Duration, FieldMask, Int64Value, StringValue, Timestamp};
+use wire_well_known_json::{
+    DurationJson, FieldMaskJson, Int64ValueJson, StringValueJson, TimestampJson,
+};
 
 /// `visits.Visit` by the JSON mapping.
 pub struct VisitJson;
@@ -29,9 +31,13 @@ pub type Group1From3 = Both<OfClicks, OfCounts>;
 
 pub type HeldGroup1From3 = (Vec<Timestamp>, BTreeMap<String, Int64Value>);
 
-pub type Group2 = Both<OfNote, OfEnded>;
+pub type Group2 = Both<OfNote, Group2From2>;
 
-pub type HeldGroup2 = (Option<Box<StringValue>>, Option<HeldVisitEndedJson>);
+pub type HeldGroup2 = (Option<Box<StringValue>>, HeldGroup2From2);
+
+pub type Group2From2 = Both<OfEnded, OfSeen>;
+
+pub type HeldGroup2From2 = (Option<HeldVisitEndedJson>, Option<Box<FieldMask>>);
 
 const BEGUN_AT: FieldName = FieldName {
     name: "begun_at",
@@ -56,6 +62,11 @@ const COUNTS: FieldName = FieldName {
 const NOTE: FieldName = FieldName {
     name: "note",
     json_name: "note",
+};
+
+const SEEN: FieldName = FieldName {
+    name: "seen",
+    json_name: "seen",
 };
 
 pub struct OfBegunAt;
@@ -413,6 +424,64 @@ impl JsonPart for OfEnded {
     }
 }
 
+pub struct OfSeen;
+
+impl JsonPart for OfSeen {
+    ghost use Rattle.std.specs.Prelude.{box_value, option_map};
+    ghost use Rattle.wire_visits_json.specs.VisitJson.{seen-Value, seen-absent, seen-back};
+    ghost use Rattle.wire_visits_json.specs.VisitJson.{seen-names, seen-one, seen-range, seen-says};
+    ghost use Rattle.wire_visits_json.specs.VisitJson.{seen-seen, seen-trees, seen-unsaid};
+    ghost use Rattle.wire_well_known_json.specs.FieldMasks.{field_mask-json};
+
+    type Message = Visit;
+
+    type Held = Option<Box<FieldMask>>;
+
+    ghost Value = { seen-Value };
+
+    ghost view = { λ h. option_map (λ v. field_mask-json (box_value v)) h };
+
+    ghost seen = { seen-seen };
+
+    ghost names = { seen-names };
+
+    ghost says = { seen-says };
+
+    ghost trees = { seen-trees };
+
+    ghost default = { seen-absent };
+
+    ghost unsaid = { seen-unsaid };
+
+    ghost one_value = { seen-one };
+
+    ghost in_range = { seen-range };
+
+    ghost back = { seen-back };
+
+    fn is_named(name: &str) -> bool {
+        name == SEEN.name || name == SEEN.json_name
+    }
+
+    fn read(
+        alloc: Global,
+        text: &[u8],
+        members: &[PlacedMember<'_>],
+        levels: u32,
+    ) -> Result<Option<Box<FieldMask>>, ReadError> {
+        read_field::<Embedded<FieldMaskJson>>(alloc, text, members, levels, &SEEN)
+    }
+
+    fn write(
+        alloc: Global,
+        out: &mut Vec<u8>,
+        first: bool,
+        message: &Visit,
+    ) -> Result<bool, WriteError> {
+        write_field::<Embedded<FieldMaskJson>>(alloc, out, first, &SEEN, &message.seen)
+    }
+}
+
 pub struct OfGroup1;
 
 impl JsonPart for OfGroup1 {
@@ -483,6 +552,7 @@ impl JsonPart for OfGroup2 {
     ghost use Rattle.wire_visits_json.specs.VisitJson.{group-2-names, group-2-one, group-2-range};
     ghost use Rattle.wire_visits_json.specs.VisitJson.{group-2-says, group-2-seen, group-2-trees};
     ghost use Rattle.wire_visits_json.specs.VisitJson.{group-2-unsaid};
+    ghost use Rattle.wire_well_known_json.specs.FieldMasks.{field_mask-json};
     ghost use Rattle.wire_well_known_json.specs.Wrappers.{string_value-json};
 
     type Message = Visit;
@@ -491,7 +561,7 @@ impl JsonPart for OfGroup2 {
 
     ghost Value = { group-2-Value };
 
-    ghost view = { λ h. (option_map (λ v. string_value-json (box_value v)) h.0, option_map ended-chosen-view h.1) };
+    ghost view = { λ h. (option_map (λ v. string_value-json (box_value v)) h.0, (option_map ended-chosen-view h.1.0, option_map (λ v. field_mask-json (box_value v)) h.1.1)) };
 
     ghost seen = { group-2-seen };
 
@@ -574,11 +644,12 @@ impl JsonValue for VisitJson {
         let read_counts = group_1;
         let group_2 = parts;
         let (read_note, group_2) = group_2;
-        let read_ended = group_2;
+        let (read_ended, group_2) = group_2;
         let read_ended = match read_ended {
             None => None,
             Some(chosen) => Some(visit_ended_of(chosen)),
         };
+        let read_seen = group_2;
         Ok((
             Visit {
                 begun_at: read_begun_at,
@@ -587,6 +658,7 @@ impl JsonValue for VisitJson {
                 counts: read_counts,
                 note: read_note,
                 ended: read_ended,
+                seen: read_seen,
                 unknown: UnknownFields::new(alloc),
             },
             after,

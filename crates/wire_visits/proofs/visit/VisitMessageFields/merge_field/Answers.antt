@@ -3,7 +3,8 @@ use Rattle.wire_codec.specs.TagView.{tag_number}
 use Rattle.wire_fields.specs.Arms.{arm_err, arm_ok, neither, rest_err, unlike}
 use Rattle.wire_fields.specs.Shape.{keeps}
 use Rattle.wire_visits.specs.Visit.{visit-begun_at-kind, visit-clicks-kind, visit-counts-kind}
-use Rattle.wire_visits.specs.Visit.{visit-known, visit-lasted-kind, visit-note-kind, visit-shape}
+use Rattle.wire_visits.specs.Visit.{visit-known, visit-lasted-kind, visit-note-kind}
+use Rattle.wire_visits.specs.Visit.{visit-seen-kind, visit-shape}
 use Rattle.wire_visits.specs.VisitEnded.{visit_ended-shape}
 use Rattle.wire_visits.proofs.visit.VisitMessageFields.merge_field.Goals as goal
 
@@ -67,71 +68,85 @@ pub returns-in-5-clause-err : goal.returns-in-5-clause-err
 returns-in-5-clause-err g c =
     arm_err visit-shape.takes visit-note-kind.kind.takes 5 _
     (sym c.fields-field_number.ensures.number ∙ c.in-5.is) _ _
-    (λ charge z p h. (z.0.1.0, h.0.0.0)) _ _ _
+    (λ charge z p h. (z.0.1.0.0, h.0.0.0.0)) _ _ _
     (c.fields-merge-in-5).result (c.fields-merge-in-5).ensures.err
 
 pub returns-in-5-clause-ok : goal.returns-in-5-clause-ok
 returns-in-5-clause-ok g c =
     arm_ok visit-shape.takes visit-note-kind.kind.takes 5 _
     (sym c.fields-field_number.ensures.number ∙ c.in-5.is) _ _ _ _
-    (λ charge p h. (((h, refl), refl), refl)) _ _ _ _ _
+    (λ charge p h. ((((h, refl), refl), refl), refl)) _ _ _ _ _
     (c.fields-merge-in-5).result (c.fields-merge-in-5).ensures.ok
 
 pub returns-in-6-clause-err : goal.returns-in-6-clause-err
 returns-in-6-clause-err g c =
     arm_err visit-shape.takes visit_ended-shape.takes 6 _
     (sym c.fields-field_number.ensures.number ∙ c.in-6.is) _ _
-    (λ charge z p h. (z.0.1.1, h.0.0.0)) _ _ _
+    (λ charge z p h. (z.0.1.0.1, h.0.0.0.0)) _ _ _
     (c.fields-merge-in-6).result (c.fields-merge-in-6).ensures.err
 
 pub returns-in-6-clause-ok : goal.returns-in-6-clause-ok
 returns-in-6-clause-ok g c =
     arm_ok visit-shape.takes visit_ended-shape.takes 6 _
     (sym c.fields-field_number.ensures.number ∙ c.in-6.is) _ _ _ _
-    (λ charge p h. (((h, refl), refl), refl)) _ _ _ _ _
+    (λ charge p h. ((((h, refl), refl), refl), refl)) _ _ _ _ _
     (c.fields-merge-in-6).result (c.fields-merge-in-6).ensures.ok
 
 pub returns-in-7-clause-err : goal.returns-in-7-clause-err
 returns-in-7-clause-err g c =
     arm_err visit-shape.takes visit_ended-shape.takes 7 _
     (sym c.fields-field_number.ensures.number ∙ c.in-7.is) _ _
-    (λ charge z p h. (z.0.1.1, h.0.0.0)) _ _ _
+    (λ charge z p h. (z.0.1.0.1, h.0.0.0.0)) _ _ _
     (c.fields-merge-in-7).result (c.fields-merge-in-7).ensures.err
 
 pub returns-in-7-clause-ok : goal.returns-in-7-clause-ok
 returns-in-7-clause-ok g c =
     arm_ok visit-shape.takes visit_ended-shape.takes 7 _
     (sym c.fields-field_number.ensures.number ∙ c.in-7.is) _ _ _ _
-    (λ charge p h. (((h, refl), refl), refl)) _ _ _ _ _
+    (λ charge p h. ((((h, refl), refl), refl), refl)) _ _ _ _ _
     (c.fields-merge-in-7).result (c.fields-merge-in-7).ensures.ok
 
 pub returns-in-8-clause-err : goal.returns-in-8-clause-err
 returns-in-8-clause-err g c =
     arm_err visit-shape.takes visit_ended-shape.takes 8 _
     (sym c.fields-field_number.ensures.number ∙ c.in-8.is) _ _
-    (λ charge z p h. (z.0.1.1, h.0.0.0)) _ _ _
+    (λ charge z p h. (z.0.1.0.1, h.0.0.0.0)) _ _ _
     (c.fields-merge-in-8).result (c.fields-merge-in-8).ensures.err
 
 pub returns-in-8-clause-ok : goal.returns-in-8-clause-ok
 returns-in-8-clause-ok g c =
     arm_ok visit-shape.takes visit_ended-shape.takes 8 _
     (sym c.fields-field_number.ensures.number ∙ c.in-8.is) _ _ _ _
-    (λ charge p h. (((h, refl), refl), refl)) _ _ _ _ _
+    (λ charge p h. ((((h, refl), refl), refl), refl)) _ _ _ _ _
     (c.fields-merge-in-8).result (c.fields-merge-in-8).ensures.ok
 
 pub returns-in-9-clause-err : goal.returns-in-9-clause-err
 returns-in-9-clause-err g c =
     arm_err visit-shape.takes visit_ended-shape.takes 9 _
     (sym c.fields-field_number.ensures.number ∙ c.in-9.is) _ _
-    (λ charge z p h. (z.0.1.1, h.0.0.0)) _ _ _
+    (λ charge z p h. (z.0.1.0.1, h.0.0.0.0)) _ _ _
     (c.fields-merge-in-9).result (c.fields-merge-in-9).ensures.err
 
 pub returns-in-9-clause-ok : goal.returns-in-9-clause-ok
 returns-in-9-clause-ok g c =
     arm_ok visit-shape.takes visit_ended-shape.takes 9 _
     (sym c.fields-field_number.ensures.number ∙ c.in-9.is) _ _ _ _
-    (λ charge p h. (((h, refl), refl), refl)) _ _ _ _ _
+    (λ charge p h. ((((h, refl), refl), refl), refl)) _ _ _ _ _
     (c.fields-merge-in-9).result (c.fields-merge-in-9).ensures.ok
+
+pub returns-in-10-clause-err : goal.returns-in-10-clause-err
+returns-in-10-clause-err g c =
+    arm_err visit-shape.takes visit-seen-kind.kind.takes 10 _
+    (sym c.fields-field_number.ensures.number ∙ c.in-10.is) _ _
+    (λ charge z p h. (z.0.1.1, h.0.0.0)) _ _ _
+    (c.fields-merge-in-10).result (c.fields-merge-in-10).ensures.err
+
+pub returns-in-10-clause-ok : goal.returns-in-10-clause-ok
+returns-in-10-clause-ok g c =
+    arm_ok visit-shape.takes visit-seen-kind.kind.takes 10 _
+    (sym c.fields-field_number.ensures.number ∙ c.in-10.is) _ _ _ _
+    (λ charge p h. (((h, refl), refl), refl)) _ _ _ _ _
+    (c.fields-merge-in-10).result (c.fields-merge-in-10).ensures.ok
 
 pub returns-in_default-clause-err : goal.returns-in_default-clause-err
 returns-in_default-clause-err g c =
@@ -141,9 +156,10 @@ returns-in_default-clause-err g c =
     (unlike n 2 (search rules)))
     (neither _ _ (unlike n 3 (search rules))
     (unlike n 4 (search rules))))
-    (neither _ _ (unlike n 5 (search rules))
+    (neither _ _ (neither _ _ (unlike n 5 (search rules))
     (neither _ _ (neither _ _ (neither _ _ (unlike n 6 (search rules))
     (unlike n 7 (search rules)))
     (unlike n 8 (search rules)))
-    (unlike n 9 (search rules)))))
+    (unlike n 9 (search rules))))
+    (unlike n 10 (search rules))))
     _ _ _ _ c.fields-keep.result c.fields-keep.ensures.err
