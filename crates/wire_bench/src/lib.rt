@@ -9,6 +9,7 @@
 #![tactic(auto)]
 
 mod albums;
+mod json;
 mod messages;
 mod puts;
 mod reports;

@@ -16,7 +16,7 @@ fn reports(alloc: Global, log: &[u8]) -> Result<Vec<Report>, DecodeError> {
 }
 
 // One, its time, and how long its strings, lists and maps are.
-fn sum_of(report: &Report) -> u64 {
+pub(crate) fn sum_of(report: &Report) -> u64 {
     let mut sum = report.sent_at.wrapping_add(1);
     sum = sum.wrapping_add(report.host.len() as u64);
     sum = sum.wrapping_add(report.samples.len() as u64);
