@@ -37,8 +37,8 @@ enum MirrorError {
 pub fn run<R: Print + AllocGlobal>(rt: &R, line: &str) -> io::Result<()> {
     match answer(rt.alloc(), line) {
         Ok(text) => println!(rt; "{text}"),
-        Err(MirrorError::NoValue(error)) => println!(rt; "{error}"),
-        Err(MirrorError::NoJson(error)) => println!(rt; "no text: {error}"),
+        Err(MirrorError::NoValue(error)) => println!(rt; "refused: {error}"),
+        Err(MirrorError::NoJson(error)) => println!(rt; "not written: {error}"),
         Err(MirrorError::NoMessage(error)) => println!(rt; "refused: {error}"),
         Err(MirrorError::TooLarge(error)) => println!(rt; "too large: {error}"),
         Err(MirrorError::NoQuestion) => println!(rt; "no question: {line}"),

@@ -3,6 +3,7 @@ ghost use Rattle.std.specs.Prelude.{◌≡◌};
 ghost use Rattle.wire_protojson.specs.declared.refusal.Reason.TheVariants.{NoJson, NoValue};
 
 use std::alloc::AllocError;
+use std::fmt;
 use thiserror::Error;
 use wire_json::{Fault, FaultKind, JsonError};
 
@@ -29,6 +30,21 @@ pub enum Reason {
     NoKey,
 }
 
+impl fmt::Display for Reason {
+    fn fmt<W: fmt::Write>(&self, f: &mut fmt::Formatter<W>) -> fmt::Result {
+        f.write_str(match self {
+            Reason::NoJson(FaultKind::Syntax) => "no JSON",
+            Reason::NoJson(FaultKind::LoneSurrogate) => "a lone surrogate",
+            Reason::NoJson(FaultKind::TooDeep) => "too many levels",
+            Reason::NoValue => "no value of the type",
+            Reason::Duplicate => "a second value",
+            Reason::SecondOfOneof => "a second member of a oneof",
+            Reason::UnknownName => "the value of an unknown name",
+            Reason::NoKey => "the value of a name that is no key",
+        })
+    }
+}
+
 /// Why a text is refused, and the byte where that stands: the length of the text at its end.
 #[derive(Clone, Copy, Debug, PartialEq, Eq)]
 pub struct Refusal {
@@ -40,7 +56,7 @@ pub struct Refusal {
 #[derive(Clone, Copy, Debug, PartialEq, Eq, Drop, Error)]
 pub enum ReadError {
     /// The text is refused.
-    #[error("refused at byte {}", .0.at)]
+    #[error("{} at byte {}", .0.reason, .0.at)]
     Refused(Refusal),
 
     /// Memory ran out.
@@ -61,9 +77,9 @@ impl From<AllocError> for ReadError {
 /// Why a value is not written.
 #[derive(Clone, Copy, Debug, PartialEq, Eq, Drop, Error)]
 pub enum WriteError {
-    /// A timestamp or a duration is out of range, or the parts of a duration have two signs: the
-    /// mapping has no text for it.
-    #[error("out of range")]
+    /// The mapping has no text for the value: a timestamp or a duration is out of range, the parts
+    /// of a duration have two signs, or a field mask would be read as other paths.
+    #[error("a value without a text in JSON")]
     OutOfRange,
 
     /// Memory ran out.
