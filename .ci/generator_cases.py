@@ -124,7 +124,7 @@ CHOICES = [
       "- `BoolValueJson`: `x` is of a type that is called as one of the library, or its JSON as "
       "another type\n",
       "use wire_report_json::{ReportLevelJson, ReportSampleJson};\n",
-      "        base64 chosen wire_report wire_report_json wire_jsontimes wire_well_known "
+      " wire_fields base64 chosen wire_report wire_report_json wire_jsontimes wire_well_known "
       "wire_well_known_json\n"]),
     ("proto2", "enum E { Z = 0; } message A { optional int32 x = 1; optional int32 has_x = 2; } "
      "message B { optional E x = 1; } message C { oneof y { E z = 1; } } message D {} "
