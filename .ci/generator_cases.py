@@ -2,8 +2,14 @@
 it writes of others."""
 TYPE = "message A { int32 x = 1; }"
 LONG = "Elephant" * 11
-MANY_OF_FLAT = (".A: more than 80 fields of a message that has a view, or that holds itself or "
-                "another that holds it, or with unknown=drop or mismatch=keep")
+# Files of google/protobuf that no crate has.
+GOOGLE = {
+    "venue": 'import "google/protobuf/zone.proto"; import "google/protobuf/any.proto"; '
+             "message Venue { Zone zone = 1; Any more = 2; }",
+    "zone": "enum Wide { NARROW = 0; } message Zone { string name = 1; }",
+}
+MANY_OF_FLAT = (".A: more than 80 fields of a message that has a view, or with unknown=drop or "
+                "mismatch=keep")
 # A schema, further parameters, and what is said of it on protoc's channel for errors.
 REFUSED = [
     ("proto3", 'import "report.proto";' + TYPE
@@ -38,7 +44,7 @@ REFUSED = [
     *(("proto3", "message A {" + "".join(f"int32 x{it} = {it};" for it in range(1, 82)) + "}",
        options, MANY_OF_FLAT) for options in (",views=true", ",unknown=drop", ",mismatch=keep")),
     ("proto3", "message A { A a = 100; "
-     + "".join(f"int32 x{it} = {it};" for it in range(1, 81)) + "}", "", MANY_OF_FLAT),
+     + "".join(f"int32 x{it} = {it};" for it in range(1, 81)) + "}", ",unknown=drop", MANY_OF_FLAT),
     ("proto3", 'import "report.proto"; message A { report.Report x = 1; }', "",
      ".A.x: .report.Report is of a file of no crate that is named, as "
      "import=PACKAGE=CRATE does"),
@@ -282,6 +288,19 @@ CHOICES = [
      "message A { google.protobuf.Duration x = 1; google.protobuf.Empty y = 2; }",
      ",import=google/protobuf/duration.proto=other_times",
      ["chosen: wire_codec wire_fields other_times wire_well_known bytes"]),
+    ("proto3", 'import "google/protobuf/venue.proto"; message A { google.protobuf.Venue x = 1; }',
+     "", ["pub use venue::Venue;", "pub use zone::Zone;", "pub use wide::Wide;",
+          "use wire_well_known::Any;", "chosen: wire_codec wire_fields wire_well_known bytes",
+          "        google/protobuf/venue.proto \\\n        google/protobuf/zone.proto\n"]),
+    ("proto3", 'import "google/protobuf/zone.proto"; message A { google.protobuf.Wide x = 1; }',
+     "", ["pub use zone::Zone;", "pub use wide::Wide;"]),
+    ("proto3", 'import "google/protobuf/venue.proto"; message A { google.protobuf.Venue x = 1; }',
+     ",import=google/protobuf/venue.proto=places", ["use places::Venue;"]),
+    ("proto3", "message A { A a = 100; "
+     + "".join(f"int32 x{it} = {it};" for it in range(1, 82)) + "}", "",
+     ["    fn merge_leaf_from_33<B: Buf>(",
+      "            _ => self.merge_leaf_from_65(alloc, tag, buf, context),\n",
+      "abbrev pub a-fields-1-to-32 : Shape "]),
     ("proto3", 'import "google/protobuf/duration.proto"; import "google/protobuf/empty.proto";'
      "message A { google.protobuf.Duration x = 1; google.protobuf.Empty y = 2; }",
      ",import=google/protobuf/duration.proto=wire_well_known"

@@ -181,7 +181,7 @@ $module$-value = fold-$name$$trees$$ones$
     ),
     (
         "tables",
-        "abbrev pub $module$-known : $leaf_part$ $name$-Known
+        "$leaf_groups$abbrev pub $module$-known : $leaf_part$ $name$-Known
 $module$-known =
     $table$
 

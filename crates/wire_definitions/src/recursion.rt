@@ -95,7 +95,8 @@ $view$,
 abbrev pub $module$-value : $name$ → $name$-Value
 $module$-value = fold-$name$$trees$$ones$
 
-$choice_folds$$view_one$$view_value$$view_rows$abbrev pub $module$-known : $leaf_part$ $name$-Known
+$choice_folds$$view_one$$view_value$$view_rows$$leaf_groups$\
+abbrev pub $module$-known : $leaf_part$ $name$-Known
 $module$-known =
     $table$
 
@@ -213,6 +214,14 @@ pub fn table_page(base: &Words, fields: &[Field], tree: &Tree) -> Words {
     put_rows(&mut page, fields, count);
     put_choice(&mut page, fields);
     define_asked_rows(&mut page, fields);
+    page.set("leaf_groups", "");
+    for group in &tree.parts {
+        page.copy(
+            &group.words,
+            &["low", "high", "part_words", "value", "table"],
+        );
+        page.append("leaf_groups", LEAF_GROUP);
+    }
     if is_read_back {
         put_back(&mut page, fields, tree);
     }
@@ -223,6 +232,15 @@ pub fn table_page(base: &Words, fields: &[Field], tree: &Tree) -> Words {
     define_view_fold(&mut page, fields, tree);
     page
 }
+
+// The fields of a group of the leaf.
+const LEAF_GROUP: &str = "\
+-- the fields $low$ to $high$
+abbrev pub $part_words$ : $leaf_part$ $value$
+$part_words$ =
+    $table$
+
+";
 
 // Some fields of a run, which are a part by themselves.
 const RUN_PART: &str = "\

@@ -106,6 +106,18 @@ $module$-returned g =
     tt $module$-shape refl refl refl (λ n p. refl)
 ";
 
+// What is read back of a group of the leaf.
+const GROUP_RANGE: &str = "\
+abbrev pub $part_words$-range : Range $value$
+$part_words$-range =
+    $range$
+
+abbrev pub $part_words$-returned : Grounds → $leaf_returned$ $part_words$ $part_words$-range
+$part_words$-returned g =
+    $returned$
+
+";
+
 const USES_CHOICE: &str = "\
 Rattle.wire_fields.specs.ChoiceBack choice_back
 Rattle.wire_fields.specs.ChoiceBack one_stands
@@ -201,6 +213,11 @@ pub(crate) fn put_back(page: &mut Words, fields: &[Field], tree: &Tree) {
     if is_alone {
         put_sides(page, "apart");
     }
+    for group in &tree.parts {
+        page.copy(&group.words, &["part_words", "value", "range", "returned"]);
+        page.append("ranges", GROUP_RANGE);
+    }
+    page.copy(&tree.words, &["range", "returned"]);
     put_account(page, fields);
     if is_alone && !page.get("charged").is_empty() {
         page.fill("left_here", "$left_charge$");

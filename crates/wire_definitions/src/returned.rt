@@ -183,6 +183,16 @@ pub(crate) fn put_returned(page: &mut Words, fields: &[Field], tree: &Tree) {
             page.append("uses", "$returned_uses$");
         }
     }
+    use_returned(page);
+    for group in &tree.parts {
+        page.copy(&group.words, &["returned"]);
+        use_returned(page);
+    }
+    page.copy(&tree.words, &["returned"]);
+}
+
+// What the word `returned` brings in.
+fn use_returned(page: &mut Words) {
     for (name, module) in &OF_RETURNED {
         if page.get("returned").contains(name) {
             page.set("of", module);

@@ -2,7 +2,7 @@
 use crate::choice::row_of;
 use crate::choice_spot::set_choice;
 use crate::runs::tell_parts;
-use crate::tree::{Tree, tree_of};
+use crate::tree::{Tree, tree_of_leaf};
 use wire_schema::{Field, GenerateError, Template, Words};
 
 /// Whether a field is of its message's own type, or of one of its family.
@@ -54,7 +54,7 @@ pub fn leaf_tree(
     if base.get("mismatch") == "keep" {
         return Err(base.refused(KEEPING));
     }
-    let mut tree = tree_of(base, &mut leaf, false)?;
+    let mut tree = tree_of_leaf(base, &mut leaf)?;
     if leaf.is_empty() {
         tree.words.fill_all(&NO_FIELDS);
     }

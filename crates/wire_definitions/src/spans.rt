@@ -16,6 +16,11 @@ const MOST_FLAT: usize = 80;
 
 const GROUP: usize = 64;
 
+// The same of a leaf, whose fields are not cut into parts besides.
+const MOST_OF_LEAF: usize = 48;
+
+const GROUP_OF_LEAF: usize = 32;
+
 /// Fields in a row, and how many of them are maps.
 #[derive(Clone, Copy)]
 pub(crate) struct Span {
@@ -23,6 +28,7 @@ pub(crate) struct Span {
     pub behind: usize,
     maps: usize,
     has_closed: bool,
+    is_of_leaf: bool,
 }
 
 impl Span {
@@ -33,6 +39,7 @@ impl Span {
             behind: place.saturating_add(1),
             maps: maps.len(),
             has_closed: maps == "c",
+            is_of_leaf: false,
         }
     }
 
@@ -42,6 +49,7 @@ impl Span {
             behind: next.behind,
             maps: self.maps.saturating_add(next.maps),
             has_closed: self.has_closed || next.has_closed,
+            is_of_leaf: false,
         }
     }
 
@@ -71,7 +79,29 @@ pub(crate) fn is_few(first: usize, behind: usize) -> bool {
 
 /// Whether this is a group behind which others stand.
 pub(crate) fn is_before_others(span: Span, count: usize) -> bool {
-    has_groups(count) && span.len() == GROUP && span.behind < count
+    let is_group = span.is_of_leaf || has_groups(count) && span.len() == GROUP;
+    is_group && span.behind < count
+}
+
+/// The groups of a leaf of so many fields: none where they are few.
+pub(crate) fn groups_of_leaf(alloc: Global, count: usize) -> Result<Vec<Span>, GenerateError> {
+    let mut groups = Vec::new(alloc);
+    let mut first: usize = 0;
+    for _ in 0..count {
+        if count <= MOST_OF_LEAF || count <= first {
+            break;
+        }
+        let behind = first.saturating_add(GROUP_OF_LEAF).min(count);
+        groups.push(Span {
+            first,
+            behind,
+            maps: 0,
+            has_closed: false,
+            is_of_leaf: true,
+        })?;
+        first = behind;
+    }
+    Ok(groups)
 }
 
 /// The parts by themselves, an inner one before the one that it is in.

@@ -1,7 +1,8 @@
 //! The fields of a message as a balanced tree of pairs, which its code, its definitions and its
 //! proofs have alike.
 use crate::pairs::{leaf, pair, reach};
-use crate::spans::{Span, has_groups, is_before_others, is_few, parts_of};
+use crate::spans::{Span, groups_of_leaf, has_groups, is_before_others, is_few, parts_of};
+use crate::view_definitions::has_view;
 use wire_schema::{Field, GenerateError, Template, Words};
 
 /// The fields of a message as a tree. Its words are those of the root but for its numbers.
@@ -91,8 +92,17 @@ const NAMES: [Template; 5] = [
     ("copies_words", "$module$-copies-$low$-to-$high$"),
 ];
 
-// The word of a base whose parts stand where they are as what they are, and are not named.
+// The word of a base whose parts stand where they are as what they are, and are not named; and of
+// one of which their tables are, and what is read back of them.
 const IN_PLACE: &str = "in_place";
+
+const IN_LEAF: &str = "in_leaf";
+
+const NAMED_IN_LEAF: [Template; 3] = [
+    ("table", "$part_words$"),
+    ("range", "$part_words$-range"),
+    ("returned", "$part_words$-returned g"),
+];
 
 // The name in the place of what it is.
 const NAMED: [Template; 4] = [
@@ -112,17 +122,40 @@ const NONE_OF_GROUP: &str = "c.requires.others_$low$_to_$high$ p";
 /// number leaves the list that it is, the word becomes why it does so among all fields.
 pub fn tree_of(base: &Words, fields: &mut [Field], has_parts: bool) -> Result<Tree, GenerateError> {
     let alloc = base.alloc();
+    let spans = if has_parts {
+        parts_of(alloc, fields)?
+    } else {
+        Vec::new(alloc)
+    };
+    let mut tree = tree_with(base, fields, spans)?;
+    tree.has_groups = has_parts && has_groups(fields.len());
+    Ok(tree)
+}
+
+/// The tree of the fields of a leaf, whose parts are groups alone, where there are many.
+pub(crate) fn tree_of_leaf(base: &mut Words, leaf: &mut [Field]) -> Result<Tree, GenerateError> {
+    let alloc = base.alloc();
+    let groups = if has_view(base) {
+        Vec::new(alloc)
+    } else {
+        groups_of_leaf(alloc, leaf.len())?
+    };
+    base.set("part_view", IN_LEAF);
+    let mut tree = tree_with(base, leaf, groups)?;
+    base.set("part_view", "");
+    tree.has_groups = !tree.parts.is_empty();
+    Ok(tree)
+}
+
+// The tree of these fields with these parts, an inner one before the one that it is in.
+fn tree_with(base: &Words, fields: &mut [Field], spans: Vec<Span>) -> Result<Tree, GenerateError> {
+    let alloc = base.alloc();
     let mut parts = Vec::new(alloc);
     let mut nodes = Vec::new(alloc);
     for (place, field) in fields.iter_mut().enumerate() {
         field.words.fill("taken", "(h, refl)");
         nodes.push(leaf(base, place, &field.words))?;
     }
-    let spans = if has_parts {
-        parts_of(alloc, fields)?
-    } else {
-        Vec::new(alloc)
-    };
     for span in spans {
         nodes = gathered(nodes, span, fields, &mut parts)?;
     }
@@ -134,7 +167,7 @@ pub fn tree_of(base: &Words, fields: &mut [Field], has_parts: bool) -> Result<Tr
     Ok(Tree {
         words,
         parts,
-        has_groups: has_parts && has_groups(fields.len()),
+        has_groups: false,
     })
 }
 
@@ -215,8 +248,10 @@ fn named(mut node: Node, parts: &mut Vec<Node>) -> Result<Node, GenerateError> {
         behind: node.behind,
         words: Words::like(&node.words),
     })?;
-    if node.words.get("part_view") != IN_PLACE {
-        node.words.fill_all(&NAMED);
+    match node.words.get("part_view") {
+        IN_PLACE => {}
+        IN_LEAF => node.words.fill_all(&NAMED_IN_LEAF),
+        _ => node.words.fill_all(&NAMED),
     }
     Ok(node)
 }

@@ -4,6 +4,7 @@
 
 mod c_folder;
 mod c_library;
+mod google_files;
 mod groups;
 mod json;
 mod nests;

@@ -6,7 +6,7 @@ use wire_definitions::{
     oneof_stays, put_all_variants, put_leaf_stays, recursive_definitions, set_leaf, table_page,
 };
 use wire_schema::{Field, GenerateError, MessageType, Oneof, Schema, Template, Words, fields_of};
-use wire_types::answers::answers_of;
+use wire_types::answers::{answers_of, leaf_group_answers_of};
 use wire_types::choice_code::{CHOICE, choice_code};
 use wire_types::family::{set_alone, set_family};
 use wire_types::family_code::family_code;
@@ -46,7 +46,7 @@ impl Package {
         let is_member = message.family.is_some();
         page.fill_all(if is_member { &MEMBER_FOLDERS } else { &FOLDERS });
         let (fields, tree) = leaf_tree(&mut page, fields)?;
-        let code = recursive_code(&page, schema, message, &fields)?;
+        let code = recursive_code(&page, schema, message, &fields, &tree)?;
         let definitions = if is_member {
             member_definitions(&page)?
         } else {
@@ -159,9 +159,32 @@ impl Package {
                 leaf.push(field)?;
             }
         }
+        if tree.has_groups {
+            return self.add_leaf_groups(page, &leaf, tree);
+        }
         let answers = answers_of(page, &leaf, tree, true)?;
         self.add(page, "$folder$/merge_leaf/Answers.antt", answers)?;
         self.add_view_leaf(page, &leaf, tree)
+    }
+
+    // Those of a leaf whose fields stand in groups.
+    fn add_leaf_groups(
+        &mut self,
+        page: &mut Words,
+        leaf: &[Field],
+        tree: &Tree,
+    ) -> Result<(), GenerateError> {
+        for group in &tree.parts {
+            let answers = leaf_group_answers_of(page, leaf, tree, group)?;
+            page.copy(&group.words, &["low"]);
+            let path = if group.first == 0 {
+                "$folder$/merge_leaf/Answers.antt"
+            } else {
+                "proofs/$module$/$name$/merge_leaf_from_$low$/Answers.antt"
+            };
+            self.add(page, path, answers)?;
+        }
+        Ok(())
     }
 
     // Those of its rows, where a row has many messages.

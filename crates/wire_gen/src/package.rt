@@ -1,4 +1,5 @@
 //! The files of a crate.
+use crate::google_files::schema_of;
 use crate::well_known::import_well_known;
 use std::alloc::Global;
 use wire_bindings::struct_inside::{encode_inside, takes_inside};
@@ -27,8 +28,8 @@ const MOST_FIELDS: usize = 128;
 
 // Of such a message the fields stand in no groups.
 const MANY_OF_FLAT: &str = "\
-    $full$: more than 80 fields of a message that has a view, or that holds itself or another that \
-    holds it, or with unknown=drop or mismatch=keep";
+    $full$: more than 80 fields of a message that has a view, or with unknown=drop or \
+    mismatch=keep";
 
 // Features of a plug-in, as protoc asks for them.
 const OPTIONAL_OF_PROTO3: u64 = 1;
@@ -47,7 +48,7 @@ pub(crate) struct PluginAnswer {
 /// crate can't have is an error that is answered.
 pub(crate) fn answer(alloc: Global, request: &[u8]) -> Result<PluginAnswer, GenerateError> {
     let options = DecodeOptions::new();
-    let request = match options.decode_from_slice(alloc, request) {
+    let mut request = match options.decode_from_slice(alloc, request) {
         Ok(request) => request,
         Err(error) => return Err(GenerateError::Request(error)),
     };
@@ -56,7 +57,7 @@ pub(crate) fn answer(alloc: Global, request: &[u8]) -> Result<PluginAnswer, Gene
     response.minimum_edition = FIRST_EDITION;
     response.maximum_edition = LAST_EDITION;
     let mut notes = String::new(alloc);
-    match package_of(alloc, &request) {
+    match package_of(alloc, &mut request) {
         Ok(package) => {
             response.file = package.files;
             notes = package.notes;
@@ -70,12 +71,12 @@ pub(crate) fn answer(alloc: Global, request: &[u8]) -> Result<PluginAnswer, Gene
     }
 }
 
-fn package_of(alloc: Global, request: &CodeGeneratorRequest) -> Result<Package, GenerateError> {
+fn package_of(alloc: Global, request: &mut CodeGeneratorRequest) -> Result<Package, GenerateError> {
     let mut base = Words::new(alloc);
     set_crate(&mut base, request)?;
     import_well_known(&mut base, request);
     let is_asked = takes_inside(&mut base)?;
-    let mut schema = Schema::of(&base, request)?;
+    let mut schema = schema_of(&mut base, request)?;
     if is_asked {
         encode_inside(&mut base, &schema);
         schema = Schema::of(&base, request)?;
@@ -96,10 +97,9 @@ fn package_of(alloc: Global, request: &CodeGeneratorRequest) -> Result<Package, 
 }
 
 // Refuses more fields than it was seen that they are proved.
-fn stop_on_many(page: &mut Words, count: usize, holds_itself: bool) -> Result<(), GenerateError> {
+fn stop_on_many(page: &mut Words, count: usize) -> Result<(), GenerateError> {
     let is_plain = page.get("unknown") == "keep" && page.get("mismatch") == "refuse";
-    let is_flat = holds_itself || has_view(page);
-    if has_groups(count) && (is_flat || !is_plain) {
+    if has_groups(count) && (has_view(page) || !is_plain) {
         return Err(page.refused(MANY_OF_FLAT));
     }
     if count > MOST_FIELDS {
@@ -195,7 +195,7 @@ impl Package {
         let mut page = self.page(&message.words);
         let mut fields = fields_of(&self.base, schema, message)?;
         let holds_itself = message.is_recursive || message.family.is_some();
-        stop_on_many(&mut page, fields.len(), holds_itself)?;
+        stop_on_many(&mut page, fields.len())?;
         if holds_itself {
             return self.add_recursive(schema, message, fields);
         }

@@ -109,6 +109,12 @@ const OF_LATER_GROUP: [Template; 2] = [
     ("goals", "$name$.merge_from_$low$"),
 ];
 
+// The same of a leaf.
+const OF_LATER_LEAF: [Template; 2] = [
+    ("of_goals", "$module$"),
+    ("goals", "$name$.merge_leaf_from_$low$"),
+];
+
 const REFUSED: &str = "
 pub returns-in-$number$-clause-err : goal.returns-in-$number$-clause-err
 returns-in-$number$-clause-err $given$ =
@@ -127,8 +133,8 @@ returns-in-$number$-clause-ok $given$ =
     $call$.result $call$.ensures.ok
 ";
 
-// The search does not find by itself that what a list of numbers takes the message takes, and of
-// other fields it takes seconds to find.
+// The search does not find by itself that what a list of numbers takes the message takes, nor of
+// other fields of a leaf of many, and of other fields of a message it takes seconds to find.
 const USES_OF_TAKEN: &str = "\
 $taken_uses$\
 Rattle.std.proofs.Common refl
@@ -182,6 +188,33 @@ pub fn group_answers_of(
         page.copy(&group.words, &["low"]);
         page.fill_all(&OF_LATER_GROUP);
     }
+    of_group(page, fields, tree, group)
+}
+
+/// The same of a leaf.
+pub fn leaf_group_answers_of(
+    base: &Words,
+    fields: &[Field],
+    tree: &Tree,
+    group: &Node,
+) -> Result<String, GenerateError> {
+    let mut page = Words::like(base);
+    put_whole(&mut page, true);
+    page.set("in_groups", "in_groups");
+    if group.first > 0 {
+        page.copy(&group.words, &["low"]);
+        page.fill_all(&OF_LATER_LEAF);
+    }
+    of_group(page, fields, tree, group)
+}
+
+// The page of the answers of a group.
+fn of_group(
+    mut page: Words,
+    fields: &[Field],
+    tree: &Tree,
+    group: &Node,
+) -> Result<String, GenerateError> {
     page.append("uses", USES_OF_FIELDS);
     for (place, field) in fields.iter().enumerate() {
         if group.first <= place && place < group.behind {
@@ -351,8 +384,8 @@ fn put_arm(page: &mut Words) {
     page.append("answers", REFUSED);
     let kind = page.get("kind");
     let is_list = kind.starts_with("Unpacked") || kind.starts_with("Packed");
-    let is_whole = page.get("before").is_empty();
-    if (is_list || is_whole) && page.get("sort") != "Leaving" {
+    let is_asked = page.get("before").is_empty() || !page.get("in_groups").is_empty();
+    if (is_list || is_asked) && page.get("sort") != "Leaving" {
         page.append("answers", TAKEN);
         page.append("uses", USES_OF_TAKEN);
     }

@@ -15,6 +15,33 @@ returns-in_err-value-in-$digits$-clause-err g c =
     ((c.in_err-value-in-$digits$).ensures.err other)$untaken_close$))
 ";
 
+// The same of a leaf of many fields, where the search does not find that it is taken.
+const SET_OK: &str = "
+pub returns-in_ok-value-in-$digits$-clause-ok : goal.returns-in_ok-value-in-$digits$-clause-ok
+unfolding Rattle.$crate$.specs.declared.$first_type$.TheViews.out-$choice$ denote.Hole.Carrier.out
+returns-in_ok-value-in-$digits$-clause-ok g c =
+    leaf_ok $all_takes$ ($always$ $definition$).kind.takes $digits$ _
+    (sym c.field_number.ensures.number ∙ c.in-$digits$.is) _ _ _ _
+    (fold_out-$name$$their_trees$$their_ones$ c.args.self.now)
+    (fold-roll-$name$$their_trees$$their_ones$
+    (record (out-$name$ c.args.self.now) { $field$ = Some ($set$) })) _ _
+    (λ charge p h. $taken_open$(_, h, ap (λ (x : $of_home$$choice$-Held). x.0)
+    (fold_out-$choice$$their_trees$$their_ones$ ($set$)))$taken_close$) _ _ _ _ _
+    (Ok (tag_number c.args.tag)) (c.in_ok-value-in-$digits$).ensures.ok
+";
+
+const SET_VALUE: &str = "kinds.$variant$ c.in_ok-value-in-$digits$.value";
+
+const USES_OF_SET_OK: &str = "\
+$taken_uses$\
+Rattle.std.proofs.Common ap
+Rattle.std.proofs.Common refl
+Rattle.std.specs.Prelude Ok
+Rattle.std.specs.Prelude Some
+Rattle.$crate$.specs.declared.$module$.$name$ out-$name$
+Rattle.$crate$.specs.declared.$choice_module$.$choice$ fold_out-$choice$
+";
+
 const USES_OF_SET: &str = "\
 $untaken_uses$\
 Rattle.std.proofs.lemmas.Result err_from_is_err_and
@@ -261,6 +288,12 @@ fn put_set(page: &mut Words) {
         },
     );
     page.append_all(&[("uses", USES_OF_SET), ("answers", SET)]);
+    if !page.get("in_groups").is_empty() {
+        let is_alone = page.get("family_name").is_empty();
+        page.set("of_home", if is_alone { "" } else { "family." });
+        page.fill_all(&[("kinds_alias", ALIAS), ("set", SET_VALUE)]);
+        page.append_all(&[("uses", USES_OF_SET_OK), ("answers", SET_OK)]);
+    }
 }
 
 // The first of several calls has no number in its name.
@@ -273,7 +306,8 @@ const NEXT_MERGED: [Template; 2] = [
 
 fn put_merged(page: &mut Words) {
     let is_alone = page.get("family_name").is_empty();
-    let is_first = page.get("kinds_alias").is_empty();
+    let is_first = page.get("merged_before").is_empty();
+    page.append("merged_before", ".");
     page.append("uses", USES_OF_MERGED);
     if is_first {
         page.set("of_home", if is_alone { "" } else { "family." });

@@ -21,6 +21,7 @@ pub mod family_names;
 pub mod field_rows;
 pub mod groups;
 pub mod layout;
+pub mod leaf_groups;
 pub mod member;
 pub mod oneof;
 pub mod oneof_proofs;

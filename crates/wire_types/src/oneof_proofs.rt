@@ -43,6 +43,12 @@ Rattle.wire_fields.specs.Arms to_last
 Rattle.$crate$.specs.$name$ $module$-one
 ";
 
+const USES_OF_ANEW_OK: &str = "\
+Rattle.std.proofs.Common ◌≡◌
+Rattle.std.specs.Prelude Ok
+Rattle.wire_fields.specs.Messages or_else
+";
+
 const HELD_USE: &str = "use Rattle.$crate$.specs.declared.$module$.$name$.TheVariants as held\n";
 
 const LAST_OK: &str = "
@@ -58,6 +64,24 @@ returns-in-Some-$variant$-$rows$-clause-ok $given$ =
     (λ p. $unlike$)
     (Some ($module$-one (held.$variant$ one.field-0-0))) _ charge p (_, h, refl)) _ _ _ _ _
     $merge$.result $merge$.ensures.ok)
+";
+
+// The same where another stands, or none.
+const LAST_ANEW_OK: &str = "
+pub returns-in_Continue-$rows$-$rows$-clause-ok :
+    goal.returns-in_Continue-$rows$-$rows$-clause-ok
+returns-in_Continue-$rows$-$rows$-clause-ok $given$ =
+    let n = tag_number c.args.tag in
+    let m = $module$-$seen_by$ c.args.held.now in
+    let none : or_else $word$-of-$module$-kind.default ($word$-of-$module$-as m)
+        ≡ $word$-of-$module$-kind.default = search rules in
+    arm_ok $module$-kind.takes
+    $word$-of-$module$-kind.takes n n refl m _ $word$-of-$module$-kind.default _
+    (λ charge p h. to_last $module$-front.owns $module$-front.takes
+    $word$-of-$module$.takes n
+    (λ p. $unlike$)
+    m _ charge p (_, rw none h, refl)) _ _ _ _ _
+    (Ok n) c.in_Continue-$rows$-$rows$.ensures.ok
 ";
 
 const ANSWERS: &str = "
@@ -206,6 +230,8 @@ fn answers_of(mut page: Words, oneof: &Oneof, anew: &str) -> Result<String, Gene
             page.append("uses", USES_OF_LAST_OK);
             page.append("held_use", HELD_USE);
             page.append("answers", LAST_OK);
+            page.append("uses", USES_OF_ANEW_OK);
+            page.append("answers", LAST_ANEW_OK);
         }
         page.fill(
             "unlike",

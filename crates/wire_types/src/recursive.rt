@@ -3,9 +3,10 @@
 use crate::choice_code::{ONCE_OF_CHOICE, put_declared, put_ghosts, put_no_rows, put_plain};
 use crate::code::{put_head, put_leaf_field, set_leaf_rest};
 use crate::defaults::{put_defaults, use_defaults};
+use crate::leaf_groups::{end_group, end_last_group};
 use crate::member::{ALONE, ALONE_OF, EACH, MEMBER, MEMBER_OF, ONCE};
 use wire_definitions::{
-    is_row, place_of, put_field_comment, put_field_in_run, put_part_head, put_required_rows,
+    Tree, is_row, place_of, put_field_comment, put_field_in_run, put_part_head, put_required_rows,
     put_run, set_names, use_asked_rows,
 };
 use wire_schema::{Field, GenerateError, MessageType, Schema, Words};
@@ -219,6 +220,7 @@ pub fn recursive_code(
     schema: &Schema,
     message: &MessageType,
     fields: &[Field],
+    tree: &Tree,
 ) -> Result<String, GenerateError> {
     let mut page = Words::like(base);
     if is_member(&page) {
@@ -228,7 +230,9 @@ pub fn recursive_code(
     }
     page.fill("uses", USES);
     set_names(&mut page, fields);
+    page.set("merged_apart", "");
     let mut count: usize = 0;
+    let mut place: usize = 0;
     for field in fields {
         if is_row(field) {
             page.copy(&field.words, &["field", "number", "size", "at"]);
@@ -238,6 +242,8 @@ pub fn recursive_code(
             put_row(&mut page, schema, field);
             count = count.saturating_add(1);
         } else {
+            end_group(&mut page, tree, place);
+            place = place.saturating_add(1);
             put_leaf(&mut page, schema, field);
         }
     }
@@ -246,12 +252,17 @@ pub fn recursive_code(
     put_numbers(&mut page, count);
     put_calls(&mut page);
     set_leaf_rest(&mut page);
+    end_last_group(&mut page, tree);
     put_ghosts(&mut page);
     use_defaults(&mut page, fields);
     use_asked_rows(&mut page, fields);
     put_head(&mut page, schema, message);
     put_defaults(&mut page, fields, true);
-    page.append_all(&[("code", CODE), ("code", "$parts$")]);
+    page.append_all(&[
+        ("code", CODE),
+        ("code", "$merged_apart$"),
+        ("code", "$parts$"),
+    ]);
     put_required_rows(&mut page);
     page.finish("code")
 }

@@ -179,7 +179,15 @@ const OF_LEAF: [Template; 1] = [("held_value", "_")];
 /// The answer of what a group asks of the function behind it.
 pub fn put_handed_on(page: &mut Words, fields: &[Field], group: &Node, next: &Node) {
     page.copy(&next.words, &["low"]);
-    page.fill("handed", "merge_from_$low$-requires");
+    let is_whole = page.get("levels").is_empty();
+    page.fill(
+        "handed",
+        if is_whole {
+            "merge_from_$low$-requires"
+        } else {
+            "merge_leaf_from_$low$-requires"
+        },
+    );
     page.copy(&group.words, &["low", "high", "unlike"]);
     set_near(page, fields);
     if group.first == 0 {
