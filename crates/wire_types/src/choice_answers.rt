@@ -25,12 +25,20 @@ returns-in_ok-value-in-$digits$-clause-ok g c =
     (fold_out-$name$$their_trees$$their_ones$ c.args.self.now)
     (fold-roll-$name$$their_trees$$their_ones$
     (record (out-$name$ c.args.self.now) { $field$ = Some ($set$) })) _ _
-    (λ charge p h. $taken_open$(_, h, ap (λ (x : $of_home$$choice$-Held). x.0)
-    (fold_out-$choice$$their_trees$$their_ones$ ($set$)))$taken_close$) _ _ _ _ _
+    (λ charge p h. $taken_open$(_, h, $stands$)$taken_close$) _ _ _ _ _
     (Ok (tag_number c.args.tag)) (c.in_ok-value-in-$digits$).ensures.ok
 ";
 
-const SET_VALUE: &str = "kinds.$variant$ c.in_ok-value-in-$digits$.value";
+// (the formatter would break a tuple of several lines further)
+const OF_SET_OK: [Template; 3] = [
+    ("kinds_alias", ALIAS),
+    ("set", "kinds.$variant$ c.in_ok-value-in-$digits$.value"),
+    (
+        "stands",
+        "ap (λ (x : $of_home$$choice$-Held). x.0) (fold_out-$choice$$their_trees$$their_ones$ \
+        ($set$))",
+    ),
+];
 
 const USES_OF_SET_OK: &str = "\
 $taken_uses$\
@@ -291,7 +299,7 @@ fn put_set(page: &mut Words) {
     if !page.get("in_groups").is_empty() {
         let is_alone = page.get("family_name").is_empty();
         page.set("of_home", if is_alone { "" } else { "family." });
-        page.fill_all(&[("kinds_alias", ALIAS), ("set", SET_VALUE)]);
+        page.fill_all(&OF_SET_OK);
         page.append_all(&[("uses", USES_OF_SET_OK), ("answers", SET_OK)]);
     }
 }

@@ -74,7 +74,7 @@ returns-in_Continue-$rows$-$rows$-clause-ok $given$ =
     let n = tag_number c.args.tag in
     let m = $module$-$seen_by$ c.args.held.now in
     let none : or_else $word$-of-$module$-kind.default ($word$-of-$module$-as m)
-        ≡ $word$-of-$module$-kind.default = search rules in
+    ≡ $word$-of-$module$-kind.default = search rules in
     arm_ok $module$-kind.takes
     $word$-of-$module$-kind.takes n n refl m _ $word$-of-$module$-kind.default _
     (λ charge p h. to_last $module$-front.owns $module$-front.takes
