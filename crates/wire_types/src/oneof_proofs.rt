@@ -33,8 +33,11 @@ const HEAD: &str = "\
 $imports$use Rattle.$crate$.proofs.$of_goals$.merge.Goals as goal
 $held_use$";
 
-// From so many variants on a search does not find that the last takes what its kind takes.
+// From so many variants on a search does not find that the last takes what its kind takes, nor that
+// a message behind so many does.
 const MANY: usize = 10;
+
+const MANY_BEFORE: usize = 8;
 
 const USES_OF_LAST_OK: &str = "\
 Rattle.std.proofs.Common Some
@@ -48,6 +51,20 @@ Rattle.std.proofs.Common ◌≡◌
 Rattle.std.specs.Prelude Ok
 Rattle.wire_fields.specs.Messages or_else
 ";
+
+const OF_LAST_OK: [Template; 5] = [
+    ("uses", USES_OF_LAST_OK),
+    ("uses", USES_OF_ANEW_OK),
+    ("held_use", HELD_USE),
+    ("answers", LAST_OK),
+    ("answers", LAST_ANEW_OK),
+];
+
+const OF_ARM_OK: [Template; 3] = [
+    ("uses", "Rattle.wire_fields.specs.Arms arm_ok\n"),
+    ("uses", USES_OF_ANEW_OK),
+    ("answers", ARM_OK),
+];
 
 const HELD_USE: &str = "use Rattle.$crate$.specs.declared.$module$.$name$.TheVariants as held\n";
 
@@ -82,6 +99,33 @@ returns-in_Continue-$rows$-$rows$-clause-ok $given$ =
     (λ p. $unlike$)
     m _ charge p (_, rw none h, refl)) _ _ _ _ _
     (Ok n) c.in_Continue-$rows$-$rows$.ensures.ok
+";
+
+// The same of a variant that is not the last.
+const ARM_OK: &str = "
+pub returns-in-Some-$variant$-$rows$-clause-ok :
+    goal.returns-in-Some-$variant$-$rows$-clause-ok
+returns-in-Some-$variant$-$rows$-clause-ok $given$ =
+    let n = tag_number c.args.tag in
+    let one = c.in-Some-$variant$-$rows$ in
+    rw $stands$ (arm_ok $module$-kind.takes
+    $word$-of-$module$-kind.takes $digits$ n
+    $is$ _ _ _ _
+    (λ charge p h. (_, h, refl)) _ _ _ _ _
+    $merge$.result $merge$.ensures.ok)
+
+pub returns-in_Continue-$rows$-$rows$-in-$digits$-clause-ok :
+    goal.returns-in_Continue-$rows$-$rows$-in-$digits$-clause-ok
+returns-in_Continue-$rows$-$rows$-in-$digits$-clause-ok $given$ =
+    let n = tag_number c.args.tag in
+    let m = $module$-$seen_by$ c.args.held.now in
+    let none : or_else $word$-of-$module$-kind.default ($word$-of-$module$-as m)
+    ≡ $word$-of-$module$-kind.default = search rules in
+    arm_ok $module$-kind.takes
+    $word$-of-$module$-kind.takes $digits$ n
+    $is$ m _ $word$-of-$module$-kind.default _
+    (λ charge p h. (_, rw none h, refl)) _ _ _ _ _
+    (Ok n) (c.in_Continue-$rows$-$rows$-in-$digits$).ensures.ok
 ";
 
 const ANSWERS: &str = "
@@ -225,13 +269,11 @@ fn answers_of(mut page: Words, oneof: &Oneof, anew: &str) -> Result<String, Gene
         }
         page.fill("anew", anew);
         page.append("answers", ANSWERS);
-        let is_found = place < last || oneof.variants.len() < MANY;
-        if !is_found && page.get("rows") == "variants" {
-            page.append("uses", USES_OF_LAST_OK);
-            page.append("held_use", HELD_USE);
-            page.append("answers", LAST_OK);
-            page.append("uses", USES_OF_ANEW_OK);
-            page.append("answers", LAST_ANEW_OK);
+        let are_many = oneof.variants.len() >= MANY && page.get("rows") == "variants";
+        if are_many && place == last {
+            page.append_all(&OF_LAST_OK);
+        } else if are_many && place >= MANY_BEFORE {
+            page.append_all(&OF_ARM_OK);
         }
         page.fill(
             "unlike",
