@@ -3,3 +3,7 @@ pub mod MaskLaws
 pub mod MaskReading
 pub mod MaskTexts
 pub mod SamePaths
+pub mod StructPuts
+pub mod StructReads
+pub mod StructTexts
+pub mod ValueFieldReads

@@ -3,5 +3,10 @@ pub mod EmptyJson
 pub mod FieldMasks
 pub mod Laws
 pub mod Masks
+pub mod OnePlain
+pub mod StructKinds
+pub mod StructLaws
+pub mod Structs
 pub mod Times
+pub mod ValueFields
 pub mod Wrappers

@@ -1,0 +1,5 @@
+use Rattle.wire_well_known_json.proofs.ValueFieldReads.{value_fields_are_parts}
+use Rattle.wire_well_known_json.proofs.laws.value_fields_are_parts.Goals as goal
+
+pub returns : goal.returns
+returns c = value_fields_are_parts

@@ -1,0 +1,35 @@
+-- What holds of values in JSON.
+use Rattle.std.specs.Prelude.{◌≡◌, ℕ, List, [], ◌∷◌, None}
+use Rattle.wire_json.specs.Json.{Json, no_member, depth}
+use Rattle.wire_jsonfields.specs.Back.{SpellsOneValue}
+use Rattle.wire_jsonfields.specs.Levels.{IsReadFrom}
+use Rattle.wire_jsonfields.specs.Objects.{IsNameOf}
+use Rattle.wire_jsonfields.specs.OneValues.{SayOne}
+use Rattle.wire_jsonfields.specs.Parts.{PartComesBack}
+use Rattle.wire_well_known_json.specs.Structs.{Plain, IsValueTree, MeansValue, nesting}
+use Rattle.wire_well_known_json.specs.ValueFields.{IsAnyValueField, IsValueFieldTree, ValueFieldMeans}
+
+-- The text of a value is read as it, at just as many levels as lists and structs stand in one
+-- another in it, or more.
+pub record IsReadAtItsLevels (v : Plain) (json : Json) : Type 0 where
+  pub read : IsReadFrom MeansValue json v
+  pub levels : depth json ≡ nesting v
+
+abbrev pub ValuesAreReadBack : Type 0
+ValuesAreReadBack = (v : Plain) (json : Json) → IsValueTree v json → IsReadAtItsLevels v json
+
+-- a text is one value at most
+abbrev pub TextsAreOneValue : Type 0
+TextsAreOneValue = SpellsOneValue MeansValue
+
+-- A field of the type `Value` of these names: what is written of it is read as it, whatever members
+-- of other names stand beside it; members say one value at most; and where there are none it is
+-- absent.
+pub record IsValueField (name json_name : List ℕ) : Type 0 where
+  pub back : PartComesBack ((name, json_name) ∷ []) (ValueFieldMeans (IsNameOf name json_name))
+      (IsValueFieldTree json_name) IsAnyValueField
+  pub one : SayOne (ValueFieldMeans (IsNameOf name json_name))
+  pub unsaid : ValueFieldMeans (IsNameOf name json_name) no_member None
+
+abbrev pub ValueFieldsAreParts : Type 0
+ValueFieldsAreParts = (name json_name : List ℕ) → IsValueField name json_name
