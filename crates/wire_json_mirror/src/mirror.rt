@@ -10,12 +10,12 @@ use wire_visits::Visit;
 use wire_visits_json::VisitJson;
 use wire_well_known::{
     BoolValue, BytesValue, DoubleValue, Duration, Empty, FieldMask, FloatValue, Int32Value,
-    Int64Value, StringValue, Timestamp, UInt32Value, UInt64Value,
+    Int64Value, ListValue, StringValue, Struct, Timestamp, UInt32Value, UInt64Value, Value,
 };
 use wire_well_known_json::{
     BoolValueJson, BytesValueJson, DoubleValueJson, DurationJson, EmptyJson, FieldMaskJson,
-    FloatValueJson, Int32ValueJson, Int64ValueJson, StringValueJson, TimestampJson,
-    UInt32ValueJson, UInt64ValueJson,
+    FloatValueJson, Int32ValueJson, Int64ValueJson, ListValueJson, StringValueJson, StructJson,
+    TimestampJson, UInt32ValueJson, UInt64ValueJson, ValueJson,
 };
 
 // The most arrays and objects that stand in one another.
@@ -69,12 +69,15 @@ fn write_one(alloc: Global, name: &str, of: &str) -> Result<String, MirrorError>
         "FloatValue" => written::<FloatValueJson, FloatValue>(alloc, of),
         "Int32Value" => written::<Int32ValueJson, Int32Value>(alloc, of),
         "Int64Value" => written::<Int64ValueJson, Int64Value>(alloc, of),
+        "ListValue" => written::<ListValueJson, ListValue>(alloc, of),
         "Report" => written::<ReportJson, Report>(alloc, of),
         "ReportSample" => written::<ReportSampleJson, ReportSample>(alloc, of),
         "StringValue" => written::<StringValueJson, StringValue>(alloc, of),
+        "Struct" => written::<StructJson, Struct>(alloc, of),
         "Timestamp" => written::<TimestampJson, Timestamp>(alloc, of),
         "UInt32Value" => written::<UInt32ValueJson, UInt32Value>(alloc, of),
         "UInt64Value" => written::<UInt64ValueJson, UInt64Value>(alloc, of),
+        "Value" => written::<ValueJson, Value>(alloc, of),
         "Visit" => written::<VisitJson, Visit>(alloc, of),
         _ => Err(MirrorError::NoQuestion),
     }
@@ -91,12 +94,15 @@ fn read_one(alloc: Global, name: &str, of: &str) -> Result<String, MirrorError> 
         "FloatValue" => read::<FloatValueJson, FloatValue>(alloc, of),
         "Int32Value" => read::<Int32ValueJson, Int32Value>(alloc, of),
         "Int64Value" => read::<Int64ValueJson, Int64Value>(alloc, of),
+        "ListValue" => read::<ListValueJson, ListValue>(alloc, of),
         "Report" => read::<ReportJson, Report>(alloc, of),
         "ReportSample" => read::<ReportSampleJson, ReportSample>(alloc, of),
         "StringValue" => read::<StringValueJson, StringValue>(alloc, of),
+        "Struct" => read::<StructJson, Struct>(alloc, of),
         "Timestamp" => read::<TimestampJson, Timestamp>(alloc, of),
         "UInt32Value" => read::<UInt32ValueJson, UInt32Value>(alloc, of),
         "UInt64Value" => read::<UInt64ValueJson, UInt64Value>(alloc, of),
+        "Value" => read::<ValueJson, Value>(alloc, of),
         "Visit" => read::<VisitJson, Visit>(alloc, of),
         _ => Err(MirrorError::NoQuestion),
     }
