@@ -120,6 +120,7 @@ CHOICES = [
      'import "google/protobuf/wrappers.proto"; enum WriteError { U = 0; } '
      "message M { WriteError x = 1; } "
      "message N { google.protobuf.NullValue x = 1; } message V { google.protobuf.Value x = 1; } "
+     "message W { google.protobuf.Struct x = 1; repeated google.protobuf.ListValue y = 2; } "
      "message BoolValueJson { google.protobuf.BoolValue x = 1; } "
      "message R { repeated report.Report.Sample x = 1; report.Report.Level y = 2; "
      "google.protobuf.Int32Value z = 3; }",
@@ -127,6 +128,7 @@ CHOICES = [
      ["- `M`: `x` is of a type that is called as one of the library, or its JSON as another type\n",
       "- `N`: `x` is of a well-known type that has no JSON\n",
       "- `V`: `x` is of a well-known type that has no JSON\n",
+      "read_field::<Embedded<StructJson>>(", "read_field::<Repeated<ListValueJson>>(",
       "- `BoolValueJson`: `x` is of a type that is called as one of the library, or its JSON as "
       "another type\n",
       "use wire_report_json::{ReportLevelJson, ReportSampleJson};\n",

@@ -82,6 +82,57 @@ const MASK: [Template; 11] = [
     ),
 ];
 
+const STRUCT: [Template; 11] = [
+    ("json_value", "Plain-Fields"),
+    ("json_kind", "$of_name$Json"),
+    ("json_before", "struct-plain "),
+    ("json_view", "struct-plain"),
+    ("json_means", "MeansStruct"),
+    ("json_tree", "IsStructTree"),
+    ("json_one", "one_struct"),
+    ("json_range", "IsAnyStruct"),
+    ("json_back", "struct_back"),
+    (
+        "json_uses",
+        "Rattle.wire_well_known_json.specs.StructKinds IsAnyStruct\n\
+        Rattle.wire_well_known_json.specs.StructKinds IsStructTree\n\
+        Rattle.wire_well_known_json.specs.StructKinds MeansStruct\n\
+        Rattle.wire_well_known_json.specs.StructKinds one_struct\n\
+        Rattle.wire_well_known_json.specs.StructKinds struct_back\n\
+        Rattle.wire_well_known_json.specs.Structs Plain-Fields\n",
+    ),
+    (
+        "json_seen_uses",
+        "Rattle.wire_well_known_json.specs.Structs struct-plain\n",
+    ),
+];
+
+const LIST_VALUE: [Template; 11] = [
+    ("json_value", "List Plain"),
+    ("json_kind", "$of_name$Json"),
+    ("json_before", "list_value-plain "),
+    ("json_view", "list_value-plain"),
+    ("json_means", "MeansListValue"),
+    ("json_tree", "IsListValueTree"),
+    ("json_one", "one_list_value"),
+    ("json_range", "IsAnyList"),
+    ("json_back", "list_value_back"),
+    (
+        "json_uses",
+        "Rattle.std.specs.Prelude List\n\
+        Rattle.wire_well_known_json.specs.StructKinds IsAnyList\n\
+        Rattle.wire_well_known_json.specs.StructKinds IsListValueTree\n\
+        Rattle.wire_well_known_json.specs.StructKinds MeansListValue\n\
+        Rattle.wire_well_known_json.specs.StructKinds list_value_back\n\
+        Rattle.wire_well_known_json.specs.StructKinds one_list_value\n\
+        Rattle.wire_well_known_json.specs.Structs Plain\n",
+    ),
+    (
+        "json_seen_uses",
+        "Rattle.wire_well_known_json.specs.Structs list_value-plain\n",
+    ),
+];
+
 const HELD: [Template; 4] = [
     ("json_held", "$of_name$"),
     (
@@ -103,8 +154,9 @@ pub(crate) fn has_rule(full: &str) -> bool {
 /// Whether a field of these words is of a well-known type of which there is JSON.
 pub(crate) fn is_well_known(words: &Words) -> bool {
     let name = words.get("of_name");
-    let is_other = matches!(name, "Duration" | "Empty" | "FieldMask" | "Timestamp");
-    let is_there = is_other || held_by(name).is_some();
+    let is_structured = matches!(name, "Empty" | "ListValue" | "Struct");
+    let is_text = matches!(name, "Duration" | "FieldMask" | "Timestamp");
+    let is_there = is_structured || is_text || held_by(name).is_some();
     is_there && words.get("of_crate") == CRATE && words.get("crate") != CRATE
 }
 
@@ -126,6 +178,8 @@ pub(crate) fn set_well_known(words: &mut Words) {
         match words.get("of_name") {
             "Empty" => words.fill_all(&MESSAGE),
             "FieldMask" => words.fill_all(&MASK),
+            "ListValue" => words.fill_all(&LIST_VALUE),
+            "Struct" => words.fill_all(&STRUCT),
             _ => words.fill_all(&TIME),
         }
     }
