@@ -23,9 +23,13 @@ use Rattle.wire_well_known.specs.FieldMask.{field_mask-shape, field_mask-value}
 use Rattle.wire_well_known.specs.Int64Value.{Int64Value-Value, int64_value-range}
 use Rattle.wire_well_known.specs.Int64Value.{int64_value-returned, int64_value-shape}
 use Rattle.wire_well_known.specs.Int64Value.{int64_value-value}
+use Rattle.wire_well_known.specs.ListValue.{ListValue-Value, list_value-range, list_value-returned}
+use Rattle.wire_well_known.specs.ListValue.{list_value-shape, list_value-value}
 use Rattle.wire_well_known.specs.StringValue.{StringValue-Value, string_value-range}
 use Rattle.wire_well_known.specs.StringValue.{string_value-returned, string_value-shape}
 use Rattle.wire_well_known.specs.StringValue.{string_value-value}
+use Rattle.wire_well_known.specs.Struct.{Struct-Value, struct_-range, struct_-returned}
+use Rattle.wire_well_known.specs.Struct.{struct_-shape, struct_-value}
 use Rattle.wire_well_known.specs.Timestamp.{Timestamp-Value, timestamp-range, timestamp-returned}
 use Rattle.wire_well_known.specs.Timestamp.{timestamp-shape, timestamp-value}
 
@@ -67,15 +71,57 @@ visit-seen-kind = embedded_once field_mask-shape
 abbrev pub visit-seen-range : Range (Option FieldMask-Value)
 visit-seen-range = once_range field_mask-shape field_mask-range
 
-abbrev pub Visit-Known : Type 0
-Visit-Known =
+abbrev pub visit-labels-kind : Lawful (Option Struct-Value)
+visit-labels-kind = embedded_once struct_-shape
+
+abbrev pub visit-labels-range : Range (Option Struct-Value)
+visit-labels-range = once_range struct_-shape struct_-range
+
+abbrev pub visit-trails-kind : Lawful (List ListValue-Value)
+visit-trails-kind = embedded_each 48 list_value-shape
+
+abbrev pub visit-trails-range : Range (List ListValue-Value)
+visit-trails-range = each_range 48 list_value-shape list_value-range
+
+abbrev pub Visit-Fields-1-To-11 : Type 0
+Visit-Fields-1-To-11 =
     ((((Option Timestamp-Value)
     × (Option Duration-Value))
     × ((List Timestamp-Value)
     × (List ((List ℕ) × Int64Value-Value))))
     × (((Option StringValue-Value)
     × VisitEnded-Value)
-    × (Option FieldMask-Value)))
+    × ((Option FieldMask-Value)
+    × (Option Struct-Value))))
+
+abbrev pub visit-fields-1-to-11-value : Visit → Visit-Fields-1-To-11
+visit-fields-1-to-11-value m = (
+  (
+    (
+      boxed_value timestamp-value m.begun_at,
+      boxed_value duration-value m.lasted,
+    ),
+    (
+      map timestamp-value m.clicks.items,
+      viewed (λ s. string_bytes s) int64_value-value m.counts.entries,
+    ),
+  ),
+  (
+    (
+      boxed_value string_value-value m.note,
+      visit_ended-of m.ended,
+    ),
+    (
+      boxed_value field_mask-value m.seen,
+      boxed_value struct_-value m.labels,
+    ),
+  ),
+)
+
+abbrev pub Visit-Known : Type 0
+Visit-Known =
+    (Visit-Fields-1-To-11
+    × (List ListValue-Value))
 
 abbrev pub Visit-Value : Type 0
 Visit-Value = Visit-Known × Fields
@@ -83,57 +129,54 @@ Visit-Value = Visit-Known × Fields
 abbrev pub visit-value : Visit → Visit-Value
 visit-value m = (
   (
-    (
-      (
-        boxed_value timestamp-value m.begun_at,
-        boxed_value duration-value m.lasted,
-      ),
-      (
-        map timestamp-value m.clicks.items,
-        viewed (λ s. string_bytes s) int64_value-value m.counts.entries,
-      ),
-    ),
-    (
-      (
-        boxed_value string_value-value m.note,
-        visit_ended-of m.ended,
-      ),
-      boxed_value field_mask-value m.seen,
-    ),
+    visit-fields-1-to-11-value m,
+    map list_value-value m.trails.items,
   ),
   m.unknown,
 )
 
 abbrev pub begun_at-of-visit : Visit-Value → Option Timestamp-Value
-begun_at-of-visit m = m.0.0.0.0
+begun_at-of-visit m = m.0.0.0.0.0
 
 abbrev pub lasted-of-visit : Visit-Value → Option Duration-Value
-lasted-of-visit m = m.0.0.0.1
+lasted-of-visit m = m.0.0.0.0.1
 
 abbrev pub clicks-of-visit : Visit-Value → List Timestamp-Value
-clicks-of-visit m = m.0.0.1.0
+clicks-of-visit m = m.0.0.0.1.0
 
 abbrev pub counts-of-visit : Visit-Value → List ((List ℕ) × Int64Value-Value)
-counts-of-visit m = m.0.0.1.1
+counts-of-visit m = m.0.0.0.1.1
 
 abbrev pub note-of-visit : Visit-Value → Option StringValue-Value
-note-of-visit m = m.0.1.0.0
+note-of-visit m = m.0.0.1.0.0
 
 abbrev pub ended-of-visit : Visit-Value → VisitEnded-Value
-ended-of-visit m = m.0.1.0.1
+ended-of-visit m = m.0.0.1.0.1
 
 abbrev pub seen-of-visit : Visit-Value → Option FieldMask-Value
-seen-of-visit m = m.0.1.1
+seen-of-visit m = m.0.0.1.1.0
 
-abbrev pub visit-known : Shape Visit-Known
-visit-known =
+abbrev pub labels-of-visit : Visit-Value → Option Struct-Value
+labels-of-visit m = m.0.0.1.1.1
+
+abbrev pub trails-of-visit : Visit-Value → List ListValue-Value
+trails-of-visit m = m.0.1
+
+abbrev pub visit-fields-1-to-11 : Shape Visit-Fields-1-To-11
+visit-fields-1-to-11 =
     two (two (two (known 1 visit-begun_at-kind)
     (known 2 visit-lasted-kind))
     (two (known 3 visit-clicks-kind)
     (known 4 visit-counts-kind)))
     (two (two (known 5 visit-note-kind)
     (visit_ended-shape))
-    (known 10 visit-seen-kind))
+    (two (known 10 visit-seen-kind)
+    (known 11 visit-labels-kind)))
+
+abbrev pub visit-known : Shape Visit-Known
+visit-known =
+    two (visit-fields-1-to-11)
+    (known 12 visit-trails-kind)
 
 abbrev pub visit-shape : Shape Visit-Value
 visit-shape = two visit-known unknown
@@ -141,18 +184,21 @@ visit-shape = two visit-known unknown
 -- what is read back once it is written
 abbrev pub visit-range : Range Visit-Value
 visit-range =
-    pair_range (pair_range (pair_range (pair_range (visit-begun_at-range)
+    pair_range (pair_range (pair_range (pair_range (pair_range (visit-begun_at-range)
     (visit-lasted-range))
     (pair_range (visit-clicks-range)
     (visit-counts-range)))
     (pair_range (pair_range (visit-note-range)
     (visit_ended-range))
-    (visit-seen-range)))
+    (pair_range (visit-seen-range)
+    (visit-labels-range))))
+    (visit-trails-range))
     (others_range visit-known.owns)
 
 pub visit-returned : Grounds → Returned visit-shape visit-range
 visit-returned g =
     whole_returned g
+    (two_returned g
     (two_returned g
     (two_returned g
     (two_returned g
@@ -193,10 +239,18 @@ visit-returned g =
       ]
       | inr h ↦ rw h refl
     ]))
+    (two_returned g
     (known_returned g 10 visit-seen-kind visit-seen-range
     (omega arith) (omega arith)
     (embedded_once_returned g _ _ (field_mask-returned g)))
+    (known_returned g 11 visit-labels-kind visit-labels-range
+    (omega arith) (omega arith)
+    (embedded_once_returned g _ _ (struct_-returned g)))
     (λ n p h. rw h refl))
+    (λ n p h. elim h [
+      | inl h ↦ rw h refl
+      | inr h ↦ rw h refl
+    ]))
     (λ n p h. elim h [
       | inl h ↦ elim h [
         | inl h ↦ rw h refl
@@ -211,5 +265,12 @@ visit-returned g =
           | inr h ↦ rw h refl
         ]
       ]
-      | inr h ↦ rw h refl
+      | inr h ↦ elim h [
+        | inl h ↦ rw h refl
+        | inr h ↦ rw h refl
+      ]
     ]))
+    (known_returned g 12 visit-trails-kind visit-trails-range
+    (omega arith) (omega arith)
+    (embedded_each_returned g _ _ (list_value-returned g) 48))
+    (λ n p h. rw h refl))

@@ -8,19 +8,22 @@ use Rattle.wire_fields.specs.StaysMaps.{text_map_stays}
 use Rattle.wire_fields.specs.StaysMessages.{embedded_always_stays, embedded_each_stays}
 use Rattle.wire_fields.specs.StaysMessages.{embedded_once_stays}
 use Rattle.wire_visits.specs.Visit.{visit-begun_at-kind, visit-clicks-kind, visit-counts-kind}
-use Rattle.wire_visits.specs.Visit.{visit-lasted-kind, visit-note-kind, visit-range}
-use Rattle.wire_visits.specs.Visit.{visit-seen-kind, visit-shape}
+use Rattle.wire_visits.specs.Visit.{visit-labels-kind, visit-lasted-kind, visit-note-kind}
+use Rattle.wire_visits.specs.Visit.{visit-range, visit-seen-kind, visit-shape, visit-trails-kind}
 use Rattle.wire_visits.specs.VisitEndedStays.{visit_ended-stays}
 use Rattle.wire_well_known.specs.DurationStays.{duration-stays}
 use Rattle.wire_well_known.specs.FieldMaskStays.{field_mask-stays}
 use Rattle.wire_well_known.specs.Int64Value.{int64_value-shape}
 use Rattle.wire_well_known.specs.Int64ValueStays.{int64_value-stays}
+use Rattle.wire_well_known.specs.ListValueStays.{list_value-stays}
 use Rattle.wire_well_known.specs.StringValueStays.{string_value-stays}
+use Rattle.wire_well_known.specs.StructStays.{struct_-stays}
 use Rattle.wire_well_known.specs.TimestampStays.{timestamp-stays}
 
 pub visit-stays : Grounds → Stays visit-shape visit-range
 visit-stays g =
     whole_stays
+    (two_stays
     (two_stays
     (two_stays
     (two_stays
@@ -39,5 +42,10 @@ visit-stays g =
     (known_stays 5 visit-note-kind
     (embedded_once_stays g (string_value-stays g)))
     (visit_ended-stays g))
+    (two_stays
     (known_stays 10 visit-seen-kind
-    (embedded_once_stays g (field_mask-stays g)))))
+    (embedded_once_stays g (field_mask-stays g)))
+    (known_stays 11 visit-labels-kind
+    (embedded_once_stays g (struct_-stays g))))))
+    (known_stays 12 visit-trails-kind
+    (embedded_each_stays g (list_value-stays g) 48)))

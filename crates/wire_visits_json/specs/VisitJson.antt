@@ -40,6 +40,11 @@ use Rattle.wire_visits_json.specs.VisitEndedJson.{ended-chosen-seen, ended-chose
 use Rattle.wire_visits_json.specs.VisitEndedJson.{ended-chosen-unsaid}
 use Rattle.wire_well_known_json.specs.FieldMasks.{IsAnyMask, field_mask-json, mask_back, one_mask}
 use Rattle.wire_well_known_json.specs.Masks.{IsMaskTree, MeansMask}
+use Rattle.wire_well_known_json.specs.StructKinds.{IsAnyList, IsAnyStruct, IsListValueTree}
+use Rattle.wire_well_known_json.specs.StructKinds.{IsStructTree, MeansListValue, MeansStruct}
+use Rattle.wire_well_known_json.specs.StructKinds.{list_value_back, one_list_value, one_struct}
+use Rattle.wire_well_known_json.specs.StructKinds.{struct_back}
+use Rattle.wire_well_known_json.specs.Structs.{Plain, Plain-Fields, list_value-plain, struct-plain}
 use Rattle.wire_well_known_json.specs.Times.{IsAnyTime, duration-json, duration_back, one_duration}
 use Rattle.wire_well_known_json.specs.Times.{one_timestamp, timestamp-json, timestamp_back}
 use Rattle.wire_well_known_json.specs.Wrappers.{int64_value-json, string_value-json}
@@ -365,6 +370,102 @@ seen-back =
     IsAnyMask mask_back)
     None
 
+abbrev pub labels-Value : Type 0
+labels-Value = Option Plain-Fields
+
+abbrev pub labels-names : List Names
+labels-names = (codes "labels", codes "labels") ∷ []
+
+abbrev pub labels-says : Members → labels-Value → Type 0
+labels-says =
+    FieldMeans None (MeansSome MeansStruct)
+    (IsNameOf (codes "labels") (codes "labels"))
+
+abbrev pub labels-trees : labels-Value → Members → Type 0
+labels-trees =
+    IsFieldTree None (IsSomeTree IsStructTree)
+    (codes "labels")
+
+abbrev pub labels-range : labels-Value → Type 0
+labels-range = IsInRangeUnless None (IsSomeInRange IsAnyStruct)
+
+abbrev pub labels-absent : labels-Value
+labels-absent = None
+
+abbrev pub labels-seen : Visit → labels-Value
+labels-seen m = option_map (λ v. struct-plain (box_value v)) m.labels
+
+pub labels-unsaid : labels-says no_member labels-absent
+labels-unsaid =
+    unsaid None (MeansSome MeansStruct)
+    (IsNameOf (codes "labels") (codes "labels"))
+
+pub labels-one : SayOne labels-says
+labels-one =
+    one_field None (MeansSome MeansStruct)
+    (one_some MeansStruct one_struct)
+    (IsNameOf (codes "labels") (codes "labels"))
+
+pub labels-back
+    : PartComesBack labels-names labels-says labels-trees labels-range
+labels-back =
+    field_back (MeansSome MeansStruct)
+    (IsSomeTree IsStructTree)
+    (codes "labels") (codes "labels")
+    (IsSomeInRange IsAnyStruct)
+    (some_back MeansStruct
+    IsStructTree
+    IsAnyStruct struct_back)
+    None
+
+abbrev pub trails-Value : Type 0
+trails-Value = List (List Plain)
+
+abbrev pub trails-names : List Names
+trails-names = (codes "trails", codes "trails") ∷ []
+
+abbrev pub trails-says : Members → trails-Value → Type 0
+trails-says =
+    FieldMeans [] (ListMeans MeansListValue)
+    (IsNameOf (codes "trails") (codes "trails"))
+
+abbrev pub trails-trees : trails-Value → Members → Type 0
+trails-trees =
+    IsFieldTree [] (IsListTree IsListValueTree)
+    (codes "trails")
+
+abbrev pub trails-range : trails-Value → Type 0
+trails-range = IsInRangeUnless [] (AllByRecursion IsAnyList)
+
+abbrev pub trails-absent : trails-Value
+trails-absent = []
+
+abbrev pub trails-seen : Visit → trails-Value
+trails-seen m = map list_value-plain m.trails.items
+
+pub trails-unsaid : trails-says no_member trails-absent
+trails-unsaid =
+    unsaid [] (ListMeans MeansListValue)
+    (IsNameOf (codes "trails") (codes "trails"))
+
+pub trails-one : SayOne trails-says
+trails-one =
+    one_field [] (ListMeans MeansListValue)
+    (one_list MeansListValue one_list_value)
+    (IsNameOf (codes "trails") (codes "trails"))
+
+pub trails-back
+    : PartComesBack trails-names trails-says trails-trees trails-range
+trails-back =
+    field_back (ListMeans MeansListValue)
+    (IsListTree IsListValueTree)
+    (codes "trails") (codes "trails")
+    (AllByRecursion IsAnyList)
+    (all_back MeansListValue
+    IsListValueTree
+    IsAnyList list_value_back)
+    []
+
 abbrev pub group-1-from-3-Value : Type 0
 group-1-from-3-Value = clicks-Value × counts-Value
 
@@ -467,39 +568,73 @@ group-1-back =
     begun_at-trees group-1-from-2-trees begun_at-range group-1-from-2-range
     begun_at-back group-1-from-2-back
 
+abbrev pub group-2-from-3-Value : Type 0
+group-2-from-3-Value = seen-Value × labels-Value
+
+abbrev pub group-2-from-3-names : List Names
+group-2-from-3-names = seen-names ++ labels-names
+
+abbrev pub group-2-from-3-says : Members → group-2-from-3-Value → Type 0
+group-2-from-3-says = BothSay seen-says labels-says
+
+abbrev pub group-2-from-3-trees : group-2-from-3-Value → Members → Type 0
+group-2-from-3-trees = BothTrees seen-trees labels-trees
+
+abbrev pub group-2-from-3-range : group-2-from-3-Value → Type 0
+group-2-from-3-range = AreBoth seen-range labels-range
+
+abbrev pub group-2-from-3-absent : group-2-from-3-Value
+group-2-from-3-absent = (seen-absent, labels-absent)
+
+abbrev pub group-2-from-3-seen : Visit → group-2-from-3-Value
+group-2-from-3-seen m = (seen-seen m, labels-seen m)
+
+pub group-2-from-3-unsaid : group-2-from-3-says no_member group-2-from-3-absent
+group-2-from-3-unsaid = (seen-unsaid, labels-unsaid)
+
+pub group-2-from-3-one : SayOne group-2-from-3-says
+group-2-from-3-one = one_both seen-says labels-says seen-one labels-one
+
+pub group-2-from-3-back
+    : PartComesBack group-2-from-3-names group-2-from-3-says group-2-from-3-trees group-2-from-3-range
+group-2-from-3-back =
+    both_back seen-names labels-names seen-says labels-says
+    seen-trees labels-trees seen-range labels-range
+    seen-back labels-back
+
 abbrev pub group-2-from-2-Value : Type 0
-group-2-from-2-Value = ended-Value × seen-Value
+group-2-from-2-Value = ended-Value × group-2-from-3-Value
 
 abbrev pub group-2-from-2-names : List Names
-group-2-from-2-names = ended-names ++ seen-names
+group-2-from-2-names = ended-names ++ group-2-from-3-names
 
 abbrev pub group-2-from-2-says : Members → group-2-from-2-Value → Type 0
-group-2-from-2-says = BothSay ended-says seen-says
+group-2-from-2-says = BothSay ended-says group-2-from-3-says
 
 abbrev pub group-2-from-2-trees : group-2-from-2-Value → Members → Type 0
-group-2-from-2-trees = BothTrees ended-trees seen-trees
+group-2-from-2-trees = BothTrees ended-trees group-2-from-3-trees
 
 abbrev pub group-2-from-2-range : group-2-from-2-Value → Type 0
-group-2-from-2-range = AreBoth ended-range seen-range
+group-2-from-2-range = AreBoth ended-range group-2-from-3-range
 
 abbrev pub group-2-from-2-absent : group-2-from-2-Value
-group-2-from-2-absent = (ended-absent, seen-absent)
+group-2-from-2-absent = (ended-absent, group-2-from-3-absent)
 
 abbrev pub group-2-from-2-seen : Visit → group-2-from-2-Value
-group-2-from-2-seen m = (ended-seen m, seen-seen m)
+group-2-from-2-seen m = (ended-seen m, group-2-from-3-seen m)
 
 pub group-2-from-2-unsaid : group-2-from-2-says no_member group-2-from-2-absent
-group-2-from-2-unsaid = (ended-unsaid, seen-unsaid)
+group-2-from-2-unsaid = (ended-unsaid, group-2-from-3-unsaid)
 
 pub group-2-from-2-one : SayOne group-2-from-2-says
-group-2-from-2-one = one_both ended-says seen-says ended-one seen-one
+group-2-from-2-one = one_both ended-says group-2-from-3-says ended-one group-2-from-3-one
 
 pub group-2-from-2-back
     : PartComesBack group-2-from-2-names group-2-from-2-says group-2-from-2-trees group-2-from-2-range
 group-2-from-2-back =
-    both_back ended-names seen-names ended-says seen-says
-    ended-trees seen-trees ended-range seen-range
-    ended-back seen-back
+    both_back ended-names group-2-from-3-names ended-says group-2-from-3-says
+    ended-trees group-2-from-3-trees ended-range group-2-from-3-range
+    ended-back group-2-from-3-back
 
 abbrev pub group-2-Value : Type 0
 group-2-Value = note-Value × group-2-from-2-Value
@@ -535,39 +670,73 @@ group-2-back =
     note-trees group-2-from-2-trees note-range group-2-from-2-range
     note-back group-2-from-2-back
 
+abbrev pub all-fields-from-2-Value : Type 0
+all-fields-from-2-Value = group-2-Value × trails-Value
+
+abbrev pub all-fields-from-2-names : List Names
+all-fields-from-2-names = group-2-names ++ trails-names
+
+abbrev pub all-fields-from-2-says : Members → all-fields-from-2-Value → Type 0
+all-fields-from-2-says = BothSay group-2-says trails-says
+
+abbrev pub all-fields-from-2-trees : all-fields-from-2-Value → Members → Type 0
+all-fields-from-2-trees = BothTrees group-2-trees trails-trees
+
+abbrev pub all-fields-from-2-range : all-fields-from-2-Value → Type 0
+all-fields-from-2-range = AreBoth group-2-range trails-range
+
+abbrev pub all-fields-from-2-absent : all-fields-from-2-Value
+all-fields-from-2-absent = (group-2-absent, trails-absent)
+
+abbrev pub all-fields-from-2-seen : Visit → all-fields-from-2-Value
+all-fields-from-2-seen m = (group-2-seen m, trails-seen m)
+
+pub all-fields-from-2-unsaid : all-fields-from-2-says no_member all-fields-from-2-absent
+all-fields-from-2-unsaid = (group-2-unsaid, trails-unsaid)
+
+pub all-fields-from-2-one : SayOne all-fields-from-2-says
+all-fields-from-2-one = one_both group-2-says trails-says group-2-one trails-one
+
+pub all-fields-from-2-back
+    : PartComesBack all-fields-from-2-names all-fields-from-2-says all-fields-from-2-trees all-fields-from-2-range
+all-fields-from-2-back =
+    both_back group-2-names trails-names group-2-says trails-says
+    group-2-trees trails-trees group-2-range trails-range
+    group-2-back trails-back
+
 abbrev pub all-fields-Value : Type 0
-all-fields-Value = group-1-Value × group-2-Value
+all-fields-Value = group-1-Value × all-fields-from-2-Value
 
 abbrev pub all-fields-names : List Names
-all-fields-names = group-1-names ++ group-2-names
+all-fields-names = group-1-names ++ all-fields-from-2-names
 
 abbrev pub all-fields-says : Members → all-fields-Value → Type 0
-all-fields-says = BothSay group-1-says group-2-says
+all-fields-says = BothSay group-1-says all-fields-from-2-says
 
 abbrev pub all-fields-trees : all-fields-Value → Members → Type 0
-all-fields-trees = BothTrees group-1-trees group-2-trees
+all-fields-trees = BothTrees group-1-trees all-fields-from-2-trees
 
 abbrev pub all-fields-range : all-fields-Value → Type 0
-all-fields-range = AreBoth group-1-range group-2-range
+all-fields-range = AreBoth group-1-range all-fields-from-2-range
 
 abbrev pub all-fields-absent : all-fields-Value
-all-fields-absent = (group-1-absent, group-2-absent)
+all-fields-absent = (group-1-absent, all-fields-from-2-absent)
 
 abbrev pub all-fields-seen : Visit → all-fields-Value
-all-fields-seen m = (group-1-seen m, group-2-seen m)
+all-fields-seen m = (group-1-seen m, all-fields-from-2-seen m)
 
 pub all-fields-unsaid : all-fields-says no_member all-fields-absent
-all-fields-unsaid = (group-1-unsaid, group-2-unsaid)
+all-fields-unsaid = (group-1-unsaid, all-fields-from-2-unsaid)
 
 pub all-fields-one : SayOne all-fields-says
-all-fields-one = one_both group-1-says group-2-says group-1-one group-2-one
+all-fields-one = one_both group-1-says all-fields-from-2-says group-1-one all-fields-from-2-one
 
 pub all-fields-back
     : PartComesBack all-fields-names all-fields-says all-fields-trees all-fields-range
 all-fields-back =
-    both_back group-1-names group-2-names group-1-says group-2-says
-    group-1-trees group-2-trees group-1-range group-2-range
-    group-1-back group-2-back
+    both_back group-1-names all-fields-from-2-names group-1-says all-fields-from-2-says
+    group-1-trees all-fields-from-2-trees group-1-range all-fields-from-2-range
+    group-1-back all-fields-from-2-back
 
 abbrev pub Visit-Json : Type 0
 Visit-Json = all-fields-Value

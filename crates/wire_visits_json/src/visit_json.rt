@@ -9,15 +9,18 @@ use wire_jsonfields::{
 };
 use wire_protojson::{ReadError, WriteError};
 use wire_visits::Visit;
-use wire_well_known::{Duration, FieldMask, Int64Value, StringValue, Timestamp};
+use wire_well_known::{Duration, FieldMask, Int64Value, ListValue, StringValue, Struct, Timestamp};
 use wire_well_known_json::{
-    DurationJson, FieldMaskJson, Int64ValueJson, StringValueJson, TimestampJson,
+    DurationJson, FieldMaskJson, Int64ValueJson, ListValueJson, StringValueJson, StructJson,
+    TimestampJson,
 };
 
 /// `visits.Visit` by the JSON mapping.
 pub struct VisitJson;
 
-pub type Parts = Both<OfGroup1, OfGroup2>;
+pub type Parts = Both<OfGroup1, PartsFrom2>;
+
+pub type PartsFrom2 = Both<OfGroup2, OfTrails>;
 
 pub type Group1 = Both<OfBegunAt, Group1From2>;
 
@@ -35,9 +38,13 @@ pub type Group2 = Both<OfNote, Group2From2>;
 
 pub type HeldGroup2 = (Option<Box<StringValue>>, HeldGroup2From2);
 
-pub type Group2From2 = Both<OfEnded, OfSeen>;
+pub type Group2From2 = Both<OfEnded, Group2From3>;
 
-pub type HeldGroup2From2 = (Option<HeldVisitEndedJson>, Option<Box<FieldMask>>);
+pub type HeldGroup2From2 = (Option<HeldVisitEndedJson>, HeldGroup2From3);
+
+pub type Group2From3 = Both<OfSeen, OfLabels>;
+
+pub type HeldGroup2From3 = (Option<Box<FieldMask>>, Option<Box<Struct>>);
 
 const BEGUN_AT: FieldName = FieldName {
     name: "begun_at",
@@ -67,6 +74,16 @@ const NOTE: FieldName = FieldName {
 const SEEN: FieldName = FieldName {
     name: "seen",
     json_name: "seen",
+};
+
+const LABELS: FieldName = FieldName {
+    name: "labels",
+    json_name: "labels",
+};
+
+const TRAILS: FieldName = FieldName {
+    name: "trails",
+    json_name: "trails",
 };
 
 pub struct OfBegunAt;
@@ -482,6 +499,124 @@ impl JsonPart for OfSeen {
     }
 }
 
+pub struct OfLabels;
+
+impl JsonPart for OfLabels {
+    ghost use Rattle.std.specs.Prelude.{box_value, option_map};
+    ghost use Rattle.wire_visits_json.specs.VisitJson.{labels-Value, labels-absent, labels-back};
+    ghost use Rattle.wire_visits_json.specs.VisitJson.{labels-names, labels-one, labels-range};
+    ghost use Rattle.wire_visits_json.specs.VisitJson.{labels-says, labels-seen, labels-trees};
+    ghost use Rattle.wire_visits_json.specs.VisitJson.{labels-unsaid};
+    ghost use Rattle.wire_well_known_json.specs.Structs.{struct-plain};
+
+    type Message = Visit;
+
+    type Held = Option<Box<Struct>>;
+
+    ghost Value = { labels-Value };
+
+    ghost view = { λ h. option_map (λ v. struct-plain (box_value v)) h };
+
+    ghost seen = { labels-seen };
+
+    ghost names = { labels-names };
+
+    ghost says = { labels-says };
+
+    ghost trees = { labels-trees };
+
+    ghost default = { labels-absent };
+
+    ghost unsaid = { labels-unsaid };
+
+    ghost one_value = { labels-one };
+
+    ghost in_range = { labels-range };
+
+    ghost back = { labels-back };
+
+    fn is_named(name: &str) -> bool {
+        name == LABELS.name || name == LABELS.json_name
+    }
+
+    fn read(
+        alloc: Global,
+        text: &[u8],
+        members: &[PlacedMember<'_>],
+        levels: u32,
+    ) -> Result<Option<Box<Struct>>, ReadError> {
+        read_field::<Embedded<StructJson>>(alloc, text, members, levels, &LABELS)
+    }
+
+    fn write(
+        alloc: Global,
+        out: &mut Vec<u8>,
+        first: bool,
+        message: &Visit,
+    ) -> Result<bool, WriteError> {
+        write_field::<Embedded<StructJson>>(alloc, out, first, &LABELS, &message.labels)
+    }
+}
+
+pub struct OfTrails;
+
+impl JsonPart for OfTrails {
+    ghost use Rattle.std.specs.Prelude.{map};
+    ghost use Rattle.wire_visits_json.specs.VisitJson.{trails-Value, trails-absent, trails-back};
+    ghost use Rattle.wire_visits_json.specs.VisitJson.{trails-names, trails-one, trails-range};
+    ghost use Rattle.wire_visits_json.specs.VisitJson.{trails-says, trails-seen, trails-trees};
+    ghost use Rattle.wire_visits_json.specs.VisitJson.{trails-unsaid};
+    ghost use Rattle.wire_well_known_json.specs.Structs.{list_value-plain};
+
+    type Message = Visit;
+
+    type Held = Vec<ListValue>;
+
+    ghost Value = { trails-Value };
+
+    ghost view = { λ h. map list_value-plain h.items };
+
+    ghost seen = { trails-seen };
+
+    ghost names = { trails-names };
+
+    ghost says = { trails-says };
+
+    ghost trees = { trails-trees };
+
+    ghost default = { trails-absent };
+
+    ghost unsaid = { trails-unsaid };
+
+    ghost one_value = { trails-one };
+
+    ghost in_range = { trails-range };
+
+    ghost back = { trails-back };
+
+    fn is_named(name: &str) -> bool {
+        name == TRAILS.name || name == TRAILS.json_name
+    }
+
+    fn read(
+        alloc: Global,
+        text: &[u8],
+        members: &[PlacedMember<'_>],
+        levels: u32,
+    ) -> Result<Vec<ListValue>, ReadError> {
+        read_field::<Repeated<ListValueJson>>(alloc, text, members, levels, &TRAILS)
+    }
+
+    fn write(
+        alloc: Global,
+        out: &mut Vec<u8>,
+        first: bool,
+        message: &Visit,
+    ) -> Result<bool, WriteError> {
+        write_field::<Repeated<ListValueJson>>(alloc, out, first, &TRAILS, &message.trails)
+    }
+}
+
 pub struct OfGroup1;
 
 impl JsonPart for OfGroup1 {
@@ -553,6 +688,7 @@ impl JsonPart for OfGroup2 {
     ghost use Rattle.wire_visits_json.specs.VisitJson.{group-2-says, group-2-seen, group-2-trees};
     ghost use Rattle.wire_visits_json.specs.VisitJson.{group-2-unsaid};
     ghost use Rattle.wire_well_known_json.specs.FieldMasks.{field_mask-json};
+    ghost use Rattle.wire_well_known_json.specs.Structs.{struct-plain};
     ghost use Rattle.wire_well_known_json.specs.Wrappers.{string_value-json};
 
     type Message = Visit;
@@ -561,7 +697,7 @@ impl JsonPart for OfGroup2 {
 
     ghost Value = { group-2-Value };
 
-    ghost view = { λ h. (option_map (λ v. string_value-json (box_value v)) h.0, (option_map ended-chosen-view h.1.0, option_map (λ v. field_mask-json (box_value v)) h.1.1)) };
+    ghost view = { λ h. (option_map (λ v. string_value-json (box_value v)) h.0, (option_map ended-chosen-view h.1.0, (option_map (λ v. field_mask-json (box_value v)) h.1.1.0, option_map (λ v. struct-plain (box_value v)) h.1.1.1))) };
 
     ghost seen = { group-2-seen };
 
@@ -642,14 +778,16 @@ impl JsonValue for VisitJson {
         let (read_lasted, group_1) = group_1;
         let (read_clicks, group_1) = group_1;
         let read_counts = group_1;
-        let group_2 = parts;
+        let (group_2, parts) = parts;
         let (read_note, group_2) = group_2;
         let (read_ended, group_2) = group_2;
         let read_ended = match read_ended {
             None => None,
             Some(chosen) => Some(visit_ended_of(chosen)),
         };
-        let read_seen = group_2;
+        let (read_seen, group_2) = group_2;
+        let read_labels = group_2;
+        let read_trails = parts;
         Ok((
             Visit {
                 begun_at: read_begun_at,
@@ -659,6 +797,8 @@ impl JsonValue for VisitJson {
                 note: read_note,
                 ended: read_ended,
                 seen: read_seen,
+                labels: read_labels,
+                trails: read_trails,
                 unknown: UnknownFields::new(alloc),
             },
             after,
