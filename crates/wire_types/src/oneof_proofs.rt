@@ -52,13 +52,13 @@ Rattle.std.specs.Prelude Ok
 Rattle.wire_fields.specs.Messages or_else
 ";
 
-const OF_LAST_OK: [Template; 5] = [
+const OF_LAST_OK: [Template; 3] = [
     ("uses", USES_OF_LAST_OK),
-    ("uses", USES_OF_ANEW_OK),
     ("held_use", HELD_USE),
     ("answers", LAST_OK),
-    ("answers", LAST_ANEW_OK),
 ];
+
+const OF_LAST_ANEW_OK: [Template; 2] = [("uses", USES_OF_ANEW_OK), ("answers", LAST_ANEW_OK)];
 
 const OF_ARM_OK: [Template; 3] = [
     ("uses", "Rattle.wire_fields.specs.Arms arm_ok\n"),
@@ -270,9 +270,11 @@ fn answers_of(mut page: Words, oneof: &Oneof, anew: &str) -> Result<String, Gene
         page.fill("anew", anew);
         page.append("answers", ANSWERS);
         let are_many = oneof.variants.len() >= MANY && page.get("rows") == "variants";
+        let is_message = variant.get("presence") != "Always" && variant.get("closed").is_empty();
         if are_many && place == last {
             page.append_all(&OF_LAST_OK);
-        } else if are_many && place >= MANY_BEFORE {
+            page.append_all(if is_message { &OF_LAST_ANEW_OK } else { &[] });
+        } else if are_many && place >= MANY_BEFORE && is_message {
             page.append_all(&OF_ARM_OK);
         }
         page.fill(
