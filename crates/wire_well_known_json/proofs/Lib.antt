@@ -2,8 +2,9 @@ pub mod MaskBack
 pub mod MaskLaws
 pub mod MaskReading
 pub mod MaskTexts
+pub mod NullReads
+pub mod NullableReads
 pub mod SamePaths
 pub mod StructPuts
 pub mod StructReads
 pub mod StructTexts
-pub mod ValueFieldReads

@@ -3,10 +3,11 @@ pub mod EmptyJson
 pub mod FieldMasks
 pub mod Laws
 pub mod Masks
+pub mod NullValues
+pub mod Nullable
 pub mod OnePlain
 pub mod StructKinds
 pub mod StructLaws
 pub mod Structs
 pub mod Times
-pub mod ValueFields
 pub mod Wrappers

@@ -3,6 +3,7 @@ use Rattle.std.proofs.Common.{◌≡◌, ◌≢◌, List, [], refl, subst}
 use Rattle.wire_json.specs.Json.{Json, object, no_member}
 use Rattle.wire_jsonfields.specs.Back.{ComesBack}
 use Rattle.wire_jsonfields.specs.OneValues.{IsOneValued}
+use Rattle.wire_well_known_json.specs.Nullable.{TreesMean}
 use Rattle.wire_well_known_json.specs.OnePlain.{one_plain, same_fields, same_values}
 use Rattle.wire_well_known_json.specs.Structs.{Plain, null_value, struct_value, list_value, values_of, struct_fields, Plain-Fields, MeansValue, IsValueTree}
 
@@ -30,6 +31,10 @@ IsAnyList values = Unit {0}
 abbrev pub IsNotNull : Plain → Type 0
 IsNotNull v = v ≢ null_value
 
+-- where `null` is a value, each tree that there is of a value is read as it
+abbrev pub IsAnyValue : Plain → Type 0
+IsAnyValue v = Unit {0}
+
 pub one_struct : IsOneValued MeansStruct
 one_struct json m n p q =
     same_fields m n (one_plain json (struct_value (struct_fields m)) (struct_value (struct_fields n)) p q)
@@ -44,6 +49,9 @@ value_back v there json (lawful, means) = record {
   means = means;
   present = λ is. there (subst (λ (j : Json). MeansValue j v) is means);
 }
+
+pub nullable_value_back : (v : Plain) → IsAnyValue v → TreesMean MeansValue IsValueTree v
+nullable_value_back v any json tree = tree
 
 no_null_struct : (m : Plain-Fields) → struct_value (struct_fields m) ≡ null_value → ⊥
 no_null_struct m h = absurd cc

@@ -1,13 +1,18 @@
 -- What holds of values in JSON.
 use Rattle.std.specs.Prelude.{◌≡◌, ℕ, List, [], ◌∷◌, None}
 use Rattle.wire_json.specs.Json.{Json, no_member, depth}
-use Rattle.wire_jsonfields.specs.Back.{SpellsOneValue}
+use Rattle.wire_jsonfields.specs.Back.{ComesBack, SpellsOneValue}
+use Rattle.wire_jsonfields.specs.Fields.{IsSomeTree}
+use Rattle.wire_jsonfields.specs.KindsBack.{IsSomeInRange}
 use Rattle.wire_jsonfields.specs.Levels.{IsReadFrom}
+use Rattle.wire_jsonfields.specs.Lists.{IsListTree, ListMeans}
+use Rattle.wire_jsonfields.specs.Messages.{IsFieldTree}
 use Rattle.wire_jsonfields.specs.Objects.{IsNameOf}
 use Rattle.wire_jsonfields.specs.OneValues.{SayOne}
-use Rattle.wire_jsonfields.specs.Parts.{PartComesBack}
+use Rattle.wire_jsonfields.specs.Parts.{IsInRangeUnless, PartComesBack}
+use Rattle.wire_well_known_json.specs.Nullable.{NullableMeans}
+use Rattle.wire_well_known_json.specs.StructKinds.{IsAnyValue}
 use Rattle.wire_well_known_json.specs.Structs.{Plain, IsValueTree, MeansValue, nesting}
-use Rattle.wire_well_known_json.specs.ValueFields.{IsAnyValueField, IsValueFieldTree, ValueFieldMeans}
 
 -- The text of a value is read as it, at just as many levels as lists and structs stand in one
 -- another in it, or more.
@@ -22,14 +27,21 @@ ValuesAreReadBack = (v : Plain) (json : Json) → IsValueTree v json → IsReadA
 abbrev pub TextsAreOneValue : Type 0
 TextsAreOneValue = SpellsOneValue MeansValue
 
--- A field of the type `Value` of these names: what is written of it is read as it, whatever members
--- of other names stand beside it; members say one value at most; and where there are none it is
--- absent.
+-- A field of the type `Value` of these names: what is written of it is read as it, `null` too, and
+-- whatever members of other names stand beside it; members say one value at most; and where there
+-- are none it is absent.
 pub record IsValueField (name json_name : List ℕ) : Type 0 where
-  pub back : PartComesBack ((name, json_name) ∷ []) (ValueFieldMeans (IsNameOf name json_name))
-      (IsValueFieldTree json_name) IsAnyValueField
-  pub one : SayOne (ValueFieldMeans (IsNameOf name json_name))
-  pub unsaid : ValueFieldMeans (IsNameOf name json_name) no_member None
+  pub back : PartComesBack ((name, json_name) ∷ [])
+      (NullableMeans MeansValue (IsNameOf name json_name))
+      (IsFieldTree None (IsSomeTree IsValueTree) json_name)
+      (IsInRangeUnless None (IsSomeInRange IsAnyValue))
+  pub one : SayOne (NullableMeans MeansValue (IsNameOf name json_name))
+  pub unsaid : NullableMeans MeansValue (IsNameOf name json_name) no_member None
 
 abbrev pub ValueFieldsAreParts : Type 0
 ValueFieldsAreParts = (name json_name : List ℕ) → IsValueField name json_name
+
+-- a list of values is read back, whether or not some are `null`
+abbrev pub ListsOfValuesComeBack : Type 0
+ListsOfValuesComeBack =
+    (vs : List Plain) → ComesBack (ListMeans MeansValue) (IsListTree IsValueTree) vs

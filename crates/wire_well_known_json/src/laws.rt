@@ -1,6 +1,6 @@
 //! Laws of field masks and of values: each function is a theorem, and does nothing.
 ghost use Rattle.wire_well_known_json.specs.Laws.{MasksHaveTexts};
-ghost use Rattle.wire_well_known_json.specs.StructLaws.{TextsAreOneValue, ValueFieldsAreParts, ValuesAreReadBack};
+ghost use Rattle.wire_well_known_json.specs.StructLaws.{ListsOfValuesComeBack, TextsAreOneValue, ValueFieldsAreParts, ValuesAreReadBack};
 
 /// Which paths have a text, and which it is: each is not empty, and has no comma, no capital of
 /// ASCII, and a small letter of ASCII behind each underscore.
@@ -22,4 +22,9 @@ pub fn texts_are_one_value()
 /// A field of the type `Value` is a part of a message type, as those of other types are.
 pub fn value_fields_are_parts()
     ensures { ValueFieldsAreParts }
+{}
+
+/// A list of values is read back, `null` among them or not.
+pub fn lists_of_values_come_back()
+    ensures { ListsOfValuesComeBack }
 {}

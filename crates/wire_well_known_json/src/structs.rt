@@ -8,7 +8,7 @@ use wire_well_known::{ListValue, Struct, Value};
 
 /// `google.protobuf.Value` by the JSON mapping: any JSON, of which a number is the double nearest
 /// to it. A value without a kind and a number that is not finite have no text. `null` is a value,
-/// but leaves a field absent that `read_value_field` does not read.
+/// but leaves a field absent that `read_nullable` does not read.
 pub struct ValueJson;
 
 impl JsonValue for ValueJson {

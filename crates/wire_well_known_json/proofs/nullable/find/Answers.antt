@@ -1,8 +1,8 @@
 use Rattle.std.proofs.Common.{ℕ, Option, suc, ◌∷◌, drop, sym, subst, ◌∙◌}
 use Rattle.wire_jsonfields.specs.Objects.{IsNameOf}
 use Rattle.wire_jsonfields.proofs.Finding.{Sofar, first_entry, item_here, next_index, none_there, past_entry}
-use Rattle.wire_well_known_json.proofs.value_field.find.Goals as goal
-use Rattle.wire_well_known_json.proofs.value_field.find.Goals.{then-is_called+else-is_some, else-is_called}
+use Rattle.wire_well_known_json.proofs.nullable.find.Goals as goal
+use Rattle.wire_well_known_json.proofs.nullable.find.Goals.{then-is_called+else-is_some, else-is_called}
 
 pub loop-member-preserved : goal.loop-member-preserved
 loop-member-preserved c = λ text ms are.

@@ -1,43 +1,36 @@
-//! A field of the type `Value`.
-ghost use Rattle.std.specs.Prelude.{◌≢◌, ◌≤◌, ℕ, List, Option, IfOk, IfErr, MatchBool, OnErr};
+//! Fields of which `null` is a value.
+ghost use Rattle.std.specs.Prelude.{◌≢◌, ◌≤◌, ℕ, List, Option, option_map, IfOk, IfErr, MatchBool, OnErr};
 ghost use Rattle.std.specs.Cow.{cow_str_bytes};
 ghost use Rattle.wire_json.specs.Json.{Members, members_depth};
 ghost use Rattle.wire_jsonfields.specs.Objects.{ArePlaced, AreSeveral, IsNameOf, IsOnlyPlace};
 ghost use Rattle.wire_protojson.specs.declared.refusal.ReadError.TheVariants.{OutOfMemory};
-ghost use Rattle.wire_well_known_json.specs.Structs.{Plain, value-plain};
-ghost use Rattle.wire_well_known_json.specs.ValueFields.{ValueFieldMeans, value_held};
+ghost use Rattle.wire_well_known_json.specs.Nullable.{NullableMeans};
 
-use crate::structs_read::read_value;
 use std::alloc::Global;
-use wire_jsonfields::{FieldName, PlacedMember};
+use wire_jsonfields::{FieldName, JsonValue, PlacedMember};
 use wire_protojson::{ReadError, Reason, Refusal};
-use wire_well_known::Value;
 
-/// Reads a field of the type `Value` from the members of an object that was read. Without a member
-/// it is absent; with `null` it is there, and is that. It is written as any other field of a
-/// message type, by `write_field::<Embedded<ValueJson>>`.
-pub fn read_value_field(
+/// Reads a field or a member of a oneof from the members of an object that was read, where `null`
+/// is a value of it, as of the types `Value` and `NullValue`. Without a member it is absent.
+pub fn read_nullable<V: JsonValue>(
     alloc: Global,
     text: &[u8],
     members: &[PlacedMember<'_>],
     levels: u32,
     field: &FieldName,
-) -> Result<Option<Box<Value>>, ReadError>
+) -> Result<Option<V::Held>, ReadError>
     ensures ok { IfOk result (λ held. (ms : Members) → ArePlaced text.now members.now ms
-        → ValueFieldMeans (IsNameOf field.now.name.now field.now.json_name.now) ms
-        (value_held held)) }
+        → NullableMeans V.means (IsNameOf field.now.name.now field.now.json_name.now) ms
+        (option_map V.view held)) }
     ensures err { IfErr result (λ e. e ≢ OutOfMemory → (ms : Members)
         → ArePlaced text.now members.now ms → members_depth ms ≤ levels
-        → (value : Option Plain) → ValueFieldMeans
+        → (value : Option V.Value) → NullableMeans V.means
         (IsNameOf field.now.name.now field.now.json_name.now) ms value → ⊥) }
 {
     match find(members, field.name, field.json_name) {
         Ok(None) => Ok(None),
-        Ok(Some(place)) => match read_value(alloc, text, place, levels) {
-            Ok((value, _after)) => match Box::new(alloc, value) {
-                Ok(held) => Ok(Some(held)),
-                Err(_full) => Err(ReadError::OutOfMemory),
-            },
+        Ok(Some(place)) => match V::read_json(alloc, text, place, levels) {
+            Ok((value, _after)) => Ok(Some(value)),
             Err(error) => Err(error),
         },
         Err(error) => Err(error),

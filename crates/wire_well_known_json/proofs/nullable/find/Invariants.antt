@@ -2,7 +2,7 @@ use Rattle.std.proofs.Common.{ℕ, List, drop}
 use Rattle.wire_json.specs.Json.{Members}
 use Rattle.wire_jsonfields.specs.Objects.{ArePlaced, IsNameOf}
 use Rattle.wire_jsonfields.proofs.Finding.{Sofar}
-use Rattle.wire_well_known_json.proofs.value_field.find.Given as goal
+use Rattle.wire_well_known_json.proofs.nullable.find.Given as goal
 
 abbrev pub invariant-loop-member : goal.invariant-loop-member
 invariant-loop-member l =
