@@ -1,5 +1,9 @@
 pub mod Bounce
 pub mod BounceStays
+pub mod Survey
+pub mod SurveyLast
+pub mod SurveyLastStays
+pub mod SurveyStays
 pub mod Visit
 pub mod VisitEnded
 pub mod VisitEndedStays

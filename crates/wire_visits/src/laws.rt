@@ -3,10 +3,27 @@
 ghost use Rattle.wire_fields.specs.Returned.{ReadsBack};
 ghost use Rattle.wire_fields.specs.Stays.{DecodesInRange};
 ghost use Rattle.wire_visits.specs.Bounce.{bounce-range, bounce-shape};
+ghost use Rattle.wire_visits.specs.Survey.{survey-range, survey-shape};
 ghost use Rattle.wire_visits.specs.Visit.{visit-range, visit-shape};
 
 use wire_codec::laws::text_decodes;
 use wire_fields::laws::grounds;
+
+/// What is written of each `Survey` in range decodes to it, where the limits suffice.
+pub fn survey_reads_back()
+    ensures { ReadsBack survey-shape survey-range }
+{
+    grounds();
+    text_decodes::<crate::Survey>();
+}
+
+/// What bytes decode to as `Survey` is in range, where each message and group
+/// within it takes at most 2,147,483,647 bytes and any other payload less than 2^64.
+pub fn survey_decodes_in_range()
+    ensures { DecodesInRange survey-shape survey-range }
+{
+    grounds();
+}
 
 /// What is written of each `Bounce` in range decodes to it, where the limits suffice.
 pub fn bounce_reads_back()

@@ -3,9 +3,13 @@
 
 mod bounce;
 pub mod laws;
+mod survey;
+mod survey_last;
 mod visit;
 mod visit_ended;
 
 pub use bounce::Bounce;
+pub use survey::Survey;
+pub use survey_last::SurveyLast;
 pub use visit::Visit;
 pub use visit_ended::VisitEnded;

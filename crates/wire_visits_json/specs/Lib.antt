@@ -1,3 +1,5 @@
 pub mod BounceJson
+pub mod SurveyJson
+pub mod SurveyLastJson
 pub mod VisitEndedJson
 pub mod VisitJson

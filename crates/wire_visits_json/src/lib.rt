@@ -3,8 +3,11 @@
 #![tactic(auto)]
 
 mod bounce_json;
+mod survey_json;
+mod survey_last_json;
 mod visit_ended_json;
 mod visit_json;
 
 pub use bounce_json::BounceJson;
+pub use survey_json::SurveyJson;
 pub use visit_json::VisitJson;
