@@ -6,8 +6,8 @@ use wire_jsonfields::{JsonValue, from_json, to_json};
 use wire_protojson::{ReadError, WriteError};
 use wire_report::{Report, ReportSample};
 use wire_report_json::{ReportJson, ReportSampleJson};
-use wire_visits::Visit;
-use wire_visits_json::VisitJson;
+use wire_visits::{Survey, Visit};
+use wire_visits_json::{SurveyJson, VisitJson};
 use wire_well_known::{
     BoolValue, BytesValue, DoubleValue, Duration, Empty, FieldMask, FloatValue, Int32Value,
     Int64Value, ListValue, StringValue, Struct, Timestamp, UInt32Value, UInt64Value, Value,
@@ -74,6 +74,7 @@ fn write_one(alloc: Global, name: &str, of: &str) -> Result<String, MirrorError>
         "ReportSample" => written::<ReportSampleJson, ReportSample>(alloc, of),
         "StringValue" => written::<StringValueJson, StringValue>(alloc, of),
         "Struct" => written::<StructJson, Struct>(alloc, of),
+        "Survey" => written::<SurveyJson, Survey>(alloc, of),
         "Timestamp" => written::<TimestampJson, Timestamp>(alloc, of),
         "UInt32Value" => written::<UInt32ValueJson, UInt32Value>(alloc, of),
         "UInt64Value" => written::<UInt64ValueJson, UInt64Value>(alloc, of),
@@ -99,6 +100,7 @@ fn read_one(alloc: Global, name: &str, of: &str) -> Result<String, MirrorError> 
         "ReportSample" => read::<ReportSampleJson, ReportSample>(alloc, of),
         "StringValue" => read::<StringValueJson, StringValue>(alloc, of),
         "Struct" => read::<StructJson, Struct>(alloc, of),
+        "Survey" => read::<SurveyJson, Survey>(alloc, of),
         "Timestamp" => read::<TimestampJson, Timestamp>(alloc, of),
         "UInt32Value" => read::<UInt32ValueJson, UInt32Value>(alloc, of),
         "UInt64Value" => read::<UInt64ValueJson, UInt64Value>(alloc, of),
