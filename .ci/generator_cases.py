@@ -126,8 +126,7 @@ CHOICES = [
      "google.protobuf.Int32Value z = 3; }",
      ",import=report=wire_report,json=true",
      ["- `M`: `x` is of a type that is called as one of the library, or its JSON as another type\n",
-      "- `N`: `x` is of a well-known type that has no JSON\n",
-      "- `V`: `x` is of a well-known type that has no JSON\n",
+      "read_field::<NullValueJson>(", "read_nullable::<Boxed<ValueJson>>(",
       "read_field::<Embedded<StructJson>>(", "read_field::<Repeated<ListValueJson>>(",
       "- `BoolValueJson`: `x` is of a type that is called as one of the library, or its JSON as "
       "another type\n",

@@ -8,7 +8,8 @@ use wire_schema::{Template, Words};
 // is held, `json_held`; the value of an absent one, `json_absent`; what trees mean, `json_means`,
 // and which are written, `json_tree`; that a tree means one value, `json_one`; which values are
 // read back, `json_range`, and why, `json_back`; its `json_kind` in code; and lines of names that
-// are brought in, by definitions, by what sees a value, and by code.
+// are brought in, by definitions, by what sees a value, and by code. Where `null` is a value of the
+// type, those of `json_range` and `json_back` are lines of their own, `json_back_uses`.
 const SIGNED: [Template; 12] = [
     ("json_value", "ℤ"),
     ("json_held", "ℤ"),
@@ -251,7 +252,8 @@ pub(crate) const MESSAGE: [Template; 15] = [
     ("json_held_code", "$of_crate$ $of_name$\n"),
 ];
 
-const NOTHING: [Template; 7] = [
+const NOTHING: [Template; 8] = [
+    ("json_back_uses", ""),
     ("json_held_code", ""),
     ("json_before", ""),
     ("json_behind", ""),

@@ -1,7 +1,9 @@
 //! The members of oneofs, as choices of these.
 use crate::items::set_item;
-use crate::kinds::set_element;
-use crate::parts::{FIELD_NAME, PartTexts, READ_ARGUMENTS, put_part, set_call, set_names};
+use crate::kinds::{is_nullable, set_element};
+use crate::parts::{
+    FIELD_NAME, PartTexts, READ_ARGUMENTS, READ_NULLABLE, put_part, set_call, set_names,
+};
 use crate::tables::{EITHER, Part, put_table};
 use wire_descriptor::{DescriptorProto, FieldDescriptorProto};
 use wire_schema::{GenerateError, Oneof, Template, Words};
@@ -22,7 +24,7 @@ $part$-names = $names$ ∷ []
 
 abbrev pub $part$-says : Members → Option $part$-Value → Type 0
 $part$-says =
-    FieldMeans None (MeansSome $json_means$)
+    $member_saying$
     $named$
 
 abbrev pub $part$-trees : $part$-Value → Members → Type 0
@@ -38,19 +40,18 @@ $part$-seen o = option_map $part$-view ($part$-of o)
 
 pub $part$-unsaid : $part$-says no_member None
 $part$-unsaid =
-    unsaid None (MeansSome $json_means$)
+    $member_unsaid$
     $named$
 
 pub $part$-one : SayOne $part$-says
 $part$-one =
-    one_field None (MeansSome $json_means$)
-    (one_some $json_means$ $json_one$)
+    $member_one_said$
     $named$
 
 pub $part$-back
     : ChoiceComesBack $part$-names $part$-says $part$-trees $part$-range
 $part$-back =
-    variant_back $json_means$
+    $variant_back$ $json_means$
     $json_tree$
     $two_names$
     $json_range$ $json_back$
@@ -67,18 +68,57 @@ Rattle.std.specs.Prelude option_map
 Rattle.std.specs.Prelude ◌∷◌
 Rattle.wire_json.specs.Json Members
 Rattle.wire_json.specs.Json no_member
-Rattle.wire_jsonfields.specs.Fields FieldMeans
-Rattle.wire_jsonfields.specs.Fields MeansSome
-Rattle.wire_jsonfields.specs.Fields unsaid
 Rattle.wire_jsonfields.specs.Names Names
 Rattle.wire_jsonfields.specs.Objects IsNameOf
 Rattle.wire_jsonfields.specs.Oneofs IsMemberTree
 Rattle.wire_jsonfields.specs.OneValues SayOne
-Rattle.wire_jsonfields.specs.OneValues one_field
-Rattle.wire_jsonfields.specs.OneValues one_some
 Rattle.wire_jsonfields.specs.Parts ChoiceComesBack
-Rattle.wire_jsonfields.specs.Parts variant_back
-$json_uses$$json_seen_uses$$json_held_uses$";
+$member_uses$$json_uses$$json_back_uses$$json_seen_uses$$json_held_uses$";
+
+// What is said of a member, and why it comes back; and how it is read.
+const SAID: [Template; 7] = [
+    ("member_saying", "FieldMeans None (MeansSome $json_means$)"),
+    ("member_unsaid", "unsaid None (MeansSome $json_means$)"),
+    (
+        "member_one_said",
+        "one_field None (MeansSome $json_means$)\n    (one_some $json_means$ $json_one$)",
+    ),
+    ("variant_back", "variant_back"),
+    (
+        "member_uses",
+        "Rattle.wire_jsonfields.specs.Fields FieldMeans\n\
+        Rattle.wire_jsonfields.specs.Fields MeansSome\n\
+        Rattle.wire_jsonfields.specs.Fields unsaid\n\
+        Rattle.wire_jsonfields.specs.OneValues one_field\n\
+        Rattle.wire_jsonfields.specs.OneValues one_some\n\
+        Rattle.wire_jsonfields.specs.Parts variant_back\n",
+    ),
+    ("call", "read_field::<Maybe<$element$>>"),
+    (
+        "read_use",
+        "wire_jsonfields Maybe\nwire_jsonfields read_field\n",
+    ),
+];
+
+// The same where `null` is a value of it.
+const NULLABLE_SAID: [Template; 7] = [
+    ("member_saying", "NullableMeans $json_means$"),
+    ("member_unsaid", "nullable_unsaid $json_means$"),
+    (
+        "member_one_said",
+        "one_nullable $json_means$\n    $json_one$",
+    ),
+    ("variant_back", "nullable_variant_back"),
+    (
+        "member_uses",
+        "Rattle.wire_well_known_json.specs.Nullable NullableMeans\n\
+        Rattle.wire_well_known_json.specs.Nullable nullable_unsaid\n\
+        Rattle.wire_well_known_json.specs.Nullable nullable_variant_back\n\
+        Rattle.wire_well_known_json.specs.Nullable one_nullable\n",
+    ),
+    ("call", "read_nullable::<$element$>"),
+    ("read_use", READ_NULLABLE),
+];
 
 const GHOSTS: &str = "\
 $json_page$ $part$-Value
@@ -167,14 +207,12 @@ const CHOICE_USES: &str = "\
 std::alloc Global
 wire_jsonfields FieldName
 wire_jsonfields JsonChoice
-wire_jsonfields Maybe
 wire_jsonfields PlacedMember
-wire_jsonfields read_field
 wire_jsonfields write_chosen
 wire_protojson ReadError
 wire_protojson WriteError
 $crate$ $name$
-$json_code$$json_held_code$";
+$read_use$$json_code$$json_held_code$";
 
 const MEMBER_CALLS: [Template; 5] = [
     (
@@ -249,7 +287,11 @@ pub(crate) fn put_member(
         }
     }
     words.fill_all(&MEMBER_CALLS);
-    words.fill("call", "read_field::<Maybe<$element$>>");
+    words.fill_all(if is_nullable(&words) {
+        &NULLABLE_SAID
+    } else {
+        &SAID
+    });
     set_call("read", READ_ARGUMENTS, &mut words);
     words.fill("call", "write_chosen::<$element$>");
     set_call("write", WRITE_ARGUMENTS, &mut words);

@@ -14,7 +14,7 @@ $part$-names = $names$ ∷ []
 
 abbrev pub $part$-says : Members → $part$-Value → Type 0
 $part$-says =
-    FieldMeans $part_absent$ $part_means$
+    $part_saying$
     $named$
 
 abbrev pub $part$-trees : $part$-Value → Members → Type 0
@@ -33,38 +33,77 @@ $part$-seen m = $part_before$m.$field$$part_behind$
 
 pub $part$-unsaid : $part$-says no_member $part$-absent
 $part$-unsaid =
-    unsaid $part_absent$ $part_means$
+    $part_unsaid$
     $named$
 
 pub $part$-one : SayOne $part$-says
 $part$-one =
-    one_field $part_absent$ $part_means$
-    $part_one$
+    $part_one_said$
     $named$
 
 pub $part$-back
     : PartComesBack $part$-names $part$-says $part$-trees $part$-range
 $part$-back =
-    field_back $part_means$
-    $part_tree$
-    $two_names$
-    $part_range$
-    $part_back$
-    $part_absent$
+    $part_comes_back$
 ";
 
 const USES: &str = "\
 Rattle.std.specs.Prelude []
 Rattle.std.specs.Prelude codes
 Rattle.std.specs.Prelude ◌∷◌
-Rattle.wire_jsonfields.specs.Fields FieldMeans
-Rattle.wire_jsonfields.specs.Fields unsaid
 Rattle.wire_jsonfields.specs.Messages IsFieldTree
 Rattle.wire_jsonfields.specs.Objects IsNameOf
-Rattle.wire_jsonfields.specs.OneValues one_field
 Rattle.wire_jsonfields.specs.Parts IsInRangeUnless
-Rattle.wire_jsonfields.specs.Parts field_back
-$part_uses$$part_seen_uses$";
+$part_said_uses$$part_uses$$part_seen_uses$";
+
+// What is said of a field, and why it comes back; and how it is read.
+const SAID: [Template; 7] = [
+    ("part_saying", "FieldMeans $part_absent$ $part_means$"),
+    ("part_unsaid", "unsaid $part_absent$ $part_means$"),
+    (
+        "part_one_said",
+        "one_field $part_absent$ $part_means$\n    $part_one$",
+    ),
+    (
+        "part_comes_back",
+        "field_back $part_means$\n    $part_tree$\n    $two_names$\n    $part_range$\n    \
+        $part_back$\n    $part_absent$",
+    ),
+    (
+        "part_said_uses",
+        "Rattle.wire_jsonfields.specs.Fields FieldMeans\n\
+        Rattle.wire_jsonfields.specs.Fields unsaid\n\
+        Rattle.wire_jsonfields.specs.OneValues one_field\n\
+        Rattle.wire_jsonfields.specs.Parts field_back\n",
+    ),
+    ("call", "read_field::<$part_kind$>"),
+    ("read_use", "wire_jsonfields read_field\n"),
+];
+
+// The same where `null` is a value of it.
+const NULLABLE_SAID: [Template; 7] = [
+    ("part_saying", "NullableMeans $json_means$"),
+    ("part_unsaid", "nullable_unsaid $json_means$"),
+    ("part_one_said", "one_nullable $json_means$\n    $json_one$"),
+    (
+        "part_comes_back",
+        "nullable_back $json_means$\n    $json_tree$\n    $two_names$\n    $json_range$\n    \
+        $json_back$",
+    ),
+    ("part_said_uses", NULLABLE_USES),
+    ("call", "read_nullable::<$nullable_kind$>"),
+    ("read_use", READ_NULLABLE),
+];
+
+const NULLABLE_USES: &str = "\
+Rattle.wire_well_known_json.specs.Nullable NullableMeans
+Rattle.wire_well_known_json.specs.Nullable nullable_back
+Rattle.wire_well_known_json.specs.Nullable nullable_unsaid
+Rattle.wire_well_known_json.specs.Nullable one_nullable
+";
+
+/// What reads a field of which `null` is a value.
+pub(crate) const READ_NULLABLE: &str = "wire_well_known_json read_nullable\n";
 
 /// The names of a field, as definitions have them: `names` is both, in a pair, `two_names` the same
 /// as arguments, and `named` the rule that a member has one of them.
@@ -159,9 +198,8 @@ const CODE_USES: &str = "\
 wire_jsonfields FieldName
 wire_jsonfields JsonPart
 wire_jsonfields PlacedMember
-wire_jsonfields read_field
 wire_jsonfields write_field
-$json_code$$json_held_code$";
+$read_use$$json_code$$json_held_code$";
 
 /// The templates of a part: the names before its code, the code, and its definitions, with what
 /// each brings in.
@@ -219,9 +257,13 @@ pub(crate) fn put_field(
     let mut words = Words::like(&field.words);
     words.copy(page, &["json_page", "crate", "name"]);
     set_names(descriptor, &mut words)?;
-    set_part(schema, descriptor, &mut words);
+    let is_null_a_value = set_part(schema, descriptor, &mut words);
     words.fill_all(&CALLS);
-    words.fill("call", "read_field::<$part_kind$>");
+    words.fill_all(if is_null_a_value {
+        &NULLABLE_SAID
+    } else {
+        &SAID
+    });
     set_call("read", READ_ARGUMENTS, &mut words);
     words.fill("call", "write_field::<$part_kind$>");
     set_call("write", WRITE_ARGUMENTS, &mut words);

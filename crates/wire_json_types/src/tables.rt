@@ -56,7 +56,7 @@ const BOTH_CODE: &str = "pub type $all_type$ = Both<$one_type$, $others_type$>;\
 const HELD_CODE: &str = "\
 pub type $all_type$ = Both<$one_type$, $others_type$>;
 
-pub type Held$all_type$ = ($one_held$, $others_held$);
+pub type Held$all_type$ = $held_pair$;
 
 ";
 
@@ -171,11 +171,29 @@ pub(crate) fn put_table(join: Join, parts: &[Part], words: &mut Words) {
             words.append("tables", join.definitions);
             words.append("uses", join.uses);
             words.append("code_uses", join.code_uses);
+            set_pair(words);
             words.fill("alias", join.code);
             words.fill_all(&JOINED);
         }
         place = place.saturating_sub(1);
     }
+}
+
+// The widest pair of types that stands in a line.
+const PAIR_WIDTH: usize = 60;
+
+// The pair of what two parts read, as the formatter lays it out.
+fn set_pair(words: &mut Words) {
+    words.fill("held_pair", "$one_held$, $others_held$");
+    let is_short = words.get("held_pair").chars().count() <= PAIR_WIDTH;
+    words.fill(
+        "held_pair",
+        if is_short {
+            "($one_held$, $others_held$)"
+        } else {
+            "(\n    $one_held$,\n    $others_held$,\n)"
+        },
+    );
 }
 
 const NOTHING: [Template; 3] = [("aliases", ""), ("tables", ""), ("joined", "")];

@@ -133,6 +133,81 @@ const LIST_VALUE: [Template; 11] = [
     ),
 ];
 
+// A value, of which `null` is one.
+const VALUE: [Template; 12] = [
+    ("json_value", "Plain"),
+    ("json_kind", "$of_name$Json"),
+    ("json_before", "value-plain "),
+    ("json_view", "value-plain"),
+    ("json_means", "MeansValue"),
+    ("json_tree", "IsValueTree"),
+    ("json_one", "one_plain"),
+    ("json_range", "IsAnyValue"),
+    ("json_back", "nullable_value_back"),
+    (
+        "json_uses",
+        "Rattle.wire_well_known_json.specs.OnePlain one_plain\n\
+        Rattle.wire_well_known_json.specs.Structs IsValueTree\n\
+        Rattle.wire_well_known_json.specs.Structs MeansValue\n\
+        Rattle.wire_well_known_json.specs.Structs Plain\n",
+    ),
+    (
+        "json_back_uses",
+        "Rattle.wire_well_known_json.specs.StructKinds IsAnyValue\n\
+        Rattle.wire_well_known_json.specs.StructKinds nullable_value_back\n",
+    ),
+    (
+        "json_seen_uses",
+        "Rattle.wire_well_known_json.specs.Structs value-plain\n",
+    ),
+];
+
+// The enum that is `null`.
+const NULL: [Template; 15] = [
+    ("json_value", "ℤ"),
+    ("json_held", "EnumValue $of_name$"),
+    ("json_kind", "$of_name$Json"),
+    ("json_before", "number_of $of_module$-number "),
+    ("json_view", "(number_of $of_module$-number)"),
+    ("json_absent", "(pos 0)"),
+    ("json_means", "MeansNull"),
+    ("json_tree", "IsNullTree"),
+    ("json_one", "one_null"),
+    ("json_range", "IsNullNumber"),
+    ("json_back", "null_back"),
+    (
+        "json_uses",
+        "Rattle.std.specs.Prelude ℤ\n\
+        Rattle.wire_well_known_json.specs.NullValues IsNullTree\n\
+        Rattle.wire_well_known_json.specs.NullValues MeansNull\n\
+        Rattle.wire_well_known_json.specs.NullValues one_null\n",
+    ),
+    (
+        "json_back_uses",
+        "Rattle.wire_well_known_json.specs.NullValues IsNullNumber\n\
+        Rattle.wire_well_known_json.specs.NullValues null_back\n",
+    ),
+    (
+        "json_seen_uses",
+        "Rattle.wire_codec.specs.Enumeration number_of\n\
+        $of_specs$.$of_name$ $of_module$-number\n",
+    ),
+    ("json_absent_uses", "Rattle.std.specs.Prelude pos\n"),
+];
+
+const HELD_NULL: [Template; 3] = [
+    (
+        "json_held_uses",
+        "Rattle.wire_codec.specs.EnumValue EnumValue\n\
+        $of_specs$.declared.$of_module$.$of_name$ $of_name$\n",
+    ),
+    ("json_code", "$json_home$ $of_name$Json\n"),
+    (
+        "json_held_code",
+        "wire_codec EnumValue\n$of_crate$ $of_name$\n",
+    ),
+];
+
 const HELD: [Template; 4] = [
     ("json_held", "$of_name$"),
     (
@@ -154,7 +229,10 @@ pub(crate) fn has_rule(full: &str) -> bool {
 /// Whether a field of these words is of a well-known type of which there is JSON.
 pub(crate) fn is_well_known(words: &Words) -> bool {
     let name = words.get("of_name");
-    let is_structured = matches!(name, "Empty" | "ListValue" | "Struct");
+    let is_structured = matches!(
+        name,
+        "Empty" | "ListValue" | "NullValue" | "Struct" | "Value"
+    );
     let is_text = matches!(name, "Duration" | "FieldMask" | "Timestamp");
     let is_there = is_structured || is_text || held_by(name).is_some();
     is_there && words.get("of_crate") == CRATE && words.get("crate") != CRATE
@@ -179,7 +257,12 @@ pub(crate) fn set_well_known(words: &mut Words) {
             "Empty" => words.fill_all(&MESSAGE),
             "FieldMask" => words.fill_all(&MASK),
             "ListValue" => words.fill_all(&LIST_VALUE),
+            "NullValue" => {
+                words.fill_all(&NULL);
+                return words.fill_all(&HELD_NULL);
+            }
             "Struct" => words.fill_all(&STRUCT),
+            "Value" => words.fill_all(&VALUE),
             _ => words.fill_all(&TIME),
         }
     }
