@@ -52,7 +52,8 @@ pub use laws_pages::{
 };
 pub use leaf::set_leaf;
 pub use members::{
-    MEMBER_MERGE, MEMBER_PUSH, MEMBER_PUSH_HEAD, MEMBER_ROW, MEMBER_ROW_HEAD, member_definitions,
+    MEMBER_MERGE, MEMBER_MERGE_OF_MANY, MEMBER_PUSH, MEMBER_PUSH_HEAD, MEMBER_ROW, MEMBER_ROW_HEAD,
+    member_definitions,
 };
 pub use mentioned::use_mentioned_of;
 pub use nests_stay::{family_stays, member_stays, nest_stays, put_leaf_stays};
@@ -64,7 +65,7 @@ pub use required_oneof::{put_choice_requirement, put_requirement, use_variants};
 pub use required_rows::{put_required_rows, use_asked_rows};
 pub use rows::{is_row, leaf_tree, place_of};
 pub use runs::{put_field_in_run, put_part_head, put_run};
-pub use spans::has_groups;
+pub use spans::{has_groups, leaf_has_groups};
 pub use stays::{put_accounted_range, stays_of};
 pub use tree::{Node, Tree, tree_of};
 pub use view_definitions::has_view;

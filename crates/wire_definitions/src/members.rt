@@ -162,7 +162,7 @@ returns-in-$row$-clause-messages c =
 ";
 
 pub const MEMBER_PUSH_HEAD: &str = "\
-use Rattle.std.proofs.Common.{◌∙◌}
+use Rattle.std.proofs.Common.{$common$}
 use Rattle.std.proofs.lemmas.Result.{on_ok_weaker}
 use Rattle.wire_fields.specs.Nest.{listed_row, row_pushed}
 use Rattle.$crate$.specs.$family_name$ as family
@@ -174,17 +174,16 @@ use Rattle.$crate$.proofs.$module$.$name$RecursiveMemberFamilyHeld.push.Goals as
 ";
 
 pub const MEMBER_PUSH: &str = "
-pub returns-in-$row$-$of_name$-clause-ok : goal.returns-in-$row$-$of_name$-clause-ok
-returns-in-$row$-$of_name$-clause-ok c =
+pub returns-in-$arm_name$-clause-ok : goal.returns-in-$arm_name$-clause-ok
+returns-in-$arm_name$-clause-ok c =
     λ here many kind. on_ok_weaker $call$.result (λ pushed. rw (
-      c.in-$row$-$of_name$.is-0,
-      c.in-$row$-$of_name$.is-1,
+      $arm_is$,
       fold_out-$name$$their_trees$$their_ones$ c.args.self.now,
     ) (fold-roll-$name$$their_trees$$their_ones$ _
     ∙ row_pushed family.$of_module$-value $row$
     (family.$module$-one (map-$name$$types$$their_trees$$their_values$
     (out-$name$ c.args.self.now)))
-    _ _ c.in-$row$-$of_name$.message (listed_row _) pushed)) $call$.ensures.ok
+    _ _ c.in-$arm_name$.message (listed_row _) pushed)) $call$.ensures.ok
 ";
 
 pub const MEMBER_MERGE: &str = "\
@@ -194,4 +193,11 @@ use Rattle.$crate$.proofs.$module$.$name$MessageFields.merge_field.Goals as goal
 pub returns-in-$name$-clause-err : goal.returns-in-$name$-clause-err
 returns-in-$name$-clause-err g c =
     rw (sym c.replace.ensures.value) c.merge_held-merged.ensures.err
+";
+
+/// The same of one of many fields: what a record makes of it too.
+pub const MEMBER_MERGE_OF_MANY: &str = "
+pub returns-in-$name$-clause-ok : goal.returns-in-$name$-clause-ok
+returns-in-$name$-clause-ok g c =
+    rw (sym c.replace.ensures.value) (rw c.in-$name$.is at c.merge_held-merged.ensures.ok)
 ";

@@ -10,6 +10,9 @@ const MOST: usize = 8;
 
 const MOST_WITH_MAPS: usize = 4;
 
+// The widest line of code.
+const WIDTH: usize = 100;
+
 const RUN_FIELD: &str = "                let field_$number$: Known<$kind$> = Known {
                     number: $number$,
                     held: &self.$field$,
@@ -160,6 +163,7 @@ pub fn put_field_in_run(page: &mut Words, field: &Words) {
 fn put_part(page: &mut Words) {
     page.fill("part_records", "$module$-records-$low$-to-$high$");
     put_part_ghosts(page);
+    narrow_run(page, "        ");
     page.append("parts", PART);
 }
 
@@ -190,6 +194,7 @@ fn put_part_ghosts(page: &mut Words) {
 pub(crate) fn begin_part(page: &mut Words) {
     if page.get("is_within").is_empty() {
         page.fill_all(&[("outer_run", "$run$"), ("outer_lets", "$run_lets$")]);
+        page.fill_all(&[("outer_items", "$run_items$"), ("run_items", "")]);
         page.fill_all(&[("run", ""), ("run_lets", ""), ("is_within", "is_within")]);
     }
 }
@@ -197,12 +202,13 @@ pub(crate) fn begin_part(page: &mut Words) {
 /// Takes it up again, where the part ends.
 pub(crate) fn end_part(page: &mut Words) {
     page.fill_all(&[("run", "$outer_run$"), ("run_lets", "$outer_lets$")]);
-    page.fill("is_within", "");
+    page.fill_all(&[("run_items", "$outer_items$"), ("is_within", "")]);
 }
 
 // Puts a part behind those of the run so far.
 fn put_in_run(page: &mut Words, part: &str) {
     page.fill("part", part);
+    page.append("run_items", "$part$\n");
     let is_first = page.get("run").is_empty();
     page.fill(
         "run",
@@ -212,6 +218,26 @@ fn put_in_run(page: &mut Words, part: &str) {
             "($run$, $part$)"
         },
     );
+}
+
+// A run that has no room in a line is put together part by part.
+fn narrow_run(page: &mut Words, margin: &str) {
+    page.set("margin", margin);
+    page.fill("line", "$margin$$run$.put(cache, sink)");
+    let items = page.take("run_items");
+    if page.get("line").len() <= WIDTH {
+        return;
+    }
+    page.set("run", "");
+    for item in items.lines() {
+        page.set("part", item);
+        if page.get("run").is_empty() {
+            page.fill("run", "$part$");
+        } else {
+            page.append("run_lets", "$margin$let fields = ($run$, $part$);\n");
+            page.set("run", "fields");
+        }
+    }
 }
 
 /// Puts the arms of a run that ends.
@@ -231,6 +257,7 @@ pub fn put_run(page: &mut Words, is_last: bool) {
         page.append("puts", "            $run_at$ => Ok(()),\n");
         return;
     }
+    narrow_run(page, "                ");
     page.append(
         "lens",
         "            $run_at$ => {\n$run_lets$                $run$.len(cache)\n            }\n",

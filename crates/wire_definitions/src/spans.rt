@@ -72,6 +72,11 @@ pub fn has_groups(count: usize) -> bool {
     count > MOST_FLAT
 }
 
+/// Whether so many fields of a leaf stand in groups.
+pub fn leaf_has_groups(count: usize) -> bool {
+    count > MOST_OF_LEAF
+}
+
 /// Whether a part of these fields is no group of such.
 pub(crate) fn is_few(first: usize, behind: usize) -> bool {
     behind.saturating_sub(first) <= PART
@@ -88,7 +93,7 @@ pub(crate) fn groups_of_leaf(alloc: Global, count: usize) -> Result<Vec<Span>, G
     let mut groups = Vec::new(alloc);
     let mut first: usize = 0;
     for _ in 0..count {
-        if count <= MOST_OF_LEAF || count <= first {
+        if !leaf_has_groups(count) || count <= first {
             break;
         }
         let behind = first.saturating_add(GROUP_OF_LEAF).min(count);

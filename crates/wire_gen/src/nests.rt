@@ -1,17 +1,19 @@
 //! The files of message types that hold themselves or one another.
 use crate::package::Package;
 use wire_definitions::{
-    MEMBER_MERGE, Tree, closed_choice_answers, family_definitions, family_stays, has_laws,
-    has_view, is_row, leaf_tree, member_definitions, member_stays, nest_stays, oneof_definitions,
-    oneof_stays, put_all_variants, put_leaf_stays, recursive_definitions, set_leaf, table_page,
+    MEMBER_MERGE, MEMBER_MERGE_OF_MANY, Tree, closed_choice_answers, family_definitions,
+    family_stays, has_laws, has_view, is_row, leaf_has_groups, leaf_tree, member_definitions,
+    member_stays, nest_stays, oneof_definitions, oneof_stays, put_all_variants, put_leaf_stays,
+    recursive_definitions, set_leaf, table_page,
 };
 use wire_schema::{Field, GenerateError, MessageType, Oneof, Schema, Template, Words, fields_of};
 use wire_types::answers::{answers_of, leaf_group_answers_of};
 use wire_types::choice_code::{CHOICE, choice_code};
 use wire_types::family::{set_alone, set_family};
 use wire_types::family_code::family_code;
+use wire_types::leaf_empty_answers::{CLEAR, EMPTY, leaf_empty_answers};
 use wire_types::recursive::recursive_code;
-use wire_types::row_answers::{held_answers, row_answers};
+use wire_types::row_answers::{MERGE_LEAF, TAKE, held_answers, part_answers, row_answers};
 use wire_types::view_choice::choice_view_code;
 
 // Where the proofs of a message type that holds itself are, and of one of a family.
@@ -35,6 +37,8 @@ impl Package {
     ) -> Result<(), GenerateError> {
         let mut page = self.page(&message.words);
         page.copy(&message.words, &CHOICE);
+        let is_derived = has_derived_clone(schema, message);
+        page.set("by_hand", if is_derived { "" } else { "by_hand" });
         if !page.get("requiring").is_empty() {
             self.need_required();
         }
@@ -63,11 +67,15 @@ impl Package {
             self.add_stays(&mut page, proof)?;
         }
         self.add_choices(&page, &fields, message)?;
-        self.add_rows(&mut page, &fields)?;
+        self.add_rows(&mut page, &fields, tree.has_groups)?;
+        if tree.has_groups {
+            self.add_empty(&mut page, &fields)?;
+            self.add_parts(&mut page, &fields)?;
+        }
         self.add_recursive_view(&page, schema, &fields)?;
         self.add_leaf(&mut page, fields, &tree)?;
         if is_member {
-            self.add_member(&mut page)?;
+            self.add_member(&mut page, tree.has_groups)?;
         }
         Ok(())
     }
@@ -188,18 +196,58 @@ impl Package {
     }
 
     // Those of its rows, where a row has many messages.
-    fn add_rows(&mut self, page: &mut Words, fields: &[Field]) -> Result<(), GenerateError> {
-        let [of_row, of_push] = row_answers(page, fields)?;
-        if of_row.is_empty() {
-            return Ok(());
+    fn add_rows(
+        &mut self,
+        page: &mut Words,
+        fields: &[Field],
+        are_many: bool,
+    ) -> Result<(), GenerateError> {
+        let [of_row, of_push, of_put] = row_answers(page, fields, are_many)?;
+        for (path, answers) in [
+            ("$row_folder$/row/Answers.antt", of_row),
+            ("$folder$/push/Answers.antt", of_push),
+            ("$folder$/put/Answers.antt", of_put),
+        ] {
+            if !answers.is_empty() {
+                self.add(page, path, answers)?;
+            }
         }
-        self.add(page, "$row_folder$/row/Answers.antt", of_row)?;
-        self.add(page, "$folder$/push/Answers.antt", of_push)
+        Ok(())
+    }
+
+    // Those of the parts of its runs: of one with a closed enum that stands once the search finds
+    // that it is written as it is seen, and more than that is to be shown.
+    fn add_parts(&mut self, page: &mut Words, fields: &[Field]) -> Result<(), GenerateError> {
+        let mut is_closing = false;
+        for field in fields
+            .iter()
+            .filter(|it| !it.words.get("in_part").is_empty())
+        {
+            is_closing |= is_closed_once(field);
+            if field.words.get("high").is_empty() || std::mem::replace(&mut is_closing, false) {
+                continue;
+            }
+            let answers = part_answers(page, field)?;
+            page.copy(&field.words, &["low", "high"]);
+            let path = "proofs/$module$/$name$Fields$low$To$high$Parts/put/Answers.antt";
+            self.add(page, path, answers)?;
+        }
+        Ok(())
+    }
+
+    // Those of what makes a message of no records, where its fields are many.
+    fn add_empty(&mut self, page: &mut Words, fields: &[Field]) -> Result<(), GenerateError> {
+        let answers = leaf_empty_answers(page, fields, &EMPTY)?;
+        self.add(page, "$folder$/empty/Answers.antt", answers)?;
+        let answers = leaf_empty_answers(page, fields, &CLEAR)?;
+        let path = "proofs/$module$/$name$MessageFields/clear/Answers.antt";
+        self.add(page, path, answers)
     }
 
     // Those of `merge_field` of one of a family.
-    fn add_member(&mut self, page: &mut Words) -> Result<(), GenerateError> {
+    fn add_member(&mut self, page: &mut Words, are_many: bool) -> Result<(), GenerateError> {
         page.fill("answers", MEMBER_MERGE);
+        page.append("answers", if are_many { MEMBER_MERGE_OF_MANY } else { "" });
         let answers = page.finish("answers")?;
         let path = "proofs/$module$/$name$MessageFields/merge_field/Answers.antt";
         self.add(page, path, answers)
@@ -219,7 +267,9 @@ impl Package {
         let tables = self.tables_of(schema, first, &members)?;
         let code = family_code(&page, &members)?;
         let definitions = family_definitions(&page, &tables)?;
-        let answers = held_answers(&page, &members)?;
+        let answers = held_answers(&page, &members, &MERGE_LEAF)?;
+        let are_many = tables.iter().any(|it| !it.get("are_many").is_empty());
+        let of_take = held_answers(&page, &members, &TAKE)?;
         self.roots.copy(&page, &["family_name", "family_module"]);
         self.roots.append_all(&[
             ("modules", "mod $family_module$\n"),
@@ -234,6 +284,10 @@ impl Package {
         }
         let path = "proofs/$family_module$/FamilyHeldRecursiveHeld/merge_leaf/Answers.antt";
         self.add(&mut page, path, answers)?;
+        if are_many {
+            let path = "proofs/$family_module$/FamilyHeldRecursiveHeld/take/Answers.antt";
+            self.add(&mut page, path, of_take)?;
+        }
         self.add_family_view(&page, schema, first, &members)
     }
 
@@ -278,9 +332,29 @@ impl Package {
         set_family(&mut page, schema, first)?;
         let (fields, tree) = leaf_tree(&mut page, fields)?;
         let mut table = table_page(&page, &fields, &tree);
+        table.set("are_many", if tree.has_groups { "are_many" } else { "" });
         if has_laws(&self.base) {
             put_leaf_stays(&mut table, &fields, &tree);
         }
         Ok(table)
     }
+}
+
+// Whether neither a message that holds itself nor one that holds it has so many fields that those of
+// a leaf would stand in groups: the proof of a derived clone covers no many more.
+fn has_derived_clone(schema: &Schema, message: &MessageType) -> bool {
+    match message.family {
+        Some(_) => {
+            let messages = schema.messages.iter();
+            let mut members = messages.filter(|it| it.family == message.family);
+            members.all(|it| !leaf_has_groups(it.descriptor.field.len()))
+        }
+        None => !leaf_has_groups(message.descriptor.field.len()),
+    }
+}
+
+// Whether a field is a closed enum, and no list or map of one.
+fn is_closed_once(field: &Field) -> bool {
+    let is_closed = field.words.get("call") == "merge_closed";
+    is_closed && field.words.get("kind").starts_with("Optional")
 }

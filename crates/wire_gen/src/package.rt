@@ -28,8 +28,7 @@ const MOST_FIELDS: usize = 128;
 
 // Of such a message the fields stand in no groups.
 const MANY_OF_FLAT: &str = "\
-    $full$: more than 80 fields of a message that has a view, or that holds itself or another that \
-    holds it, or with unknown=drop or mismatch=keep";
+    $full$: more than 80 fields of a message that has a view, or with unknown=drop or mismatch=keep";
 
 // Features of a plug-in, as protoc asks for them.
 const OPTIONAL_OF_PROTO3: u64 = 1;
@@ -97,10 +96,9 @@ fn package_of(alloc: Global, request: &mut CodeGeneratorRequest) -> Result<Packa
 }
 
 // Refuses more fields than it was seen that they are proved.
-fn stop_on_many(page: &mut Words, count: usize, holds_itself: bool) -> Result<(), GenerateError> {
+fn stop_on_many(page: &mut Words, count: usize) -> Result<(), GenerateError> {
     let is_plain = page.get("unknown") == "keep" && page.get("mismatch") == "refuse";
-    let is_flat = holds_itself || has_view(page);
-    if has_groups(count) && (is_flat || !is_plain) {
+    if has_groups(count) && (has_view(page) || !is_plain) {
         return Err(page.refused(MANY_OF_FLAT));
     }
     if count > MOST_FIELDS {
@@ -195,9 +193,8 @@ impl Package {
     fn add_message(&mut self, schema: &Schema, message: &MessageType) -> Result<(), GenerateError> {
         let mut page = self.page(&message.words);
         let mut fields = fields_of(&self.base, schema, message)?;
-        let holds_itself = message.is_recursive || message.family.is_some();
-        stop_on_many(&mut page, fields.len(), holds_itself)?;
-        if holds_itself {
+        stop_on_many(&mut page, fields.len())?;
+        if message.is_recursive || message.family.is_some() {
             return self.add_recursive(schema, message, fields);
         }
         if !page.get("requiring").is_empty() {

@@ -1,5 +1,6 @@
 //! The proofs of a message type: why a record that a field refuses is refused by the message.
 use crate::choice_answers::put_choice;
+use crate::leaf_groups::tell_taken;
 use crate::rest_answers::{put_handed_on, put_rest};
 use crate::view_choice_answers::put_view_choice;
 use wire_definitions::{Node, Tree, definition_imports, use_mentioned_of};
@@ -315,6 +316,7 @@ fn put_field(page: &mut Words, field: &Field) {
     page.copy(&field.words, &["path", "firsts", "taken", "sort"]);
     let is_beside = page.get("sort") == "Leaving";
     page.fill("seen", if is_beside { BESIDE } else { INSIDE });
+    tell_taken(page, is_beside && field.oneof.is_none());
     let (name, template) = if field.oneof.is_none() {
         OF_KIND
     } else {
@@ -385,7 +387,8 @@ fn put_arm(page: &mut Words) {
     let kind = page.get("kind");
     let is_list = kind.starts_with("Unpacked") || kind.starts_with("Packed");
     let is_asked = page.get("before").is_empty() || !page.get("in_groups").is_empty();
-    if (is_list || is_asked) && page.get("sort") != "Leaving" {
+    let is_beside = page.get("sort") == "Leaving" && page.get("is_told").is_empty();
+    if (is_list || is_asked) && !is_beside {
         page.append("answers", TAKEN);
         page.append("uses", USES_OF_TAKEN);
     }

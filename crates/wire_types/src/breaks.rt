@@ -204,6 +204,15 @@ fn is_call(text: &str, group: Group) -> bool {
         && before.ends_with(|it: char| it.is_ascii_alphanumeric() || matches!(it, '_' | '!' | '>'))
 }
 
+// Whether the brackets are those of a function that is called by its name alone, and that is all of
+// a line or of an arm: its arguments stand in a line each.
+fn is_of_name(text: &str, group: Group) -> bool {
+    let before = part(text, 0, group.open);
+    let name = |it: char| it.is_ascii_alphanumeric() || it == '_';
+    let ahead = before.trim_end_matches(name);
+    ahead.is_empty() || ahead.ends_with("=> ")
+}
+
 // The last brackets with something between them whose head has room; of the head of a function the
 // first, and of `<A<B> as C>` those of `A`.
 fn last_group(line: &Line, start: usize) -> Option<Group> {
@@ -270,7 +279,7 @@ fn in_brackets(alloc: Global, line: &Line, group: Group) -> Result<Option<Vec<Li
     }
     lines.push(Line::new(alloc, line.margin, part(text, 0, within))?)?;
     let is_short = inner.len() <= CALL_WIDTH && is_call(text, group) && !is_head(text);
-    if is_short && parts.len() > 1 {
+    if is_short && parts.len() > 1 && !is_of_name(text, group) {
         let mut arguments = Line::new(alloc, line.margin.saturating_add(4), inner)?;
         arguments.text.push(',')?;
         lines.push(arguments)?;

@@ -1,5 +1,6 @@
 //! The code of a oneof of which some variants are rows.
 use crate::arms::put_arm;
+use crate::own_clone::{derived_clone, set_own_clone_of_choice};
 use wire_definitions::{
     code_imports, ghost_imports, put_choice_requirement, put_field_comment, put_others, set_heading,
 };
@@ -14,10 +15,11 @@ pub const CHOICE: [&str; 5] = [
     "choice_view_module",
 ];
 
-const DECLARED: [Template; 4] = [
+const DECLARED: [Template; 5] = [
     ("declared", "    pub $field$: Option<$choice$>,\n"),
     ("emptied", "            $field$: None,\n"),
-    ("cleared", "        self.$field$ = None;\n"),
+    ("cleared", "        $set_self$$field$ = None;\n"),
+    ("named", "            $field$,\n"),
     ("uses", "crate::$choice_module$ $choice$\n"),
 ];
 
@@ -55,7 +57,7 @@ $no_rows$                    None => $slice_open$&[]$moved_shut$,
 ",
     ),
     (
-        "onces",
+        "arm_of_row",
         "$arm$ => {
                 self.$field$ = Some($choice$::$choice_variant$(Box::new(alloc, message)?));
                 Ok(())
@@ -315,10 +317,10 @@ const ENUM: &str = "\
 $heading$$imports$
 /// One of these, where one is there.
 #[cycle($cycle$)]
-#[derive(Clone, Debug, Drop, PartialEq)]
+#[derive($derived$Debug, Drop, PartialEq)]
 pub enum $name$ {
 $declared$}
-";
+$own_clone$";
 
 /// The module of such a oneof, of a message of these fields, whose words the base has.
 pub fn choice_code(base: &Words, oneof: &Oneof, fields: &[Field]) -> Result<String, GenerateError> {
@@ -357,6 +359,8 @@ pub fn choice_code(base: &Words, oneof: &Oneof, fields: &[Field]) -> Result<Stri
         }
     }
     page.set("declared", &declared);
+    set_own_clone_of_choice(&mut page, oneof, fields);
+    page.set("derived", derived_clone(&page));
     code_imports(&mut page);
     page.fill(
         "imports",

@@ -4,6 +4,8 @@ use crate::copies::set_clone;
 use crate::defaults::{put_defaults, use_defaults};
 use crate::field_rows::put_rows;
 use crate::groups::set_groups;
+use crate::many_rows::{BY_ITSELF, take_apart};
+use crate::own_clone::derived_clone;
 use wire_definitions::{
     DOCUMENTED, Tree, code_imports, ghost_imports, put_comment, put_field_comment, put_required,
     set_heading, use_asked,
@@ -145,7 +147,7 @@ const OF_NONE: [Template; 4] = [
 ];
 
 // What becomes of the records that the schema lacks.
-const KEPT: [Template; 9] = [
+const KEPT: [Template; 10] = [
     ("uses", "wire_codec UnknownFields\n"),
     ("rest_uses", "wire_fields Rest\nwire_fields keep\n"),
     (
@@ -156,7 +158,8 @@ const KEPT: [Template; 9] = [
         "emptied",
         "            unknown: UnknownFields::new(alloc),\n",
     ),
-    ("cleared", "        self.unknown.clear();\n"),
+    ("cleared", "        $of_self$unknown.clear();\n"),
+    ("named", "            unknown,\n"),
     ("keep", "keep(alloc, tag, &mut self.unknown, buf, context)"),
     ("rest", "rest"),
     (
@@ -173,9 +176,10 @@ const DROPPED: [Template; 4] = [
     ("rest_row", "dropped"),
 ];
 
-const OF_FIELD: [Template; 2] = [
+const OF_FIELD: [Template; 3] = [
     ("uses", "$code$"),
     ("declared", "    pub $field$: $held$,\n"),
+    ("named", "            $field$,\n"),
 ];
 
 // Of a field of a leaf.
@@ -187,7 +191,7 @@ const OF_LEAF: [Template; 3] = [
     ),
     (
         "cleared",
-        "        <$kind$ as Kind>::clear(&mut self.$field$);\n",
+        "        <$kind$ as Kind>::clear($mut_self$$field$);\n",
     ),
 ];
 
@@ -201,6 +205,7 @@ pub fn code_of(
 ) -> Result<String, GenerateError> {
     let mut page = Words::like(base);
     page.set("uses", USES);
+    page.fill_all(&BY_ITSELF);
     for field in fields {
         page.copy(&field.words, &["field", "held", "at", "code"]);
         put_field_comment(&mut page, schema);
@@ -250,6 +255,7 @@ pub fn code_of(
 pub fn set_rest(page: &mut Words) {
     let is_kept = page.get("unknown") == "keep";
     page.append_all(if is_kept { &KEPT } else { &DROPPED });
+    take_apart(page);
     page.set("alloc", if is_kept { "alloc" } else { "_alloc" });
     for name in ["declared", "emptied", "cleared"] {
         put_in_braces(page, name);
@@ -293,7 +299,14 @@ fn put_struct(page: &mut Words, schema: &Schema, message: &MessageType) {
     if !page.get("requiring").is_empty() {
         page.append("code", DOCUMENTED);
     }
-    page.set("derived", if message.is_twin { "" } else { "Clone, " });
+    page.set(
+        "derived",
+        if message.is_twin {
+            ""
+        } else {
+            derived_clone(page)
+        },
+    );
     let is_member = !page.get("family_name").is_empty();
     let is_choice = !page.get("choice").is_empty();
     page.append(

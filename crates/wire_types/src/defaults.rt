@@ -110,6 +110,9 @@ const PLAIN: [Template; 4] = [
     ("fields_of_self", "self.now"),
 ];
 
+const KNOWN_ALIAS: &str =
+    "    ghost use Rattle.wire_codec.specs.EnumValue.TheVariants as enum-values;\n";
+
 const ROLLED: [Template; 2] = [
     (
         "ghosts",
@@ -173,6 +176,9 @@ fn take_default(page: &mut Words, field: &Words) -> bool {
         &["default_behind", "default_match", "default_ghosts"],
     );
     page.copy(field, &["default_as", "default_read"]);
+    if page.get("fields_of_self") != "self.now" {
+        set_known(page);
+    }
     if !page
         .get("aliases_of_defaults")
         .contains(page.get("default_as"))
@@ -180,6 +186,20 @@ fn take_default(page: &mut Words, field: &Words) -> bool {
         page.append("aliases_of_defaults", "$default_as$");
     }
     true
+}
+
+// The value of an enum, which a module that has the type `Known` of a field calls otherwise.
+fn set_known(page: &mut Words) {
+    let term = page.take("default_term");
+    let Some(number) = term.strip_prefix("(Known ") else {
+        return page.set("default_term", &term);
+    };
+    page.set("default_number", number);
+    page.fill("default_term", "(enum-values.Known $default_number$");
+    page.set("default_ghosts", "");
+    if !page.get("aliases_of_defaults").contains(KNOWN_ALIAS) {
+        page.append("aliases_of_defaults", KNOWN_ALIAS);
+    }
 }
 
 // What the contract says.

@@ -99,6 +99,7 @@ fn put_default(page: &mut Words, words: &Words) {
     }
     page.copy(words, &["held", "default", "default_type", "default_term"]);
     page.copy(words, &["default_seen", "default_as"]);
+    set_term(page);
     let held = page.take("default_type");
     match held.strip_prefix("&") {
         Some(lent) => {
@@ -119,6 +120,18 @@ fn put_default(page: &mut Words, words: &Words) {
         put_alias(page);
     }
     put_ghosts(page, words.get("default_ghosts"));
+}
+
+// The value in a clause of a function, which stands less far to the right than one of a method.
+fn set_term(page: &mut Words) {
+    let term = page.take("default_term");
+    for (place, line) in term.split('\n').enumerate() {
+        page.set("line", line.strip_prefix("    ").unwrap_or(line));
+        page.append(
+            "default_term",
+            if place == 0 { "$line$" } else { "\n$line$" },
+        );
+    }
 }
 
 // The name by which a clause knows the values of an enum.

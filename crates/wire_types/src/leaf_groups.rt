@@ -126,3 +126,18 @@ fn put_function(page: &mut Words, group: &Node) {
     );
     page.fill_all(&[("merged", "$of_group$"), ("others", "")]);
 }
+
+/// Tells of a field of a group that may leave a record, and is no oneof, what it makes of one: it
+/// has the unknown fields with it.
+pub fn tell_taken(page: &mut Words, may_leave: bool) {
+    page.set("is_told", "");
+    if !may_leave || page.get("in_groups").is_empty() {
+        return;
+    }
+    let taken = page.take("taken");
+    let (before, behind) = taken.split_once("(h, refl)").unwrap_or(("", ""));
+    page.set("taken_before", before);
+    page.set("taken_behind", behind);
+    page.fill("taken", "$taken_before$h$taken_behind$");
+    page.set("is_told", "is_told");
+}

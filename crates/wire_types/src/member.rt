@@ -169,10 +169,11 @@ pub const MEMBER_OF: [Template; 3] = [
 ];
 
 /// A row that has one message at most.
-pub const ONCE: [Template; 7] = [
+pub const ONCE: [Template; 8] = [
     ("declared", "    pub $field$: Option<Box<$of_name$>>,\n"),
     ("emptied", "            $field$: None,\n"),
-    ("cleared", "        self.$field$ = None;\n"),
+    ("cleared", "        $set_self$$field$ = None;\n"),
+    ("named", "            $field$,\n"),
     (
         "places",
         "            $number$ => Place::$row_place$($row$),\n",
@@ -198,7 +199,7 @@ pub const ONCE: [Template; 7] = [
 ",
     ),
     (
-        "onces",
+        "arm_of_row",
         "$arm$ => {
                 self.$field$ = Some(Box::new(alloc, message)?);
                 Ok(())
@@ -208,10 +209,11 @@ pub const ONCE: [Template; 7] = [
 ];
 
 /// A row that has many.
-pub const EACH: [Template; 5] = [
+pub const EACH: [Template; 6] = [
     ("declared", "    pub $field$: Vec<$of_name$>,\n"),
     ("emptied", "            $field$: Vec::new(alloc),\n"),
-    ("cleared", "        self.$field$.clear();\n"),
+    ("cleared", "        $of_self$$field$.clear();\n"),
+    ("named", "            $field$,\n"),
     (
         "places",
         "            $number$ => Place::$row_place$($row$, $size$),\n",

@@ -134,9 +134,7 @@ pub returns-in-Some-$variant$-$rows$-clause-err :
 returns-in-Some-$variant$-$rows$-clause-err $given$ =
     let n = tag_number c.args.tag in
     let one = c.in-Some-$variant$-$rows$ in
-    rw $stands$ ($refused$ _ _
-    (λ charge z p h. (h.0, h.1)) _ _ _
-    $merge$.result $merge$.ensures.err)
+    rw $stands$ ($stood$)
 
 pub returns$arm$-clause-err : goal.returns$arm$-clause-err
 returns$arm$-clause-err $given$ =
@@ -149,6 +147,54 @@ returns$arm$-clause-err $given$ =
     $is$ m (search rules)
     (λ charge z p h. $own$) _ _ _ ($anew$$broken$.ensures.err other))
 ";
+
+// What stands refuses what its kind refuses.
+const STOOD: &str = "$refused$ _ _
+    (λ charge z p h. (h.0, h.1)) _ _ _
+    $merge$.result $merge$.ensures.err";
+
+// The same of a message that is the only variant, which the search finds case by case once it is
+// known of what value the refusal is.
+const ONLY_STOOD: &str = "seen_first $module$-kind.takes
+    $word$-of-$module$-kind.takes n n _ _ _ _ _
+    $merge$.result refl $merge$.ensures.err
+    (λ charge z p h. search (rules, h))";
+
+const SEEN_FIRST: &str = "
+seen_first : {V T R : Type 0} (takes : Step V) (step : Step T) (k n : ℕ) (m : V) (t : T)
+    (l : Limits) (w : WireType) (old : List ℕ) (r : Result R DecodeError) → n ≡ k
+    → IfErr r (λ e. e ≢ OutOfMemory → NotTaken (TakesRecord step l n w t old))
+    → ((c : Charge) (z : V) (p : Payload) → takes m k p c z → (u : T) × step t k p c u)
+    → IfErr r (λ e. e ≢ OutOfMemory → NotTaken (TakesRecord takes l n w m old))
+seen_first takes step k n m t l w old r is h taken =
+    arm_err takes step k n is m t taken l w old r h
+";
+
+const USES_OF_ONLY: &str = "\
+Rattle.std.proofs.Common List
+Rattle.std.proofs.Common ℕ
+Rattle.std.proofs.Common ◌≡◌
+Rattle.std.proofs.Common ◌≢◌
+Rattle.std.specs.Prelude IfErr
+Rattle.std.specs.Prelude Result
+Rattle.wire_codec.specs.DecodeError DecodeError
+Rattle.wire_codec.specs.DecodeError.TheVariants OutOfMemory
+Rattle.wire_codec.specs.Field Payload
+Rattle.wire_codec.specs.Folds Step
+Rattle.wire_codec.specs.Limits Charge
+Rattle.wire_codec.specs.Limits Limits
+Rattle.wire_codec.specs.Taking NotTaken
+Rattle.wire_codec.specs.Taking TakesRecord
+Rattle.wire_codec.specs.WireType WireType
+";
+
+const OF_ONLY_MESSAGE: [Template; 3] = [
+    ("stood", ONLY_STOOD),
+    ("seen_first", SEEN_FIRST),
+    ("only_uses", USES_OF_ONLY),
+];
+
+const OF_OTHERS: [Template; 3] = [("stood", STOOD), ("seen_first", ""), ("only_uses", "")];
 
 // A variant whose number is not the last.
 const OF_ARM: [Template; 7] = [
@@ -249,6 +295,24 @@ pub fn view_merge_answers(base: &Words, oneof: &Oneof) -> Result<String, Generat
     answers_of(page, oneof, "rw $empty$.ensures at ")
 }
 
+// The answers of the variant at this place, of so many behind the first.
+fn put_answers(page: &mut Words, variant: &Words, place: usize, last: usize) {
+    let is_message = variant.get("presence") != "Always" && variant.get("closed").is_empty();
+    page.fill_all(if is_message && last == 0 {
+        &OF_ONLY_MESSAGE
+    } else {
+        &OF_OTHERS
+    });
+    page.append_all(&[("uses", "$only_uses$"), ("answers", ANSWERS)]);
+    let are_many = last.saturating_add(1) >= MANY && page.get("rows") == "variants";
+    if are_many && place == last {
+        page.append_all(&OF_LAST_OK);
+        page.append_all(if is_message { &OF_LAST_ANEW_OK } else { &[] });
+    } else if are_many && place >= MANY_BEFORE && is_message {
+        page.append_all(&OF_ARM_OK);
+    }
+}
+
 // The same, with what is said of a new value before what is said of its record.
 fn answers_of(mut page: Words, oneof: &Oneof, anew: &str) -> Result<String, GenerateError> {
     page.fill("uses", USES);
@@ -268,15 +332,7 @@ fn answers_of(mut page: Words, oneof: &Oneof, anew: &str) -> Result<String, Gene
             });
         }
         page.fill("anew", anew);
-        page.append("answers", ANSWERS);
-        let are_many = oneof.variants.len() >= MANY && page.get("rows") == "variants";
-        let is_message = variant.get("presence") != "Always" && variant.get("closed").is_empty();
-        if are_many && place == last {
-            page.append_all(&OF_LAST_OK);
-            page.append_all(if is_message { &OF_LAST_ANEW_OK } else { &[] });
-        } else if are_many && place >= MANY_BEFORE && is_message {
-            page.append_all(&OF_ARM_OK);
-        }
+        put_answers(&mut page, variant, place, last);
         page.fill(
             "unlike",
             if place == 0 {
@@ -294,6 +350,6 @@ fn answers_of(mut page: Words, oneof: &Oneof, anew: &str) -> Result<String, Gene
     }
     definition_imports(&mut page);
     page.fill("text", HEAD);
-    page.append("text", "$answers$");
+    page.append("text", "$seen_first$$answers$");
     page.finish("text")
 }

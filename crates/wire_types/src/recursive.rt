@@ -4,7 +4,12 @@ use crate::choice_code::{ONCE_OF_CHOICE, put_declared, put_ghosts, put_no_rows, 
 use crate::code::{put_head, put_leaf_field, set_leaf_rest};
 use crate::defaults::{put_defaults, use_defaults};
 use crate::leaf_groups::{end_group, end_last_group};
+use crate::many_rows::{
+    AT_ONCE, BY_ITSELF, put_arm_of_row, set_nested_arm, set_nested_variant, set_others_of_rows,
+    width_of_arm,
+};
 use crate::member::{ALONE, ALONE_OF, EACH, MEMBER, MEMBER_OF, ONCE};
+use crate::own_clone::set_own_clone;
 use wire_definitions::{
     Tree, is_row, place_of, put_field_comment, put_field_in_run, put_part_head, put_required_rows,
     put_run, set_names, use_asked_rows,
@@ -196,13 +201,13 @@ const NO_PUSH: [&str; 2] = [
 
 const ARMS: &str = "
         match $matched$ {
-$arms_of_call$            _ => Ok(()),
+$arms_of_call$            _ => $no_row$,
         }
     }
 ";
 
 const NO_ARMS: &str = "
-        Ok(())
+        $no_row$
     }
 ";
 
@@ -229,6 +234,11 @@ pub fn recursive_code(
         page.fill_all(&ALONE);
     }
     page.fill("uses", USES);
+    page.fill_all(if tree.has_groups {
+        &AT_ONCE
+    } else {
+        &BY_ITSELF
+    });
     set_names(&mut page, fields);
     page.set("merged_apart", "");
     let mut count: usize = 0;
@@ -250,17 +260,20 @@ pub fn recursive_code(
     put_run(&mut page, true);
     page.index("count", count);
     put_numbers(&mut page, count);
+    set_others_of_rows(&mut page);
     put_calls(&mut page);
     set_leaf_rest(&mut page);
     end_last_group(&mut page, tree);
+    set_own_clone(&mut page, fields, tree);
     put_ghosts(&mut page);
     use_defaults(&mut page, fields);
     use_asked_rows(&mut page, fields);
     put_head(&mut page, schema, message);
     put_defaults(&mut page, fields, true);
     page.append_all(&[
+        ("code", "$own_clone$"),
         ("code", CODE),
-        ("code", "$merged_apart$"),
+        ("code", "$drop_other$$merged_apart$"),
         ("code", "$parts$"),
     ]);
     put_required_rows(&mut page);
@@ -285,6 +298,8 @@ fn put_row(page: &mut Words, schema: &Schema, field: &Field) {
     } else {
         &ALONE_OF
     });
+    set_nested_arm(page);
+    page.set("arm_of_row", "");
     page.set("row_place", place_of(field));
     if page.get("of_name") != page.get("name") {
         page.append("uses", "$of_path$ $of_name$\n");
@@ -297,22 +312,33 @@ fn put_row(page: &mut Words, schema: &Schema, field: &Field) {
                 "            $row$ => $moved_open$$of_name$::empty(alloc)$moved_shut$,\n",
             );
         }
-        fill_line(page, &PUSHED);
-        page.append("eaches", "$line$\n");
+        fill_within(page, &PUSHED, width_of_arm(page));
+        page.fill("arm_of_row", "$line$\n");
+        put_arm_of_row(page, "eaches");
         page.append("uses", "wire_fields push_message\n");
     } else {
         put_no_rows(page);
         page.append_all(if is_variant { &ONCE_OF_CHOICE } else { &ONCE });
+        set_nested_variant(page);
+        put_arm_of_row(page, "onces");
         page.append("uses", "std::slice from_ref\n");
     }
     page.fill("last_number", "$number$");
     page.append("numbered", "            $row$ => $number$,\n");
 }
 
+// The widest line of code.
+const WIDTH: usize = 100;
+
 /// Makes the first of two templates the word `line`, or the second where it is longer than a line.
 pub fn fill_line(page: &mut Words, forms: &'static [&'static str; 2]) {
+    fill_within(page, forms, WIDTH);
+}
+
+// The same of a line of this width.
+fn fill_within(page: &mut Words, forms: &'static [&'static str; 2], width: usize) {
     page.fill("line", forms[0]);
-    if page.get("line").chars().count() > 100 {
+    if page.get("line").chars().count() > width {
         page.fill("line", forms[1]);
     }
 }

@@ -2,6 +2,7 @@
 //! one another: the fields of these types are rows, and the loops that read them are those of the
 //! message.
 use crate::field_rows::set_numbers;
+use crate::many_rows::set_others_of_rows;
 use crate::recursive::put_calls;
 use crate::view_choice::{self, DECLARED, put_arms, put_variants};
 use crate::view_code::{OF_FIELD, ROWS, STRUCT, UNKNOWN};
@@ -269,6 +270,7 @@ pub fn recursive_view_of(
         }
     }
     page.index("row", place);
+    set_others_of_rows(&mut page);
     put_calls(&mut page);
     page.append("declared", UNKNOWN);
     page.fill("declared", "\n$declared$");
