@@ -2,8 +2,8 @@
 use crate::package::Package;
 use wire_definitions::{
     MEMBER_MERGE, MEMBER_MERGE_OF_MANY, Tree, closed_choice_answers, family_definitions,
-    family_stays, has_laws, has_view, is_row, leaf_has_groups, leaf_tree, member_definitions,
-    member_stays, nest_stays, oneof_definitions, oneof_stays, put_all_variants, put_leaf_stays,
+    family_stays, has_laws, has_view, is_row, leaf_tree, member_definitions, member_stays,
+    nest_stays, oneof_definitions, oneof_stays, put_all_variants, put_leaf_stays,
     recursive_definitions, set_leaf, table_page,
 };
 use wire_schema::{Field, GenerateError, MessageType, Oneof, Schema, Template, Words, fields_of};
@@ -340,16 +340,19 @@ impl Package {
     }
 }
 
-// Whether neither a message that holds itself nor one that holds it has so many fields that those of
-// a leaf would stand in groups: the proof of a derived clone covers no many more.
+// The most fields of which a derived clone is written: a proof of 68 was seen, and one of 80 is not
+// covered. One that is written by hand says less.
+const MOST_OF_DERIVED: usize = 72;
+
+// Whether the clone of a message that holds itself is derived, as of all that it is held by.
 fn has_derived_clone(schema: &Schema, message: &MessageType) -> bool {
     match message.family {
         Some(_) => {
             let messages = schema.messages.iter();
             let mut members = messages.filter(|it| it.family == message.family);
-            members.all(|it| !leaf_has_groups(it.descriptor.field.len()))
+            members.all(|it| it.descriptor.field.len() <= MOST_OF_DERIVED)
         }
-        None => !leaf_has_groups(message.descriptor.field.len()),
+        None => message.descriptor.field.len() <= MOST_OF_DERIVED,
     }
 }
 

@@ -85,11 +85,21 @@ pub fn row_answers(
         }
         row = row.saturating_add(1);
     }
+    set_pages(&mut page, fields, is_member, are_many);
+    Ok([
+        page.finish("of_row")?,
+        page.finish("of_push")?,
+        page.finish("of_put")?,
+    ])
+}
+
+// The three pages, of what was put of the rows.
+fn set_pages(page: &mut Words, fields: &[Field], is_member: bool, are_many: bool) {
     page.fill_all(&[("other_rows", ""), ("of_other_rows", ""), ("of_put", "")]);
     if are_many {
-        set_other_rows(&mut page, fields, false);
+        set_other_rows(page, fields, false);
         page.fill("of_put", "$of_other_rows$$other_rows$");
-        set_other_rows(&mut page, fields, true);
+        set_other_rows(page, fields, true);
     } else {
         page.set("common", "◌∙◌");
     }
@@ -108,11 +118,6 @@ pub fn row_answers(
         );
         page.append_all(&[("of_row", "$rows$"), ("of_push", "$pushes$$other_rows$")]);
     }
-    Ok([
-        page.finish("of_row")?,
-        page.finish("of_push")?,
-        page.finish("of_put")?,
-    ])
 }
 
 // What is to be shown of a row of many messages.
