@@ -5,11 +5,10 @@ use crate::struct_heads::put_heads;
 use crate::struct_parts::put_fields;
 use crate::struct_ranges::set_has;
 use crate::struct_trees::StructTrees;
-use wire_definitions::{code_imports, ghost_imports, put_comment, put_field_comment, set_heading};
+use wire_definitions::{
+    WIDTH, code_imports, ghost_imports, put_comment, put_field_comment, set_heading,
+};
 use wire_schema::{Field, GenerateError, MessageType, Schema, Template, Words};
-
-// The widest line of code, its end counted.
-const WIDTH: usize = 101;
 
 // The widest fields of a struct that stand on one line.
 const SHORT: usize = 18;
@@ -287,7 +286,7 @@ fn put_field(page: &mut Words, schema: &Schema, field: &Field) {
         _ => (ARM, LONG_ARM),
     };
     page.fill("arm", arm);
-    let is_short = page.get("arm").len() <= WIDTH;
+    let is_short = page.get("arm").len() <= WIDTH + 1;
     page.append("arms", if is_short { "$arm$" } else { long_arm });
 }
 

@@ -1,8 +1,6 @@
 //! The heads of calls, as the formatter lays them out.
+use wire_definitions::WIDTH;
 use wire_schema::Words;
-
-// The widest line of code.
-const WIDTH: usize = 100;
 
 /// The word of a head, what is before its parameters, these with a semicolon between them, and what
 /// it answers.

@@ -1,11 +1,8 @@
 //! The fields of a struct as they are written: as a tree of parts.
 use crate::struct_trees::StructTrees;
 use std::alloc::Global;
-use wire_definitions::{Node, ghost_imports};
+use wire_definitions::{Node, WIDTH, ghost_imports};
 use wire_schema::{Field, GenerateError, Template, Words};
-
-// The widest line of code.
-const WIDTH: usize = 100;
 
 // Fields in a row, as they are written: all of them, or a part.
 const FIELDS: &str = "

@@ -1,8 +1,6 @@
 //! Comments of a schema as documentation, and what stands at the head of each file.
+use crate::width::WIDTH;
 use wire_schema::{Schema, Words};
-
-// The widest line.
-const WIDTH: usize = 100;
 
 /// Makes the word `heading` what a file is, as a comment with this mark, and what it comes from.
 pub fn set_heading(page: &mut Words, mark: &str, what: &str) {

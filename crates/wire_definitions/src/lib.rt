@@ -38,6 +38,7 @@ mod stays;
 mod tree;
 mod view_definitions;
 mod view_folds;
+mod width;
 
 pub use choice_names::{put_all_variants, put_others, set_names};
 pub use closing::{OF_CLOSED_VARIANT, closed_answers, closed_choice_answers, closed_view_answers};
@@ -65,7 +66,8 @@ pub use required_oneof::{put_choice_requirement, put_requirement, use_variants};
 pub use required_rows::{put_required_rows, use_asked_rows};
 pub use rows::{is_row, leaf_tree, place_of};
 pub use runs::{put_field_in_run, put_part_head, put_run};
-pub use spans::{has_groups, leaf_has_groups};
+pub use spans::has_groups;
 pub use stays::{put_accounted_range, stays_of};
 pub use tree::{Node, Tree, tree_of};
 pub use view_definitions::has_view;
+pub use width::{CALL_WIDTH, WIDTH};

@@ -44,7 +44,7 @@ pub $module$-known-back : (g : Grounds)
     (GoesToLeaf $module$-table) $module$-range-of-leaf
 $module$-known-back g =
     $leaf_known_back$ $module$-range-of-known
-    ($module$-returned-of-known g) (λ n h. $apart$)
+    ($module$-returned-of-known g) (λ n h. $goes$)
 
 pub $module$-back : Grounds → $leaf_back$ $module$-table $sum_range$$stands_of$
 $module$-back g =

@@ -3,7 +3,7 @@ use crate::choice_spot::{CLOSED_SPOT, LEAVING_SPOT, SPOT, SPOT_IN_FIRST, SPOT_IN
 use crate::tree::Node;
 use wire_schema::{Field, Template, Words};
 
-const LEAF: [Template; 11] = [
+const LEAF: [Template; 12] = [
     ("grouping", "single"),
     ("low", "$number$"),
     ("high", "$number$"),
@@ -15,13 +15,14 @@ const LEAF: [Template; 11] = [
     ("returned", "$returned$"),
     ("stays", "$stays$"),
     ("apart", "$apart$"),
+    ("goes", "$apart$"),
 ];
 
 // The widest line of such a word that may stand in another: it has room for what is before it.
 const MOST_NESTED: usize = 72;
 
 // What is taken over from the right part of a pair.
-const RIGHT: [Template; 12] = [
+const RIGHT: [Template; 13] = [
     ("right_grouping", "grouping"),
     ("right_view_seen", "view_seen"),
     ("right_value", "value"),
@@ -33,10 +34,11 @@ const RIGHT: [Template; 12] = [
     ("right_returned", "returned"),
     ("right_stays", "stays"),
     ("right_apart", "apart"),
+    ("right_goes", "goes"),
     ("high", "high"),
 ];
 
-const PAIR: [Template; 11] = [
+const PAIR: [Template; 12] = [
     ("grouping", "(paired $grouping$\n    $right_grouping$)"),
     ("view_seen", "(\n$view_seen$,\n$right_view_seen$,\n)"),
     ("value", "($value$\n    × $right_value$)"),
@@ -59,6 +61,10 @@ const PAIR: [Template; 11] = [
     (
         "apart",
         "elim h [\n      | inl h ↦ $apart$\n      | inr h ↦ $right_in$\n    ]",
+    ),
+    (
+        "goes",
+        "elim h [\n      | inl h ↦ $goes$\n      | inr h ↦ $right_goes$\n    ]",
     ),
 ];
 
@@ -190,6 +196,8 @@ pub(crate) fn pair(left: Node, right: Node) -> Node {
     words.indent_rest("apart");
     words.set("right_in", right.words.get("apart"));
     words.indent_rest("right_in");
+    words.indent_rest("goes");
+    words.indent_rest("right_goes");
     for (name, gap, margin) in [
         ("range", "range_gap", "\n    "),
         ("unlike", "unlike_gap", "\n$margin$"),

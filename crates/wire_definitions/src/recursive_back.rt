@@ -61,7 +61,7 @@ $module$-returned g =
     nest_returned g $module$-table (leaf_range $module$-table $module$-known $module$-range-of-known)
     ($module$-leaf.single g.reading)
     (leaf_back g $module$-table $module$-known $module$-range-of-known ($module$-returned-of-known g)
-    refl refl $module$-runs_in_order (λ n h. $apart$)
+    refl refl $module$-runs_in_order (λ n h. $goes$)
     ($module$-row_numbers g) $module$-row_places (λ i m. refl) (λ n l rs. refl))
     $module$-shape refl refl refl (λ n p. refl)
 ";
@@ -77,7 +77,7 @@ $module$-returned g =
     (table_back $module$-table ($leaf_range$ $module$-range-of-known)
     $module$-leaf.takes $module$-leaf.default $module$-leaf.records
     ($leaf_known_back$ $module$-range-of-known
-    ($module$-returned-of-known g) (λ n h. $apart$))
+    ($module$-returned-of-known g) (λ n h. $goes$))
     refl refl $module$-runs_in_order
     ($module$-row_numbers g) $module$-row_places (λ i m. refl) (λ n l rs. refl))
     $module$-shape refl refl refl (λ n p. refl)
@@ -100,13 +100,13 @@ $module$-returned g =
     ($leaf_range$ $module$-range-of-known) $module$-choice
     $module$-leaf.takes $module$-leaf.default $module$-leaf.records $module$-is_choice
     ($leaf_known_back$ $module$-range-of-known
-    ($module$-returned-of-known g) (λ n h. $apart$))
+    ($module$-returned-of-known g) (λ n h. $goes$))
     refl refl $module$-runs_in_order
     ($module$-row_numbers g) $module$-row_places (λ i m. refl) (λ n l rs. refl))
     tt $module$-shape refl refl refl (λ n p. refl)
 ";
 
-// What is read back of a group of the leaf.
+// What is read back of a group of the leaf, and that its numbers go to no row.
 const GROUP_RANGE: &str = "\
 abbrev pub $part_words$-range : Range $value$
 $part_words$-range =
@@ -116,6 +116,16 @@ abbrev pub $part_words$-returned : Grounds → $leaf_returned$ $part_words$ $par
 $part_words$-returned g =
     $returned$
 
+pub $part_words$-goes : (g : Grounds) (n : ℕ) → ($part_words$-returned g).Has n
+    → GoesToLeaf $module$-table n
+$part_words$-goes g n h =
+    $goes$
+
+";
+
+const USES_OF_GROUP: &str = "\
+Rattle.std.specs.Prelude ℕ
+Rattle.wire_fields.specs.NestRange GoesToLeaf
 ";
 
 const USES_CHOICE: &str = "\
@@ -215,9 +225,10 @@ pub(crate) fn put_back(page: &mut Words, fields: &[Field], tree: &Tree) {
     }
     for group in &tree.parts {
         page.copy(&group.words, &["part_words", "value", "range", "returned"]);
-        page.append("ranges", GROUP_RANGE);
+        page.copy(&group.words, &["goes"]);
+        page.append_all(&[("ranges", GROUP_RANGE), ("uses", USES_OF_GROUP)]);
     }
-    page.copy(&tree.words, &["range", "returned"]);
+    page.copy(&tree.words, &["range", "returned", "goes"]);
     put_account(page, fields);
     if is_alone && !page.get("charged").is_empty() {
         page.fill("left_here", "$left_charge$");

@@ -1,6 +1,7 @@
 //! What is asked of the fields of a message type that has required fields, or holds messages of a
 //! type that has.
 use crate::imports::ghost_imports;
+use crate::width::WIDTH;
 use wire_schema::{Field, Template, Words};
 
 /// What the documentation of such a type says besides.
@@ -102,9 +103,6 @@ Rattle.std.specs.Prelude ◌∷◌
 Rattle.wire_required.specs.Missing Missing
 Rattle.wire_required.specs.Missing first_of
 ";
-
-// The widest line.
-const WIDTH: usize = 100;
 
 // A definition in a line, and where it is longer: of what is seen as the word `asked_value`.
 const LINES: [&str; 2] = [

@@ -171,7 +171,7 @@ pub(crate) fn use_charges(page: &mut Words) {
 
 /// Which values of the fields are read back, and why: the `range` of their tree, and `returned`.
 pub(crate) fn put_returned(page: &mut Words, fields: &[Field], tree: &Tree) {
-    page.copy(&tree.words, &["range", "returned", "apart"]);
+    page.copy(&tree.words, &["range", "returned", "apart", "goes"]);
     page.append("uses", USES_OF_RANGE);
     use_charges(page);
     if !fields.is_empty() {

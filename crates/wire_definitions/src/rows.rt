@@ -77,7 +77,7 @@ const SEVERAL: &str = "$full$: messages that hold themselves or one another by s
 const KEEPING: &str = "$full$: a message that holds itself, or what holds it, has no mismatch=keep";
 
 // The tree of no fields.
-const NO_FIELDS: [Template; 9] = [
+const NO_FIELDS: [Template; 10] = [
     ("value", "⊤"),
     ("view", "tt"),
     ("view_seen", "tt"),
@@ -87,6 +87,7 @@ const NO_FIELDS: [Template; 9] = [
     ("returned", "no_fields_returned"),
     ("stays", "no_fields_stay"),
     ("apart", "absurd h"),
+    ("goes", "absurd h"),
 ];
 
 /// What the definitions of a message without other fields bring in, and what is read back of it.

@@ -1,6 +1,7 @@
 //! The code of the runs of a leaf: what is measured and written before the first row of a message,
 //! between its rows, and behind them.
 use crate::rows::is_row;
+use crate::width::WIDTH;
 use std::alloc::Global;
 use wire_schema::{Field, GenerateError, Words};
 
@@ -9,9 +10,6 @@ use wire_schema::{Field, GenerateError, Words};
 const MOST: usize = 8;
 
 const MOST_WITH_MAPS: usize = 4;
-
-// The widest line of code.
-const WIDTH: usize = 100;
 
 const RUN_FIELD: &str = "                let field_$number$: Known<$kind$> = Known {
                     number: $number$,

@@ -72,8 +72,8 @@ pub fn has_groups(count: usize) -> bool {
     count > MOST_FLAT
 }
 
-/// Whether so many fields of a leaf stand in groups.
-pub fn leaf_has_groups(count: usize) -> bool {
+// Whether so many fields of a leaf stand in groups.
+fn leaf_has_groups(count: usize) -> bool {
     count > MOST_OF_LEAF
 }
 

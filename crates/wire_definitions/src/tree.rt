@@ -21,8 +21,8 @@ pub struct Tree {
 /// `high`; its type `value` as contracts see it, and how a message `m` is seen so, its `view`, the
 /// same field by field, `seen`, and the same of its view, `view_seen`; the `table`, how its fields
 /// are paired, the `grouping`, and why a number is none of it, `unlike`; the `range` of values that
-/// are read back, why they are, `returned`, why decoding gives such, `stays`, and why a number `h`
-/// that is one of it is none of others, `apart`.
+/// are read back, why they are, `returned`, why decoding gives such, `stays`, why a number `h` that
+/// is one of it is none of others, `apart`, and why such a one goes to no row, `goes`.
 #[derive(Drop)]
 pub struct Node {
     pub first: usize,
@@ -98,10 +98,11 @@ const IN_PLACE: &str = "in_place";
 
 const IN_LEAF: &str = "in_leaf";
 
-const NAMED_IN_LEAF: [Template; 3] = [
+const NAMED_IN_LEAF: [Template; 4] = [
     ("table", "$part_words$"),
     ("range", "$part_words$-range"),
     ("returned", "$part_words$-returned g"),
+    ("goes", "$part_words$-goes g n h"),
 ];
 
 // The name in the place of what it is.

@@ -136,7 +136,7 @@ fn is_called_as_library(name: &str) -> bool {
 }
 
 // Types that each module has.
-const TYPES: &str = "Both Chosen ChoiceComesBack ComesBack Either EitherSays EitherTrees EnumName \
-    EnumNamed EnumTable FieldMeans FieldName JsonChoice JsonMessage JsonNames JsonPart JsonValue \
-    AreNoMembers IsAnyNothing ListMeans MapMeans Maybe Members MembersSay Names NoField \
+const TYPES: &str = "Both Boxed Chosen ChoiceComesBack ComesBack Either EitherSays EitherTrees \
+    EnumName EnumNamed EnumTable FieldMeans FieldName JsonChoice JsonMessage JsonNames JsonPart \
+    JsonValue AreNoMembers IsAnyNothing ListMeans MapMeans Maybe Members MembersSay Names NoField \
     PartComesBack Parts PlacedMember ReadError SayNothing SayOne WriteError";

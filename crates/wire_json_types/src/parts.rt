@@ -1,7 +1,7 @@
 //! The parts of a message: its fields, each with its names.
 use crate::kinds::set_part;
 use crate::tables::Part;
-use wire_definitions::ghost_imports;
+use wire_definitions::{CALL_WIDTH, WIDTH, ghost_imports};
 use wire_descriptor::FieldDescriptorProto;
 use wire_schema::{Field, GenerateError, Schema, Template, Words, constant_name, variant_name};
 
@@ -322,12 +322,7 @@ pub(crate) const READ_ARGUMENTS: &str = "alloc, text, members, levels, &$constan
 
 const WRITE_ARGUMENTS: &str = "alloc, out, first, &$constant$, &message.$field$";
 
-// The widest line, the widest arguments of a call that stand in it, and the longest of those that
-// stand in a line by themselves.
-const WIDTH: usize = 100;
-
-const CALL_WIDTH: usize = 60;
-
+// The longest arguments of a call that stand in a line by themselves.
 const SHORT: usize = 10;
 
 /// Makes a call of the word `call` with these arguments the word of this name, as the formatter

@@ -117,8 +117,8 @@ impl Schema {
         Ok(())
     }
 
-    /// The clone of a message that holds itself or others is a derived one, which says nothing of it, nor of
-    /// what holds such a message.
+    /// The clone of a message that holds itself, or others that hold it, says nothing of the copy,
+    /// nor does that of what holds such a message.
     pub(crate) fn find_twins(&mut self) -> Result<(), GenerateError> {
         let mut flags = self.flags(true)?;
         for (message, flag) in self.messages.iter().zip(flags.iter_mut()) {

@@ -97,21 +97,18 @@ pub(crate) fn value_name(alloc: Global, name: &str) -> Result<String, GenerateEr
 /// The name of a constant, `VERY_HIGH` of `very_high`.
 pub fn constant_name(alloc: Global, name: &str) -> Result<String, GenerateError> {
     let mut text = String::new(alloc);
-    for letter in name.chars() {
+    for letter in begin(&mut text, name, 'X')?.chars() {
         text.push(letter.to_ascii_uppercase())?;
     }
     Ok(text)
 }
 
 /// A name of small letters, `outer_inner` of `OuterInner`; one of underscores alone has an `x` before
-/// them.
+/// them, and another one of those that it begins with.
 pub fn word_name(alloc: Global, name: &str) -> Result<String, GenerateError> {
     let mut text = String::new(alloc);
-    if name.chars().all(|it| it == '_') {
-        text.push('x')?;
-    }
     let mut was_small = false;
-    for letter in name.chars() {
+    for letter in begin(&mut text, name, 'x')?.chars() {
         if letter.is_ascii_uppercase() && was_small {
             text.push('_')?;
         }
@@ -136,6 +133,19 @@ pub fn apart(alloc: Global, name: String, others: &[String]) -> Result<String, G
         }
     }
     Ok(name)
+}
+
+// Begins a name, and answers what goes on: what begins with two underscores is of a macro.
+fn begin<'a>(text: &mut String, name: &'a str, before: char) -> Result<&'a str, GenerateError> {
+    let letters = name.trim_start_matches('_');
+    if letters.is_empty() {
+        text.push(before)?;
+        return Ok(name);
+    }
+    if letters.len() < name.len() {
+        text.push('_')?;
+    }
+    Ok(letters)
 }
 
 // A name of capitals that no letter begins has an `X` before it.

@@ -1,8 +1,6 @@
 //! The arms of the records of a leaf, one for each field number.
+use wire_definitions::WIDTH;
 use wire_schema::Words;
-
-// The widest line of code.
-const WIDTH: usize = 100;
 
 // Of a field that leaves none of its records, of one of a closed enum, and of a list of these.
 const ARM: &str = "            $number$ => <$kind$ as Kind>::merge(alloc, tag, &mut self.$field$, \

@@ -1,11 +1,7 @@
 //! Where the formatter breaks a line of code that has no room: at the brackets, at `=>` and at `=`.
 use crate::layout::Line;
 use std::alloc::{AllocError, Global};
-
-// The widest line of code, and the widest arguments of a call that stand in one.
-const WIDTH: usize = 100;
-
-const CALL_WIDTH: usize = 60;
+use wire_definitions::{CALL_WIDTH, WIDTH};
 
 // What stands between two brackets.
 #[derive(Clone, Copy)]

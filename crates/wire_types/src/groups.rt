@@ -1,11 +1,8 @@
 //! A message of many fields, whose parts stand in groups: the records of each group are taken by a
 //! function of its own, which hands on those of the groups behind it.
 use crate::field_rows::set_numbers;
-use wire_definitions::{Node, Tree, ghost_imports};
+use wire_definitions::{Node, Tree, WIDTH, ghost_imports};
 use wire_schema::{Field, Template, Words};
-
-// The widest line of code.
-const WIDTH: usize = 100;
 
 const ARM: &str = "            $number$ => merged!([$way$] $kind$, $field$, \
                    (self, alloc, tag, buf, context)),\n";

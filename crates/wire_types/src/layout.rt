@@ -1,12 +1,8 @@
 //! The layout of code: what the formatter makes of the lines that have no room.
 use crate::breaks::{broken, is_head};
 use std::alloc::{AllocError, Global};
+use wire_definitions::{CALL_WIDTH, WIDTH};
 use wire_schema::GenerateError;
-
-// The widest line of code, and the longest type whose fields stand in a call.
-const WIDTH: usize = 100;
-
-const CALL_WIDTH: usize = 60;
 
 /// A line of code, without the spaces before it.
 #[derive(Drop)]

@@ -1,11 +1,9 @@
 //! The code of a oneof.
 use wire_definitions::{
-    OF_CLOSED_VARIANT, code_imports, ghost_imports, put_requirement, set_heading, use_variants,
+    OF_CLOSED_VARIANT, WIDTH, code_imports, ghost_imports, put_requirement, set_heading,
+    use_variants,
 };
 use wire_schema::{GenerateError, Oneof, Template, Words};
-
-// The widest line of code.
-const WIDTH: usize = 100;
 
 const USES: &str = "\
 bytes Buf

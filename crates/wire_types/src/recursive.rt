@@ -11,8 +11,8 @@ use crate::many_rows::{
 use crate::member::{ALONE, ALONE_OF, EACH, MEMBER, MEMBER_OF, ONCE};
 use crate::own_clone::set_own_clone;
 use wire_definitions::{
-    Tree, is_row, place_of, put_field_comment, put_field_in_run, put_part_head, put_required_rows,
-    put_run, set_names, use_asked_rows,
+    Tree, WIDTH, is_row, place_of, put_field_comment, put_field_in_run, put_part_head,
+    put_required_rows, put_run, set_names, use_asked_rows,
 };
 use wire_schema::{Field, GenerateError, MessageType, Schema, Words};
 
@@ -326,9 +326,6 @@ fn put_row(page: &mut Words, schema: &Schema, field: &Field) {
     page.fill("last_number", "$number$");
     page.append("numbered", "            $row$ => $number$,\n");
 }
-
-// The widest line of code.
-const WIDTH: usize = 100;
 
 /// Makes the first of two templates the word `line`, or the second where it is longer than a line.
 pub fn fill_line(page: &mut Words, forms: &'static [&'static str; 2]) {

@@ -1,14 +1,12 @@
 //! Services: a type each, with a constant for each method, and a type for each method.
-use wire_definitions::{put_comment, set_heading};
+use wire_definitions::{WIDTH, put_comment, set_heading};
 use wire_descriptor::MethodDescriptorProto;
 use wire_schema::{
     GenerateError, Schema, ServiceType, Template, TypeNames, Words, apart, constant_name,
     variant_name, word_name,
 };
 
-// The widest line, and the longest name of which a list has several a line.
-const WIDTH: usize = 100;
-
+// The longest name of which a list has several a line.
 const SHORT: usize = 10;
 
 // (a service may be called as the types that are named here)
