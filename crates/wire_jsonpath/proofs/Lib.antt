@@ -1,0 +1,4 @@
+pub mod Holding
+pub mod Leading
+pub mod Reaching
+pub mod Searching

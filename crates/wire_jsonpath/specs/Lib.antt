@@ -1,0 +1,5 @@
+pub mod Items
+pub mod Laws
+pub mod Path
+pub mod Places
+pub mod Seen
