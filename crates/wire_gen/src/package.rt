@@ -220,7 +220,8 @@ impl Package {
         }
         let answers = answers_of(&page, &fields, &tree, false)?;
         let path = "proofs/$module$/$name$MessageFields/merge_field/Answers.antt";
-        self.add(&mut page, path, answers)
+        self.add(&mut page, path, answers)?;
+        self.add_default_value(&mut page, &fields)
     }
 
     // The answers of what measures and writes the fields of a message, and those of its parts.

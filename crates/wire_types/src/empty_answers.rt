@@ -1,5 +1,5 @@
-//! The proofs of what makes a message of no records, its fields in groups: field by field, from the
-//! call of each, since the search does not look at so many calls.
+//! The proofs of what makes a message of no records where it has many fields: field by field, from
+//! the call of each, since the search does not look at so many calls.
 use crate::copies_answers::put_same;
 use wire_definitions::definition_imports;
 use wire_schema::{Field, GenerateError, Template, Words};
