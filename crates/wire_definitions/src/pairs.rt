@@ -173,6 +173,21 @@ const LEAVES: [Template; 1] = [(
     "$side$_leaves ($left_table$)\n      ($right_table$) $number$ (λ v. v$path$)\n      ($leaves$)",
 )];
 
+// What is wide begins on a line of its own.
+fn set_gaps(words: &mut Words) {
+    for (name, gap, margin) in [
+        ("range", "range_gap", "\n    "),
+        ("unlike", "unlike_gap", "\n$margin$"),
+    ] {
+        let (line, _) = words
+            .get(name)
+            .split_once('\n')
+            .unwrap_or((words.get(name), ""));
+        let is_wide = line.len() > MOST_NESTED;
+        words.fill(gap, if is_wide { margin } else { " " });
+    }
+}
+
 /// Both as one node.
 pub(crate) fn pair(left: Node, right: Node) -> Node {
     let mut words = left.words;
@@ -195,20 +210,10 @@ pub(crate) fn pair(left: Node, right: Node) -> Node {
     }
     words.indent_rest("apart");
     words.set("right_in", right.words.get("apart"));
-    words.indent_rest("right_in");
-    words.indent_rest("goes");
-    words.indent_rest("right_goes");
-    for (name, gap, margin) in [
-        ("range", "range_gap", "\n    "),
-        ("unlike", "unlike_gap", "\n$margin$"),
-    ] {
-        let (line, _) = words
-            .get(name)
-            .split_once('\n')
-            .unwrap_or((words.get(name), ""));
-        let is_wide = line.len() > MOST_NESTED;
-        words.fill(gap, if is_wide { margin } else { " " });
+    for name in ["right_in", "goes", "right_goes"] {
+        words.indent_rest(name);
     }
+    set_gaps(&mut words);
     words.fill_all(&PAIR);
     Node {
         first: left.first,
