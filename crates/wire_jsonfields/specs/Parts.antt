@@ -1,8 +1,8 @@
 -- What members say of several fields, what is written of them, and that this is read as them.
 use Rattle.std.proofs.Common.{◌≡◌, ◌≢◌, ◌⊎◌, ℕ, true, List, [], ◌∷◌, ◌++◌, Option, Some, None, inl, inr, refl, sym, subst}
-use Rattle.wire_json.specs.Json.{Json, null, object, Members, no_member, IsLawful}
-use Rattle.wire_jsonfields.specs.Back.{ComesBack}
-use Rattle.wire_jsonfields.specs.Fields.{EachKnown, FieldMeans, MeansSome}
+use Rattle.wire_json.specs.Json.{Json, null, boolean, number, string, array, object, Members, no_member, AreLawfulMembers, IsLawful}
+use Rattle.wire_jsonfields.specs.Back.{ComesBack, IsBack}
+use Rattle.wire_jsonfields.specs.Fields.{EachKnown, FieldMeans, MeansSome, MeansUnlessNull, ValuesMean}
 use Rattle.wire_jsonfields.specs.MembersBack.{all_ascii, known_joined, name_is_text}
 use Rattle.wire_jsonfields.specs.Messages.{IsFieldTree, IsObjectTree, ObjectMeans, members_joined}
 use Rattle.wire_jsonfields.specs.Names.{IsOneOf, Names, are_apart, both_hold, of_both, parts_apart}
@@ -89,6 +89,27 @@ wider_part Says v ms wider part = record {
 only_name : (a b n : List ℕ) → IsNameOf a b n → IsOneOf ((a, b) ∷ []) n
 only_name a b n h = inl h
 
+-- members that say there is a value say it of a field that is never absent
+one_there : {V : Type 0} (absent : V) (Means : Json → V → Type 0) (e : Json) (v : V)
+    → MeansUnlessNull None (MeansSome Means) e (Some v) → MeansUnlessNull absent Means e v
+one_there absent Means null v h = absurd cc
+one_there absent Means (boolean b) v h = h
+one_there absent Means (number text) v h = h
+one_there absent Means (string bytes) v h = h
+one_there absent Means (array es) v h = h
+one_there absent Means (object ms) v h = h
+
+said_there : {V : Type 0} (absent : V) (Means : Json → V → Type 0) (Named : List ℕ → Type 0)
+    (ms : Members) (v : V) → FieldMeans None (MeansSome Means) Named ms (Some v)
+    → FieldMeans absent Means Named ms v
+said_there {V} absent Means Named ms v (values, are, means) = (values, are, all_mean values means)
+  where
+    all_mean : (es : List Json) → ValuesMean None (MeansSome Means) es (Some v)
+        → ValuesMean absent Means es v
+    all_mean [] h = absurd cc
+    all_mean (e ∷ []) h = one_there absent Means e v h
+    all_mean (e ∷ f ∷ more) h = absurd h
+
 module _ {V : Type 0} (Means : Json → V → Type 0) (Tree : V → Json → Type 0)
     (name json_name : List ℕ) (Range : V → Type 0)
     (back : (v : V) → Range v → ComesBack Means Tree v) where
@@ -100,6 +121,24 @@ module _ {V : Type 0} (Means : Json → V → Type 0) (Tree : V → Json → Typ
       wider_part (FieldMeans absent Means (IsNameOf name json_name)) v ms (only_name name json_name)
       (field_part absent Means Tree name json_name v ms tree (name_is_text json_name ascii)
       (λ other. back v (range other)))
+
+  -- the same of a field that is always written
+  pub always_back : (absent : V)
+      → PartComesBack ((name, json_name) ∷ []) (FieldMeans absent Means (IsNameOf name json_name))
+      (IsMemberTree Tree json_name) Range
+  always_back absent apart v range ms tree =
+      let ascii = (both_hold (all_ascii json_name) true apart).0 in
+      let part = member_part Means Tree name json_name v ms tree (name_is_text json_name ascii)
+      (back v range) in
+      wider_part (FieldMeans absent Means (IsNameOf name json_name)) v ms (only_name name json_name)
+      (record {
+        lawful = part.lawful;
+        own = part.own;
+        says = λ before behind none_before none_behind.
+            said_there absent Means (IsNameOf name json_name)
+            (members_joined (members_joined before ms) behind) v
+            (part.says before behind none_before none_behind);
+      })
 
   pub variant_back : ChoiceComesBack ((name, json_name) ∷ [])
       (FieldMeans None (MeansSome Means) (IsNameOf name json_name)) (IsMemberTree Tree json_name)
@@ -180,16 +219,27 @@ oneof_back names Says Trees Range back apart (Some v) range ms tree =
 object_not_null : (ms : Members) (e : Json) → e ≡ object ms → e ≡ null → ⊥
 object_not_null ms e is h = absurd cc
 
--- what is written of a message is read as it
-pub message_back : {V : Type 0} (names : List Names) (Say : Members → V → Type 0)
-    (Trees : V → Members → Type 0) (Range : V → Type 0) → are_apart names ≡ true
-    → PartComesBack names Say Trees Range → (v : V) → Range v
-    → ComesBack (ObjectMeans (MembersSay names Say)) (IsObjectTree Trees) v
-message_back names Say Trees Range apart back v range json (ms, trees, is) =
-    let part = back apart v range ms trees in
-    record {
-      lawful = subst IsLawful (sym is) part.lawful;
-      means = subst (λ (j : Json). ObjectMeans (MembersSay names Say) j v) (sym is)
-          (part.own, said_alone (IsOneOf names) Say v ms part);
-      present = object_not_null ms json is;
-    }
+object_back : {V : Type 0} (Say : Members → V → Type 0) (v : V) (ms : Members) (json : Json)
+    → AreLawfulMembers ms → Say ms v → json ≡ object ms → IsBack (ObjectMeans Say) json v
+object_back Say v ms json lawful says is = record {
+  lawful = subst IsLawful (sym is) lawful;
+  means = subst (λ (j : Json). ObjectMeans Say j v) (sym is) says;
+  present = object_not_null ms json is;
+}
+
+module _ {V : Type 0} (names : List Names) (Say : Members → V → Type 0)
+    (Trees : V → Members → Type 0) (Range : V → Type 0) (apart : are_apart names ≡ true)
+    (back : PartComesBack names Say Trees Range) where
+  -- what is written of a message is read as it
+  pub message_back : (v : V) → Range v
+      → ComesBack (ObjectMeans (MembersSay names Say)) (IsObjectTree Trees) v
+  message_back v range json (ms, trees, is) =
+      let part = back apart v range ms trees in
+      object_back (MembersSay names Say) v ms json part.lawful
+      (part.own, said_alone (IsOneOf names) Say v ms part) is
+
+  -- and where members that are of no field are passed over
+  pub known_message_back : (v : V) → Range v → ComesBack (ObjectMeans Say) (IsObjectTree Trees) v
+  known_message_back v range json (ms, trees, is) =
+      let part = back apart v range ms trees in
+      object_back Say v ms json part.lawful (said_alone (IsOneOf names) Say v ms part) is

@@ -39,6 +39,24 @@ pub fn read_parts<P: JsonPart>(
     Ok((held, object.after))
 }
 
+/// The same, but that members which are of no part are passed over, whatever JSON they are.
+pub fn read_known_parts<P: JsonPart>(
+    alloc: Global,
+    text: &[u8],
+    at: usize,
+    levels: u32,
+) -> Result<(P::Held, usize), ReadError>
+    ensures ok { IfOk result (λ read. ReadsWithin levels (ObjectMeans P.says)
+        (drop at text.now) (P.view read.0) (drop read.1 text.now)) }
+    ensures behind { IfOk result (λ read. IsBehind at read.1 text.now) }
+    ensures err { IfErr result (λ e. e ≢ OutOfMemory
+        → NothingMeant levels (ObjectMeans P.says) (drop at text.now)) }
+{
+    let object = read_object(alloc, text, at, levels)?;
+    let held = P::read(alloc, text, object.members.as_slice(), levels)?;
+    Ok((held, object.after))
+}
+
 /// Writes the parts of a message as an object.
 pub fn write_parts<P: JsonPart>(
     alloc: Global,

@@ -16,6 +16,7 @@ ghost use Rattle.wire_protojson.specs.Laws.{IsDecided};
 ghost use Rattle.wire_json.specs.Json.{member, no_member};
 ghost use Rattle.wire_jsonfields.specs.Messages.{IsFieldTree, comma_unless, is_no_member, text_of_members};
 ghost use Rattle.wire_jsonfields.specs.Objects.{ArePlaced, IsNameOf};
+ghost use Rattle.wire_jsonfields.specs.Oneofs.{IsMemberTree};
 ghost use Rattle.wire_jsonfields.specs.OneValues.{IsOneValued};
 ghost use Rattle.wire_jsonfields.specs.Told.{HasNoTree};
 ghost use Rattle.wire_protojson.specs.Reads.{ReadsMeaning, Refuses, RefusedAt, UnlessNoMemory};
@@ -313,6 +314,27 @@ pub fn write_field<K: JsonKind>(
         return Ok(first);
     }
     write_member::<K>(alloc, out, first, field, held)?;
+    Ok(false)
+}
+
+/// Writes a field of an object also where it is as without a member. What the vector held stays in
+/// front.
+pub fn write_always<V: JsonValue>(
+    alloc: Global,
+    out: &mut Vec<u8>,
+    first: bool,
+    field: &FieldName,
+    held: &V::Held,
+) -> Result<bool, WriteError>
+    ensures ok { IfOk result (λ next. (ms : Members)
+        × IsMemberTree V.tree field.now.json_name.now (V.view held.now) ms
+        × (out.new.items ≡ out.old.items ++ text_of_members first ms)
+        × (next ≡ (first && is_no_member ms))) }
+    ensures err { OnErr result (Extends out.old.items out.new.items) }
+    ensures no_text { IfErr result (λ e. e ≢ untold.OutOfMemory
+        → HasNoTree (IsMemberTree V.tree field.now.json_name.now) (V.view held.now)) }
+{
+    write_member::<V>(alloc, out, first, field, held)?;
     Ok(false)
 }
 

@@ -31,13 +31,13 @@ mod part;
 pub mod sample;
 
 pub use boxed::Boxed;
-pub use by_parts::{read_parts, write_parts};
+pub use by_parts::{read_known_parts, read_parts, write_parts};
 pub use choice::{Chosen, Either, JsonChoice, write_chosen, write_oneof};
 pub use enum_field::{EnumOf, JsonEnum};
 pub use key::JsonKey;
 pub use kind::{
-    Implicit, JsonKind, JsonScalar, JsonValue, Maybe, Optional, read_field, write_field,
-    write_member,
+    Implicit, JsonKind, JsonScalar, JsonValue, Maybe, Optional, read_field, write_always,
+    write_field, write_member,
 };
 pub use known::{FieldName, check_names};
 pub use list::Repeated;
