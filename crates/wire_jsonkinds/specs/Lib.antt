@@ -1,0 +1,2 @@
+pub mod ClosedEnums
+pub mod NumberedEnums
