@@ -17,8 +17,11 @@ use wire_descriptor::CodeGeneratorRequest;
 /// `services=skip` passes over services, `defaults=skip` over default values, and `laws=skip`
 /// writes no laws; `split=COUNT` writes crates of about so many message types; `c=NAME`
 /// writes structs for C, whose names begin so, and the crate of their library, and makes maps lists
-/// of their entries; `json=true` writes the crate of their JSON; and each `encoded=FIELD` names a
-/// field of messages that is held as the bytes of their encodings.
+/// of their entries; `json=true` writes the crate of their JSON, in which `json_unknown=skip`
+/// passes over names that no field has, `json_defaults=write` writes fields that are as without a
+/// member, `json_names=schema` writes names as the schema has them, and `json_enums=numbers` enums
+/// as numbers; and each `encoded=FIELD` names a field of messages that is held as the bytes of their
+/// encodings.
 pub fn set_crate(base: &mut Words, request: &CodeGeneratorRequest) -> Result<(), GenerateError> {
     base.set("crate", first_name(request));
     base.fill_all(&DEFAULTS);
@@ -70,6 +73,9 @@ fn set_beside(base: &mut Words) -> Result<(), GenerateError> {
     if has_json && (has_structs || !is_plain || !is_one) {
         return Err(base.refused(PLAIN_IN_JSON));
     }
+    if !has_json && OF_JSON.iter().any(|it| !base.get(it).is_empty()) {
+        return Err(base.refused(NO_JSON));
+    }
     if has_structs || has_json {
         base.fill_all(&[("target", "crates"), ("crate_folder", "$crate$/")]);
     }
@@ -89,14 +95,21 @@ const NO_NAME: &str = "\
 const PARAMETERS: &str = "\
     parameters are crate=NAME, import=PACKAGE=CRATE, element=BYTES, unknown=keep or drop, \
     mismatch=refuse or keep, enums=open, strings=bytes, required=optional, views=true, \
-    services=skip, defaults=skip, laws=skip, split=COUNT, c=NAME, json=true, and encoded=FIELD: \
-    $option$";
+    services=skip, defaults=skip, laws=skip, split=COUNT, c=NAME, json=true, json_unknown=skip, \
+    json_defaults=write, json_names=schema, json_enums=numbers, and encoded=FIELD: $option$";
 
 const PLAIN_IN_C: &str =
     "c=NAME wants unknown=keep and mismatch=refuse, and neither laws=skip nor split=";
 
 const PLAIN_IN_JSON: &str =
     "json=true wants unknown=keep and mismatch=refuse, and neither c=NAME nor split=";
+
+// What JSON is read and written, where it is not as by default.
+const OF_JSON: [&str; 4] = ["json_unknown", "json_defaults", "json_names", "json_enums"];
+
+const NO_JSON: &str = "\
+    json_unknown=skip, json_defaults=write, json_names=schema and json_enums=numbers want \
+    json=true";
 
 fn set_parameter(base: &mut Words, name: &str, choice: &str) -> Result<(), GenerateError> {
     match (name, choice) {
@@ -118,6 +131,10 @@ fn set_parameter(base: &mut Words, name: &str, choice: &str) -> Result<(), Gener
         ("split", _) if is_size(choice) => base.set("split", choice),
         ("c", _) if is_crate_name(choice) => base.set("c", choice),
         ("json", "true") => base.set("json", choice),
+        ("json_unknown", "skip") => base.set("json_unknown", choice),
+        ("json_defaults", "write") => base.set("json_defaults", choice),
+        ("json_names", "schema") => base.set("json_names", choice),
+        ("json_enums", "numbers") => base.set("json_enums", choice),
         ("encoded", _) => {
             base.set("name", choice);
             base.append("encoded", ".$name$\n");
