@@ -60,12 +60,18 @@ REFUSED = [
     ("proto3", TYPE, ",element=many", "parameters are crate=NAME, import=PACKAGE=CRATE, "
      "element=BYTES, unknown=keep or drop, mismatch=refuse or keep, enums=open, strings=bytes, "
      "required=optional, views=true, services=skip, defaults=skip, laws=skip, split=COUNT, c=NAME, "
-     "json=true, and encoded=FIELD: element=many"),
+     "json=true, json_unknown=skip, json_defaults=write, json_names=schema, json_enums=numbers, "
+     "and encoded=FIELD: element=many"),
     ("proto2", TYPE.replace("int32", "optional string"), ",strings=texts",
      "parameters are crate=NAME, import=PACKAGE=CRATE, "
      "element=BYTES, unknown=keep or drop, mismatch=refuse or keep, enums=open, strings=bytes, "
      "required=optional, views=true, services=skip, defaults=skip, laws=skip, split=COUNT, c=NAME, "
-     "json=true, and encoded=FIELD: strings=texts"),
+     "json=true, json_unknown=skip, json_defaults=write, json_names=schema, json_enums=numbers, "
+     "and encoded=FIELD: strings=texts"),
+    *(("proto3", TYPE, f",{option}", "json_unknown=skip, json_defaults=write, json_names=schema and "
+       "json_enums=numbers want json=true")
+      for option in ("json_unknown=skip", "json_defaults=write", "json_names=schema",
+                     "json_enums=numbers")),
     ("proto3", TYPE, ",unknown=drop,mismatch=keep", "mismatch=keep wants unknown=keep"),
     ("proto3", TYPE, ",views=true,unknown=drop",
      "views=true wants unknown=keep and mismatch=refuse"),
@@ -111,12 +117,23 @@ CHOICES = [
      'message F { optional int32 x = 1 [json_name = "\\""]; }'
      'message H { optional int32 a_b = 1 [json_name = "c"]; }', ",json=true",
      ["- `A`: it holds itself, or others that hold it\n",
-      "- `B`: `x` is of a closed enum; enums=open takes its numbers as they are\n",
+      "read_field::<Optional<ClosedNamed<EJson>>>(",
       "read_parts::<NoField<C>>(", "read_field::<Embedded<CJson>>(",
       "- `NoField`: it is called as a type of the library, or as the JSON of another\n",
       "- `I`: `y` is a message that has no JSON\n",
       "- `F`: `x` is of a name in JSON that is empty, or has other signs than those of ASCII\n",
       '    name: "a_b",\n    json_name: "c",\n', "pub use h_json::HJson;\n"]),
+    ("proto3", 'import "google/protobuf/struct.proto"; '
+     "message A { int32 a_b = 1; optional int32 c = 2; google.protobuf.NullValue d = 3; "
+     "oneof e { int32 f = 4; } }", ",json=true,json_defaults=write,json_names=schema",
+     ["write_always::<Implicit<i32>>(alloc, out, first, &A_B, &message.a_b)",
+      "write_field::<Optional<i32>>(alloc, out, first, &C, &message.c)",
+      "write_field::<NullValueJson>(alloc, out, first, &D, &message.d)",
+      "write_chosen::<Implicit<i32>>(", "read_parts::<",
+      '    name: "aB",\n    json_name: "a_b",\n']),
+    ("proto2", "enum E { Z = 0; } message B { optional E x = 1; } message C {}",
+     ",json=true,json_enums=numbers,json_unknown=skip",
+     ["read_field::<Optional<ClosedNumbered<EJson>>>(", "read_known_parts::<NoField<C>>("]),
     ("proto3", 'import "report.proto"; import "google/protobuf/struct.proto"; '
      'import "google/protobuf/wrappers.proto"; enum WriteError { U = 0; } '
      "message M { WriteError x = 1; } "

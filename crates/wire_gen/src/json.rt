@@ -66,7 +66,7 @@ impl Package {
         json.copy(&self.roots, &["needs"]);
         for of_enum in &schema.enums {
             let is_null = well_known::is_null_value(of_enum.words.get("full"));
-            if of_enum.origin.is_own && !of_enum.origin.features.is_closed() && !is_null {
+            if of_enum.origin.is_own && !is_null {
                 let mut page = self.json_page(&of_enum.words);
                 let files = enum_files(&mut page, of_enum)?;
                 self.add_json_files(&mut json, &mut page, files)?;

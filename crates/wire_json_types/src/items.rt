@@ -1,4 +1,5 @@
 //! What one value of a field is in JSON.
+use crate::enum_items::set_enum;
 use crate::well_known::{is_well_known, set_well_known};
 use wire_descriptor::FieldDescriptorProto;
 use wire_schema::{Template, Words};
@@ -168,57 +169,6 @@ const BYTES: [Template; 13] = [
     ),
 ];
 
-const ENUM: [Template; 15] = [
-    ("json_value", "ℤ"),
-    ("json_held", "EnumValue $of_name$"),
-    ("json_kind", "EnumNamed<$of_name$Json>"),
-    ("json_before", "number_of $of_module$-number "),
-    ("json_view", "(number_of $of_module$-number)"),
-    ("json_absent", "(pos 0)"),
-    ("json_means", "(MeansEnum $of_module$-json-names)"),
-    ("json_tree", "(IsEnumTree $of_module$-json-names)"),
-    (
-        "json_one",
-        "(enum_decided $of_module$-json-names).one_meaning",
-    ),
-    ("json_range", "(FitsSigned w32)"),
-    (
-        "json_back",
-        "(enum_comes_back $of_module$-json-names $of_module$-json-agree $of_module$-json-texts)",
-    ),
-    (
-        "json_uses",
-        "Rattle.std.specs.Int w32\nRattle.std.specs.Prelude FitsSigned\n\
-        Rattle.std.specs.Prelude ℤ\n\
-        Rattle.wire_protojson.specs.Enums IsEnumTree\nRattle.wire_protojson.specs.Enums MeansEnum\n\
-        Rattle.wire_jsonfields.specs.EnumFields enum_decided\n\
-        Rattle.wire_jsonfields.specs.KindsBack enum_comes_back\n\
-        $json_specs$ $of_module$-json-names\n$json_specs$ $of_module$-json-agree\n\
-        $json_specs$ $of_module$-json-texts\n",
-    ),
-    (
-        "json_seen_uses",
-        "Rattle.wire_codec.specs.Enumeration number_of\n$specs$ $of_module$-number\n",
-    ),
-    ("json_absent_uses", "Rattle.std.specs.Prelude pos\n"),
-    (
-        "json_held_uses",
-        "Rattle.wire_codec.specs.EnumValue EnumValue\n\
-        $of_specs$.declared.$of_module$.$of_name$ $of_name$\n",
-    ),
-];
-
-const OF_ENUM: [Template; 2] = [
-    (
-        "json_code",
-        "wire_jsonkinds EnumNamed\n$json_home$ $of_name$Json\n",
-    ),
-    (
-        "json_held_code",
-        "wire_codec EnumValue\n$of_crate$ $of_name$\n",
-    ),
-];
-
 /// Those of a message that is an object of its fields.
 pub(crate) const MESSAGE: [Template; 15] = [
     ("json_value", "$of_name$-Json"),
@@ -306,10 +256,7 @@ pub(crate) fn set_own(type_: i32, words: &mut Words) {
         // (a string that need not be UTF-8 may be held as bytes)
         9 if words.get("item_stays") != "any_bytes_stay" => set_scalar("String", &STRING, words),
         9 | 12 => set_scalar("Vec<u8>", &BYTES, words),
-        14 => {
-            words.fill_all(&ENUM);
-            words.append_all(&OF_ENUM);
-        }
+        14 => set_enum(words),
         _ => words.fill_all(&MESSAGE),
     }
 }

@@ -76,9 +76,6 @@ fn why_not(message: &MessageType, schema: &Schema, words: &Words, there: &str) -
     if descriptor.json_name.is_empty() || !descriptor.json_name.chars().all(is_plain) {
         return "of a name in JSON that is empty, or has other signs than those of ASCII";
     }
-    if !words.get("closed").is_empty() {
-        return "of a closed enum; enums=open takes its numbers as they are";
-    }
     why_no_type(schema, words, there)
 }
 
@@ -136,7 +133,8 @@ fn is_called_as_library(name: &str) -> bool {
 }
 
 // Types that each module has.
-const TYPES: &str = "Both Boxed Chosen ChoiceComesBack ComesBack Either EitherSays EitherTrees \
-    EnumName EnumNamed EnumTable FieldMeans FieldName JsonChoice JsonMessage JsonNames JsonPart \
-    JsonValue AreNoMembers IsAnyNothing ListMeans MapMeans Maybe Members MembersSay Names NoField \
-    PartComesBack Parts PlacedMember ReadError SayNothing SayOne WriteError";
+const TYPES: &str = "Both Boxed Chosen ChoiceComesBack ClosedNamed ClosedNumbered ComesBack Either \
+    EitherSays EitherTrees EnumName EnumNamed EnumNumbered EnumTable FieldMeans FieldName \
+    JsonChoice JsonMessage JsonNames JsonPart JsonValue AreNoMembers IsAnyNothing ListMeans \
+    MapMeans Maybe Members MembersSay Names NoField PartComesBack Parts PlacedMember ReadError \
+    SayNothing SayOne WriteError";

@@ -3,6 +3,7 @@
 //! what is written is proved by itself.
 #![tactic(auto)]
 
+mod enum_items;
 pub mod enums;
 mod items;
 mod keys;
@@ -16,3 +17,4 @@ pub mod oneofs;
 mod parts;
 mod tables;
 pub mod well_known;
+mod written;

@@ -2,7 +2,7 @@
 use crate::items::set_item;
 use crate::kinds::{is_nullable, set_element};
 use crate::parts::{
-    FIELD_NAME, PartTexts, READ_ARGUMENTS, READ_NULLABLE, put_part, set_call, set_names,
+    CHOICES, FIELD_NAME, PartTexts, READ_ARGUMENTS, READ_NULLABLE, put_part, set_call, set_names,
 };
 use crate::tables::{EITHER, Part, put_table};
 use wire_descriptor::{DescriptorProto, FieldDescriptorProto};
@@ -274,6 +274,7 @@ pub(crate) fn put_member(
 ) -> Result<Part, GenerateError> {
     let mut words = Words::like(variant);
     words.copy(page, &["json_page", "crate", "name"]);
+    words.copy(page, &CHOICES);
     set_names(descriptor, &mut words)?;
     set_item(descriptor, &mut words);
     set_element(descriptor, &mut words);

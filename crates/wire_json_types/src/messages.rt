@@ -43,7 +43,7 @@ $value_ghosts$
         at: usize,
         levels: u32,
     ) -> Result<($name$, usize), ReadError> {
-        let (parts, after) = read_parts::<$joined_type$>(alloc, text, at, levels)?;
+        let (parts, after) = $read_parts$::<$joined_type$>(alloc, text, at, levels)?;
 $taken$        Ok((
             $name$ {
 $set$                unknown: UnknownFields::new(alloc),
@@ -69,7 +69,7 @@ std::alloc Global
 wire_codec UnknownFields
 wire_jsonfields JsonMessage
 wire_jsonfields JsonValue
-wire_jsonfields read_parts
+wire_jsonfields $read_parts$
 wire_jsonfields write_parts
 wire_protojson ReadError
 wire_protojson WriteError
@@ -99,9 +99,9 @@ $name$-Json = $joined$-Value
 abbrev pub $module$-json : $name$ → $name$-Json
 $module$-json = $joined$-seen
 
--- each member of an object is of a field, and the fields are as the members say
+-- $saying$
 abbrev pub $module$-json-says : Members → $name$-Json → Type 0
-$module$-json-says = MembersSay $joined$-names $joined$-says
+$module$-json-says = $says$
 
 -- the members that are written
 abbrev pub $module$-json-trees : $name$-Json → Members → Type 0
@@ -115,15 +115,15 @@ abbrev pub $module$-json-absent : $name$-Json
 $module$-json-absent = $joined$-absent
 
 pub $module$-json-unsaid : $module$-json-says no_member $module$-json-absent
-$module$-json-unsaid = (tt, $joined$-unsaid)
+$module$-json-unsaid = $unsaid$
 
 pub $module$-json-one : SayOne $module$-json-says
-$module$-json-one = one_said $joined$-names $joined$-says $joined$-one
+$module$-json-one = $one$
 
 pub $module$-json-back : (v : $name$-Json) → $module$-json-range v
     → ComesBack (ObjectMeans $module$-json-says) (IsObjectTree $module$-json-trees) v
 $module$-json-back =
-    message_back $joined$-names $joined$-says $joined$-trees
+    $message_back$ $joined$-names $joined$-says $joined$-trees
     $joined$-range refl $joined$-back
 ";
 
@@ -137,12 +137,42 @@ Rattle.wire_jsonfields.specs.Messages IsObjectTree
 Rattle.wire_jsonfields.specs.Messages ObjectMeans
 Rattle.wire_jsonfields.specs.Names Names
 Rattle.wire_jsonfields.specs.OneValues SayOne
-Rattle.wire_jsonfields.specs.Parts MembersSay
 Rattle.wire_jsonfields.specs.Parts PartComesBack
-Rattle.wire_jsonfields.specs.Parts message_back
-Rattle.wire_jsonfields.specs.Parts one_said
-Rattle.$crate$.specs.declared.$module$.$name$ $name$
+Rattle.wire_jsonfields.specs.Parts $message_back$
+$says_uses$Rattle.$crate$.specs.declared.$module$.$name$ $name$
 ";
+
+// What is said of a message where each member is of a field.
+const EACH_KNOWN: [Template; 7] = [
+    (
+        "saying",
+        "each member of an object is of a field, and the fields are as the members say",
+    ),
+    ("says", "MembersSay $joined$-names $joined$-says"),
+    ("unsaid", "(tt, $joined$-unsaid)"),
+    ("one", "one_said $joined$-names $joined$-says $joined$-one"),
+    ("message_back", "message_back"),
+    (
+        "says_uses",
+        "Rattle.wire_jsonfields.specs.Parts MembersSay\n\
+        Rattle.wire_jsonfields.specs.Parts one_said\n",
+    ),
+    ("read_parts", "read_parts"),
+];
+
+// The same where others are passed over.
+const SOME_KNOWN: [Template; 7] = [
+    (
+        "saying",
+        "the fields are as the members of an object say; those of no field say nothing",
+    ),
+    ("says", "$joined$-says"),
+    ("unsaid", "$joined$-unsaid"),
+    ("one", "$joined$-one"),
+    ("message_back", "known_message_back"),
+    ("says_uses", ""),
+    ("read_parts", "read_known_parts"),
+];
 
 // Several parts as one.
 const OF_GROUP: PartTexts = PartTexts {
@@ -199,6 +229,11 @@ pub fn message_files(
     set_taken(&parts, page);
     page.fill_all(&[("whole", "all-fields"), ("whole_type", "Parts")]);
     put_table(BOTH, &parts, page);
+    page.fill_all(if page.get("json_unknown") == "skip" {
+        &SOME_KNOWN
+    } else {
+        &EACH_KNOWN
+    });
     Ok((code_of(page)?, definitions_of(page)?))
 }
 

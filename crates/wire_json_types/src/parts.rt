@@ -1,6 +1,7 @@
 //! The parts of a message: its fields, each with its names.
 use crate::kinds::set_part;
 use crate::tables::Part;
+use crate::written::set_written;
 use wire_definitions::{CALL_WIDTH, WIDTH, ghost_imports};
 use wire_descriptor::FieldDescriptorProto;
 use wire_schema::{Field, GenerateError, Schema, Template, Words, constant_name, variant_name};
@@ -19,11 +20,11 @@ $part$-says =
 
 abbrev pub $part$-trees : $part$-Value → Members → Type 0
 $part$-trees =
-    IsFieldTree $part_absent$ $part_tree$
+    $part_written$
     $json_name$
 
 abbrev pub $part$-range : $part$-Value → Type 0
-$part$-range = IsInRangeUnless $part_absent$ $part_range$
+$part$-range = $part_in_range$
 
 abbrev pub $part$-absent : $part$-Value
 $part$-absent = $part_absent$
@@ -51,10 +52,8 @@ const USES: &str = "\
 Rattle.std.specs.Prelude []
 Rattle.std.specs.Prelude codes
 Rattle.std.specs.Prelude ◌∷◌
-Rattle.wire_jsonfields.specs.Messages IsFieldTree
 Rattle.wire_jsonfields.specs.Objects IsNameOf
-Rattle.wire_jsonfields.specs.Parts IsInRangeUnless
-$part_said_uses$$part_uses$$part_seen_uses$";
+$part_said_uses$$part_written_uses$$part_uses$$part_seen_uses$";
 
 // What is said of a field, and why it comes back; and how it is read.
 const SAID: [Template; 7] = [
@@ -66,7 +65,7 @@ const SAID: [Template; 7] = [
     ),
     (
         "part_comes_back",
-        "field_back $part_means$\n    $part_tree$\n    $two_names$\n    $part_range$\n    \
+        "$back_as$ $part_means$\n    $part_tree$\n    $two_names$\n    $part_range$\n    \
         $part_back$\n    $part_absent$",
     ),
     (
@@ -74,7 +73,7 @@ const SAID: [Template; 7] = [
         "Rattle.wire_jsonfields.specs.Fields FieldMeans\n\
         Rattle.wire_jsonfields.specs.Fields unsaid\n\
         Rattle.wire_jsonfields.specs.OneValues one_field\n\
-        Rattle.wire_jsonfields.specs.Parts field_back\n",
+        Rattle.wire_jsonfields.specs.Parts $back_as$\n",
     ),
     ("call", "read_field::<$part_kind$>"),
     ("read_use", "wire_jsonfields read_field\n"),
@@ -109,15 +108,15 @@ pub(crate) const READ_NULLABLE: &str = "wire_well_known_json read_nullable\n";
 /// as arguments, and `named` the rule that a member has one of them.
 pub(crate) const NAMES: [Template; 4] = [
     ("json_name", "(codes \"$in_json$\")"),
-    ("names", "(codes \"$proto$\", codes \"$in_json$\")"),
-    ("two_names", "(codes \"$proto$\") $json_name$"),
+    ("names", "(codes \"$read_too$\", codes \"$in_json$\")"),
+    ("two_names", "(codes \"$read_too$\") $json_name$"),
     ("named", "(IsNameOf $two_names$)"),
 ];
 
 /// The constant of the names of a field.
 pub(crate) const FIELD_NAME: &str = "\
 const $constant$: FieldName = FieldName {
-    name: \"$proto$\",
+    name: \"$read_too$\",
     json_name: \"$in_json$\",
 };
 
@@ -198,8 +197,7 @@ const CODE_USES: &str = "\
 wire_jsonfields FieldName
 wire_jsonfields JsonPart
 wire_jsonfields PlacedMember
-wire_jsonfields write_field
-$read_use$$json_code$$json_held_code$";
+$write_use$$read_use$$json_code$$json_held_code$";
 
 /// The templates of a part: the names before its code, the code, and its definitions, with what
 /// each brings in.
@@ -237,6 +235,11 @@ pub(crate) fn set_names(
 ) -> Result<(), GenerateError> {
     let alloc = words.alloc();
     words.set("in_json", &descriptor.json_name);
+    words.fill("read_too", "$proto$");
+    if words.get("json_names") == "schema" {
+        words.set("read_too", &descriptor.json_name);
+        words.fill("in_json", "$proto$");
+    }
     words.fill_all(&NAMES);
     words.fill("part", "$field$");
     let constant = constant_name(alloc, words.get("field"))?;
@@ -256,19 +259,24 @@ pub(crate) fn put_field(
 ) -> Result<Part, GenerateError> {
     let mut words = Words::like(&field.words);
     words.copy(page, &["json_page", "crate", "name"]);
+    words.copy(page, &CHOICES);
     set_names(descriptor, &mut words)?;
     let is_null_a_value = set_part(schema, descriptor, &mut words);
     words.fill_all(&CALLS);
+    set_written(&mut words);
     words.fill_all(if is_null_a_value {
         &NULLABLE_SAID
     } else {
         &SAID
     });
     set_call("read", READ_ARGUMENTS, &mut words);
-    words.fill("call", "write_field::<$part_kind$>");
+    words.fill("call", "$write_call$");
     set_call("write", WRITE_ARGUMENTS, &mut words);
     put_part(page, &mut words, &FIELD)
 }
+
+/// What of the crate says how its JSON is read and written.
+pub(crate) const CHOICES: [&str; 3] = ["json_defaults", "json_names", "json_enums"];
 
 /// Puts the code and the definitions of a part to those of the page.
 pub(crate) fn put_part(
