@@ -1,5 +1,9 @@
 pub mod Bounce
 pub mod BounceStays
+pub mod Journey
+pub mod JourneyBack
+pub mod JourneyBackStays
+pub mod JourneyStays
 pub mod Survey
 pub mod SurveyLast
 pub mod SurveyLastStays
@@ -8,3 +12,4 @@ pub mod Visit
 pub mod VisitEnded
 pub mod VisitEndedStays
 pub mod VisitStays
+pub mod Way

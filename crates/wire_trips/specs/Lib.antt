@@ -1,0 +1,10 @@
+pub mod Halt
+pub mod HaltStays
+pub mod Means
+pub mod Seat
+pub mod SeatStays
+pub mod Side
+pub mod Trip
+pub mod TripPaid
+pub mod TripPaidStays
+pub mod TripStays
