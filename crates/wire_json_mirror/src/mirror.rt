@@ -6,8 +6,10 @@ use wire_jsonfields::{JsonValue, from_json, to_json};
 use wire_protojson::{ReadError, WriteError};
 use wire_report::{Report, ReportSample};
 use wire_report_json::{ReportJson, ReportSampleJson};
-use wire_visits::{Survey, Visit};
-use wire_visits_json::{SurveyJson, VisitJson};
+use wire_trips::{Seat, Trip};
+use wire_trips_json::{SeatJson, TripJson};
+use wire_visits::{Journey, Survey, Visit};
+use wire_visits_json::{JourneyJson, SurveyJson, VisitJson};
 use wire_well_known::{
     BoolValue, BytesValue, DoubleValue, Duration, Empty, FieldMask, FloatValue, Int32Value,
     Int64Value, ListValue, StringValue, Struct, Timestamp, UInt32Value, UInt64Value, Value,
@@ -69,13 +71,16 @@ fn write_one(alloc: Global, name: &str, of: &str) -> Result<String, MirrorError>
         "FloatValue" => written::<FloatValueJson, FloatValue>(alloc, of),
         "Int32Value" => written::<Int32ValueJson, Int32Value>(alloc, of),
         "Int64Value" => written::<Int64ValueJson, Int64Value>(alloc, of),
+        "Journey" => written::<JourneyJson, Journey>(alloc, of),
         "ListValue" => written::<ListValueJson, ListValue>(alloc, of),
         "Report" => written::<ReportJson, Report>(alloc, of),
         "ReportSample" => written::<ReportSampleJson, ReportSample>(alloc, of),
+        "Seat" => written::<SeatJson, Seat>(alloc, of),
         "StringValue" => written::<StringValueJson, StringValue>(alloc, of),
         "Struct" => written::<StructJson, Struct>(alloc, of),
         "Survey" => written::<SurveyJson, Survey>(alloc, of),
         "Timestamp" => written::<TimestampJson, Timestamp>(alloc, of),
+        "Trip" => written::<TripJson, Trip>(alloc, of),
         "UInt32Value" => written::<UInt32ValueJson, UInt32Value>(alloc, of),
         "UInt64Value" => written::<UInt64ValueJson, UInt64Value>(alloc, of),
         "Value" => written::<ValueJson, Value>(alloc, of),
@@ -95,13 +100,16 @@ fn read_one(alloc: Global, name: &str, of: &str) -> Result<String, MirrorError> 
         "FloatValue" => read::<FloatValueJson, FloatValue>(alloc, of),
         "Int32Value" => read::<Int32ValueJson, Int32Value>(alloc, of),
         "Int64Value" => read::<Int64ValueJson, Int64Value>(alloc, of),
+        "Journey" => read::<JourneyJson, Journey>(alloc, of),
         "ListValue" => read::<ListValueJson, ListValue>(alloc, of),
         "Report" => read::<ReportJson, Report>(alloc, of),
         "ReportSample" => read::<ReportSampleJson, ReportSample>(alloc, of),
+        "Seat" => read::<SeatJson, Seat>(alloc, of),
         "StringValue" => read::<StringValueJson, StringValue>(alloc, of),
         "Struct" => read::<StructJson, Struct>(alloc, of),
         "Survey" => read::<SurveyJson, Survey>(alloc, of),
         "Timestamp" => read::<TimestampJson, Timestamp>(alloc, of),
+        "Trip" => read::<TripJson, Trip>(alloc, of),
         "UInt32Value" => read::<UInt32ValueJson, UInt32Value>(alloc, of),
         "UInt64Value" => read::<UInt64ValueJson, UInt64Value>(alloc, of),
         "Value" => read::<ValueJson, Value>(alloc, of),
