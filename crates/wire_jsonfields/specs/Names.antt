@@ -5,7 +5,7 @@ use Rattle.wire_jsonfields.specs.MembersBack.{all_ascii}
 use Rattle.wire_jsonfields.specs.Objects.{IsNameOf}
 use Rattle.wire_jsonfields.specs.PartsBack.{AreApart, is_same, names_apart}
 
--- the names of a field: that of the schema, and that of JSON, which is written
+-- the two names of a field, of which the second is written
 abbrev pub Names : Type 0
 Names = (List ℕ) × (List ℕ)
 

@@ -35,7 +35,7 @@ pub data NoMembersHere (levels : ℕ) (inside : List ℕ) : Reason → List ℕ 
   broken_members : (k : FaultKind) (left : List ℕ) → MembersFault levels inside k left
       → NoMembersHere levels inside (NoJson k) left
 
--- one of the two names of a field: that of the schema and that of JSON
+-- one of the two names of a field
 abbrev pub IsNameOf : List ℕ → List ℕ → List ℕ → Type 0
 IsNameOf name json_name text = (text ≡ name) ⊎ (text ≡ json_name)
 

@@ -13,7 +13,8 @@ use crate::object::PlacedMember;
 use crate::part::JsonPart;
 use wire_protojson::{ReadError, Reason, Refusal};
 
-/// The names of a field: that of the schema, and that of JSON, which is written.
+/// The two names of a field, of which the second is written: that of the schema and that of JSON, or
+/// these the other way round, where names are written as the schema has them.
 #[derive(Clone, Copy, Debug)]
 pub struct FieldName {
     pub name: &'static str,

@@ -12,7 +12,7 @@ use Rattle.wire_protojson.specs.Reads.{ReadsMeaning, RefusedAt, Refuses, no_mean
 use Rattle.wire_protojson.specs.Reads.{UnlessNoMemory}
 use Rattle.wire_protojson.proofs.Refusing.{refused_meaning}
 use Rattle.wire_jsonfields.specs.EnumFields.{enum_decided}
-use Rattle.wire_jsonkinds.specs.ClosedEnums.{HasNumber, MeansClosed}
+use Rattle.wire_jsonkinds.specs.ClosedEnums.{IsOfEnum, MeansClosed}
 
 -- a value that is not known has a number that the enum lacks
 pub lacks_number : {E : Type 0} (of : Option E) (z : ℤ) (value : EnumValue E)
@@ -40,10 +40,10 @@ module _ {E : Type 0} (of_number : ℤ → Option E) (names : EnumTable) (text :
   -- a number that the enum lacks
   pub refused_number : (at : ℕ) (new : List ℕ) (z : ℤ) (e : ReadError)
       → e ≡ Refused (record { reason = NoValue; at = at })
-      → ReadsMeaning (MeansEnum names) (drop at text) z new → (HasNumber of_number z → ⊥)
+      → ReadsMeaning (MeansEnum names) (drop at text) z new → (IsOfEnum of_number z → ⊥)
       → UnlessNoMemory e (λ refusal.
       RefusedAt text refusal (Refuses (MeansClosed of_number names) (drop at text)))
   refused_number at new z e is (json, reads, means) lacks =
       refused_meaning (MeansClosed of_number names) text at json new e is reads (λ v closed.
       let same = (enum_decided names).one_meaning json z v means closed.0 in
-      lacks (subst (HasNumber of_number) (sym same) closed.1))
+      lacks (subst (IsOfEnum of_number) (sym same) closed.1))

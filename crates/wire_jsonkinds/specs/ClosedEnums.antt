@@ -11,16 +11,16 @@ use Rattle.wire_jsonfields.specs.EnumFields.{enum_decided}
 use Rattle.wire_jsonfields.specs.KindsBack.{enum_comes_back}
 
 -- the enum has a value of this number
-abbrev pub HasNumber : {E : Type 0} → (ℤ → Option E) → ℤ → Type 0
-HasNumber of_number z = is_some (of_number z) ≡ true
+abbrev pub IsOfEnum : {E : Type 0} → (ℤ → Option E) → ℤ → Type 0
+IsOfEnum of_number z = is_some (of_number z) ≡ true
 
 -- what means a value of an open enum, where the enum has it
 abbrev pub MeansClosed : {E : Type 0} → (ℤ → Option E) → EnumTable → Json → ℤ → Type 0
-MeansClosed of_number names json z = MeansEnum names json z × HasNumber of_number z
+MeansClosed of_number names json z = MeansEnum names json z × IsOfEnum of_number z
 
 -- the number of a value of the enum
 abbrev pub IsInClosed : {E : Type 0} → (ℤ → Option E) → ℤ → Type 0
-IsInClosed of_number z = FitsSigned w32 z × HasNumber of_number z
+IsInClosed of_number z = FitsSigned w32 z × IsOfEnum of_number z
 
 module _ {E : Type 0} (of_number : ℤ → Option E) (names : EnumTable) where
   one_closed : (json : Json) (y z : ℤ) → MeansClosed of_number names json y
@@ -33,7 +33,7 @@ module _ {E : Type 0} (of_number : ℤ → Option E) (names : EnumTable) where
       (λ ms z m. absurd m.0)
 
   -- what comes back as a value of an open enum, where the enum has it
-  pub closed_also : (Tree : ℤ → Json → Type 0) (z : ℤ) → HasNumber of_number z
+  pub closed_also : (Tree : ℤ → Json → Type 0) (z : ℤ) → IsOfEnum of_number z
       → ComesBack (MeansEnum names) Tree z → ComesBack (MeansClosed of_number names) Tree z
   closed_also Tree z has back json tree =
       let open_ = back json tree in

@@ -9,7 +9,8 @@ use wire_jsonfields::JsonScalar;
 use wire_protojson::{ReadError, no_value, read_enum};
 
 /// A value of a closed enum, as of an open one, but that a number which the enum does not have is
-/// refused. Such a number that a message holds is written, and not read back.
+/// refused. Such a number that a message holds is written, and not read back. The default is 0, also
+/// where the enum lacks it: a field of a closed enum has presence, and is `Optional`.
 pub struct ClosedNamed<N: JsonNames> {
     names: PhantomData<N>,
 }

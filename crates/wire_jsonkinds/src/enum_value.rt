@@ -1,4 +1,4 @@
-//! Values of open enums, by the tables of their names.
+//! The tables of the names of enums, and values of open ones.
 ghost use Rattle.std.specs.Prelude.{◌≡◌};
 ghost use Rattle.wire_protojson.specs.Enums.{AreTexts, EnumTable, NamesAgree, enum_table};
 
@@ -8,7 +8,7 @@ use wire_codec::{EnumValue, Enumeration};
 use wire_jsonfields::JsonScalar;
 use wire_protojson::{EnumName, ReadError, read_enum, write_enum};
 
-/// The names of an open enum, of which those of one number are in the order of the schema.
+/// The names of an enum, of which those of one number are in the order of the schema.
 pub trait JsonNames {
     type Enum: Enumeration + Drop;
 

@@ -67,7 +67,7 @@ impl<N: JsonNames> JsonScalar for EnumNumbered<N> {
     }
 }
 
-/// A value of a closed enum.
+/// A value of a closed enum. Its default is as that of `ClosedNamed`.
 pub struct ClosedNumbered<N: JsonNames> {
     names: PhantomData<N>,
 }
