@@ -159,23 +159,11 @@ impl CHeader {
         fields: &[Field],
     ) -> Result<String, GenerateError> {
         let words = &mut self.words;
-        words.copy(&message.words, &["name", "module"]);
-        words.set("full", message.words.get("full").trim_start_matches('.'));
-        words.fill_all(&[
-            ("c_name", "$prefix$_$module$"),
-            ("members", ""),
-            ("own_claims", ""),
-            ("c_nexts", ""),
-            ("c_listed", ""),
-            ("c_lists", ""),
-            ("list_marks", ""),
-            ("c_comment", ""),
-        ]);
         let comment = match message.is_entry() {
             true => ENTRY,
             false => schema.comment(message.words.get("place")),
         };
-        put_c_comment(words, "c_comment", "", comment)?;
+        begin_message(words, message, comment)?;
         let mut layout = Layout::new();
         for field in fields {
             if let Some(oneof) = &field.oneof {
@@ -203,14 +191,7 @@ impl CHeader {
         }
         words.index("size", layout.size());
         words.append_all(&OF_MESSAGE);
-        if words.get("c_lists").is_empty() {
-            words.append("inside", " $module$ ");
-        } else {
-            // (a pointer and a length each)
-            let size = words.get("list_marks").len().saturating_mul(16);
-            words.index("size_of_lists", size);
-            words.append_all(&[("types", LISTS), ("claims", LISTS_CLAIM)]);
-        }
+        put_lists(words);
         let module = String::from_str(words.alloc(), words.get("module"))?;
         self.layouts.push((module, layout))?;
         self.rust.put_message(&self.words, comment, schema, fields)
@@ -248,6 +229,41 @@ impl CHeader {
         words.fill("header", HEADER);
         words.finish("header")
     }
+}
+
+const OF_NO_FIELD: [Template; 8] = [
+    ("c_name", "$prefix$_$module$"),
+    ("members", ""),
+    ("own_claims", ""),
+    ("c_nexts", ""),
+    ("c_listed", ""),
+    ("c_lists", ""),
+    ("list_marks", ""),
+    ("c_comment", ""),
+];
+
+// Sets the words of a message, before its fields.
+fn begin_message(
+    words: &mut Words,
+    message: &MessageType,
+    comment: &str,
+) -> Result<(), GenerateError> {
+    words.copy(&message.words, &["name", "module"]);
+    words.set("full", message.words.get("full").trim_start_matches('.'));
+    words.fill_all(&OF_NO_FIELD);
+    put_c_comment(words, "c_comment", "", comment)
+}
+
+// Puts the struct of the lists of a message, where it has some; one that has none may stand within
+// another.
+fn put_lists(words: &mut Words) {
+    if words.get("c_lists").is_empty() {
+        return words.append("inside", " $module$ ");
+    }
+    // (a pointer and a length each)
+    let size = words.get("list_marks").len().saturating_mul(16);
+    words.index("size_of_lists", size);
+    words.append_all(&[("types", LISTS), ("claims", LISTS_CLAIM)]);
 }
 
 /// The comment of a field.

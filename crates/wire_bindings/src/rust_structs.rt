@@ -226,16 +226,7 @@ impl RustCrate {
             words.append("held", "    no_bytes: Bytes<'a>,\n");
         }
         let has_lists = !words.get("lists_held").is_empty();
-        words.fill(
-            "support",
-            match (has_text, has_bytes) {
-                _ if has_lists => "Bytes, Limits, List, NoRoom, NotWritten, Refusal, Text",
-                (true, true) => "Bytes, Limits, NoRoom, NotWritten, Refusal, Text",
-                (true, false) => "Limits, NoRoom, NotWritten, Refusal, Text",
-                (false, true) => "Bytes, Limits, NoRoom, NotWritten, Refusal",
-                (false, false) => "Limits, NoRoom, NotWritten, Refusal",
-            },
-        );
+        words.set("support", support(has_lists, has_text, has_bytes));
         words.append_all(&OF_MESSAGE);
         words.fill_all(&WRITTEN_ALONE);
         if has_lists {
@@ -257,6 +248,17 @@ impl RustCrate {
     pub fn finish(&mut self) -> Result<(String, String), GenerateError> {
         self.words.fill_all(&[("root", ROOT), ("ffi", FFI)]);
         Ok((self.words.finish("root")?, self.words.finish("ffi")?))
+    }
+}
+
+// What the module of a message with these brings in of the crate.
+fn support(has_lists: bool, has_text: bool, has_bytes: bool) -> &'static str {
+    match (has_text, has_bytes) {
+        _ if has_lists => "Bytes, Limits, List, NoRoom, NotWritten, Refusal, Text",
+        (true, true) => "Bytes, Limits, NoRoom, NotWritten, Refusal, Text",
+        (true, false) => "Limits, NoRoom, NotWritten, Refusal, Text",
+        (false, true) => "Bytes, Limits, NoRoom, NotWritten, Refusal",
+        (false, false) => "Limits, NoRoom, NotWritten, Refusal",
     }
 }
 

@@ -236,30 +236,25 @@ pub fn struct_code_of(
     page.finish("text")
 }
 
+const OF_FIELD: [&str; 13] = [
+    "field",
+    "number",
+    "at",
+    "presence",
+    "struct_held",
+    "struct_zero",
+    "struct_kind",
+    "struct_code",
+    "struct_bits",
+    "call",
+    "member",
+    "element_bytes",
+    "numbers",
+];
+
 // What there is for a field.
 fn put_field(page: &mut Words, schema: &Schema, field: &Field) {
-    page.copy(
-        &field.words,
-        &[
-            "field",
-            "number",
-            "at",
-            "presence",
-            "struct_held",
-            "struct_zero",
-        ],
-    );
-    page.copy(
-        &field.words,
-        &[
-            "struct_kind",
-            "struct_code",
-            "struct_bits",
-            "call",
-            "member",
-        ],
-    );
-    page.copy(&field.words, &["element_bytes", "numbers"]);
+    page.copy(&field.words, &OF_FIELD);
     page.append("uses", "$struct_code$");
     let is_optional = !page.get("presence").is_empty();
     if is_optional {

@@ -207,7 +207,6 @@ const OF_VARIANT: [Template; 3] = [
 
 /// The value of a oneof, its table, and what each variant is.
 pub fn oneof_definitions(base: &Words, oneof: &Oneof) -> Result<String, GenerateError> {
-    let is_read_back = has_laws(base);
     let mut page = Words::like(base);
     let is_whole = page.get("in_choice").is_empty();
     page.fill("uses", USES);
@@ -220,6 +219,21 @@ pub fn oneof_definitions(base: &Words, oneof: &Oneof) -> Result<String, Generate
         },
     );
     set_requiring(&mut page, oneof);
+    set_sum(&mut page, oneof);
+    let last = oneof.variants.len().saturating_sub(1);
+    for (place, variant) in oneof.variants.iter().enumerate() {
+        put_variant(&mut page, variant, place, last);
+    }
+    put_of_all(&mut page, oneof, last);
+    define_oneof_view(&mut page, oneof);
+    definition_imports(&mut page);
+    set_heading(&mut page, "--", TABLE);
+    put_text(&mut page, last);
+    page.finish("text")
+}
+
+// The type of what a oneof holds, as a sum of those of its variants.
+fn set_sum(page: &mut Words, oneof: &Oneof) {
     for variant in oneof.variants.iter().rev() {
         page.copy(variant, &["bracketed"]);
         let is_last = page.get("sum").is_empty();
@@ -232,69 +246,76 @@ pub fn oneof_definitions(base: &Words, oneof: &Oneof) -> Result<String, Generate
             },
         );
     }
-    let last = oneof.variants.len().saturating_sub(1);
-    for (place, variant) in oneof.variants.iter().enumerate() {
-        page.copy(
-            variant,
-            &[
-                "variant",
-                "word",
-                "digits",
-                "value",
-                "bracketed",
-                "before",
-                "behind",
-                "definition",
-                "definitions",
-                "always",
-                "of_always",
-                "numeric",
-                "always_range",
-                "always_returned",
-                "always_uses",
-                "range_uses",
-                "scalar_uses",
-                "closed",
-                "of_module",
-            ],
-        );
-        page.fill("definition", "($always$ $definition$)");
-        put_values(&mut page, place, last);
-        page.append_all(&OF_VARIANT);
-        if is_whole {
-            page.append_all(&OF_TYPE);
-        } else {
-            put_spot(&mut page, place);
-        }
-        if !page.get("closed").is_empty() {
-            page.append_all(&CLOSED_DEFINITIONS);
-        }
-        define_variant(&mut page, variant);
-        put_tree(&mut page, place);
-        put_numbers(&mut page, place, last);
-        if is_read_back {
-            page.append_all(&OF_RETURNED);
-        }
+}
+
+const OF_ONE_VARIANT: [&str; 19] = [
+    "variant",
+    "word",
+    "digits",
+    "value",
+    "bracketed",
+    "before",
+    "behind",
+    "definition",
+    "definitions",
+    "always",
+    "of_always",
+    "numeric",
+    "always_range",
+    "always_returned",
+    "always_uses",
+    "range_uses",
+    "scalar_uses",
+    "closed",
+    "of_module",
+];
+
+// The definitions of a variant, which stands at this place.
+fn put_variant(page: &mut Words, variant: &Words, place: usize, last: usize) {
+    page.copy(variant, &OF_ONE_VARIANT);
+    page.fill("definition", "($always$ $definition$)");
+    put_values(page, place, last);
+    page.append_all(&OF_VARIANT);
+    if page.get("in_choice").is_empty() {
+        page.append_all(&OF_TYPE);
+    } else {
+        put_spot(page, place);
     }
+    if !page.get("closed").is_empty() {
+        page.append_all(&CLOSED_DEFINITIONS);
+    }
+    define_variant(page, variant);
+    put_tree(page, place);
+    put_numbers(page, place, last);
+    if has_laws(page) {
+        page.append_all(&OF_RETURNED);
+    }
+}
+
+// The definitions of all variants, of which this is the place of the last.
+fn put_of_all(page: &mut Words, oneof: &Oneof, last: usize) {
+    let is_read_back = has_laws(page);
     page.set("standing", "");
     if is_read_back {
         page.append("uses", USES_OF_RANGE);
-        use_charges(&mut page);
+        use_charges(page);
     }
     if last > 0 {
         page.append("uses", USES_OF_MANY);
         page.fill("all", "(either_of $module$-front $word$-of-$module$)");
     }
     if is_read_back {
-        if !is_whole {
-            put_standing(&mut page, &oneof.variants);
+        if !page.get("in_choice").is_empty() {
+            put_standing(page, &oneof.variants);
         }
-        put_apart_variants(&mut page, &oneof.variants);
-        put_owned(&mut page, &oneof.variants);
+        put_apart_variants(page, &oneof.variants);
+        put_owned(page, &oneof.variants);
     }
-    define_oneof_view(&mut page, oneof);
-    definition_imports(&mut page);
-    set_heading(&mut page, "--", TABLE);
+}
+
+// The text of the page.
+fn put_text(page: &mut Words, last: usize) {
+    let is_whole = page.get("in_choice").is_empty();
     page.fill_all(&[("whole_one", ""), ("whole_of", "")]);
     if is_whole {
         page.fill_all(&[("whole_one", ONE), ("whole_of", OF_ONE)]);
@@ -305,15 +326,14 @@ pub fn oneof_definitions(base: &Words, oneof: &Oneof) -> Result<String, Generate
     }
     page.append("text", SHAPE);
     page.append("text", if is_whole { WHOLE_KIND } else { IS_PLAIN });
-    put_missing_in_one(&mut page);
-    if is_read_back {
+    put_missing_in_one(page);
+    if has_laws(page) {
         page.append("text", "$standing$");
         page.fill("ranges", RANGE);
         page.append("ranges", "$apart_variants$$owned_variants$");
-        under_charges(&mut page);
+        under_charges(page);
         page.append("text", "\n$ranges$");
     }
-    page.finish("text")
 }
 
 // One number more of a sum that leans to the left, which this variant's is `own` of.

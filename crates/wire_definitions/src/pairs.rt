@@ -89,41 +89,50 @@ pub(crate) fn leaf(base: &Words, place: usize, field: &Words) -> Node {
     if words.get("part_view").is_empty() {
         words.set("part_view", "value");
     }
-    words.copy(
-        field,
-        &[
-            "number",
-            "bracketed",
-            "view",
-            "view_seen",
-            "table",
-            "both",
-            "margin",
-        ],
-    );
-    words.copy(
-        field,
-        &[
-            "range",
-            "returned",
-            "both_returned",
-            "both_stays",
-            "stays",
-            "apart",
-            "maps",
-        ],
-    );
+    words.copy(field, &OF_FIELD);
     words.fill_all(&LEAF);
     if !field.get("in_choice").is_empty() {
-        words.copy(field, &["module", "set_part"]);
-        words.fill_all(&SPOT);
-        if field.get("sort") == "Leaving" {
-            words.fill_all(&CLOSED_SPOT);
-        } else if words.get("both") == "both_leaving" {
-            words.fill_all(&LEAVING_SPOT);
-        }
+        set_spot(&mut words, field);
         words.copy(base, &["module"]);
     }
+    set_unlike(&mut words, field);
+    Node {
+        first: place,
+        behind: place.saturating_add(1),
+        words,
+    }
+}
+
+const OF_FIELD: [&str; 14] = [
+    "number",
+    "bracketed",
+    "view",
+    "view_seen",
+    "table",
+    "both",
+    "margin",
+    "range",
+    "returned",
+    "both_returned",
+    "both_stays",
+    "stays",
+    "apart",
+    "maps",
+];
+
+// The words of a oneof of which some variants are rows.
+fn set_spot(words: &mut Words, field: &Words) {
+    words.copy(field, &["module", "set_part"]);
+    words.fill_all(&SPOT);
+    if field.get("sort") == "Leaving" {
+        words.fill_all(&CLOSED_SPOT);
+    } else if words.get("both") == "both_leaving" {
+        words.fill_all(&LEAVING_SPOT);
+    }
+}
+
+// That another number is none of those of a field.
+fn set_unlike(words: &mut Words, field: &Words) {
     let mut is_first = true;
     for number in field.get("numbers").split(' ') {
         words.set("of", number);
@@ -136,11 +145,6 @@ pub(crate) fn leaf(base: &Words, place: usize, field: &Words) -> Node {
             },
         );
         is_first = false;
-    }
-    Node {
-        first: place,
-        behind: place.saturating_add(1),
-        words,
     }
 }
 

@@ -162,7 +162,6 @@ pub fn recursive_definitions(
 
 /// The words of such a table, or of that of one type of a family.
 pub fn table_page(base: &Words, fields: &[Field], tree: &Tree) -> Words {
-    let is_read_back = has_laws(base);
     let mut page = Words::like(base);
     let is_member = !page.get("family_name").is_empty();
     page.fill("uses", if is_member { MEMBER_USES } else { USES });
@@ -184,27 +183,10 @@ pub fn table_page(base: &Words, fields: &[Field], tree: &Tree) -> Words {
         );
         page.copy(&field.words, &["definitions", "table", "path"]);
         if is_row(field) {
-            put_run(&mut page, "$at$");
-            if count > 0 {
-                put_number(&mut page, "$at_before$");
-            }
-            let is_each = field.words.get("kind").starts_with("Each");
-            page.set("of_row", field.words.get("number"));
-            page.set("type_of_row", field.words.get("of_name"));
-            page.set("is_once", if is_each { "false" } else { "true" });
-            page.fill_all(&[("at_before", "$at$"), ("least_before", "$at_least$")]);
-            page.fill_all(&[("at", "(suc $at$)"), ("at_least", "(suc $at_least$)")]);
+            put_row_of(&mut page, &field.words, count);
             count = count.saturating_add(1);
         } else {
-            page.append("uses", "$definitions$");
-            if field.oneof.is_none() || is_leaving(field) {
-                page.copy(&field.words, &["own_range", "of_charged", "sort"]);
-                page.append("kinds", KIND);
-                if is_read_back && field.oneof.is_none() {
-                    put_field_range(&mut page);
-                }
-            }
-            put_field_in_run(&mut page, &field.words);
+            put_of_leaf(&mut page, field);
         }
     }
     put_in_run(&mut page, "$left_records$");
@@ -214,15 +196,8 @@ pub fn table_page(base: &Words, fields: &[Field], tree: &Tree) -> Words {
     put_rows(&mut page, fields, count);
     put_choice(&mut page, fields);
     define_asked_rows(&mut page, fields);
-    page.set("leaf_groups", "");
-    for group in &tree.parts {
-        page.copy(
-            &group.words,
-            &["low", "high", "part_words", "value", "table"],
-        );
-        page.append("leaf_groups", LEAF_GROUP);
-    }
-    if is_read_back {
+    put_leaf_groups(&mut page, tree);
+    if has_laws(base) {
         put_back(&mut page, fields, tree);
     }
     page.copy(&tree.words, &["value", "view", "table"]);
@@ -231,6 +206,44 @@ pub fn table_page(base: &Words, fields: &[Field], tree: &Tree) -> Words {
     }
     define_view_fold(&mut page, fields, tree);
     page
+}
+
+// A row of the table, behind so many others.
+fn put_row_of(page: &mut Words, words: &Words, count: usize) {
+    put_run(page, "$at$");
+    if count > 0 {
+        put_number(page, "$at_before$");
+    }
+    let is_each = words.get("kind").starts_with("Each");
+    page.set("of_row", words.get("number"));
+    page.set("type_of_row", words.get("of_name"));
+    page.set("is_once", if is_each { "false" } else { "true" });
+    page.fill_all(&[("at_before", "$at$"), ("least_before", "$at_least$")]);
+    page.fill_all(&[("at", "(suc $at$)"), ("at_least", "(suc $at_least$)")]);
+}
+
+// A field of the leaf.
+fn put_of_leaf(page: &mut Words, field: &Field) {
+    page.append("uses", "$definitions$");
+    if field.oneof.is_none() || is_leaving(field) {
+        page.copy(&field.words, &["own_range", "of_charged", "sort"]);
+        page.append("kinds", KIND);
+        if has_laws(page) && field.oneof.is_none() {
+            put_field_range(page);
+        }
+    }
+    put_field_in_run(page, &field.words);
+}
+
+fn put_leaf_groups(page: &mut Words, tree: &Tree) {
+    page.set("leaf_groups", "");
+    for group in &tree.parts {
+        page.copy(
+            &group.words,
+            &["low", "high", "part_words", "value", "table"],
+        );
+        page.append("leaf_groups", LEAF_GROUP);
+    }
 }
 
 // The fields of a group of the leaf.

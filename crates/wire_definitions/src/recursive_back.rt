@@ -183,31 +183,9 @@ const OF_NO_ROW: [Template; 2] = [
 pub(crate) fn put_back(page: &mut Words, fields: &[Field], tree: &Tree) {
     let is_alone = page.get("family_name").is_empty();
     charge_leaf(page, fields);
-    page.append("uses", USES);
-    let is_choice = !page.get("choice").is_empty();
-    page.append(
-        "uses",
-        match (is_alone, is_choice) {
-            (true, true) => USES_CHOICE,
-            (true, false) => USES_ALONE,
-            (false, _) => "",
-        },
-    );
-    page.fill_all(if is_choice { &OF_CHOICE } else { &OF_TABLE });
-    put_choice_laws(page);
-    page.fill_all(&[("at", "zero"), ("at_least", "i"), ("run_piece", "")]);
-    page.fill_all(&[("run_ends", "(piece none)"), ("run_pieces", "")]);
-    page.fill_all(&[("outer_piece", ""), ("leaf_pieces", "")]);
+    begin_back(page);
     for field in fields {
-        page.copy(&field.words, &["number", "table", "path"]);
-        if is_row(field) {
-            page.append_all(&OF_ROW);
-            page.fill_all(&[("at", "(suc $at$)"), ("at_least", "(suc $at_least$)")]);
-            end_run(page);
-        } else {
-            put_field_piece(page, &field.words);
-            put_leaf_piece(page);
-        }
+        put_of_field(page, field);
     }
     if is_bare(fields) {
         page.append_all(&[
@@ -234,22 +212,61 @@ pub(crate) fn put_back(page: &mut Words, fields: &[Field], tree: &Tree) {
         page.fill("left_here", "$left_charge$");
         page.append("back", ACCOUNT);
     }
-    page.append("ranges", if is_alone { RANGE } else { MEMBER_RANGE });
-    if is_alone {
-        let is_plain = page.get("leaf_kind").is_empty();
-        page.append(
-            "ranges",
-            match (is_choice, is_plain) {
-                (true, _) => CHOICE_RANGE,
-                (false, true) => PLAIN_RANGE,
-                (false, false) => OTHER_RANGE,
-            },
-        );
-    }
-    if is_alone {
-        under_charges(page);
-    }
+    put_ranges(page);
     page.append("back", "\n$ranges$");
+}
+
+// What stands before the records of the fields.
+fn begin_back(page: &mut Words) {
+    let is_alone = page.get("family_name").is_empty();
+    let is_choice = !page.get("choice").is_empty();
+    page.append("uses", USES);
+    page.append(
+        "uses",
+        match (is_alone, is_choice) {
+            (true, true) => USES_CHOICE,
+            (true, false) => USES_ALONE,
+            (false, _) => "",
+        },
+    );
+    page.fill_all(if is_choice { &OF_CHOICE } else { &OF_TABLE });
+    put_choice_laws(page);
+    page.fill_all(&[("at", "zero"), ("at_least", "i"), ("run_piece", "")]);
+    page.fill_all(&[("run_ends", "(piece none)"), ("run_pieces", "")]);
+    page.fill_all(&[("outer_piece", ""), ("leaf_pieces", "")]);
+}
+
+// The records of a field, which is a row or one of the leaf.
+fn put_of_field(page: &mut Words, field: &Field) {
+    page.copy(&field.words, &["number", "table", "path"]);
+    if is_row(field) {
+        page.append_all(&OF_ROW);
+        page.fill_all(&[("at", "(suc $at$)"), ("at_least", "(suc $at_least$)")]);
+        end_run(page);
+    } else {
+        put_field_piece(page, &field.words);
+        put_leaf_piece(page);
+    }
+}
+
+// Which values are read back.
+fn put_ranges(page: &mut Words) {
+    let is_alone = page.get("family_name").is_empty();
+    page.append("ranges", if is_alone { RANGE } else { MEMBER_RANGE });
+    if !is_alone {
+        return;
+    }
+    let is_choice = !page.get("choice").is_empty();
+    let is_plain = page.get("leaf_kind").is_empty();
+    page.append(
+        "ranges",
+        match (is_choice, is_plain) {
+            (true, _) => CHOICE_RANGE,
+            (false, true) => PLAIN_RANGE,
+            (false, false) => OTHER_RANGE,
+        },
+    );
+    under_charges(page);
 }
 
 // Puts the records of a field behind those of the run so far, or of the part that it stands in.

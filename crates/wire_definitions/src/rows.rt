@@ -17,11 +17,38 @@ pub fn leaf_tree(
     fields: Vec<Field>,
 ) -> Result<(Vec<Field>, Tree), GenerateError> {
     let alloc = base.alloc();
-    let mut order = Vec::new(alloc);
-    let (mut rows, mut leaf) = (Vec::new(alloc), Vec::new(alloc));
     if !base.get("choices").is_empty() {
         return Err(base.refused(SEVERAL));
     }
+    let (order, rows, mut leaf) = parted(base, fields)?;
+    if base.get("mismatch") == "keep" {
+        return Err(base.refused(KEEPING));
+    }
+    let mut tree = tree_of_leaf(base, &mut leaf)?;
+    if leaf.is_empty() {
+        tree.words.fill_all(&NO_FIELDS);
+    }
+    let (mut rows, mut leaf) = (rows.into_iter(), leaf.into_iter());
+    let mut fields = Vec::new(alloc);
+    for is_row in order {
+        let next = if is_row { rows.next() } else { leaf.next() };
+        if let Some(field) = next {
+            fields.push(field)?;
+        }
+    }
+    tell_parts(alloc, &mut fields)?;
+    set_choice(base, &fields, &tree.words);
+    Ok((fields, tree))
+}
+
+// Whether each is a row, in order; the rows, and the fields of the leaf.
+fn parted(
+    base: &Words,
+    fields: Vec<Field>,
+) -> Result<(Vec<bool>, Vec<Field>, Vec<Field>), GenerateError> {
+    let alloc = base.alloc();
+    let mut order = Vec::new(alloc);
+    let (mut rows, mut leaf) = (Vec::new(alloc), Vec::new(alloc));
     for mut field in fields {
         if is_own(base, &field.words) {
             field.words.set("is_row", "is_row");
@@ -51,24 +78,7 @@ pub fn leaf_tree(
             }
         }
     }
-    if base.get("mismatch") == "keep" {
-        return Err(base.refused(KEEPING));
-    }
-    let mut tree = tree_of_leaf(base, &mut leaf)?;
-    if leaf.is_empty() {
-        tree.words.fill_all(&NO_FIELDS);
-    }
-    let (mut rows, mut leaf) = (rows.into_iter(), leaf.into_iter());
-    let mut fields = Vec::new(alloc);
-    for is_row in order {
-        let next = if is_row { rows.next() } else { leaf.next() };
-        if let Some(field) = next {
-            fields.push(field)?;
-        }
-    }
-    tell_parts(alloc, &mut fields)?;
-    set_choice(base, &fields, &tree.words);
-    Ok((fields, tree))
+    Ok((order, rows, leaf))
 }
 
 const SEVERAL: &str = "$full$: messages that hold themselves or one another by several oneofs want \
